@@ -1,0 +1,2 @@
+pub mod LastEdge
+pub mod Slots
