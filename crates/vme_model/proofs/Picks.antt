@@ -20,22 +20,22 @@ lines a b c d (suc (suc (suc n))) = d
 abbrev Test : Type 0
 Test = Bool → Bool → Bool → Bool → Bool
 
-abbrev on_both : (Bool → Bool) → Bool
+abbrev pub on_both : (Bool → Bool) → Bool
 on_both t = t true && t false
 
 -- a test holds of every four lines
 abbrev always : Test → Bool
 always t = on_both (λ a. on_both (λ b. on_both (λ c. on_both (λ d. t a b c d))))
 
-and_left : (a b : Bool) → (a && b) ≡ true → a ≡ true
+pub and_left : (a b : Bool) → (a && b) ≡ true → a ≡ true
 and_left true b e = refl
 and_left false b e = cc
 
-and_right : (a b : Bool) → (a && b) ≡ true → b ≡ true
+pub and_right : (a b : Bool) → (a && b) ≡ true → b ≡ true
 and_right true b e = e
 and_right false b e = cc
 
-at_one : (t : Bool → Bool) → on_both t ≡ true → (a : Bool) → t a ≡ true
+pub at_one : (t : Bool → Bool) → on_both t ≡ true → (a : Bool) → t a ≡ true
 at_one t e true = and_left (t true) (t false) e
 at_one t e false = and_right (t true) (t false) e
 
@@ -82,7 +82,7 @@ first_in_round : (low : ℕ → Bool) (r k l m n : ℕ) → always (λ a b c d. 
     → (last : ℕ) → round_place last 0 ≡ k → round_place last 1 ≡ l → round_place last 2 ≡ m → round_place last 3 ≡ n → find (λ x. lines (low 0) (low 1) (low 2) (low 3) x) (round_from r) ≡ pick Rrs low last
 first_in_round low r k l m n e last p q s t =
     let here : find (λ x. lines (low 0) (low 1) (low 2) (low 3) x) (round_from r) ≡ by_places (lines (low 0) (low 1) (low 2) (low 3)) (places k l m n) =
-        same _ _ (at_lines (λ a b c d. is_same (find (lines a b c d) (round_from r)) (by_places (lines a b c d) (places k l m n))) e (low 0) (low 1) (low 2) (low 3)) in
+    same _ _ (at_lines (λ a b c d. is_same (find (lines a b c d) (round_from r)) (by_places (lines a b c d) (places k l m n))) e (low 0) (low 1) (low 2) (low 3)) in
     let by : (k l m n : ℕ) → Option ℕ = λ k l m n. by_places (lines (low 0) (low 1) (low 2) (low 3)) (places k l m n) in
     let moved : by k l m n ≡ by (round_place last 0) (round_place last 1) (round_place last 2) (round_place last 3) = cc in
     here ∙ moved
@@ -183,7 +183,7 @@ within_four low n f = by_test (nat_lt n 4) refl
 abbrev agrees : Bool → Option ℕ → ℕ → Bool
 agrees b found n = if option_map_or (λ m. m == n) found false then b else not b
 
-agreed : (b c : Bool) → (if c then b else not b) ≡ true → b ≡ c
+pub agreed : (b c : Bool) → (if c then b else not b) ≡ true → b ≡ c
 agreed true true e = refl
 agreed false false e = refl
 agreed true false e = cc
