@@ -4,12 +4,14 @@ ghost use Rattle.vme_model.specs.History.{in_order};
 ghost use Rattle.vme_model.specs.Verdict.{verdict, verdict_but_full, after, kept, IsLegal};
 ghost use Rattle.vme_model.specs.Views.{pins};
 ghost use Rattle.vme_model.specs.Deliveries.{answer, delivered};
+ghost use Rattle.vme_model.specs.Offers.{offered};
 ghost use Rattle.vme_model.specs.Report.{at_power_up};
 ghost use Rattle.vme_backplane.specs.Looks.{history_of};
 
 use crate::looks::Look;
 use crate::traces::Trace;
 use crate::{scans, settling};
+use arrayvec::ArrayVec;
 use std::alloc::{AllocError, Global};
 use std::marker::Model;
 use vme_model::{Delivery, Driver, Edge, Pins, Refused, Version};
@@ -125,6 +127,21 @@ impl Backplane {
         ensures { result ≡ pins self.now.plan self.now.history driver }
     {
         self.look(driver).pins()
+    }
+
+    /// The driver's edges that would be accepted, in the order of its wires, with one acknowledge and one access at
+    /// most to show.
+    pub fn offers(&self, driver: Driver) -> ArrayVec<Edge, 16>
+        ensures { result.items ≡ offered self.now driver }
+    {
+        let considered = self.look(driver).all_considered();
+        let mut offers = ArrayVec::new();
+        for edge in considered.as_slice() {
+            if self.verdict(*edge).is_ok() {
+                offers.push(*edge);
+            }
+        }
+        offers
     }
 
     /// What was delivered, in the order of time.

@@ -5,6 +5,7 @@
 
 mod backplanes;
 mod looks;
+mod offers;
 mod rules;
 mod scans;
 mod settling;

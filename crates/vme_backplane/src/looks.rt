@@ -158,7 +158,7 @@ impl Look<'_> {
     }
 
     /// The low bus request lines.
-    fn requests(&self) -> BusLevels
+    pub fn requests(&self) -> BusLevels
         ensures { result ≡ bus_levels (readings_of self.now).request }
     {
         BusLevels::of_lines([
@@ -170,7 +170,7 @@ impl Look<'_> {
     }
 
     /// The low interrupt request lines.
-    fn irqs(&self) -> Levels
+    pub fn irqs(&self) -> Levels
         ensures { result ≡ irq_levels (readings_of self.now).irq }
     {
         Levels::of_lines([

@@ -1,12 +1,13 @@
 //! The guards of the rules, and the table of them.
-ghost use Rattle.std.specs.Prelude.{◌≡◌, ◌&&◌, None, true, false, nat_lt};
+ghost use Rattle.std.specs.Prelude.{◌≡◌, ◌<◌, ◌&&◌, IsTrue, None, true, false, nat_lt};
 ghost use Rattle.std.specs.List.{list_any};
-ghost use Rattle.vme_model.specs.Signals.{is_two};
+ghost use Rattle.vme_model.specs.Signals.{is_two, is_well_formed};
 ghost use Rattle.vme_model.specs.Readings.{is_pending};
-ghost use Rattle.vme_model.specs.Rules.{bus_numbers, is_highest, round_place, is_next, is_pick, are_grants_high, is_bus_clear_due, may_release, is_within_burst, may_show, is_passed_by, may_answer, rule};
+ghost use Rattle.vme_model.specs.Rules.{bus_numbers, pick, is_pick, are_grants_high, is_bus_clear_due, may_release, is_within_burst, may_show, is_passed_by, may_answer, rule};
 
 use crate::looks::Look;
 use crate::scans;
+use vme_arbiter::{AnyPolicy, Policy};
 use vme_model::{ArbiterKind, Cycle, Edge, Release, RequesterRow, Version, Wire};
 
 /// Whether these are the rules of the second version.
@@ -14,13 +15,6 @@ pub fn is_two(version: Version) -> bool
     ensures { result ≡ is_two version }
 {
     matches!(version, Version::Two)
-}
-
-/// The place of a level in the round that begins below the level last granted.
-fn round_place(last: u8, level: u8) -> u16
-    ensures { result ≡ round_place last level }
-{
-    (u16::from(last) + 3).saturating_sub(u16::from(level)) % 4
 }
 
 impl Look<'_> {
@@ -33,32 +27,21 @@ impl Look<'_> {
         [0, 1, 2, 3].iter().all(|level| !self.own(Wire::Bg(*level)))
     }
 
-    /// Whether no low request line is of a higher level.
-    fn is_highest(&self, level: u8) -> bool
-        ensures { result ≡ is_highest (readings_of self.now).request level }
+    /// The policy's pick of the low request lines.
+    #[tactic(auto, using(vme_model::proofs::PinSets::pick_of_pins))]
+    fn pick(&self) -> Option<u8>
+        ensures { let r = readings_of self.now in result ≡ pick r.arbiter r.request r.last_level }
     {
-        [0, 1, 2, 3]
-            .iter()
-            .all(|other| !self.request(*other) || *other <= level)
+        AnyPolicy::from(self.plan.arbiter()).pick(self.requests(), self.last_level())
     }
 
-    /// Whether no low request line comes before it in the round.
-    fn is_next(&self, last: u8, level: u8) -> bool
-        ensures { result ≡ is_next (readings_of self.now).request last level }
-    {
-        [0, 1, 2, 3].iter().all(|other| !self.request(*other)
-            || round_place(last, level) <= round_place(last, *other))
-    }
-
-    /// Whether the level is the policy's pick of the low request lines.
+    /// Whether the level, 0 to 3, is the policy's pick.
+    #[tactic(auto, using(vme_model::proofs::Picks::one_pick))]
     fn is_pick(&self, level: u8) -> bool
+        requires { level < 4 }
         ensures { let r = readings_of self.now in result ≡ is_pick r.arbiter r.request r.last_level level }
     {
-        match self.plan.arbiter() {
-            ArbiterKind::Sgl => level == 3 && self.request(3),
-            ArbiterKind::Pri => self.request(level) && self.is_highest(level),
-            ArbiterKind::Rrs => self.request(level) && self.is_next(self.last_level(), level),
-        }
+        self.pick().is_some_and(|picked| picked == level)
     }
 
     /// Whether a level above the one last granted is requested.
@@ -170,6 +153,7 @@ impl Look<'_> {
 
     /// G1, but for the version's settling.
     fn may_grant(&self, level: u8) -> bool
+        requires { level < 4 }
         ensures { result ≡ (rule self.now.version (readings_of self.now) (Wire.Bg level) true None).1 }
     {
         self.are_grants_high() && !self.line(Wire::Bbsy) && self.is_pick(level)
@@ -289,7 +273,9 @@ impl Look<'_> {
     }
 
     /// The number of the rule that names the edge, and whether its guard holds.
+    #[tactic(auto, using(crate::proofs::Levels::granted_level))]
     pub fn rule(&self, edge: Edge) -> (u8, bool)
+        requires { IsTrue (is_well_formed edge) }
         ensures { result ≡ rule self.now.version (readings_of self.now) edge.wire edge.fall edge.value }
     {
         match (edge.wire, edge.fall) {
