@@ -1,0 +1,291 @@
+//! The tests that a plan has to pass, one function for each fault.
+ghost use Rattle.std.specs.Prelude.{◌≡◌, ◌&&◌, length, filter, find, map, nat_lt};
+ghost use Rattle.std.specs.List.{list_any};
+ghost use Rattle.std.specs.Option.{option_copied};
+ghost use Rattle.vme_model.specs.Signals.{is_level};
+ghost use Rattle.vme_model.specs.Sets.{has_level};
+ghost use Rattle.vme_model.specs.Plan.{row_in, board, works};
+ghost use Rattle.vme_model.specs.Accepted.{first_of, chains, plan_fault, too_many_slots, out_of_range, row_range, jumper_range, is_within, has_no_burst, no_controller, slot_twice, namings, chain_broken, is_joined, is_broken, level_not_served, handler_twice, handler_without_requester};
+
+use bitflags::Flags;
+use std::marker::Model;
+use vme_model::{ArbiterKind, ChainId, Field, Jumper, PlanError, Release, Row};
+
+/// The greatest number of slots of a backplane (chapter 7).
+const MOST_SLOTS: u8 = 21;
+
+const LEVELS: [u8; 7] = [1, 2, 3, 4, 5, 6, 7];
+
+const CHAINS: [ChainId; 5] = [
+    ChainId::Bg0,
+    ChainId::Bg1,
+    ChainId::Bg2,
+    ChainId::Bg3,
+    ChainId::Iack,
+];
+
+/// A plan that is still to be tested.
+#[derive(Drop)]
+pub struct Draft<'a> {
+    slots: u8,
+    rows: &'a [Row],
+    jumpers: &'a [Jumper],
+    arbiter: ArbiterKind,
+}
+
+impl<'a> Model for Draft<'a> {
+    ghost use Rattle.vme_model.specs.Plan.{Plan};
+
+    ghost Value = { Plan };
+
+    ghost view = { λ d. record { slots = d.slots; rows = d.rows.now; jumpers = d.jumpers.now; arbiter = d.arbiter } };
+}
+
+impl<'a> Draft<'a> {
+    /// The plan of these boards and jumpers.
+    pub fn new(slots: u8, rows: &'a [Row], jumpers: &'a [Jumper], arbiter: ArbiterKind) -> Self
+        ensures { result ≡ record { slots = slots; rows = rows.now; jumpers = jumpers.now; arbiter = arbiter } }
+    {
+        Draft {
+            slots,
+            rows,
+            jumpers,
+            arbiter,
+        }
+    }
+
+    /// The first fault, in the order of the tests.
+    pub fn fault(&self) -> Option<PlanError>
+        ensures { result ≡ plan_fault self.now }
+    {
+        self.too_many_slots()
+            .or_else(|| self.out_of_range())
+            .or_else(|| self.no_controller())
+            .or_else(|| self.slot_twice())
+            .or_else(|| self.chain_broken())
+            .or_else(|| self.level_not_served())
+            .or_else(|| self.handler_twice())
+            .or_else(|| self.handler_without_requester())
+    }
+
+    /// P2.
+    fn too_many_slots(&self) -> Option<PlanError>
+        ensures { result ≡ too_many_slots self.now }
+    {
+        (self.slots > MOST_SLOTS).then_some(PlanError::TooManySlots { slots: self.slots })
+    }
+
+    /// P8: the number of slots, then row by row, then jumper by jumper.
+    fn out_of_range(&self) -> Option<PlanError>
+        ensures { result ≡ out_of_range self.now }
+    {
+        if self.slots == 0 {
+            return Some(PlanError::OutOfRange { field: Field::Slots });
+        }
+        rows_range(self.slots, self.rows)
+            .or_else(|| jumpers_range(self.slots, self.jumpers))
+            .map(|field| PlanError::OutOfRange { field })
+    }
+
+    /// P1.
+    fn no_controller(&self) -> Option<PlanError>
+        ensures { result ≡ no_controller self.now }
+    {
+        match self.board(1) {
+            Some(_) => None,
+            None => Some(PlanError::NoController),
+        }
+    }
+
+    /// The board in a slot.
+    fn board(&self, slot: u8) -> Option<&Row>
+        ensures { option_copied result ≡ board self.now slot }
+    {
+        row_in(self.rows, slot)
+    }
+
+    /// P3: the least slot that is named more than once.
+    fn slot_twice(&self) -> Option<PlanError>
+        ensures { result ≡ slot_twice self.now }
+    {
+        for below in 0..self.slots {
+            let slot = below + 1;
+            if self.is_named_twice(slot) {
+                return Some(PlanError::SlotTwice { slot });
+            }
+        }
+        None
+    }
+
+    /// Whether more than one row or jumper names the slot.
+    fn is_named_twice(&self, slot: u8) -> bool
+        ensures { result ≡ nat_lt 1 (namings self.now slot) }
+    {
+        let rows = self.rows.iter().filter(|row| row.slot == slot).count();
+        let jumpers = self.jumpers.iter().filter(|jumper| jumper.slot == slot).count();
+        rows > 1 || jumpers > 1 || (rows == 1 && jumpers == 1)
+    }
+
+    /// P4: the least slot, then the least chain.
+    fn chain_broken(&self) -> Option<PlanError>
+        ensures { result ≡ chain_broken self.now }
+    {
+        for below in 0..self.slots {
+            let slot = below + 1;
+            if let Some(chain) = self.broken_chain(slot) {
+                return Some(PlanError::ChainBroken { slot, chain });
+            }
+        }
+        None
+    }
+
+    /// The least chain that the slot breaks.
+    fn broken_chain(&self, slot: u8) -> Option<ChainId>
+        ensures { result ≡ find (is_broken self.now slot) chains }
+    {
+        CHAINS
+            .into_iter()
+            .find(|chain| self.is_broken(slot, *chain))
+    }
+
+    /// Whether the slot is empty and does not join a chain that a higher slot works.
+    fn is_broken(&self, slot: u8, chain: ChainId) -> bool
+        ensures { result ≡ is_broken self.now slot chain }
+    {
+        self.board(slot).is_none() && !self.is_joined(slot, chain) && self.is_worked_above(slot, chain)
+    }
+
+    /// Whether a jumper of the slot joins the chain.
+    fn is_joined(&self, slot: u8, chain: ChainId) -> bool
+        ensures { result ≡ is_joined self.now slot chain }
+    {
+        self.jumpers
+            .iter()
+            .any(|jumper| jumper.slot == slot && jumper.chains.has(chain))
+    }
+
+    /// Whether a higher slot works the chain.
+    fn is_worked_above(&self, slot: u8, chain: ChainId) -> bool
+        ensures { result ≡ list_any (λ r. nat_lt slot r.slot && works chain r) self.now.rows }
+    {
+        self.rows
+            .iter()
+            .any(|row| slot < row.slot && row.works(chain))
+    }
+
+    /// P5: the first row whose requester SGL does not serve.
+    fn level_not_served(&self) -> Option<PlanError>
+        ensures { result ≡ level_not_served self.now }
+    {
+        let sgl = self.arbiter == ArbiterKind::Sgl;
+        self.rows
+            .iter()
+            .find(|row| sgl && row.requester.is_some_and(|requester| requester.level != 3))
+            .map(|row| PlanError::LevelNotServed { slot: row.slot })
+    }
+
+    /// P6: the least level that two rows handle.
+    fn handler_twice(&self) -> Option<PlanError>
+        ensures { result ≡ handler_twice self.now }
+    {
+        LEVELS
+            .into_iter()
+            .find(|level| self.is_handled_twice(*level))
+            .map(|level| PlanError::HandlerTwice { level })
+    }
+
+    /// Whether two rows handle the level.
+    fn is_handled_twice(&self, level: u8) -> bool
+        ensures { result ≡ nat_lt 1 (length (filter (λ r. has_level r.handler level) self.now.rows)) }
+    {
+        self.rows
+            .iter()
+            .filter(|row| row.handler.has(level))
+            .count()
+            > 1
+    }
+
+    /// P7: the first row that has a handler and no requester.
+    fn handler_without_requester(&self) -> Option<PlanError>
+        ensures { result ≡ handler_without_requester self.now }
+    {
+        self.rows
+            .iter()
+            .find(|row| row.handler.bits() > 0 && row.requester.is_none())
+            .map(|row| PlanError::HandlerWithoutRequester { slot: row.slot })
+    }
+}
+
+/// The row that names a slot.
+pub fn row_in(rows: &[Row], slot: u8) -> Option<&Row>
+    ensures { option_copied result ≡ row_in rows.now slot }
+{
+    rows.iter().find(|row| row.slot == slot)
+}
+
+/// The first field out of range, row by row.
+fn rows_range(slots: u8, rows: &[Row]) -> Option<Field>
+    ensures { result ≡ first_of (map (row_range slots) rows.now) }
+{
+    rows.iter().find_map(|row| row_range(slots, row))
+}
+
+/// The first field out of range, jumper by jumper.
+fn jumpers_range(slots: u8, jumpers: &[Jumper]) -> Option<Field>
+    ensures { result ≡ first_of (map (jumper_range slots) jumpers.now) }
+{
+    jumpers.iter().find_map(|jumper| jumper_range(slots, jumper))
+}
+
+/// The first field of a row that is out of range.
+fn row_range(slots: u8, row: &Row) -> Option<Field>
+    ensures { result ≡ row_range slots row.now }
+{
+    if !is_within(slots, row.slot) {
+        Some(Field::Slot)
+    } else if row.requester.is_some_and(|requester| requester.level > 3) {
+        Some(Field::RequesterLevel)
+    } else if row.requester.is_some_and(|requester| has_no_burst(requester.release)) {
+        Some(Field::RequesterBurst)
+    } else if row.interrupter.is_some_and(|interrupter| !is_level(interrupter.level)) {
+        Some(Field::InterrupterLevel)
+    } else if row.handler.bits() > 127 {
+        Some(Field::Handler)
+    } else {
+        None
+    }
+}
+
+/// The first field of a jumper that is out of range.
+fn jumper_range(slots: u8, jumper: &Jumper) -> Option<Field>
+    ensures { result ≡ jumper_range slots jumper.now }
+{
+    if !is_within(slots, jumper.slot) {
+        Some(Field::JumperSlot)
+    } else if jumper.chains.bits() > 31 {
+        Some(Field::JumperChains)
+    } else {
+        None
+    }
+}
+
+/// Whether the slot is one of 1 to `slots`.
+fn is_within(slots: u8, slot: u8) -> bool
+    ensures { result ≡ is_within slots slot }
+{
+    (1..=slots).contains(&slot)
+}
+
+/// Whether the level is one of IRQ1* to IRQ7*.
+fn is_level(level: u8) -> bool
+    ensures { result ≡ is_level level }
+{
+    (1..=7).contains(&level)
+}
+
+/// Whether the master may make no cycle at all.
+fn has_no_burst(release: Release) -> bool
+    ensures { result ≡ has_no_burst release }
+{
+    matches!(release, Release::Done { burst: 0 })
+}
