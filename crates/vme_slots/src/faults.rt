@@ -1,5 +1,5 @@
 //! The tests that a plan has to pass, one function for each fault.
-ghost use Rattle.std.specs.Prelude.{◌≡◌, ◌&&◌, length, filter, find, map, nat_lt};
+ghost use Rattle.std.specs.Prelude.{◌≡◌, ◌==◌, ◌&&◌, length, count_by, filter, find, map, nat_lt};
 ghost use Rattle.std.specs.List.{list_any};
 ghost use Rattle.std.specs.Option.{option_copied};
 ghost use Rattle.vme_model.specs.Signals.{is_level};
@@ -58,14 +58,28 @@ impl<'a> Draft<'a> {
     pub fn fault(&self) -> Option<PlanError>
         ensures { result ≡ plan_fault self.now }
     {
-        self.too_many_slots()
-            .or_else(|| self.out_of_range())
-            .or_else(|| self.no_controller())
-            .or_else(|| self.slot_twice())
-            .or_else(|| self.chain_broken())
-            .or_else(|| self.level_not_served())
-            .or_else(|| self.handler_twice())
-            .or_else(|| self.handler_without_requester())
+        if let Some(fault) = self.too_many_slots() {
+            return Some(fault);
+        }
+        if let Some(fault) = self.out_of_range() {
+            return Some(fault);
+        }
+        if let Some(fault) = self.no_controller() {
+            return Some(fault);
+        }
+        if let Some(fault) = self.slot_twice() {
+            return Some(fault);
+        }
+        if let Some(fault) = self.chain_broken() {
+            return Some(fault);
+        }
+        if let Some(fault) = self.level_not_served() {
+            return Some(fault);
+        }
+        if let Some(fault) = self.handler_twice() {
+            return Some(fault);
+        }
+        self.handler_without_requester()
     }
 
     /// P2.
@@ -82,9 +96,10 @@ impl<'a> Draft<'a> {
         if self.slots == 0 {
             return Some(PlanError::OutOfRange { field: Field::Slots });
         }
-        rows_range(self.slots, self.rows)
-            .or_else(|| jumpers_range(self.slots, self.jumpers))
-            .map(|field| PlanError::OutOfRange { field })
+        if let Some(field) = rows_range(self.slots, self.rows) {
+            return Some(PlanError::OutOfRange { field });
+        }
+        jumpers_range(self.slots, self.jumpers).map(|field| PlanError::OutOfRange { field })
     }
 
     /// P1.
@@ -108,8 +123,7 @@ impl<'a> Draft<'a> {
     fn slot_twice(&self) -> Option<PlanError>
         ensures { result ≡ slot_twice self.now }
     {
-        for below in 0..self.slots {
-            let slot = below + 1;
+        for slot in 1..=self.slots {
             if self.is_named_twice(slot) {
                 return Some(PlanError::SlotTwice { slot });
             }
@@ -118,20 +132,18 @@ impl<'a> Draft<'a> {
     }
 
     /// Whether more than one row or jumper names the slot.
+    #[tactic(auto, using(crate::proofs::Slots::namings_are))]
     fn is_named_twice(&self, slot: u8) -> bool
         ensures { result ≡ nat_lt 1 (namings self.now slot) }
     {
-        let rows = self.rows.iter().filter(|row| row.slot == slot).count();
-        let jumpers = self.jumpers.iter().filter(|jumper| jumper.slot == slot).count();
-        rows > 1 || jumpers > 1 || (rows == 1 && jumpers == 1)
+        rows_of(self.rows, slot) + jumpers_of(self.jumpers, slot) > 1
     }
 
     /// P4: the least slot, then the least chain.
     fn chain_broken(&self) -> Option<PlanError>
         ensures { result ≡ chain_broken self.now }
     {
-        for below in 0..self.slots {
-            let slot = below + 1;
+        for slot in 1..=self.slots {
             if let Some(chain) = self.broken_chain(slot) {
                 return Some(PlanError::ChainBroken { slot, chain });
             }
@@ -143,8 +155,16 @@ impl<'a> Draft<'a> {
     fn broken_chain(&self, slot: u8) -> Option<ChainId>
         ensures { result ≡ find (is_broken self.now slot) chains }
     {
-        CHAINS
-            .into_iter()
+        self.broken_among(slot, &CHAINS)
+    }
+
+    /// The first of these chains that the slot breaks.
+    fn broken_among(&self, slot: u8, chains: &[ChainId]) -> Option<ChainId>
+        ensures { result ≡ find (is_broken self.now slot) chains.now }
+    {
+        chains
+            .iter()
+            .copied()
             .find(|chain| self.is_broken(slot, *chain))
     }
 
@@ -188,21 +208,25 @@ impl<'a> Draft<'a> {
     fn handler_twice(&self) -> Option<PlanError>
         ensures { result ≡ handler_twice self.now }
     {
-        LEVELS
-            .into_iter()
-            .find(|level| self.is_handled_twice(*level))
+        self.handled_twice_among(&LEVELS)
             .map(|level| PlanError::HandlerTwice { level })
     }
 
-    /// Whether two rows handle the level.
+    /// The first of these levels that two rows handle.
+    fn handled_twice_among(&self, levels: &[u8]) -> Option<u8>
+        ensures { result ≡ find (λ v. nat_lt 1 (length (filter (λ r. has_level r.handler v) self.now.rows))) levels.now }
+    {
+        levels
+            .iter()
+            .copied()
+            .find(|level| self.is_handled_twice(*level))
+    }
+
+    /// Whether more than one board handles the level.
     fn is_handled_twice(&self, level: u8) -> bool
         ensures { result ≡ nat_lt 1 (length (filter (λ r. has_level r.handler level) self.now.rows)) }
     {
-        self.rows
-            .iter()
-            .filter(|row| row.handler.has(level))
-            .count()
-            > 1
+        handlers_of(self.rows, level) > 1
     }
 
     /// P7: the first row that has a handler and no requester.
@@ -223,18 +247,49 @@ pub fn row_in(rows: &[Row], slot: u8) -> Option<&Row>
     rows.iter().find(|row| row.slot == slot)
 }
 
+/// How many boards stand in the slot.
+fn rows_of(rows: &[Row], slot: u8) -> usize
+    ensures { result ≡ count_by (λ r. r.slot == slot) rows.now }
+{
+    rows.iter().filter(|row| row.slot == slot).count()
+}
+
+/// How many jumpers name the slot.
+fn jumpers_of(jumpers: &[Jumper], slot: u8) -> usize
+    ensures { result ≡ count_by (λ j. j.slot == slot) jumpers.now }
+{
+    jumpers.iter().filter(|jumper| jumper.slot == slot).count()
+}
+
+/// How many boards handle the level.
+fn handlers_of(rows: &[Row], level: u8) -> usize
+    ensures { result ≡ length (filter (λ r. has_level r.handler level) rows.now) }
+{
+    rows.iter().filter(|row| row.handler.has(level)).count()
+}
+
 /// The first field out of range, row by row.
 fn rows_range(slots: u8, rows: &[Row]) -> Option<Field>
     ensures { result ≡ first_of (map (row_range slots) rows.now) }
 {
-    rows.iter().find_map(|row| row_range(slots, row))
+    for row in rows {
+        if let Some(field) = row_range(slots, row) {
+            return Some(field);
+        }
+    }
+    None
 }
 
 /// The first field out of range, jumper by jumper.
 fn jumpers_range(slots: u8, jumpers: &[Jumper]) -> Option<Field>
     ensures { result ≡ first_of (map (jumper_range slots) jumpers.now) }
 {
-    jumpers.iter().find_map(|jumper| jumper_range(slots, jumper))
+    for jumper in jumpers {
+        if let Some(field) = jumper_range(slots, jumper) {
+            return Some(field);
+        }
+    }
+    None
 }
 
 /// The first field of a row that is out of range.
