@@ -1,11 +1,12 @@
 //! A backplane, which takes edges one by one.
-ghost use Rattle.std.specs.Prelude.{◌≡◌, ◌==◌, ◌+◌, ◌<◌, ◌↔◌, [], IfOk, IsTrue, Ok, OnOk, Some, false, is_ok, length, slice_get};
+ghost use Rattle.std.specs.Prelude.{◌≡◌, ◌==◌, ◌+◌, ◌<◌, ◌≤◌, ◌↔◌, [], IfOk, IsTrue, Ok, OnOk, Some, false, is_ok, length, slice_get};
 ghost use Rattle.vme_model.specs.History.{in_order};
 ghost use Rattle.vme_model.specs.Verdict.{verdict, verdict_but_full, after, kept, IsLegal};
 ghost use Rattle.vme_model.specs.Views.{pins};
 ghost use Rattle.vme_model.specs.Deliveries.{answer, delivered};
 ghost use Rattle.vme_model.specs.Offers.{offered};
-ghost use Rattle.vme_model.specs.Report.{at_power_up};
+ghost use Rattle.vme_model.specs.Accepted.{IsAccepted};
+ghost use Rattle.vme_model.specs.Report.{at_power_up, trace_limit};
 ghost use Rattle.vme_backplane.specs.Looks.{history_of};
 
 use crate::looks::Look;
@@ -63,9 +64,12 @@ impl Backplane {
 
     /// What holds of every backplane.
     pub fn laws(&self)
+        ensures accepted { IsAccepted self.now.plan }
         ensures legal { IsLegal self.now.version self.now.plan self.now.history }
+        ensures fits { length self.now.history ≤ self.now.max }
+        ensures bounded { self.now.max ≤ trace_limit }
     {
-        let _ = &self.plan;
+        self.plan.accepted();
     }
 
     /// The answer to an edge, but for what it delivers.

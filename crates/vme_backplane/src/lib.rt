@@ -13,3 +13,6 @@ mod traces;
 
 pub use backplanes::{Backplane, Counts};
 pub use traces::{Trace, TraceError};
+
+#[cfg(test)]
+mod tests;
