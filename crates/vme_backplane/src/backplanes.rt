@@ -78,13 +78,8 @@ impl Backplane {
         ensures room { OnOk result ((length self.now.history == self.now.max) ≡ false) }
         ensures allowed { OnOk result (verdict_but_full self.now.version self.now.plan self.now.history edge ≡ Ok tt) }
     {
-        settling::judge(
-            self.version,
-            &self.plan,
-            &self.edges,
-            self.is_full(),
-            edge,
-        )
+        let (version, plan) = (self.version(), &self.plan);
+        settling::judge(version, plan, &self.edges, self.is_full(), edge)
     }
 
     /// Makes the edge where the rules allow it, and answers what it delivers.
@@ -213,7 +208,7 @@ impl Backplane {
         ensures driver { result.driver ≡ driver }
     {
         Look {
-            version: self.version,
+            version: self.version(),
             plan: &self.plan,
             edges: &self.edges,
             driver,
