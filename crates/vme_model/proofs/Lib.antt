@@ -1,0 +1,12 @@
+pub mod Bools
+pub mod Below
+pub mod Ranges
+pub mod GrantPhases
+pub mod Members
+pub mod Passed
+pub mod Grants
+pub mod GrantClaims
+pub mod Versions
+pub mod CyclePhases
+pub mod Cycles
+pub mod CycleClaims
