@@ -278,4 +278,3 @@ going_of version p range [] l = (
   },
 )
 going_of version p range (e ∷ h) l = step version p range h e.driver e.wire e.fall e.value (all_passed version p h e.driver e.wire e.fall e.value l.0) (now_of version p range h l.1) (going_of version p range h l.1)
-

@@ -282,17 +282,37 @@ module _ (on : ℕ → ℕ → Bool) (slots : ℕ) (two : Bool) where
 
   pub asks : (v : GrantWires) (br' : ℕ → Bool) (s : ℕ) → Sets br' v.br s true → Phased v → Phased (record v { br = br' })
   asks v br' s u (Idle, i) = (Idle, record { bg_high = i.bg_high; out_high = i.out_high; free = i.free })
-  asks v br' s u (Granting c hi, i) =
-      (Granting c hi, record {
-        few = i.few; bg_low = i.bg_low; bg_only = i.bg_only; out_on = i.out_on; out_below = i.out_below; out_each = i.out_each; free = i.free;
-        wanted = asks_wanted v br' s c hi u i.wanted;
-        granted = i.granted; untaken = i.untaken; passers = i.passers;
-      })
-  asks v br' s u (Held c k lo g, i) =
-      (Held c k lo g, record {
-        member = i.member; bg_low = i.bg_low; bg_only = i.bg_only; from_start = i.from_start; out_on = i.out_on; out_below = i.out_below;
-        out_above = i.out_above; out_each = i.out_each; holds = i.holds; only = i.only;
-      })
+  asks v br' s u (Granting c hi, i) = (
+    Granting c hi,
+    record {
+      few = i.few;
+      bg_low = i.bg_low;
+      bg_only = i.bg_only;
+      out_on = i.out_on;
+      out_below = i.out_below;
+      out_each = i.out_each;
+      free = i.free;
+      wanted = asks_wanted v br' s c hi u i.wanted;
+      granted = i.granted;
+      untaken = i.untaken;
+      passers = i.passers;
+    },
+  )
+  asks v br' s u (Held c k lo g, i) = (
+    Held c k lo g,
+    record {
+      member = i.member;
+      bg_low = i.bg_low;
+      bg_only = i.bg_only;
+      from_start = i.from_start;
+      out_on = i.out_on;
+      out_below = i.out_below;
+      out_above = i.out_above;
+      out_each = i.out_each;
+      holds = i.holds;
+      only = i.only;
+    },
+  )
   asks v br' s u (Expired c lo, i) = (Expired c lo, record { version = i.version; few = i.few; bg_high = i.bg_high; out_on = i.out_on; out_above = i.out_above; out_each = i.out_each; free = i.free })
 
   -- slot s asks no longer: it holds the bus, or withdraws
@@ -306,17 +326,37 @@ module _ (on : ℕ → ℕ → Bool) (slots : ℕ) (two : Bool) where
   pub asks_no_more : (v : GrantWires) (br' withdrawn' : ℕ → Bool) (s : ℕ) → Sets br' v.br s false → (v.busy s ≡ true) ⊎ (two ≡ true) → ((n : ℕ) → v.busy s ≡ false → on n s ≡ true → withdrawn' n ≡ true) → ((n : ℕ) → v.withdrawn n ≡ true → withdrawn' n ≡ true) → Phased v → Phased (record v { br = br'; withdrawn = withdrawn' })
   asks_no_more v br' withdrawn' s u e a b (Idle, i) = (Idle, record { bg_high = i.bg_high; out_high = i.out_high; free = i.free })
   asks_no_more v br' withdrawn' s u (inl e) a b (Granting c hi, i) = absurd (cc (i.free s))
-  asks_no_more v br' withdrawn' s u (inr e) a b (Granting c hi, i) =
-      (Granting c hi, record {
-        few = i.few; bg_low = i.bg_low; bg_only = i.bg_only; out_on = i.out_on; out_below = i.out_below; out_each = i.out_each; free = i.free;
-        wanted = withdraws v br' withdrawn' s c hi e u (a c (i.free s)) (b c) i.wanted;
-        granted = i.granted; untaken = i.untaken; passers = i.passers;
-      })
-  asks_no_more v br' withdrawn' s u e a b (Held c k lo g, i) =
-      (Held c k lo g, record {
-        member = i.member; bg_low = i.bg_low; bg_only = i.bg_only; from_start = i.from_start; out_on = i.out_on; out_below = i.out_below;
-        out_above = i.out_above; out_each = i.out_each; holds = i.holds; only = i.only;
-      })
+  asks_no_more v br' withdrawn' s u (inr e) a b (Granting c hi, i) = (
+    Granting c hi,
+    record {
+      few = i.few;
+      bg_low = i.bg_low;
+      bg_only = i.bg_only;
+      out_on = i.out_on;
+      out_below = i.out_below;
+      out_each = i.out_each;
+      free = i.free;
+      wanted = withdraws v br' withdrawn' s c hi e u (a c (i.free s)) (b c) i.wanted;
+      granted = i.granted;
+      untaken = i.untaken;
+      passers = i.passers;
+    },
+  )
+  asks_no_more v br' withdrawn' s u e a b (Held c k lo g, i) = (
+    Held c k lo g,
+    record {
+      member = i.member;
+      bg_low = i.bg_low;
+      bg_only = i.bg_only;
+      from_start = i.from_start;
+      out_on = i.out_on;
+      out_below = i.out_below;
+      out_above = i.out_above;
+      out_each = i.out_each;
+      holds = i.holds;
+      only = i.only;
+    },
+  )
   asks_no_more v br' withdrawn' s u e a b (Expired c lo, i) = (Expired c lo, record { version = i.version; few = i.few; bg_high = i.bg_high; out_on = i.out_on; out_above = i.out_above; out_each = i.out_each; free = i.free })
 
   -- slot s passes the grant on

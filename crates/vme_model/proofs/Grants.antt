@@ -171,4 +171,3 @@ step version p range h d w false v a now = now
 pub now_of : (version : Version) (p : Plan) → IsInRange p → (h : List Edge) → IsLegal version p h → Now version p h
 now_of version p range [] l = (Idle, record { bg_high = λ n. refl; out_high = λ s. refl; free = λ s. refl })
 now_of version p range (e ∷ h) l = step version p range h e.driver e.wire e.fall e.value (all_passed version p h e.driver e.wire e.fall e.value l.0) (now_of version p range h l.1)
-

@@ -10,3 +10,6 @@ pub mod Versions
 pub mod CyclePhases
 pub mod Cycles
 pub mod CycleClaims
+pub mod Safety
+pub mod Bits
+pub mod Local
