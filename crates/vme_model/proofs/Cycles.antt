@@ -199,22 +199,34 @@ passes_on_of p h s None e r = absurd (cc)
 passes_on_of p h s (Some (Acknowledge level)) e r = record { level = level; shows = e; unasked_now = ap (is_pending_at p h (Slot s)) e ∙ not_true _ r }
 passes_on_of p h s (Some (Access x)) e r = absurd (cc)
 
-step : (version : Version) (p : Plan) → IsInRange p → (h : List Edge) (d : Driver) (w : Wire) (fall : Bool) (v : Option Cycle) → Passed version p h d w fall v → Now version p h → Going p h → Going p (record { driver = d; wire = w; fall = fall; value = v } ∷ h)
-step version p range h (Slot s) Addr true v a now go =
+-- such an edge keeps the cycles in one of the phases
+abbrev KeepsPhase : Version → Plan → Driver → Wire → Bool → Type 0
+KeepsPhase version p d w fall = (h : List Edge) (v : Option Cycle) → Passed version p h d w fall v → Now version p h → Going p h → Going p (record { driver = d; wire = w; fall = fall; value = v } ∷ h)
+
+after_address : (version : Version) (p : Plan) → IsInRange p → (s : ℕ) → KeepsPhase version p (Slot s) Addr true
+after_address version p range s h v a now go =
     let r = and_left _ _ (and_left _ _ a.rule) in
     group_falls (interrupts p) (masters p) (has_board p) p.slots (cycle_wires p h) (busy_of h) _ _ s (sets_slot (λ t. drive h (Slot t) Addr) s true) (and_left _ _ r) (strobes_high p range h (not_true _ (and_right _ _ r))) go
-step version p range h (Slot s) Addr false v a now go =
+
+after_address_off : (version : Version) (p : Plan) → IsInRange p → (s : ℕ) → KeepsPhase version p (Slot s) Addr false
+after_address_off version p range s h v a now go =
     let r = and_left _ _ a.rule in
     group_rises (interrupts p) (masters p) (has_board p) p.slots (cycle_wires p h) (busy_of h) _ _ s (sets_slot (λ t. drive h (Slot t) Addr) s false) (and_left _ _ r) (not_true _ (and_right _ _ r)) (and_right _ _ a.rule) go
-step version p range h (Slot s) AddressStrobe true v a now go =
+
+after_strobe : (version : Version) (p : Plan) → IsInRange p → (s : ℕ) → KeepsPhase version p (Slot s) AddressStrobe true
+after_strobe version p range s h v a now go =
     let clear = all_clear (λ t. drive h (Slot t) IackOut) (active p chain.Iack) (and_right _ _ a.settles) in
     strobe_falls (interrupts p) (masters p) (has_board p) p.slots (cycle_wires p h) (busy_of h) _ _ s (one_holder version p h now) (sets_slot (λ t. drive h (Slot t) AddressStrobe) s true) (fresh s) (and_left _ _ a.rule) a.exists (strobes_high p range h (not_true _ (and_right _ _ a.rule))) (not_true _ (and_left _ _ a.settles)) (λ t o. clear t (contained (interrupts p) p.slots t o (within p range t o).0 (within p range t o).1)) go
   where
     fresh : (s : ℕ) → (if s == s then false else (false || has_strobed h (Slot s))) ≡ false
     fresh s = cc (self s)
-step version p range h (Slot s) AddressStrobe false v a now go =
+
+after_strobe_rise : (version : Version) (p : Plan) → IsInRange p → (s : ℕ) → KeepsPhase version p (Slot s) AddressStrobe false
+after_strobe_rise version p range s h v a now go =
     strobe_rises (interrupts p) (masters p) (has_board p) p.slots (cycle_wires p h) (busy_of h) _ s (sets_slot (λ t. drive h (Slot t) AddressStrobe) s false) a.before (not_true _ a.rule) go
-step version p range h (Slot s) DataStrobe true v a now go =
+
+after_data_strobe : (version : Version) (p : Plan) → IsInRange p → (s : ℕ) → KeepsPhase version p (Slot s) DataStrobe true
+after_data_strobe version p range s h v a now go =
     let r = and_left _ _ a.rule in
     let r2 = and_left _ _ r in
     let r3 = and_left _ _ r2 in
@@ -222,41 +234,82 @@ step version p range h (Slot s) DataStrobe true v a now go =
   where
     now_strobed : (s : ℕ) → (s == s || has_strobed h (Slot s)) ≡ true
     now_strobed s = cc (self s)
-step version p range h (Slot s) DataStrobe false v a now go =
+
+after_data_strobe_rise : (version : Version) (p : Plan) → IsInRange p → (s : ℕ) → KeepsPhase version p (Slot s) DataStrobe false
+after_data_strobe_rise version p range s h v a now go =
     dstrobe_rises (interrupts p) (masters p) (has_board p) p.slots (cycle_wires p h) (busy_of h) _ s (sets_slot (λ t. drive h (Slot t) DataStrobe) s false) a.before go
-step version p range h (Slot s) Dtack true v a now go =
+
+after_answer : (version : Version) (p : Plan) → IsInRange p → (s : ℕ) → KeepsPhase version p (Slot s) Dtack true
+after_answer version p range s h v a now go =
     let r = and_left _ _ a.rule in
     let w = line_from p range h DataStrobe (and_left _ _ r) in
     dtack_falls (interrupts p) (masters p) (has_board p) p.slots (cycle_wires p h) (busy_of h) _ _ s w.0 _ (sets_slot (λ t. drive h (Slot t) Dtack) s true) a.before (board_there p (drives Dtack) s a.exists) w.1 (asked p range h s (shown p h) (and_right _ _ a.rule)) go
-step version p range h (Slot s) Dtack false v a now go =
+
+after_answer_rise : (version : Version) (p : Plan) → IsInRange p → (s : ℕ) → KeepsPhase version p (Slot s) Dtack false
+after_answer_rise version p range s h v a now go =
     dtack_rises (interrupts p) (masters p) (has_board p) p.slots (cycle_wires p h) (busy_of h) _ s (sets_slot (λ t. drive h (Slot t) Dtack) s false) (data_high p range h (not_true _ a.rule)) go
-step version p range h (Slot s) IackOut true v a now go =
+
+after_acknowledge_pass : (version : Version) (p : Plan) → IsInRange p → (s : ℕ) → KeepsPhase version p (Slot s) IackOut true
+after_acknowledge_pass version p range s h v a now go =
     let r = and_left _ _ a.rule in
     let r2 = and_left _ _ r in
     let i = and_left (iack_in p h (Slot s)) _ r2 in
     let w = line_from p range h DataStrobe (and_right _ _ r) in
     let l = passes_on_of p h s (shown p h) refl (and_right _ _ a.rule) in
     iout_falls (interrupts p) (masters p) (has_board p) p.slots (within p range) (cycle_wires p h) (busy_of h) _ _ s w.0 l.level _ (sets_slot (λ t. drive h (Slot t) IackOut) s true) (ap (λ b. (Slot s, shown p h, b) ∷ acknowledge_passes p h) l.unasked_now) l.shows (chain_member p range h s i) (board_there p (drives IackOut) s a.exists) (not_true _ (and_right (iack_in p h (Slot s)) _ r2)) (chain_below p range s) a.before (chain_asks p range h s i) w.1 go
-step version p range h (Slot s) IackOut false v a now go =
+
+after_acknowledge_pass_rise : (version : Version) (p : Plan) → IsInRange p → (s : ℕ) → KeepsPhase version p (Slot s) IackOut false
+after_acknowledge_pass_rise version p range s h v a now go =
     iout_rises (interrupts p) (masters p) (has_board p) p.slots (cycle_wires p h) (busy_of h) _ (strobes_high p range h (not_true _ a.rule)) go
-step version p range h (Slot s) Bbsy true v a now go =
+
+after_take : (version : Version) (p : Plan) → IsInRange p → (s : ℕ) → KeepsPhase version p (Slot s) Bbsy true
+after_take version p range s h v a now go =
     taken (interrupts p) (masters p) (has_board p) p.slots (cycle_wires p h) (busy_of h) _ s (sets_slot (busy_of h) s true) go
-step version p range h (Slot s) Bbsy false v a now go =
+
+after_release : (version : Version) (p : Plan) → IsInRange p → (s : ℕ) → KeepsPhase version p (Slot s) Bbsy false
+after_release version p range s h v a now go =
     given_up (interrupts p) (masters p) (has_board p) p.slots (cycle_wires p h) (busy_of h) _ s (one_holder version p h now) a.before (off (drive h (Slot s) Addr) (drive h (Slot s) AddressStrobe) (and_right _ _ (and_left _ _ a.rule))) go
   where
     off : (x y : Bool) → (not x || y) ≡ true → y ≡ false → x ≡ false
     off x y e f = grind arith
-step version p range h Controller Berr true v a now go =
+
+after_error : (version : Version) (p : Plan) → IsInRange p → KeepsPhase version p Controller Berr true
+after_error version p range h v a now go =
     let w = line_from p range h DataStrobe (and_left _ _ a.rule) in
     berr_falls (interrupts p) (masters p) (has_board p) p.slots (cycle_wires p h) (busy_of h) w.0 _ (λ t o. (within p range t o).1) (dtack_high p range h (not_true _ (and_right _ _ a.rule))) w.1 (unanswerable p range h (shown p h) a.settles) go
-step version p range h Controller Berr false v a now go =
+
+after_error_rise : (version : Version) (p : Plan) → IsInRange p → KeepsPhase version p Controller Berr false
+after_error_rise version p range h v a now go =
     berr_rises (interrupts p) (masters p) (has_board p) p.slots (cycle_wires p h) (busy_of h) (data_high p range h (not_true _ a.rule)) go
-step version p range h Controller Iack true v a now go =
+
+after_acknowledge : (version : Version) (p : Plan) → IsInRange p → KeepsPhase version p Controller Iack true
+after_acknowledge version p range h v a now go =
     let r = and_left _ _ a.rule in
     let w = line_from p range h DataStrobe (and_right _ _ r) in
     iack_falls (interrupts p) (masters p) (has_board p) p.slots (cycle_wires p h) (busy_of h) w.0 a.before (and_right _ _ a.rule) w.1 go
-step version p range h Controller Iack false v a now go =
+
+after_acknowledge_rise : (version : Version) (p : Plan) → IsInRange p → KeepsPhase version p Controller Iack false
+after_acknowledge_rise version p range h v a now go =
     iack_rises (interrupts p) (masters p) (has_board p) p.slots (cycle_wires p h) (busy_of h) (strobes_high p range h (not_true _ a.rule)) go
+
+-- after every edge that passed its tests
+step : (version : Version) (p : Plan) → IsInRange p → (h : List Edge) (d : Driver) (w : Wire) (fall : Bool) (v : Option Cycle) → Passed version p h d w fall v → Now version p h → Going p h → Going p (record { driver = d; wire = w; fall = fall; value = v } ∷ h)
+step version p range h (Slot s) Addr true v a now go = after_address version p range s h v a now go
+step version p range h (Slot s) Addr false v a now go = after_address_off version p range s h v a now go
+step version p range h (Slot s) AddressStrobe true v a now go = after_strobe version p range s h v a now go
+step version p range h (Slot s) AddressStrobe false v a now go = after_strobe_rise version p range s h v a now go
+step version p range h (Slot s) DataStrobe true v a now go = after_data_strobe version p range s h v a now go
+step version p range h (Slot s) DataStrobe false v a now go = after_data_strobe_rise version p range s h v a now go
+step version p range h (Slot s) Dtack true v a now go = after_answer version p range s h v a now go
+step version p range h (Slot s) Dtack false v a now go = after_answer_rise version p range s h v a now go
+step version p range h (Slot s) IackOut true v a now go = after_acknowledge_pass version p range s h v a now go
+step version p range h (Slot s) IackOut false v a now go = after_acknowledge_pass_rise version p range s h v a now go
+step version p range h (Slot s) Bbsy true v a now go = after_take version p range s h v a now go
+step version p range h (Slot s) Bbsy false v a now go = after_release version p range s h v a now go
+step version p range h Controller Berr true v a now go = after_error version p range h v a now go
+step version p range h Controller Berr false v a now go = after_error_rise version p range h v a now go
+step version p range h Controller Iack true v a now go = after_acknowledge version p range h v a now go
+step version p range h Controller Iack false v a now go = after_acknowledge_rise version p range h v a now go
 step version p range h Controller Dtack true v a now go = absurd (cc a.wire)
 step version p range h Controller IackOut true v a now go = absurd (cc a.wire)
 step version p range h (Slot s) Berr true v a now go = absurd (cc a.wire)

@@ -134,37 +134,66 @@ gave_up busy o before e f = grind arith
 still : (busy o before : Bool) → before ≡ true → ((not busy && o) || before) ≡ true
 still busy o before e = grind arith
 
-step : (version : Version) (p : Plan) → IsInRange p → (h : List Edge) (d : Driver) (w : Wire) (fall : Bool) (v : Option Cycle) → Passed version p h d w fall v → Now version p h → Now version p (record { driver = d; wire = w; fall = fall; value = v } ∷ h)
-step version p range h Controller (Bg n) true v a now =
+-- such an edge keeps the grants in one of the phases
+abbrev KeepsPhase : Version → Plan → Driver → Wire → Bool → Type 0
+KeepsPhase version p d w fall = (h : List Edge) (v : Option Cycle) → Passed version p h d w fall v → Now version p h → Now version p (record { driver = d; wire = w; fall = fall; value = v } ∷ h)
+
+after_grant : (version : Version) (p : Plan) → IsInRange p → (n : ℕ) → KeepsPhase version p Controller (Bg n) true
+after_grant version p range n h v a now =
     let r = and_left _ _ a.rule in
     let w = waiter p range h n (picked_low p.arbiter (request_line p h) (last_level h) n (and_right _ _ a.rule)) in
     grant_falls (on p) p.slots (is_two version) (grant_wires p h) _ n w.0 (sets_level (λ m. drive h Controller (Bg m)) n true) (is_less n 4 a.wire) w.1 w.2 (grants_high (λ m. drive h Controller (Bg m)) (and_left _ _ r)) (all_free p range h (not_true _ (and_right _ _ r))) (λ e m s o. clear_now p range h m s o (when (not (is_two version)) (are_grants_through p h) (off (is_two version) e) a.settles)) now
-step version p range h Controller (Bg n) false v a now =
+
+after_grant_rise : (version : Version) (p : Plan) → IsInRange p → (n : ℕ) → KeepsPhase version p Controller (Bg n) false
+after_grant_rise version p range n h v a now =
     grant_rises (on p) p.slots (is_two version) (one_chain p) (within p range) (grant_wires p h) _ n _ (sets_level (λ m. drive h Controller (Bg m)) n false) a.before (rise_of (is_two version) p range h n (is_less n 4 a.wire) (line p h Bbsy) refl a.rule a.settles) now
+
+after_request : (version : Version) (p : Plan) → IsInRange p → (s : ℕ) → KeepsPhase version p (Slot s) Br true
+after_request version p range s h v a now = asks (on p) p.slots (is_two version) (grant_wires p h) _ s (sets_slot (λ t. drive h (Slot t) Br) s true) now
+
+after_request_rise : (version : Version) (p : Plan) → IsInRange p → (s : ℕ) → KeepsPhase version p (Slot s) Br false
+after_request_rise version p range s h v a now =
+    asks_no_more (on p) p.slots (is_two version) (grant_wires p h) _ _ s (sets_slot (λ t. drive h (Slot t) Br) s false) (may_stop (is_two version) (drive h (Slot s) Bbsy) a.rule) (λ n b o. gave_up (drive h (Slot s) Bbsy) (on p n s) (was_withdrawn p h n) b o) (λ n b. still (drive h (Slot s) Bbsy) (on p n s) (was_withdrawn p h n) b) now
+
+after_pass : (version : Version) (p : Plan) → IsInRange p → (s : ℕ) → KeepsPhase version p (Slot s) BgOut true
+after_pass version p range s h v a now =
+    let l = level_of p range h s a.exists in
+    let r = and_left _ _ a.rule in
+    let quiet_now = not_true _ (and_right _ _ r) in
+    passes_on (on p) p.slots (is_two version) (one_chain p) (within p range) (grant_wires p h) _ _ l.level s _ (place version p range h s l) (sets_slot (λ t. drive h (Slot t) BgOut) s true) (ap (λ b. (Slot s, b) ∷ grant_passes h) quiet_now) (grant_is p h s l true (and_left _ _ r)) a.before quiet_now (not_true _ (and_right _ _ a.rule)) now
+
+after_pass_rise : (version : Version) (p : Plan) → IsInRange p → (s : ℕ) → KeepsPhase version p (Slot s) BgOut false
+after_pass_rise version p range s h v a now =
+    let l = level_of p range h s a.exists in
+    rises (on p) p.slots (is_two version) (one_chain p) (grant_wires p h) _ l.level s _ (place version p range h s l) (sets_slot (λ t. drive h (Slot t) BgOut) s false) (grant_is p h s l false (not_true _ a.rule)) a.before now
+
+after_take : (version : Version) (p : Plan) → IsInRange p → (s : ℕ) → KeepsPhase version p (Slot s) Bbsy true
+after_take version p range s h v a now =
+    let l = level_of p range h s a.exists in
+    let r = and_left _ _ a.rule in
+    takes (on p) p.slots (is_two version) (one_chain p) (grant_wires p h) _ _ l.level s _ (place version p range h s l) (sets_slot (λ t. drive h (Slot t) Bbsy) s true) (grant_is p h s l true (and_left _ _ r)) (not_true _ (and_right _ _ r)) a.before now
+
+after_release : (version : Version) (p : Plan) → IsInRange p → (s : ℕ) → KeepsPhase version p (Slot s) Bbsy false
+after_release version p range s h v a now =
+    let l = level_of p range h s a.exists in
+    let r = and_left _ _ (and_left _ _ a.rule) in
+    releases (on p) p.slots (is_two version) (one_chain p) (grant_wires p h) _ l.level s _ (place version p range h s l) (sets_slot (λ t. drive h (Slot t) Bbsy) s false) (grant_is p h s l false (not_true _ (and_right _ _ r))) a.before now
+
+-- after every edge that passed its tests
+step : (version : Version) (p : Plan) → IsInRange p → (h : List Edge) (d : Driver) (w : Wire) (fall : Bool) (v : Option Cycle) → Passed version p h d w fall v → Now version p h → Now version p (record { driver = d; wire = w; fall = fall; value = v } ∷ h)
+step version p range h Controller (Bg n) true v a now = after_grant version p range n h v a now
+step version p range h Controller (Bg n) false v a now = after_grant_rise version p range n h v a now
 step version p range h (Slot s) (Bg n) true v a now = absurd (cc a.wire)
 step version p range h (Slot s) (Bg n) false v a now = absurd (cc a.wire)
 step version p range h Controller Br false v a now = absurd (cc a.wire)
 step version p range h Controller BgOut true v a now = absurd (cc a.wire)
 step version p range h Controller Bbsy true v a now = absurd (cc a.wire)
-step version p range h (Slot s) Br true v a now = asks (on p) p.slots (is_two version) (grant_wires p h) _ s (sets_slot (λ t. drive h (Slot t) Br) s true) now
-step version p range h (Slot s) Br false v a now =
-    asks_no_more (on p) p.slots (is_two version) (grant_wires p h) _ _ s (sets_slot (λ t. drive h (Slot t) Br) s false) (may_stop (is_two version) (drive h (Slot s) Bbsy) a.rule) (λ n b o. gave_up (drive h (Slot s) Bbsy) (on p n s) (was_withdrawn p h n) b o) (λ n b. still (drive h (Slot s) Bbsy) (on p n s) (was_withdrawn p h n) b) now
-step version p range h (Slot s) BgOut true v a now =
-    let l = level_of p range h s a.exists in
-    let r = and_left _ _ a.rule in
-    let quiet_now = not_true _ (and_right _ _ r) in
-    passes_on (on p) p.slots (is_two version) (one_chain p) (within p range) (grant_wires p h) _ _ l.level s _ (place version p range h s l) (sets_slot (λ t. drive h (Slot t) BgOut) s true) (ap (λ b. (Slot s, b) ∷ grant_passes h) quiet_now) (grant_is p h s l true (and_left _ _ r)) a.before quiet_now (not_true _ (and_right _ _ a.rule)) now
-step version p range h (Slot s) BgOut false v a now =
-    let l = level_of p range h s a.exists in
-    rises (on p) p.slots (is_two version) (one_chain p) (grant_wires p h) _ l.level s _ (place version p range h s l) (sets_slot (λ t. drive h (Slot t) BgOut) s false) (grant_is p h s l false (not_true _ a.rule)) a.before now
-step version p range h (Slot s) Bbsy true v a now =
-    let l = level_of p range h s a.exists in
-    let r = and_left _ _ a.rule in
-    takes (on p) p.slots (is_two version) (one_chain p) (grant_wires p h) _ _ l.level s _ (place version p range h s l) (sets_slot (λ t. drive h (Slot t) Bbsy) s true) (grant_is p h s l true (and_left _ _ r)) (not_true _ (and_right _ _ r)) a.before now
-step version p range h (Slot s) Bbsy false v a now =
-    let l = level_of p range h s a.exists in
-    let r = and_left _ _ (and_left _ _ a.rule) in
-    releases (on p) p.slots (is_two version) (one_chain p) (grant_wires p h) _ l.level s _ (place version p range h s l) (sets_slot (λ t. drive h (Slot t) Bbsy) s false) (grant_is p h s l false (not_true _ (and_right _ _ r))) a.before now
+step version p range h (Slot s) Br true v a now = after_request version p range s h v a now
+step version p range h (Slot s) Br false v a now = after_request_rise version p range s h v a now
+step version p range h (Slot s) BgOut true v a now = after_pass version p range s h v a now
+step version p range h (Slot s) BgOut false v a now = after_pass_rise version p range s h v a now
+step version p range h (Slot s) Bbsy true v a now = after_take version p range s h v a now
+step version p range h (Slot s) Bbsy false v a now = after_release version p range s h v a now
 step version p range h d w true v a now = now
 step version p range h d w false v a now = now
 

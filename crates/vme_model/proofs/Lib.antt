@@ -13,3 +13,4 @@ pub mod CycleClaims
 pub mod Safety
 pub mod Bits
 pub mod Local
+pub mod Examples

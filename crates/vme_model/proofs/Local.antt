@@ -1,8 +1,8 @@
 -- The verdict on an edge depends on what its driver saw.
 use mathlib.Core.Path.{fun_ext}
-use Rattle.std.proofs.Common.{◌≡◌, ℕ, zero, suc, ◌+◌, ◌≤◌, ◌<◌, Bool, true, false, List, [], ◌∷◌, Option, Some, None, Result, Ok, Err, refl, sym, ap, ◌∙◌, subst, arith}
-use Rattle.std.specs.Prelude.{◌&&◌, ◌||◌, not, ◌==◌, if◌then◌else◌}
-use Rattle.std.specs.List.{list_any, list_all, All}
+use Rattle.std.proofs.Common.{◌≡◌, ℕ, zero, suc, ◌+◌, ◌≤◌, ◌<◌, Bool, true, false, List, [], ◌∷◌, Option, Some, None, Result, Ok, refl, sym, ap, ◌∙◌, arith}
+use Rattle.std.specs.Prelude.{◌&&◌, ◌||◌, ◌==◌, if◌then◌else◌}
+use Rattle.std.specs.List.{list_all}
 use Rattle.std.specs.Option.{option_map_or, IfSome}
 use Rattle.vme_model.specs.declared.boards.Row.{Row}
 use Rattle.vme_model.specs.declared.boards.RequesterRow.{RequesterRow}
@@ -18,8 +18,8 @@ use Rattle.vme_model.specs.declared.signals.Cycle.{Cycle}
 use Rattle.vme_model.specs.declared.signals.Driver.{Driver}
 use Rattle.vme_model.specs.declared.signals.Driver.TheVariants.{Controller, Slot}
 use Rattle.vme_model.specs.declared.signals.Wire.{Wire}
-use Rattle.vme_model.specs.declared.signals.Wire.TheVariants.{Bg, Bclr, Iack, Berr, Br, BgOut, Bbsy, Addr, AddressStrobe, DataStrobe, Irq, IackOut, Dtack}
-use Rattle.vme_model.specs.Signals.{is_two, is_same_driver, is_same_wire, is_edge_of, is_fall_of, is_grant, is_grant_wire, grant_level, has_wire, has_value, is_well_formed}
+use Rattle.vme_model.specs.declared.signals.Wire.TheVariants.{Bg, Bclr, Berr, Br, Bbsy, AddressStrobe, DataStrobe, Irq, Dtack}
+use Rattle.vme_model.specs.Signals.{is_same_driver, is_same_wire, is_edge_of, is_fall_of, is_grant, is_grant_wire, grant_level, has_wire, has_value, is_well_formed}
 use Rattle.vme_model.specs.Sets.{bus_levels, irq_levels}
 use Rattle.vme_model.specs.Plan.{Plan, board_of, requests_on, interrupts_on, has_driver}
 use Rattle.vme_model.specs.Accepted.{IsAccepted}
@@ -27,7 +27,7 @@ use Rattle.vme_model.specs.History.{drive, last_level, cycles, has_strobed, serv
 use Rattle.vme_model.specs.Readings.{Readings, readings, is_served}
 use Rattle.vme_model.specs.Rules.{rule}
 use Rattle.vme_model.specs.Settling.{settling}
-use Rattle.vme_model.specs.Views.{pins, noted, view}
+use Rattle.vme_model.specs.Views.{pins, noted}
 use Rattle.vme_model.specs.Verdict.{IsLegal, verdict_but_full, check, is_other_state}
 use Rattle.vme_model.specs.Locality.{is_settled_by_others, AreWellFormed, IsLocal}
 use Rattle.vme_model.proofs.Bools.{and_left, and_right, is_false, same_number}

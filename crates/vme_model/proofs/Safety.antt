@@ -1,5 +1,5 @@
 -- Every legal list of every accepted plan is safe and orderly.
-use Rattle.std.proofs.Common.{ℕ, Bool, List, [], ◌∷◌, Option}
+use Rattle.std.proofs.Common.{List, [], ◌∷◌}
 use Rattle.vme_model.specs.declared.signals.Version.{Version}
 use Rattle.vme_model.specs.declared.signals.Edge.{Edge}
 use Rattle.vme_model.specs.Plan.{Plan}
