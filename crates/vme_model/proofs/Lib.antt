@@ -14,3 +14,5 @@ pub mod Safety
 pub mod Bits
 pub mod Local
 pub mod Examples
+pub mod Picks
+pub mod PinSets
