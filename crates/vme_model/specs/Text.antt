@@ -144,13 +144,13 @@ abbrev pub behind_header : Option Version → List Edge × Option TextFault → 
 behind_header None others = unread no_header
 behind_header (Some version) others = record { version = Some version; edges = others.0; fault = others.1 }
 
--- the first line is the header
-abbrev pub read_from_header : List (List ℕ) → List ℕ → Reading
-read_from_header [] rest =
-    if is_too_long rest then unread (too_long 1) else (if nat_lt 0 (length rest) then unread cut_off else unread no_header)
-read_from_header (line ∷ lines) rest =
-    if is_too_long line then unread (too_long 1) else behind_header (version_of line) (read_lines 2 lines rest)
+-- the n-th line is the header
+abbrev pub read_from_header : ℕ → List (List ℕ) → List ℕ → Reading
+read_from_header n [] rest =
+    if is_too_long rest then unread (too_long n) else (if nat_lt 0 (length rest) then unread cut_off else unread no_header)
+read_from_header n (line ∷ lines) rest =
+    if is_too_long line then unread (too_long n) else behind_header (version_of line) (read_lines (next_number n) lines rest)
 
 -- what the whole bytes say
 unfoldable pub read_of : List ℕ → Reading
-read_of bytes = read_from_header (split_lines bytes).0 (split_lines bytes).1
+read_of bytes = read_from_header 1 (split_lines bytes).0 (split_lines bytes).1
