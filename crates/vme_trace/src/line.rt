@@ -1,203 +1,158 @@
 //! Which edge a line spells.
-ghost use Rattle.std.specs.Prelude.{◌≡◌};
-ghost use Rattle.vme_model.specs.Text as text;
+ghost use Rattle.std.specs.Prelude.{◌≡◌, ◌+◌, ◌<◌, ◌≤◌, length, IsTrue};
+ghost use Rattle.std.specs.Str.{bytes_eq};
+ghost use Rattle.vme_model.specs.Signals.{is_well_formed};
+ghost use Rattle.vme_model.specs.Text.{edge_of, spelling};
 ghost use Rattle.vme_trace.specs.Decoding as spec;
 
+use crate::writer::spelling_of;
 use vme_model::{Cycle, Driver, Edge, Wire};
 
-/// A board's edge without a value.
-#[tactic(auto, unfolding(crate::specs::Decoding::plain_of))]
-fn plain_of(text: &[u8]) -> Option<(Wire, bool)>
-    ensures { result ≡ spec.plain_of text.now }
+/// The edge that the line spells, if there is one.
+pub(crate) fn edge_of(line: &[u8]) -> Option<Edge>
+    ensures { result ≡ edge_of line.now }
 {
-    if text == b"br-".as_slice() {
-        Some((Wire::Br, true))
-    } else if text == b"br+".as_slice() {
-        Some((Wire::Br, false))
-    } else if text == b"bgout-".as_slice() {
-        Some((Wire::BgOut, true))
-    } else if text == b"bgout+".as_slice() {
-        Some((Wire::BgOut, false))
-    } else if text == b"bbsy-".as_slice() {
-        Some((Wire::Bbsy, true))
-    } else if text == b"bbsy+".as_slice() {
-        Some((Wire::Bbsy, false))
-    } else if text == b"as-".as_slice() {
-        Some((Wire::AddressStrobe, true))
-    } else if text == b"as+".as_slice() {
-        Some((Wire::AddressStrobe, false))
-    } else if text == b"ds-".as_slice() {
-        Some((Wire::DataStrobe, true))
-    } else if text == b"ds+".as_slice() {
-        Some((Wire::DataStrobe, false))
-    } else if text == b"irq-".as_slice() {
-        Some((Wire::Irq, true))
-    } else if text == b"irq+".as_slice() {
-        Some((Wire::Irq, false))
-    } else if text == b"iackout-".as_slice() {
-        Some((Wire::IackOut, true))
-    } else if text == b"iackout+".as_slice() {
-        Some((Wire::IackOut, false))
-    } else if text == b"dtack-".as_slice() {
-        Some((Wire::Dtack, true))
-    } else if text == b"dtack+".as_slice() {
-        Some((Wire::Dtack, false))
-    } else if text == b"addr+".as_slice() {
-        Some((Wire::Addr, false))
-    } else {
-        None
-    }
-}
-
-/// An edge of the controller.
-#[tactic(auto, unfolding(crate::specs::Decoding::control_of))]
-fn control_of(text: &[u8]) -> Option<(Wire, bool)>
-    ensures { result ≡ spec.control_of text.now }
-{
-    if text == b"bg0-".as_slice() {
-        Some((Wire::Bg(0), true))
-    } else if text == b"bg0+".as_slice() {
-        Some((Wire::Bg(0), false))
-    } else if text == b"bg1-".as_slice() {
-        Some((Wire::Bg(1), true))
-    } else if text == b"bg1+".as_slice() {
-        Some((Wire::Bg(1), false))
-    } else if text == b"bg2-".as_slice() {
-        Some((Wire::Bg(2), true))
-    } else if text == b"bg2+".as_slice() {
-        Some((Wire::Bg(2), false))
-    } else if text == b"bg3-".as_slice() {
-        Some((Wire::Bg(3), true))
-    } else if text == b"bg3+".as_slice() {
-        Some((Wire::Bg(3), false))
-    } else if text == b"bclr-".as_slice() {
-        Some((Wire::Bclr, true))
-    } else if text == b"bclr+".as_slice() {
-        Some((Wire::Bclr, false))
-    } else if text == b"iack-".as_slice() {
-        Some((Wire::Iack, true))
-    } else if text == b"iack+".as_slice() {
-        Some((Wire::Iack, false))
-    } else if text == b"berr-".as_slice() {
-        Some((Wire::Berr, true))
-    } else if text == b"berr+".as_slice() {
-        Some((Wire::Berr, false))
-    } else {
-        None
-    }
-}
-
-/// A slot, 1 to 21.
-#[tactic(auto, unfolding(crate::specs::Decoding::slot_of))]
-fn slot_of(text: &[u8]) -> Option<u8>
-    ensures { result ≡ spec.slot_of text.now }
-{
-    if text.len() == 1 {
-        let a = text[0];
-        if 49 <= a && a <= 57 {
-            Some(a - 48)
-        } else {
-            None
-        }
-    } else if text.len() == 2 {
-        let a = text[0];
-        let b = text[1];
-        if a == 49 && (48 <= b && b <= 57) {
-            Some(b - 38)
-        } else if a == 50 && (48 <= b && b <= 49) {
-            Some(b - 28)
-        } else {
-            None
-        }
-    } else {
-        None
-    }
-}
-
-/// A level, 1 to 7.
-#[tactic(auto, unfolding(crate::specs::Decoding::level_of))]
-fn level_of(text: &[u8]) -> Option<u8>
-    ensures { result ≡ spec.level_of text.now }
-{
-    if text.len() == 1 && (49 <= text[0] && text[0] <= 55) {
-        Some(text[0] - 48)
-    } else {
-        None
-    }
-}
-
-/// What the address group shows.
-#[tactic(auto, unfolding(crate::specs::Decoding::cycle_of))]
-fn cycle_of(text: &[u8]) -> Option<Cycle>
-    ensures { result ≡ spec.cycle_of text.now }
-{
-    if text.is_empty() {
+    let Some(edge) = guess(line) else {
+        return None;
+    };
+    if !edge.is_well_formed() {
         return None;
     }
-    if text[0] == b'i' {
-        let v = level_of(&text[1..])?;
-        Some(Cycle::Acknowledge(v))
-    } else if text[0] == b'r' {
-        let t = slot_of(&text[1..])?;
-        Some(Cycle::Access(t))
+    if spells(line, &edge) { Some(edge) } else { None }
+}
+
+/// Whether the line is the spelling of the edge.
+fn spells(line: &[u8], edge: &Edge) -> bool
+    requires { IsTrue (is_well_formed edge.now) }
+    ensures { result ≡ bytes_eq line.now (spelling edge.now) }
+{
+    line == spelling_of(edge).as_slice()
+}
+
+/// The number of a digit.
+fn digit(byte: u8) -> u8
+    ensures { result ≡ spec.digit byte }
+{
+    byte.saturating_sub(b'0')
+}
+
+/// The number of two digits, the first of them 1 or 2.
+fn two_digits(tens: u8, ones: u8) -> u8
+    ensures { result ≡ spec.two_digits tens ones }
+{
+    (if tens == b'2' { 20 } else { 10 }) + digit(ones)
+}
+
+/// The wire of the controller whose word can begin so.
+fn control_wire(first: u8, second: u8, third: u8) -> Wire
+    ensures { result ≡ spec.control_wire first second third }
+{
+    if first == b'i' {
+        Wire::Iack
+    } else if second == b'g' {
+        Wire::Bg(digit(third))
+    } else if second == b'c' {
+        Wire::Bclr
     } else {
-        None
+        Wire::Berr
     }
 }
 
-/// An edge of the board in slot s.
-#[tactic(auto, unfolding(crate::specs::Decoding::board_edge))]
-fn board_edge(s: u8, text: &[u8]) -> Option<Edge>
-    ensures { result ≡ spec.board_edge s text.now }
+/// The wire of a board whose word can begin so.
+fn board_wire(first: u8, second: u8) -> Wire
+    ensures { result ≡ spec.board_wire first second }
 {
-    if text.len() >= 6 && &text[..6] == b"addr- ".as_slice() {
-        let cycle = cycle_of(&text[6..])?;
-        Some(Edge {
-            driver: Driver::Slot(s),
-            wire: Wire::Addr,
-            fall: true,
-            value: Some(cycle),
-        })
-    } else {
-        let (wire, fall) = plain_of(text)?;
-        Some(Edge {
-            driver: Driver::Slot(s),
-            wire,
-            fall,
-            value: None,
-        })
+    match (first, second) {
+        (b'b', b'r') => Wire::Br,
+        (b'b', b'g') => Wire::BgOut,
+        (b'b', _) => Wire::Bbsy,
+        (b'a', b'd') => Wire::Addr,
+        (b'a', _) => Wire::AddressStrobe,
+        (b'd', b's') => Wire::DataStrobe,
+        (b'd', _) => Wire::Dtack,
+        (_, b'r') => Wire::Irq,
+        _ => Wire::IackOut,
     }
 }
 
-/// An edge whose driver is spelled so.
-#[tactic(auto, unfolding(crate::specs::Decoding::edge_after))]
-fn edge_after(driver: &[u8], text: &[u8]) -> Option<Edge>
-    ensures { result ≡ spec.edge_after driver.now text.now }
+/// What a line shows at a place: `i` or `r`, and a number.
+fn cycle_at(line: &[u8], place: usize) -> Cycle
+    requires { place + 1 < length line.now }
+    ensures { result ≡ spec.cycle_at line.now place }
 {
-    if driver == b"c".as_slice() {
-        let (wire, fall) = control_of(text)?;
-        Some(Edge {
-            driver: Driver::Controller,
-            wire,
-            fall,
-            value: None,
-        })
+    if line[place] == b'i' {
+        Cycle::Acknowledge(digit(line[place + 1]))
+    } else if line.len() == place + 2 {
+        Cycle::Access(digit(line[place + 1]))
     } else {
-        let s = slot_of(driver)?;
-        board_edge(s, text)
+        Cycle::Access(two_digits(line[place + 1], line[place + 2]))
     }
 }
 
-/// The edge that a line spells.
-#[tactic(auto, unfolding(crate::specs::Decoding::decoded))]
-pub fn edge_of(line: &[u8]) -> Option<Edge>
-    ensures { result ≡ text.edge_of line.now }
+/// An edge without a value.
+fn plain_edge(driver: Driver, wire: Wire, sign: u8) -> Edge
+    ensures { result ≡ spec.plain_edge driver wire sign }
 {
-    if line.len() >= 2 && line[1] == b' ' {
-        edge_after(&line[..1], &line[2..])
-    } else if line.len() >= 3 && line[2] == b' ' {
-        edge_after(&line[..2], &line[3..])
+    Edge {
+        driver,
+        wire,
+        fall: sign == b'-',
+        value: None,
+    }
+}
+
+/// The fall of an address group that shows what stands at a place.
+fn shown_edge(driver: Driver, line: &[u8], place: usize) -> Option<Edge>
+    requires { place < 16 }
+    ensures { result ≡ spec.shown_edge driver line.now place }
+{
+    if line.len() < place + 2 {
+        return None;
+    }
+    Some(Edge {
+        driver,
+        wire: Wire::Addr,
+        fall: true,
+        value: Some(cycle_at(line, place)),
+    })
+}
+
+/// Whether a line whose word begins so, and which ends so, can be a fall of an address group.
+fn shows_cycle(first: u8, second: u8, last: u8) -> bool
+    ensures { result ≡ spec.shows_cycle first second last }
+{
+    first == b'a' && second == b'd' && last != b'+'
+}
+
+/// The edge of a board that a line can spell, whose word begins at a place.
+fn board_edge(slot: u8, line: &[u8], place: usize) -> Option<Edge>
+    requires short { place < 4 }
+    requires within { place + 1 < length line.now }
+    ensures { result ≡ spec.board_edge slot line.now place }
+{
+    let driver = Driver::Slot(slot);
+    let (first, second, last) = (line[place], line[place + 1], line[line.len() - 1]);
+    if shows_cycle(first, second, last) {
+        shown_edge(driver, line, place + 6)
     } else {
-        None
+        Some(plain_edge(driver, board_wire(first, second), last))
+    }
+}
+
+/// The one edge that a line can spell, by few of its bytes.
+#[tactic(auto, unfolding(crate::specs::Decoding::guess))]
+fn guess(line: &[u8]) -> Option<Edge>
+    ensures { result ≡ spec.guess line.now }
+{
+    if line.len() < 5 {
+        return None;
+    }
+    if line[0] == b'c' {
+        let wire = control_wire(line[2], line[3], line[4]);
+        Some(plain_edge(Driver::Controller, wire, line[line.len() - 1]))
+    } else if line[1] == b' ' {
+        board_edge(digit(line[0]), line, 2)
+    } else {
+        board_edge(two_digits(line[0], line[1]), line, 3)
     }
 }

@@ -166,17 +166,20 @@ fn take_line<A: Allocator>(
     if line.len() > 64 {
         return Err(Fault::TooLong { n: *n });
     }
-    if version.is_none() {
-        let Some(named) = header_of(line) else {
-            return Err(Fault::Header);
-        };
-        *version = Some(named);
-    } else {
-        let Some(edge) = edge_of(line) else {
-            return Err(Fault::Line { n: *n });
-        };
-        if edges.push(edge).is_err() {
-            return Err(Fault::Memory);
+    match *version {
+        None => {
+            let Some(named) = header_of(line) else {
+                return Err(Fault::Header);
+            };
+            *version = Some(named);
+        }
+        Some(_) => {
+            let Some(edge) = edge_of(line) else {
+                return Err(Fault::Line { n: *n });
+            };
+            if edges.push(edge).is_err() {
+                return Err(Fault::Memory);
+            }
         }
     }
     *n = n.saturating_add(1);

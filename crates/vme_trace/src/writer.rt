@@ -3,7 +3,7 @@ ghost use Rattle.std.specs.Prelude.{◌≡◌, ◌+◌, ◌<◌, ◌≤◌, ◌+
 ghost use Rattle.std.specs.Io.KnownBytes.{Appends};
 ghost use Rattle.arrayvec.specs.ArrayVec.{array_vec_len};
 ghost use Rattle.vme_model.specs.Signals.{is_well_formed};
-ghost use Rattle.vme_model.specs.Text.{wire_text, number, text, header, edge_lines};
+ghost use Rattle.vme_model.specs.Text.{wire_text, number, spelling, text, header, edge_lines};
 ghost use Rattle.vme_trace.specs.Writing.{AppendsFront, HasText, edge_line};
 
 use crate::Fault;
@@ -80,10 +80,11 @@ fn push_text(line: &mut ArrayVec<u8, LINE>, text: &[u8])
     }
 }
 
-/// The line of an edge, with its line feed.
-pub fn line_of(edge: &Edge) -> ArrayVec<u8, LINE>
+/// The spelling of an edge.
+pub(crate) fn spelling_of(edge: &Edge) -> ArrayVec<u8, LINE>
     requires { IsTrue (is_well_formed edge.now) }
-    ensures { result.items ≡ edge_line edge.now }
+    ensures text { result.items ≡ spelling edge.now }
+    ensures short { array_vec_len result ≤ 12 }
 {
     let mut line = ArrayVec::new();
     match edge.driver {
@@ -104,6 +105,15 @@ pub fn line_of(edge: &Edge) -> ArrayVec<u8, LINE>
             push_number(&mut line, slot);
         }
     }
+    line
+}
+
+/// The line of an edge: its spelling and a line feed.
+pub fn line_of(edge: &Edge) -> ArrayVec<u8, LINE>
+    requires { IsTrue (is_well_formed edge.now) }
+    ensures { result.items ≡ edge_line edge.now }
+{
+    let mut line = spelling_of(edge);
     line.push(b'\n');
     line
 }
