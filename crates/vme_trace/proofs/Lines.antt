@@ -1,5 +1,5 @@
 -- Reading, line by line.
-use Rattle.std.proofs.Common.{◌≡◌, ◌≢◌, subst, ℕ, suc, zero, ◌+◌, ◌-◌, ◌<◌, ◌≤◌, Bool, true, false, eqb, ltb, cond, List, [], ◌∷◌, ◌++◌, length, take, drop, get_or, Option, Some, None, is_some, refl, sym, ◌∙◌, ap, arith, append_assoc, append-nil, length-append, length-drop, add-one, inl, inr}
+use Rattle.std.proofs.Common.{◌≡◌, ◌≢◌, subst, ℕ, suc, zero, ◌+◌, ◌-◌, ◌<◌, ◌≤◌, Bool, true, false, eqb, ltb, cond, List, [], ◌∷◌, ◌++◌, length, take, drop, get_or, Option, Some, None, is_some, refl, sym, ◌∙◌, ap, arith, append_assoc, append-nil, length-append, add-one, inl, inr}
 use Rattle.std.proofs.lemmas.Bool.{cases_Bool}
 use Rattle.std.proofs.lemmas.Bool.Decides.{nat_tests}
 use Rattle.vme_model.specs.declared.signals.Version.{Version}
@@ -149,9 +149,9 @@ cut_behind (x ∷ xs) (suc e) h is = ap (λ l. x ∷ l) (cut_behind xs e (omega 
 pub cut : (xs : List ℕ) (e : ℕ) → e < length xs → get_or xs e 0 ≡ 10 → xs ≡ (take e xs ++ 10 ∷ []) ++ drop (e + 1) xs
 cut xs e h is = rw (add-one e) (cut_behind xs e h is)
 
--- a slice from k on, as the code has it
-pub tail : (xs : List ℕ) (k : ℕ) → take (length xs - k) (drop k xs) ≡ drop k xs
-tail xs k = rw (← length-drop k xs) (take_all (drop k xs))
+-- nothing stands behind the end
+pub nothing_behind : (xs : List ℕ) (e : ℕ) → length xs ≤ e → xs ≡ xs ++ take (length xs - e) (drop e xs)
+nothing_behind xs e h = let none : length xs - e ≡ 0 = omega arith in rw none (sym (append-nil xs))
 
 pub no_bytes : (xs : List ℕ) → length xs ≡ 0 → xs ≡ []
 no_bytes [] h = refl

@@ -1,5 +1,5 @@
 -- Steps of a reader, one after the other.
-use Rattle.std.proofs.Common.{◌≡◌, ◌≢◌, ℕ, ◌+◌, ◌<◌, ◌≤◌, Bool, true, false, cond, List, [], ◌∷◌, ◌++◌, length, Option, Some, None, option_map, refl, sym, ◌∙◌, ap, arith, append_assoc, append-nil}
+use Rattle.std.proofs.Common.{◌≡◌, ◌≢◌, ℕ, ◌+◌, ◌<◌, ◌≤◌, Bool, true, false, cond, List, [], ◌∷◌, ◌++◌, length, Option, Some, None, Result, Ok, Err, OnOk, IfErr, option_map, refl, sym, ◌∙◌, ap, arith, append_assoc, append-nil}
 use Rattle.vme_model.specs.declared.signals.Version.{Version}
 use Rattle.vme_model.specs.declared.signals.Edge.{Edge}
 use Rattle.vme_model.specs.Text.{TextFault, no_header, no_edge, too_long, cut_off, Reading, split_lines, next_number, read_lines, before_others, version_of, edge_of}
@@ -8,6 +8,14 @@ use Rattle.vme_trace.specs.declared.Fault.TheVariants.{Header, Line, TooLong, Cu
 use Rattle.vme_trace.specs.Reading.{Place, fault_of, rest_of, with_edges, HasFault}
 use Rattle.vme_trace.specs.Taking.{IsOneLine, IsPart, place, Leads, Fails}
 use Rattle.vme_trace.proofs.Lines.{faulty, line_read, whole_line, long_front, rest_part}
+
+pub on_ok_map : {A E : Type 0} (r : Result A E) (P Q : Type 0) → (P → Q) → OnOk r P → OnOk r Q
+on_ok_map (Ok a) P Q f h = f h
+on_ok_map (Err e) P Q f h = tt
+
+pub if_err_map : {A E : Type 0} (r : Result A E) (P Q : E → Type 0) → ((e : E) → P e → Q e) → IfErr r P → IfErr r Q
+if_err_map (Ok a) P Q f h = tt
+if_err_map (Err e) P Q f h = f e h
 
 -- a trace with a fault and no edge before it
 pub has_fault : (r : Reading) (v : Option Version) (t : TextFault) → r ≡ faulty v t → HasFault r v [] (fault_of t)
@@ -93,6 +101,10 @@ fault_within v w p a b old new f h = record {
   appended = h.appended;
   has_fault = λ more. rw (append_assoc a b more) (h.has_fault (b ++ more));
 }
+
+pub fault_before : (v w : Option Version) (p : Place) (a b piece : List ℕ) (old new : List Edge) (f : Fault) → piece ≡ a ++ b → Fails v p a old new w f
+    → Fails v p piece old new w f
+fault_before v w p a b piece old new f is h = rw is (fault_within v w p a b old new f h)
 
 -- over 64 bytes with no line feed
 pub too_long_at : (v : Option Version) (n : ℕ) (part x front piece : List ℕ) (es : List Edge) → IsOneLine (part ++ x) → 64 < length (part ++ x) → piece ≡ x ++ front

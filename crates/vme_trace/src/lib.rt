@@ -8,6 +8,8 @@ pub mod laws;
 mod input;
 mod line;
 mod reader;
+#[cfg(test)]
+mod tests;
 mod writer;
 
 pub use input::pump;

@@ -1,5 +1,5 @@
 //! A reader that is fed a trace in pieces.
-ghost use Rattle.std.specs.Prelude.{◌≡◌, ◌≢◌, ◌↔◌, IsTrue, ◌+◌, ◌<◌, ◌≤◌, ◌++◌, ◌∷◌, [], ℕ, List, length, drop, slice_index, None, Some, Err, Ok, OnOk, OnErr, IfOk, IfErr, option_map};
+ghost use Rattle.std.specs.Prelude.{◌≡◌, ◌≢◌, ◌↔◌, IsTrue, ◌+◌, ◌<◌, ◌≤◌, ◌++◌, ◌∷◌, [], ℕ, List, length, drop, slice_index, None, Some, Err, Ok, OnOk, OnErr, IfOk, IfErr, IsSome, option_map};
 ghost use Rattle.vme_model.specs.declared.signals.Edge.{Edge};
 ghost use Rattle.vme_model.specs.Text.{read_of, version_of};
 ghost use Rattle.vme_trace.specs.Reading.{HasRead, Fed, answer_of, fault_of};
@@ -82,6 +82,7 @@ impl Reader {
     /// Errors: X4 where the last line has no line feed; X1 where there is no line; X7 after a fault or the end.
     pub fn finish(&mut self) -> Result<(), Fault>
         ensures ends { (bytes : List ℕ) (es : List Edge) → HasRead self.old bytes es → result ≡ answer_of (read_of bytes).fault }
+        ensures named { OnOk result (IsSome self.new.version) }
         ensures used_up { self.new.place ≡ None }
         ensures version { self.new.version ≡ self.old.version }
         ensures failed { self.old.place ≡ None → result ≡ Err Fault.Failed }
@@ -222,7 +223,8 @@ fn take_front<'a, A: Allocator>(
     requires part { IsPart part.old.items }
     requires some { 0 < length piece.now }
     ensures part { IsPart part.new.items }
-    ensures ok { IfOk result (λ rest. (taken : List ℕ) × (0 < length taken) × (piece.now ≡ taken ++ rest.now)
+    ensures shorter { IfOk result (λ rest. length rest.now < length piece.now) }
+    ensures ok { IfOk result (λ rest. (taken : List ℕ) × (piece.now ≡ taken ++ rest.now)
         × Leads version.old (place n.old part.old.items) taken edges.old.items edges.new.items version.new (place n.new part.new.items)) }
     ensures fault { IfErr result (Fails version.old (place n.old part.old.items) piece.now edges.old.items edges.new.items version.new) }
 {
