@@ -130,7 +130,7 @@ on_any (Ok x) P h = h
 on_any (Err f) P h = tt
 
 -- the fault that the end of the input answers
-same_fault : (t : TextFault) (f : Fault) → Err f ≡ Err (fault_of t) → Some (fault_of t) ≡ Some f
+same_fault : (t : TextFault) (f : Fault) → ◌≡◌ {A = Result (Unit {0}) Fault} (Err f) (Err (fault_of t)) → Some (fault_of t) ≡ Some f
 same_fault t f h = let e : f ≡ fault_of t = cc in ap (λ x. Some x) (sym e)
 
 pub answered : (o : Option TextFault) (f : Fault) → Err f ≡ answer_of o → option_map fault_of o ≡ Some f
@@ -177,20 +177,18 @@ module _ (from to : Option (List ℕ)) (bytes : List ℕ) (es : List Edge) (buff
         omega arith,
         consumed_none from to buffer count none piece.1,
         sym (append-nil old),
-        used_up,
-        rw all
+        (used_up, rw all
         (record {
           version_is = read.version ∙ sym same;
           front = ([], read.edges ∙ sym (append-nil es) ∙ sym (append-nil (es ++ [])));
           edges_are = λ _. read.edges ∙ sym (append-nil es);
           fault_is = λ _. answered (read_of bytes).fault f answer;
-        }),
+        })),
       )
 
   short : length (take count buffer) ≤ 512
   short = let h : count ≤ 512 = piece.0 in let k = length-take count buffer in omega (arith, k)
 
   pub pumped_fault : (old new : List Edge) (after : State) (f : Fault) → Fed (bytes ++ take count buffer) es old new after (Err f) → Pumped from to bytes es old new after (Err f)
-  pumped_fault old new after f fed =
-      let stops = fed.2 (unwrap_or to []) in
-      inr (take count buffer, fed.0, short, piece.1, fed.1, stops.0, stops.1)
+  pumped_fault old new after f given =
+      inr (take count buffer, given.0, short, piece.1, given.1, given.2 (unwrap_or to []))

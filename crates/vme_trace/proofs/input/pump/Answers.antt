@@ -17,5 +17,5 @@ returns-then-count-eq0-clause-reads g c = λ bytes es read.
 
 pub returns-in_err-feed-clause-reads : goal.returns-in_err-feed-clause-reads
 returns-in_err-feed-clause-reads g c = λ bytes es read.
-    let p = err_from_is_err_and c.from_residual.result c.from_residual.ensures.1 in
+    let p = err_from_is_err_and c.from_residual-in_err-feed.result c.from_residual-in_err-feed.ensures.1 in
     rw (p.1, p.2) (pumped_fault _ _ bytes es _ _ c.in-Ok.ensures.ok _ read _ _ _ _ (c.in_err-feed.ensures.reads bytes es read))
