@@ -1,10 +1,9 @@
 -- Slots counted, and scanned in ascending order.
-use Rattle.std.proofs.Common.{◌≡◌, sym, refl, arith, Bool, true, false, ap, ℕ, zero, suc, ◌≤◌, ◌<◌, inl, inr, List, [], ◌∷◌, ◌++◌, ◌+◌, ◌∙◌, subst, map, length}
+use Rattle.std.proofs.Common.{◌≡◌, sym, refl, arith, Bool, true, false, ap, ℕ, zero, suc, ◌≤◌, ◌<◌, inl, inr, List, [], ◌∷◌, ◌++◌, ◌+◌, subst, map, length}
 use Rattle.std.specs.Prelude.{◌==◌, if◌then◌else◌, Option, Some, None, find, filter, count_by}
 use Rattle.std.specs.Option.{option_or}
 use Rattle.std.proofs.lemmas.List.{map-append, length-append}
 use Rattle.std.proofs.lemmas.List.Elements.{filter-append}
-use Rattle.std.proofs.lemmas.List.Sums.{length-filter}
 use Rattle.std.proofs.lemmas.List.Recursion.{is_count_by}
 use Rattle.std.proofs.lemmas.Bool.{false≢true}
 use Rattle.std.proofs.lemmas.Bool.Decides.{nat_tests}
