@@ -5,7 +5,6 @@ mod boards;
 mod faults;
 mod plans;
 mod ranges;
-
 #[cfg(test)]
 mod tests;
 

@@ -71,11 +71,10 @@ impl Plan {
         ensures memory { IfErr result (λ e. e ≡ PlanError.Memory →
             IsAccepted (record { slots = slots; rows = rows.now; jumpers = jumpers.now; arbiter = arbiter })) }
     {
-        match Draft::new(slots, rows, jumpers, arbiter).fault() {
-            Some(fault) => Err(fault),
-            None => accepted_plan(alloc, slots, rows, jumpers, arbiter)
-                .map_err(|_| PlanError::Memory),
+        if let Some(fault) = Draft::new(slots, rows, jumpers, arbiter).fault() {
+            return Err(fault);
         }
+        accepted_plan(alloc, slots, rows, jumpers, arbiter).map_err(|_| PlanError::Memory)
     }
 
     /// A law: no fault holds for the plan.
@@ -160,8 +159,7 @@ fn accepted_plan(
     jumpers: &[Jumper],
     arbiter: ArbiterKind,
 ) -> Result<Plan, AllocError>
-    requires {
-        IsAccepted (record { slots = slots; rows = rows.now; jumpers = jumpers.now; arbiter = arbiter }) }
+    requires { IsAccepted (record { slots = slots; rows = rows.now; jumpers = jumpers.now; arbiter = arbiter }) }
     ensures { IfOk result (λ p.
         p ≡ record { slots = slots; rows = rows.now; jumpers = jumpers.now; arbiter = arbiter }) }
 {

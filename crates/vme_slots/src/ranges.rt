@@ -38,9 +38,15 @@ fn row_range(slots: u8, row: &Row) -> Option<Field>
         Some(Field::Slot)
     } else if row.requester.is_some_and(|requester| requester.level > 3) {
         Some(Field::RequesterLevel)
-    } else if row.requester.is_some_and(|requester| has_no_burst(requester.release)) {
+    } else if row
+        .requester
+        .is_some_and(|requester| has_no_burst(requester.release))
+    {
         Some(Field::RequesterBurst)
-    } else if row.interrupter.is_some_and(|interrupter| !is_level(interrupter.level)) {
+    } else if row
+        .interrupter
+        .is_some_and(|interrupter| !is_level(interrupter.level))
+    {
         Some(Field::InterrupterLevel)
     } else if row.handler.bits() > 0b111_1111 {
         Some(Field::Handler)
