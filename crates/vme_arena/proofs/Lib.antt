@@ -1,4 +1,5 @@
 pub mod Homes
+pub mod Lending
 pub mod Parts
 pub mod Steps
 pub mod Units

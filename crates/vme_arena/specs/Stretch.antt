@@ -27,7 +27,7 @@ behind n s = record { block = s.block; start = s.start + n; end = s.end }
 
 -- a size that a region's block may have
 abbrev pub IsBlockSize : ℕ → Type 0
-IsBlockSize n = (16 ≤ n) × (n % 16 ≡ 0) × (n < 2 ^ 63)
+IsBlockSize n = (n % 16 ≡ 0) × (n < 2 ^ 63)
 
 -- p is the place `at` of the object, and n bytes from there are whole units of 16
 abbrev pub LiesAt : ℕ → ℕ → ℕ → Ptr → Type 0

@@ -1,5 +1,5 @@
 // All bytes of a region, in granules of 16, each with a tag that says whether it is at home.
-ghost use Rattle.std.specs.Prelude.{◌≡◌, ℕ, ◌+◌, ◌*◌, ◌<◌};
+ghost use Rattle.std.specs.Prelude.{◌≡◌, ℕ, ◌+◌, ◌*◌, ◌^◌, ◌<◌};
 ghost use base.Fml.{fsep};
 ghost use denote.RawPtr.{block_ptr};
 ghost use Rattle.vme_arena.specs.Stretch.{rounded};
@@ -74,7 +74,7 @@ impl Granules {
     pub(crate) fn into_memory(self, bytes: Piece, size: usize) -> Memory
         requires whole { (self.spot.at ≡ 0) × (self.spot.tag ≡ self.count * 16) × (self.blank ≡ 0) }
         requires bytes { (bytes.block ≡ self.spot.block) × (bytes.at ≡ 0) × (bytes.size ≡ self.count * 16) }
-        requires size { size ≡ self.count * 16 + rounded self.count }
+        requires size { (size < 2 ^ 63) × (size ≡ self.count * 16 + rounded self.count) }
         ensures { (result.size ≡ size) × (result.ptr ≡ block_ptr self.spot.block 0) }
     {
         let Granules { bytes: _, tags: _ } = self;

@@ -1,0 +1,64 @@
+-- `lend` lends what is owned for the rest of the borrow. Assumes `Logic`.
+use Rattle.vme_arena.proofs.Steps.{◌≡◌, ℕ, zero, suc, ◌+◌, ◌-◌, ◌*◌, ◌/◌, ◌%◌, ◌^◌, ◌<◌, ◌≤◌, List, [], ◌∷◌, ◌++◌, Bool, true, false, T, not, eqb, Some, None, Ok, Err, IfSome, refl, sym, ap, subst, ◌∙◌, arith, lit<, eqb→eq, w8, w64, full_share, SProp, emp, never, ent, sep, wand, id⊢, via, apply∗, upd_i, Lft, Share, Fml, ftrue, fat, fsep, fex, fwand, froom, flft, fbor, fobor, Ty, Fn, ty_int, ty_array, ty_struct, ty_ptr, tcons, tnil, Val, vint, vptr, vunit, vstruct, vcons, vnil, size, align, capped, capped_is, Env, WpFn, fact, fact_i, tables, sem, ‵, raw, ◌⊛◌, some, given, later, prop, at_ret, settles, ◌$◌, ◌∵◌, !, qed, by, done, move, keep, drop, use0, use1, use2, use3, split, split3, join, pick, learn, rewrite, regoal, fsplit, fsplit3, fjoin, fpick, fpack, feq_i, feq_l, flt_i, await, frame, whole, sub, agg, look_in, store_in, live, vrt, in_variant, stop, fld, lit, unit_lit, bin, addr, load, look, store, init, of_opd, no_more, and_then, assigns, assigns_last, first, blocks, branches, switches_on, exec, returns, enter, alloc_all, pass_all, free_all, look_at, get, get_in, get_tag, through, sets, sets_last, lands_as, lands_last, is, env, bor_open, obor_close, RattleType, owns, usize, unit, bool, Ptr, block_ptr, null_ptr, ptr_val, in_a_block, count_of, room_for, tests_same, tests_order, types_at, type_at, nothing, heard, only, Tuple, alive, Stays, stay_dropped, walk_of, Goes-dropped, Goes-blank, after, head, inside, arm_body, fm, Some-of, none_of, pair_of, pair_val, proved_at, leaves}
+use Rattle.vme_arena.proofs.Parts.{param, going_on, leaving}
+use types.SemTy.{Body}
+use denote.Memory.{mem, cell_at}
+use denote.Shadow.{pure_l}
+use denote.Steps.{opens}
+use Rattle.vme_arena.proofs.Values.{granules_val, granules_own, granules_told, granules_made, granules_type, loan_val, loan_own, loan_made}
+use Rattle.vme_arena.proofs.Lending.{lends}
+use Rattle.vme_arena.specs.Ownership.{Spot, homes_at}
+use Rattle.vme_arena.specs.contracts.granules.Granules as granules
+use Rattle.vme_arena.specs.contracts.granules.Granules.lend.{ended, clauses}
+use Rattle.vme_arena.specs.contracts.granules.Granules.lend.Key.{name as #self}
+use Rattle.vme_arena.proofs.granules.Granules.lend.Statement.{statement}
+use Rattle.vme_arena.proofs.granules.Granules.lend.Code as compiled
+
+pub lend_spec : {M : Type 1} → statement M
+lend_spec 𝓤 𝓛 𝓜 𝓡 wired =
+    let fn : Fn = compiled.function in
+    let ps = ended.signature.params in
+    let stays : Stays ps ended.kept = (stay_dropped (param 0 ps) ended.kept.0, tt) in
+    let c = clauses 𝓛 𝓜.mem 𝓡.returns in
+    let 𝓣 = tables 𝓤 𝓛.H 𝓜 𝓡 𝓡.env in
+    proved_at 𝓛 ended stays c 𝓜 𝓡 (Goes-dropped 𝓛 1 (param 0 ps) ended.kept.0 (λ κs x f. refl), tt) #self fn (compiled.unfolded 𝓤 𝓛.H 𝓜 𝓡 wired) (λ z are.
+    let Post : Val → SProp 𝓤 = (walk_of 𝓛 ended stays c).post z in
+    let a = z.0.3 in
+    let vss = z.0.4 in
+    let κ : Lft = z.0.0.0 in
+    let q : Share = z.0.1.0 in
+    let R : RattleType = granules.the_row in
+    let b = a.0.ref_ptr.0 in
+    let o = a.0.ref_ptr.1 in
+    let x = a.0.now in
+    let γ = a.0.ghost_name in
+    let n = x.count in
+    let s : Spot = x.spot in
+    let Home : Fml = homes_at s n in
+    let lies = x.placed in let low = lies.2 in let high = lies.3 in
+    let here : Ptr = block_ptr s.block s.at in
+    let tags : Ptr = block_ptr s.block s.tag in
+    let v : Val = granules_val here tags in
+    let u : Val = loan_val here tags in
+    qed 𝓛 (((‵ (flft κ q) ⊛ ‵ ftrue) ⊛ ‵ (owns (types_at ps z.0.0) a vss)) ∷ ‵ ftrue ∷ []) ∵ move ! (1 ∷ []) $ drop ! $ split ! $ split ! $
+    move ! (2 ∷ []) $ fsplit ! $ fsplit3 ! $ drop ! $ move ! (0 ∷ 1 ∷ 3 ∷ []) $
+    regoal ! (λ (us : List Val). prop (WpFn 𝓤 𝓛.H 𝓣.C 𝓣.Λ fn us Post)) (λ i. are.0.0 i ++ []) refl $
+    enter ! 𝓣.C 𝓣.Λ fn (vptr b o ∷ []) Post $
+    alloc_all ! (λ l. pass_all ! refl ((tt, tt), tt) $ let En : Env 𝓤 𝓛.H = env fn.locals l in
+    opens ! tt R b o (λ us. move ! (1 ∷ []) $ fsplit ! $ pure_l ! (granules_own x.bytes x.tags us) (λ w. let told = granules_told x.bytes x.tags us w in fsplit ! $
+    rewrite ! 2 (λ (ws : List Val). ‵ (cell_at full_share R.mir ws b o)) (told ∙ (λ i. granules_val (lies.0 i) (lies.1 i) ∷ [])) refl $ move ! (2 ∷ 0 ∷ 1 ∷ []) $ use1 𝓛 (‵ (fat full_share granules_type b o v)) (id⊢ 𝓤 _) $
+    -- [the cell; those at home; the blank ones; the open borrow, in three entries]
+    sets ! (of_opd ! (load ! (through ! refl (fld ! refl (stop !))) (look_in ! 0 (sub ! 0 refl (whole !))))) refl (tt, tt) $
+    sets ! (of_opd ! (load ! (through ! refl (fld ! refl (stop !))) (look_in ! 0 (sub ! 1 refl (whole !))))) refl (tt, tt) $
+    sets ! (agg ! (no_more !)) refl (tt, tt) $
+    sets ! (agg ! (and_then ! (get ! refl) (and_then ! (get ! refl) (and_then ! (get ! refl) (no_more !))))) refl (tt, (tt, (tt, (tt, tt)))) $
+    use0 𝓛 (‵ (granules_own x.bytes x.tags (granules_val x.bytes x.tags ∷ []))) (granules_made 𝓛 x.bytes x.tags) $ rewrite ! 0 (λ (r : Ptr × Ptr). ‵ (granules_own x.bytes x.tags (granules_val r.0 r.1 ∷ []))) (λ i. (lies.0 i, lies.1 i)) refl $
+    move ! (1 ∷ 6 ∷ []) $ join ! $ move ! (1 ∷ 0 ∷ []) $ join ! $ move ! (2 ∷ 0 ∷ []) $ join ! $ move ! (2 ∷ 1 ∷ 0 ∷ []) $
+    use3 𝓛 (later (‵ (fbor κ Home) ⊛ ‵ (flft κ q))) (lends 𝓛 κ q x b o γ v) $ await ! tt $ split ! $
+    returns ! (look_at ! 0 refl) $ free_all ! refl $
+    let L : RattleType = type_at ended.signature.result z.0.0 in
+    let y : L.Denot = record { bytes = here; tags = tags; marker = record {}; count = n; spot = s; placed = (refl, refl, omega arith, omega arith) } in
+    let Shown : Type 0 = (n ≡ n) × (s ≡ s) in
+    use0 𝓛 (‵ (loan_own here tags (u ∷ []))) (loan_made 𝓛 here tags) $ fjoin ! $
+    keep ! (1 ∷ 3 ∷ 0 ∷ []) $ join ! $ move ! (1 ∷ 0 ∷ []) $ use0 𝓛 (raw (fact 𝓤 Shown)) (fact_i 𝓤 Shown (emp 𝓤) (refl, refl)) $ nothing ! $ nothing ! $ fjoin ! $ move ! (3 ∷ 0 ∷ 2 ∷ 1 ∷ []) $
+    by ! (leaves 𝓛 ended stays c z u y (tt, tt) (tt, tt))))))
