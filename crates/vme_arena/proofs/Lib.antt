@@ -1,3 +1,4 @@
+pub mod Cells
 pub mod Homes
 pub mod Lending
 pub mod Parts
