@@ -1,5 +1,5 @@
 -- Stretches of a region, and the blocks in them. Places are counts of bytes from the start of an object.
-use Rattle.std.specs.Prelude.{◌≡◌, ℕ, ◌+◌, ◌-◌, ◌%◌, ◌^◌, ◌<◌, ◌≤◌}
+use Rattle.std.specs.Prelude.{◌≡◌, ℕ, ◌+◌, ◌%◌, ◌^◌, ◌<◌, ◌≤◌, max}
 use Rattle.std.specs.Int.{next_multiple_of}
 use denote.RawPtr.{Ptr, block_ptr}
 
@@ -15,7 +15,7 @@ rounded n = next_multiple_of n 16
 
 -- the bytes of a block for n: one with no bytes takes a place too
 abbrev pub block_size : ℕ → ℕ
-block_size n = rounded (n + (1 - n))
+block_size n = rounded (max n 1)
 
 -- the first n bytes of a stretch
 abbrev pub front : ℕ → Stretch → Stretch
@@ -35,4 +35,4 @@ LiesAt block at n p = (p ≡ block_ptr block at) × (at + n < 2 ^ 63) × (n % 16
 
 -- the n bytes from p on lie in the stretch, at a multiple of 16
 abbrev pub LiesIn : Stretch → ℕ → ℕ → Ptr → Type 0
-LiesIn s at n p = (p ≡ block_ptr s.block at) × (s.start ≤ at) × (at + n ≤ s.end) × (at % 16 ≡ 0)
+LiesIn s at n p = LiesAt s.block at n p × (s.start ≤ at) × (at + n ≤ s.end) × (at % 16 ≡ 0)

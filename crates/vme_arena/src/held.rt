@@ -17,7 +17,7 @@ pub(crate) struct Held<'r> {
 
 impl<'r> Loan<'r> {
     // The `count` granules from `place` on as one piece, or else the place of one that is away.
-    fn take_run(self, place: usize, count: usize) -> (Loan<'r>, Result<Piece, usize>)
+    pub(crate) fn take_run(self, place: usize, count: usize) -> (Loan<'r>, Result<Piece, usize>)
         requires { (0 < count) × (place + count ≤ self.count) × (self.count < 2 ^ 59) }
         ensures { (result.0 ≡ self.entry) × MatchResult result.1 (λ p. (p.block ≡ self.entry.spot.block) × (p.at ≡ self.entry.spot.at + place * 16) × (p.size ≡ count * 16)) (λ i. (place ≤ i) × (i < place + count)) }
     {

@@ -6,14 +6,14 @@
 
 mod granules;
 mod held;
-//mod lease;
+mod lease;
 mod loan;
 mod memory;
 mod piece;
-//mod region;
+mod region;
 mod slot;
-//#[cfg(test)]
-//mod tests;
+#[cfg(test)]
+mod tests;
 
-//pub use lease::Lease;
-//pub use region::{Full, Region, Rest};
+pub use lease::Lease;
+pub use region::{Full, Region, Rest};

@@ -21,7 +21,8 @@ impl Model for Memory {
     ghost also_owns = { λ m. units_at m.ptr m.size };
 }
 
-// The right to give them back.
+// The right to give them back. Where it is let go, they stay taken.
+#[derive(Drop)]
 pub(crate) struct Deed<A: Allocator> {
     pub(crate) marker: PhantomData<A>,
     ghost alloc: { A },
