@@ -27,6 +27,9 @@ impl Model for Granules {
 }
 
 impl Granules {
+    ghost use Rattle.std.specs.Borrow.{sem, follows};
+    ghost use Rattle.vme_arena.specs.contracts.granules.Granules.{the_row};
+
     // The granules of the memory, all of them blank, with their tags behind them.
     pub(crate) fn new(memory: Memory, deed: Deed<Global>, count: usize) -> (Granules, Deed<Global>)
         requires size { memory.size ≡ count * 16 + rounded count }
@@ -60,8 +63,10 @@ impl Granules {
         Granules { bytes, tags }
     }
 
+    // Whatever comes home or stays away, they are the same granules once the loan is over.
     pub(crate) fn lend<'r>(&'r mut self) -> Loan<'r>
-        ensures { (result.count ≡ self.entry.now.count) × (result.spot ≡ self.entry.now.spot) }
+        ensures loan { (result.count ≡ self.entry.now.count) × (result.spot ≡ self.entry.now.spot) }
+        ensures* same { sem 𝓛 (follows the_row the_row self.entry.ghost_name result.name (λ _. self.entry.now)) }
     {
         Loan {
             bytes: self.bytes,

@@ -6,6 +6,7 @@
 
 mod granules;
 mod held;
+pub mod laws;
 mod lease;
 mod loan;
 mod memory;

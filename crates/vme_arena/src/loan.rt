@@ -1,6 +1,6 @@
 // Granules of a region that are lent for a lifetime.
 ghost use Rattle.std.specs.Prelude.{◌≡◌, ℕ, ◌+◌, ◌-◌, ◌*◌, ◌<◌, ◌≤◌, nat_lt, IfSome, MatchResult};
-ghost use base.Fml.{fbor};
+ghost use base.Fml.{GName, fbor};
 ghost use Rattle.vme_arena.specs.Ownership.{Spot, IsSpot, homes_at};
 
 use crate::memory::UNIT;
@@ -15,6 +15,8 @@ pub(crate) struct Loan<'r> {
     ghost count: { ℕ },
     ghost spot: { Spot },
     ghost placed: { IsSpot spot count bytes tags },
+    // Names the borrow in the clause that says what its lender ends as.
+    ghost name: { GName },
 }
 
 impl<'r> Model for Loan<'r> {

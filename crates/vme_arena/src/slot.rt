@@ -42,3 +42,5 @@ impl<'r> Slot<'r> {
         }
     }
 }
+
+unsafe impl Send for Slot<'_> {}

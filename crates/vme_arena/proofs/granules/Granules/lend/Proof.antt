@@ -2,6 +2,8 @@
 use Rattle.vme_arena.proofs.Steps.{◌≡◌, ℕ, zero, suc, ◌+◌, ◌-◌, ◌*◌, ◌/◌, ◌%◌, ◌^◌, ◌<◌, ◌≤◌, List, [], ◌∷◌, ◌++◌, Bool, true, false, T, not, eqb, Some, None, Ok, Err, IfSome, refl, sym, ap, subst, ◌∙◌, arith, lit<, eqb→eq, w8, w64, full_share, SProp, emp, never, ent, sep, wand, id⊢, via, apply∗, upd_i, Lft, Share, Fml, ftrue, fat, fsep, fex, fwand, froom, flft, fbor, fobor, Ty, Fn, ty_int, ty_array, ty_struct, ty_ptr, tcons, tnil, Val, vint, vptr, vunit, vstruct, vcons, vnil, size, align, capped, capped_is, Env, WpFn, fact, fact_i, tables, sem, ‵, raw, ◌⊛◌, some, given, later, prop, at_ret, settles, ◌$◌, ◌∵◌, !, qed, by, done, move, keep, drop, use0, use1, use2, use3, split, split3, join, pick, learn, rewrite, regoal, fsplit, fsplit3, fjoin, fpick, fpack, feq_i, feq_l, flt_i, await, frame, whole, sub, agg, look_in, store_in, live, vrt, in_variant, stop, fld, lit, unit_lit, bin, addr, load, look, store, init, of_opd, no_more, and_then, assigns, assigns_last, first, blocks, branches, switches_on, exec, returns, enter, alloc_all, pass_all, free_all, look_at, get, get_in, get_tag, through, sets, sets_last, lands_as, lands_last, is, env, bor_open, obor_close, RattleType, owns, usize, unit, bool, Ptr, block_ptr, null_ptr, ptr_val, in_a_block, count_of, room_for, tests_same, tests_order, types_at, type_at, nothing, heard, only, Tuple, alive, Stays, stay_dropped, walk_of, Goes-dropped, Goes-blank, after, head, inside, arm_body, fm, Some-of, none_of, pair_of, pair_val, proved_at, leaves}
 use Rattle.vme_arena.proofs.Parts.{param, going_on, leaving}
 use types.SemTy.{Body}
+use types.Tokens.{name_done, name_new}
+use denote.Follow.{follows, follows_said}
 use denote.Memory.{mem, cell_at}
 use denote.Shadow.{pure_l}
 use denote.Steps.{opens}
@@ -55,10 +57,13 @@ lend_spec 𝓤 𝓛 𝓜 𝓡 wired =
     use0 𝓛 (‵ (granules_own x.bytes x.tags (granules_val x.bytes x.tags ∷ []))) (granules_made 𝓛 x.bytes x.tags) $ rewrite ! 0 (λ (r : Ptr × Ptr). ‵ (granules_own x.bytes x.tags (granules_val r.0 r.1 ∷ []))) (λ i. (lies.0 i, lies.1 i)) refl $
     move ! (1 ∷ 6 ∷ []) $ join ! $ move ! (1 ∷ 0 ∷ []) $ join ! $ move ! (2 ∷ 0 ∷ []) $ join ! $ move ! (2 ∷ 1 ∷ 0 ∷ []) $
     use3 𝓛 (later (‵ (fbor κ Home) ⊛ ‵ (flft κ q))) (lends 𝓛 κ q x b o γ v) $ await ! tt $ split ! $
+    -- [the borrow; the token; the last value of self]
+    move ! (2 ∷ []) $ name_done ! tt $ name_new ! tt (R.coded.code x) (λ γ'. drop ! $ move ! (1 ∷ 0 ∷ []) $
+    use2 𝓛 (‵ (follows R R γ γ' (λ _. x))) (follows_said 𝓛 R γ γ' x x) $
     returns ! (look_at ! 0 refl) $ free_all ! refl $
     let L : RattleType = type_at ended.signature.result z.0.0 in
-    let y : L.Denot = record { bytes = here; tags = tags; marker = record {}; count = n; spot = s; placed = (refl, refl, omega arith, omega arith) } in
+    let y : L.Denot = record { bytes = here; tags = tags; marker = record {}; count = n; spot = s; placed = (refl, refl, omega arith, omega arith); name = γ' } in
     let Shown : Type 0 = (n ≡ n) × (s ≡ s) in
-    use0 𝓛 (‵ (loan_own here tags (u ∷ []))) (loan_made 𝓛 here tags) $ fjoin ! $
-    keep ! (1 ∷ 3 ∷ 0 ∷ []) $ join ! $ move ! (1 ∷ 0 ∷ []) $ use0 𝓛 (raw (fact 𝓤 Shown)) (fact_i 𝓤 Shown (emp 𝓤) (refl, refl)) $ nothing ! $ nothing ! $ fjoin ! $ move ! (3 ∷ 0 ∷ 2 ∷ 1 ∷ []) $
-    by ! (leaves 𝓛 ended stays c z u y (tt, tt) (tt, tt))))))
+    move ! (1 ∷ []) $ use0 𝓛 (‵ (loan_own here tags (u ∷ []))) (loan_made 𝓛 here tags) $ fjoin ! $
+    keep ! (2 ∷ 4 ∷ 0 ∷ 1 ∷ []) $ join ! $ move ! (2 ∷ []) $ use0 𝓛 (raw (fact 𝓤 Shown)) (fact_i 𝓤 Shown (emp 𝓤) (refl, refl)) $ join ! $ nothing ! $ nothing ! $ fjoin ! $ move ! (2 ∷ 0 ∷ 3 ∷ 1 ∷ []) $
+    by ! (leaves 𝓛 ended stays c z u y (tt, tt) (tt, tt)))))))

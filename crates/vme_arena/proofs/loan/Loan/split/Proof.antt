@@ -53,8 +53,8 @@ split_spec 𝓤 𝓛 𝓜 𝓡 wired =
     sets ! (of_opd ! (get ! refl)) refl (tt, ((tt, (tt, (tt, tt))), ((tt, (tt, (tt, tt))), tt))) $
     returns ! (look_at ! 0 refl) $ free_all ! refl $
     let R : RattleType = type_at (param 0 ps) z.0.0 in
-    let y : R.Denot = record { bytes = here; tags = tags; marker = record {}; count = f; spot = s; placed = (refl, refl, omega arith, omega arith) } in
-    let w : R.Denot = record { bytes = next; tags = tags'; marker = record {}; count = m; spot = record { block = s.block; at = s.at + far; tag = s.tag + f }; placed = (refl, refl, omega arith, omega arith) } in
+    let y : R.Denot = record { bytes = here; tags = tags; marker = record {}; count = f; spot = s; placed = (refl, refl, omega arith, omega arith); name = x.name } in
+    let w : R.Denot = record { bytes = next; tags = tags'; marker = record {}; count = m; spot = record { block = s.block; at = s.at + far; tag = s.tag + f }; placed = (refl, refl, omega arith, omega arith); name = x.name } in
     let Front : Type 0 = (f ≡ f) × (s ≡ s) in
     let Behind : Type 0 = (f + m ≡ n) × (s.block ≡ s.block) × (s.at + far ≡ s.at + far) in
     use0 𝓛 (‵ (loan_own here tags (loan_val here tags ∷ []))) (loan_made 𝓛 here tags) $ fjoin ! $ move ! (1 ∷ []) $ use0 𝓛 (‵ (loan_own next tags' (loan_val next tags' ∷ []))) (loan_made 𝓛 next tags') $ fjoin ! $ move ! (0 ∷ 1 ∷ []) $
