@@ -5,8 +5,9 @@ use mir.Syntax.{Ty}
 use base.Shift.{Keyless}
 use denote.Ref.{NamedLft}
 use denote.RawPtr.{Ptr, block_ptr, null_ptr, room_for}
-use denote.Param.Send.{IsSend, struct_send, sendable}
+use denote.Param.Send.{IsSend, struct_send, recorded_send, plain_send, sendable}
 use denote.Struct.Declared
+use denote.Struct.Struct.{Struct}
 use Rattle.core.specs.contracts.option.Option as option
 use Rattle.vme_arena.specs.Stretch.{Stretch}
 use Rattle.vme_arena.specs.Ownership.{block_token, homes, granule, only_if, units_at}
@@ -42,7 +43,9 @@ pub loan_send : (κ : NamedLft) → IsSend (loan.the_row κ)
 loan_send κ = record { owned = λ d vs. ((λ vss. (tt, (tt, (tt, ((λ uss. (tt, tt)), tt))))), homes_keyless d.spot.block d.spot.at d.spot.tag d.count); leaving = λ k f vs. tt }
 
 held_send : (κ : NamedLft) → IsSend (held.the_row κ)
-held_send κ = search (sendable, loan_send κ)
+held_send κ =
+    let T = held.the_type κ in let S = denote.Struct.Declared.shape T in
+    recorded_send (Struct S) T.D T.to T.to_one (struct_send S (loan_send κ, (plain_send _ _ _ _ _, (plain_send _ _ _ _ _, tt))))
 
 content_send : (κ : NamedLft) → IsSend (option.the_field (held.the_row κ)).row
 content_send κ = search (sendable, held_send κ)
