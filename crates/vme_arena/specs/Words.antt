@@ -21,13 +21,6 @@ rest_left r = r.left
 abbrev pub rest_stretch : Rest → Stretch
 rest_stretch r = record { block = r.loan.spot.block; start = r.start; end = r.start + r.left }
 
--- where the lease's stretch begins in the region, and how long it is
-abbrev pub lease_start : Lease → ℕ
-lease_start l = l.start
-
-abbrev pub lease_length : Lease → ℕ
-lease_length l = l.length
-
 -- the stretch that its blocks are cut from
 abbrev pub lease_stretch : Lease → Stretch
 lease_stretch l = l.slot

@@ -135,8 +135,7 @@ impl<'r> Rest<'r> {
         }
         let start = self.start;
         let front = replace_with(&mut self.loan, length / UNIT, Loan::split);
-        self.start = start + length;
-        self.left -= length;
+        (self.start, self.left) = (start + length, self.left - length);
         Ok(Lease::new(start, length, front))
     }
 }
