@@ -1,17 +1,15 @@
 -- Granules are cut and glued, one of them is reached, and their tags are room again. Assumes `Logic`.
-use Rattle.std.proofs.Common.{◌≡◌, ℕ, zero, suc, ◌+◌, ◌*◌, ◌^◌, ◌<◌, Bool, true, false, T, not, eqb, List, [], ◌∷◌, refl, sym, arith, lit<, w8}
+use Rattle.std.proofs.Common.{◌≡◌, ℕ, zero, suc, ◌+◌, ◌*◌, ◌^◌, ◌<◌, Bool, true, false, T, not, eqb, [], ◌∷◌, refl, sym, arith, lit<, w8}
 use seplogic.Ra.Ura.{Ura}
 use mir.Syntax.{ty_int}
 use mir.Val.{vint}
 use base.Logic.{SProp, emp, ent, sep, wand, id⊢, apply∗, upd_i}
-use base.Fraction.{full_share}
-use base.Fml.{Lft, Share, Fml, ftrue, fsep, fseps, fex, fwand, fupd, fat, flft, fdead, fbor, fobor}
+use base.Fml.{Lft, Share, Fml, ftrue, fsep, fseps, fwand, fupd, flft, fdead, fbor}
 use types.Logic.{Logic, sem}
-use types.Kit.{‵, raw, ◌⊛◌, later, ◌$◌, ◌∵◌, !, qed, by, move, keep, drop, use0, use1, use2, use3, split, split3, join, fsplit, fjoin, fpick, fpack, assume, frame, suffices, rewrite, await, updating, now, done}
+use types.Kit.{‵, raw, ◌⊛◌, ◌$◌, ◌∵◌, !, qed, by, move, keep, drop, use1, use2, split, split3, fsplit, fjoin, fpick, assume, frame, suffices, rewrite, updating, now, done}
 use types.Tokens.{bor_open, obor_alter}
-use denote.RawPtr.{block_ptr}
 use denote.Steps.{nothing}
-use Rattle.vme_arena.specs.Ownership.{granule, homes, bit, only_if, loose, units_at}
+use Rattle.vme_arena.specs.Ownership.{granule, homes, bit, loose}
 
 pub tag_fits : (t : Bool) → bit t < 2 ^ 8
 tag_fits true = lit< tt

@@ -88,7 +88,7 @@ module _ {M : Type 1} {𝓤 : Ura M} (𝓛 : Logic 𝓤) (b : ℕ) where
       let both : Ty = ty_struct [] (tcons τ rear) in
       let begins : up (align τ) 0 ≡ 0 = level (align τ) 0 (dv_zero (align τ)) in
       let ends : end_of zero (tcons τ rear) ≡ n / 16 * 16 =
-          ap (λ (k : ℕ). k + (n - size τ) * 1) (level 1 (up (align τ) 0 + size τ) (dv_one (up (align τ) 0 + size τ)) ∙ ap (λ (k : ℕ). k + size τ) begins) ∙ omega arith in
+      ap (λ (k : ℕ). k + (n - size τ) * 1) (level 1 (up (align τ) 0 + size τ) (dv_one (up (align τ) 0 + size τ)) ∙ ap (λ (k : ℕ). k + size τ) begins) ∙ omega arith in
       let aligned : max (align τ) 1 ≡ align τ = omega (arith, align_pos τ) in
       let sized : size both ≡ n / 16 * 16 = (λ i. up (aligned i) (ends i)) ∙ level (align τ) (n / 16 * 16) (dv_mul (align τ) 16 (n / 16) dv) in
       let Head : Pr = H.room τ b (x + up (align τ) 0) in

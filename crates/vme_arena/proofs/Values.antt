@@ -1,7 +1,7 @@
 -- The machine values of the crate's structs: what a struct's fields own tells them, and is made of nothing.
-use Rattle.std.proofs.Common.{◌≡◌, ℕ, ◌^◌, ◌<◌, List, [], ◌∷◌, ◌++◌, refl, ◌∙◌, lit<, w64}
+use Rattle.std.proofs.Common.{◌≡◌, ℕ, ◌^◌, ◌<◌, List, [], ◌∷◌, ◌++◌, refl, ◌∙◌, w64}
 use seplogic.Ra.Ura.{Ura}
-use mir.Syntax.{Ty, ty_int, ty_ptr, ty_struct, tcons, tnil}
+use mir.Syntax.{Ty, ty_ptr, ty_struct, tcons, tnil}
 use mir.Val.{Val, vint, vstruct, vcons, vnil, of_list}
 use base.Logic.{ent, emp}
 use base.Fml.{Fml}

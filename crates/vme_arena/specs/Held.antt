@@ -1,5 +1,5 @@
 -- The stretch that a lease's granules are.
-use Rattle.std.specs.Prelude.{ℕ, ◌+◌, ◌*◌}
+use Rattle.std.specs.Prelude.{◌+◌, ◌*◌}
 use Rattle.vme_arena.specs.Stretch.{Stretch}
 use Rattle.vme_arena.specs.declared.held.Held.{Held}
 

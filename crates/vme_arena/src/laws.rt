@@ -6,5 +6,4 @@ ghost use Rattle.vme_arena.specs.Stretch.{CarvedWithin, CarvedApart};
 pub fn carved_stretches_are_apart()
     ensures within { CarvedWithin }
     ensures apart { CarvedApart }
-{
-}
+{}

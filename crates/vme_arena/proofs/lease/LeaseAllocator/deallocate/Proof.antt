@@ -1,6 +1,6 @@
 -- `deallocate` makes the room a piece again, and gives it to the lease. Assumes `Logic`.
-use Rattle.vme_arena.proofs.Steps.{◌≡◌, ℕ, zero, suc, ◌+◌, ◌-◌, ◌*◌, ◌/◌, ◌%◌, ◌^◌, ◌<◌, ◌≤◌, List, [], ◌∷◌, ◌++◌, Bool, true, false, T, not, eqb, Some, None, Ok, Err, IfSome, refl, sym, ap, subst, ◌∙◌, arith, lit<, eqb→eq, w8, w64, full_share, SProp, emp, never, ent, sep, wand, id⊢, via, apply∗, upd_i, Lft, Share, Fml, ftrue, fat, fsep, fex, fwand, froom, flft, fbor, fobor, Ty, Fn, ty_int, ty_array, ty_struct, ty_ptr, tcons, tnil, Val, vint, vptr, vunit, vstruct, vcons, vnil, size, align, capped, capped_is, Env, WpFn, fact, fact_i, tables, sem, ‵, raw, ◌⊛◌, some, given, later, prop, at_ret, settles, ◌$◌, ◌∵◌, !, qed, by, done, move, keep, drop, use0, use1, use2, use3, split, split3, join, pick, learn, rewrite, regoal, fsplit, fsplit3, fjoin, fpick, fpack, feq_i, feq_l, flt_i, await, frame, whole, sub, agg, look_in, store_in, live, vrt, in_variant, stop, fld, lit, unit_lit, bin, addr, load, look, store, init, of_opd, no_more, and_then, assigns, assigns_last, first, blocks, branches, switches_on, exec, returns, enter, alloc_all, pass_all, free_all, look_at, get, get_in, get_tag, through, sets, sets_last, lands_as, lands_last, is, env, bor_open, obor_close, RattleType, owns, usize, unit, bool, Ptr, block_ptr, null_ptr, ptr_val, in_a_block, count_of, room_for, tests_same, tests_order, types_at, type_at, nothing, heard, only, Tuple, alive, Stays, stay_dropped, walk_of, Goes-dropped, Goes-blank, after, head, inside, arm_body, fm, Some-of, none_of, pair_of, pair_val, proved_at, leaves}
-use Rattle.vme_arena.proofs.Parts.{param, going_on, leaving}
+use Rattle.vme_arena.proofs.Steps.{◌≡◌, ℕ, ◌+◌, ◌%◌, ◌^◌, ◌<◌, ◌≤◌, List, [], ◌∷◌, ◌++◌, refl, sym, ap, ◌∙◌, arith, w64, SProp, emp, id⊢, apply∗, ftrue, Ty, Fn, Val, vint, vptr, vunit, size, align, capped, capped_is, Env, WpFn, fact, fact_i, tables, sem, ‵, raw, ◌⊛◌, some, later, prop, ◌$◌, ◌∵◌, !, qed, by, move, keep, drop, use0, use1, use2, split, split3, join, pick, rewrite, regoal, fsplit, fjoin, fpick, feq_i, feq_l, flt_i, await, agg, unit_lit, of_opd, no_more, and_then, returns, enter, alloc_all, pass_all, free_all, look_at, get, sets, lands_as, env, owns, usize, unit, Ptr, block_ptr, ptr_val, room_for, types_at, nothing, heard, only, alive, Stays, stay_dropped, walk_of, Goes-dropped, fm, proved_at, leaves}
+use Rattle.vme_arena.proofs.Parts.{param}
 use denote.Triple.Call.{calls_at}
 use denote.Triple.Spec.{triple_of}
 use denote.Triple.Clauses.{Lasts, lasts}

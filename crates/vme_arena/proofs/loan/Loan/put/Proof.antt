@@ -1,6 +1,6 @@
 -- `put` opens what is lent, and sets a tag. Assumes `Logic`.
-use Rattle.vme_arena.proofs.Steps.{◌≡◌, ℕ, zero, suc, ◌+◌, ◌-◌, ◌*◌, ◌/◌, ◌%◌, ◌^◌, ◌<◌, ◌≤◌, List, [], ◌∷◌, ◌++◌, Bool, true, false, T, not, eqb, Some, None, Ok, Err, IfSome, refl, sym, ap, subst, ◌∙◌, arith, lit<, eqb→eq, w8, w64, full_share, SProp, emp, never, ent, sep, wand, id⊢, via, apply∗, upd_i, Lft, Share, Fml, ftrue, fat, fsep, fex, fwand, froom, flft, fbor, fobor, Ty, Fn, ty_int, ty_array, ty_struct, ty_ptr, tcons, tnil, Val, vint, vptr, vunit, vstruct, vcons, vnil, size, align, capped, capped_is, Env, WpFn, fact, fact_i, tables, sem, ‵, raw, ◌⊛◌, some, given, later, prop, at_ret, settles, ◌$◌, ◌∵◌, !, qed, by, done, move, keep, drop, use0, use1, use2, use3, split, split3, join, pick, learn, rewrite, regoal, fsplit, fsplit3, fjoin, fpick, fpack, feq_i, feq_l, flt_i, await, frame, whole, sub, agg, look_in, store_in, live, vrt, in_variant, stop, fld, lit, unit_lit, bin, addr, load, look, store, init, of_opd, no_more, and_then, assigns, assigns_last, first, blocks, branches, switches_on, exec, returns, enter, alloc_all, pass_all, free_all, look_at, get, get_in, get_tag, through, sets, sets_last, lands_as, lands_last, is, env, bor_open, obor_close, RattleType, owns, usize, unit, bool, Ptr, block_ptr, null_ptr, ptr_val, in_a_block, count_of, room_for, tests_same, tests_order, types_at, type_at, nothing, heard, only, Tuple, alive, Stays, stay_dropped, walk_of, Goes-dropped, Goes-blank, after, head, inside, arm_body, fm, Some-of, none_of, pair_of, pair_val, proved_at, leaves}
-use Rattle.vme_arena.proofs.Parts.{param, going_on, leaving}
+use Rattle.vme_arena.proofs.Steps.{◌≡◌, ℕ, ◌+◌, ◌-◌, ◌*◌, ◌<◌, ◌≤◌, List, [], ◌∷◌, ◌++◌, Bool, true, refl, sym, ap, ◌∙◌, arith, lit<, w8, w64, full_share, SProp, emp, wand, apply∗, Lft, Share, Fml, ftrue, fat, fsep, flft, Fn, ty_int, Val, vint, vptr, Env, WpFn, fact, fact_i, tables, sem, ‵, raw, ◌⊛◌, prop, at_ret, ◌$◌, ◌∵◌, !, qed, by, move, keep, drop, use0, use1, use2, split, join, rewrite, regoal, fsplit, fjoin, fpick, fpack, whole, sub, agg, stop, fld, lit, bin, store, of_opd, no_more, and_then, assigns, first, blocks, exec, returns, enter, alloc_all, pass_all, free_all, look_at, get, get_in, through, sets, sets_last, is, env, bor_open, obor_close, RattleType, owns, Ptr, block_ptr, types_at, type_at, nothing, heard, Tuple, Stays, stay_dropped, walk_of, Goes-dropped, Goes-blank, after, pair_of, pair_val, proved_at, leaves}
+use Rattle.vme_arena.proofs.Parts.{param}
 use Rattle.vme_arena.proofs.Values.{loan_val, loan_own, loan_told, loan_made, piece_val, piece_own, piece_told, piece_made}
 use Rattle.vme_arena.proofs.Homes.{reaches}
 use Rattle.vme_arena.proofs.Units.{cuts}

@@ -1,6 +1,6 @@
 -- `replace` opens the slot with the token of the thread, reads it, writes it and shuts it. Assumes `Logic`.
-use Rattle.vme_arena.proofs.Steps.{◌≡◌, ℕ, zero, suc, ◌+◌, ◌-◌, ◌*◌, ◌/◌, ◌%◌, ◌^◌, ◌<◌, ◌≤◌, List, [], ◌∷◌, ◌++◌, Bool, true, false, T, not, eqb, Some, None, Ok, Err, IfSome, refl, sym, ap, subst, ◌∙◌, arith, lit<, eqb→eq, w8, w64, full_share, SProp, emp, never, ent, sep, wand, id⊢, via, apply∗, upd_i, Lft, Share, Fml, ftrue, fat, fsep, fex, fwand, froom, flft, fbor, fobor, Ty, Fn, ty_int, ty_array, ty_struct, ty_ptr, tcons, tnil, Val, vint, vptr, vunit, vstruct, vcons, vnil, size, align, capped, capped_is, Env, WpFn, fact, fact_i, tables, sem, ‵, raw, ◌⊛◌, some, given, later, prop, at_ret, settles, ◌$◌, ◌∵◌, !, qed, by, done, move, keep, drop, use0, use1, use2, use3, split, split3, join, pick, learn, rewrite, regoal, fsplit, fsplit3, fjoin, fpick, fpack, feq_i, feq_l, flt_i, await, frame, whole, sub, agg, look_in, store_in, live, vrt, in_variant, stop, fld, lit, unit_lit, bin, addr, load, look, store, init, of_opd, no_more, and_then, assigns, assigns_last, first, blocks, branches, switches_on, exec, returns, enter, alloc_all, pass_all, free_all, look_at, get, get_in, get_tag, through, sets, sets_last, lands_as, lands_last, is, env, bor_open, obor_close, RattleType, owns, usize, unit, bool, Ptr, block_ptr, null_ptr, ptr_val, in_a_block, count_of, room_for, tests_same, tests_order, types_at, type_at, nothing, heard, only, Tuple, alive, Stays, stay_dropped, walk_of, Goes-dropped, Goes-blank, after, head, inside, arm_body, fm, Some-of, none_of, pair_of, pair_val, proved_at, leaves}
-use Rattle.vme_arena.proofs.Parts.{param, going_on, leaving}
+use Rattle.vme_arena.proofs.Steps.{List, [], ◌∷◌, ◌++◌, refl, SProp, emp, Lft, Share, ftrue, flft, Fn, Val, vptr, Env, WpFn, fact, fact_i, ‵, raw, ◌⊛◌, prop, at_ret, ◌$◌, ◌∵◌, !, qed, by, move, keep, use0, split, join, rewrite, regoal, fsplit, fsplit3, fjoin, whole, sub, look_in, store_in, stop, fld, addr, load, of_opd, assigns, first, blocks, exec, returns, enter, alloc_all, pass_all, free_all, look_at, get, through, sets, sets_last, env, owns, types_at, nothing, heard, Stays, stay_dropped, walk_of, Goes-dropped, Goes-blank, after, leaves}
+use Rattle.vme_arena.proofs.Parts.{param}
 use base.Fml.{ftok}
 use base.Mask.{every}
 use denote.Exit.{rest, yes}
