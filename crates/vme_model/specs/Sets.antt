@@ -1,5 +1,5 @@
 -- Sets of levels and chains, one bit each. (The numbering of bits is this project's profile.)
-use Rattle.std.specs.Prelude.{◌==◌, ◌&&◌, ◌+◌, ◌-◌, ◌^◌, ℕ, Bool, true, false, List, codes, nat_lt, bit_and, bit_or, if◌then◌else◌}
+use Rattle.std.specs.Prelude.{◌==◌, ◌&&◌, ◌+◌, ◌-◌, ◌^◌, ℕ, Bool, List, codes, nat_lt, bit_and, bit_or, if◌then◌else◌}
 use Rattle.vme_model.specs.declared.sets.ChainId.{ChainId}
 use Rattle.vme_model.specs.declared.sets.ChainId.TheVariants as chain
 use Rattle.vme_model.specs.declared.sets.Levels.{Levels}
