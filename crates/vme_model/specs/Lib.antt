@@ -1,0 +1,15 @@
+pub mod Signals
+pub mod Sets
+pub mod Plan
+pub mod Accepted
+pub mod History
+pub mod Readings
+pub mod Rules
+pub mod Settling
+pub mod Verdict
+pub mod Views
+pub mod Deliveries
+pub mod Counts
+pub mod Offers
+pub mod Text
+pub mod Report

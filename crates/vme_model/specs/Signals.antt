@@ -1,0 +1,97 @@
+-- Which drivers, wires and edges there are. (Std 1014, chapters 2 to 4; one edge as the atomic step is this project's profile.)
+use Rattle.std.specs.Prelude.{◌==◌, ◌&&◌, ℕ, Bool, true, false, Option, Some, None, nat_lt, nat_le}
+use Rattle.vme_model.specs.declared.signals.Version.{Version}
+use Rattle.vme_model.specs.declared.signals.Version.TheVariants.{One, Two}
+use Rattle.vme_model.specs.declared.signals.Driver.{Driver}
+use Rattle.vme_model.specs.declared.signals.Driver.TheVariants.{Controller, Slot}
+use Rattle.vme_model.specs.declared.signals.Wire.{Wire}
+use Rattle.vme_model.specs.declared.signals.Wire.TheVariants.{Bg, Bclr, Iack, Berr, Br, BgOut, Bbsy, Addr, AddressStrobe, DataStrobe, Irq, IackOut, Dtack}
+use Rattle.vme_model.specs.declared.signals.Cycle.{Cycle}
+use Rattle.vme_model.specs.declared.signals.Cycle.TheVariants.{Acknowledge, Access}
+use Rattle.vme_model.specs.declared.signals.Edge.{Edge}
+
+-- the second version of the rules (profile)
+abbrev pub is_two : Version → Bool
+is_two One = false
+is_two Two = true
+
+abbrev pub is_same_driver : Driver → Driver → Bool
+is_same_driver Controller Controller = true
+is_same_driver (Slot s) (Slot t) = s == t
+is_same_driver _ _ = false
+
+abbrev pub is_same_wire : Wire → Wire → Bool
+is_same_wire (Bg m) (Bg n) = m == n
+is_same_wire Bclr Bclr = true
+is_same_wire Iack Iack = true
+is_same_wire Berr Berr = true
+is_same_wire Br Br = true
+is_same_wire BgOut BgOut = true
+is_same_wire Bbsy Bbsy = true
+is_same_wire Addr Addr = true
+is_same_wire AddressStrobe AddressStrobe = true
+is_same_wire DataStrobe DataStrobe = true
+is_same_wire Irq Irq = true
+is_same_wire IackOut IackOut = true
+is_same_wire Dtack Dtack = true
+is_same_wire _ _ = false
+
+-- an edge of that driver's wire
+abbrev pub is_edge_of : Driver → Wire → Edge → Bool
+is_edge_of d w e = is_same_wire e.wire w && is_same_driver e.driver d
+
+-- an edge of that driver's wire, and a fall
+abbrev pub is_fall_of : Driver → Wire → Edge → Bool
+is_fall_of d w e = e.fall && is_edge_of d w e
+
+abbrev pub is_grant_wire : Wire → Bool
+is_grant_wire (Bg level) = true
+is_grant_wire _ = false
+
+-- a fall of one of the controller's grants (chapter 3)
+abbrev pub is_grant : Edge → Bool
+is_grant e = e.fall && is_grant_wire e.wire
+
+abbrev pub grant_level : Wire → ℕ
+grant_level (Bg level) = level
+grant_level _ = 0
+
+-- a backplane has at most 21 slots (chapter 7)
+abbrev pub is_slot : ℕ → Bool
+is_slot s = nat_le 1 s && nat_le s 21
+
+-- IRQ1* to IRQ7* (chapter 4)
+abbrev pub is_level : ℕ → Bool
+is_level level = nat_le 1 level && nat_le level 7
+
+-- the controller's wires, and a board's
+abbrev pub has_wire : Driver → Wire → Bool
+has_wire Controller (Bg level) = nat_lt level 4
+has_wire Controller Bclr = true
+has_wire Controller Iack = true
+has_wire Controller Berr = true
+has_wire Controller _ = false
+has_wire (Slot s) (Bg level) = false
+has_wire (Slot s) Bclr = false
+has_wire (Slot s) Iack = false
+has_wire (Slot s) Berr = false
+has_wire (Slot s) _ = is_slot s
+
+-- an acknowledge, of whatever level (chapter 4)
+abbrev pub is_acknowledge : Option Cycle → Bool
+is_acknowledge (Some (Acknowledge level)) = true
+is_acknowledge _ = false
+
+abbrev pub is_in_range : Cycle → Bool
+is_in_range (Acknowledge level) = is_level level
+is_in_range (Access s) = is_slot s
+
+-- a value stands exactly with a fall of the address group (profile)
+abbrev pub has_value : Wire → Bool → Option Cycle → Bool
+has_value Addr true (Some cycle) = is_in_range cycle
+has_value Addr true None = false
+has_value _ _ None = true
+has_value _ _ (Some _) = false
+
+abbrev pub is_well_formed : Edge → Bool
+is_well_formed e = has_wire e.driver e.wire && has_value e.wire e.fall e.value

@@ -1,0 +1,74 @@
+-- The answer to an edge, legal histories, and the edges that are kept. (The order of refusals is this project's profile.)
+use Rattle.std.specs.Prelude.{◌==◌, ◌≡◌, ◌&&◌, ◌∷◌, ℕ, Bool, true, false, not, if◌then◌else◌, Result, Ok, Err, List, [], length, is_ok}
+use Rattle.vme_model.specs.declared.refusals.Refused.{Refused}
+use Rattle.vme_model.specs.declared.refusals.Refused.TheVariants.{NoSuchDriver, AlreadyThere, Rule, NotSettled, TraceFull}
+use Rattle.vme_model.specs.declared.signals.Version.{Version}
+use Rattle.vme_model.specs.declared.signals.Edge.{Edge}
+use Rattle.vme_model.specs.Signals.{is_well_formed}
+use Rattle.vme_model.specs.Plan.{Plan, has_driver}
+use Rattle.vme_model.specs.History.{drive}
+use Rattle.vme_model.specs.Readings.{readings}
+use Rattle.vme_model.specs.Rules.{rule}
+use Rattle.vme_model.specs.Settling.{settling}
+
+-- a backplane: the version of its rules, its plan, its history, and how many edges its trace holds
+pub record State : Type 0 where
+  pub version : Version
+  pub plan : Plan
+  pub history : List Edge
+  pub max : ℕ
+
+abbrev pub Judgement : Type 0
+Judgement = Result (Unit {0}) Refused
+
+-- the refusal where the test fails, and else what comes after
+abbrev pub check : Bool → Refused → Judgement → Judgement
+check true refusal rest = rest
+check false refusal rest = Err refusal
+
+-- an edge moves its wire to the other state
+abbrev pub is_other_state : Bool → Bool → Bool
+is_other_state low fall = if fall then not low else low
+
+-- the guard of the rule that names the edge holds
+abbrev pub allowed : Version → Plan → List Edge → Edge → Bool
+allowed version p h e = (rule version (readings p h e.driver) e.wire e.fall e.value).1
+
+-- the settling rule that names the edge, if any, holds
+abbrev pub settled : Version → Plan → List Edge → Edge → Bool
+settled version p h e = (settling version p h e.wire e.fall).1
+
+-- E1 to E4, or what comes after
+abbrev pub judged : Version → Plan → List Edge → Edge → Judgement → Judgement
+judged version p h e rest =
+    check (is_well_formed e && has_driver p e.driver e.wire) NoSuchDriver
+    (check (is_other_state (drive h e.driver e.wire) e.fall) AlreadyThere
+    (check (allowed version p h e) (Rule (rule version (readings p h e.driver) e.wire e.fall e.value).0)
+    (check (settled version p h e) (NotSettled (settling version p h e.wire e.fall).0)
+    rest)))
+
+-- the first of E1 to E5 that applies
+abbrev pub verdict : State → Edge → Judgement
+verdict b e = judged b.version b.plan b.history e (check (not (length b.history == b.max)) TraceFull (Ok tt))
+
+-- the same but for E5
+abbrev pub verdict_but_full : Version → Plan → List Edge → Edge → Judgement
+verdict_but_full version p h e = judged version p h e (Ok tt)
+
+-- each edge was allowed when it was made
+abbrev pub IsLegal : Version → Plan → List Edge → Type 0
+IsLegal version p [] = Unit {0}
+IsLegal version p (e ∷ h) = (verdict_but_full version p h e ≡ Ok tt) × IsLegal version p h
+
+-- the backplane with an edge made
+abbrev pub made : State → Edge → State
+made b e = record b { history = e ∷ b.history }
+
+-- the backplane after an edge: with it where the verdict is Ok, and else as it was
+abbrev pub after : State → Edge → State
+after b e = if is_ok (verdict b e) then made b e else b
+
+-- the backplane after those of the edges that are accepted, each judged on what was kept before it
+abbrev pub kept : State → List Edge → State
+kept b [] = b
+kept b (e ∷ es) = kept (after b e) es

@@ -1,0 +1,18 @@
+//! What an edge, a board, a pin and a refusal are, and every definition that a theorem of this workspace cites.
+//!
+//! The definitions stand in `specs/`, one file a subject, in the order in which `specs/Lib.antt` names them.
+#![tactic(auto)]
+
+mod boards;
+mod deliveries;
+mod pins;
+mod refusals;
+mod sets;
+mod signals;
+
+pub use boards::{ArbiterKind, InterrupterRow, IrqKind, Jumper, Release, RequesterRow, Row};
+pub use deliveries::Delivery;
+pub use pins::Pins;
+pub use refusals::{Field, PlanError, Refused};
+pub use sets::{BusLevels, ChainId, Chains, Levels};
+pub use signals::{Cycle, Driver, Edge, Version, Wire};

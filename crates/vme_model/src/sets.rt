@@ -1,0 +1,261 @@
+//! Daisy chains, and sets of levels and chains with one bit each.
+ghost use Rattle.std.specs.Prelude.{◌≡◌, ◌-◌, ◌^◌, ◌≤◌, ⊤, [], ◌∷◌, false, codes, slice_index_or};
+ghost use Rattle.vme_model.specs.Plan.{grant_chain, head_wire, out_wire};
+ghost use Rattle.vme_model.specs.Sets.{has_level, has_bus_level, has_chain, with_level, with_chain, irq_levels, bus_levels, chain_bit};
+
+use crate::signals::Wire;
+use bitflags::{Flag, Flags, bitflag_items};
+use std::fmt;
+
+/// A daisy chain.
+#[derive(Clone, Copy, PartialEq, Eq, Debug)]
+pub enum ChainId {
+    Bg0,
+    Bg1,
+    Bg2,
+    Bg3,
+    Iack,
+}
+
+impl fmt::Display for ChainId {
+    fn fmt<W: fmt::Write>(&self, f: &mut fmt::Formatter<W>) -> fmt::Result {
+        f.write_str(match self {
+            ChainId::Bg0 => "bg0",
+            ChainId::Bg1 => "bg1",
+            ChainId::Bg2 => "bg2",
+            ChainId::Bg3 => "bg3",
+            ChainId::Iack => "iack",
+        })
+    }
+}
+
+impl ChainId {
+    /// The chain of a grant level, 0 to 3.
+    pub fn of_grant(level: u8) -> ChainId
+        ensures { result ≡ grant_chain level }
+    {
+        match level {
+            0 => ChainId::Bg0,
+            1 => ChainId::Bg1,
+            2 => ChainId::Bg2,
+            _ => ChainId::Bg3,
+        }
+    }
+
+    /// The controller's wire at the head of the chain.
+    pub fn head_wire(self) -> Wire
+        ensures { result ≡ head_wire self }
+    {
+        match self {
+            ChainId::Bg0 => Wire::Bg(0),
+            ChainId::Bg1 => Wire::Bg(1),
+            ChainId::Bg2 => Wire::Bg(2),
+            ChainId::Bg3 => Wire::Bg(3),
+            ChainId::Iack => Wire::Iack,
+        }
+    }
+
+    /// The wire by which a board passes the chain on.
+    pub fn out_wire(self) -> Wire
+        ensures { result ≡ out_wire self }
+    {
+        match self {
+            ChainId::Iack => Wire::IackOut,
+            _ => Wire::BgOut,
+        }
+    }
+}
+
+/// A set of interrupt levels: level n, 1 to 7, is bit n - 1.
+#[derive(Clone, Copy, PartialEq, Eq, Debug)]
+pub struct Levels(u8);
+
+bitflag_items! {
+    impl Levels: u8 {
+        const IRQ1 = 1;
+        const IRQ2 = 2;
+        const IRQ3 = 4;
+        const IRQ4 = 8;
+        const IRQ5 = 16;
+        const IRQ6 = 32;
+        const IRQ7 = 64;
+    }
+}
+
+impl Flags for Levels {
+    type Bits = u8;
+
+    ghost exact = { ⊤ };
+
+    ghost table = { (codes "IRQ1", 1) ∷ (codes "IRQ2", 2) ∷ (codes "IRQ3", 4) ∷ (codes "IRQ4", 8) ∷ (codes "IRQ5", 16) ∷ (codes "IRQ6", 32) ∷ (codes "IRQ7", 64) ∷ [] };
+
+    ghost set_of = { λ p. p.0 };
+
+    fn flags<'a>() -> &'a [Flag<Levels>] {
+        Levels::FLAGS
+    }
+
+    fn bits(&self) -> u8 {
+        self.0
+    }
+
+    fn from_bits_retain(bits: u8) -> Levels {
+        Levels(bits)
+    }
+}
+
+impl Levels {
+    /// The set of one level, 1 to 7, alone.
+    pub fn of(level: u8) -> Levels
+        requires low { 1 ≤ level }
+        requires high { level ≤ 7 }
+        ensures { result ≡ record { 0 = 2 ^ (level - 1) } }
+    {
+        Levels(1 << (level - 1))
+    }
+
+    /// The set of the levels whose lines are low: at place n - 1 whether level n is.
+    pub fn of_lines(low: [bool; 7]) -> Levels
+        ensures { result ≡ irq_levels (λ n. slice_index_or low (n - 1) false) }
+    {
+        let [one, two, three, four, five, six, seven] = low.map(u8::from);
+        Levels(one + 2 * two + 4 * three + 8 * four + 16 * five + 32 * six + 64 * seven)
+    }
+
+    /// Whether the level is in the set; no level beyond 1 to 7 is.
+    pub fn has(self, level: u8) -> bool
+        ensures { result ≡ has_level self level }
+    {
+        (1..=7).contains(&level) && self.contains(Levels(1 << (level - 1)))
+    }
+
+    /// The set with that level, 1 to 7, in it too.
+    pub fn with(self, level: u8) -> Levels
+        requires low { 1 ≤ level }
+        requires high { level ≤ 7 }
+        ensures { result ≡ with_level self level }
+    {
+        let mut levels = self;
+        levels.insert(Levels(1 << (level - 1)));
+        levels
+    }
+}
+
+/// A set of bus request levels: level n, 0 to 3, is bit n.
+#[derive(Clone, Copy, PartialEq, Eq, Debug)]
+pub struct BusLevels(u8);
+
+bitflag_items! {
+    impl BusLevels: u8 {
+        const BR0 = 1;
+        const BR1 = 2;
+        const BR2 = 4;
+        const BR3 = 8;
+    }
+}
+
+impl Flags for BusLevels {
+    type Bits = u8;
+
+    ghost exact = { ⊤ };
+
+    ghost table = { (codes "BR0", 1) ∷ (codes "BR1", 2) ∷ (codes "BR2", 4) ∷ (codes "BR3", 8) ∷ [] };
+
+    ghost set_of = { λ p. p.0 };
+
+    fn flags<'a>() -> &'a [Flag<BusLevels>] {
+        BusLevels::FLAGS
+    }
+
+    fn bits(&self) -> u8 {
+        self.0
+    }
+
+    fn from_bits_retain(bits: u8) -> BusLevels {
+        BusLevels(bits)
+    }
+}
+
+impl BusLevels {
+    /// The set of the levels whose lines are low: at place n whether level n is.
+    pub fn of_lines(low: [bool; 4]) -> BusLevels
+        ensures { result ≡ bus_levels (λ n. slice_index_or low n false) }
+    {
+        let [zero, one, two, three] = low.map(u8::from);
+        BusLevels(zero + 2 * one + 4 * two + 8 * three)
+    }
+
+    /// Whether the level is in the set; no level beyond 0 to 3 is.
+    pub fn has(self, level: u8) -> bool
+        ensures { result ≡ has_bus_level self level }
+    {
+        level < 4 && self.contains(BusLevels(1 << level))
+    }
+}
+
+/// A set of daisy chains, one bit each, in the order of `ChainId`.
+#[derive(Clone, Copy, PartialEq, Eq, Debug)]
+pub struct Chains(u8);
+
+bitflag_items! {
+    impl Chains: u8 {
+        const BG0 = 1;
+        const BG1 = 2;
+        const BG2 = 4;
+        const BG3 = 8;
+        const IACK = 16;
+    }
+}
+
+impl Flags for Chains {
+    type Bits = u8;
+
+    ghost exact = { ⊤ };
+
+    ghost table = { (codes "BG0", 1) ∷ (codes "BG1", 2) ∷ (codes "BG2", 4) ∷ (codes "BG3", 8) ∷ (codes "IACK", 16) ∷ [] };
+
+    ghost set_of = { λ p. p.0 };
+
+    fn flags<'a>() -> &'a [Flag<Chains>] {
+        Chains::FLAGS
+    }
+
+    fn bits(&self) -> u8 {
+        self.0
+    }
+
+    fn from_bits_retain(bits: u8) -> Chains {
+        Chains(bits)
+    }
+}
+
+impl Chains {
+    /// The set of one chain alone.
+    pub fn of(chain: ChainId) -> Chains
+        ensures { result ≡ record { 0 = chain_bit chain } }
+    {
+        match chain {
+            ChainId::Bg0 => Chains::BG0,
+            ChainId::Bg1 => Chains::BG1,
+            ChainId::Bg2 => Chains::BG2,
+            ChainId::Bg3 => Chains::BG3,
+            ChainId::Iack => Chains::IACK,
+        }
+    }
+
+    /// Whether the chain is in the set.
+    pub fn has(self, chain: ChainId) -> bool
+        ensures { result ≡ has_chain self chain }
+    {
+        self.contains(Chains::of(chain))
+    }
+
+    /// The set with that chain in it too.
+    pub fn with(self, chain: ChainId) -> Chains
+        ensures { result ≡ with_chain self chain }
+    {
+        let mut chains = self;
+        chains.insert(Chains::of(chain));
+        chains
+    }
+}

@@ -1,0 +1,199 @@
+//! Drivers, wires and edges.
+ghost use Rattle.std.specs.Prelude.{◌≡◌, Some};
+ghost use Rattle.vme_model.specs.Signals.{is_same_driver, is_same_wire, is_edge_of, is_fall_of, is_grant, is_grant_wire, grant_level, has_wire, is_slot, is_level, is_acknowledge, is_in_range, is_well_formed};
+
+/// Which version of the rules a backplane keeps.
+///
+/// In the second a request may be withdrawn, and a grant that nobody took may be timed out.
+#[derive(Clone, Copy, PartialEq, Eq, Debug)]
+pub enum Version {
+    One,
+    Two,
+}
+
+/// Who drives a wire: the controller in slot 1, or the board of a slot.
+#[derive(Clone, Copy, PartialEq, Eq, Debug, Default)]
+pub enum Driver {
+    #[default]
+    Controller,
+    /// Slots are numbered from 1 to 21.
+    Slot(u8),
+}
+
+/// A wire, named by what drives it there.
+#[derive(Clone, Copy, PartialEq, Eq, Debug, Default)]
+pub enum Wire {
+    /// The controller's bus grant of a level, 0 to 3.
+    Bg(u8),
+    /// The controller's bus clear.
+    Bclr,
+    /// The controller's start of the acknowledge daisy chain.
+    Iack,
+    /// The controller's bus error, driven by its bus timer.
+    Berr,
+    /// A board's bus request, at its requester's level.
+    #[default]
+    Br,
+    /// A board's bus grant out, on its requester's chain.
+    BgOut,
+    /// A board's bus busy.
+    Bbsy,
+    /// A board's address group: address lines, IACK* and target.
+    Addr,
+    /// A board's address strobe.
+    AddressStrobe,
+    /// A board's data strobe.
+    DataStrobe,
+    /// A board's interrupt request, at its interrupter's level.
+    Irq,
+    /// A board's acknowledge out.
+    IackOut,
+    /// A board's data transfer acknowledge.
+    Dtack,
+}
+
+/// What an address group that is on shows.
+#[derive(Clone, Copy, PartialEq, Eq, Debug)]
+pub enum Cycle {
+    /// An interrupt acknowledge of a level, 1 to 7.
+    Acknowledge(u8),
+    /// An access to the register of a slot, 1 to 21.
+    Access(u8),
+}
+
+/// One edge of one driver: the atomic step of a backplane.
+///
+/// A fall is a wire going low, or the address group going on; else it is a rise, or the group going off.
+#[derive(Clone, Copy, PartialEq, Eq, Debug, Default)]
+pub struct Edge {
+    pub driver: Driver,
+    pub wire: Wire,
+    pub fall: bool,
+    /// What the address group shows, at a fall of it; none at every other edge.
+    pub value: Option<Cycle>,
+}
+
+/// Whether a backplane can have such a slot.
+fn is_slot(slot: u8) -> bool
+    ensures { result ≡ is_slot slot }
+{
+    (1..=21).contains(&slot)
+}
+
+/// Whether there is such an interrupt level.
+fn is_level(level: u8) -> bool
+    ensures { result ≡ is_level level }
+{
+    (1..=7).contains(&level)
+}
+
+impl Driver {
+    /// Whether the two are one driver.
+    pub fn is_same(self, other: Driver) -> bool
+        ensures { result ≡ is_same_driver self other }
+    {
+        self == other
+    }
+
+    /// Whether such a driver has such a wire, on some backplane.
+    pub fn has_wire(self, wire: Wire) -> bool
+        ensures { result ≡ has_wire self wire }
+    {
+        match (self, wire) {
+            (Driver::Controller, wire) => wire.is_controllers(),
+            (Driver::Slot(_), Wire::Bg(_) | Wire::Bclr | Wire::Iack | Wire::Berr) => false,
+            (Driver::Slot(slot), _) => is_slot(slot),
+        }
+    }
+}
+
+impl Wire {
+    /// Whether the two are one wire.
+    pub fn is_same(self, other: Wire) -> bool
+        ensures { result ≡ is_same_wire self other }
+    {
+        self == other
+    }
+
+    /// Whether this is one of the controller's grants.
+    pub fn is_grant(self) -> bool
+        ensures { result ≡ is_grant_wire self }
+    {
+        matches!(self, Wire::Bg(_))
+    }
+
+    /// Whether the controller has such a wire.
+    pub fn is_controllers(self) -> bool
+        ensures { result ≡ has_wire Driver.Controller self }
+    {
+        match self {
+            Wire::Bg(level) => level < 4,
+            Wire::Bclr | Wire::Iack | Wire::Berr => true,
+            _ => false,
+        }
+    }
+
+    /// The level of a grant, else 0.
+    pub fn grant_level(self) -> u8
+        ensures { result ≡ grant_level self }
+    {
+        match self {
+            Wire::Bg(level) => level,
+            _ => 0,
+        }
+    }
+}
+
+impl Cycle {
+    /// Whether this is an acknowledge, of whatever level.
+    pub fn is_acknowledge(self) -> bool
+        ensures { result ≡ is_acknowledge (Some self) }
+    {
+        matches!(self, Cycle::Acknowledge(_))
+    }
+
+    /// Whether the level or the slot is one that there can be.
+    fn is_in_range(self) -> bool
+        ensures { result ≡ is_in_range self }
+    {
+        match self {
+            Cycle::Acknowledge(level) => is_level(level),
+            Cycle::Access(slot) => is_slot(slot),
+        }
+    }
+}
+
+impl Edge {
+    /// Whether this is an edge of that driver's wire.
+    pub fn is_of(&self, driver: Driver, wire: Wire) -> bool
+        ensures { result ≡ is_edge_of driver wire self.now }
+    {
+        self.wire.is_same(wire) && self.driver.is_same(driver)
+    }
+
+    /// Whether this is a fall of that driver's wire.
+    pub fn is_fall_of(&self, driver: Driver, wire: Wire) -> bool
+        ensures { result ≡ is_fall_of driver wire self.now }
+    {
+        self.fall && self.is_of(driver, wire)
+    }
+
+    /// Whether this is a fall of one of the controller's grants.
+    pub fn is_grant(&self) -> bool
+        ensures { result ≡ is_grant self.now }
+    {
+        self.fall && self.wire.is_grant()
+    }
+
+    /// Whether the driver can have such a wire, slots and levels are in range, and a value stands exactly with a
+    /// fall of the address group.
+    pub fn is_well_formed(&self) -> bool
+        ensures { result ≡ is_well_formed self.now }
+    {
+        let has_value = match (self.wire, self.fall, self.value) {
+            (Wire::Addr, true, value) => value.is_some_and(|cycle| cycle.is_in_range()),
+            (_, _, value) => value.is_none(),
+        };
+        self.driver.has_wire(self.wire) && has_value
+    }
+}
