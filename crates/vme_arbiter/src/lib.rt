@@ -1,9 +1,11 @@
-//! The arbiter's policies: which request of BR0* to BR3* is granted next.
+//! The arbiter: which request of BR0* to BR3* is granted next, and when the controller of slot 1 may drive its wires.
 #![tactic(auto)]
 
+mod arbiters;
 pub mod laws;
 mod policies;
 
+pub use arbiters::Arbiter;
 pub use policies::{AnyPolicy, Policy, Pri, Rrs, Sgl};
 
 #[cfg(test)]

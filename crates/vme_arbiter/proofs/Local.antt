@@ -1,0 +1,87 @@
+-- The controller's answer by the fields is the answer over the edges that were noted.
+use Rattle.std.proofs.Common.{◌≡◌, ◌∙◌, ◌<◌, refl, sym, ap, subst, ℕ, zero, suc, Bool, true, false, List, arith}
+use Rattle.std.specs.Prelude.{◌==◌, ◌&&◌, Option, Some, None}
+use Rattle.std.specs.Option.{option_map_or}
+use Rattle.std.proofs.lemmas.Bool.{ltb-true}
+use Rattle.vme_model.specs.declared.boards.ArbiterKind.{ArbiterKind}
+use Rattle.vme_model.specs.declared.pins.Pins.{Pins}
+use Rattle.vme_model.specs.declared.sets.BusLevels.{BusLevels}
+use Rattle.vme_model.specs.declared.signals.Version.{Version}
+use Rattle.vme_model.specs.declared.signals.Driver.{Driver}
+use Rattle.vme_model.specs.declared.signals.Wire.{Wire}
+use Rattle.vme_model.specs.declared.signals.Wire.TheVariants.{Bg, Bclr, Iack, Berr}
+use Rattle.vme_model.specs.declared.signals.Cycle.{Cycle}
+use Rattle.vme_model.specs.declared.signals.Edge.{Edge}
+use Rattle.vme_model.specs.Signals.{is_grant, is_grant_wire, grant_level}
+use Rattle.vme_model.specs.Sets.{has_bus_level}
+use Rattle.vme_model.specs.History.{last_level}
+use Rattle.vme_model.specs.Rules.{pick, is_pick}
+use Rattle.vme_model.proofs.Picks.{one_pick}
+use Rattle.vme_arbiter.specs.Local.{State, state_of, is_own, local, over, answer}
+
+abbrev edge : Driver → Wire → Bool → Option Cycle → Edge
+edge d w f v = record { driver = d; wire = w; fall = f; value = v }
+
+by_parts : (kind : ArbiterKind) (version : Version) (noted : List Edge) (pins : Pins) (d : Driver) (w : Wire) (f : Bool) (v : Option Cycle) → is_own w ≡ true →
+    answer version (local (state_of kind version noted) pins) (edge d w f v) ≡ answer version (over kind noted pins) (edge d w f v)
+by_parts kind version noted pins d (Bg zero) true v own = refl
+by_parts kind version noted pins d (Bg zero) false v own = refl
+by_parts kind version noted pins d (Bg (suc zero)) true v own = refl
+by_parts kind version noted pins d (Bg (suc zero)) false v own = refl
+by_parts kind version noted pins d (Bg (suc (suc zero))) true v own = refl
+by_parts kind version noted pins d (Bg (suc (suc zero))) false v own = refl
+by_parts kind version noted pins d (Bg (suc (suc (suc zero)))) true v own = refl
+by_parts kind version noted pins d (Bg (suc (suc (suc zero)))) false v own = refl
+by_parts kind version noted pins d (Bg (suc (suc (suc (suc n))))) f v own =
+    absurd (let small = ltb-true (suc (suc (suc (suc n)))) 4 own in omega (arith, small))
+by_parts kind version noted pins d Bclr true v own = refl
+by_parts kind version noted pins d Bclr false v own = refl
+by_parts kind version noted pins d Iack true v own = refl
+by_parts kind version noted pins d Iack false v own = refl
+by_parts kind version noted pins d Berr true v own = refl
+by_parts kind version noted pins d Berr false v own = refl
+by_parts kind version noted pins d w f v own = absurd (cc)
+
+-- a state that a list leads to answers as the list says
+pub answers_over : (kind : ArbiterKind) (version : Version) (noted : List Edge) (state : State) (pins : Pins) (e : Edge) → state ≡ state_of kind version noted → is_own e.wire ≡ true →
+    answer state.version (local state pins) e ≡ answer version (over kind noted pins) e
+answers_over kind version noted state pins e same own =
+    let P : State → Type 0 = λ c. answer c.version (local c pins) e ≡ answer version (over kind noted pins) e in
+    subst P (sym same) (by_parts kind version noted pins e.driver e.wire e.fall e.value own)
+
+-- a grant's level is one of the four
+level_small : (w : Wire) → is_own w ≡ true → is_grant_wire w ≡ true → grant_level w < 4
+level_small (Bg n) own grant = grind arith
+level_small w own grant = absurd (cc)
+
+grant_wire : (f g : Bool) → (f && g) ≡ true → g ≡ true
+grant_wire true g grant = grant
+grant_wire false g grant = absurd (cc)
+
+-- whether a grant is of the picked level
+pub pick_alike : (kind : ArbiterKind) (requests : BusLevels) (last : ℕ) (e : Edge) {picked : Option ℕ} {is_picked : Bool} → is_own e.wire ≡ true →
+    picked ≡ pick kind (has_bus_level requests) last → is_picked ≡ (is_grant e && option_map_or (λ m. m == grant_level e.wire) picked false) → is_grant e ≡ true →
+    is_picked ≡ is_pick kind (has_bus_level requests) last (grant_level e.wire)
+pick_alike kind requests last e {picked} own picks is grant =
+    is
+    ∙ ap (λ g. g && option_map_or (λ m. m == grant_level e.wire) picked false) grant
+    ∙ ap (λ p. option_map_or (λ m. m == grant_level e.wire) p false) picks
+    ∙ sym (one_pick kind (has_bus_level requests) last (grant_level e.wire) (level_small e.wire own (grant_wire e.fall (is_grant_wire e.wire) grant)))
+
+-- a policy's pick, by the state
+pub pick_of : (state : State) (kind : ArbiterKind) (version : Version) (noted : List Edge) (picked : ℕ → Option ℕ) (requests : BusLevels) → state ≡ state_of kind version noted →
+    picked (last_level noted) ≡ pick kind (has_bus_level requests) (last_level noted) → picked state.last_level ≡ pick state.kind (has_bus_level requests) state.last_level
+pick_of state kind version noted picked requests same picks =
+    let P : State → Type 0 = λ c. picked c.last_level ≡ pick c.kind (has_bus_level requests) c.last_level in
+    subst P (sym same) picks
+
+same_level : (picked : Option ℕ) (level : ℕ) → option_map_or (λ m. m == level) picked false ≡ true → picked ≡ Some level
+same_level None level same = absurd (cc)
+same_level (Some m) level same = grind arith
+
+-- a grant that is of the picked level
+pub picked_level : (picked : Option ℕ) (e : Edge) {is_picked : Bool} → is_picked ≡ true →
+    is_picked ≡ (is_grant e && option_map_or (λ m. m == grant_level e.wire) picked false) → is_grant e ≡ true → picked ≡ Some (grant_level e.wire)
+picked_level picked e it is grant =
+    same_level picked (grant_level e.wire)
+    (ap (λ g. g && option_map_or (λ m. m == grant_level e.wire) picked false) (sym grant) ∙ sym is ∙ it)

@@ -1,0 +1,21 @@
+use Rattle.std.proofs.Common.{◌≡◌, ◌∙◌, ap, sym}
+use Rattle.vme_model.specs.Signals.{grant_level}
+use Rattle.vme_model.specs.Sets.{has_bus_level}
+use Rattle.vme_model.specs.Rules.{is_pick}
+use Rattle.vme_arbiter.proofs.Local.{answers_over, pick_alike, pick_of, picked_level}
+use Rattle.vme_arbiter.proofs.arbiters.Arbiter.may.Goals as goal
+
+pub returns-clause-rows : goal.returns-clause-rows
+returns-clause-rows g c = λ kind version noted same own picks.
+    let inside : c.args.self.now.1 ≡ c.self.inside.controller = cc (ap (λ v. v.1) c.self.view_is) in
+    c.judge.ensures.rows own
+    (λ grant. pick_alike c.args.self.now.1.kind c.args.pins.requests c.args.self.now.1.last_level c.args.edge own
+    (pick_of c.args.self.now.1 kind version noted (g.P.Policy.picked c.args.self.now.0 c.args.pins.requests) c.args.pins.requests same (picks grant))
+    c.picks-is_picked.ensures grant
+    ∙ ap (λ s. is_pick s.kind (has_bus_level c.args.pins.requests) s.last_level (grant_level c.args.edge.wire)) inside)
+    ∙ answers_over kind version noted c.self.inside.controller c.args.pins c.args.edge (sym inside ∙ same) own
+
+pub returns-clause-picked : goal.returns-clause-picked
+returns-clause-picked g c = λ grant is.
+    picked_level (g.P.Policy.picked c.args.self.now.0 c.args.pins.requests c.args.self.now.1.last_level) c.args.edge
+    (c.judge.ensures.picked grant is) c.picks-is_picked.ensures grant

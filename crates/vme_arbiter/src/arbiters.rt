@@ -1,0 +1,258 @@
+//! The controller of slot 1: arbiter, daisy-chain driver and bus timer.
+ghost use Rattle.std.specs.Prelude.{◌≡◌, ◌==◌, ◌&&◌, ℕ, true, false, Some, is_ok, nat_lt, [], ◌∷◌, List};
+ghost use Rattle.std.specs.List.{list_any};
+ghost use Rattle.std.specs.Option.{option_map_or};
+ghost use Rattle.vme_model.specs.declared.boards.ArbiterKind.{ArbiterKind as KindValue};
+ghost use Rattle.vme_model.specs.declared.sets.BusLevels.{BusLevels as LevelsValue};
+ghost use Rattle.vme_model.specs.declared.signals.Version.{Version as VersionValue};
+ghost use Rattle.vme_model.specs.declared.signals.Wire.TheVariants.{Bg};
+ghost use Rattle.vme_model.specs.declared.signals.Edge.{Edge as EdgeValue};
+ghost use Rattle.vme_model.specs.Signals.{is_two, is_grant, grant_level};
+ghost use Rattle.vme_model.specs.Sets.{has_bus_level};
+ghost use Rattle.vme_model.specs.History.{last_level};
+ghost use Rattle.vme_model.specs.Rules.{bus_numbers, pick, is_pick, are_grants_high, is_bus_clear_due, rule};
+ghost use Rattle.vme_arbiter.specs.Local.{state_of, is_own, low, local, over, answer};
+
+use crate::policies::Policy;
+use std::marker::Model;
+use vme_model::{ArbiterKind, BusLevels, Driver, Edge, Pins, Refused, Version, Wire};
+
+/// What a controller's own edges left: which of its wires are low, and the level that it last granted.
+#[derive(Clone, Copy, PartialEq, Eq, Debug)]
+struct Controller {
+    kind: ArbiterKind,
+    version: Version,
+    bg0: bool,
+    bg1: bool,
+    bg2: bool,
+    bg3: bool,
+    bclr: bool,
+    iack: bool,
+    berr: bool,
+    last_level: u8,
+}
+
+impl Model for Controller {
+    ghost use Rattle.vme_arbiter.specs.Local.{State};
+
+    ghost Value = { State };
+
+    ghost view = { λ c. record { kind = c.kind; version = c.version; bg0 = c.bg0; bg1 = c.bg1; bg2 = c.bg2; bg3 = c.bg3; bclr = c.bclr; iack = c.iack; berr = c.berr; last_level = c.last_level } };
+
+    ghost inverse = { λ s. record { kind = s.kind; version = s.version; bg0 = s.bg0; bg1 = s.bg1; bg2 = s.bg2; bg3 = s.bg3; bclr = s.bclr; iack = s.iack; berr = s.berr; last_level = s.last_level } };
+}
+
+/// Whether these are the rules of the second version.
+fn is_two(version: Version) -> bool
+    ensures { result ≡ is_two version }
+{
+    matches!(version, Version::Two)
+}
+
+impl Controller {
+    /// A controller before any edge.
+    fn new(kind: ArbiterKind, version: Version) -> Controller
+        ensures { result ≡ state_of kind version [] }
+    {
+        Controller {
+            kind,
+            version,
+            bg0: false,
+            bg1: false,
+            bg2: false,
+            bg3: false,
+            bclr: false,
+            iack: false,
+            berr: false,
+            last_level: 0,
+        }
+    }
+
+    /// Whether it drives the wire low; only the controller's wires are its own.
+    fn is_low(&self, wire: Wire) -> bool
+        ensures { result ≡ low self.now wire }
+    {
+        match wire {
+            Wire::Bg(0) => self.bg0,
+            Wire::Bg(1) => self.bg1,
+            Wire::Bg(2) => self.bg2,
+            Wire::Bg(3) => self.bg3,
+            Wire::Bclr => self.bclr,
+            Wire::Iack => self.iack,
+            Wire::Berr => self.berr,
+            _ => false,
+        }
+    }
+
+    /// Whether each of its grants is high.
+    fn are_grants_high(&self, pins: Pins) -> bool
+        ensures { result ≡ are_grants_high (local self.now pins) }
+    {
+        !(self.bg0 || self.bg1 || self.bg2 || self.bg3)
+    }
+
+    /// Whether a level above the one last granted is requested.
+    fn is_outranked(&self, requests: BusLevels) -> bool
+        ensures { result ≡ list_any (λ m. nat_lt self.now.last_level m && has_bus_level requests m) bus_numbers }
+    {
+        let last = self.last_level;
+        [0, 1, 2, 3]
+            .iter()
+            .any(|level| last < *level && requests.has(*level))
+    }
+
+    /// Whether it has the owner clear the bus: its policy is priority, and a higher level waits.
+    fn is_bus_clear_due(&self, pins: Pins) -> bool
+        ensures { result ≡ is_bus_clear_due (local self.now pins) }
+    {
+        matches!(self.kind, ArbiterKind::Pri)
+            && pins.bbsy
+            && self.are_grants_high(pins)
+            && self.is_outranked(pins.requests)
+    }
+
+    /// The rule that names an edge of its own, and whether its guard holds, where the policy picks the level of a
+    /// grant or does not.
+    fn rule(&self, edge: Edge, pins: Pins, is_picked: bool) -> (u8, bool)
+        ensures picked { is_grant edge ≡ true → result.1 ≡ true → is_picked ≡ true }
+        ensures rows { is_own edge.wire ≡ true → (is_grant edge ≡ true → is_picked ≡ is_pick self.now.kind (has_bus_level pins.requests) self.now.last_level (grant_level edge.wire)) → result ≡ rule self.now.version (local self.now pins) edge.wire edge.fall edge.value }
+    {
+        match (edge.wire, edge.fall) {
+            (Wire::Bg(_), true) => (1, self.are_grants_high(pins) && !pins.bbsy && is_picked),
+            (Wire::Bg(_), false) => (2, is_two(self.version) || pins.bbsy),
+            (Wire::Bclr, true) => (3, self.is_bus_clear_due(pins)),
+            (Wire::Bclr, false) => (4, !self.is_bus_clear_due(pins)),
+            (Wire::Iack, true) => (
+                5,
+                pins.address_strobe
+                    && pins.data_strobe
+                    && pins.shown.is_some_and(|cycle| cycle.is_acknowledge()),
+            ),
+            (Wire::Iack, false) => (6, !pins.address_strobe),
+            (_, true) => (7, pins.data_strobe && !pins.dtack),
+            (_, false) => (8, !pins.data_strobe),
+        }
+    }
+
+    /// The answer to an edge of its own by the fields, where the policy picks the level of a grant or does not.
+    fn judge(&self, edge: Edge, pins: Pins, is_picked: bool) -> Result<(), Refused>
+        ensures picked { is_grant edge ≡ true → is_ok result ≡ true → is_picked ≡ true }
+        ensures rows { is_own edge.wire ≡ true → (is_grant edge ≡ true → is_picked ≡ is_pick self.now.kind (has_bus_level pins.requests) self.now.last_level (grant_level edge.wire)) → result ≡ answer self.now.version (local self.now pins) edge }
+    {
+        if self.is_low(edge.wire) == edge.fall {
+            return Err(Refused::AlreadyThere);
+        }
+        let (number, holds) = self.rule(edge, pins, is_picked);
+        if !holds {
+            return Err(Refused::Rule(number));
+        }
+        Ok(())
+    }
+
+    /// The level last granted, 0 at power-up.
+    fn last_level(&self) -> u8
+        ensures { result ≡ self.now.last_level }
+    {
+        self.last_level
+    }
+
+    /// Takes in an edge that was made.
+    fn note(&mut self, edge: Edge)
+        ensures { (kind : KindValue) (version : VersionValue) (noted : List EdgeValue) → self.old ≡ state_of kind version noted → self.new ≡ state_of kind version (edge ∷ noted) }
+    {
+        if edge.is_grant() {
+            self.last_level = edge.wire.grant_level();
+        }
+        if edge.driver.is_same(Driver::Controller) {
+            match edge.wire {
+                Wire::Bg(0) => self.bg0 = edge.fall,
+                Wire::Bg(1) => self.bg1 = edge.fall,
+                Wire::Bg(2) => self.bg2 = edge.fall,
+                Wire::Bg(3) => self.bg3 = edge.fall,
+                Wire::Bclr => self.bclr = edge.fall,
+                Wire::Iack => self.iack = edge.fall,
+                Wire::Berr => self.berr = edge.fall,
+                _ => {}
+            }
+        }
+    }
+}
+
+/// An arbiter over a policy, with the controller's daisy-chain driver and bus timer.
+///
+/// A clause sees it as its policy and its local state.
+#[derive(Clone, Copy, PartialEq, Eq, Debug)]
+pub struct Arbiter<P> {
+    policy: P,
+    controller: Controller,
+}
+
+impl<P> Model for Arbiter<P> {
+    ghost use Rattle.vme_arbiter.specs.Local.{State};
+
+    ghost Value = { P × State };
+
+    ghost view = { λ a. (a.policy, a.controller) };
+
+    ghost inverse = { λ v. record { policy = v.0; controller = v.1 } };
+}
+
+impl<P: Policy> Arbiter<P> {
+    /// The arbiter over a policy before any edge, under that version of the rules. Its kind says whether it drives
+    /// BCLR*, as a priority arbiter alone does.
+    pub fn new(policy: P, kind: ArbiterKind, version: Version) -> Arbiter<P>
+        ensures { result ≡ (policy, state_of kind version []) }
+    {
+        Arbiter {
+            policy,
+            controller: Controller::new(kind, version),
+        }
+    }
+
+    /// Whether the controller drives the wire low; only `bg0` to `bg3`, `bclr`, `iack` and `berr` are its own.
+    pub fn is_low(&self, wire: Wire) -> bool
+        ensures { result ≡ low self.now.1 wire }
+    {
+        self.controller.is_low(wire)
+    }
+
+    /// Whether an edge is a grant of the level that the policy picks of those requested.
+    fn picks(&self, edge: Edge, requests: BusLevels) -> bool
+        ensures { result ≡ (is_grant edge && option_map_or (λ m. m == grant_level edge.wire) (P.picked self.now.0 requests self.now.1.last_level) false) }
+    {
+        edge.is_grant() && self.is_pick(edge.wire.grant_level(), requests)
+    }
+
+    /// Whether the policy picks the level of those requested.
+    fn is_pick(&self, level: u8, requests: BusLevels) -> bool
+        ensures { result ≡ option_map_or (λ m. m == level) (P.picked self.now.0 requests self.now.1.last_level) false }
+    {
+        self.policy
+            .pick(requests, self.controller.last_level())
+            .is_some_and(|picked| picked == level)
+    }
+
+    /// Whether the rules G1 to G8 allow an edge of the controller's wires. The settling rules S2 to S4, which look at
+    /// boards, are not its to see. It is told its pins.
+    ///
+    /// Whatever the policy, a grant is of the level that it picks. Where its pick is that of the arbiter's kind, the
+    /// answer is the table's.
+    ///
+    /// # Errors
+    /// E2 where the wire is in that state, else E3 where the rule's guard fails.
+    pub fn may(&self, edge: Edge, pins: Pins) -> Result<(), Refused>
+        ensures picked { is_grant edge ≡ true → is_ok result ≡ true → P.picked self.now.0 pins.requests self.now.1.last_level ≡ Some (grant_level edge.wire) }
+        ensures rows { (kind : KindValue) (version : VersionValue) (noted : List EdgeValue) → self.now.1 ≡ state_of kind version noted → is_own edge.wire ≡ true → (is_grant edge ≡ true → P.picked self.now.0 pins.requests (last_level noted) ≡ pick kind (has_bus_level pins.requests) (last_level noted)) → result ≡ answer version (over kind noted pins) edge }
+    {
+        let is_picked = self.picks(edge, pins.requests);
+        self.controller.judge(edge, pins, is_picked)
+    }
+
+    /// Takes in an edge that was made; one of another driver changes no wire of the controller's.
+    pub fn note(&mut self, edge: Edge)
+        ensures policy { self.new.0 ≡ self.old.0 }
+        ensures state { (kind : KindValue) (version : VersionValue) (noted : List EdgeValue) → self.old.1 ≡ state_of kind version noted → self.new.1 ≡ state_of kind version (edge ∷ noted) }
+    {
+        self.controller.note(edge);
+    }
+}

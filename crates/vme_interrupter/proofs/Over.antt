@@ -1,0 +1,59 @@
+-- The answer by the fields is the answer over the edges that were noted.
+use Rattle.std.proofs.Common.{◌≡◌, refl, sym, subst, ap, Bool, true, false, List, ℕ}
+use Rattle.std.specs.Prelude.{◌&&◌, not, Option, Some, None, Ok}
+use Rattle.vme_model.specs.declared.boards.InterrupterRow.{InterrupterRow}
+use Rattle.vme_model.specs.declared.pins.Pins.{Pins}
+use Rattle.vme_model.specs.declared.signals.Version.{Version}
+use Rattle.vme_model.specs.declared.signals.Version.TheVariants.{One}
+use Rattle.vme_model.specs.declared.signals.Driver.{Driver}
+use Rattle.vme_model.specs.declared.signals.Driver.TheVariants.{Slot}
+use Rattle.vme_model.specs.declared.signals.Wire.{Wire}
+use Rattle.vme_model.specs.declared.signals.Wire.TheVariants.{Irq, IackOut, Dtack}
+use Rattle.vme_model.specs.declared.signals.Cycle.{Cycle}
+use Rattle.vme_model.specs.declared.signals.Cycle.TheVariants.{Acknowledge, Access}
+use Rattle.vme_model.specs.declared.refusals.Refused.TheVariants.{AlreadyThere, Rule}
+use Rattle.vme_model.specs.declared.signals.Edge.{Edge}
+use Rattle.vme_model.specs.History.{drive}
+use Rattle.vme_model.specs.Rules.{is_passed_by, may_answer}
+use Rattle.vme_model.specs.Verdict.{Judgement, check, is_other_state}
+use Rattle.vme_interrupter.specs.Local.{Noted, State, edges, state_of, is_own, local, over, answer}
+
+abbrev edge : Driver → Wire → Bool → Option Cycle → Edge
+edge d w f v = record { driver = d; wire = w; fall = f; value = v }
+
+-- whatever is shown, it is passed on alike
+passed_alike : (s : ℕ) (row : Option InterrupterRow) (noted : List Noted) (pins : Pins) (shown : Option Cycle) →
+    is_passed_by (local (state_of s row noted) pins) shown ≡ is_passed_by (over s row noted pins) shown
+passed_alike s row noted pins None = refl
+passed_alike s row noted pins (Some (Acknowledge level)) = refl
+passed_alike s row noted pins (Some (Access t)) = refl
+
+-- and answered
+answered_alike : (s : ℕ) (row : Option InterrupterRow) (noted : List Noted) (pins : Pins) (shown : Option Cycle) →
+    may_answer (local (state_of s row noted) pins) shown ≡ may_answer (over s row noted pins) shown
+answered_alike s row noted pins None = refl
+answered_alike s row noted pins (Some (Acknowledge level)) = refl
+answered_alike s row noted pins (Some (Access t)) = refl
+
+abbrev after : ℕ → List Noted → Wire → Judgement → Judgement
+after s noted w rest = check (is_other_state (drive (edges noted) (Slot s) w) true) AlreadyThere rest
+
+-- one rule names a wire and a direction, in both versions
+by_parts : (version : Version) (s : ℕ) (row : Option InterrupterRow) (noted : List Noted) (pins : Pins) (d : Driver) (w : Wire) (f : Bool) (v : Option Cycle) → is_own w ≡ true →
+    answer One (local (state_of s row noted) pins) (edge d w f v) ≡ answer version (over s row noted pins) (edge d w f v)
+by_parts version s row noted pins d Irq true v own = refl
+by_parts version s row noted pins d Irq false v own = refl
+by_parts version s row noted pins d IackOut true v own =
+    ap (λ b. after s noted IackOut (check (pins.iack_in && not (drive (edges noted) (Slot s) Dtack) && pins.data_strobe && b) (Rule 23) (Ok tt))) (passed_alike s row noted pins pins.shown)
+by_parts version s row noted pins d IackOut false v own = refl
+by_parts version s row noted pins d Dtack true v own =
+    ap (λ b. after s noted Dtack (check (pins.data_strobe && pins.address_strobe && b) (Rule 25) (Ok tt))) (answered_alike s row noted pins pins.shown)
+by_parts version s row noted pins d Dtack false v own = refl
+by_parts version s row noted pins d w f v own = absurd (cc)
+
+-- a state that a list leads to answers as the list says
+pub answers_over : (version : Version) (state : State) (noted : List Noted) (pins : Pins) (e : Edge) → state ≡ state_of state.slot state.row noted → is_own e.wire ≡ true →
+    answer One (local state pins) e ≡ answer version (over state.slot state.row noted pins) e
+answers_over version state noted pins e same own =
+    let P : State → Type 0 = λ i. answer One (local i pins) e ≡ answer version (over state.slot state.row noted pins) e in
+    subst P (sym same) (by_parts version state.slot state.row noted pins e.driver e.wire e.fall e.value own)

@@ -1,0 +1,204 @@
+//! The interrupter of one board.
+ghost use Rattle.std.specs.Prelude.{◌≡◌, ◌==◌, ◌&&◌, ◌||◌, not, if◌then◌else◌, ℕ, true, false, Option as OptionValue, [], ◌∷◌, List};
+ghost use Rattle.std.specs.Option.{option_map_or};
+ghost use Rattle.vme_model.specs.History.{serves};
+ghost use Rattle.vme_model.specs.declared.boards.InterrupterRow.{InterrupterRow as RowValue};
+ghost use Rattle.vme_model.specs.declared.pins.Pins.{Pins as PinsValue};
+ghost use Rattle.vme_model.specs.declared.signals.Version.{Version};
+ghost use Rattle.vme_model.specs.declared.signals.Version.TheVariants.{One};
+ghost use Rattle.vme_model.specs.Readings.{is_pending};
+ghost use Rattle.vme_model.specs.Rules.{is_passed_by, may_answer, rule};
+ghost use Rattle.vme_interrupter.specs.Local.{Noted, state_of, serves_board, is_own, low, local, over, answer};
+
+use std::marker::Model;
+use vme_model::{Cycle, Driver, Edge, InterrupterRow, IrqKind, Pins, Refused, Wire};
+
+/// A board's interrupter with its data transfer acknowledge, as what its own edges left: which of its wires are low,
+/// and whether its request was served.
+#[derive(Clone, Copy, PartialEq, Eq, Debug)]
+pub struct Interrupter {
+    slot: u8,
+    row: Option<InterrupterRow>,
+    irq: bool,
+    iackout: bool,
+    dtack: bool,
+    is_served: bool,
+}
+
+impl Model for Interrupter {
+    ghost use Rattle.vme_interrupter.specs.Local.{State};
+
+    ghost Value = { State };
+
+    ghost view = { λ i. record { slot = i.slot; row = i.row; irq = i.irq; iackout = i.iackout; dtack = i.dtack; is_served = i.is_served } };
+
+    ghost inverse = { λ s. record { slot = s.slot; row = s.row; irq = s.irq; iackout = s.iackout; dtack = s.dtack; is_served = s.is_served } };
+}
+
+/// Whether an answer while this is shown serves an interrupter of the kind: ROAK an acknowledge, RORA an access.
+fn serves(kind: IrqKind, shown: Option<Cycle>) -> bool
+    ensures { result ≡ serves kind shown }
+{
+    match (kind, shown) {
+        (IrqKind::Roak, Some(Cycle::Acknowledge(_))) => true,
+        (IrqKind::Rora, Some(Cycle::Access(_))) => true,
+        _ => false,
+    }
+}
+
+impl Interrupter {
+    /// The interrupter of the board in a slot, before any edge; with no row the board has none, and answers accesses
+    /// alone.
+    pub fn new(slot: u8, row: Option<InterrupterRow>) -> Interrupter
+        ensures { result ≡ state_of slot row [] }
+    {
+        Interrupter {
+            slot,
+            row,
+            irq: false,
+            iackout: false,
+            dtack: false,
+            is_served: false,
+        }
+    }
+
+    /// Whether it drives the wire low; only `irq`, `iackout` and `dtack` are its own.
+    pub fn is_low(&self, wire: Wire) -> bool
+        ensures { result ≡ low self.now wire }
+    {
+        match wire {
+            Wire::Irq => self.irq,
+            Wire::IackOut => self.iackout,
+            Wire::Dtack => self.dtack,
+            _ => false,
+        }
+    }
+
+    /// Whether the board asks at the level: its interrupter has that level, its request is low, and it gave no answer
+    /// that serves it since it requested.
+    pub fn is_pending(&self, level: u8) -> bool
+        ensures { (noted : List Noted) (pins : PinsValue) → self.now ≡ state_of self.now.slot self.now.row noted → result ≡ is_pending (over self.now.slot self.now.row noted pins) level }
+    {
+        self.asks(level)
+    }
+
+    /// The same by the fields.
+    fn asks(&self, level: u8) -> bool
+        ensures { result ≡ (option_map_or (λ i. i.level == level) self.now.row false && self.now.irq && not self.now.is_served) }
+    {
+        self.has_level(level) && self.irq && !self.is_served
+    }
+
+    /// Whether its interrupter has that level.
+    fn has_level(&self, level: u8) -> bool
+        ensures { result ≡ option_map_or (λ i. i.level == level) self.now.row false }
+    {
+        self.row
+            .is_some_and(|interrupter| interrupter.level == level)
+    }
+
+    /// Whether it passes an acknowledge on that is shown.
+    fn is_passed_by(&self, pins: Pins) -> bool
+        ensures { result ≡ is_passed_by (local self.now pins) pins.shown }
+    {
+        match pins.shown {
+            Some(Cycle::Acknowledge(level)) => !self.asks(level),
+            _ => false,
+        }
+    }
+
+    /// Whether it answers what is shown: an acknowledge that reached it, or an access to its slot.
+    fn may_answer(&self, pins: Pins) -> bool
+        ensures { result ≡ may_answer (local self.now pins) pins.shown }
+    {
+        match pins.shown {
+            Some(Cycle::Acknowledge(level)) => pins.iack_in && !self.iackout && self.asks(level),
+            Some(Cycle::Access(slot)) => self.slot == slot,
+            None => false,
+        }
+    }
+
+    /// The rule that names an edge of its own, and whether its guard holds.
+    fn rule(&self, edge: Edge, pins: Pins) -> (u8, bool)
+        ensures { is_own edge.wire ≡ true → result ≡ rule One (local self.now pins) edge.wire edge.fall edge.value }
+    {
+        match (edge.wire, edge.fall) {
+            (Wire::Irq, true) => (21, true),
+            (Wire::Irq, false) => (22, self.is_served),
+            (Wire::IackOut, true) => (
+                23,
+                pins.iack_in && !self.dtack && pins.data_strobe && self.is_passed_by(pins),
+            ),
+            (Wire::IackOut, false) => (24, !pins.address_strobe),
+            (_, true) => (
+                25,
+                pins.data_strobe && pins.address_strobe && self.may_answer(pins),
+            ),
+            (_, false) => (26, !pins.data_strobe),
+        }
+    }
+
+    /// Whether the rules G21 to G26 allow an edge of its own wires. It is told its pins.
+    ///
+    /// # Errors
+    /// E2 where the wire is in that state, else E3 where the rule's guard fails.
+    pub fn may(&self, edge: Edge, pins: Pins) -> Result<(), Refused>
+        ensures { (version : Version) (noted : List Noted) → self.now ≡ state_of self.now.slot self.now.row noted → is_own edge.wire ≡ true → result ≡ answer version (over self.now.slot self.now.row noted pins) edge }
+    {
+        self.judge(edge, pins)
+    }
+
+    /// The answer to an edge of its own, by the fields.
+    fn judge(&self, edge: Edge, pins: Pins) -> Result<(), Refused>
+        ensures { is_own edge.wire ≡ true → result ≡ answer One (local self.now pins) edge }
+    {
+        if self.is_low(edge.wire) == edge.fall {
+            return Err(Refused::AlreadyThere);
+        }
+        let (number, holds) = self.rule(edge, pins);
+        if !holds {
+            return Err(Refused::Rule(number));
+        }
+        Ok(())
+    }
+
+    /// Whether an answer while this is shown serves its interrupter.
+    fn is_served_by(&self, shown: Option<Cycle>) -> bool
+        ensures { result ≡ serves_board self.now.row shown }
+    {
+        self.row
+            .is_some_and(|interrupter| serves(interrupter.kind, shown))
+    }
+
+    /// Takes in an edge that was made, with what was shown just before it; one of another driver or wire changes
+    /// nothing.
+    pub fn note(&mut self, edge: Edge, shown: Option<Cycle>)
+        ensures { (s : ℕ) (row : OptionValue RowValue) (noted : List Noted) → self.old ≡ state_of s row noted → self.new ≡ state_of s row ((edge, shown) ∷ noted) }
+    {
+        if edge.driver.is_same(Driver::Slot(self.slot)) {
+            match (edge.wire, edge.fall) {
+                (Wire::Irq, fall) => self.request(fall),
+                (Wire::IackOut, fall) => self.iackout = fall,
+                (Wire::Dtack, true) => self.answer(shown),
+                (Wire::Dtack, false) => self.dtack = false,
+                _ => {}
+            }
+        }
+    }
+
+    /// Its request falls or rises.
+    fn request(&mut self, fall: bool)
+        ensures { self.new ≡ record self.old { irq = fall; is_served = if fall then false else self.old.is_served } }
+    {
+        self.irq = fall;
+        self.is_served = !fall && self.is_served;
+    }
+
+    /// It answers while this is shown.
+    fn answer(&mut self, shown: Option<Cycle>)
+        ensures { self.new ≡ record self.old { dtack = true; is_served = serves_board self.old.row shown || self.old.is_served } }
+    {
+        self.dtack = true;
+        self.is_served = self.is_served_by(shown) || self.is_served;
+    }
+}

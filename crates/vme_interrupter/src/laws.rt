@@ -1,0 +1,29 @@
+//! What an interrupter notes, beside the history of its backplane.
+ghost use Rattle.std.specs.Prelude.{◌≡◌, ℕ, true, false, Option, List, ◌∷◌};
+ghost use Rattle.vme_model.specs.declared.boards.InterrupterRow.{InterrupterRow};
+ghost use Rattle.vme_model.specs.declared.boards.Row.{Row};
+ghost use Rattle.vme_model.specs.declared.signals.Cycle.{Cycle};
+ghost use Rattle.vme_model.specs.declared.signals.Driver.{Driver};
+ghost use Rattle.vme_model.specs.declared.signals.Driver.TheVariants.{Slot};
+ghost use Rattle.vme_model.specs.declared.signals.Wire.TheVariants.{Dtack};
+ghost use Rattle.vme_model.specs.declared.signals.Edge.{Edge};
+ghost use Rattle.vme_model.specs.Signals.{is_fall_of};
+ghost use Rattle.vme_model.specs.Plan.{Plan, board_of};
+ghost use Rattle.vme_model.specs.Readings.{is_served};
+ghost use Rattle.std.specs.Prelude.{Some};
+ghost use Rattle.vme_interrupter.specs.Local.{Noted, edges, served, state_of, seen};
+
+/// Noted as they are made, the edges are the history.
+pub fn notes_history()
+    ensures { (p : Plan) (h : List Edge) → edges (seen p h) ≡ h }
+{}
+
+/// Noted as they are made, they say of each board whether it was served what the history says.
+pub fn notes_service()
+    ensures { (p : Plan) (h : List Edge) (d : Driver) (row : Row) → board_of p d ≡ Some row → served (seen p h) d row.interrupter ≡ is_served p h d }
+{}
+
+/// What is shown counts at the board's own `dtack-` alone.
+pub fn reads_shown_at_answers()
+    ensures { (s : ℕ) (row : Option InterrupterRow) (e : Edge) (one other : Option Cycle) (noted : List Noted) → is_fall_of (Slot s) Dtack e ≡ false → state_of s row ((e, one) ∷ noted) ≡ state_of s row ((e, other) ∷ noted) }
+{}

@@ -1,0 +1,9 @@
+//! An open-collector line of a backplane: low while at least one driver pulls it low.
+#![tactic(auto)]
+
+mod lines;
+
+pub use lines::OrLine;
+
+#[cfg(test)]
+mod tests;

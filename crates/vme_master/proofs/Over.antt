@@ -1,0 +1,37 @@
+-- The answer by the fields is the answer over the edges that were noted.
+use Rattle.std.proofs.Common.{◌≡◌, refl, sym, subst, Bool, true, false, List, ℕ}
+use Rattle.std.specs.Prelude.{Option}
+use Rattle.vme_model.specs.declared.boards.RequesterRow.{RequesterRow}
+use Rattle.vme_model.specs.declared.pins.Pins.{Pins}
+use Rattle.vme_model.specs.declared.sets.Levels.{Levels}
+use Rattle.vme_model.specs.declared.signals.Version.{Version}
+use Rattle.vme_model.specs.declared.signals.Version.TheVariants.{One}
+use Rattle.vme_model.specs.declared.signals.Driver.{Driver}
+use Rattle.vme_model.specs.declared.signals.Driver.TheVariants.{Slot}
+use Rattle.vme_model.specs.declared.signals.Wire.{Wire}
+use Rattle.vme_model.specs.declared.signals.Wire.TheVariants.{Addr, AddressStrobe, DataStrobe}
+use Rattle.vme_model.specs.declared.signals.Cycle.{Cycle}
+use Rattle.vme_model.specs.declared.signals.Edge.{Edge}
+use Rattle.vme_model.specs.History.{cycles}
+use Rattle.vme_master.proofs.Counts.{below_burst}
+use Rattle.vme_master.specs.Local.{State, state_of, is_own, local, over, answer}
+
+abbrev edge : Driver → Wire → Bool → Option Cycle → Edge
+edge d w f v = record { driver = d; wire = w; fall = f; value = v }
+
+by_parts : (version : Version) (s : ℕ) (row : RequesterRow) (handler : Levels) (noted : List Edge) (pins : Pins) (holds_bus : Bool) (d : Driver) (w : Wire) (f : Bool) (v : Option Cycle) → is_own w ≡ true →
+    answer One (local (state_of s row handler noted) pins holds_bus) (edge d w f v) ≡ answer version (over s row handler noted pins holds_bus) (edge d w f v)
+by_parts version s row handler noted pins holds_bus d Addr true v own = rw (below_burst (cycles noted (Slot s)) row.release) refl
+by_parts version s row handler noted pins holds_bus d Addr false v own = refl
+by_parts version s row handler noted pins holds_bus d AddressStrobe true v own = refl
+by_parts version s row handler noted pins holds_bus d AddressStrobe false v own = refl
+by_parts version s row handler noted pins holds_bus d DataStrobe true v own = refl
+by_parts version s row handler noted pins holds_bus d DataStrobe false v own = refl
+by_parts version s row handler noted pins holds_bus d w f v own = absurd (cc)
+
+-- a state that a list leads to answers as the list says
+pub answers_over : (version : Version) (state : State) (noted : List Edge) (pins : Pins) (holds_bus : Bool) (e : Edge) → state ≡ state_of state.slot state.row state.handler noted → is_own e.wire ≡ true →
+    answer One (local state pins holds_bus) e ≡ answer version (over state.slot state.row state.handler noted pins holds_bus) e
+answers_over version state noted pins holds_bus e same own =
+    let P : State → Type 0 = λ m. answer One (local m pins holds_bus) e ≡ answer version (over state.slot state.row state.handler noted pins holds_bus) e in
+    subst P (sym same) (by_parts version state.slot state.row state.handler noted pins holds_bus e.driver e.wire e.fall e.value own)

@@ -1,0 +1,9 @@
+//! A board's bus master: it shows an address, strobes it and the data, and ends its cycle.
+#![tactic(auto)]
+
+mod masters;
+
+pub use masters::Master;
+
+#[cfg(test)]
+mod tests;

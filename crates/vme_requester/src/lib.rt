@@ -1,0 +1,9 @@
+//! A board's bus requester: it asks for the bus, takes a grant or passes it on, and gives the bus up.
+#![tactic(auto)]
+
+mod requesters;
+
+pub use requesters::Requester;
+
+#[cfg(test)]
+mod tests;
