@@ -1,11 +1,9 @@
 //! The program: reads its words, runs an engine on files or on standard input, and answers by its exit status.
 #![tactic(auto)]
 
-mod words;
-
 use std::process::ExitCode;
 use std::{env, io};
-use words::words;
+use vme_words::words;
 
 fn run(rt: &HostRuntime) -> io::Result<ExitCode> {
     let alloc = rt.alloc();

@@ -1,6 +1,8 @@
-//! The words behind the program's name.
+//! The words behind the name of the program `vmebus`, and what they ask for.
+#![tactic(auto)]
+
 ghost use Rattle.std.specs.Prelude.{◌≡◌, ◌≢◌, ◌≤◌, ◌↔◌, IfOk, IfSome, Ok, Some, length};
-ghost use Rattle.vmebus.specs.Limits.{IsWithin};
+ghost use Rattle.vme_words.specs.Limits.{IsWithin};
 
 use clap::error::ErrorKind;
 use clap::{Arg, ArgAction, ArgMatches, Command, Error, value_parser};
@@ -101,16 +103,19 @@ fn version_option<'a>(alloc: Global) -> Result<Arg<'a>, Error> {
 
 fn command<'a>(alloc: Global) -> Result<Command<'a>, Error> {
     let replay = Command::new(alloc, "replay")
+        .bin_name("vmebus replay")?
         .about(REPLAY)
         .after_help(REPLAY_EXAMPLE)
         .arg(scenario_file(alloc))?
         .arg(trace_file(alloc))?;
     let check = Command::new(alloc, "check")
+        .bin_name("vmebus check")?
         .about(CHECK)
         .after_help(CHECK_EXAMPLE)
         .arg(scenario_file(alloc))?
         .arg(trace_file(alloc))?;
     let drive = Command::new(alloc, "drive")
+        .bin_name("vmebus drive")?
         .about(DRIVE)
         .after_help(DRIVE_EXAMPLE)
         .arg(scenario_file(alloc))?

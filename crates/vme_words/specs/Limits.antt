@@ -1,7 +1,7 @@
 -- Jobs whose numbers lie within the limits of the program.
 use Rattle.std.specs.Prelude.{◌≤◌}
-use Rattle.vmebus.specs.declared.words.Job.{Job}
-use Rattle.vmebus.specs.declared.words.Job.TheVariants.{Joined, Replay, Check, Drive}
+use Rattle.vme_words.specs.declared.Job.{Job}
+use Rattle.vme_words.specs.declared.Job.TheVariants.{Joined, Replay, Check, Drive}
 
 -- `drive` makes 1 to 1,048,576 edges
 abbrev pub IsWithin : Job → Type 0

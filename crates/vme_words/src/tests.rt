@@ -1,5 +1,5 @@
 //! What the command line means.
-use super::{Job, words};
+use crate::{Job, words};
 use std::test::Fail;
 use vme_model::Version;
 

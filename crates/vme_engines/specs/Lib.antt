@@ -1,0 +1,4 @@
+pub mod Streams
+pub mod Outcomes
+pub mod Joining
+pub mod Steps
