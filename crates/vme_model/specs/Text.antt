@@ -54,13 +54,13 @@ spelling e = (((driver_text e.driver ++ codes " ") ++ wire_text e.wire) ++ sign 
 abbrev pub Spells : List ℕ → Edge → Type 0
 Spells line e = IsTrue (is_well_formed e) × (line ≡ spelling e)
 
-abbrev all_drivers : List Driver
+abbrev pub all_drivers : List Driver
 all_drivers = Controller ∷ map (λ s. Slot s) (up_to 21)
 
-abbrev all_wires : List Wire
+abbrev pub all_wires : List Wire
 all_wires = Bg 0 ∷ Bg 1 ∷ Bg 2 ∷ Bg 3 ∷ Bclr ∷ Iack ∷ Berr ∷ Br ∷ BgOut ∷ Bbsy ∷ Addr ∷ AddressStrobe ∷ DataStrobe ∷ Irq ∷ IackOut ∷ Dtack ∷ []
 
-abbrev all_values : List (Option Cycle)
+abbrev pub all_values : List (Option Cycle)
 all_values = None ∷ map (λ v. Some (Acknowledge v)) (up_to 7) ++ map (λ t. Some (Access t)) (up_to 21)
 
 -- every well-formed edge
@@ -104,7 +104,7 @@ pub record Reading : Type 0 where
   pub fault : Option TextFault
 
 -- bytes as lines: the complete ones, each without its line feed, and what stands behind the last line feed
-abbrev begin_line : ℕ → List (List ℕ) × List ℕ → List (List ℕ) × List ℕ
+abbrev pub begin_line : ℕ → List (List ℕ) × List ℕ → List (List ℕ) × List ℕ
 begin_line b ([], rest) = ([], b ∷ rest)
 begin_line b (l ∷ ls, rest) = ((b ∷ l) ∷ ls, rest)
 
@@ -144,13 +144,13 @@ abbrev pub behind_header : Option Version → List Edge × Option TextFault → 
 behind_header None others = unread no_header
 behind_header (Some version) others = record { version = Some version; edges = others.0; fault = others.1 }
 
--- the first line is the header
-abbrev pub read_from_header : List (List ℕ) → List ℕ → Reading
-read_from_header [] rest =
-    if is_too_long rest then unread (too_long 1) else (if nat_lt 0 (length rest) then unread cut_off else unread no_header)
-read_from_header (line ∷ lines) rest =
-    if is_too_long line then unread (too_long 1) else behind_header (version_of line) (read_lines 2 lines rest)
+-- the n-th line is the header
+abbrev pub read_from_header : ℕ → List (List ℕ) → List ℕ → Reading
+read_from_header n [] rest =
+    if is_too_long rest then unread (too_long n) else (if nat_lt 0 (length rest) then unread cut_off else unread no_header)
+read_from_header n (line ∷ lines) rest =
+    if is_too_long line then unread (too_long n) else behind_header (version_of line) (read_lines (next_number n) lines rest)
 
 -- what the whole bytes say
 unfoldable pub read_of : List ℕ → Reading
-read_of bytes = read_from_header (split_lines bytes).0 (split_lines bytes).1
+read_of bytes = read_from_header 1 (split_lines bytes).0 (split_lines bytes).1

@@ -1,0 +1,5 @@
+use Rattle.vme_trace.proofs.Guesses.{reads, spelled}
+use Rattle.vme_trace.proofs.laws.line_reads_as_spelled.Goals as goal
+
+pub returns : goal.returns
+returns c = λ line e. (reads line e, spelled line e)

@@ -1,0 +1,24 @@
+use Rattle.std.proofs.Common.{rules, arith}
+use Rattle.std.proofs.lemmas.Result.{err_from_is_err_and}
+use Rattle.vme_trace.proofs.Lines.{no_bytes}
+use Rattle.vme_trace.proofs.Stepping.{taken_none, taken_more, taken_all, taken_fault}
+use Rattle.vme_trace.proofs.reader.take.Goals as goal
+
+pub returns-in_err-rest-clause-fault : goal.returns-in_err-rest-clause-fault
+returns-in_err-rest-clause-fault g c =
+    let p = err_from_is_err_and c.from_residual.result c.from_residual.ensures.1 in
+    rw (p.1, p.2) (taken_fault _ _ _ _ _ _ _ _ _ _ _ c.lines.invariant.so_far c.in_err-rest.ensures.fault)
+
+pub lines-preserved : goal.lines-preserved
+lines-preserved g c = record {
+  part = c.in_ok-rest.ensures.part;
+  so_far =
+      let step = c.in_ok-rest.ensures.ok in
+      taken_more _ _ _ _ _ _ _ _ _ _ _ _ _ c.lines.invariant.so_far step.1 step.2;
+}
+
+pub lines-init : goal.lines-init
+lines-init g c = record { part = c.requires; so_far = taken_none _ _ _ _ }
+
+pub returns-clause-ok : goal.returns-clause-ok
+returns-clause-ok g c = taken_all _ _ _ _ _ _ _ _ c.lines.invariant.so_far (no_bytes _ (grind arith))

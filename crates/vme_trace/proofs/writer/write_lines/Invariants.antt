@@ -1,0 +1,7 @@
+use Rattle.std.proofs.Common.{drop}
+use Rattle.vme_model.specs.Text.{edge_lines}
+use Rattle.vme_trace.proofs.Written.{Wrote}
+use Rattle.vme_trace.proofs.writer.write_lines.Given as goal
+
+abbrev pub invariant-loop-edge : goal.invariant-loop-edge
+invariant-loop-edge g l = Wrote (g.W.Write.contents l.fn.out) (g.W.Write.contents l.out) (edge_lines l.edges) (edge_lines (drop l.edge-index l.edges))

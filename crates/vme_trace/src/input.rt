@@ -1,0 +1,61 @@
+//! Reading a trace from a reader of bytes.
+ghost use Rattle.std.specs.Prelude.{◌≡◌, ◌≤◌, ℕ, List, None, Err, IfOk, IfErr, length, take};
+ghost use Rattle.std.specs.Io.KnownBytes.{Consumes, IsAtEnd, Keeps};
+ghost use Rattle.vme_model.specs.declared.signals.Edge.{Edge};
+ghost use Rattle.vme_trace.specs.Reading.{HasRead, Pumped, ReadsPiece};
+
+use crate::Fault;
+use crate::reader::Reader;
+use std::alloc::Allocator;
+use std::io::{ErrorKind, Read};
+use vme_model::Edge;
+
+/// How often a read is tried while it is interrupted.
+const TRIES: u32 = 65536;
+
+/// One read of up to 512 bytes, fed to the reader: false at the end of the input, where the reader is finished.
+///
+/// Errors: those of `Reader::feed` and `Reader::finish`; X5 where the read failed. A read that was interrupted is tried
+/// again, at most 65,535 times. On a reader that is used up nothing is read.
+pub fn pump<R: Read, A: Allocator>(
+    reader: &mut Reader,
+    input: &mut R,
+    edges: &mut Vec<Edge, A>,
+) -> Result<bool, Fault>
+    ensures reads { (bytes : List ℕ) (es : List Edge) → HasRead reader.old bytes es
+        → Pumped (R.remaining input.old) (R.remaining input.new) bytes es edges.old.items edges.new.items reader.new result }
+    ensures failed { reader.old.place ≡ None → result ≡ Err Fault.Failed }
+    ensures unchanged { reader.old.place ≡ None → reader.new ≡ reader.old }
+    ensures none_appended { reader.old.place ≡ None → edges.new.items ≡ edges.old.items }
+    ensures none_read { reader.old.place ≡ None → input.new ≡ input.old }
+{
+    if reader.is_used_up() {
+        return Err(Fault::Failed);
+    }
+    let mut buffer = [0u8; 512];
+    let Ok(count) = read_piece(input, &mut buffer) else {
+        reader.give_up();
+        return Err(Fault::Read);
+    };
+    if count == 0 {
+        reader.finish()?;
+        return Ok(false);
+    }
+    reader.feed(&buffer[..count], edges)?;
+    Ok(true)
+}
+
+/// One read that was not interrupted.
+fn read_piece<R: Read>(input: &mut R, buffer: &mut [u8; 512]) -> Result<usize, Fault>
+    ensures ok { IfOk result (ReadsPiece (R.remaining input.old) (R.remaining input.new) buffer.new) }
+    ensures err { IfErr result (λ fault. Keeps (R.remaining input.old) (R.remaining input.new)) }
+{
+    for _ in 0..TRIES {
+        match input.read(buffer) {
+            Ok(count) => return Ok(count),
+            Err(error) if error.kind() == ErrorKind::Interrupted => {}
+            Err(_) => return Err(Fault::Read),
+        }
+    }
+    Err(Fault::Read)
+}

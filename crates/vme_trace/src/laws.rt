@@ -1,0 +1,19 @@
+//! What the definitions of a trace's text say together.
+ghost use Rattle.std.specs.Prelude.{◌≡◌, ◌↔◌, ℕ, List, Some};
+ghost use Rattle.vme_model.specs.declared.signals.Edge.{Edge};
+ghost use Rattle.vme_model.specs.Text.{edge_of, Spells};
+
+/// A line is read as an edge exactly where it spells that edge.
+pub fn line_reads_as_spelled()
+    ensures { (line : List ℕ) (e : Edge) → (edge_of line ≡ Some e) ↔ Spells line e }
+{}
+
+/// No line spells two edges.
+pub fn line_spells_one_edge()
+    ensures { (line : List ℕ) (d e : Edge) → Spells line d → Spells line e → d ≡ e }
+{}
+
+/// Each edge has one spelling.
+pub fn edge_has_one_spelling()
+    ensures { (a b : List ℕ) (e : Edge) → Spells a e → Spells b e → a ≡ b }
+{}

@@ -1,0 +1,48 @@
+//! The text of a trace: reading it in pieces, and writing it.
+//!
+//! What the text says is `Rattle.vme_model.specs.Text`; what a reader has read of it is `specs/Reading.antt`.
+#![tactic(auto)]
+
+pub mod laws;
+
+mod input;
+mod line;
+mod reader;
+#[cfg(test)]
+mod tests;
+mod writer;
+
+pub use input::pump;
+pub use reader::{Reader, parse};
+pub use writer::{line_of, put, write};
+
+use thiserror::Error;
+
+/// Why a trace could not be read or written.
+#[derive(Clone, Copy, PartialEq, Eq, Debug, Error)]
+pub enum Fault {
+    /// The first line is no header, or there is no line.
+    #[error("X1 the trace does not begin with vme 1 or vme 2")]
+    Header,
+    /// The n-th line, counted from 1, spells no edge.
+    #[error("X2 line {n} is no edge")]
+    Line { n: u64 },
+    /// The n-th line, counted from 1, has more than 64 bytes.
+    #[error("X3 line {n} is over 64 bytes")]
+    TooLong { n: u64 },
+    /// The last line has no line feed.
+    #[error("X4 the trace is cut off")]
+    CutOff,
+    /// A read failed.
+    #[error("X5 the trace cannot be read")]
+    Read,
+    /// A growth of the list of edges was refused.
+    #[error("X6 no memory")]
+    Memory,
+    /// The reader has met a fault or the end before.
+    #[error("X7 the reader is used up")]
+    Failed,
+    /// A write failed, or took no byte.
+    #[error("X8 the output cannot be written")]
+    Write,
+}

@@ -1,0 +1,260 @@
+//! A reader that is fed a trace in pieces.
+ghost use Rattle.std.specs.Prelude.{◌≡◌, ◌≢◌, ◌↔◌, IsTrue, ◌+◌, ◌<◌, ◌≤◌, ◌++◌, ◌∷◌, [], ℕ, List, length, drop, slice_index, None, Some, Err, Ok, OnOk, OnErr, IfOk, IfErr, IsSome, option_map};
+ghost use Rattle.vme_model.specs.declared.signals.Edge.{Edge};
+ghost use Rattle.vme_model.specs.Text.{read_of, version_of};
+ghost use Rattle.vme_trace.specs.Reading.{HasRead, Fed, answer_of, fault_of};
+ghost use Rattle.vme_trace.specs.Taking.{IsOneLine, IsPart, Leads, Fails, place};
+
+use crate::Fault;
+use crate::line::edge_of;
+use arrayvec::ArrayVec;
+use memchr::memchr;
+use std::alloc::Allocator;
+use std::marker::Model;
+use vme_model::{Edge, Version};
+
+/// Reads a trace that comes in pieces, cut anywhere.
+///
+/// It keeps at most one unfinished line. After a fault or the end it is used up: each call answers `Fault::Failed`.
+#[derive(Drop)]
+pub struct Reader {
+    version: Option<Version>,
+    line: u64,
+    part: ArrayVec<u8, 64>,
+    used_up: bool,
+}
+
+impl Model for Reader {
+    ghost use Rattle.std.specs.Prelude.{Some, None, if◌then◌else◌};
+    ghost use Rattle.vme_trace.specs.Reading.{State};
+    ghost use Rattle.vme_trace.specs.Taking.{IsPart, place};
+
+    ghost Value = { State };
+
+    ghost view = { λ r. record { version = r.version; place = if r.used_up then None else Some (place r.line r.part.items) } };
+
+    ghost invariant = { λ r. IsPart r.part.items };
+}
+
+impl Reader {
+    /// A reader before the first byte of a trace.
+    pub fn new() -> Reader
+        ensures { HasRead result [] [] }
+    {
+        Reader {
+            version: None,
+            line: 1,
+            part: ArrayVec::new(),
+            used_up: false,
+        }
+    }
+
+    /// The version that the header line names, once that line was read; a fault or the end leaves it as it is.
+    pub fn version(&self) -> Option<Version>
+        ensures { result ≡ self.now.version }
+    {
+        self.version
+    }
+
+    /// Reads the next piece of the trace, and appends the edges of the lines that it completes.
+    ///
+    /// Errors: the first fault of the trace (X1 to X3) as soon as it stands in the bytes read, behind the edges of the
+    /// lines before it; X6 where the list could not grow; X7 after a fault or the end.
+    pub fn feed<A: Allocator>(&mut self, piece: &[u8], edges: &mut Vec<Edge, A>) -> Result<(), Fault>
+        ensures reads { (bytes : List ℕ) (es : List Edge) → HasRead self.old bytes es
+            → Fed (bytes ++ piece.now) es edges.old.items edges.new.items self.new result }
+        ensures failed { self.old.place ≡ None → result ≡ Err Fault.Failed }
+        ensures unchanged { self.old.place ≡ None → self.new ≡ self.old }
+        ensures none_appended { self.old.place ≡ None → edges.new.items ≡ edges.old.items }
+    {
+        if self.used_up {
+            return Err(Fault::Failed);
+        }
+        let result = take(&mut self.version, &mut self.line, &mut self.part, piece, edges);
+        if result.is_err() {
+            self.used_up = true;
+        }
+        result
+    }
+
+    /// Takes the bytes read so far as the whole trace.
+    ///
+    /// Errors: X4 where the last line has no line feed; X1 where there is no line; X7 after a fault or the end.
+    pub fn finish(&mut self) -> Result<(), Fault>
+        ensures ends { (bytes : List ℕ) (es : List Edge) → HasRead self.old bytes es → result ≡ answer_of (read_of bytes).fault }
+        ensures named { OnOk result (IsSome self.new.version) }
+        ensures used_up { self.new.place ≡ None }
+        ensures version { self.new.version ≡ self.old.version }
+        ensures failed { self.old.place ≡ None → result ≡ Err Fault.Failed }
+    {
+        if self.used_up {
+            return Err(Fault::Failed);
+        }
+        self.used_up = true;
+        if !self.part.is_empty() {
+            return Err(Fault::CutOff);
+        }
+        if self.version.is_none() {
+            return Err(Fault::Header);
+        }
+        Ok(())
+    }
+
+    /// Whether a fault or the end was met.
+    pub(crate) fn is_used_up(&self) -> bool
+        ensures { IsTrue result ↔ (self.now.place ≡ None) }
+    {
+        self.used_up
+    }
+
+    /// Ends the trace where it stands, without a look at it.
+    pub(crate) fn give_up(&mut self)
+        ensures { self.new ≡ record { version = self.old.version; place = None } }
+    {
+        self.used_up = true;
+    }
+}
+
+/// Reads a whole trace, and appends its edges up to its first fault.
+///
+/// Errors: X1 to X4, the first fault of the trace; X6 where the list could not grow.
+pub fn parse<A: Allocator>(bytes: &[u8], edges: &mut Vec<Edge, A>) -> Result<Version, Fault>
+    ensures version { IfOk result (λ version. (read_of bytes.now).version ≡ Some version) }
+    ensures whole { OnOk result ((read_of bytes.now).fault ≡ None) }
+    ensures fault { IfErr result (λ fault. fault ≢ Fault.Memory → option_map fault_of (read_of bytes.now).fault ≡ Some fault) }
+    ensures edges { result ≢ Err Fault.Memory → edges.new.items ≡ edges.old.items ++ (read_of bytes.now).edges }
+    ensures front { (front : List Edge) × (others : List Edge) × ((read_of bytes.now).edges ≡ front ++ others) × (edges.new.items ≡ edges.old.items ++ front) }
+{
+    let mut reader = Reader::new();
+    reader.feed(bytes, edges)?;
+    reader.finish()?;
+    reader.version().ok_or(Fault::Header)
+}
+
+/// Where the first line of the text ends: at its line feed, or at the text's end.
+fn line_end(text: &[u8]) -> usize
+    ensures bound { result ≤ length text.now }
+    ensures clean { (k : ℕ) → k < result → slice_index text.now k ≢ 10 }
+    ensures stops { result < length text.now → slice_index text.now result ≡ 10 }
+{
+    memchr(b'\n', text).unwrap_or(text.len())
+}
+
+/// The version that a header line names.
+fn header_of(line: &[u8]) -> Option<Version>
+    ensures { result ≡ version_of line.now }
+{
+    if line == b"vme 1".as_slice() {
+        Some(Version::One)
+    } else if line == b"vme 2".as_slice() {
+        Some(Version::Two)
+    } else {
+        None
+    }
+}
+
+/// Reads the n-th line, which is complete.
+fn take_line<A: Allocator>(
+    version: &mut Option<Version>,
+    n: &mut u64,
+    line: &[u8],
+    edges: &mut Vec<Edge, A>,
+) -> Result<(), Fault>
+    requires { IsOneLine line.now }
+    ensures ok { OnOk result (Leads version.old (place n.old []) (line.now ++ 10 ∷ []) edges.old.items edges.new.items version.new (place n.new [])) }
+    ensures fault { IfErr result (Fails version.old (place n.old []) (line.now ++ 10 ∷ []) edges.old.items edges.new.items version.new) }
+{
+    if line.len() > 64 {
+        return Err(Fault::TooLong { n: *n });
+    }
+    match *version {
+        None => {
+            let Some(named) = header_of(line) else {
+                return Err(Fault::Header);
+            };
+            *version = Some(named);
+        }
+        Some(_) => {
+            let Some(edge) = edge_of(line) else {
+                return Err(Fault::Line { n: *n });
+            };
+            if edges.push(edge).is_err() {
+                return Err(Fault::Memory);
+            }
+        }
+    }
+    *n = n.saturating_add(1);
+    Ok(())
+}
+
+/// Reads the n-th line, whose front is the part and whose rest is the tail.
+fn take_joined<A: Allocator>(
+    version: &mut Option<Version>,
+    n: &mut u64,
+    part: &mut ArrayVec<u8, 64>,
+    tail: &[u8],
+    edges: &mut Vec<Edge, A>,
+) -> Result<(), Fault>
+    requires part { IsPart part.old.items }
+    requires tail { IsOneLine tail.now }
+    ensures part { IsPart part.new.items }
+    ensures ok { OnOk result (Leads version.old (place n.old part.old.items) (tail.now ++ 10 ∷ []) edges.old.items edges.new.items version.new (place n.new part.new.items)) }
+    ensures fault { IfErr result (Fails version.old (place n.old part.old.items) (tail.now ++ 10 ∷ []) edges.old.items edges.new.items version.new) }
+{
+    if part.is_empty() {
+        return take_line(version, n, tail, edges);
+    }
+    if part.try_extend_from_slice(tail).is_err() {
+        return Err(Fault::TooLong { n: *n });
+    }
+    let result = take_line(version, n, part.as_slice(), edges);
+    part.clear();
+    result
+}
+
+/// Reads a front of the piece, a line or all of it, and gives the rest.
+fn take_front<'a, A: Allocator>(
+    version: &mut Option<Version>,
+    n: &mut u64,
+    part: &mut ArrayVec<u8, 64>,
+    piece: &'a [u8],
+    edges: &mut Vec<Edge, A>,
+) -> Result<&'a [u8], Fault>
+    requires part { IsPart part.old.items }
+    requires some { 0 < length piece.now }
+    ensures part { IsPart part.new.items }
+    ensures shorter { IfOk result (λ rest. length rest.now < length piece.now) }
+    ensures ok { IfOk result (λ rest. (taken : List ℕ) × (piece.now ≡ taken ++ rest.now)
+        × Leads version.old (place n.old part.old.items) taken edges.old.items edges.new.items version.new (place n.new part.new.items)) }
+    ensures fault { IfErr result (Fails version.old (place n.old part.old.items) piece.now edges.old.items edges.new.items version.new) }
+{
+    let end = line_end(piece);
+    if end < piece.len() {
+        take_joined(version, n, part, &piece[..end], edges)?;
+        return Ok(&piece[end + 1..]);
+    }
+    if part.try_extend_from_slice(piece).is_err() {
+        return Err(Fault::TooLong { n: *n });
+    }
+    Ok(&piece[end..])
+}
+
+/// Reads a piece.
+fn take<A: Allocator>(
+    version: &mut Option<Version>,
+    n: &mut u64,
+    part: &mut ArrayVec<u8, 64>,
+    piece: &[u8],
+    edges: &mut Vec<Edge, A>,
+) -> Result<(), Fault>
+    requires { IsPart part.old.items }
+    ensures part { IsPart part.new.items }
+    ensures ok { OnOk result (Leads version.old (place n.old part.old.items) piece.now edges.old.items edges.new.items version.new (place n.new part.new.items)) }
+    ensures fault { IfErr result (Fails version.old (place n.old part.old.items) piece.now edges.old.items edges.new.items version.new) }
+{
+    let mut rest = piece;
+    'lines: while !rest.is_empty() {
+        rest = take_front(version, n, part, rest, edges)?;
+    }
+    Ok(())
+}

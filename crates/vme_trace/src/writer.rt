@@ -1,0 +1,156 @@
+//! Writing a trace.
+ghost use Rattle.std.specs.Prelude.{◌≡◌, ◌+◌, ◌<◌, ◌≤◌, ◌++◌, ◌∷◌, [], length, IsTrue, IfErr, OnOk, OnErr, All};
+ghost use Rattle.std.specs.Io.KnownBytes.{Appends};
+ghost use Rattle.arrayvec.specs.ArrayVec.{array_vec_len};
+ghost use Rattle.vme_model.specs.Signals.{is_well_formed};
+ghost use Rattle.vme_model.specs.Text.{wire_text, number, spelling, text, header, edge_lines};
+ghost use Rattle.vme_trace.specs.Writing.{AppendsFront, HasText, edge_line};
+
+use crate::Fault;
+use arrayvec::ArrayVec;
+use std::io::Write;
+use vme_model::{Cycle, Driver, Edge, Version, Wire};
+
+/// Room for any line of a trace: the longest has 12 bytes and a line feed.
+const LINE: usize = 16;
+
+/// Writes all the bytes.
+///
+/// Errors: X8 where a write failed or took no byte; a front of the bytes was then written.
+pub fn put<W: Write>(out: &mut W, bytes: &[u8]) -> Result<(), Fault>
+    ensures ok { OnOk result (Appends (W.contents out.old) (W.contents out.new) bytes.now) }
+    ensures front { OnErr result (AppendsFront (W.contents out.old) (W.contents out.new) bytes.now) }
+    ensures fault { IfErr result (λ fault. fault ≡ Fault.Write) }
+{
+    let mut rest = bytes;
+    'writes: while !rest.is_empty() {
+        match out.write(rest) {
+            Err(_) | Ok(0) => return Err(Fault::Write),
+            Ok(count) => rest = &rest[count..],
+        }
+    }
+    Ok(())
+}
+
+/// The word of a wire; a grant's level is below 4.
+fn word_of(wire: Wire) -> &'static [u8]
+    requires { HasText wire }
+    ensures text { result.now ≡ wire_text wire }
+    ensures short { length result.now ≤ 7 }
+{
+    match wire {
+        Wire::Bg(0) => b"bg0",
+        Wire::Bg(1) => b"bg1",
+        Wire::Bg(2) => b"bg2",
+        Wire::Bg(_) => b"bg3",
+        Wire::Bclr => b"bclr",
+        Wire::Iack => b"iack",
+        Wire::Berr => b"berr",
+        Wire::Br => b"br",
+        Wire::BgOut => b"bgout",
+        Wire::Bbsy => b"bbsy",
+        Wire::Addr => b"addr",
+        Wire::AddressStrobe => b"as",
+        Wire::DataStrobe => b"ds",
+        Wire::Irq => b"irq",
+        Wire::IackOut => b"iackout",
+        Wire::Dtack => b"dtack",
+    }
+}
+
+/// Appends a number in decimal.
+fn push_number(line: &mut ArrayVec<u8, LINE>, n: u8)
+    requires small { n < 100 }
+    requires room { array_vec_len line.old + 2 ≤ 16 }
+    ensures { line.new.items ≡ line.old.items ++ number n }
+{
+    if n >= 10 {
+        line.push(b'0' + n / 10);
+    }
+    line.push(b'0' + n % 10);
+}
+
+/// Appends a text.
+fn push_text(line: &mut ArrayVec<u8, LINE>, text: &[u8])
+    requires { array_vec_len line.old + length text.now ≤ 16 }
+    ensures { line.new.items ≡ line.old.items ++ text.now }
+{
+    if line.try_extend_from_slice(text).is_err() {
+        unreachable!()
+    }
+}
+
+/// The spelling of an edge.
+pub(crate) fn spelling_of(edge: &Edge) -> ArrayVec<u8, LINE>
+    requires { IsTrue (is_well_formed edge.now) }
+    ensures text { result.items ≡ spelling edge.now }
+    ensures short { array_vec_len result ≤ 12 }
+{
+    let mut line = ArrayVec::new();
+    match edge.driver {
+        Driver::Controller => line.push(b'c'),
+        Driver::Slot(slot) => push_number(&mut line, slot),
+    }
+    line.push(b' ');
+    push_text(&mut line, word_of(edge.wire));
+    line.push(if edge.fall { b'-' } else { b'+' });
+    match edge.value {
+        None => {}
+        Some(Cycle::Acknowledge(level)) => {
+            push_text(&mut line, b" i");
+            push_number(&mut line, level);
+        }
+        Some(Cycle::Access(slot)) => {
+            push_text(&mut line, b" r");
+            push_number(&mut line, slot);
+        }
+    }
+    line
+}
+
+/// The line of an edge: its spelling and a line feed.
+pub fn line_of(edge: &Edge) -> ArrayVec<u8, LINE>
+    requires { IsTrue (is_well_formed edge.now) }
+    ensures { result.items ≡ edge_line edge.now }
+{
+    let mut line = spelling_of(edge);
+    line.push(b'\n');
+    line
+}
+
+/// Writes the lines of the edges.
+fn write_lines<W: Write>(edges: &[Edge], out: &mut W) -> Result<(), Fault>
+    requires { All (λ e. IsTrue (is_well_formed e)) edges.now }
+    ensures ok { OnOk result (Appends (W.contents out.old) (W.contents out.new) (edge_lines edges.now)) }
+    ensures front { OnErr result (AppendsFront (W.contents out.old) (W.contents out.new) (edge_lines edges.now)) }
+    ensures fault { IfErr result (λ fault. fault ≡ Fault.Write) }
+{
+    for edge in edges {
+        let line = line_of(edge);
+        put(out, line.as_slice())?;
+    }
+    Ok(())
+}
+
+/// The header line of a version, with its line feed.
+fn header_line(version: Version) -> &'static [u8]
+    ensures { result.now ≡ header version ++ 10 ∷ [] }
+{
+    match version {
+        Version::One => b"vme 1\n",
+        Version::Two => b"vme 2\n",
+    }
+}
+
+/// Writes the trace of the edges: the header line and a line for each.
+///
+/// Errors: X8 where a write failed or took no byte; a front of the trace was then written.
+pub fn write<W: Write>(version: Version, edges: &[Edge], out: &mut W) -> Result<(), Fault>
+    requires { All (λ e. IsTrue (is_well_formed e)) edges.now }
+    ensures ok { OnOk result (Appends (W.contents out.old) (W.contents out.new) (text version edges.now)) }
+    ensures front { OnErr result (AppendsFront (W.contents out.old) (W.contents out.new) (text version edges.now)) }
+    ensures fault { IfErr result (λ fault. fault ≡ Fault.Write) }
+{
+    put(out, header_line(version))?;
+    write_lines(edges, out)
+}
