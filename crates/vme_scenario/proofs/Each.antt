@@ -1,0 +1,16 @@
+-- The tables of an array, read one after another.
+use Rattle.std.proofs.Common.{◌≡◌, ℕ, ◌+◌, ◌<◌, ◌≤◌, List, [], ◌∷◌, ◌++◌, length, drop, get_or, map, Result, Ok, Err, codes, refl, append_assoc, add-one, decimal, append-nil}
+use Rattle.std.proofs.lemmas.List.{drop_more}
+use Rattle.toml.specs.Data.{Members}
+use Rattle.vme_scenario.specs.Faults.{Fault, path, below}
+use Rattle.vme_scenario.specs.Format.{each}
+
+-- what was read, and then the rest
+abbrev pub behind : {A : Type 0} → List A → Result (List A) Fault → Result (List A) Fault
+behind done (Ok rest) = Ok (done ++ rest)
+behind done (Err f) = Err f
+
+pub behind-nothing : {A : Type 0} (r : Result (List A) Fault) → behind [] r ≡ r
+behind-nothing (Ok rest) = refl
+behind-nothing (Err f) = refl
+

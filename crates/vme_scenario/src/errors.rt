@@ -1,0 +1,95 @@
+//! Why a scenario is refused.
+ghost use Rattle.std.specs.Prelude.{◌≡◌, Result, Err, IfOk, string_bytes};
+ghost use Rattle.vme_model.specs.Plan.{Plan};
+ghost use Rattle.vme_scenario.specs.Errors as spec;
+ghost use Rattle.vme_scenario.specs.Faults.{Fault};
+
+use crate::faults::{BoardFault, KeyFault, TextFault};
+use std::alloc::{AllocError, Global};
+use thiserror::Error;
+use vme_model::PlanError;
+
+/// Why a text is no scenario, by the numbers that users see.
+///
+/// A key is its path from the top table, with the number of a board or jumper from 1, as `board.2.requester.level`.
+#[derive(PartialEq, Eq, Debug, Drop, Error)]
+pub enum ScenarioError {
+    /// The text is not UTF-8, or not TOML.
+    #[error("Q1 the scenario is not TOML")]
+    NotToml,
+    /// The format has no such key; of several in one table it is the least by bytes.
+    #[error("Q2 unknown key {key}")]
+    UnknownKey { key: String },
+    #[error("Q3 missing key {key}")]
+    Missing { key: String },
+    /// The value is of another kind, a word that is not in the list, or out of range.
+    #[error("Q4 bad value of {key}")]
+    BadValue { key: String },
+    /// The scenario can be read, and its plan is refused.
+    #[error("{0}")]
+    Plan(PlanError),
+    #[error("Q6 no memory")]
+    Memory,
+}
+
+/// The key of a fault, without the path of its table.
+fn key_of<'a>(fault: KeyFault<'a>) -> &'a str
+    ensures { result.now ≡ spec.key_of fault.entry }
+{
+    match fault {
+        KeyFault::Unknown(key) => key,
+        KeyFault::Missing(key) => key,
+        KeyFault::Bad(key) => key,
+    }
+}
+
+/// The error of a fault whose key has this path.
+fn at_path(fault: KeyFault<'_>, key: String) -> ScenarioError
+    ensures { (r : Result Plan Fault) → r ≡ Err (spec.moved_to (string_bytes key) fault.entry) → spec.IsErrorOf r result }
+{
+    match fault {
+        KeyFault::Unknown(_) => ScenarioError::UnknownKey { key },
+        KeyFault::Missing(_) => ScenarioError::Missing { key },
+        KeyFault::Bad(_) => ScenarioError::BadValue { key },
+    }
+}
+
+/// The error of a fault in a board.
+fn board_error(
+    alloc: Global,
+    number: usize,
+    fault: BoardFault<'_>,
+) -> Result<ScenarioError, AllocError>
+    ensures { IfOk result (λ e. (r : Result Plan Fault) → spec.IsFaultOf r (TextFault.Board number fault.entry) → spec.IsErrorOf r e) }
+{
+    let (fault, key) = match fault {
+        BoardFault::Board(fault) => (fault, format!(in alloc; "board.{number}.{}", key_of(fault))?),
+        BoardFault::Requester(fault) => (
+            fault,
+            format!(in alloc; "board.{number}.requester.{}", key_of(fault))?,
+        ),
+        BoardFault::Interrupter(fault) => (
+            fault,
+            format!(in alloc; "board.{number}.interrupter.{}", key_of(fault))?,
+        ),
+    };
+    Ok(at_path(fault, key))
+}
+
+/// The error of a fault, its key as a path from the top table.
+pub(crate) fn error_of(alloc: Global, fault: TextFault<'_>) -> Result<ScenarioError, AllocError>
+    ensures { IfOk result (λ e. (r : Result Plan Fault) → spec.IsFaultOf r fault.entry → spec.IsErrorOf r e) }
+{
+    match fault {
+        TextFault::Top(fault) => {
+            let key = String::from_str(alloc, key_of(fault))?;
+            Ok(at_path(fault, key))
+        }
+        TextFault::Board(number, fault) => board_error(alloc, number, fault),
+        TextFault::Jumper(number, fault) => {
+            let key = format!(in alloc; "jumper.{number}.{}", key_of(fault))?;
+            Ok(at_path(fault, key))
+        }
+        TextFault::Memory => Ok(ScenarioError::Memory),
+    }
+}
