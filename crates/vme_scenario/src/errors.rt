@@ -1,8 +1,8 @@
 //! Why a scenario is refused.
-ghost use Rattle.std.specs.Prelude.{◌≡◌, Result, Err, IfOk, string_bytes};
+ghost use Rattle.std.specs.Prelude.{◌≡◌, Result, Err, IfOk, codes, decimal, string_bytes};
 ghost use Rattle.vme_model.specs.Plan.{Plan};
 ghost use Rattle.vme_scenario.specs.Errors as spec;
-ghost use Rattle.vme_scenario.specs.Faults.{Fault};
+ghost use Rattle.vme_scenario.specs.Faults.{Fault, path, below};
 
 use crate::faults::{BoardFault, KeyFault, TextFault};
 use std::alloc::{AllocError, Global};
@@ -54,26 +54,39 @@ fn at_path(fault: KeyFault<'_>, key: String) -> ScenarioError
     }
 }
 
-/// The error of a fault in a board.
-fn board_error(
+/// The path of a key of a board or jumper.
+fn item_path(alloc: Global, array: &str, number: usize, key: &str) -> Result<String, AllocError>
+    ensures { IfOk result (λ s. string_bytes s ≡ path (path array.now (decimal number)) key.now) }
+{
+    format!(in alloc; "{array}.{number}.{key}")
+}
+
+/// The path of a key of a board's requester or interrupter.
+fn part_path(alloc: Global, number: usize, part: &str, key: &str) -> Result<String, AllocError>
+    ensures { IfOk result (λ s. string_bytes s ≡ path (path (codes "board") (decimal number)) (path part.now key.now)) }
+{
+    format!(in alloc; "board.{number}.{part}.{key}")
+}
+
+/// The path of the key of a fault in a board, and the fault at the key.
+fn board_path<'a>(
     alloc: Global,
     number: usize,
-    fault: BoardFault<'_>,
-) -> Result<ScenarioError, AllocError>
-    ensures { IfOk result (λ e. (r : Result Plan Fault) → spec.IsFaultOf r (TextFault.Board number fault.entry) → spec.IsErrorOf r e) }
+    fault: BoardFault<'a>,
+) -> Result<(String, KeyFault<'a>), AllocError>
+    ensures { IfOk result (λ at. below (path (codes "board") (decimal number)) (spec.in_board fault.entry) ≡ spec.moved_to (string_bytes at.0) at.1) }
 {
-    let (fault, key) = match fault {
-        BoardFault::Board(fault) => (fault, format!(in alloc; "board.{number}.{}", key_of(fault))?),
-        BoardFault::Requester(fault) => (
-            fault,
-            format!(in alloc; "board.{number}.requester.{}", key_of(fault))?,
-        ),
-        BoardFault::Interrupter(fault) => (
-            fault,
-            format!(in alloc; "board.{number}.interrupter.{}", key_of(fault))?,
-        ),
-    };
-    Ok(at_path(fault, key))
+    match fault {
+        BoardFault::Board(fault) => {
+            Ok((item_path(alloc, "board", number, key_of(fault))?, fault))
+        }
+        BoardFault::Requester(fault) => {
+            Ok((part_path(alloc, number, "requester", key_of(fault))?, fault))
+        }
+        BoardFault::Interrupter(fault) => {
+            Ok((part_path(alloc, number, "interrupter", key_of(fault))?, fault))
+        }
+    }
 }
 
 /// The error of a fault, its key as a path from the top table.
@@ -85,9 +98,12 @@ pub(crate) fn error_of(alloc: Global, fault: TextFault<'_>) -> Result<ScenarioEr
             let key = String::from_str(alloc, key_of(fault))?;
             Ok(at_path(fault, key))
         }
-        TextFault::Board(number, fault) => board_error(alloc, number, fault),
+        TextFault::Board(number, fault) => {
+            let (key, fault) = board_path(alloc, number, fault)?;
+            Ok(at_path(fault, key))
+        }
         TextFault::Jumper(number, fault) => {
-            let key = format!(in alloc; "jumper.{number}.{}", key_of(fault))?;
+            let key = item_path(alloc, "jumper", number, key_of(fault))?;
             Ok(at_path(fault, key))
         }
         TextFault::Memory => Ok(ScenarioError::Memory),
