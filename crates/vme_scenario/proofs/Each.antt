@@ -13,4 +13,3 @@ behind done (Err f) = Err f
 pub behind-nothing : {A : Type 0} (r : Result (List A) Fault) → behind [] r ≡ r
 behind-nothing (Ok rest) = refl
 behind-nothing (Err f) = refl
-

@@ -99,7 +99,7 @@ jumper ms = do
 abbrev pub each : {A : Type 0} → List ℕ → (Members → Result A Fault) → ℕ → List Members → Result (List A) Fault
 each key read n [] = Ok []
 each key read n (ms ∷ rest) =
-  within (path key (decimal n)) (read ms) >>= λ first. (each key read (suc n) rest >>= λ others. Ok (first ∷ others))
+    within (path key (decimal n)) (read ms) >>= λ first. (each key read (suc n) rest >>= λ others. Ok (first ∷ others))
 
 abbrev pub accepted_or : Plan → Option PlanError → Result Plan Fault
 accepted_or p None = Ok p

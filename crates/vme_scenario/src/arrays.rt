@@ -57,10 +57,7 @@ pub(crate) fn jumper_tables<'a>(
 }
 
 /// The boards of the tables, in order.
-pub(crate) fn boards<'a>(
-    alloc: Global,
-    tables: &[&'a Table],
-) -> Result<Vec<Row>, TextFault<'a>>
+pub(crate) fn boards<'a>(alloc: Global, tables: &[&'a Table]) -> Result<Vec<Row>, TextFault<'a>>
     ensures ok { IfOk result (λ rows. format.each (codes "board") format.board 1 (map (λ t. table_view t.now) tables.now) ≡ Ok rows.items) }
     ensures fault { IfErr result (IsFaultOf (format.each (codes "board") format.board 1 (map (λ t. table_view t.now) tables.now))) }
 {
@@ -75,10 +72,7 @@ pub(crate) fn boards<'a>(
 }
 
 /// The jumpers of the tables, in order.
-pub(crate) fn jumpers<'a>(
-    alloc: Global,
-    tables: &[&'a Table],
-) -> Result<Vec<Jumper>, TextFault<'a>>
+pub(crate) fn jumpers<'a>(alloc: Global, tables: &[&'a Table]) -> Result<Vec<Jumper>, TextFault<'a>>
     ensures ok { IfOk result (λ jumpers. format.each (codes "jumper") format.jumper 1 (map (λ t. table_view t.now) tables.now) ≡ Ok jumpers.items) }
     ensures fault { IfErr result (IsFaultOf (format.each (codes "jumper") format.jumper 1 (map (λ t. table_view t.now) tables.now))) }
 {

@@ -84,7 +84,10 @@ fn board_path<'a>(
             Ok((part_path(alloc, number, "requester", key_of(fault))?, fault))
         }
         BoardFault::Interrupter(fault) => {
-            Ok((part_path(alloc, number, "interrupter", key_of(fault))?, fault))
+            Ok((
+                part_path(alloc, number, "interrupter", key_of(fault))?,
+                fault,
+            ))
         }
     }
 }

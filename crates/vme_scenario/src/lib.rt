@@ -16,3 +16,6 @@ mod values;
 
 pub use errors::ScenarioError;
 pub use scenario::{Scenario, read};
+
+#[cfg(test)]
+mod tests;

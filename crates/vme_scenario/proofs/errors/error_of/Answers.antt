@@ -10,5 +10,5 @@ returns-in_ok-key-in-Top c r at =
 pub returns-in_ok-key-in-Jumper : goal.returns-in_ok-key-in-Jumper
 returns-in_ok-key-in-Jumper c r at =
     c.at_path-in-Jumper.ensures r
-      ((rw c.in-Jumper.is at at)
-       ∙ ap (λ f. Err f) (below-moved (path (codes "jumper") (decimal c.in-Jumper.number)) _ _ _ c.key_of-in-Jumper.ensures c.in_ok-key-in-Jumper.ensures))
+    ((rw c.in-Jumper.is at at)
+    ∙ ap (λ f. Err f) (below-moved (path (codes "jumper") (decimal c.in-Jumper.number)) _ _ _ c.key_of-in-Jumper.ensures c.in_ok-key-in-Jumper.ensures))
