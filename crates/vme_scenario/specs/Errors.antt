@@ -1,68 +1,16 @@
--- What each kind of error says of a scenario.
-use Rattle.std.specs.Prelude.{◌≡◌, ◌≢◌, ⊤, ℕ, List, ◌++◌, Result, Ok, Err, Vec, codes, decimal, string_bytes}
-use Rattle.std.specs.declared.alloc.Global.{Global}
-use Rattle.vme_model.specs.declared.refusals.PlanError.{PlanError}
+-- What each error says of a scenario.
+use Rattle.std.specs.Prelude.{◌≡◌, ◌≢◌, ⊤, Result, Err, IsOk, string_bytes}
 use Rattle.vme_model.specs.declared.refusals.PlanError.TheVariants as refusal
 use Rattle.vme_model.specs.Plan.{Plan}
-use Rattle.vme_scenario.specs.declared.faults.KeyFault.{KeyFault}
-use Rattle.vme_scenario.specs.declared.faults.KeyFault.TheVariants as key_fault
-use Rattle.vme_scenario.specs.declared.faults.BoardFault.{BoardFault}
-use Rattle.vme_scenario.specs.declared.faults.BoardFault.TheVariants as board_fault
-use Rattle.vme_scenario.specs.declared.faults.TextFault.{TextFault}
-use Rattle.vme_scenario.specs.declared.faults.TextFault.TheVariants as text_fault
 use Rattle.vme_scenario.specs.declared.errors.ScenarioError.{ScenarioError}
 use Rattle.vme_scenario.specs.declared.errors.ScenarioError.TheVariants as error
-use Rattle.vme_scenario.specs.declared.scenario.Draft.{Draft}
-use Rattle.vme_scenario.specs.Faults.{Fault, not_toml, unknown, missing, bad, plan, path, below}
+use Rattle.vme_scenario.specs.Faults.{Fault, not_toml, unknown, missing, bad, plan}
 
--- the fault at a key of one table
-abbrev pub at_key : KeyFault → Fault
-at_key (key_fault.Unknown key) = unknown key.now
-at_key (key_fault.Missing key) = missing key.now
-at_key (key_fault.Bad key) = bad key.now
-
--- the fault in a board's table, or in a table of it
-abbrev pub in_board : BoardFault → Fault
-in_board (board_fault.Board f) = at_key f
-in_board (board_fault.Requester f) = below (codes "requester") (at_key f)
-in_board (board_fault.Interrupter f) = below (codes "interrupter") (at_key f)
-
--- the fault is that of a scenario's part; want of memory says nothing of it
-abbrev pub IsFaultOf : {A : Type 0} → Result A Fault → TextFault → Type 0
-IsFaultOf r (text_fault.Top f) = r ≡ Err (at_key f)
-IsFaultOf r (text_fault.Board n f) = r ≡ Err (below (path (codes "board") (decimal n)) (in_board f))
-IsFaultOf r (text_fault.Jumper n f) = r ≡ Err (below (path (codes "jumper") (decimal n)) (at_key f))
-IsFaultOf r text_fault.Memory = ⊤
-
--- a result, its fault as the description has it
-abbrev pub keyed : {A : Type 0} → Result A KeyFault → Result A Fault
-keyed (Ok a) = Ok a
-keyed (Err f) = Err (at_key f)
-
-abbrev pub boarded : {A : Type 0} → Result A BoardFault → Result A Fault
-boarded (Ok a) = Ok a
-boarded (Err f) = Err (in_board f)
-
--- the error is what is wrong with a scenario; want of memory says nothing of it
+-- the error is what is wrong; want of memory says nothing, but where the plan found none the scenario is right
 abbrev pub IsErrorOf : Result Plan Fault → ScenarioError → Type 0
 IsErrorOf r error.NotToml = r ≡ Err not_toml
 IsErrorOf r (error.UnknownKey key) = r ≡ Err (unknown (string_bytes key))
 IsErrorOf r (error.Missing key) = r ≡ Err (missing (string_bytes key))
 IsErrorOf r (error.BadValue key) = r ≡ Err (bad (string_bytes key))
-IsErrorOf r (error.Plan e) = e ≢ refusal.Memory → r ≡ Err (plan e)
+IsErrorOf r (error.Plan e) = (e ≢ refusal.Memory → r ≡ Err (plan e)) × (e ≡ refusal.Memory → IsOk r)
 IsErrorOf r error.Memory = ⊤
-
--- the key of a fault, and the fault at another path
-abbrev pub key_of : KeyFault → List ℕ
-key_of (key_fault.Unknown key) = key.now
-key_of (key_fault.Missing key) = key.now
-key_of (key_fault.Bad key) = key.now
-
-abbrev pub moved_to : List ℕ → KeyFault → Fault
-moved_to p (key_fault.Unknown key) = unknown p
-moved_to p (key_fault.Missing key) = missing p
-moved_to p (key_fault.Bad key) = bad p
-
--- the plan that is to be judged
-abbrev pub drafted : Draft → Plan
-drafted d = record { slots = d.slots; rows = d.rows.items; jumpers = d.jumpers.items; arbiter = d.arbiter }

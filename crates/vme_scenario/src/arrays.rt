@@ -1,7 +1,7 @@
 //! Arrays of tables.
 ghost use Rattle.std.specs.Prelude.{◌≡◌, Some, Ok, IfOk, IfErr, [], map, option_map, codes};
 ghost use Rattle.toml.specs.View.{view, table_view};
-ghost use Rattle.vme_scenario.specs.Errors.{IsFaultOf};
+ghost use Rattle.vme_scenario.specs.Borrowed.{IsFaultOf};
 ghost use Rattle.vme_scenario.specs.Format as format;
 ghost use Rattle.vme_scenario.specs.Values as values;
 

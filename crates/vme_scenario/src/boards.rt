@@ -2,7 +2,7 @@
 ghost use Rattle.std.specs.Prelude.{◌≡◌, codes};
 ghost use Rattle.toml.specs.View.{table_view};
 ghost use Rattle.vme_model.specs.Sets.{no_levels};
-ghost use Rattle.vme_scenario.specs.Errors.{keyed, boarded};
+ghost use Rattle.vme_scenario.specs.Borrowed.{keyed, boarded};
 ghost use Rattle.vme_scenario.specs.Format as format;
 ghost use Rattle.vme_scenario.specs.Values as values;
 

@@ -1,7 +1,8 @@
 //! Why a scenario is refused.
 ghost use Rattle.std.specs.Prelude.{◌≡◌, Result, Err, IfOk, codes, decimal, string_bytes};
 ghost use Rattle.vme_model.specs.Plan.{Plan};
-ghost use Rattle.vme_scenario.specs.Errors as spec;
+ghost use Rattle.vme_scenario.specs.Borrowed.{key_of, moved_to, in_board, IsFaultOf};
+ghost use Rattle.vme_scenario.specs.Errors.{IsErrorOf};
 ghost use Rattle.vme_scenario.specs.Faults.{Fault, path, below};
 
 use crate::faults::{BoardFault, KeyFault, TextFault};
@@ -34,7 +35,7 @@ pub enum ScenarioError {
 
 /// The key of a fault, without the path of its table.
 fn key_of<'a>(fault: KeyFault<'a>) -> &'a str
-    ensures { result.now ≡ spec.key_of fault.entry }
+    ensures { result.now ≡ key_of fault.entry }
 {
     match fault {
         KeyFault::Unknown(key) => key,
@@ -45,7 +46,7 @@ fn key_of<'a>(fault: KeyFault<'a>) -> &'a str
 
 /// The error of a fault whose key has this path.
 fn at_path(fault: KeyFault<'_>, key: String) -> ScenarioError
-    ensures { (r : Result Plan Fault) → r ≡ Err (spec.moved_to (string_bytes key) fault.entry) → spec.IsErrorOf r result }
+    ensures { (r : Result Plan Fault) → r ≡ Err (moved_to (string_bytes key) fault.entry) → IsErrorOf r result }
 {
     match fault {
         KeyFault::Unknown(_) => ScenarioError::UnknownKey { key },
@@ -74,7 +75,7 @@ fn board_path<'a>(
     number: usize,
     fault: BoardFault<'a>,
 ) -> Result<(String, KeyFault<'a>), AllocError>
-    ensures { IfOk result (λ at. below (path (codes "board") (decimal number)) (spec.in_board fault.entry) ≡ spec.moved_to (string_bytes at.0) at.1) }
+    ensures { IfOk result (λ at. below (path (codes "board") (decimal number)) (in_board fault.entry) ≡ moved_to (string_bytes at.0) at.1) }
 {
     match fault {
         BoardFault::Board(fault) => {
@@ -94,7 +95,7 @@ fn board_path<'a>(
 
 /// The error of a fault, its key as a path from the top table.
 pub(crate) fn error_of(alloc: Global, fault: TextFault<'_>) -> Result<ScenarioError, AllocError>
-    ensures { IfOk result (λ e. (r : Result Plan Fault) → spec.IsFaultOf r fault.entry → spec.IsErrorOf r e) }
+    ensures { IfOk result (λ e. (r : Result Plan Fault) → IsFaultOf r fault.entry → IsErrorOf r e) }
 {
     match fault {
         TextFault::Top(fault) => {

@@ -1,7 +1,7 @@
 //! The jumpers of an empty slot.
 ghost use Rattle.std.specs.Prelude.{◌≡◌, codes};
 ghost use Rattle.toml.specs.View.{table_view};
-ghost use Rattle.vme_scenario.specs.Errors.{keyed};
+ghost use Rattle.vme_scenario.specs.Borrowed.{keyed};
 ghost use Rattle.vme_scenario.specs.Format as format;
 ghost use Rattle.vme_scenario.specs.Values as values;
 

@@ -1,7 +1,7 @@
 //! A board's requester.
 ghost use Rattle.std.specs.Prelude.{◌≡◌, map, codes};
 ghost use Rattle.toml.specs.View.{table_view};
-ghost use Rattle.vme_scenario.specs.Errors.{keyed};
+ghost use Rattle.vme_scenario.specs.Borrowed.{keyed};
 ghost use Rattle.vme_scenario.specs.Format as format;
 ghost use Rattle.vme_scenario.specs.Values as values;
 

@@ -1,7 +1,8 @@
 //! A scenario, from its text to its plan.
 ghost use Rattle.std.specs.Prelude.{◌≡◌, Some, Ok, IfOk, IfErr, codes};
 ghost use Rattle.toml.specs.View.{table_view};
-ghost use Rattle.vme_scenario.specs.Errors.{keyed, drafted, IsFaultOf, IsErrorOf};
+ghost use Rattle.vme_scenario.specs.Borrowed.{keyed, drafted, IsFaultOf};
+ghost use Rattle.vme_scenario.specs.Errors.{IsErrorOf};
 ghost use Rattle.vme_scenario.specs.Format as format;
 ghost use Rattle.vme_scenario.specs.Values as values;
 

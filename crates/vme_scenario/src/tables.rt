@@ -5,7 +5,7 @@ ghost use Rattle.std.specs.List.{list_any};
 ghost use Rattle.std.specs.Str.{bytes_eq};
 ghost use Rattle.toml.specs.Data.{get_member};
 ghost use Rattle.toml.specs.View.{view, table_view};
-ghost use Rattle.vme_scenario.specs.Errors.{keyed, at_key};
+ghost use Rattle.vme_scenario.specs.Borrowed.{keyed, at_key};
 ghost use Rattle.vme_scenario.specs.Faults.{missing};
 ghost use Rattle.vme_scenario.specs.Format.{only, needed, part};
 ghost use Rattle.vme_scenario.specs.Values as values;
