@@ -1,9 +1,6 @@
 -- The tables of an array, read one after another.
-use Rattle.std.proofs.Common.{◌≡◌, ℕ, ◌+◌, ◌<◌, ◌≤◌, List, [], ◌∷◌, ◌++◌, length, drop, get_or, map, Result, Ok, Err, codes, refl, append_assoc, add-one, decimal, append-nil}
-use Rattle.std.proofs.lemmas.List.{drop_more}
-use Rattle.toml.specs.Data.{Members}
-use Rattle.vme_scenario.specs.Faults.{Fault, path, below}
-use Rattle.vme_scenario.specs.Format.{each}
+use Rattle.std.proofs.Common.{◌≡◌, List, [], ◌++◌, Result, Ok, Err, refl}
+use Rattle.vme_scenario.specs.Faults.{Fault}
 
 -- what was read, and then the rest
 abbrev pub behind : {A : Type 0} → List A → Result (List A) Fault → Result (List A) Fault

@@ -1,5 +1,5 @@
 -- Paths of keys, and the faults at them.
-use Rattle.std.proofs.Common.{◌≡◌, ◌++◌, ◌∙◌, ℕ, List, Err, codes, append_assoc, refl, ap, sym}
+use Rattle.std.proofs.Common.{◌≡◌, ◌++◌, ◌∙◌, ℕ, List, codes, append_assoc, refl, ap}
 use Rattle.vme_scenario.specs.Borrowed.{at_key, key_of, moved_to}
 use Rattle.vme_scenario.specs.Faults.{path, below}
 use Rattle.vme_scenario.specs.declared.faults.KeyFault.{KeyFault}

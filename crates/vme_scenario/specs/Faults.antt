@@ -1,5 +1,5 @@
 -- What can be wrong with a scenario, and at which key.
-use Rattle.std.specs.Prelude.{List, [], ◌∷◌, ◌++◌, ℕ, Result, Ok, Err, codes}
+use Rattle.std.specs.Prelude.{List, ◌++◌, ℕ, Result, Ok, Err, codes}
 use Rattle.vme_model.specs.declared.refusals.PlanError.{PlanError}
 
 -- the first thing wrong; a key is its path in bytes

@@ -1,9 +1,8 @@
 -- What the values of a scenario's keys say.
-use Rattle.std.specs.Prelude.{ℕ, ℤ, pos, negsuc, Bool, true, false, ◌&&◌, List, [], ◌∷◌, Option, Some, None, Result, Ok, Err, codes, nat_le, fold, option_map, if◌then◌else◌}
-use Rattle.std.specs.List.{list_any}
+use Rattle.std.specs.Prelude.{ℕ, ℤ, pos, negsuc, Bool, true, false, ◌&&◌, List, [], ◌∷◌, Option, Some, None, codes, nat_le, fold, option_map, if◌then◌else◌}
 use Rattle.std.specs.Option.{option_and_then}
 use Rattle.std.specs.Str.{bytes_eq, is_utf8}
-use Rattle.toml.specs.Data.{Data, Items, no_items, item, Members, no_members, member, get_member, as_integer, as_str, as_array, as_table}
+use Rattle.toml.specs.Data.{Data, Items, no_items, item, Members, as_integer, as_str, as_array, as_table}
 use Rattle.toml.specs.Parse.{parse_document}
 use Rattle.vme_model.specs.declared.boards.ArbiterKind.{ArbiterKind}
 use Rattle.vme_model.specs.declared.boards.ArbiterKind.TheVariants.{Sgl, Pri, Rrs}
