@@ -38,6 +38,7 @@ abbrev pub keyed : {A : Type 0} → Result A KeyFault → Result A Fault
 keyed (Ok a) = Ok a
 keyed (Err f) = Err (at_key f)
 
+-- the same, of a board's
 abbrev pub boarded : {A : Type 0} → Result A BoardFault → Result A Fault
 boarded (Ok a) = Ok a
 boarded (Err f) = Err (in_board f)

@@ -21,6 +21,7 @@ below table (missing key) = missing (path table key)
 below table (bad key) = bad (path table key)
 below table f = f
 
+-- a result, its fault seen from there
 abbrev pub within : {A : Type 0} → List ℕ → Result A Fault → Result A Fault
 within table (Ok a) = Ok a
 within table (Err f) = Err (below table f)

@@ -31,6 +31,7 @@ abbrev pub given : {A : Type 0} → List ℕ → (Data → Option A) → Option 
 given key read (Some d) = valued key (read d)
 given key read None = Err (missing key)
 
+-- the same, looked up in a table
 abbrev pub needed : {A : Type 0} → List ℕ → (Data → Option A) → Members → Result A Fault
 needed key read ms = given key read (get_member key ms)
 
@@ -39,30 +40,35 @@ abbrev pub given_or : {A : Type 0} → A → List ℕ → (Data → Option A) �
 given_or absent key read (Some d) = valued key (read d)
 given_or absent key read None = Ok absent
 
+-- the same, looked up in a table
 abbrev pub optional : {A : Type 0} → A → List ℕ → (Data → Option A) → Members → Result A Fault
 optional absent key read ms = given_or absent key read (get_member key ms)
 
--- a table that may be absent
+-- what a table at a key says; another value is bad
 abbrev pub inside : {A : Type 0} → List ℕ → (Members → Result A Fault) → Option Members → Result (Option A) Fault
 inside key read (Some ms) = within key (read ms) >>= λ a. Ok (Some a)
 inside key read None = Err (bad key)
 
+-- a table that may be absent
 abbrev pub given_part : {A : Type 0} → List ℕ → (Members → Result A Fault) → Option Data → Result (Option A) Fault
 given_part key read (Some d) = inside key read (as_table d)
 given_part key read None = Ok None
 
+-- the same, looked up in a table
 abbrev pub part : {A : Type 0} → List ℕ → (Members → Result A Fault) → Members → Result (Option A) Fault
 part key read ms = given_part key read (get_member key ms)
 
+-- the keys of a requester that releases the bus when done, and of one that releases it on request
 abbrev pub requester_keys : Bool → List (List ℕ)
 requester_keys true = codes "level" ∷ codes "release" ∷ codes "burst" ∷ []
 requester_keys false = codes "level" ∷ codes "release" ∷ []
 
+-- a burst is given with the first
 abbrev pub release : Bool → Members → Result Release Fault
 release true ms = needed (codes "burst") byte ms >>= λ burst. Ok (Done burst)
 release false ms = Ok Request
 
--- `release` comes first, since it says whether `burst` is a key
+-- a board's requester: `release` comes first, since it says whether `burst` is a key
 unfoldable pub requester : Members → Result RequesterRow Fault
 requester ms = do
   done ← needed (codes "release") releases_when_done ms
@@ -71,6 +77,7 @@ requester ms = do
   release ← release done ms
   Ok (record { level = level; release = release })
 
+-- a board's interrupter
 unfoldable pub interrupter : Members → Result InterrupterRow Fault
 interrupter ms = do
   known ← only (codes "level" ∷ codes "kind" ∷ codes "status" ∷ []) ms
@@ -79,6 +86,7 @@ interrupter ms = do
   status ← needed (codes "status") byte ms
   Ok (record { level = level; kind = kind; status = status })
 
+-- a board
 unfoldable pub board : Members → Result Row Fault
 board ms = do
   known ← only (codes "slot" ∷ codes "requester" ∷ codes "interrupter" ∷ codes "handler" ∷ []) ms
@@ -88,6 +96,7 @@ board ms = do
   handler ← optional no_levels (codes "handler") levels ms
   Ok (record { slot = slot; requester = requester; interrupter = interrupter; handler = handler })
 
+-- the jumpers of an empty slot
 unfoldable pub jumper : Members → Result Jumper Fault
 jumper ms = do
   known ← only (codes "slot" ∷ codes "chains" ∷ []) ms
@@ -101,10 +110,12 @@ each key read n [] = Ok []
 each key read n (ms ∷ rest) =
     within (path key (decimal n)) (read ms) >>= λ first. (each key read (suc n) rest >>= λ others. Ok (first ∷ others))
 
+-- a plan with no fault, or its first fault
 abbrev pub accepted_or : Plan → Option PlanError → Result Plan Fault
 accepted_or p None = Ok p
 accepted_or p (Some e) = Err (plan e)
 
+-- the top table, then each board, then each jumper
 unfoldable pub contents : Members → Result Plan Fault
 contents ms = do
   known ← only (codes "slots" ∷ codes "arbiter" ∷ codes "board" ∷ codes "jumper" ∷ []) ms
@@ -116,9 +127,11 @@ contents ms = do
   jumpers ← each (codes "jumper") jumper 1 jumpers
   Ok (record { slots = slots; rows = rows; jumpers = jumpers; arbiter = arbiter })
 
+-- the plan, where it is accepted
 abbrev pub accepted : Plan → Result Plan Fault
 accepted p = accepted_or p (plan_fault p)
 
+-- what the top table says; a text without one is no TOML
 abbrev pub read_as : Option Members → Result Plan Fault
 read_as None = Err not_toml
 read_as (Some ms) = contents ms >>= accepted

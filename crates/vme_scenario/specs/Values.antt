@@ -32,9 +32,11 @@ abbrev pub meaning : {A : Type 0} → List (List ℕ × A) → List ℕ → Opti
 meaning [] word = None
 meaning (entry ∷ entries) word = if bytes_eq word entry.0 then Some entry.1 else meaning entries word
 
+-- the same, of a value
 abbrev pub word_of : {A : Type 0} → List (List ℕ × A) → Data → Option A
 word_of entries d = option_and_then (meaning entries) (as_str d)
 
+-- the words of the format, and what they mean
 abbrev pub arbiter : Data → Option ArbiterKind
 arbiter = word_of ((codes "sgl", Sgl) ∷ (codes "pri", Pri) ∷ (codes "rrs", Rrs) ∷ [])
 
@@ -55,6 +57,7 @@ abbrev pub each_item : {A : Type 0} → (Data → Option A) → Items → Option
 each_item read no_items = Some []
 each_item read (item d ds) = and_more (read d) (each_item read ds)
 
+-- the same, of an array's items
 abbrev pub array_of : {A : Type 0} → (Data → Option A) → Data → Option (List A)
 array_of read d = option_and_then (each_item read) (as_array d)
 
@@ -66,11 +69,14 @@ tables = array_of as_table
 abbrev pub level : Data → Option ℕ
 level d = option_and_then (between 1 7) (as_integer d)
 
+-- the set of an array's levels
 abbrev pub levels : Data → Option Levels
 levels d = option_map (fold with_level no_levels) (array_of level d)
 
+-- the words of the daisy chains
 abbrev pub chain : Data → Option ChainId
 chain = word_of ((codes "bg0", Bg0) ∷ (codes "bg1", Bg1) ∷ (codes "bg2", Bg2) ∷ (codes "bg3", Bg3) ∷ (codes "iack", Iack) ∷ [])
 
+-- the set of an array's chains
 abbrev pub chains : Data → Option Chains
 chains d = option_map (fold with_chain no_chains) (array_of chain d)
