@@ -1,10 +1,9 @@
 -- Slots counted, and scanned in ascending order.
-use Rattle.std.proofs.Common.{◌≡◌, sym, refl, arith, Bool, true, false, ap, ℕ, zero, suc, ◌≤◌, ◌<◌, inl, inr, List, [], ◌∷◌, ◌++◌, ◌+◌, ◌∙◌, subst, map, length}
+use Rattle.std.proofs.Common.{◌≡◌, sym, refl, arith, Bool, true, false, ap, ℕ, zero, suc, ◌≤◌, ◌<◌, inl, inr, List, [], ◌∷◌, ◌++◌, ◌+◌, subst, map, length}
 use Rattle.std.specs.Prelude.{◌==◌, if◌then◌else◌, Option, Some, None, find, filter, count_by}
 use Rattle.std.specs.Option.{option_or}
 use Rattle.std.proofs.lemmas.List.{map-append, length-append}
 use Rattle.std.proofs.lemmas.List.Elements.{filter-append}
-use Rattle.std.proofs.lemmas.List.Sums.{length-filter}
 use Rattle.std.proofs.lemmas.List.Recursion.{is_count_by}
 use Rattle.std.proofs.lemmas.Bool.{false≢true}
 use Rattle.std.proofs.lemmas.Bool.Decides.{nat_tests}
@@ -15,6 +14,7 @@ use Rattle.vme_model.specs.declared.boards.Jumper.{Jumper}
 use Rattle.vme_model.specs.Plan.{Plan, up_to}
 use Rattle.vme_model.specs.Accepted.{first_of, when, namings}
 
+-- the slots that are this one, counted by what names them
 named : {X : Type 0} (slot_of : X → ℕ) (s : ℕ) (xs : List X) → length (filter (λ t. t == s) (map slot_of xs)) ≡ count_by (λ x. slot_of x == s) xs
 named {X} slot_of s xs = is_count_by (λ (ys : List X). length (filter (λ t. t == s) (map slot_of ys))) (λ x. slot_of x == s) refl (λ y ys. one_more (slot_of y == s) (slot_of y) (filter (λ t. t == s) (map slot_of ys))) xs
   where
@@ -22,6 +22,7 @@ named {X} slot_of s xs = is_count_by (λ (ys : List X). length (filter (λ t. t 
     one_more true t ts = omega arith
     one_more false t ts = refl
 
+-- a slot's namings are its boards and its jumpers
 pub namings_are : (p : Plan) (s : ℕ) → namings p s ≡ count_by (λ r. r.slot == s) p.rows + count_by (λ j. j.slot == s) p.jumpers
 namings_are p s = rw (filter-append, length-append, named (λ (r : Row). r.slot) s p.rows, named (λ (j : Jumper). j.slot) s p.jumpers)
 
@@ -33,6 +34,7 @@ up_to_here P s below here k low high =
       | inr less ↦ below k low less
     ]
 
+-- no slot passes
 pub find_up_to_none : (test : ℕ → Bool) (n : ℕ) → ((k : ℕ) → 1 ≤ k → k ≤ n → test k ≡ false) → find test (up_to n) ≡ None
 find_up_to_none test zero h = refl
 find_up_to_none test (suc n) h =
@@ -54,6 +56,7 @@ find_up_to_first test (suc n) s low high holds h =
           rw (find-append, before)
     ]
 
+-- what the first list gives, and else the second
 pub first_of-append : {A : Type 0} (xs ys : List (Option A)) → first_of (xs ++ ys) ≡ option_or (first_of xs) (first_of ys)
 first_of-append [] ys = refl
 first_of-append (Some a ∷ xs) ys = refl
@@ -67,6 +70,7 @@ first_past n a xs ys some = past (n == 0) (grind (arith, nat_tests, some))
     past true e = absurd (false≢true (sym e))
     past false e = first_of-append xs ys
 
+-- no slot answers
 pub first_up_to_none : {A : Type 0} (f : ℕ → Option A) (n : ℕ) → ((k : ℕ) → 1 ≤ k → k ≤ n → f k ≡ None) → first_of (map f (up_to n)) ≡ None
 first_up_to_none f zero h = refl
 first_up_to_none f (suc n) h =

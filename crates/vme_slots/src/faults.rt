@@ -1,15 +1,16 @@
 //! The tests that a plan has to pass, one function for each fault.
-ghost use Rattle.std.specs.Prelude.{◌≡◌, ◌==◌, ◌&&◌, length, count_by, filter, find, map, nat_lt};
+ghost use Rattle.std.specs.Prelude.{◌≡◌, ◌&&◌, length, filter, find, nat_lt};
 ghost use Rattle.std.specs.List.{list_any};
 ghost use Rattle.std.specs.Option.{option_copied};
-ghost use Rattle.vme_model.specs.Signals.{is_level};
 ghost use Rattle.vme_model.specs.Sets.{has_level};
-ghost use Rattle.vme_model.specs.Plan.{row_in, board, works};
-ghost use Rattle.vme_model.specs.Accepted.{first_of, chains, plan_fault, too_many_slots, out_of_range, row_range, jumper_range, is_within, has_no_burst, no_controller, slot_twice, namings, chain_broken, is_joined, is_broken, level_not_served, handler_twice, handler_without_requester};
+ghost use Rattle.vme_model.specs.Plan.{board, works};
+ghost use Rattle.vme_model.specs.Accepted.{chains, plan_fault, too_many_slots, out_of_range, no_controller, slot_twice, namings, chain_broken, is_joined, is_broken, level_not_served, handler_twice, handler_without_requester};
 
+use crate::boards::{handlers_of, jumpers_of, row_in, rows_of};
+use crate::ranges::{jumpers_range, rows_range};
 use bitflags::Flags;
 use std::marker::Model;
-use vme_model::{ArbiterKind, ChainId, Field, Jumper, PlanError, Release, Row};
+use vme_model::{ArbiterKind, ChainId, Field, Jumper, PlanError, Row};
 
 /// The greatest number of slots of a backplane (chapter 7).
 const MOST_SLOTS: u8 = 21;
@@ -82,7 +83,7 @@ impl<'a> Draft<'a> {
         self.handler_without_requester()
     }
 
-    /// P2.
+    /// P2: more slots than a backplane has.
     fn too_many_slots(&self) -> Option<PlanError>
         ensures { result ≡ too_many_slots self.now }
     {
@@ -94,7 +95,9 @@ impl<'a> Draft<'a> {
         ensures { result ≡ out_of_range self.now }
     {
         if self.slots == 0 {
-            return Some(PlanError::OutOfRange { field: Field::Slots });
+            return Some(PlanError::OutOfRange {
+                field: Field::Slots,
+            });
         }
         if let Some(field) = rows_range(self.slots, self.rows) {
             return Some(PlanError::OutOfRange { field });
@@ -102,7 +105,7 @@ impl<'a> Draft<'a> {
         jumpers_range(self.slots, self.jumpers).map(|field| PlanError::OutOfRange { field })
     }
 
-    /// P1.
+    /// P1: no board stands in slot 1.
     fn no_controller(&self) -> Option<PlanError>
         ensures { result ≡ no_controller self.now }
     {
@@ -139,23 +142,16 @@ impl<'a> Draft<'a> {
         rows_of(self.rows, slot) + jumpers_of(self.jumpers, slot) > 1
     }
 
-    /// P4: the least slot, then the least chain.
+    /// P4: the least slot that breaks a chain, with the least chain that it breaks.
     fn chain_broken(&self) -> Option<PlanError>
         ensures { result ≡ chain_broken self.now }
     {
         for slot in 1..=self.slots {
-            if let Some(chain) = self.broken_chain(slot) {
+            if let Some(chain) = self.broken_among(slot, &CHAINS) {
                 return Some(PlanError::ChainBroken { slot, chain });
             }
         }
         None
-    }
-
-    /// The least chain that the slot breaks.
-    fn broken_chain(&self, slot: u8) -> Option<ChainId>
-        ensures { result ≡ find (is_broken self.now slot) chains }
-    {
-        self.broken_among(slot, &CHAINS)
     }
 
     /// The first of these chains that the slot breaks.
@@ -172,7 +168,9 @@ impl<'a> Draft<'a> {
     fn is_broken(&self, slot: u8, chain: ChainId) -> bool
         ensures { result ≡ is_broken self.now slot chain }
     {
-        self.board(slot).is_none() && !self.is_joined(slot, chain) && self.is_worked_above(slot, chain)
+        self.board(slot).is_none()
+            && !self.is_joined(slot, chain)
+            && self.is_worked_above(slot, chain)
     }
 
     /// Whether a jumper of the slot joins the chain.
@@ -184,7 +182,7 @@ impl<'a> Draft<'a> {
             .any(|jumper| jumper.slot == slot && jumper.chains.has(chain))
     }
 
-    /// Whether a higher slot works the chain.
+    /// Whether a board above the slot works the chain.
     fn is_worked_above(&self, slot: u8, chain: ChainId) -> bool
         ensures { result ≡ list_any (λ r. nat_lt slot r.slot && works chain r) self.now.rows }
     {
@@ -197,10 +195,10 @@ impl<'a> Draft<'a> {
     fn level_not_served(&self) -> Option<PlanError>
         ensures { result ≡ level_not_served self.now }
     {
-        let sgl = self.arbiter == ArbiterKind::Sgl;
+        let single = self.arbiter == ArbiterKind::Sgl;
         self.rows
             .iter()
-            .find(|row| sgl && row.requester.is_some_and(|requester| requester.level != 3))
+            .find(|row| single && row.requester.is_some_and(|requester| requester.level != 3))
             .map(|row| PlanError::LevelNotServed { slot: row.slot })
     }
 
@@ -212,21 +210,14 @@ impl<'a> Draft<'a> {
             .map(|level| PlanError::HandlerTwice { level })
     }
 
-    /// The first of these levels that two rows handle.
+    /// The first of these levels that more than one row handles.
     fn handled_twice_among(&self, levels: &[u8]) -> Option<u8>
         ensures { result ≡ find (λ v. nat_lt 1 (length (filter (λ r. has_level r.handler v) self.now.rows))) levels.now }
     {
         levels
             .iter()
             .copied()
-            .find(|level| self.is_handled_twice(*level))
-    }
-
-    /// Whether more than one board handles the level.
-    fn is_handled_twice(&self, level: u8) -> bool
-        ensures { result ≡ nat_lt 1 (length (filter (λ r. has_level r.handler level) self.now.rows)) }
-    {
-        handlers_of(self.rows, level) > 1
+            .find(|level| handlers_of(self.rows, *level) > 1)
     }
 
     /// P7: the first row that has a handler and no requester.
@@ -238,109 +229,4 @@ impl<'a> Draft<'a> {
             .find(|row| row.handler.bits() > 0 && row.requester.is_none())
             .map(|row| PlanError::HandlerWithoutRequester { slot: row.slot })
     }
-}
-
-/// The row that names a slot.
-pub fn row_in(rows: &[Row], slot: u8) -> Option<&Row>
-    ensures { option_copied result ≡ row_in rows.now slot }
-{
-    rows.iter().find(|row| row.slot == slot)
-}
-
-/// How many boards stand in the slot.
-fn rows_of(rows: &[Row], slot: u8) -> usize
-    ensures { result ≡ count_by (λ r. r.slot == slot) rows.now }
-{
-    rows.iter().filter(|row| row.slot == slot).count()
-}
-
-/// How many jumpers name the slot.
-fn jumpers_of(jumpers: &[Jumper], slot: u8) -> usize
-    ensures { result ≡ count_by (λ j. j.slot == slot) jumpers.now }
-{
-    jumpers.iter().filter(|jumper| jumper.slot == slot).count()
-}
-
-/// How many boards handle the level.
-fn handlers_of(rows: &[Row], level: u8) -> usize
-    ensures { result ≡ length (filter (λ r. has_level r.handler level) rows.now) }
-{
-    rows.iter().filter(|row| row.handler.has(level)).count()
-}
-
-/// The first field out of range, row by row.
-fn rows_range(slots: u8, rows: &[Row]) -> Option<Field>
-    ensures { result ≡ first_of (map (row_range slots) rows.now) }
-{
-    for row in rows {
-        if let Some(field) = row_range(slots, row) {
-            return Some(field);
-        }
-    }
-    None
-}
-
-/// The first field out of range, jumper by jumper.
-fn jumpers_range(slots: u8, jumpers: &[Jumper]) -> Option<Field>
-    ensures { result ≡ first_of (map (jumper_range slots) jumpers.now) }
-{
-    for jumper in jumpers {
-        if let Some(field) = jumper_range(slots, jumper) {
-            return Some(field);
-        }
-    }
-    None
-}
-
-/// The first field of a row that is out of range.
-fn row_range(slots: u8, row: &Row) -> Option<Field>
-    ensures { result ≡ row_range slots row.now }
-{
-    if !is_within(slots, row.slot) {
-        Some(Field::Slot)
-    } else if row.requester.is_some_and(|requester| requester.level > 3) {
-        Some(Field::RequesterLevel)
-    } else if row.requester.is_some_and(|requester| has_no_burst(requester.release)) {
-        Some(Field::RequesterBurst)
-    } else if row.interrupter.is_some_and(|interrupter| !is_level(interrupter.level)) {
-        Some(Field::InterrupterLevel)
-    } else if row.handler.bits() > 127 {
-        Some(Field::Handler)
-    } else {
-        None
-    }
-}
-
-/// The first field of a jumper that is out of range.
-fn jumper_range(slots: u8, jumper: &Jumper) -> Option<Field>
-    ensures { result ≡ jumper_range slots jumper.now }
-{
-    if !is_within(slots, jumper.slot) {
-        Some(Field::JumperSlot)
-    } else if jumper.chains.bits() > 31 {
-        Some(Field::JumperChains)
-    } else {
-        None
-    }
-}
-
-/// Whether the slot is one of 1 to `slots`.
-fn is_within(slots: u8, slot: u8) -> bool
-    ensures { result ≡ is_within slots slot }
-{
-    (1..=slots).contains(&slot)
-}
-
-/// Whether the level is one of IRQ1* to IRQ7*.
-fn is_level(level: u8) -> bool
-    ensures { result ≡ is_level level }
-{
-    (1..=7).contains(&level)
-}
-
-/// Whether the master may make no cycle at all.
-fn has_no_burst(release: Release) -> bool
-    ensures { result ≡ has_no_burst release }
-{
-    matches!(release, Release::Done { burst: 0 })
 }

@@ -1,11 +1,12 @@
 //! The plan of one backplane: which boards stand in which slots, tested once and known from then on to be accepted.
 #![tactic(auto)]
 
+mod boards;
 mod faults;
 mod plans;
-
-
-
+mod ranges;
+#[cfg(test)]
+mod tests;
 
 pub use plans::Plan;
 pub use vme_model::{Field, PlanError};

@@ -1,10 +1,10 @@
 //! The plan, with the slots that work each daisy chain.
-ghost use Rattle.std.specs.Prelude.{◌≡◌, ◌≢◌, IfOk, IfErr, filter};
+ghost use Rattle.std.specs.Prelude.{◌≡◌, ◌≢◌, IfOk, IfErr};
 ghost use Rattle.std.specs.Option.{option_copied};
-ghost use Rattle.vme_model.specs.Plan.{up_to, is_active};
 ghost use Rattle.vme_model.specs.Accepted.{IsAccepted};
 
-use crate::faults::{Draft, row_in};
+use crate::boards::{active_slots, row_in};
+use crate::faults::Draft;
 use std::alloc::{AllocError, Global};
 use std::marker::Model;
 use vme_model::{ArbiterKind, ChainId, Jumper, PlanError, Row};
@@ -63,16 +63,18 @@ impl Plan {
         jumpers: &[Jumper],
         arbiter: ArbiterKind,
     ) -> Result<Plan, PlanError>
-        ensures plan { IfOk result (λ p. p ≡ record { slots = slots; rows = rows.now; jumpers = jumpers.now; arbiter = arbiter }) }
+        ensures plan { IfOk result (λ p.
+            p ≡ record { slots = slots; rows = rows.now; jumpers = jumpers.now; arbiter = arbiter }) }
         ensures accepted { IfOk result (λ p. IsAccepted p) }
-        ensures refused { IfErr result (λ e. e ≢ PlanError.Memory → plan_fault (record { slots = slots; rows = rows.now; jumpers = jumpers.now; arbiter = arbiter }) ≡ Some e) }
-        ensures memory { IfErr result (λ e. e ≡ PlanError.Memory → IsAccepted (record { slots = slots; rows = rows.now; jumpers = jumpers.now; arbiter = arbiter })) }
+        ensures refused { IfErr result (λ e. e ≢ PlanError.Memory →
+            plan_fault (record { slots = slots; rows = rows.now; jumpers = jumpers.now; arbiter = arbiter }) ≡ Some e) }
+        ensures memory { IfErr result (λ e. e ≡ PlanError.Memory →
+            IsAccepted (record { slots = slots; rows = rows.now; jumpers = jumpers.now; arbiter = arbiter })) }
     {
-        match Draft::new(slots, rows, jumpers, arbiter).fault() {
-            Some(fault) => Err(fault),
-            None => accepted_plan(alloc, slots, rows, jumpers, arbiter)
-                .map_err(|_| PlanError::Memory),
+        if let Some(fault) = Draft::new(slots, rows, jumpers, arbiter).fault() {
+            return Err(fault);
         }
+        accepted_plan(alloc, slots, rows, jumpers, arbiter).map_err(|_| PlanError::Memory)
     }
 
     /// A law: no fault holds for the plan.
@@ -114,7 +116,7 @@ impl Plan {
     pub fn row(&self, slot: u8) -> Option<&Row>
         ensures { option_copied result ≡ board self.now slot }
     {
-        row_in(&self.rows, slot)
+        row_in(self.rows(), slot)
     }
 
     /// The slots whose board works the chain, ascending.
@@ -158,7 +160,8 @@ fn accepted_plan(
     arbiter: ArbiterKind,
 ) -> Result<Plan, AllocError>
     requires { IsAccepted (record { slots = slots; rows = rows.now; jumpers = jumpers.now; arbiter = arbiter }) }
-    ensures { IfOk result (λ p. p ≡ record { slots = slots; rows = rows.now; jumpers = jumpers.now; arbiter = arbiter }) }
+    ensures { IfOk result (λ p.
+        p ≡ record { slots = slots; rows = rows.now; jumpers = jumpers.now; arbiter = arbiter }) }
 {
     Ok(Plan {
         slots,
@@ -173,30 +176,4 @@ fn accepted_plan(
             iack: active_slots(alloc, slots, rows, ChainId::Iack)?,
         },
     })
-}
-
-/// The slots whose board works the chain, ascending.
-fn active_slots(
-    alloc: Global,
-    slots: u8,
-    rows: &[Row],
-    chain: ChainId,
-) -> Result<Vec<u8>, AllocError>
-    ensures { IfOk result (λ v. v.items ≡ filter (is_active rows.now chain) (up_to slots)) }
-{
-    let mut active = Vec::new(alloc);
-    for below in 0..slots {
-        let slot = below + 1;
-        if is_active(rows, chain, slot) {
-            active.push(slot)?;
-        }
-    }
-    Ok(active)
-}
-
-/// Whether a board in the slot works the chain.
-fn is_active(rows: &[Row], chain: ChainId, slot: u8) -> bool
-    ensures { result ≡ is_active rows.now chain slot }
-{
-    row_in(rows, slot).is_some_and(|row| row.works(chain))
 }

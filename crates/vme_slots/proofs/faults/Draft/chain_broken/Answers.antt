@@ -1,6 +1,6 @@
 -- The least slot that breaks a chain, with the least chain, or none.
 use Rattle.std.proofs.Common.{◌≡◌, ℕ, sym, ap, arith}
-use Rattle.std.specs.Prelude.{Option, Some, None, option_map, find}
+use Rattle.std.specs.Prelude.{Some, None, option_map, find}
 use Rattle.vme_model.specs.declared.refusals.PlanError.TheVariants.{ChainBroken}
 use Rattle.vme_model.specs.Accepted.{chains, is_broken}
 use Rattle.vme_slots.proofs.Slots.{up_to_here, first_up_to_none, first_up_to_first}

@@ -1,11 +1,11 @@
 -- There are slots, so the rows decide, and then the jumpers.
 use Rattle.std.proofs.Common.{◌≡◌, sym, ap, ◌∙◌, subst, map, rules}
-use Rattle.std.specs.Prelude.{◌==◌, ◌∷◌, ◌++◌, Some, None, option_map}
+use Rattle.std.specs.Prelude.{Some, None, option_map}
 use Rattle.std.specs.Option.{option_or}
 use Rattle.vme_model.specs.declared.refusals.Field.TheVariants.{Slots}
 use Rattle.vme_model.specs.declared.refusals.PlanError.TheVariants.{OutOfRange}
 use Rattle.vme_model.specs.Plan.{Plan}
-use Rattle.vme_model.specs.Accepted.{out_of_range, first_of, when, row_range, jumper_range}
+use Rattle.vme_model.specs.Accepted.{out_of_range, first_of, row_range, jumper_range}
 use Rattle.vme_slots.proofs.Slots.{first_past}
 use Rattle.vme_slots.proofs.faults.Draft.out_of_range.Goals as goal
 

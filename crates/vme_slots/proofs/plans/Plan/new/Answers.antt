@@ -1,7 +1,6 @@
 -- A fault is never want of memory, so a plan with one is refused for that fault.
 use Rattle.std.proofs.Common.{◌≡◌, ap, ◌∙◌}
 use Rattle.std.specs.Prelude.{Some}
-use Rattle.vme_model.specs.declared.refusals.PlanError.TheVariants.{Memory}
 use Rattle.vme_model.specs.Plan.{Plan}
 use Rattle.vme_model.specs.Accepted.{plan_fault}
 use Rattle.vme_slots.proofs.NoMemory.{fault_is_plain}
