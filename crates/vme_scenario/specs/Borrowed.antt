@@ -1,0 +1,55 @@
+-- What the faults that borrow the text stand for, and the draft of a plan.
+use Rattle.std.specs.Prelude.{◌≡◌, ⊤, ℕ, List, Result, Ok, Err, codes, decimal}
+use Rattle.vme_model.specs.Plan.{Plan}
+use Rattle.vme_scenario.specs.declared.faults.KeyFault.{KeyFault}
+use Rattle.vme_scenario.specs.declared.faults.KeyFault.TheVariants as key_fault
+use Rattle.vme_scenario.specs.declared.faults.BoardFault.{BoardFault}
+use Rattle.vme_scenario.specs.declared.faults.BoardFault.TheVariants as board_fault
+use Rattle.vme_scenario.specs.declared.faults.TextFault.{TextFault}
+use Rattle.vme_scenario.specs.declared.faults.TextFault.TheVariants as text_fault
+use Rattle.vme_scenario.specs.declared.scenario.Draft.{Draft}
+use Rattle.vme_scenario.specs.Faults.{Fault, unknown, missing, bad, path, below}
+
+-- the fault at a key of one table
+abbrev pub at_key : KeyFault → Fault
+at_key (key_fault.Unknown key) = unknown key.now
+at_key (key_fault.Missing key) = missing key.now
+at_key (key_fault.Bad key) = bad key.now
+
+-- its key, and the fault at another path
+abbrev pub key_of : KeyFault → List ℕ
+key_of (key_fault.Unknown key) = key.now
+key_of (key_fault.Missing key) = key.now
+key_of (key_fault.Bad key) = key.now
+
+abbrev pub moved_to : List ℕ → KeyFault → Fault
+moved_to p (key_fault.Unknown key) = unknown p
+moved_to p (key_fault.Missing key) = missing p
+moved_to p (key_fault.Bad key) = bad p
+
+-- the fault in a board's table, or in a table of it
+abbrev pub in_board : BoardFault → Fault
+in_board (board_fault.Board f) = at_key f
+in_board (board_fault.Requester f) = below (codes "requester") (at_key f)
+in_board (board_fault.Interrupter f) = below (codes "interrupter") (at_key f)
+
+-- a result, its fault as the format has it
+abbrev pub keyed : {A : Type 0} → Result A KeyFault → Result A Fault
+keyed (Ok a) = Ok a
+keyed (Err f) = Err (at_key f)
+
+-- the same, of a board's
+abbrev pub boarded : {A : Type 0} → Result A BoardFault → Result A Fault
+boarded (Ok a) = Ok a
+boarded (Err f) = Err (in_board f)
+
+-- the fault is that of a part of a scenario; want of memory says nothing of it
+abbrev pub IsFaultOf : {A : Type 0} → Result A Fault → TextFault → Type 0
+IsFaultOf r (text_fault.Top f) = r ≡ Err (at_key f)
+IsFaultOf r (text_fault.Board n f) = r ≡ Err (below (path (codes "board") (decimal n)) (in_board f))
+IsFaultOf r (text_fault.Jumper n f) = r ≡ Err (below (path (codes "jumper") (decimal n)) (at_key f))
+IsFaultOf r text_fault.Memory = ⊤
+
+-- the plan that is to be judged
+abbrev pub drafted : Draft → Plan
+drafted d = record { slots = d.slots; rows = d.rows.items; jumpers = d.jumpers.items; arbiter = d.arbiter }

@@ -1,0 +1,5 @@
+pub mod Faults
+pub mod Values
+pub mod Format
+pub mod Errors
+pub mod Borrowed

@@ -1,0 +1,21 @@
+//! Reads a scenario, a backplane's plan in TOML.
+//!
+//! `specs/Format.antt` says which keys there are, what they hold, and in which order faults are looked for.
+#![tactic(auto)]
+
+mod arrays;
+mod boards;
+mod errors;
+mod faults;
+mod interrupters;
+mod jumpers;
+mod requesters;
+mod scenario;
+mod tables;
+mod values;
+
+pub use errors::ScenarioError;
+pub use scenario::{Scenario, read};
+
+#[cfg(test)]
+mod tests;
