@@ -39,6 +39,12 @@ is_pick Sgl low last n = n == 3 && low 3
 is_pick Pri low last n = low n && is_highest low n
 is_pick Rrs low last n = low n && is_next low last n
 
+-- the levels that a policy serves at all: SGL level 3 alone (chapter 3)
+abbrev pub serves : ArbiterKind → ℕ → Bool
+serves Sgl n = n == 3
+serves Pri n = true
+serves Rrs n = true
+
 -- the policy's pick, if it has one
 abbrev pub pick : ArbiterKind → (ℕ → Bool) → ℕ → Option ℕ
 pick kind low last = find (is_pick kind low last) bus_numbers

@@ -1,0 +1,4 @@
+pub mod LastEdge
+pub mod Slots
+pub mod Considered
+pub mod Levels

@@ -1,0 +1,217 @@
+//! A backplane, which takes edges one by one.
+ghost use Rattle.std.specs.Prelude.{◌≡◌, ◌==◌, ◌+◌, ◌<◌, ◌≤◌, ◌↔◌, [], IfOk, IsTrue, Ok, OnOk, Some, false, is_ok, length, slice_get};
+ghost use Rattle.vme_model.specs.History.{in_order};
+ghost use Rattle.vme_model.specs.Verdict.{verdict, verdict_but_full, after, kept, IsLegal};
+ghost use Rattle.vme_model.specs.Views.{pins};
+ghost use Rattle.vme_model.specs.Deliveries.{answer, delivered};
+ghost use Rattle.vme_model.specs.Offers.{offered};
+ghost use Rattle.vme_model.specs.Accepted.{IsAccepted};
+ghost use Rattle.vme_model.specs.Report.{at_power_up, trace_limit};
+ghost use Rattle.vme_backplane.specs.Looks.{history_of};
+
+use crate::looks::Look;
+use crate::traces::Trace;
+use crate::{scans, settling};
+use arrayvec::ArrayVec;
+use std::alloc::{AllocError, Global};
+use std::marker::Model;
+use vme_model::{Delivery, Driver, Edge, Pins, Refused, Version};
+use vme_slots::Plan;
+
+/// A backplane: the version of its rules, its plan, and the edges that were made.
+#[derive(Drop)]
+pub struct Backplane {
+    version: Version,
+    plan: Plan,
+    edges: Vec<Edge>,
+    max: u32,
+}
+
+impl Model for Backplane {
+    ghost use Rattle.std.specs.Prelude.{◌≤◌, reverse, vec_len, vec_capacity};
+    ghost use Rattle.vme_model.specs.Report.{trace_limit};
+    ghost use Rattle.vme_model.specs.Verdict.{State, IsLegal};
+
+    ghost Value = { State };
+
+    ghost view = { λ b. record { version = b.version; plan = b.plan; history = reverse b.edges.items; max = b.max } };
+
+    ghost invariant = { λ b.
+        (vec_len b.edges ≤ b.max) × (b.max ≤ vec_capacity b.edges) × (b.max ≤ trace_limit)
+        × IsLegal b.version b.plan (reverse b.edges.items) };
+}
+
+/// How many edges a run accepted and refused.
+#[derive(Clone, Copy, PartialEq, Eq, Debug)]
+pub struct Counts {
+    pub accepted: u64,
+    pub refused: u64,
+}
+
+impl Backplane {
+    /// A backplane at power-up: no edge was made.
+    pub fn new(plan: Plan, trace: Trace, version: Version) -> Backplane
+        ensures { result ≡ at_power_up version plan trace }
+    {
+        let max = trace.max();
+        Backplane {
+            version,
+            plan,
+            edges: trace.into_edges(),
+            max,
+        }
+    }
+
+    /// What holds of every backplane.
+    pub fn laws(&self)
+        ensures accepted { IsAccepted self.now.plan }
+        ensures legal { IsLegal self.now.version self.now.plan self.now.history }
+        ensures fits { length self.now.history ≤ self.now.max }
+        ensures bounded { self.now.max ≤ trace_limit }
+    {
+        self.plan.accepted();
+    }
+
+    /// The answer to an edge, but for what it delivers.
+    fn verdict(&self, edge: Edge) -> Result<(), Refused>
+        ensures value { result ≡ verdict self.now edge }
+        ensures room { OnOk result ((length self.now.history == self.now.max) ≡ false) }
+        ensures allowed { OnOk result (verdict_but_full self.now.version self.now.plan self.now.history edge ≡ Ok tt) }
+    {
+        let (version, plan) = (self.version(), &self.plan);
+        settling::judge(version, plan, &self.edges, self.is_full(), edge)
+    }
+
+    /// Makes the edge where the rules allow it, and answers what it delivers.
+    ///
+    /// A refusal is the first that applies of E1 to E5, and leaves everything as it was. No memory is asked for.
+    pub fn step(&mut self, edge: Edge) -> Result<Option<Delivery>, Refused>
+        ensures answer { result ≡ answer self.old edge }
+        ensures accepted { is_ok result ≡ is_ok (verdict self.old edge) }
+        ensures state { self.new ≡ after self.old edge }
+        ensures legal { IsLegal self.new.version self.new.plan self.new.history }
+    {
+        self.laws();
+        self.verdict(edge)?;
+        let delivery = scans::delivery(&self.plan, &self.edges, edge);
+        let fits = self.edges.push(edge).is_ok();
+        prove!(fits);
+        self.laws();
+        Ok(delivery)
+    }
+
+    /// Steps through all the edges, past those that are refused.
+    pub fn run(&mut self, edges: &[Edge]) -> Counts
+        ensures state { self.new ≡ kept self.old edges.now }
+        ensures legal { IsLegal self.new.version self.new.plan self.new.history }
+        ensures accepted { length self.old.history + result.accepted ≡ length self.new.history }
+        ensures refused { result.accepted + result.refused ≡ length edges.now }
+    {
+        let mut counts = Counts {
+            accepted: 0,
+            refused: 0,
+        };
+        for edge in edges {
+            match self.step(*edge) {
+                Ok(_) => counts.accepted += 1,
+                Err(_) => counts.refused += 1,
+            }
+        }
+        self.laws();
+        counts
+    }
+
+    /// What a driver reads on its pins.
+    pub fn pins(&self, driver: Driver) -> Pins
+        ensures { result ≡ pins self.now.plan self.now.history driver }
+    {
+        self.look(driver).pins()
+    }
+
+    /// The driver's edges that would be accepted, in the order of its wires, with one acknowledge and one access at
+    /// most to show.
+    pub fn offers(&self, driver: Driver) -> ArrayVec<Edge, 16>
+        ensures { result.items ≡ offered self.now driver }
+    {
+        let considered = self.look(driver).all_considered();
+        let mut offers = ArrayVec::new();
+        for edge in considered.as_slice() {
+            if self.verdict(*edge).is_ok() {
+                offers.push(*edge);
+            }
+        }
+        offers
+    }
+
+    /// What was delivered, in the order of time.
+    pub fn deliveries(&self, alloc: Global) -> Result<Vec<Delivery>, AllocError>
+        ensures { IfOk result (λ v. v.items ≡ delivered self.now.plan self.now.history) }
+    {
+        scans::deliveries(alloc, &self.plan, &self.edges)
+    }
+
+    /// The version of its rules.
+    pub fn version(&self) -> Version
+        ensures { result ≡ self.now.version }
+    {
+        self.version
+    }
+
+    /// Its plan.
+    pub fn plan(&self) -> &Plan
+        ensures { result.now ≡ self.now.plan }
+    {
+        &self.plan
+    }
+
+    /// How many edges were made.
+    pub fn len(&self) -> u32
+        ensures { result ≡ length self.now.history }
+    {
+        prove!(self.edges.len() <= self.max as usize);
+        self.edges.len() as u32
+    }
+
+    /// Whether no edge was made.
+    pub fn is_empty(&self) -> bool
+        ensures { IsTrue result ↔ (self.now.history ≡ []) }
+    {
+        self.edges.is_empty()
+    }
+
+    /// Whether the trace holds no further edge.
+    fn is_full(&self) -> bool
+        ensures { result ≡ (length self.now.history == self.now.max) }
+    {
+        self.len() == self.max
+    }
+
+    /// How many edges can be made.
+    pub fn max(&self) -> u32
+        ensures { result ≡ self.now.max }
+    {
+        self.max
+    }
+
+    /// The edge at a place, counted from 0 in the order of time.
+    pub fn edge_at(&self, place: u32) -> Edge
+        requires { place < length self.now.history }
+        ensures { slice_get (in_order self.now.history) place ≡ Some result }
+    {
+        self.edges[place as usize]
+    }
+
+    /// A driver's look at it.
+    fn look(&self, driver: Driver) -> Look<'_>
+        ensures value { history_of result ≡ self.now.history }
+        ensures plan { result.plan.now ≡ self.now.plan }
+        ensures driver { result.driver ≡ driver }
+    {
+        Look {
+            version: self.version(),
+            plan: &self.plan,
+            edges: &self.edges,
+            driver,
+        }
+    }
+}

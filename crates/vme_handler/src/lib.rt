@@ -1,0 +1,10 @@
+//! A board's interrupt handler: which level it acknowledges next.
+#![tactic(auto)]
+
+mod handlers;
+
+pub use handlers::Handler;
+pub use vme_model::Delivery;
+
+#[cfg(test)]
+mod tests;
