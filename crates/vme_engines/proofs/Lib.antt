@@ -1,3 +1,5 @@
 pub mod Writing
 pub mod Known
 pub mod Replaying
+pub mod Cuts
+pub mod Fronts

@@ -375,6 +375,12 @@ module _ (p : Plan) (v : Version) (text head : List ℕ) (from to old mid new : 
     | inr part ↦ subst (λ (g : Fault). Ended p text head from to old new (Err g)) (sym part.0) (cut_short answer came known part.1)
   ]
 
+-- what a piece did, by what is known of its edges and its answer
+pub takes_is : (b : State) (judged : ℕ) (es : List Edge) (more : Result Bool Fault) (old new : Option (List ℕ)) (next : State) (now : ℕ) (o : Option Status) (fs : List Edge) (p : Option Status)
+    → TakesPiece b judged es more old new next now (Ok o) → es ≡ fs → o ≡ p → TakesPiece b judged fs more old new next now (Ok p)
+takes_is b judged es more old new next now o fs p h same is =
+    subst (λ (q : Option Status). TakesPiece b judged fs more old new next now (Ok q)) is (subst (λ (gs : List Edge). TakesPiece b judged gs more old new next now (Ok o)) same h)
+
 -- a flush leaves it as it is
 pub flushed : (p : Plan) (v : Version) (text head : List ℕ) (from at old mid new : Option (List ℕ)) (b : State) (reader : trace.State) (judged left : ℕ)
     → IsReplaying p v text head from at old mid b reader judged left → Keeps mid new → IsReplaying p v text head from at old new b reader judged left

@@ -3,10 +3,14 @@
 //! They are generic over the reader and the writer. `specs/Outcomes.antt` says what each leaves behind and answers.
 #![tactic(auto)]
 
+mod joins;
 mod lines;
 mod plans;
 mod replays;
 mod traces;
+
+pub use joins::joined;
+pub use replays::replay;
 
 use thiserror::Error;
 use vme_scenario::ScenarioError;
@@ -51,3 +55,6 @@ pub enum EngineFault {
     #[error("F3 no memory")]
     NoMemory,
 }
+
+#[cfg(test)]
+mod tests;

@@ -1,9 +1,10 @@
 //! Replaying a trace: a verdict on each edge, and the closing line.
 ghost use Rattle.std.specs.Prelude.{◌≡◌, ◌-◌, ◌+◌, ◌<◌, ◌^◌, ◌==◌, [], Ok, true, length, if◌then◌else◌};
+ghost use Rattle.vme_model.specs.Report.{trace_limit};
 ghost use Rattle.vme_engines.specs.declared.Status.TheVariants.{Done, SomeRefused};
 ghost use Rattle.vme_engines.specs.Streams.{streams, ReadNothing, WroteNothing};
 ghost use Rattle.vme_engines.specs.Outcomes.{Lent, ReplaysInput};
-ghost use Rattle.vme_engines.specs.Steps.{IsCounted, TakesPiece, ReplaysOn, status_at};
+ghost use Rattle.vme_engines.specs.Steps.{IsCounted, TakesPiece, ReplaysOn, status_at, traced};
 
 use crate::lines::{close, flush, write_verdicts};
 use crate::plans::{history_room, plan_of};
@@ -11,8 +12,9 @@ use crate::traces::open;
 use crate::{EngineFault, Status};
 use std::alloc::Global;
 use std::io::{Read, Write};
-use vme_backplane::Backplane;
+use vme_backplane::{Backplane, Trace};
 use vme_model::Edge;
+use vme_slots::Plan;
 use vme_trace::{Fault, Reader, pump};
 
 /// The status of a replay with so many refused edges.
@@ -84,4 +86,51 @@ pub(crate) fn replay_on<R: Read, W: Write>(
     }
     flush(out)?;
     Err(Fault::Read)
+}
+
+/// Replays a trace that stands alone, on a plan.
+fn replay_trace<R: Read, W: Write>(
+    alloc: Global,
+    plan: Plan,
+    room: Trace,
+    trace: &mut R,
+    out: &mut W,
+) -> Result<Status, Fault>
+    requires { room ≡ trace_limit }
+    ensures { ReplaysInput (streams (R.remaining trace.old) (R.remaining trace.new) (W.contents out.old) (W.contents out.new)) plan (traced result) }
+{
+    let mut reader = Reader::new();
+    let mut edges = Vec::new(alloc);
+    let (first, reads) = open(&mut reader, trace, &mut edges);
+    match reader.version() {
+        Some(version) => {
+            let backplane = Backplane::new(plan, room, version);
+            replay_on(backplane, reader, edges, first, reads, trace, out)
+        }
+        None => Err(first.err().unwrap_or(Fault::Read)),
+    }
+}
+
+/// Replays a trace on the plan of a scenario.
+///
+/// Writes `n VERDICT` for the n-th edge, past those that are refused, and at the end of the trace
+/// `accepted A refused R`. It makes at most 16,777,216 reads.
+///
+/// Errors: F2 and the faults of the scenario and F3, before anything is read or written; those of the trace, behind
+/// the verdicts on the edges before them; X8 where the output cannot be written.
+pub fn replay<R: Read, W: Write>(
+    alloc: Global,
+    scenario: &[u8],
+    trace: &mut R,
+    out: &mut W,
+) -> Result<Status, EngineFault>
+    ensures { let s = streams (R.remaining trace.old) (R.remaining trace.new) (W.contents out.old) (W.contents out.new) in
+        Lent scenario.now (ReadNothing s × WroteNothing s) (ReplaysInput s) result }
+{
+    let plan = plan_of(alloc, scenario)?;
+    let room = history_room(alloc)?;
+    match replay_trace(alloc, plan, room, trace, out) {
+        Ok(status) => Ok(status),
+        Err(fault) => Err(EngineFault::Trace(fault)),
+    }
 }

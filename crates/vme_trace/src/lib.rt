@@ -12,7 +12,7 @@ mod reader;
 mod tests;
 mod writer;
 
-pub use input::pump;
+pub use input::{pump, read_piece};
 pub use reader::{Reader, parse};
 pub use writer::{line_of, put, write};
 

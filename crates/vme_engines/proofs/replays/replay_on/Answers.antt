@@ -2,7 +2,7 @@ use Rattle.std.proofs.Common.{◌≡◌, ◌-◌, ◌+◌, ◌≤◌, ◌^◌, �
 use Rattle.std.proofs.lemmas.Result.{err_from_is_err_and}
 use Rattle.std.proofs.KnownBytes.{Appends-nil}
 use Rattle.vme_engines.specs.Steps.{IsCounted}
-use Rattle.vme_engines.proofs.Replaying.{IsReplaying, came, stays_known, counted_few, counted_more, goes_on, ended, stopped, flushed, too_many, unflushed}
+use Rattle.vme_engines.proofs.Replaying.{IsReplaying, came, stays_known, counted_few, counted_more, goes_on, ended, stopped, takes_is, flushed, too_many, unflushed}
 use Rattle.vme_engines.proofs.replays.replay_on.Goals as goal
 
 pub returns-in_err-status : goal.returns-in_err-status
@@ -16,7 +16,7 @@ pub returns-in-Some : goal.returns-in-Some
 returns-in-Some g c =
     λ p version from text head is known came_first.
     ended p version text head from _ _ _ _ _ c.take_piece.new.backplane c.args.reader 0 c.take_piece.new.judged c.args.reads [] c.args.edges.items (Appends-nil _) is refl c.args.first c.in-Some.status came_first known
-    (rw (c.deref.ensures.value, c.in-Some.is) at c.in_ok-status.ensures)
+    (takes_is c.args.backplane 0 c.deref.result.now c.args.first (g.W.Write.contents c.args.out.now) (g.W.Write.contents c.take_piece.new.out) c.take_piece.new.backplane c.take_piece.new.judged c.in_ok-status.field-0 c.args.edges.items _ c.in_ok-status.ensures c.deref.ensures.value c.in-Some.is)
 
 pub take_piece-requires-in-reads : goal.take_piece-requires-in-reads
 take_piece-requires-in-reads g c =
@@ -44,14 +44,15 @@ returns-in-Some-2 g c =
     let h = rw c.clear.ensures.items at (c.pump-more.ensures.reads (head ++ r.reading.later) r.es r.reading.read) in
     ended p version text head from _ _ _ _ _ c.take_piece-in-reads.new.backplane c.pump-more.new.reader c.reads.judged c.take_piece-in-reads.new.judged (c.args.reads - (c.reads.counter + 1)) r.es c.pump-more.new.edges.items r.wrote r.state r.count c.pump-more.result c.in-Some-2.status
     (came text head from _ _ _ _ _ r.es _ r.reading c.pump-more.result h) (stays_known text head from _ _ _ _ _ r.es _ r.reading version r.known c.pump-more.result h)
-    (rw (c.deref-in-reads.ensures.value, c.in-Some-2.is) at c.in_ok-status-2.ensures)
+    (takes_is c.reads.backplane c.reads.judged c.deref-in-reads.result.now c.pump-more.result (g.W.Write.contents c.reads.out) (g.W.Write.contents c.take_piece-in-reads.new.out) c.take_piece-in-reads.new.backplane c.take_piece-in-reads.new.judged c.in_ok-status-2.field-0 c.pump-more.new.edges.items _ c.in_ok-status-2.ensures c.deref-in-reads.ensures.value c.in-Some-2.is)
 
 pub reads-init : goal.reads-init
 reads-init g c =
     let all : c.args.reads ≡ c.args.reads - 0 = omega arith in
-    let h = rw (c.deref.ensures.value, c.in-None.is) at c.in_ok-status.ensures in
+    let sum : 0 + length c.args.edges.items ≡ length c.args.edges.items = omega arith in
+    let h = takes_is c.args.backplane 0 c.deref.result.now c.args.first (g.W.Write.contents c.args.out.now) (g.W.Write.contents c.take_piece.new.out) c.take_piece.new.backplane c.take_piece.new.judged c.in_ok-status.field-0 c.args.edges.items _ c.in_ok-status.ensures c.deref.ensures.value c.in-None.is in
     record {
-      counted = subst (λ (n : ℕ). IsCounted c.args.reader n c.take_piece.new.judged) all (rw h.3 (c.requires h.0));
+      counted = subst (λ (n : ℕ). IsCounted c.args.reader n c.take_piece.new.judged) all (rw (h.3, sum) (c.requires h.0));
       replaying = λ p version from text head is known came_first. subst (IsReplaying p version text head from _ _ _ c.take_piece.new.backplane c.args.reader c.take_piece.new.judged) all
         (goes_on p version text head from _ _ _ _ _ c.take_piece.new.backplane c.args.reader 0 c.take_piece.new.judged c.args.reads [] c.args.edges.items (Appends-nil _) is refl c.args.first came_first known h);
     }
@@ -59,7 +60,7 @@ reads-init g c =
 pub reads-preserved : goal.reads-preserved
 reads-preserved g c =
     let one_less : c.args.reads - c.reads.counter ≡ (c.args.reads - (c.reads.counter + 1)) + 1 = omega arith in
-    let h = rw (c.deref-in-reads.ensures.value, c.in-None-2.is) at c.in_ok-status-2.ensures in
+    let h = takes_is c.reads.backplane c.reads.judged c.deref-in-reads.result.now c.pump-more.result (g.W.Write.contents c.reads.out) (g.W.Write.contents c.take_piece-in-reads.new.out) c.take_piece-in-reads.new.backplane c.take_piece-in-reads.new.judged c.in_ok-status-2.field-0 c.pump-more.new.edges.items _ c.in_ok-status-2.ensures c.deref-in-reads.ensures.value c.in-None-2.is in
     let counted = subst (λ (n : ℕ). IsCounted c.reads.reader n c.reads.judged) one_less c.reads.invariant.counted in
     let went = rw (c.clear.ensures.items, h.0) at (c.pump-more.ensures.reads counted.bytes counted.es counted.read) in
     record {
