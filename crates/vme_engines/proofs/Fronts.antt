@@ -1,17 +1,21 @@
 -- The input before its trace, byte by byte.
-use Rattle.std.proofs.Common.{◌≡◌, ◌≢◌, ℕ, ◌+◌, ◌-◌, ◌*◌, ◌^◌, ◌<◌, ◌≤◌, min, List, [], ◌∷◌, ◌++◌, length, take, drop, true, false, Option, Some, None, unwrap_or, Result, Ok, Err, refl, sym, ◌∙◌, ap, append_assoc, append-nil, subst, arith, inl, inr, ◌⊎◌, zero, suc}
-use Rattle.std.proofs.lemmas.List.{length-take, take_all, take-append-le}
+use Rattle.std.proofs.Common.{◌≡◌, ◌≢◌, ℕ, ◌+◌, ◌-◌, ◌*◌, ◌^◌, ◌<◌, ◌≤◌, min, List, [], ◌∷◌, ◌++◌, length, take, drop, true, false, Option, Some, None, unwrap_or, Result, Ok, Err, refl, sym, ◌∙◌, ap, append_assoc, append-nil, take-append-drop, subst, arith, inl, inr, ◌⊎◌, zero, suc, get_or}
+use Rattle.std.proofs.lemmas.List.{length-take, take_all, take-append-le, take_more}
 use Rattle.std.proofs.Math.ListN.{length-append}
 use Rattle.std.specs.Io.KnownBytes.{Appends, Consumes, IsAtEnd, Keeps}
-use Rattle.std.proofs.KnownBytes.{Consumes-trans, Keeps-refl}
+use Rattle.std.proofs.KnownBytes.{Consumes-trans, Consumes-kept, Keeps-refl}
 use Rattle.vme_model.specs.declared.signals.Version.{Version}
 use Rattle.vme_model.specs.declared.signals.Version.TheVariants.{One, Two}
 use Rattle.vme_model.specs.declared.signals.Edge.{Edge}
 use Rattle.vme_model.specs.Text.{version_of, header, read_of}
 use Rattle.vme_trace.specs.Taking.{IsOneLine}
+use Rattle.std.specs.declared.alloc.AllocError.{AllocError}
+use Rattle.vme_engines.specs.declared.joins.Found.{Found}
 use Rattle.vme_engines.specs.declared.joins.Front.{Front}
-use Rattle.vme_engines.specs.Joining.{cut}
-use Rattle.vme_engines.specs.Front.{behind, held_limit, IsHeld, IsFront, EndsFront, IsTextOf}
+use Rattle.vme_engines.specs.Streams.{streams}
+use Rattle.vme_engines.specs.Outcomes.{Answer}
+use Rattle.vme_engines.specs.Joining.{cut, FindsNoTrace, Joins}
+use Rattle.vme_engines.specs.Front.{behind, held_limit, IsHeld, IsFront, EndsFront, IsTextOf, Finds, JoinsBehind}
 use Rattle.vme_engines.proofs.Cuts.{cut_part, cut_line, cut_here, behind_behind, behind_none, named, unnamed, one_line_more, length_header}
 
 -- ---- what is held
@@ -131,3 +135,47 @@ pub cut_found : (f : Front) (bytes : List ℕ) (v : Version) (h : EndsFront f by
 cut_found f bytes v h others =
     h.none ((header v ++ 10 ∷ []) ++ others) ∙ ap (behind h.before) (cut_here v others)
     ∙ ap (λ l. Some (l, (header v ++ 10 ∷ []) ++ others)) (append-nil h.before)
+
+-- the bytes that were read, and what was taken of them
+pub record HasFront (from at : Option (List ℕ)) (f : Front) : Type 0 where
+  pub bytes : List ℕ
+  pub taken : Consumes from at bytes
+  pub front : IsFront f bytes
+
+-- one more byte of a piece
+pub piece_more : (bytes piece : List ℕ) (i : ℕ) → i < length piece → (bytes ++ take i piece) ++ get_or piece i 0 ∷ [] ≡ bytes ++ take (i + 1) piece
+piece_more bytes piece i h = append_assoc bytes (take i piece) (get_or piece i 0 ∷ []) ∙ ap (λ l. bytes ++ l) (sym (take_more piece i 0 h))
+
+-- one more read
+pub front_more : (from at to : Option (List ℕ)) (f g : Front) (piece : List ℕ) (h : HasFront from at f) → Consumes at to piece → IsFront g (h.bytes ++ piece) → HasFront from to g
+front_more from at to f g piece h taken front =
+    record { bytes = h.bytes ++ piece; taken = Consumes-trans from at to h.bytes piece h.taken taken; front = front }
+
+-- what stands in the input behind the scenario
+pub found_behind : (from at to : Option (List ℕ)) (bytes piece : List ℕ) (n : ℕ) (f : Front) (v : Version) → Consumes from at bytes → Consumes at to piece
+    → (h : EndsFront f (bytes ++ take n piece) v) → Consumes from to (h.before ++ ((header v ++ 10 ∷ []) ++ drop n piece))
+found_behind from at to bytes piece n f v before taken h =
+    let both : Consumes from to (bytes ++ piece) = Consumes-trans from at to bytes piece before taken in
+    let split : bytes ++ piece ≡ h.before ++ ((header v ++ 10 ∷ []) ++ drop n piece) =
+    ap (λ l. bytes ++ l) (sym (take-append-drop n piece)) ∙ sym (append_assoc bytes (take n piece) (drop n piece)) ∙ ap (λ l. l ++ drop n piece) h.whole
+    ∙ append_assoc h.before (header v ++ 10 ∷ []) (drop n piece) in
+    subst (Consumes from to) split both
+
+-- what was replayed behind a header line that was found
+pub joins_found : (from at to old new : Option (List ℕ)) (bytes piece : List ℕ) (n : ℕ) (f : Front) (v : Version) (answer : Answer) → Consumes from at bytes → Consumes at to piece
+    → EndsFront f (bytes ++ take n piece) v → (last : Option (List ℕ)) → JoinsBehind f v (drop n piece) to last old new answer → Joins (streams from last old new) answer
+joins_found from at to old new bytes piece n f v answer before taken h last ran =
+    let all = ran from h.before h.held (found_behind from at to bytes piece n f v before taken h) in
+    inl (h.before, (header v ++ 10 ∷ []) ++ all.0, all.1, cut_found f (bytes ++ take n piece) v h all.0, all.2)
+
+-- no header line was found
+pub joins_none : (from to old : Option (List ℕ)) (bytes : List ℕ) (f : Front) (answer : Answer) → Consumes from to bytes → FindsNoTrace (streams from to old old) bytes answer → Joins (streams from to old old) answer
+joins_none from to old bytes f answer taken none = inr (bytes, taken, Keeps-refl old, none)
+
+-- what `find` found, by its answer
+pub found_at : (bytes piece : List ℕ) (f : Front) (r : Result (Option Found) AllocError) (x : Found) → Finds bytes piece f r → r ≡ Ok (Some x)
+    → (x.taken ≤ length piece) × EndsFront f (bytes ++ take x.taken piece) x.version
+found_at bytes piece f r x h is = subst (λ (a : Result (Option Found) AllocError). Finds bytes piece f a) is h
+
+pub none_at : (bytes piece : List ℕ) (f : Front) (r : Result (Option Found) AllocError) → Finds bytes piece f r → r ≡ Ok None → IsFront f (bytes ++ piece)
+none_at bytes piece f r h is = subst (λ (a : Result (Option Found) AllocError). Finds bytes piece f a) is h

@@ -107,3 +107,8 @@ header_bound n (line ∷ lines) rest =
 pub few_edges : (bytes : List ℕ) → length (read_of bytes).edges ≤ length bytes
 unfolding read_of
 few_edges bytes = omega (arith, header_bound 1 (split_lines bytes).0 (split_lines bytes).1, lines_bound bytes)
+
+-- a reader before the first byte knows no version
+pub none_known : (r : State) → HasRead r [] [] → r.version ≡ None
+unfolding read_of split_lines
+none_known r h = sym h.version

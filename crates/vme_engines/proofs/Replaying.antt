@@ -179,7 +179,7 @@ report_front p v trace es old new b w =
 -- ---- the faults of a trace
 
 -- what a fault of a trace is not
-no_such : (t : Option TextFault) (f : Fault) → option_map trace.fault_of t ≡ Some f → (f ≡ Read) ⊎ (f ≡ Memory) ⊎ (f ≡ Failed) ⊎ (f ≡ Write) → ⊥
+pub no_such : (t : Option TextFault) (f : Fault) → option_map trace.fault_of t ≡ Some f → (f ≡ Read) ⊎ (f ≡ Memory) ⊎ (f ≡ Failed) ⊎ (f ≡ Write) → ⊥
 no_such None f h which = cc
 no_such (Some no_header) f h which = elim which [ | inl e ↦ cc | inr r ↦ elim r [ | inl e ↦ cc | inr q ↦ elim q [ | inl e ↦ cc | inr e ↦ cc ] ] ]
 no_such (Some (no_edge n)) f h which = elim which [ | inl e ↦ cc | inr r ↦ elim r [ | inl e ↦ cc | inr q ↦ elim q [ | inl e ↦ cc | inr e ↦ cc ] ] ]

@@ -1,5 +1,5 @@
 -- The part of an input before its trace, byte by byte: the words of the contracts between the functions of `joined`.
-use Rattle.std.specs.Prelude.{◌≡◌, ◌<◌, ◌≤◌, ◌+◌, ◌⊎◌, ◌++◌, ◌∷◌, [], ℕ, min, true, List, length, take, Option, Some, None, option_map, unwrap_or, Result, Ok, Err}
+use Rattle.std.specs.Prelude.{◌≡◌, ◌<◌, ◌≤◌, ◌+◌, ◌⊎◌, ◌++◌, ◌∷◌, [], ℕ, min, Bool, true, false, List, length, take, Option, Some, None, option_map, unwrap_or, Result, Ok, Err}
 use Rattle.std.specs.Io.KnownBytes.{Consumes}
 use Rattle.std.specs.declared.alloc.AllocError.{AllocError}
 use Rattle.vme_model.specs.declared.signals.Version.{Version}
@@ -8,6 +8,7 @@ use Rattle.vme_model.specs.Text.{header, read_of}
 use Rattle.vme_trace.specs.declared.Fault.{Fault}
 use Rattle.vme_trace.specs.Reading as trace
 use Rattle.vme_trace.specs.Taking.{IsOneLine}
+use Rattle.vme_engines.specs.declared.joins.Found.{Found}
 use Rattle.vme_engines.specs.declared.joins.Front.{Front}
 use Rattle.vme_engines.specs.Streams.{Streams, streams, IsInput, WroteNothing}
 use Rattle.vme_engines.specs.Outcomes.{Answer, scenario_limit, Lent, Replays}
@@ -50,9 +51,9 @@ Takes bytes byte f (Ok (Some version)) = EndsFront f (bytes ++ byte ∷ []) vers
 Takes bytes byte f (Err e) = Unit {0}
 
 -- what the bytes of a piece do
-abbrev pub Finds : List ℕ → List ℕ → Front → Result (Option (Version × ℕ)) AllocError → Type 0
+abbrev pub Finds : List ℕ → List ℕ → Front → Result (Option Found) AllocError → Type 0
 Finds bytes piece f (Ok None) = IsFront f (bytes ++ piece)
-Finds bytes piece f (Ok (Some found)) = (found.1 ≤ length piece) × EndsFront f (bytes ++ take found.1 piece) found.0
+Finds bytes piece f (Ok (Some found)) = (found.taken ≤ length piece) × EndsFront f (bytes ++ take found.taken piece) found.version
 Finds bytes piece f (Err e) = Unit {0}
 
 -- the scenario's text as it was held: all of it, unless both are too long
@@ -60,8 +61,9 @@ abbrev pub IsTextOf : List ℕ → List ℕ → Type 0
 IsTextOf before text = (text ≡ before) ⊎ ((scenario_limit < length text) × (scenario_limit < length before))
 
 -- A reader took in the header line and the rest of the piece behind it.
-abbrev pub Starts : List ℕ → trace.State → List Edge → Result (Unit {0}) Fault → Type 0
-Starts bytes reader es (Ok _) = trace.HasRead reader bytes es
+abbrev pub Starts : List ℕ → trace.State → List Edge → Result Bool Fault → Type 0
+Starts bytes reader es (Ok true) = trace.HasRead reader bytes es
+Starts bytes reader es (Ok false) = ⊥
 Starts bytes reader es (Err f) = (more : List ℕ) → trace.HasFault (read_of (bytes ++ more)) reader.version es f
 
 -- What stands behind the text of a scenario was replayed: its header line, what was read behind it, and the rest.

@@ -17,17 +17,17 @@ cut at_line (b ∷ bytes) =
     if at_line && begins_trace (b ∷ bytes) then Some ([], b ∷ bytes)
     else option_map (λ parts. (b ∷ parts.0, parts.1)) (cut (b == 10) bytes)
 
--- No header line stands in what was read: X1 at the end of the input, F1 or X5 where it could not be read, or F3.
-abbrev pub FindsNoTrace : Streams → Answer → Type 0
-FindsNoTrace s (Err (fault.Trace Header)) = IsReadOut s
-FindsNoTrace s (Err (fault.Trace Read)) = Unit {0}
-FindsNoTrace s (Err fault.CannotRead) = Unit {0}
-FindsNoTrace s (Err fault.NoMemory) = Unit {0}
-FindsNoTrace s _ = ⊥
+-- No header line was found in these bytes: X1 at the end of the input, F1 or X5 where it could not be read on, or F3.
+abbrev pub FindsNoTrace : Streams → List ℕ → Answer → Type 0
+FindsNoTrace s bytes (Err (fault.Trace Header)) = (cut true bytes ≡ None) × IsReadOut s
+FindsNoTrace s bytes (Err (fault.Trace Read)) = cut true bytes ≡ None
+FindsNoTrace s bytes (Err fault.CannotRead) = cut true bytes ≡ None
+FindsNoTrace s bytes (Err fault.NoMemory) = Unit {0}
+FindsNoTrace s bytes _ = ⊥
 
 -- What `joined` leaves: a replay of the trace on the scenario before it, or nothing where there is no trace.
 abbrev pub Joins : Streams → Answer → Type 0
 Joins s answer =
     ((text : List ℕ) × (trace : List ℕ) × IsInput s.from (text ++ trace) × (cut true (text ++ trace) ≡ Some (text, trace))
     × Lent text (WroteNothing s) (λ p r. Replays p text trace s r) answer)
-    ⊎ ((bytes : List ℕ) × HasRead s bytes × (cut true bytes ≡ None) × WroteNothing s × FindsNoTrace s answer)
+    ⊎ ((bytes : List ℕ) × HasRead s bytes × WroteNothing s × FindsNoTrace s bytes answer)

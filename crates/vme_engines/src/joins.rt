@@ -1,5 +1,5 @@
 //! A scenario and a trace in one input.
-ghost use Rattle.std.specs.Prelude.{◌≡◌, ◌≢◌, ◌+◌, ◌<◌, ◌≤◌, ◌++◌, ◌∷◌, ℕ, List, [], length, take, Some, None, Ok, Err, OnOk, OnErr};
+ghost use Rattle.std.specs.Prelude.{◌≡◌, ◌≢◌, ◌+◌, ◌<◌, ◌≤◌, ◌++◌, ◌∷◌, ℕ, List, [], length, take, drop, Some, None, Ok, Err, OnOk, OnErr};
 ghost use Rattle.vme_model.specs.Text.{version_of, header};
 ghost use Rattle.vme_trace.specs.Reading.{HasRead};
 ghost use Rattle.vme_engines.specs.Streams.{streams};
@@ -26,6 +26,15 @@ struct Front {
     held: Vec<u8>,
     /// The first bytes of the line that is not complete. A line of six bytes is no header line.
     line: ArrayVec<u8, 6>,
+}
+
+/// A header line that was found.
+#[derive(Clone, Copy, PartialEq, Eq, Debug)]
+struct Found {
+    /// The version that it names.
+    version: Version,
+    /// How many bytes of the piece were taken, up to its end.
+    taken: usize,
 }
 
 /// The version that a header line names.
@@ -92,22 +101,26 @@ impl Front {
             self.follow(byte);
             return Ok(None);
         }
-        if let Some(version) = header_of(&self.line) {
-            return Ok(Some(version));
+        match header_of(&self.line) {
+            Some(version) => return Ok(Some(version)),
+            None => {}
         }
         self.hold(byte)?;
         self.line.clear();
         Ok(None)
     }
 
-    /// Takes the bytes of a piece, up to the end of a header line. Where there is one, the version that is named
-    /// there, and how many bytes were taken.
-    fn find(&mut self, piece: &[u8]) -> Result<Option<(Version, usize)>, AllocError>
+    /// Takes the bytes of a piece, up to the end of a header line.
+    fn find(&mut self, piece: &[u8]) -> Result<Option<Found>, AllocError>
         ensures { (bytes : List ℕ) → IsFront self.old bytes → Finds bytes piece.now self.new result }
     {
         for (place, byte) in piece.iter().enumerate() {
-            if let Some(version) = self.take(*byte)? {
-                return Ok(Some((version, place + 1)));
+            match self.take(*byte)? {
+                Some(version) => {
+                    let taken = place + 1;
+                    return Ok(Some(Found { version, taken }));
+                }
+                None => {}
             }
         }
         Ok(None)
@@ -123,20 +136,30 @@ impl Front {
     }
 }
 
-/// Feeds the header line of a trace and what was read behind it.
+/// What stands in a piece behind what was taken of it.
+fn behind(piece: &[u8], taken: usize) -> &[u8]
+    requires { taken ≤ length piece.now }
+    ensures rest { result.now ≡ drop taken piece.now }
+    ensures len { length result.now ≤ length piece.now }
+{
+    &piece[taken..]
+}
+
+/// Feeds the header line of a trace and what was read behind it, and answers as a read does.
 fn start(
     reader: &mut Reader,
     version: Version,
     rest: &[u8],
     edges: &mut Vec<Edge>,
-) -> Result<(), Fault>
+) -> Result<bool, Fault>
     requires reader { HasRead reader.old [] [] }
     requires empty { edges.old.items ≡ [] }
     ensures version { reader.new.version ≡ Some version }
-    ensures { Starts ((header version ++ 10 ∷ []) ++ rest.now) reader.new edges.new.items result }
+    ensures starts { Starts ((header version ++ 10 ∷ []) ++ rest.now) reader.new edges.new.items result }
 {
     reader.feed(header_line(version), edges)?;
-    reader.feed(rest, edges)
+    reader.feed(rest, edges)?;
+    Ok(true)
 }
 
 /// Replays a trace whose header line and a piece behind it were read, on the scenario before it.
@@ -158,7 +181,7 @@ fn replay_behind<R: Read, W: Write>(
     let room = history_room(alloc)?;
     let mut reader = Reader::new();
     let mut edges = Vec::new(alloc);
-    let first = start(&mut reader, version, rest, &mut edges).map(|()| true);
+    let first = start(&mut reader, version, rest, &mut edges);
     let backplane = Backplane::new(plan, room, version);
     match replay_on(backplane, reader, edges, first, reads, input, out) {
         Ok(status) => Ok(status),
@@ -180,17 +203,20 @@ pub fn joined<R: Read, W: Write>(
     let mut front = Front::new(alloc);
     let mut buffer = [0u8; 512];
     'reads: for done in 0..READS {
-        let Ok(count) = read_piece(input, &mut buffer) else {
-            return Err(EngineFault::CannotRead);
+        let count = match read_piece(input, &mut buffer) {
+            Ok(count) => count,
+            Err(_) => return Err(EngineFault::CannotRead),
         };
         if count == 0 {
             return Err(EngineFault::Trace(Fault::Header));
         }
-        match front.find(&buffer[..count]) {
+        let piece = &buffer[..count];
+        match front.find(piece) {
             Err(_) => return Err(EngineFault::NoMemory),
-            Ok(Some((version, taken))) => {
-                let rest = &buffer[taken..count];
-                return replay_behind(alloc, front, version, rest, READS - 1 - done, input, out);
+            Ok(Some(found)) => {
+                let rest = behind(piece, found.taken);
+                let reads = READS - 1 - done;
+                return replay_behind(alloc, front, found.version, rest, reads, input, out);
             }
             Ok(None) => {}
         }

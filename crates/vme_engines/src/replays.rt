@@ -107,7 +107,10 @@ fn replay_trace<R: Read, W: Write>(
             let backplane = Backplane::new(plan, room, version);
             replay_on(backplane, reader, edges, first, reads, trace, out)
         }
-        None => Err(first.err().unwrap_or(Fault::Read)),
+        None => match first {
+            Ok(_) => Err(Fault::Read),
+            Err(fault) => Err(fault),
+        },
     }
 }
 

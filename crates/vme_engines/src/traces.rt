@@ -17,7 +17,6 @@ pub(crate) fn open<R: Read>(
     edges: &mut Vec<Edge>,
 ) -> (Result<bool, Fault>, u32)
     requires reader { HasRead reader.old [] [] }
-    requires version { reader.old.version ≡ None }
     requires empty { edges.old.items ≡ [] }
     ensures { Opens (R.remaining input.old) (R.remaining input.new) reader.new edges.new.items result }
 {

@@ -1,5 +1,4 @@
 //! What went wrong, as the line on standard error.
-use std::alloc::AllocError;
 use std::fmt;
 use vme_engines::EngineFault;
 
@@ -22,12 +21,6 @@ impl<'a> ProgramFault<'a> {
             EngineFault::TooLong => ProgramFault::TooLong(name),
             other => ProgramFault::Engine(other),
         }
-    }
-}
-
-impl From<AllocError> for ProgramFault<'_> {
-    fn from(_: AllocError) -> Self {
-        ProgramFault::Engine(EngineFault::NoMemory)
     }
 }
 

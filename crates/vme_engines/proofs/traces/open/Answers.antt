@@ -3,6 +3,8 @@ use Rattle.vme_trace.specs.declared.Fault.{Fault}
 use Rattle.vme_trace.specs.Reading.{Pumped}
 use Rattle.vme_engines.specs.Steps.{Comes}
 use Rattle.vme_engines.proofs.Replaying.{IsReading, came, opens_more}
+use Rattle.std.proofs.KnownBytes.{Consumes-nil}
+use Rattle.vme_engines.proofs.Known.{none_known}
 use Rattle.vme_engines.proofs.traces.open.Goals as goal
 
 pub returns-then-is_settled : goal.returns-then-is_settled
@@ -25,3 +27,10 @@ reads-preserved g c =
       version = goes.1;
       empty = on.1;
     }
+
+pub reads-init : goal.reads-init
+reads-init g c = record {
+  reading = record { later = []; taken = Consumes-nil _; bounded = omega arith; read = c.requires.reader };
+  version = none_known _ c.requires.reader;
+  empty = c.requires.empty;
+}
