@@ -1,5 +1,5 @@
 -- A driver has one edge for each of its wires to consider, and at most two for its address group.
-use Rattle.std.proofs.Common.{◌≡◌, ◌≤◌, ◌+◌, refl, arith, Bool, true, false, List, [], ◌∷◌, ◌++◌, length, map, ℕ, length-append}
+use Rattle.std.proofs.Common.{◌≤◌, ◌+◌, arith, Bool, true, false, List, [], ◌∷◌, ◌++◌, length, map, ℕ, length-append}
 use Rattle.std.proofs.lemmas.List.{length-map}
 use Rattle.std.specs.Prelude.{Option, Some, None, option_map, cond}
 use Rattle.std.specs.List.{flat_map}
@@ -9,7 +9,6 @@ use Rattle.vme_model.specs.declared.signals.Driver.{Driver}
 use Rattle.vme_model.specs.declared.signals.Driver.TheVariants.{Controller, Slot}
 use Rattle.vme_model.specs.declared.signals.Wire.{Wire}
 use Rattle.vme_model.specs.declared.signals.Wire.TheVariants.{Br, BgOut, Bbsy, Addr, AddressStrobe, DataStrobe, Irq, IackOut, Dtack}
-use Rattle.vme_model.specs.declared.signals.Cycle.{Cycle}
 use Rattle.vme_model.specs.declared.signals.Cycle.TheVariants.{Acknowledge, Access}
 use Rattle.vme_model.specs.declared.signals.Edge.{Edge}
 use Rattle.vme_model.specs.Plan.{Plan, board}
@@ -42,5 +41,5 @@ at_most_ten p h Controller = omega arith
 at_most_ten p h (Slot s) =
     let t = λ (w : Wire). turned h (Slot s) w in
     around (t Br) (t BgOut) (t Bbsy) (t AddressStrobe) (t DataStrobe) (t Irq) (t IackOut) (t Dtack)
-        (cond (drive h (Slot s) Addr) (t Addr ∷ []) (going_on p h (Slot s)))
-        (two_of (drive h (Slot s) Addr) (t Addr) (going_on p h (Slot s)) (two_on p h s (board p s)))
+    (cond (drive h (Slot s) Addr) (t Addr ∷ []) (going_on p h (Slot s)))
+    (two_of (drive h (Slot s) Addr) (t Addr) (going_on p h (Slot s)) (two_on p h s (board p s)))

@@ -1,12 +1,11 @@
 -- The controller has a grant for each of the levels 0 to 3.
 use Rattle.std.proofs.Common.{◌≡◌, ◌<◌, refl, subst, arith, ℕ, Bool, true, false}
-use Rattle.std.specs.Prelude.{Option, IsTrue, nat_lt, ◌&&◌}
+use Rattle.std.specs.Prelude.{IsTrue, ◌&&◌}
 use Rattle.std.proofs.lemmas.Bool.Decides.{nat_tests}
 use Rattle.vme_model.specs.declared.signals.Driver.{Driver}
 use Rattle.vme_model.specs.declared.signals.Driver.TheVariants.{Controller, Slot}
 use Rattle.vme_model.specs.declared.signals.Wire.{Wire}
 use Rattle.vme_model.specs.declared.signals.Wire.TheVariants.{Bg}
-use Rattle.vme_model.specs.declared.signals.Cycle.{Cycle}
 use Rattle.vme_model.specs.declared.signals.Edge.{Edge}
 use Rattle.vme_model.specs.Signals.{is_well_formed, has_wire, has_value}
 

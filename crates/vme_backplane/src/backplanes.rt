@@ -2,6 +2,7 @@
 ghost use Rattle.std.specs.Prelude.{◌≡◌, ◌==◌, ◌+◌, ◌<◌, ◌≤◌, ◌↔◌, [], IfOk, IsTrue, Ok, OnOk, Some, false, is_ok, length, slice_get};
 ghost use Rattle.vme_model.specs.History.{in_order};
 ghost use Rattle.vme_model.specs.Verdict.{verdict, verdict_but_full, after, kept, IsLegal};
+ghost use Rattle.vme_model.specs.Safe.{IsSafe, IsOrderly};
 ghost use Rattle.vme_model.specs.Views.{pins};
 ghost use Rattle.vme_model.specs.Deliveries.{answer, delivered};
 ghost use Rattle.vme_model.specs.Offers.{offered};
@@ -72,6 +73,15 @@ impl Backplane {
         self.plan.accepted();
     }
 
+    /// What follows for its history: it is safe and orderly.
+    #[tactic(auto, using(vme_model::proofs::Safety::legal_is_safe, vme_model::proofs::Safety::legal_is_orderly))]
+    pub fn safety(&self)
+        ensures safe { IsSafe self.now.plan self.now.history }
+        ensures orderly { IsOrderly self.now.version self.now.plan self.now.history }
+    {
+        self.laws();
+    }
+
     /// The answer to an edge, but for what it delivers.
     fn verdict(&self, edge: Edge) -> Result<(), Refused>
         ensures value { result ≡ verdict self.now edge }
@@ -90,13 +100,17 @@ impl Backplane {
         ensures accepted { is_ok result ≡ is_ok (verdict self.old edge) }
         ensures state { self.new ≡ after self.old edge }
         ensures legal { IsLegal self.new.version self.new.plan self.new.history }
+        ensures safe { IsSafe self.new.plan self.new.history }
+        ensures orderly { IsOrderly self.new.version self.new.plan self.new.history }
     {
         self.laws();
+        self.safety();
         self.verdict(edge)?;
         let delivery = scans::delivery(&self.plan, &self.edges, edge);
         let fits = self.edges.push(edge).is_ok();
         prove!(fits);
         self.laws();
+        self.safety();
         Ok(delivery)
     }
 
@@ -104,6 +118,8 @@ impl Backplane {
     pub fn run(&mut self, edges: &[Edge]) -> Counts
         ensures state { self.new ≡ kept self.old edges.now }
         ensures legal { IsLegal self.new.version self.new.plan self.new.history }
+        ensures safe { IsSafe self.new.plan self.new.history }
+        ensures orderly { IsOrderly self.new.version self.new.plan self.new.history }
         ensures accepted { length self.old.history + result.accepted ≡ length self.new.history }
         ensures refused { result.accepted + result.refused ≡ length edges.now }
     {
@@ -118,6 +134,7 @@ impl Backplane {
             }
         }
         self.laws();
+        self.safety();
         counts
     }
 

@@ -199,7 +199,11 @@ pub fn served_since_request(plan: &Plan, edges: &[Edge], board: Driver, kind: Ir
 }
 
 /// What an answer delivers, by what is shown, the slot that shows it, and the board that answers.
-fn delivered_by(shown: Option<Cycle>, addressing: Option<u8>, board: Option<Row>) -> Option<Delivery>
+fn delivered_by(
+    shown: Option<Cycle>,
+    addressing: Option<u8>,
+    board: Option<Row>,
+) -> Option<Delivery>
     ensures { result ≡ delivered_by shown addressing board }
 {
     let (
@@ -212,7 +216,8 @@ fn delivered_by(shown: Option<Cycle>, addressing: Option<u8>, board: Option<Row>
                 ..
             },
         ),
-    ) = (shown, addressing, board) else {
+    ) = (shown, addressing, board)
+    else {
         return None;
     };
     Some(Delivery {

@@ -160,7 +160,10 @@ fn each_status_goes_to_the_handler_once(rt: HostRuntime) -> Result<(), Fail> {
         &[(12, Refused::Rule(25)), (20, Refused::NotSettled(1))],
     )?;
     let given = both.deliveries(rt.alloc())?;
-    assert_eq!(&rt; given.as_slice(), [delivered(2, 65), delivered(3, 66)].as_slice());
+    assert_eq!(&rt;
+        given.as_slice(),
+        [delivered(2, 65), delivered(3, 66)].as_slice()
+    );
 
     let mut alone = backplane(&rt, &rows[..2], &[], 100, Version::One)?;
     meets(
@@ -225,7 +228,8 @@ fn a_trace_has_a_limit(rt: HostRuntime) -> Result<(), Fail> {
     Ok(())
 }
 
-const WITHDRAWN: &str = "2 br-; c bg3-; 2 br+; c bg3+; 1 bgout-; 2 bgout-; 2 bbsy-; c bg3+; 1 br-; c bg3-; 1 bgout+; c bg3-; 2 bgout+; c bg3-; 1 bbsy-";
+const WITHDRAWN: &str =
+    "2 br-; c bg3-; 2 br+; c bg3+; 1 bgout-; 2 bgout-; 2 bbsy-; c bg3+; 1 br-; c bg3-; 1 bgout+; c bg3-; 2 bgout+; c bg3-; 1 bbsy-";
 
 #[test]
 fn the_second_version_withdraws_requests(rt: HostRuntime) -> Result<(), Fail> {
@@ -274,6 +278,9 @@ fn a_run_keeps_what_is_offered(rt: HostRuntime) -> Result<(), Fail> {
     assert_eq!(&rt; backplane.edge_at(1), grant);
     assert!(&rt; backplane.pins(Driver::Slot(1)).grant_in);
     let take = edge("1 bbsy-").ok_or("no edge")?;
-    assert_eq!(&rt; backplane.offers(Driver::Slot(1)).as_slice(), [take].as_slice());
+    assert_eq!(&rt;
+        backplane.offers(Driver::Slot(1)).as_slice(),
+        [take].as_slice()
+    );
     Ok(())
 }

@@ -1,6 +1,6 @@
 -- What the sets on a board's pins hold: exactly the levels whose lines are low.
-use Rattle.std.proofs.Common.{◌≡◌, refl, sym, ap, ℕ, zero, suc, ◌<◌, ◌≤◌, ◌+◌, ◌-◌, ◌^◌, ◌==◌, Bool, true, false, List, [], ◌∷◌, arith}
-use Rattle.std.specs.Prelude.{◌&&◌, ◌||◌, not, nat_le, if◌then◌else◌, bit_and, find, Option, Some, None}
+use Rattle.std.proofs.Common.{◌≡◌, refl, ap, ℕ, zero, suc, ◌<◌, ◌≤◌, Bool, true, false, List, [], ◌∷◌, arith}
+use Rattle.std.specs.Prelude.{◌&&◌, not, if◌then◌else◌, find}
 use Rattle.std.specs.List.{list_all}
 use Rattle.vme_model.specs.Sets.{has_level, has_bus_level, irq_levels, bus_levels}
 use Rattle.vme_model.specs.Accepted.{irq_numbers}

@@ -1,15 +1,13 @@
 -- Which plans are accepted: the first fault, in the order of the tests. (Profile, but for P2, P4 and P6: chapters 7, 3 and 4.)
-use Rattle.std.specs.Prelude.{◌≡◌, ◌==◌, ◌&&◌, not, ℕ, Bool, true, false, Option, Some, None, List, [], ◌∷◌, ◌++◌, length, map, filter, find, nat_lt, nat_le, is_some, is_none, option_map, if◌then◌else◌}
+use Rattle.std.specs.Prelude.{◌≡◌, ◌==◌, ◌&&◌, not, ℕ, Bool, true, false, Option, Some, None, List, [], ◌∷◌, ◌++◌, length, map, filter, find, nat_lt, nat_le, is_none, option_map}
 use Rattle.std.specs.List.{list_any}
 use Rattle.std.specs.Option.{option_map_or}
 use Rattle.vme_model.specs.declared.boards.Row.{Row}
-use Rattle.vme_model.specs.declared.boards.RequesterRow.{RequesterRow}
-use Rattle.vme_model.specs.declared.boards.InterrupterRow.{InterrupterRow}
 use Rattle.vme_model.specs.declared.boards.Jumper.{Jumper}
 use Rattle.vme_model.specs.declared.boards.Release.{Release}
 use Rattle.vme_model.specs.declared.boards.Release.TheVariants.{Done, Request}
 use Rattle.vme_model.specs.declared.boards.ArbiterKind.{ArbiterKind}
-use Rattle.vme_model.specs.declared.boards.ArbiterKind.TheVariants.{Sgl, Pri, Rrs}
+use Rattle.vme_model.specs.declared.boards.ArbiterKind.TheVariants.{Sgl}
 use Rattle.vme_model.specs.declared.sets.ChainId.{ChainId}
 use Rattle.vme_model.specs.declared.sets.ChainId.TheVariants as chain
 use Rattle.vme_model.specs.declared.refusals.Field.{Field}

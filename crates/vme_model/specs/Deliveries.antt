@@ -1,7 +1,6 @@
 -- Which status/ID bytes went to which handler. (Chapter 4.)
-use Rattle.std.specs.Prelude.{◌&&◌, ℕ, Bool, true, false, if◌then◌else◌, Option, Some, None, option_map, Result, Ok, Err, List, [], ◌∷◌, ◌++◌}
+use Rattle.std.specs.Prelude.{◌&&◌, ℕ, if◌then◌else◌, Option, Some, None, option_map, Result, Ok, Err, List, [], ◌∷◌, ◌++◌}
 use Rattle.vme_model.specs.declared.boards.Row.{Row}
-use Rattle.vme_model.specs.declared.boards.InterrupterRow.{InterrupterRow}
 use Rattle.vme_model.specs.declared.deliveries.Delivery.{Delivery}
 use Rattle.vme_model.specs.declared.refusals.Refused.{Refused}
 use Rattle.vme_model.specs.declared.signals.Wire.TheVariants.{Dtack}

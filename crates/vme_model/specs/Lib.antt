@@ -10,6 +10,10 @@ pub mod Verdict
 pub mod Views
 pub mod Deliveries
 pub mod Counts
+pub mod GrantSafety
+pub mod CycleSafety
+pub mod Safe
+pub mod Locality
 pub mod Offers
 pub mod Text
 pub mod Report

@@ -1,5 +1,5 @@
 -- What a driver is offered, and the rounds of `drive`. (Profile.)
-use Rattle.std.specs.Prelude.{◌==◌, ◌&&◌, not, if◌then◌else◌, ℕ, zero, suc, ◌+◌, ◌%◌, Bool, true, false, Option, Some, None, List, [], ◌∷◌, ◌++◌, length, map, filter, find, nat_lt, is_some, is_ok, option_map, slice_get}
+use Rattle.std.specs.Prelude.{◌==◌, ◌&&◌, not, if◌then◌else◌, ℕ, zero, suc, ◌+◌, ◌%◌, true, Option, Some, None, List, [], ◌∷◌, ◌++◌, length, map, filter, find, nat_lt, is_some, is_ok, option_map, slice_get}
 use Rattle.std.specs.List.{flat_map}
 use Rattle.std.specs.Option.{option_map_or, option_or, option_to_list}
 use Rattle.vme_model.specs.declared.boards.Row.{Row}

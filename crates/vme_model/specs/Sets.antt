@@ -1,5 +1,5 @@
 -- Sets of levels and chains, one bit each. (The numbering of bits is this project's profile.)
-use Rattle.std.specs.Prelude.{◌==◌, ◌&&◌, ◌+◌, ◌-◌, ◌^◌, ℕ, Bool, true, false, nat_lt, bit_and, bit_or, if◌then◌else◌}
+use Rattle.std.specs.Prelude.{◌==◌, ◌&&◌, ◌+◌, ◌-◌, ◌^◌, ℕ, Bool, List, codes, nat_lt, bit_and, bit_or, if◌then◌else◌}
 use Rattle.vme_model.specs.declared.sets.ChainId.{ChainId}
 use Rattle.vme_model.specs.declared.sets.ChainId.TheVariants as chain
 use Rattle.vme_model.specs.declared.sets.Levels.{Levels}
@@ -24,6 +24,14 @@ chain_bit chain.Bg1 = 2
 chain_bit chain.Bg2 = 4
 chain_bit chain.Bg3 = 8
 chain_bit chain.Iack = 16
+
+-- how a chain is called in texts (profile)
+abbrev pub chain_name : ChainId → List ℕ
+chain_name chain.Bg0 = codes "bg0"
+chain_name chain.Bg1 = codes "bg1"
+chain_name chain.Bg2 = codes "bg2"
+chain_name chain.Bg3 = codes "bg3"
+chain_name chain.Iack = codes "iack"
 
 abbrev pub has_chain : Chains → ChainId → Bool
 has_chain set c = bit_and set.0 (chain_bit c) == chain_bit c

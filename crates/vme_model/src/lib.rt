@@ -5,6 +5,7 @@
 
 mod boards;
 mod deliveries;
+pub mod laws;
 mod pins;
 mod refusals;
 mod sets;

@@ -1,7 +1,7 @@
 //! Daisy chains, and sets of levels and chains with one bit each.
-ghost use Rattle.std.specs.Prelude.{◌≡◌, ◌-◌, ◌^◌, ◌≤◌, ⊤, [], ◌∷◌, false, codes, slice_index_or};
+ghost use Rattle.std.specs.Prelude.{◌≡◌, ◌-◌, ◌^◌, ◌≤◌, ⊤, [], ◌∷◌, false, codes, slice_index_or, Some};
 ghost use Rattle.vme_model.specs.Plan.{grant_chain, head_wire, out_wire};
-ghost use Rattle.vme_model.specs.Sets.{has_level, has_bus_level, has_chain, with_level, with_chain, irq_levels, bus_levels, chain_bit};
+ghost use Rattle.vme_model.specs.Sets.{has_level, has_bus_level, has_chain, with_level, with_chain, irq_levels, bus_levels, chain_bit, chain_name};
 
 use crate::signals::Wire;
 use bitflags::{Flag, Flags, bitflag_items};
@@ -18,6 +18,8 @@ pub enum ChainId {
 }
 
 impl fmt::Display for ChainId {
+    ghost output = { λ c. Some (chain_name c) };
+
     fn fmt<W: fmt::Write>(&self, f: &mut fmt::Formatter<W>) -> fmt::Result {
         f.write_str(match self {
             ChainId::Bg0 => "bg0",

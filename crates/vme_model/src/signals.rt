@@ -109,10 +109,10 @@ impl Driver {
 
 impl Wire {
     /// Whether the two are one wire.
-    pub fn is_same(self, other: Wire) -> bool
-        ensures { result ≡ is_same_wire self other }
+    pub fn is_same(self, wire: Wire) -> bool
+        ensures { result ≡ is_same_wire self wire }
     {
-        self == other
+        self == wire
     }
 
     /// Whether this is one of the controller's grants.

@@ -53,8 +53,8 @@ module _ (v : Option Version) (n : ℕ) (part bytes : List ℕ) (es : List Edge)
     leads.es,
     leads.appended,
     made w m part' (bytes ++ piece) (es ++ leads.es) h (λ more.
-    ap read_of (append_assoc bytes piece more) ∙ from_here (piece ++ more) ∙ ap (with_edges es) (leads.others more)
-    ∙ (let r = rest_of w (place m part') more in rw (append_assoc es leads.es r.edges) refl)),
+        ap read_of (append_assoc bytes piece more) ∙ from_here (piece ++ more) ∙ ap (with_edges es) (leads.others more)
+        ∙ (let r = rest_of w (place m part') more in rw (append_assoc es leads.es r.edges) refl)),
   )
 
   pub fed_fault : (w : Option Version) (piece : List ℕ) (old new : List Edge) (f : Fault) → Fails v (place n part) piece old new w f
@@ -177,13 +177,16 @@ module _ (from to : Option (List ℕ)) (bytes : List ℕ) (es : List Edge) (buff
         omega arith,
         consumed_none from to buffer count none piece.1,
         sym (append-nil old),
-        (used_up, rw all
-        (record {
-          version_is = read.version ∙ sym same;
-          front = ([], read.edges ∙ sym (append-nil es) ∙ sym (append-nil (es ++ [])));
-          edges_are = λ _. read.edges ∙ sym (append-nil es);
-          fault_is = λ _. answered (read_of bytes).fault f answer;
-        })),
+        (
+          used_up,
+          rw all
+              (record {
+                version_is = read.version ∙ sym same;
+                front = ([], read.edges ∙ sym (append-nil es) ∙ sym (append-nil (es ++ [])));
+                edges_are = λ _. read.edges ∙ sym (append-nil es);
+                fault_is = λ _. answered (read_of bytes).fault f answer;
+              }),
+        ),
       )
 
   short : length (take count buffer) ≤ 512

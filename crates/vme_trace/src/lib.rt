@@ -3,9 +3,8 @@
 //! What the text says is `Rattle.vme_model.specs.Text`; what a reader has read of it is `specs/Reading.antt`.
 #![tactic(auto)]
 
-pub mod laws;
-
 mod input;
+pub mod laws;
 mod line;
 mod reader;
 #[cfg(test)]
@@ -14,9 +13,8 @@ mod writer;
 
 pub use input::{pump, read_piece};
 pub use reader::{Reader, parse};
-pub use writer::{line_of, put, write};
-
 use thiserror::Error;
+pub use writer::{line_of, put, write};
 
 /// Why a trace could not be read or written.
 #[derive(Clone, Copy, PartialEq, Eq, Debug, Error)]

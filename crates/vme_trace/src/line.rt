@@ -18,7 +18,11 @@ pub(crate) fn edge_of(line: &[u8]) -> Option<Edge>
     if !edge.is_well_formed() {
         return None;
     }
-    if spells(line, &edge) { Some(edge) } else { None }
+    if spells(line, &edge) {
+        Some(edge)
+    } else {
+        None
+    }
 }
 
 /// Whether the line is the spelling of the edge.

@@ -60,7 +60,11 @@ impl Reader {
     ///
     /// Errors: the first fault of the trace (X1 to X3) as soon as it stands in the bytes read, behind the edges of the
     /// lines before it; X6 where the list could not grow; X7 after a fault or the end.
-    pub fn feed<A: Allocator>(&mut self, piece: &[u8], edges: &mut Vec<Edge, A>) -> Result<(), Fault>
+    pub fn feed<A: Allocator>(
+        &mut self,
+        piece: &[u8],
+        edges: &mut Vec<Edge, A>,
+    ) -> Result<(), Fault>
         ensures reads { (bytes : List ℕ) (es : List Edge) → HasRead self.old bytes es
             → Fed (bytes ++ piece.now) es edges.old.items edges.new.items self.new result }
         ensures failed { self.old.place ≡ None → result ≡ Err Fault.Failed }
@@ -70,7 +74,13 @@ impl Reader {
         if self.used_up {
             return Err(Fault::Failed);
         }
-        let result = take(&mut self.version, &mut self.line, &mut self.part, piece, edges);
+        let result = take(
+            &mut self.version,
+            &mut self.line,
+            &mut self.part,
+            piece,
+            edges,
+        );
         if result.is_err() {
             self.used_up = true;
         }

@@ -5,7 +5,8 @@ use std::io::{self, ErrorKind, Read, Write};
 use vme_model::{Cycle, Driver, Edge, Version, Wire};
 
 /// Two boards ask for an interrupt at one level; the handler serves both.
-const TWO_SERVED: &[u8] = b"vme 1\n2 irq-\n3 irq-\n1 br-\nc bg3-\n1 bbsy-\n1 br+\nc bg3+\n1 addr- i4\n1 as-\n1 ds-\nc iack-\n3 dtack-\n2 dtack-\n1 ds+\n2 dtack+\n2 irq+\n1 addr+\n1 as+\n1 addr- i4\n1 as-\nc iack+\n1 as-\n1 ds-\nc iack-\n2 iackout-\n3 dtack-\n";
+const TWO_SERVED: &[u8] =
+    b"vme 1\n2 irq-\n3 irq-\n1 br-\nc bg3-\n1 bbsy-\n1 br+\nc bg3+\n1 addr- i4\n1 as-\n1 ds-\nc iack-\n3 dtack-\n2 dtack-\n1 ds+\n2 dtack+\n2 irq+\n1 addr+\n1 as+\n1 addr- i4\n1 as-\nc iack+\n1 as-\n1 ds-\nc iack-\n2 iackout-\n3 dtack-\n";
 
 /// A reader that gives at most `most` bytes a read, and whose reads number `interrupted` and `failing` fail.
 #[derive(Drop)]
@@ -86,13 +87,19 @@ fn reads_a_line_in_two_pieces(rt: HostRuntime) {
     assert_eq!(rt; reader.feed(b"vme 1\n1 b", &mut edges), Ok(()));
     assert_eq!(rt; reader.version(), Some(Version::One));
     assert_eq!(rt; reader.feed(b"r-\n", &mut edges), Ok(()));
-    assert_eq!(rt; edges.as_slice(), [board_edge(1, Wire::Br, true, None)].as_slice());
+    assert_eq!(rt;
+        edges.as_slice(),
+        [board_edge(1, Wire::Br, true, None)].as_slice()
+    );
     assert_eq!(rt; reader.feed(b"c bg", &mut edges), Ok(()));
     assert_eq!(rt; reader.finish(), Err(Fault::CutOff));
     assert_eq!(rt; reader.feed(b"3-\n", &mut edges), Err(Fault::Failed));
     assert_eq!(rt; reader.finish(), Err(Fault::Failed));
     let mut input = Pieces::new(b"c bg3-\n", 512);
-    assert_eq!(rt; pump(&mut reader, &mut input, &mut edges), Err(Fault::Failed));
+    assert_eq!(rt;
+        pump(&mut reader, &mut input, &mut edges),
+        Err(Fault::Failed)
+    );
     assert_eq!(rt; input.read, 0);
     assert_eq!(rt; edges.len(), 1);
 }
@@ -118,7 +125,10 @@ fn any_cut_reads_the_same(rt: HostRuntime) {
         assert_eq!(rt; pump(&mut reader, &mut input, &mut edges), Ok(true));
     }
     assert_eq!(rt; pump(&mut reader, &mut input, &mut edges), Ok(false));
-    assert_eq!(rt; pump(&mut reader, &mut input, &mut edges), Err(Fault::Failed));
+    assert_eq!(rt;
+        pump(&mut reader, &mut input, &mut edges),
+        Err(Fault::Failed)
+    );
     assert_eq!(rt; edges.as_slice(), whole.as_slice());
 }
 
@@ -177,9 +187,18 @@ fn refuses_a_line_that_is_no_edge(rt: HostRuntime) {
         (b"c bg4-\n", line),
         (b"1 bg3-\n", line),
         (b"vme 1\n", line),
-        (b"aaaaaaaaaaaaaaaaaaaaaaaaaaaaaaaaaaaaaaaaaaaaaaaaaaaaaaaaaaaaaaaa\n", line),
-        (b"aaaaaaaaaaaaaaaaaaaaaaaaaaaaaaaaaaaaaaaaaaaaaaaaaaaaaaaaaaaaaaaaa", long),
-        (b"aaaaaaaaaaaaaaaaaaaaaaaaaaaaaaaaaaaaaaaaaaaaaaaaaaaaaaaaaaaaaaaaa\n", long),
+        (
+            b"aaaaaaaaaaaaaaaaaaaaaaaaaaaaaaaaaaaaaaaaaaaaaaaaaaaaaaaaaaaaaaaa\n",
+            line,
+        ),
+        (
+            b"aaaaaaaaaaaaaaaaaaaaaaaaaaaaaaaaaaaaaaaaaaaaaaaaaaaaaaaaaaaaaaaaa",
+            long,
+        ),
+        (
+            b"aaaaaaaaaaaaaaaaaaaaaaaaaaaaaaaaaaaaaaaaaaaaaaaaaaaaaaaaaaaaaaaaa\n",
+            long,
+        ),
         (b"1 br-", Err(Fault::CutOff)),
         (b"21 addr- r21\n", Ok(())),
         (b"c bclr+\n", Ok(())),
@@ -188,7 +207,11 @@ fn refuses_a_line_that_is_no_edge(rt: HostRuntime) {
         let mut reader = Reader::new();
         assert_eq!(rt; reader.feed(b"vme 1\n", &mut edges), Ok(()));
         let found = reader.feed(text, &mut edges);
-        let found = if found.is_ok() { reader.finish() } else { found };
+        let found = if found.is_ok() {
+            reader.finish()
+        } else {
+            found
+        };
         assert_eq!(rt; found, want);
     }
 }
@@ -196,7 +219,10 @@ fn refuses_a_line_that_is_no_edge(rt: HostRuntime) {
 #[test]
 fn reads_the_longest_line(rt: HostRuntime) {
     let mut edges = Vec::new(rt.alloc());
-    assert_eq!(rt; parse(b"vme 2\n21 addr- r21\n7 addr- i6\n", &mut edges), Ok(Version::Two));
+    assert_eq!(rt;
+        parse(b"vme 2\n21 addr- r21\n7 addr- i6\n", &mut edges),
+        Ok(Version::Two)
+    );
     let access = board_edge(21, Wire::Addr, true, Some(Cycle::Access(21)));
     let acknowledge = board_edge(7, Wire::Addr, true, Some(Cycle::Acknowledge(6)));
     assert_eq!(rt; edges.as_slice(), [access, acknowledge].as_slice());
@@ -209,7 +235,10 @@ fn keeps_the_edges_before_a_fault(rt: HostRuntime) {
     let fault = reader.feed(b"vme 2\n1 br-\n1 bg3-\n1 br+\n", &mut edges);
     assert_eq!(rt; fault, Err(Fault::Line { n: 3 }));
     assert_eq!(rt; reader.version(), Some(Version::Two));
-    assert_eq!(rt; edges.as_slice(), [board_edge(1, Wire::Br, true, None)].as_slice());
+    assert_eq!(rt;
+        edges.as_slice(),
+        [board_edge(1, Wire::Br, true, None)].as_slice()
+    );
 }
 
 #[test]
@@ -222,7 +251,10 @@ fn a_read_that_fails_is_the_last(rt: HostRuntime) {
     assert_eq!(rt; pump(&mut reader, &mut input, &mut edges), Ok(true));
     assert_eq!(rt; pump(&mut reader, &mut input, &mut edges), Ok(true));
     assert_eq!(rt; pump(&mut reader, &mut input, &mut edges), Err(Fault::Read));
-    assert_eq!(rt; pump(&mut reader, &mut input, &mut edges), Err(Fault::Failed));
+    assert_eq!(rt;
+        pump(&mut reader, &mut input, &mut edges),
+        Err(Fault::Failed)
+    );
     assert_eq!(rt; edges.len(), 1);
 }
 
@@ -243,7 +275,10 @@ fn a_write_that_fails_leaves_a_front(rt: HostRuntime) {
 #[test]
 fn faults_have_their_texts(rt: HostRuntime) -> Result<(), std::alloc::AllocError> {
     for (fault, want) in [
-        (Fault::Header, "X1 the trace does not begin with vme 1 or vme 2"),
+        (
+            Fault::Header,
+            "X1 the trace does not begin with vme 1 or vme 2",
+        ),
         (Fault::Line { n: 3 }, "X2 line 3 is no edge"),
         (Fault::TooLong { n: 4 }, "X3 line 4 is over 64 bytes"),
         (Fault::CutOff, "X4 the trace is cut off"),

@@ -1,5 +1,5 @@
 -- What is picked of the pins is what is picked of the lines.
-use Rattle.std.proofs.Common.{◌≡◌, ◌∙◌, ap, ℕ}
+use Rattle.std.proofs.Common.{◌∙◌, ap, ℕ}
 use Rattle.vme_model.specs.declared.boards.ArbiterKind.{ArbiterKind}
 use Rattle.vme_model.specs.declared.sets.BusLevels.{BusLevels}
 use Rattle.vme_model.specs.Sets.{has_bus_level}

@@ -1,5 +1,5 @@
 -- What is wanted of the pins is what is wanted of the lines.
-use Rattle.std.proofs.Common.{◌≡◌, ◌∙◌, ap}
+use Rattle.std.proofs.Common.{◌∙◌, ap}
 use Rattle.std.specs.Prelude.{find, ◌&&◌}
 use Rattle.vme_model.specs.declared.sets.Levels.{Levels}
 use Rattle.vme_model.specs.Sets.{has_level}

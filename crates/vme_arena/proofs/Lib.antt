@@ -1,0 +1,10 @@
+pub mod Blocks
+pub mod Carving
+pub mod Cells
+pub mod Homes
+pub mod Lending
+pub mod Parts
+pub mod Sent
+pub mod Steps
+pub mod Units
+pub mod Values

@@ -1,0 +1,4 @@
+pub mod Held
+pub mod Ownership
+pub mod Stretch
+pub mod Words

@@ -1,0 +1,26 @@
+-- What a clause reads of a region, of its rest and of a lease.
+use Rattle.std.specs.Prelude.{ℕ, ◌+◌}
+use Rattle.vme_arena.specs.Stretch.{Stretch}
+use Rattle.vme_arena.specs.declared.region.Region.{Region}
+use Rattle.vme_arena.specs.declared.region.Rest.{Rest}
+use Rattle.vme_arena.specs.declared.lease.Lease.{Lease}
+
+-- the number of bytes that the region was made with
+abbrev pub region_size : Region → ℕ
+region_size r = r.size
+
+-- where the rest begins in the region
+abbrev pub rest_start : Rest → ℕ
+rest_start r = r.start
+
+-- the bytes from there to the end of the region
+abbrev pub rest_left : Rest → ℕ
+rest_left r = r.left
+
+-- the rest, as a stretch of the region's block
+abbrev pub rest_stretch : Rest → Stretch
+rest_stretch r = record { block = r.loan.spot.block; start = r.start; end = r.start + r.left }
+
+-- the stretch that its blocks are cut from
+abbrev pub lease_stretch : Lease → Stretch
+lease_stretch l = l.slot

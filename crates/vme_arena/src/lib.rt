@@ -1,0 +1,20 @@
+//! One region of memory, carved into stretches that serve collections as their allocators.
+//!
+//! A stretch lives as long as the borrow of its region, may move to another thread, and is exact:
+//! a carving is refused only where the region's rest is too short, and then nothing changes.
+#![tactic(auto)]
+
+mod granules;
+mod held;
+pub mod laws;
+mod lease;
+mod loan;
+mod memory;
+mod piece;
+mod region;
+mod slot;
+#[cfg(test)]
+mod tests;
+
+pub use lease::Lease;
+pub use region::{Full, Region, Rest};

@@ -1,0 +1,38 @@
+//! What holds of every legal list of edges of every accepted plan.
+//!
+//! The functions do nothing: each is a theorem over the definitions, stated by its contract.
+ghost use Rattle.std.specs.Prelude.{List};
+ghost use Rattle.vme_model.specs.Accepted.{IsAccepted};
+ghost use Rattle.vme_model.specs.Locality.{AreWellFormed, IsLocal};
+ghost use Rattle.vme_model.specs.Plan.{Plan};
+ghost use Rattle.vme_model.specs.Safe.{IsOrderly, IsSafe};
+ghost use Rattle.vme_model.specs.Verdict.{IsLegal};
+ghost use Rattle.vme_model.specs.declared.signals.Edge.{Edge};
+ghost use Rattle.vme_model.specs.declared.signals.Version.TheVariants.{One, Two};
+ghost use Rattle.vme_model.specs.declared.signals.Version.{Version};
+
+/// Every legal list is safe: after each edge at most one grant travels, none while BBSY* is low, at most one board
+/// holds the bus and at most one drives the address lines; each board took the bus and answered an acknowledge by
+/// right; and each ROAK request was answered at most once, and exactly once before it was let go.
+pub fn legal_list_is_safe()
+    ensures { (version : Version) (p : Plan) (h : List Edge) → IsAccepted p → IsLegal version p h → IsSafe p h }
+{}
+
+/// Every legal list is orderly: after each edge the low grant segments are one run of one chain, that begins with the
+/// controller's while BBSY* is high; the bus is released only where none is low; no grant is lost; a board drives the
+/// address lines without the bus only while its AS* is low; and no cycle has two answers.
+pub fn legal_list_is_orderly()
+    ensures { (version : Version) (p : Plan) (h : List Edge) → IsAccepted p → IsLegal version p h → IsOrderly version p h }
+{}
+
+/// What the first version of the rules allows, the second allows too.
+pub fn first_version_is_within_second()
+    ensures { (p : Plan) (h : List Edge) → IsAccepted p → IsLegal One p h → IsLegal Two p h }
+{}
+
+/// The verdict on an edge is the same after two histories of which its driver saw the same; but for a full trace, and
+/// for the edges that a settling rule binds to other boards' wires.
+pub fn verdict_is_local()
+    ensures well_formed { (version : Version) (p : Plan) (h k : List Edge) (e : Edge) → IsAccepted p → AreWellFormed h → AreWellFormed k → IsLocal version p h k e }
+    ensures legal { (version : Version) (p : Plan) (h k : List Edge) (e : Edge) → IsAccepted p → IsLegal version p h → IsLegal version p k → IsLocal version p h k e }
+{}
