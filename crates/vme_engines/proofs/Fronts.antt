@@ -83,11 +83,11 @@ took_feed f g bytes h other line held =
       part = [];
       whole = sym (append-nil (bytes ++ 10 ∷ []));
       none = λ more.
-        let all : (bytes ++ 10 ∷ []) ++ more ≡ h.before ++ (h.part ++ 10 ∷ more) =
-        append_assoc bytes (10 ∷ []) more ∙ ap (λ l. l ++ 10 ∷ more) h.whole ∙ append_assoc h.before h.part (10 ∷ more) in
-        let back : h.before ++ (h.part ++ 10 ∷ []) ≡ bytes ++ 10 ∷ [] = sym (ap (λ l. l ++ 10 ∷ []) h.whole ∙ append_assoc h.before h.part (10 ∷ [])) in
-        ap (cut true) all ∙ h.none (h.part ++ 10 ∷ more) ∙ ap (behind h.before) (cut_line h.part more h.one_line (unnamed h.part other_part))
-        ∙ behind_behind h.before (h.part ++ 10 ∷ []) (cut true more) ∙ ap (λ l. behind l (cut true more)) back;
+          let all : (bytes ++ 10 ∷ []) ++ more ≡ h.before ++ (h.part ++ 10 ∷ more) =
+          append_assoc bytes (10 ∷ []) more ∙ ap (λ l. l ++ 10 ∷ more) h.whole ∙ append_assoc h.before h.part (10 ∷ more) in
+          let back : h.before ++ (h.part ++ 10 ∷ []) ≡ bytes ++ 10 ∷ [] = sym (ap (λ l. l ++ 10 ∷ []) h.whole ∙ append_assoc h.before h.part (10 ∷ [])) in
+          ap (cut true) all ∙ h.none (h.part ++ 10 ∷ more) ∙ ap (behind h.before) (cut_line h.part more h.one_line (unnamed h.part other_part))
+          ∙ behind_behind h.before (h.part ++ 10 ∷ []) (cut true more) ∙ ap (λ l. behind l (cut true more)) back;
       one_line = tt;
       line = line;
       held = held;
@@ -118,8 +118,8 @@ text_of held before v n text h count is =
     let sized : length text ≡ min n (length held) = ap length is ∙ length-take n held in
     elim (short_or (length (before ++ header v)) 1048582) [
       | inl short ↦ (let all : held ≡ before ++ header v = h.all short in
-        let number : n ≡ length before = omega arith in
-        inl (is ∙ ap (take n) all ∙ take-append-le n before (header v) (omega arith) ∙ take_all n before (omega arith)))
+          let number : n ≡ length before = omega arith in
+          inl (is ∙ ap (take n) all ∙ take-append-le n before (header v) (omega arith) ∙ take_all n before (omega arith)))
       | inr long ↦ inr (omega arith, omega arith)
     ]
 

@@ -75,22 +75,23 @@ module _ (text head : List ℕ) (from at to : Option (List ℕ)) (reader next : 
   came_read : (f : Fault) → trace.FailsToRead at to (head ++ r.later) [] new next f → Comes from to text head left next (es ++ new) (Err f)
   came_read f h =
       let same : es ++ new ≡ es = ap (λ l. es ++ l) h.2 ∙ append-nil es in
-      let stays : next.version ≡ reader.version = h.4 ∙ r.read.version in
-      (
+      let stays : next.version ≡ reader.version = h.4 ∙ r.read.version in (
         r.later,
         Consumes-kept from at to (text ++ (head ++ r.later)) r.taken h.1,
-        inl (h.0, record {
-          version = h.4;
-          edges = r.read.edges ∙ sym same;
-          begins = λ w e. rw same (begins_more w reader (head ++ r.later) es r.read (sym stays ∙ e) (unwrap_or to []));
-        }),
+        inl (
+          h.0,
+          record {
+            version = h.4;
+            edges = r.read.edges ∙ sym same;
+            begins = λ w e. rw same (begins_more w reader (head ++ r.later) es r.read (sym stays ∙ e) (unwrap_or to []));
+          },
+        ),
       )
 
   came_fault : (f : Fault) → trace.StopsWithin at to (head ++ r.later) es [] new next f → Comes from to text head left next (es ++ new) (Err f)
   came_fault f h =
       let same : new ≡ h.1 = h.4 in
-      let stops : trace.HasFault (read_of (((head ++ r.later) ++ h.0) ++ unwrap_or to [])) next.version (es ++ new) f = rw same h.5.1 in
-      (
+      let stops : trace.HasFault (read_of (((head ++ r.later) ++ h.0) ++ unwrap_or to [])) next.version (es ++ new) f = rw same h.5.1 in (
         r.later ++ h.0,
         joined h.0 h.3,
         inr (subst (λ (l : List ℕ). trace.HasFault (read_of (l ++ unwrap_or to [])) next.version (es ++ new) f) (behind h.0) stops),
@@ -108,7 +109,7 @@ module _ (text head : List ℕ) (from at to : Option (List ℕ)) (reader next : 
   stays_known v known (Err f) h = elim h [
     | inl failed ↦ failed.4 ∙ r.read.version ∙ known
     | inr stopped ↦ sym stopped.5.1.version_is ∙ ap (λ l. (read_of l).version) (append_assoc (head ++ r.later) stopped.0 (unwrap_or to []))
-      ∙ (reads_on v reader (head ++ r.later) es r.read known (stopped.0 ++ unwrap_or to [])).2
+        ∙ (reads_on v reader (head ++ r.later) es r.read known (stopped.0 ++ unwrap_or to [])).2
   ]
 
 pub counted_few : (reader : trace.State) (left judged : ℕ) → IsCounted reader left judged → judged ≤ 2 ^ 34
@@ -181,10 +182,10 @@ report_front p v trace es old new b w =
 -- what a fault of a trace is not
 pub no_such : (t : Option TextFault) (f : Fault) → option_map trace.fault_of t ≡ Some f → (f ≡ Read) ⊎ (f ≡ Memory) ⊎ (f ≡ Failed) ⊎ (f ≡ Write) → ⊥
 no_such None f h which = cc
-no_such (Some no_header) f h which = elim which [ | inl e ↦ cc | inr r ↦ elim r [ | inl e ↦ cc | inr q ↦ elim q [ | inl e ↦ cc | inr e ↦ cc ] ] ]
-no_such (Some (no_edge n)) f h which = elim which [ | inl e ↦ cc | inr r ↦ elim r [ | inl e ↦ cc | inr q ↦ elim q [ | inl e ↦ cc | inr e ↦ cc ] ] ]
-no_such (Some (too_long n)) f h which = elim which [ | inl e ↦ cc | inr r ↦ elim r [ | inl e ↦ cc | inr q ↦ elim q [ | inl e ↦ cc | inr e ↦ cc ] ] ]
-no_such (Some cut_off) f h which = elim which [ | inl e ↦ cc | inr r ↦ elim r [ | inl e ↦ cc | inr q ↦ elim q [ | inl e ↦ cc | inr e ↦ cc ] ] ]
+no_such (Some no_header) f h which = elim which [ inl e ↦ cc | inr r ↦ elim r [ inl e ↦ cc | inr q ↦ elim q [ inl e ↦ cc | inr e ↦ cc ] ] ]
+no_such (Some (no_edge n)) f h which = elim which [ inl e ↦ cc | inr r ↦ elim r [ inl e ↦ cc | inr q ↦ elim q [ inl e ↦ cc | inr e ↦ cc ] ] ]
+no_such (Some (too_long n)) f h which = elim which [ inl e ↦ cc | inr r ↦ elim r [ inl e ↦ cc | inr q ↦ elim q [ inl e ↦ cc | inr e ↦ cc ] ] ]
+no_such (Some cut_off) f h which = elim which [ inl e ↦ cc | inr r ↦ elim r [ inl e ↦ cc | inr q ↦ elim q [ inl e ↦ cc | inr e ↦ cc ] ] ]
 
 closing_none : (t : Option TextFault) (f : Fault) (b : State) (es : List Edge) → option_map trace.fault_of t ≡ Some f → closing t b es ≡ []
 closing_none None f b es h = absurd cc
@@ -236,7 +237,6 @@ Ended p text head from to old new result =
 
 module _ (p : Plan) (v : Version) (text head : List ℕ) (from to old mid new : Option (List ℕ)) (b next : State) (reader : trace.State) (judged now left : ℕ) (es fs : List Edge)
     (wrote : Appends old mid (verdict_lines (bench p v) 1 es)) (state : b ≡ kept (bench p v) es) (count : judged ≡ length es) where
-
   -- the lines of this piece, behind those before
   all_lines : verdict_lines (bench p v) 1 (es ++ fs) ≡ verdict_lines (bench p v) 1 es ++ verdict_lines b (judged + 1) fs
   all_lines =
@@ -301,8 +301,7 @@ module _ (p : Plan) (v : Version) (text head : List ℕ) (from to old mid new : 
       let end : Comes from to text head left reader (es ++ fs) (Ok false) = subst (λ (a : Result Bool Fault). Comes from to text head left reader (es ++ fs) a) h.0 came in
       let named : (read_of (head ++ end.0)).version ≡ Some v = sym end.3 ∙ known in
       let text_is : piece_text b judged fs answer ≡ piece_text b judged fs (Ok false) = ap (piece_text b judged fs) h.0 in
-      let w : Appends mid new (piece_text b judged fs (Ok false)) = rw text_is at h.1 in
-      (
+      let w : Appends mid new (piece_text b judged fs (Ok false)) = rw text_is at h.1 in (
         end.0,
         read_out from to (text ++ (head ++ end.0)) end.1 end.2,
         (
@@ -343,9 +342,9 @@ module _ (p : Plan) (v : Version) (text head : List ℕ) (from to old mid new : 
       is_input,
       elim which [
         | inl failed ↦ subst (ReplayStops p text (head ++ (later ++ unwrap_or to [])) (streams from to old new)) (sym failed.0)
-          (read_failed p v text (head ++ later) (head ++ (later ++ unwrap_or to [])) from to old new (es ++ fs) taken (sym failed.1.version ∙ known) failed.1.edges w)
+            (read_failed p v text (head ++ later) (head ++ (later ++ unwrap_or to [])) from to old new (es ++ fs) taken (sym failed.1.version ∙ known) failed.1.edges w)
         | inr stopped ↦ stops p v text (head ++ (later ++ unwrap_or to [])) (streams from to old new) (es ++ fs) w reader.version known f
-          (subst (λ (l : List ℕ). trace.HasFault (read_of l) reader.version (es ++ fs) f) all_is stopped)
+            (subst (λ (l : List ℕ). trace.HasFault (read_of l) reader.version (es ++ fs) f) all_is stopped)
       ],
     )
 
@@ -359,8 +358,7 @@ module _ (p : Plan) (v : Version) (text head : List ℕ) (from to old mid new : 
       → AppendsFront mid new (piece_text b judged fs answer) → Ended p text head from to old new (Err Write)
   cut_short (Ok true) h known w = unwritten h.0 h.1 (fronts (Ok true) refl w) (begins_more v reader (head ++ h.0) (es ++ fs) h.3 known (unwrap_or to []))
   cut_short (Ok false) h known w =
-      let named : (read_of (head ++ h.0)).version ≡ Some v = sym h.3 ∙ known in
-      (
+      let named : (read_of (head ++ h.0)).version ≡ Some v = sym h.3 ∙ known in (
         h.0,
         read_out from to (text ++ (head ++ h.0)) h.1 h.2,
         rw (report_is (head ++ h.0) named h.4 h.5) (front_behind old mid new (verdict_lines (bench p v) 1 es) (piece_text b judged fs (Ok false)) wrote w),
@@ -371,7 +369,7 @@ module _ (p : Plan) (v : Version) (text head : List ℕ) (from to old mid new : 
       → TakesPiece b judged fs answer mid new next now (Err f) → Ended p text head from to old new (Err f)
   stopped answer f came known h = elim h [
     | inl all ↦ (let here : Comes from to text head left reader (es ++ fs) (Err f) = subst (λ (a : Result Bool Fault). Comes from to text head left reader (es ++ fs) a) all.0 came in
-      faulted here.0 here.1 f here.2 known (wrote_piece answer (rw all.0 refl) all.1))
+        faulted here.0 here.1 f here.2 known (wrote_piece answer (rw all.0 refl) all.1))
     | inr part ↦ subst (λ (g : Fault). Ended p text head from to old new (Err g)) (sym part.0) (cut_short answer came known part.1)
   ]
 
@@ -419,6 +417,6 @@ module _ (p : Plan) (v : Version) (text head : List ℕ) (from to old new : Opti
     r.reading.later ++ unwrap_or to [],
     here,
     report_front p v (head ++ (r.reading.later ++ unwrap_or to [])) r.es old new
-    (subst (λ (l : List ℕ). Begins (read_of l) v r.es) all_of (begins_more v reader (head ++ r.reading.later) r.es r.reading.read r.known (unwrap_or to [])))
-    (front_of_all old new (verdict_lines (bench p v) 1 r.es) r.wrote),
+        (subst (λ (l : List ℕ). Begins (read_of l) v r.es) all_of (begins_more v reader (head ++ r.reading.later) r.es r.reading.read r.known (unwrap_or to [])))
+        (front_of_all old new (verdict_lines (bench p v) 1 r.es) r.wrote),
   )

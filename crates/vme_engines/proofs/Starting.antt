@@ -45,8 +45,7 @@ pub started_not : (v : Version) (rest : List ℕ) (es new : List Edge) (reader :
     → Starts ((header v ++ 10 ∷ []) ++ rest) reader new (Err f) × (reader.version ≡ Some v)
 started_not v rest es new reader f h none =
     let same : new ≡ h.0 = h.1 ∙ ap (λ l. l ++ h.0) none in
-    let all : (more : List ℕ) → trace.HasFault (read_of ((header v ++ 10 ∷ []) ++ more)) reader.version h.0 f = λ more. (h.2 more).1 in
-    (
+    let all : (more : List ℕ) → trace.HasFault (read_of ((header v ++ 10 ∷ []) ++ more)) reader.version h.0 f = λ more. (h.2 more).1 in (
       λ more. rw same (subst (λ (l : List ℕ). trace.HasFault (read_of l) reader.version h.0 f) (sym (append_assoc (header v ++ 10 ∷ []) rest more)) (all (rest ++ more))),
       sym (all []).version_is ∙ header_version v [],
     )

@@ -11,7 +11,6 @@ mod traces;
 
 pub use joins::joined;
 pub use replays::replay;
-
 use thiserror::Error;
 use vme_scenario::ScenarioError;
 use vme_trace::Fault;

@@ -12,9 +12,11 @@ use vme_model::Version;
 /// The most edges that one run makes.
 const MOST_EDGES: u32 = 1048576;
 
-const ABOUT: &str = "Simulates and checks the arbitration bus and the interrupt bus of a VMEbus backplane, edge by edge.";
+const ABOUT: &str =
+    "Simulates and checks the arbitration bus and the interrupt bus of a VMEbus backplane, edge by edge.";
 
-const OVERVIEW: &str = "Without a command, a scenario and behind it a trace are read from standard input, and the trace is replayed:
+const OVERVIEW: &str =
+    "Without a command, a scenario and behind it a trace are read from standard input, and the trace is replayed:
   cat board.toml tenure.vme | vmebus
 
 A scenario is a TOML file that says which boards stand in which slots. A trace is the line `vme 1` or `vme 2`, and then
@@ -22,17 +24,21 @@ one edge a line, as `1 br-` or `c bg3-`.
 
 Exit status: 0 done, 1 a fault (one line on standard error), 2 some edge was refused, 3 the limit of edges was reached.";
 
-const REPLAY: &str = "Writes the verdict on each edge of a trace, and how many were accepted and refused";
+const REPLAY: &str =
+    "Writes the verdict on each edge of a trace, and how many were accepted and refused";
 
-const REPLAY_EXAMPLE: &str = "Each edge has a line with its number and `ok`, or why it is refused, as `5 E3 G13`. A refused edge changes nothing,
+const REPLAY_EXAMPLE: &str =
+    "Each edge has a line with its number and `ok`, or why it is refused, as `5 E3 G13`. A refused edge changes nothing,
 and the replay goes on behind it. The exit status is 2 where an edge was refused.
 
 Example:
   vmebus replay board.toml tenure.vme";
 
-const CHECK: &str = "Writes whether every edge of a trace is allowed, or which is the first that is not";
+const CHECK: &str =
+    "Writes whether every edge of a trace is allowed, or which is the first that is not";
 
-const CHECK_EXAMPLE: &str = "It writes `legal N`, with the number of edges, or `illegal N VERDICT` at the first refused edge, and reads no
+const CHECK_EXAMPLE: &str =
+    "It writes `legal N`, with the number of edges, or `illegal N VERDICT` at the first refused edge, and reads no
 further. The exit status is 2 where an edge was refused.
 
 Example:
@@ -40,7 +46,8 @@ Example:
 
 const DRIVE: &str = "Writes a trace that the drivers of a scenario make in turn";
 
-const DRIVE_EXAMPLE: &str = "In each round the controller and then each board makes one of the edges that are open to it. It ends with the given
+const DRIVE_EXAMPLE: &str =
+    "In each round the controller and then each board makes one of the edges that are open to it. It ends with the given
 number of edges, and then the exit status is 3, or after a round in which nobody could make one.
 
 Example:
@@ -52,9 +59,15 @@ pub enum Job<'a> {
     /// Replay what stands on standard input: a scenario, and a trace behind it.
     Joined,
     /// Replay a trace: the names of the two files.
-    Replay { scenario: &'a str, trace: &'a str },
+    Replay {
+        scenario: &'a str,
+        trace: &'a str,
+    },
     /// Check a trace: the names of the two files.
-    Check { scenario: &'a str, trace: &'a str },
+    Check {
+        scenario: &'a str,
+        trace: &'a str,
+    },
     /// Let the drivers make edges in turn, at most so many, 1 to 1,048,576, by that version of the rules.
     Drive {
         scenario: &'a str,
@@ -194,7 +207,10 @@ pub fn words<'a>(alloc: Global, words: &'a [&'a str]) -> Result<Job<'a>, Error>
     };
     match job {
         Some(job) => Ok(job),
-        None => Err(command(alloc)?.error(ErrorKind::MissingSubcommand, "a command is missing, or its operands")?),
+        None => Err(command(alloc)?.error(
+            ErrorKind::MissingSubcommand,
+            "a command is missing, or its operands",
+        )?),
     }
 }
 

@@ -25,8 +25,16 @@ fn reads_what_to_drive(rt: HostRuntime) -> Result<(), Fail> {
         (&["drive", "S", "--edges", "8"], 8, Version::One),
         (&["drive", "--edges=1", "S"], 1, Version::One),
         (&["drive", "S", "--edges", "1048576"], 1048576, Version::One),
-        (&["drive", "S", "--edges", "8", "--version", "1"], 8, Version::One),
-        (&["drive", "S", "--version=2", "--edges", "8"], 8, Version::Two),
+        (
+            &["drive", "S", "--edges", "8", "--version", "1"],
+            8,
+            Version::One,
+        ),
+        (
+            &["drive", "S", "--version=2", "--edges", "8"],
+            8,
+            Version::Two,
+        ),
     ];
     for (given, edges, version) in cases {
         let scenario = "S";

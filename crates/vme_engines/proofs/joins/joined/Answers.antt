@@ -49,6 +49,6 @@ reads-preserved g c =
     let piece = take c.in-Ok.count c.read_piece.new.buffer in
     record {
       front = front_more _ _ _ c.reads.front c.find.new.self piece at c.in-Ok.ensures.ok.1
-        (none_at at.bytes piece c.find.new.self c.find.result (c.find.ensures at.bytes at.front) (c.in-Ok-None.is ∙ ap (λ (o : Option Found). Ok o) c.in-Ok-None.field-0-is));
+          (none_at at.bytes piece c.find.new.self c.find.result (c.find.ensures at.bytes at.front) (c.in-Ok-None.is ∙ ap (λ (o : Option Found). Ok o) c.in-Ok-None.field-0-is));
       out = c.reads.invariant.out;
     }

@@ -54,7 +54,7 @@ reads-init g c =
     record {
       counted = subst (λ (n : ℕ). IsCounted c.args.reader n c.take_piece.new.judged) all (rw (h.3, sum) (c.requires h.0));
       replaying = λ p version from text head is known came_first. subst (IsReplaying p version text head from _ _ _ c.take_piece.new.backplane c.args.reader c.take_piece.new.judged) all
-        (goes_on p version text head from _ _ _ _ _ c.take_piece.new.backplane c.args.reader 0 c.take_piece.new.judged c.args.reads [] c.args.edges.items (Appends-nil _) is refl c.args.first came_first known h);
+          (goes_on p version text head from _ _ _ _ _ c.take_piece.new.backplane c.args.reader 0 c.take_piece.new.judged c.args.reads [] c.args.edges.items (Appends-nil _) is refl c.args.first came_first known h);
     }
 
 pub reads-preserved : goal.reads-preserved
@@ -66,10 +66,10 @@ reads-preserved g c =
     record {
       counted = rw h.3 (counted_more _ _ _ _ (c.args.reads - (c.reads.counter + 1)) c.reads.judged _ counted went);
       replaying = λ p version from text head is known came_first.
-        let r = subst (IsReplaying p version text head from _ _ _ c.reads.backplane c.reads.reader c.reads.judged) one_less (c.reads.invariant.replaying p version from text head is known came_first) in
-        let more = rw c.clear.ensures.items at (c.pump-more.ensures.reads (head ++ r.reading.later) r.es r.reading.read) in
-        goes_on p version text head from _ _ _ _ _ c.take_piece-in-reads.new.backplane c.pump-more.new.reader c.reads.judged c.take_piece-in-reads.new.judged (c.args.reads - (c.reads.counter + 1)) r.es c.pump-more.new.edges.items r.wrote r.state r.count c.pump-more.result
-        (came text head from _ _ _ _ _ r.es _ r.reading c.pump-more.result more) (stays_known text head from _ _ _ _ _ r.es _ r.reading version r.known c.pump-more.result more) h;
+          let r = subst (IsReplaying p version text head from _ _ _ c.reads.backplane c.reads.reader c.reads.judged) one_less (c.reads.invariant.replaying p version from text head is known came_first) in
+          let more = rw c.clear.ensures.items at (c.pump-more.ensures.reads (head ++ r.reading.later) r.es r.reading.read) in
+          goes_on p version text head from _ _ _ _ _ c.take_piece-in-reads.new.backplane c.pump-more.new.reader c.reads.judged c.take_piece-in-reads.new.judged (c.args.reads - (c.reads.counter + 1)) r.es c.pump-more.new.edges.items r.wrote r.state r.count c.pump-more.result
+          (came text head from _ _ _ _ _ r.es _ r.reading c.pump-more.result more) (stays_known text head from _ _ _ _ _ r.es _ r.reading version r.known c.pump-more.result more) h;
     }
 
 pub returns-in_err-flush : goal.returns-in_err-flush

@@ -6,5 +6,5 @@ abbrev pub invariant-reads : goal.invariant-reads
 invariant-reads g l = record {
   reading : IsReading [] [] (g.R.Read.remaining l.fn.input) (g.R.Read.remaining l.input) l.reader (16777216 - l.done) [];
   version : l.reader.version ≡ None;
-  empty : l.edges.items ≡ []
+  empty : l.edges.items ≡ [];
 }
