@@ -1,21 +1,18 @@
 -- The input before its trace, byte by byte.
-use Rattle.std.proofs.Common.{◌≡◌, ◌≢◌, ℕ, ◌+◌, ◌-◌, ◌*◌, ◌^◌, ◌<◌, ◌≤◌, min, List, [], ◌∷◌, ◌++◌, length, take, drop, true, false, Option, Some, None, unwrap_or, Result, Ok, Err, refl, sym, ◌∙◌, ap, append_assoc, append-nil, take-append-drop, subst, arith, inl, inr, ◌⊎◌, zero, suc, get_or}
+use Rattle.std.proofs.Common.{◌≡◌, ◌≢◌, ℕ, ◌+◌, ◌-◌, ◌<◌, ◌≤◌, min, List, [], ◌∷◌, ◌++◌, length, take, drop, true, Option, Some, None, Result, Ok, refl, sym, ◌∙◌, ap, append_assoc, append-nil, take-append-drop, subst, arith, inl, inr, ◌⊎◌, zero, suc, get_or}
 use Rattle.std.proofs.lemmas.List.{length-take, take_all, take-append-le, take_more}
 use Rattle.std.proofs.Math.ListN.{length-append}
-use Rattle.std.specs.Io.KnownBytes.{Appends, Consumes, IsAtEnd, Keeps}
-use Rattle.std.proofs.KnownBytes.{Consumes-trans, Consumes-kept, Keeps-refl}
+use Rattle.std.specs.Io.KnownBytes.{Consumes}
+use Rattle.std.proofs.KnownBytes.{Consumes-trans, Keeps-refl}
 use Rattle.vme_model.specs.declared.signals.Version.{Version}
-use Rattle.vme_model.specs.declared.signals.Version.TheVariants.{One, Two}
-use Rattle.vme_model.specs.declared.signals.Edge.{Edge}
-use Rattle.vme_model.specs.Text.{version_of, header, read_of}
-use Rattle.vme_trace.specs.Taking.{IsOneLine}
+use Rattle.vme_model.specs.Text.{version_of, header}
 use Rattle.std.specs.declared.alloc.AllocError.{AllocError}
 use Rattle.vme_engines.specs.declared.joins.Found.{Found}
 use Rattle.vme_engines.specs.declared.joins.Front.{Front}
 use Rattle.vme_engines.specs.Streams.{streams}
 use Rattle.vme_engines.specs.Outcomes.{Answer}
 use Rattle.vme_engines.specs.Joining.{cut, FindsNoTrace, Joins}
-use Rattle.vme_engines.specs.Front.{behind, held_limit, IsHeld, IsFront, EndsFront, IsTextOf, Finds, JoinsBehind}
+use Rattle.vme_engines.specs.Front.{behind, IsHeld, IsFront, EndsFront, IsTextOf, Finds, JoinsBehind}
 use Rattle.vme_engines.proofs.Cuts.{cut_part, cut_line, cut_here, behind_behind, behind_none, named, unnamed, one_line_more, length_header}
 
 -- ---- what is held

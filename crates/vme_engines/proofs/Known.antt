@@ -1,12 +1,9 @@
 -- What the edges and the version of a trace are, as more of it is read.
-use Rattle.std.proofs.Common.{◌≡◌, ◌≢◌, ℕ, ◌+◌, ◌*◌, ◌^◌, ◌<◌, ◌≤◌, List, [], ◌∷◌, ◌++◌, length, Bool, true, false, Option, Some, None, Result, Ok, Err, refl, sym, ◌∙◌, ap, append_assoc, append-nil, subst, arith, if◌then◌else◌, nat_lt, ◌==◌, option_map}
-use Rattle.std.proofs.Math.ListN.{length-append}
+use Rattle.std.proofs.Common.{◌≡◌, ◌≢◌, ℕ, ◌≤◌, List, [], ◌∷◌, ◌++◌, length, Bool, true, false, Option, Some, None, refl, sym, ◌∙◌, ap, arith, if◌then◌else◌, nat_lt, ◌==◌}
 use Rattle.vme_model.specs.declared.signals.Version.{Version}
 use Rattle.vme_model.specs.declared.signals.Edge.{Edge}
-use Rattle.vme_model.specs.Text.{Reading, TextFault, no_header, no_edge, too_long, cut_off, split_lines, read_lines, before_others, behind_header, read_from_header, is_too_long, version_of, edge_of, next_number, end_fault, unread, read_of}
-use Rattle.vme_trace.specs.declared.Fault.{Fault}
-use Rattle.vme_trace.specs.declared.Fault.TheVariants.{Header, Line, TooLong, CutOff, Read, Memory, Failed, Write}
-use Rattle.vme_trace.specs.Reading.{State, HasRead, HasFault, fault_of, with_edges, rest_of}
+use Rattle.vme_model.specs.Text.{TextFault, no_header, too_long, cut_off, split_lines, read_lines, before_others, behind_header, read_from_header, is_too_long, version_of, edge_of, next_number, unread, read_of}
+use Rattle.vme_trace.specs.Reading.{State, HasRead, rest_of}
 
 -- ---- without a version
 

@@ -1,25 +1,24 @@
 -- A replay, read by read.
-use Rattle.std.proofs.Common.{◌≡◌, ◌≢◌, ◌⊎◌, inl, inr, ℕ, ◌+◌, ◌-◌, ◌*◌, ◌^◌, ◌<◌, ◌≤◌, List, [], ◌∷◌, ◌++◌, length, Bool, true, false, Option, Some, None, unwrap_or, Result, Ok, Err, refl, sym, ◌∙◌, ap, append_assoc, append-nil, subst, arith, if◌then◌else◌, ◌==◌, option_map}
+use Rattle.std.proofs.Common.{◌≡◌, ◌≢◌, ◌⊎◌, inl, inr, ℕ, ◌+◌, ◌-◌, ◌*◌, ◌^◌, ◌≤◌, List, [], ◌++◌, length, Bool, true, false, Option, Some, None, unwrap_or, Result, Ok, Err, refl, sym, ◌∙◌, ap, append_assoc, append-nil, subst, arith, if◌then◌else◌, ◌==◌, option_map}
 use Rattle.std.proofs.Math.ListN.{length-append}
 use Rattle.std.specs.Io.KnownBytes.{Appends, Consumes, IsAtEnd, Keeps}
-use Rattle.std.proofs.KnownBytes.{Appends-trans, Appends-nil, Appends-kept, Consumes-trans, Consumes-kept, Consumes-nil}
+use Rattle.std.proofs.KnownBytes.{Appends-trans, Appends-kept, Consumes-trans, Consumes-kept}
 use Rattle.vme_model.specs.declared.signals.Version.{Version}
 use Rattle.vme_model.specs.declared.signals.Edge.{Edge}
 use Rattle.vme_model.specs.Plan.{Plan}
 use Rattle.vme_model.specs.Verdict.{State, kept}
 use Rattle.vme_model.specs.Text.{Reading, TextFault, no_header, no_edge, too_long, cut_off, read_of}
-use Rattle.vme_model.specs.Report.{report, report_of, verdict_lines, closing, closing_line, accepted_count}
+use Rattle.vme_model.specs.Report.{report, report_of, verdict_lines, closing, accepted_count}
 use Rattle.vme_trace.specs.declared.Fault.{Fault}
 use Rattle.vme_trace.specs.declared.Fault.TheVariants.{Header, Line, TooLong, CutOff, Read, Memory, Failed, Write}
 use Rattle.vme_trace.specs.Reading as trace
 use Rattle.vme_trace.specs.Writing.{AppendsFront}
 use Rattle.vme_engines.specs.declared.Status.{Status}
-use Rattle.vme_engines.specs.declared.Status.TheVariants.{Done, SomeRefused, Limit}
-use Rattle.vme_engines.specs.declared.EngineFault.TheVariants as fault
+use Rattle.vme_engines.specs.declared.Status.TheVariants.{Done, SomeRefused}
 use Rattle.vme_engines.specs.Streams.{Streams, streams, IsInput, Wrote}
-use Rattle.vme_engines.specs.Outcomes.{bench, lines_of, refused_count, status_of, HasFault, ReplayStops, Replays}
-use Rattle.vme_engines.specs.Steps.{IsBounded, IsCounted, Begins, Fails, Faults, Comes, closing_text, ending, piece_text, status_at, TakesPiece, traced}
-use Rattle.vme_engines.proofs.Writing.{front_of_all, front_of_none, front_of_more, front_behind, lines_append, kept_append}
+use Rattle.vme_engines.specs.Outcomes.{bench, lines_of, refused_count, HasFault, ReplayStops, Replays}
+use Rattle.vme_engines.specs.Steps.{IsBounded, IsCounted, Begins, Faults, Comes, closing_text, ending, piece_text, status_at, TakesPiece, traced}
+use Rattle.vme_engines.proofs.Writing.{front_of_all, front_of_more, front_behind, lines_append, kept_append}
 use Rattle.vme_engines.proofs.Known.{reads_on, few_edges, unknown_version}
 
 -- ---- reading

@@ -1,5 +1,5 @@
 -- A trace whose header line was found behind a scenario.
-use Rattle.std.proofs.Common.{◌≡◌, ◌≢◌, ◌⊎◌, inl, inr, ℕ, ◌+◌, ◌*◌, ◌^◌, ◌<◌, ◌≤◌, List, [], ◌∷◌, ◌++◌, length, Bool, true, false, Option, Some, None, unwrap_or, Result, Ok, Err, refl, sym, ◌∙◌, ap, append_assoc, append-nil, subst, arith}
+use Rattle.std.proofs.Common.{◌≡◌, inl, inr, ℕ, ◌<◌, ◌≤◌, List, [], ◌∷◌, ◌++◌, length, Bool, true, false, Option, Some, unwrap_or, Result, Ok, Err, refl, sym, ◌∙◌, ap, append_assoc, subst, arith}
 use Rattle.std.proofs.Math.ListN.{length-append}
 use Rattle.std.specs.Io.KnownBytes.{Consumes}
 use Rattle.vme_model.specs.declared.signals.Version.{Version}
@@ -13,7 +13,6 @@ use Rattle.vme_trace.specs.Reading as trace
 use Rattle.vme_engines.specs.declared.EngineFault.{EngineFault}
 use Rattle.vme_engines.specs.declared.EngineFault.TheVariants as fault
 use Rattle.vme_engines.specs.Streams.{IsInput}
-use Rattle.vme_engines.specs.Outcomes.{Answer, scenario_limit}
 use Rattle.vme_engines.specs.Steps.{IsNoPlan, IsBounded, IsCounted, Comes}
 use Rattle.vme_engines.specs.Front.{IsTextOf, Starts}
 use Rattle.vme_engines.proofs.Replaying.{whole_input}

@@ -1,5 +1,5 @@
 -- The part of an input before its trace, byte by byte: the words of the contracts between the functions of `joined`.
-use Rattle.std.specs.Prelude.{◌≡◌, ◌<◌, ◌≤◌, ◌+◌, ◌⊎◌, ◌++◌, ◌∷◌, [], ℕ, min, Bool, true, false, List, length, take, Option, Some, None, option_map, unwrap_or, Result, Ok, Err}
+use Rattle.std.specs.Prelude.{◌≡◌, ◌<◌, ◌≤◌, ◌⊎◌, ◌++◌, ◌∷◌, [], ℕ, min, Bool, true, false, List, length, take, Option, Some, None, option_map, Result, Ok, Err}
 use Rattle.std.specs.Io.KnownBytes.{Consumes}
 use Rattle.std.specs.declared.alloc.AllocError.{AllocError}
 use Rattle.vme_model.specs.declared.signals.Version.{Version}
@@ -10,7 +10,7 @@ use Rattle.vme_trace.specs.Reading as trace
 use Rattle.vme_trace.specs.Taking.{IsOneLine}
 use Rattle.vme_engines.specs.declared.joins.Found.{Found}
 use Rattle.vme_engines.specs.declared.joins.Front.{Front}
-use Rattle.vme_engines.specs.Streams.{Streams, streams, IsInput, WroteNothing}
+use Rattle.vme_engines.specs.Streams.{streams, IsInput, WroteNothing}
 use Rattle.vme_engines.specs.Outcomes.{Answer, scenario_limit, Lent, Replays}
 use Rattle.vme_engines.specs.Joining.{cut}
 

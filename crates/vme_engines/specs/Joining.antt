@@ -1,5 +1,5 @@
 -- A scenario and a trace in one input.
-use Rattle.std.specs.Prelude.{◌≡◌, ◌==◌, ◌&&◌, ◌||◌, ◌⊎◌, ◌++◌, ◌∷◌, [], ℕ, Bool, true, List, take, codes, Option, Some, None, option_map, Result, Ok, Err, if◌then◌else◌}
+use Rattle.std.specs.Prelude.{◌≡◌, ◌==◌, ◌&&◌, ◌||◌, ◌⊎◌, ◌++◌, ◌∷◌, [], ℕ, Bool, true, List, take, codes, Option, Some, None, option_map, Err, if◌then◌else◌}
 use Rattle.std.specs.Str.{bytes_eq}
 use Rattle.vme_trace.specs.declared.Fault.TheVariants.{Header, Read}
 use Rattle.vme_engines.specs.declared.EngineFault.TheVariants as fault

@@ -14,11 +14,11 @@ use Rattle.vme_trace.specs.declared.Fault.TheVariants.{Read, Write}
 use Rattle.vme_trace.specs.Reading as trace
 use Rattle.vme_trace.specs.Writing.{AppendsFront}
 use Rattle.vme_engines.specs.declared.Status.{Status}
-use Rattle.vme_engines.specs.declared.Status.TheVariants.{Done, SomeRefused, Limit}
+use Rattle.vme_engines.specs.declared.Status.TheVariants.{Done, SomeRefused}
 use Rattle.vme_engines.specs.declared.EngineFault.{EngineFault}
 use Rattle.vme_engines.specs.declared.EngineFault.TheVariants as fault
-use Rattle.vme_engines.specs.Streams.{Streams, streams, IsInput}
-use Rattle.vme_engines.specs.Outcomes.{Answer, scenario_limit, bench, Replays, Checks}
+use Rattle.vme_engines.specs.Streams.{streams, IsInput}
+use Rattle.vme_engines.specs.Outcomes.{Answer, scenario_limit, bench, Replays}
 
 -- why there is no plan
 abbrev pub IsNoPlan : List ℕ → EngineFault → Type 0

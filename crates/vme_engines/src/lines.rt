@@ -6,7 +6,6 @@ ghost use Rattle.vme_model.specs.Verdict.{kept};
 ghost use Rattle.vme_model.specs.Deliveries.{answer};
 ghost use Rattle.vme_model.specs.Report.{delivery_text, verdict_text, verdict_line, verdict_lines};
 ghost use Rattle.vme_trace.specs.Writing.{AppendsFront};
-ghost use Rattle.vme_engines.specs.Outcomes.{finding};
 ghost use Rattle.vme_engines.specs.Steps.{closing_text};
 
 use arrayvec::ArrayVec;
@@ -125,27 +124,6 @@ fn closing_line(accepted: u64, refused: u64) -> ArrayVec<u8, LINE>
     push_number(&mut line, accepted);
     push(&mut line, b" refused ");
     push_number(&mut line, refused);
-    push(&mut line, b"\n");
-    line
-}
-
-/// What a check writes.
-fn finding_line(found: Option<(u64, Refused)>, edges: u64) -> ArrayVec<u8, LINE>
-    ensures { result.items ≡ finding found edges }
-{
-    let mut line = ArrayVec::new();
-    match found {
-        None => {
-            push(&mut line, b"legal ");
-            push_number(&mut line, edges);
-        }
-        Some((n, refused)) => {
-            push(&mut line, b"illegal ");
-            push_number(&mut line, n);
-            push(&mut line, b" ");
-            push(&mut line, verdict_text(&Err(refused)).as_slice());
-        }
-    }
     push(&mut line, b"\n");
     line
 }

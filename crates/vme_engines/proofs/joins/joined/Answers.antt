@@ -1,10 +1,9 @@
-use Rattle.std.proofs.Common.{◌≡◌, ◌++◌, ◌≤◌, [], List, ℕ, Option, Ok, Err, take, sym, ap, ◌∙◌, append-nil, subst, arith, rules, length}
-use Rattle.std.proofs.KnownBytes.{Consumes-kept, Consumes-trans, Consumes-nil}
+use Rattle.std.proofs.Common.{[], Option, Ok, Err, take, ap, ◌∙◌, append-nil, subst}
+use Rattle.std.proofs.KnownBytes.{Consumes-kept, Consumes-trans}
 use Rattle.std.specs.Io.KnownBytes.{Consumes}
 use Rattle.vme_trace.specs.declared.Fault.TheVariants.{Header, Read}
 use Rattle.vme_engines.specs.declared.EngineFault.TheVariants as fault
 use Rattle.vme_engines.specs.declared.joins.Found.{Found}
-use Rattle.vme_engines.specs.Front.{Finds}
 use Rattle.vme_engines.proofs.Fronts.{no_trace, joins_none, joins_found, front_more, found_at, none_at}
 use Rattle.vme_engines.proofs.joins.joined.Goals as goal
 

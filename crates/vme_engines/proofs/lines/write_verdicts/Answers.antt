@@ -1,4 +1,4 @@
-use Rattle.std.proofs.Common.{◌≡◌, ◌+◌, arith, ◌∙◌, sym, ap}
+use Rattle.std.proofs.Common.{◌+◌, arith, ◌∙◌, ap}
 use Rattle.vme_model.specs.Report.{verdict_line}
 use Rattle.vme_engines.proofs.Writing.{judged_more, judged_front, on_err}
 use Rattle.vme_engines.proofs.lines.write_verdicts.Goals as goal

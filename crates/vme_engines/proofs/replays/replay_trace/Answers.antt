@@ -1,4 +1,4 @@
-use Rattle.std.proofs.Common.{◌≡◌, [], ℕ, List, Bool, Result, Ok, Err, sym, ap, ◌∙◌, subst}
+use Rattle.std.proofs.Common.{[], Bool, Result, sym, ◌∙◌, subst}
 use Rattle.vme_trace.specs.declared.Fault.{Fault}
 use Rattle.vme_engines.specs.Steps.{Opens}
 use Rattle.vme_engines.proofs.Opening.{counted_first, unopened, never_unopened}
@@ -15,3 +15,10 @@ pub returns : goal.returns
 returns g c =
     let opens = subst (λ (a : Result Bool Fault). Opens (g.R.Read.remaining c.args.trace.now) (g.R.Read.remaining c.open-first.new.input) c.open-first.new.reader c.open-first.new.edges.items (a, c.open-first.result.1)) c.in-Err.is c.open-first.ensures in
     unopened c.args.plan _ _ _ _ _ c.open-first.result.1 (sym c.version.ensures ∙ c.in-None.is) c.in-Err.fault opens
+
+pub returns-in-Ok : goal.returns-in-Ok
+returns-in-Ok g c =
+    let opens = subst (λ (a : Result Bool Fault). Opens (g.R.Read.remaining c.args.trace.now) (g.R.Read.remaining c.open-first.new.input) c.open-first.new.reader c.open-first.new.edges.items (a, c.open-first.result.1)) c.in-Ok.is c.open-first.ensures in
+    absurd
+    (never_unopened c.args.plan (g.R.Read.remaining c.args.trace.now) (g.R.Read.remaining c.open-first.new.input) (g.W.Write.contents c.args.out.now) c.open-first.new.reader c.open-first.new.edges.items c.open-first.result.1
+    (sym c.version.ensures ∙ c.in-None.is) c.in-Ok.field-0 opens)

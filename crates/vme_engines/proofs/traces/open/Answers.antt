@@ -1,7 +1,4 @@
-use Rattle.std.proofs.Common.{◌≡◌, ◌-◌, ◌+◌, ◌<◌, ℕ, List, [], Ok, true, None, Result, Bool, arith, subst, rules, ◌∙◌}
-use Rattle.vme_trace.specs.declared.Fault.{Fault}
-use Rattle.vme_trace.specs.Reading.{Pumped}
-use Rattle.vme_engines.specs.Steps.{Comes}
+use Rattle.std.proofs.Common.{◌≡◌, ◌-◌, ◌+◌, ℕ, [], arith, subst}
 use Rattle.vme_engines.proofs.Replaying.{IsReading, came, opens_more}
 use Rattle.std.proofs.KnownBytes.{Consumes-nil}
 use Rattle.vme_engines.proofs.Known.{none_known}

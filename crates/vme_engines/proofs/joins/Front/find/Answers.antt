@@ -1,4 +1,4 @@
-use Rattle.std.proofs.Common.{◌≡◌, ◌+◌, ◌++◌, ◌∷◌, [], List, ℕ, Option, Ok, take, get_or, sym, ap, ◌∙◌, append_assoc, subst, arith}
+use Rattle.std.proofs.Common.{◌++◌, List, ℕ, Option, Ok, take, get_or, subst, arith}
 use Rattle.vme_model.specs.declared.signals.Version.{Version}
 use Rattle.vme_engines.specs.Front.{Takes, EndsFront, IsFront}
 use Rattle.vme_engines.proofs.Fronts.{piece_more}

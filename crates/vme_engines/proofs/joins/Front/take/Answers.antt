@@ -1,4 +1,4 @@
-use Rattle.std.proofs.Common.{◌≡◌, sym, ap, ◌∙◌}
+use Rattle.std.proofs.Common.{sym, ap, ◌∙◌}
 use Rattle.vme_model.specs.Text.{version_of}
 use Rattle.vme_engines.proofs.Fronts.{took_byte, took_feed}
 use Rattle.vme_engines.proofs.joins.Front.take.Goals as goal
