@@ -45,8 +45,10 @@ pub fn pump<R: Read, A: Allocator>(
     Ok(true)
 }
 
-/// One read that was not interrupted.
-fn read_piece<R: Read>(input: &mut R, buffer: &mut [u8; 512]) -> Result<usize, Fault>
+/// One read of up to 512 bytes, which was not interrupted: how many bytes it gave, none only at the end of the input.
+///
+/// Errors: X5 where the read failed, or was interrupted 65,536 times.
+pub fn read_piece<R: Read>(input: &mut R, buffer: &mut [u8; 512]) -> Result<usize, Fault>
     ensures ok { IfOk result (ReadsPiece (R.remaining input.old) (R.remaining input.new) buffer.new) }
     ensures err { IfErr result (λ fault. Keeps (R.remaining input.old) (R.remaining input.new)) }
 {

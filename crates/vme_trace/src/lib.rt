@@ -11,7 +11,7 @@ mod reader;
 mod tests;
 mod writer;
 
-pub use input::pump;
+pub use input::{pump, read_piece};
 pub use reader::{Reader, parse};
 use thiserror::Error;
 pub use writer::{line_of, put, write};

@@ -1,0 +1,178 @@
+-- The input before its trace, byte by byte.
+use Rattle.std.proofs.Common.{◌≡◌, ◌≢◌, ℕ, ◌+◌, ◌-◌, ◌<◌, ◌≤◌, min, List, [], ◌∷◌, ◌++◌, length, take, drop, true, Option, Some, None, Result, Ok, refl, sym, ◌∙◌, ap, append_assoc, append-nil, take-append-drop, subst, arith, inl, inr, ◌⊎◌, zero, suc, get_or}
+use Rattle.std.proofs.lemmas.List.{length-take, take_all, take-append-le, take_more}
+use Rattle.std.proofs.Math.ListN.{length-append}
+use Rattle.std.specs.Io.KnownBytes.{Consumes}
+use Rattle.std.proofs.KnownBytes.{Consumes-trans, Keeps-refl}
+use Rattle.vme_model.specs.declared.signals.Version.{Version}
+use Rattle.vme_model.specs.Text.{version_of, header}
+use Rattle.std.specs.declared.alloc.AllocError.{AllocError}
+use Rattle.vme_engines.specs.declared.joins.Found.{Found}
+use Rattle.vme_engines.specs.declared.joins.Front.{Front}
+use Rattle.vme_engines.specs.Streams.{streams}
+use Rattle.vme_engines.specs.Outcomes.{Answer}
+use Rattle.vme_engines.specs.Joining.{cut, FindsNoTrace, Joins}
+use Rattle.vme_engines.specs.Front.{behind, IsHeld, IsFront, EndsFront, IsTextOf, Finds, JoinsBehind}
+use Rattle.vme_engines.proofs.Cuts.{cut_part, cut_line, cut_here, behind_behind, behind_none, named, unnamed, one_line_more, length_header}
+
+-- ---- what is held
+
+pub held_pushed : (old new bytes : List ℕ) (b : ℕ) → IsHeld old bytes → length old < 1048582 → new ≡ old ++ b ∷ [] → IsHeld new (bytes ++ b ∷ [])
+held_pushed old new bytes b h room is =
+    let count : length old ≡ min (length bytes) 1048582 = h.count in
+    let all : old ≡ bytes = h.all (omega arith) in
+    let more = length-append bytes (b ∷ []) in
+    let grown : length new ≡ length old + 1 = ap length is ∙ length-append old (b ∷ []) in
+    record { count = omega (arith, more); all = λ _. is ∙ ap (λ l. l ++ b ∷ []) all }
+
+pub held_full : (old bytes : List ℕ) (b : ℕ) → IsHeld old bytes → 1048582 ≤ length old → IsHeld old (bytes ++ b ∷ [])
+held_full old bytes b h full =
+    let count : length old ≡ min (length bytes) 1048582 = h.count in
+    let more = length-append bytes (b ∷ []) in
+    record { count = omega (arith, more); all = λ k. absurd (omega (arith, more)) }
+
+-- ---- the line that is not complete
+
+pub line_full : (line part : List ℕ) (b : ℕ) → line ≡ take 6 part → 6 ≤ length line → line ≡ take 6 (part ++ b ∷ [])
+line_full line part b is full =
+    let count : length line ≡ length (take 6 part) = ap length is in
+    let long : 6 ≤ length part = (let m = length-take 6 part in omega (arith, m)) in
+    is ∙ sym (take-append-le 6 part (b ∷ []) long)
+
+pub line_more : (line part : List ℕ) (b : ℕ) → line ≡ take 6 part → length line < 6 → line ++ b ∷ [] ≡ take 6 (part ++ b ∷ [])
+line_more line part b is room =
+    let count : length line ≡ length (take 6 part) = ap length is in
+    let short : length part < 6 = (let m = length-take 6 part in omega (arith, m)) in
+    let same : line ≡ part = is ∙ take_all 6 part (omega arith) in
+    let grown = length-append part (b ∷ []) in
+    ap (λ l. l ++ b ∷ []) same ∙ sym (take_all 6 (part ++ b ∷ []) (omega (arith, grown)))
+
+-- ---- what a byte does
+
+pub front_new : (f : Front) → f.held.items ≡ [] → f.line.items ≡ [] → IsFront f []
+front_new f held line = record {
+  before = [];
+  part = [];
+  whole = refl;
+  none = λ more. sym (behind_none (cut true more));
+  one_line = tt;
+  line = line;
+  held = record { count = ap length held; all = λ _. held };
+}
+
+pub took_byte : (f g : Front) (bytes : List ℕ) (b : ℕ) → IsFront f bytes → b ≢ 10
+    → ((part : List ℕ) → f.line.items ≡ take 6 part → g.line.items ≡ take 6 (part ++ b ∷ [])) → IsHeld g.held.items (bytes ++ b ∷ []) → IsFront g (bytes ++ b ∷ [])
+took_byte f g bytes b h ne line held = record {
+  before = h.before;
+  part = h.part ++ b ∷ [];
+  whole = ap (λ l. l ++ b ∷ []) h.whole ∙ append_assoc h.before h.part (b ∷ []);
+  none = h.none;
+  one_line = one_line_more h.part b h.one_line ne;
+  line = line h.part h.line;
+  held = held;
+}
+
+pub took_feed : (f g : Front) (bytes : List ℕ) → IsFront f bytes → version_of f.line.items ≡ None → g.line.items ≡ [] → IsHeld g.held.items (bytes ++ 10 ∷ []) → IsFront g (bytes ++ 10 ∷ [])
+took_feed f g bytes h other line held =
+    let other_part : version_of (take 6 h.part) ≡ None = ap version_of (sym h.line) ∙ other in
+    record {
+      before = bytes ++ 10 ∷ [];
+      part = [];
+      whole = sym (append-nil (bytes ++ 10 ∷ []));
+      none = λ more.
+          let all : (bytes ++ 10 ∷ []) ++ more ≡ h.before ++ (h.part ++ 10 ∷ more) =
+          append_assoc bytes (10 ∷ []) more ∙ ap (λ l. l ++ 10 ∷ more) h.whole ∙ append_assoc h.before h.part (10 ∷ more) in
+          let back : h.before ++ (h.part ++ 10 ∷ []) ≡ bytes ++ 10 ∷ [] = sym (ap (λ l. l ++ 10 ∷ []) h.whole ∙ append_assoc h.before h.part (10 ∷ [])) in
+          ap (cut true) all ∙ h.none (h.part ++ 10 ∷ more) ∙ ap (behind h.before) (cut_line h.part more h.one_line (unnamed h.part other_part))
+          ∙ behind_behind h.before (h.part ++ 10 ∷ []) (cut true more) ∙ ap (λ l. behind l (cut true more)) back;
+      one_line = tt;
+      line = line;
+      held = held;
+    }
+
+pub took_header : (f : Front) (bytes : List ℕ) (v : Version) → IsFront f bytes → version_of f.line.items ≡ Some v → EndsFront f (bytes ++ 10 ∷ []) v
+took_header f bytes v h is =
+    let part : h.part ≡ header v = named h.part v (ap version_of (sym h.line) ∙ is) in
+    let all : bytes ≡ h.before ++ header v = h.whole ∙ ap (λ l. h.before ++ l) part in
+    record {
+      before = h.before;
+      whole = ap (λ l. l ++ 10 ∷ []) all ∙ append_assoc h.before (header v) (10 ∷ []);
+      none = h.none;
+      held = subst (IsHeld f.held.items) all h.held;
+    }
+
+-- ---- the text of the scenario
+
+short_or : (n m : ℕ) → (n ≤ m) ⊎ (m < n)
+short_or zero m = inl (omega arith)
+short_or (suc n) zero = inr (omega arith)
+short_or (suc n) (suc m) = elim (short_or n m) [ inl h ↦ inl (omega arith) | inr h ↦ inr (omega arith) ]
+
+pub text_of : (held before : List ℕ) (v : Version) (n : ℕ) (text : List ℕ) → IsHeld held (before ++ header v) → n ≡ length held - 5 → text ≡ take n held → IsTextOf before text
+text_of held before v n text h count is =
+    let total : length (before ++ header v) ≡ length before + 5 = length-append before (header v) ∙ ap (λ k. length before + k) (length_header v) in
+    let held_count : length held ≡ min (length (before ++ header v)) 1048582 = h.count in
+    let sized : length text ≡ min n (length held) = ap length is ∙ length-take n held in
+    elim (short_or (length (before ++ header v)) 1048582) [
+      | inl short ↦ (let all : held ≡ before ++ header v = h.all short in
+          let number : n ≡ length before = omega arith in
+          inl (is ∙ ap (take n) all ∙ take-append-le n before (header v) (omega arith) ∙ take_all n before (omega arith)))
+      | inr long ↦ inr (omega arith, omega arith)
+    ]
+
+-- ---- in the loops
+
+-- no header line stands in what was taken
+pub no_trace : (f : Front) (bytes : List ℕ) → IsFront f bytes → cut true bytes ≡ None
+no_trace f bytes h = ap (cut true) h.whole ∙ h.none h.part ∙ ap (behind h.before) (cut_part true h.part h.one_line)
+
+-- the input is cut where the header line was found
+pub cut_found : (f : Front) (bytes : List ℕ) (v : Version) (h : EndsFront f bytes v) (others : List ℕ)
+    → cut true (h.before ++ ((header v ++ 10 ∷ []) ++ others)) ≡ Some (h.before, (header v ++ 10 ∷ []) ++ others)
+cut_found f bytes v h others =
+    h.none ((header v ++ 10 ∷ []) ++ others) ∙ ap (behind h.before) (cut_here v others)
+    ∙ ap (λ l. Some (l, (header v ++ 10 ∷ []) ++ others)) (append-nil h.before)
+
+-- the bytes that were read, and what was taken of them
+pub record HasFront (from at : Option (List ℕ)) (f : Front) : Type 0 where
+  pub bytes : List ℕ
+  pub taken : Consumes from at bytes
+  pub front : IsFront f bytes
+
+-- one more byte of a piece
+pub piece_more : (bytes piece : List ℕ) (i : ℕ) → i < length piece → (bytes ++ take i piece) ++ get_or piece i 0 ∷ [] ≡ bytes ++ take (i + 1) piece
+piece_more bytes piece i h = append_assoc bytes (take i piece) (get_or piece i 0 ∷ []) ∙ ap (λ l. bytes ++ l) (sym (take_more piece i 0 h))
+
+-- one more read
+pub front_more : (from at to : Option (List ℕ)) (f g : Front) (piece : List ℕ) (h : HasFront from at f) → Consumes at to piece → IsFront g (h.bytes ++ piece) → HasFront from to g
+front_more from at to f g piece h taken front =
+    record { bytes = h.bytes ++ piece; taken = Consumes-trans from at to h.bytes piece h.taken taken; front = front }
+
+-- what stands in the input behind the scenario
+pub found_behind : (from at to : Option (List ℕ)) (bytes piece : List ℕ) (n : ℕ) (f : Front) (v : Version) → Consumes from at bytes → Consumes at to piece
+    → (h : EndsFront f (bytes ++ take n piece) v) → Consumes from to (h.before ++ ((header v ++ 10 ∷ []) ++ drop n piece))
+found_behind from at to bytes piece n f v before taken h =
+    let both : Consumes from to (bytes ++ piece) = Consumes-trans from at to bytes piece before taken in
+    let split : bytes ++ piece ≡ h.before ++ ((header v ++ 10 ∷ []) ++ drop n piece) =
+    ap (λ l. bytes ++ l) (sym (take-append-drop n piece)) ∙ sym (append_assoc bytes (take n piece) (drop n piece)) ∙ ap (λ l. l ++ drop n piece) h.whole
+    ∙ append_assoc h.before (header v ++ 10 ∷ []) (drop n piece) in
+    subst (Consumes from to) split both
+
+-- what was replayed behind a header line that was found
+pub joins_found : (from at to old new : Option (List ℕ)) (bytes piece : List ℕ) (n : ℕ) (f : Front) (v : Version) (answer : Answer) → Consumes from at bytes → Consumes at to piece
+    → EndsFront f (bytes ++ take n piece) v → (last : Option (List ℕ)) → JoinsBehind f v (drop n piece) to last old new answer → Joins (streams from last old new) answer
+joins_found from at to old new bytes piece n f v answer before taken h last ran =
+    let all = ran from h.before h.held (found_behind from at to bytes piece n f v before taken h) in
+    inl (h.before, (header v ++ 10 ∷ []) ++ all.0, all.1, cut_found f (bytes ++ take n piece) v h all.0, all.2)
+
+-- no header line was found
+pub joins_none : (from to old : Option (List ℕ)) (bytes : List ℕ) (f : Front) (answer : Answer) → Consumes from to bytes → FindsNoTrace (streams from to old old) bytes answer → Joins (streams from to old old) answer
+joins_none from to old bytes f answer taken none = inr (bytes, taken, Keeps-refl old, none)
+
+-- what `find` found, by its answer
+pub found_at : (bytes piece : List ℕ) (f : Front) (r : Result (Option Found) AllocError) (x : Found) → Finds bytes piece f r → r ≡ Ok (Some x)
+    → (x.taken ≤ length piece) × EndsFront f (bytes ++ take x.taken piece) x.version
+found_at bytes piece f r x h is = subst (λ (a : Result (Option Found) AllocError). Finds bytes piece f a) is h
+
+pub none_at : (bytes piece : List ℕ) (f : Front) (r : Result (Option Found) AllocError) → Finds bytes piece f r → r ≡ Ok None → IsFront f (bytes ++ piece)
+none_at bytes piece f r h is = subst (λ (a : Result (Option Found) AllocError). Finds bytes piece f a) is h

@@ -1,0 +1,93 @@
+-- Lines that are written one after the other.
+use Rattle.std.proofs.Common.{◌≡◌, ℕ, ◌+◌, ◌<◌, List, [], ◌∷◌, ◌++◌, length, ◌-◌, Bool, false, get_or, drop, Option, Result, Ok, Err, OnErr, refl, sym, ◌∙◌, ap, append_assoc, append-nil, arith}
+use Rattle.std.proofs.lemmas.List.{drop_more}
+use Rattle.std.proofs.Math.Seq.{drop-length}
+use Rattle.std.specs.Io.KnownBytes.{Appends, Keeps}
+use Rattle.std.proofs.KnownBytes.{Appends-trans, Appends-nil, Appends-kept}
+use Rattle.vme_model.specs.declared.signals.Edge.{Edge}
+use Rattle.vme_model.specs.Verdict.{State, after, kept}
+use Rattle.vme_model.specs.Deliveries.{answer}
+use Rattle.vme_model.specs.Report.{verdict_line, verdict_lines}
+use Rattle.vme_trace.specs.declared.Fault.{Fault}
+use Rattle.vme_trace.specs.Writing.{AppendsFront}
+use Rattle.vme_engines.specs.Steps.{closing_text, piece_text}
+
+-- all is a front of itself
+pub front_of_all : (a b : Option (List ℕ)) (x : List ℕ) → Appends a b x → AppendsFront a b x
+front_of_all a b x w = (x, [], sym (append-nil x), w)
+
+-- nothing is a front of anything
+pub front_of_none : (a : Option (List ℕ)) (x : List ℕ) → AppendsFront a a x
+front_of_none a x = ([], x, refl, Appends-nil a)
+
+-- a front is one of more
+pub front_of_more : (a b : Option (List ℕ)) (x y : List ℕ) → AppendsFront a b x → AppendsFront a b (x ++ y)
+front_of_more a b x y f = (f.0, f.1 ++ y, ap (λ l. l ++ y) f.2 ∙ append_assoc f.0 f.1 y, f.3)
+
+-- all of the first part, and then a front of the second
+pub front_behind : (a b c : Option (List ℕ)) (x y : List ℕ) → Appends a b x → AppendsFront b c y → AppendsFront a c (x ++ y)
+front_behind a b c x y w f =
+    (x ++ f.0, f.1, ap (λ l. x ++ l) f.2 ∙ sym (append_assoc x f.0 f.1), Appends-trans a b c x f.0 w f.3)
+
+pub on_err : {E A : Type 0} (r : Result A E) (P : Type 0) → P → OnErr r P
+on_err (Ok a) P h = tt
+on_err (Err e) P h = h
+
+pub front_kept : (a b c : Option (List ℕ)) (x : List ℕ) → Appends a b x → Keeps b c → AppendsFront a c x
+front_kept a b c x w k = front_of_all a c x (Appends-kept a b c x w k)
+
+pub lines_append : (b : State) (n : ℕ) (es fs : List Edge) → verdict_lines b n (es ++ fs) ≡ verdict_lines b n es ++ verdict_lines (kept b es) (n + length es) fs
+lines_append b n [] fs = ap (λ m. verdict_lines b m fs) (omega arith)
+lines_append b n (e ∷ es) fs =
+    ap (λ l. verdict_line n (answer b e) ++ l) (lines_append (after b e) (n + 1) es fs)
+    ∙ ap (λ m. verdict_line n (answer b e) ++ (verdict_lines (after b e) (n + 1) es ++ verdict_lines (kept (after b e) es) m fs)) (omega arith)
+    ∙ sym (append_assoc (verdict_line n (answer b e)) (verdict_lines (after b e) (n + 1) es) _)
+
+pub kept_append : (b : State) (es fs : List Edge) → kept b (es ++ fs) ≡ kept (kept b es) fs
+kept_append b [] fs = refl
+kept_append b (e ∷ es) fs = kept_append (after b e) es fs
+
+-- In the loop over the edges: the lines of those before the rest were written.
+pub record HasJudged (a b : Option (List ℕ)) (first : State) (n : ℕ) (es : List Edge) (now : State) (m : ℕ) (rest : List Edge) : Type 0 where
+  pub front : List ℕ
+  pub lines : verdict_lines first n es ≡ front ++ verdict_lines now m rest
+  pub wrote : Appends a b front
+  pub state : kept first es ≡ kept now rest
+
+pub none_judged : (a : Option (List ℕ)) (b : State) (n : ℕ) (es : List Edge) → HasJudged a a b n es b n es
+none_judged a b n es = record { front = []; lines = refl; wrote = Appends-nil a; state = refl }
+
+module _ (a b c : Option (List ℕ)) (first now : State) (n m i : ℕ) (es : List Edge) (d : Edge) (x : List ℕ) (h : i < length es)
+    (run : HasJudged a b first n es now m (drop i es)) (is : x ≡ verdict_line m (answer now (get_or es i d))) where
+  here : verdict_lines first n es ≡ run.front ++ (x ++ verdict_lines (after now (get_or es i d)) (m + 1) (drop (i + 1) es))
+  here = run.lines ∙ rw (drop_more es i d h) (ap (λ l. run.front ++ (l ++ verdict_lines (after now (get_or es i d)) (m + 1) (drop (i + 1) es))) (sym is))
+
+  pub judged_more : (next : State) → next ≡ after now (get_or es i d) → Appends b c x → HasJudged a c first n es next (m + 1) (drop (i + 1) es)
+  judged_more next stepped w = record {
+    front = run.front ++ x;
+    lines = rw stepped (here ∙ sym (append_assoc run.front x _));
+    wrote = Appends-trans a b c run.front x run.wrote w;
+    state = run.state ∙ rw (drop_more es i d h) (rw stepped refl);
+  }
+
+  pub judged_front : AppendsFront b c x → AppendsFront a c (verdict_lines first n es)
+  judged_front w = rw here (front_behind a b c run.front _ run.wrote (front_of_more b c x _ w))
+
+pub judged_all : (a b : Option (List ℕ)) (first now : State) (n m : ℕ) (es : List Edge) → HasJudged a b first n es now m (drop (length es) es)
+    → Appends a b (verdict_lines first n es) × (now ≡ kept first es)
+judged_all a b first now n m es run =
+    let none : drop (length es) es ≡ [] = drop-length es in
+    let whole : verdict_lines first n es ≡ run.front = run.lines ∙ ap (λ l. run.front ++ verdict_lines now m l) none ∙ append-nil run.front in
+    (rw whole run.wrote, sym (run.state ∙ ap (kept now) none))
+
+-- the lines of the last piece, and a front of the closing line
+pub closing_front : (a b c : Option (List ℕ)) (first now : State) (judged : ℕ) (es : List Edge) (more : Result Bool Fault) (accepted refused : ℕ) → more ≡ Ok false
+    → now ≡ kept first es → accepted ≡ length now.history → refused ≡ judged + length es - accepted → Appends a b (verdict_lines first (judged + 1) es)
+    → AppendsFront b c (closing_text accepted refused) → AppendsFront a c (piece_text first judged es more)
+closing_front a b c first now judged es more accepted refused ends state all left w f =
+    let count : accepted ≡ length (kept first es).history = all ∙ ap (λ s. length s.history) state in
+    let text : closing_text accepted refused ≡ closing_text (length (kept first es).history) (judged + length es - length (kept first es).history) =
+    ap (λ n. closing_text n refused) count ∙ ap (closing_text (length (kept first es).history)) (left ∙ ap (λ n. judged + length es - n) count) in
+    let whole : piece_text first judged es more ≡ verdict_lines first (judged + 1) es ++ closing_text accepted refused =
+    ap (piece_text first judged es) ends ∙ ap (λ l. verdict_lines first (judged + 1) es ++ l) (sym text) in
+    rw whole (front_behind a b c (verdict_lines first (judged + 1) es) (closing_text accepted refused) w f)

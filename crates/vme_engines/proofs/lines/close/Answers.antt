@@ -1,0 +1,8 @@
+use Rattle.std.proofs.Common.{◌∙◌, subst}
+use Rattle.std.specs.Io.KnownBytes.{Appends}
+use Rattle.vme_engines.proofs.Writing.{front_kept, on_err}
+use Rattle.vme_engines.proofs.lines.close.Goals as goal
+
+pub returns-clause-front : goal.returns-clause-front
+returns-clause-front g c =
+    on_err c.flush.result _ (front_kept _ _ _ _ (subst (Appends (g.W.Write.contents c.args.out.now) (g.W.Write.contents c.put.new.out)) (c.as_slice.ensures.value ∙ c.closing_line.ensures) c.in_ok-put.ensures.ok) c.flush.ensures.kept)

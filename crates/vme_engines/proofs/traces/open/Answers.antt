@@ -1,0 +1,33 @@
+use Rattle.std.proofs.Common.{◌≡◌, ◌-◌, ◌+◌, ℕ, [], arith, subst}
+use Rattle.vme_engines.proofs.Replaying.{IsReading, came, opens_more}
+use Rattle.std.proofs.KnownBytes.{Consumes-nil}
+use Rattle.vme_engines.proofs.Known.{none_known}
+use Rattle.vme_engines.proofs.traces.open.Goals as goal
+
+pub returns-then-is_settled : goal.returns-then-is_settled
+returns-then-is_settled g c =
+    let one_less : 16777216 - c.reads.done ≡ (16777215 - c.reads.done) + 1 = omega arith in
+    let r = subst (λ (n : ℕ). IsReading [] [] (g.R.Read.remaining c.args.input.now) (g.R.Read.remaining c.reads.input) c.reads.reader n []) one_less c.reads.invariant.reading in
+    let h = rw c.reads.invariant.empty at (c.pump-more.ensures.reads r.later [] r.read) in
+    (came [] [] _ _ _ _ _ (16777215 - c.reads.done) [] _ r c.pump-more.result h, c.is_settled.ensures.settled c.if-is_settled.true)
+
+pub reads-preserved : goal.reads-preserved
+reads-preserved g c =
+    let one_less : 16777216 - c.reads.done ≡ (16777215 - c.reads.done) + 1 = omega arith in
+    let left : 16777215 - c.reads.done ≡ 16777216 - (c.reads.done + 1) = omega arith in
+    let r = subst (λ (n : ℕ). IsReading [] [] (g.R.Read.remaining c.args.input.now) (g.R.Read.remaining c.reads.input) c.reads.reader n []) one_less c.reads.invariant.reading in
+    let goes = c.is_settled.ensures.goes_on c.if-is_settled.false in
+    let h = rw (c.reads.invariant.empty, goes.0) at (c.pump-more.ensures.reads r.later [] r.read) in
+    let on = opens_more _ _ _ _ _ (16777215 - c.reads.done) _ r h goes.1 in
+    record {
+      reading = subst (λ (n : ℕ). IsReading [] [] (g.R.Read.remaining c.args.input.now) (g.R.Read.remaining c.pump-more.new.input) c.pump-more.new.reader n []) left on.0;
+      version = goes.1;
+      empty = on.1;
+    }
+
+pub reads-init : goal.reads-init
+reads-init g c = record {
+  reading = record { later = []; taken = Consumes-nil _; bounded = omega arith; read = c.requires.reader };
+  version = none_known _ c.requires.reader;
+  empty = c.requires.empty;
+}

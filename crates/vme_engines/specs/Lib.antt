@@ -1,0 +1,5 @@
+pub mod Streams
+pub mod Outcomes
+pub mod Joining
+pub mod Steps
+pub mod Front

@@ -1,0 +1,76 @@
+-- What an engine writes and answers.
+use Rattle.std.specs.Prelude.{◌≡◌, ◌==◌, ◌<◌, ◌≤◌, ◌-◌, ◌++◌, [], ℕ, List, length, Option, Some, None, option_map, Result, Ok, Err, if◌then◌else◌}
+use Rattle.vme_model.specs.declared.signals.Version.{Version}
+use Rattle.vme_model.specs.declared.signals.Edge.{Edge}
+use Rattle.vme_model.specs.Plan.{Plan}
+use Rattle.vme_model.specs.Verdict.{State}
+use Rattle.vme_model.specs.Text.{Reading, read_of}
+use Rattle.vme_model.specs.Report.{report, verdict_lines, accepted_count, at_power_up, trace_limit}
+use Rattle.vme_trace.specs.declared.Fault.{Fault}
+use Rattle.vme_trace.specs.declared.Fault.TheVariants.{Header, Line, TooLong, CutOff, Read, Memory, Failed, Write}
+use Rattle.vme_trace.specs.Reading.{fault_of}
+use Rattle.vme_scenario.specs.Format.{scenario}
+use Rattle.vme_scenario.specs.Errors.{IsErrorOf}
+use Rattle.vme_engines.specs.declared.Status.{Status}
+use Rattle.vme_engines.specs.declared.Status.TheVariants.{Done, SomeRefused}
+use Rattle.vme_engines.specs.declared.EngineFault.{EngineFault}
+use Rattle.vme_engines.specs.declared.EngineFault.TheVariants as fault
+use Rattle.vme_engines.specs.Streams.{Streams, IsInput, HasRead, IsReadOut, Wrote, WroteFront}
+
+abbrev pub Answer : Type 0
+Answer = Result Status EngineFault
+
+-- the greatest scenario, in bytes (profile)
+abbrev pub scenario_limit : ℕ
+scenario_limit = 1048576
+
+-- An engine that is lent the text of a scenario: the first fault is answered and `nothing` is done, or it runs on the plan.
+abbrev pub Lent : List ℕ → Type 0 → (Plan → Answer → Type 0) → Answer → Type 0
+Lent text nothing Runs (Err fault.TooLong) = (scenario_limit < length text) × nothing
+Lent text nothing Runs (Err (fault.Scenario e)) = (length text ≤ scenario_limit) × IsErrorOf (scenario text) e × nothing
+Lent text nothing Runs (Err fault.NoMemory) = (p : Plan) × (length text ≤ scenario_limit) × (scenario text ≡ Ok p) × nothing
+Lent text nothing Runs (Err (fault.Trace f)) = (p : Plan) × (length text ≤ scenario_limit) × (scenario text ≡ Ok p) × Runs p (Err (fault.Trace f))
+Lent text nothing Runs (Err fault.CannotRead) = ⊥
+Lent text nothing Runs (Ok status) = (p : Plan) × (length text ≤ scenario_limit) × (scenario text ≡ Ok p) × Runs p (Ok status)
+
+-- the backplane on which a trace of that version is judged
+abbrev pub bench : Plan → Version → State
+bench p version = at_power_up version p trace_limit
+
+-- the verdict lines of edges, whose trace names its version before the first of them
+abbrev pub lines_of : Plan → Option Version → List Edge → List ℕ
+lines_of p None es = []
+lines_of p (Some version) es = verdict_lines (bench p version) 1 es
+
+abbrev pub refused_count : Plan → Option Version → List Edge → ℕ
+refused_count p None es = 0
+refused_count p (Some version) es = length es - accepted_count (bench p version) es
+
+abbrev pub status_of : Plan → Reading → Status
+status_of p r = if refused_count p r.version r.edges == 0 then Done else SomeRefused
+
+-- a trace with this fault
+abbrev pub HasFault : List ℕ → Fault → Type 0
+HasFault trace f = option_map fault_of (read_of trace).fault ≡ Some f
+
+-- What a replay of a trace leaves at a fault, where the trace stands in the input behind a text. X1 to X4: the verdicts
+-- on the edges before it. X5: on the edges of what was read. X6: on the edges that found room. X8: a front of the report.
+abbrev pub ReplayStops : Plan → List ℕ → List ℕ → Streams → Fault → Type 0
+ReplayStops p text trace s Header = HasFault trace Header × Wrote s (report p trace)
+ReplayStops p text trace s (Line n) = HasFault trace (Line n) × Wrote s (report p trace)
+ReplayStops p text trace s (TooLong n) = HasFault trace (TooLong n) × Wrote s (report p trace)
+ReplayStops p text trace s CutOff = HasFault trace CutOff × Wrote s (report p trace)
+ReplayStops p text trace s Read = (bytes : List ℕ) × HasRead s (text ++ bytes) × Wrote s (lines_of p (read_of bytes).version (read_of bytes).edges)
+ReplayStops p text trace s Memory = (es : List Edge) × (others : List Edge) × ((read_of trace).edges ≡ es ++ others) × Wrote s (lines_of p (read_of trace).version es)
+ReplayStops p text trace s Failed = ⊥
+ReplayStops p text trace s Write = WroteFront s (report p trace)
+
+-- What a replay of a trace on a plan leaves: without a fault, the whole report.
+abbrev pub Replays : Plan → List ℕ → List ℕ → Streams → Answer → Type 0
+Replays p text trace s (Ok status) = ((read_of trace).fault ≡ None) × IsReadOut s × Wrote s (report p trace) × (status ≡ status_of p (read_of trace))
+Replays p text trace s (Err (fault.Trace f)) = ReplayStops p text trace s f
+Replays p text trace s (Err _) = ⊥
+
+-- a replay of the whole input
+abbrev pub ReplaysInput : Streams → Plan → Answer → Type 0
+ReplaysInput s p answer = (trace : List ℕ) × IsInput s.from trace × Replays p [] trace s answer

@@ -1,0 +1,112 @@
+-- The words of the contracts between an engine's functions.
+use Rattle.std.specs.Prelude.{◌≡◌, ◌≢◌, ◌==◌, ◌<◌, ◌≤◌, ◌⊎◌, ◌+◌, if◌then◌else◌, ◌-◌, ◌*◌, ◌^◌, ◌++◌, ◌∷◌, [], ℕ, Bool, true, false, List, length, codes, decimal, Option, Some, None, unwrap_or, Result, Ok, Err}
+use Rattle.std.specs.Io.KnownBytes.{Appends, Consumes, IsAtEnd}
+use Rattle.vme_model.specs.declared.signals.Version.{Version}
+use Rattle.vme_model.specs.declared.signals.Edge.{Edge}
+use Rattle.vme_model.specs.Plan.{Plan}
+use Rattle.vme_model.specs.Verdict.{State, kept}
+use Rattle.vme_model.specs.Text.{Reading, read_of}
+use Rattle.vme_model.specs.Report.{verdict_lines}
+use Rattle.vme_scenario.specs.Format.{scenario}
+use Rattle.vme_scenario.specs.Errors.{IsErrorOf}
+use Rattle.vme_trace.specs.declared.Fault.{Fault}
+use Rattle.vme_trace.specs.declared.Fault.TheVariants.{Read, Write}
+use Rattle.vme_trace.specs.Reading as trace
+use Rattle.vme_trace.specs.Writing.{AppendsFront}
+use Rattle.vme_engines.specs.declared.Status.{Status}
+use Rattle.vme_engines.specs.declared.Status.TheVariants.{Done, SomeRefused}
+use Rattle.vme_engines.specs.declared.EngineFault.{EngineFault}
+use Rattle.vme_engines.specs.declared.EngineFault.TheVariants as fault
+use Rattle.vme_engines.specs.Streams.{streams, IsInput}
+use Rattle.vme_engines.specs.Outcomes.{Answer, scenario_limit, bench, Replays}
+
+-- why there is no plan
+abbrev pub IsNoPlan : List ℕ → EngineFault → Type 0
+IsNoPlan text fault.TooLong = scenario_limit < length text
+IsNoPlan text (fault.Scenario e) = (length text ≤ scenario_limit) × IsErrorOf (scenario text) e
+IsNoPlan text _ = ⊥
+
+-- ---- reading
+
+-- room for so many reads keeps every count far from its limit
+abbrev pub IsBounded : List ℕ → ℕ → Type 0
+IsBounded bytes left = length bytes + 512 * left ≤ 2 ^ 34
+
+-- a trace of this version begins with these edges
+pub record Begins (r : Reading) (v : Version) (es : List Edge) : Type 0 where
+  pub version : r.version ≡ Some v
+  pub others : List Edge
+  pub edges : r.edges ≡ es ++ others
+
+-- A read failed behind these bytes of a trace and these edges of it.
+pub record Fails (to : Option (List ℕ)) (bytes : List ℕ) (reader : trace.State) (es : List Edge) : Type 0 where
+  pub version : reader.version ≡ (read_of bytes).version
+  pub edges : (read_of bytes).edges ≡ es
+  pub begins : (v : Version) → reader.version ≡ Some v → Begins (read_of (bytes ++ unwrap_or to [])) v es
+
+-- A fault came from the input: a read failed, or the trace has a fault.
+abbrev pub Faults : Option (List ℕ) → List ℕ → trace.State → List Edge → Fault → Type 0
+Faults to bytes reader es f =
+    ((f ≡ Read) × Fails to bytes reader es) ⊎ trace.HasFault (read_of (bytes ++ unwrap_or to [])) reader.version es f
+
+-- A read came, and what it answered. The trace stands in the input behind a text, and begins with a head; `es` are its
+-- edges up to here.
+abbrev pub Comes : Option (List ℕ) → Option (List ℕ) → List ℕ → List ℕ → ℕ → trace.State → List Edge → Result Bool Fault → Type 0
+Comes from to text head left reader es (Ok true) =
+    (later : List ℕ) × Consumes from to (text ++ (head ++ later)) × IsBounded (head ++ later) left × trace.HasRead reader (head ++ later) es
+Comes from to text head left reader es (Ok false) =
+    (later : List ℕ) × Consumes from to (text ++ (head ++ later)) × IsAtEnd to × (reader.version ≡ (read_of (head ++ later)).version)
+    × ((read_of (head ++ later)).edges ≡ es) × ((read_of (head ++ later)).fault ≡ None)
+Comes from to text head left reader es (Err f) =
+    (later : List ℕ) × Consumes from to (text ++ (head ++ later)) × Faults to (head ++ later) reader es f
+
+-- The reader has read a trace whose edges are few enough to be counted while so many reads are left.
+pub record IsCounted (reader : trace.State) (left judged : ℕ) : Type 0 where
+  pub bytes : List ℕ
+  pub es : List Edge
+  pub read : trace.HasRead reader bytes es
+  pub bounded : IsBounded bytes left
+  pub count : judged ≡ length es
+
+-- What the reads up to the header line leave: its version is known, or there is a fault.
+abbrev pub Opens : Option (List ℕ) → Option (List ℕ) → trace.State → List Edge → Result Bool Fault × ℕ → Type 0
+Opens from to reader es (answer, left) = Comes from to [] [] left reader es answer × (answer ≡ Ok true → reader.version ≢ None)
+
+-- ---- replay
+
+abbrev pub closing_text : ℕ → ℕ → List ℕ
+closing_text accepted refused = ((codes "accepted " ++ decimal accepted) ++ codes " refused ") ++ decimal refused ++ 10 ∷ []
+
+-- what stands behind the verdicts of a piece: the closing line at the end of the trace
+abbrev pub ending : Result Bool Fault → ℕ → ℕ → List ℕ
+ending (Ok true) judged accepted = []
+ending (Ok false) judged accepted = closing_text accepted (judged - accepted)
+ending (Err f) judged accepted = []
+
+-- what is written for the edges of a piece
+abbrev pub piece_text : State → ℕ → List Edge → Result Bool Fault → List ℕ
+piece_text b judged es more = verdict_lines b (judged + 1) es ++ ending more (judged + length es) (length (kept b es).history)
+
+abbrev pub status_at : ℕ → ℕ → Status
+status_at judged accepted = if (judged - accepted) == 0 then Done else SomeRefused
+
+-- What the edges of a piece do to a replay: `more` is what the read answered.
+abbrev pub TakesPiece : State → ℕ → List Edge → Result Bool Fault → Option (List ℕ) → Option (List ℕ) → State → ℕ → Result (Option Status) Fault → Type 0
+TakesPiece b judged es more old new b' judged' (Ok None) =
+    (more ≡ Ok true) × Appends old new (piece_text b judged es more) × (b' ≡ kept b es) × (judged' ≡ judged + length es)
+TakesPiece b judged es more old new b' judged' (Ok (Some status)) =
+    (more ≡ Ok false) × Appends old new (piece_text b judged es more) × (status ≡ status_at (judged + length es) (length (kept b es).history))
+TakesPiece b judged es more old new b' judged' (Err f) =
+    ((more ≡ Err f) × Appends old new (piece_text b judged es more)) ⊎ ((f ≡ Write) × AppendsFront old new (piece_text b judged es more))
+
+-- an engine's answer, its fault as one of the trace
+abbrev pub traced : Result Status Fault → Answer
+traced (Ok status) = Ok status
+traced (Err f) = Err (fault.Trace f)
+
+-- A replay that goes on behind a first read leaves that of the whole trace.
+abbrev pub ReplaysOn : State → trace.State → List Edge → Result Bool Fault → ℕ → Option (List ℕ) → Option (List ℕ) → Option (List ℕ) → Option (List ℕ) → Result Status Fault → Type 0
+ReplaysOn b reader es first left at to old new result =
+    (p : Plan) (version : Version) (from : Option (List ℕ)) (text head : List ℕ) → b ≡ bench p version → reader.version ≡ Some version
+    → Comes from at text head left reader es first
+    → (rest : List ℕ) × IsInput from (text ++ (head ++ rest)) × Replays p text (head ++ rest) (streams from to old new) (traced result)

@@ -1,0 +1,59 @@
+//! The engines of the program: each reads a scenario and a trace, and writes what the rules say of it.
+//!
+//! They are generic over the reader and the writer. `specs/Outcomes.antt` says what each leaves behind and answers.
+#![tactic(auto)]
+
+mod joins;
+mod lines;
+mod plans;
+mod replays;
+mod traces;
+
+pub use joins::joined;
+pub use replays::replay;
+use thiserror::Error;
+use vme_scenario::ScenarioError;
+use vme_trace::Fault;
+
+/// The greatest scenario, in bytes.
+pub const SCENARIO_LIMIT: usize = 1_048_576;
+
+/// The most edges that a replay keeps, and the most that `drive` makes.
+pub const TRACE_LIMIT: u32 = 1_048_576;
+
+/// The most reads of one engine.
+pub const READS: u32 = 16_777_216;
+
+/// How an engine ended that met no fault.
+#[derive(Clone, Copy, PartialEq, Eq, Debug)]
+pub enum Status {
+    /// All edges were accepted, or nobody could make a further one.
+    Done,
+    /// Some edge was refused.
+    SomeRefused,
+    /// As many edges were made as were asked for.
+    Limit,
+}
+
+/// Why an engine gave up, by the numbers that users see.
+#[derive(PartialEq, Eq, Debug, Drop, Error)]
+pub enum EngineFault {
+    /// The scenario is refused.
+    #[error("{0}")]
+    Scenario(ScenarioError),
+    /// The trace has a fault, or could not be read or written.
+    #[error("{0}")]
+    Trace(Fault),
+    /// The input could not be read to the end of the scenario.
+    #[error("F1 cannot read the scenario")]
+    CannotRead,
+    /// The scenario has more than 1,048,576 bytes.
+    #[error("F2 the scenario is too long")]
+    TooLong,
+    /// No memory for the engine's own lists.
+    #[error("F3 no memory")]
+    NoMemory,
+}
+
+#[cfg(test)]
+mod tests;

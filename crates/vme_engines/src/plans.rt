@@ -1,0 +1,32 @@
+//! What an engine makes of a scenario before it runs.
+ghost use Rattle.std.specs.Prelude.{◌≡◌, ◌<◌, ◌≤◌, Ok, IfOk, IfErr, length};
+ghost use Rattle.vme_model.specs.Report.{trace_limit};
+ghost use Rattle.vme_scenario.specs.Format.{scenario};
+ghost use Rattle.vme_engines.specs.Steps.{IsNoPlan};
+
+use crate::{EngineFault, SCENARIO_LIMIT, TRACE_LIMIT};
+use std::alloc::Global;
+use vme_backplane::Trace;
+use vme_slots::Plan;
+
+/// The plan of a scenario's text.
+pub(crate) fn plan_of(alloc: Global, text: &[u8]) -> Result<Plan, EngineFault>
+    ensures ok { IfOk result (λ p. (length text.now ≤ 1048576) × (scenario text.now ≡ Ok p)) }
+    ensures fault { IfErr result (IsNoPlan text.now) }
+{
+    if text.len() > SCENARIO_LIMIT {
+        return Err(EngineFault::TooLong);
+    }
+    match vme_scenario::read(alloc, text) {
+        Ok(scenario) => Ok(scenario.plan),
+        Err(fault) => Err(EngineFault::Scenario(fault)),
+    }
+}
+
+/// Room for the longest history.
+pub(crate) fn history_room(alloc: Global) -> Result<Trace, EngineFault>
+    ensures ok { IfOk result (λ room. room ≡ trace_limit) }
+    ensures fault { IfErr result (λ fault. fault ≡ EngineFault.NoMemory) }
+{
+    Trace::new(alloc, TRACE_LIMIT).map_err(|_| EngineFault::NoMemory)
+}

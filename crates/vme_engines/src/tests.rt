@@ -1,0 +1,275 @@
+//! What no clause says: the happy path of each engine, and devices that fail.
+use crate::{EngineFault, SCENARIO_LIMIT, Status, joined, replay};
+use std::io;
+use std::io::{Read, Write};
+use std::test::Fail;
+use vme_trace::Fault;
+
+/// Gives a byte per read, and fails at a read.
+#[derive(Drop)]
+struct Drip<'a> {
+    rest: &'a [u8],
+    reads: u32,
+    fails_at: u32,
+}
+
+impl Read for Drip<'_> {
+    fn read(&mut self, buf: &mut [u8]) -> io::Result<usize> {
+        self.reads = self.reads.saturating_add(1);
+        if self.reads == self.fails_at {
+            return Err(io::Error::from(io::ErrorKind::Other));
+        }
+        match self.rest.split_first() {
+            Some((first, rest)) if !buf.is_empty() => {
+                buf[0] = *first;
+                self.rest = rest;
+                Ok(1)
+            }
+            _ => Ok(0),
+        }
+    }
+}
+
+/// Takes some bytes, and then fails.
+#[derive(Drop)]
+struct Tight {
+    taken: Vec<u8>,
+    room: usize,
+}
+
+impl Write for Tight {
+    fn write(&mut self, buf: &[u8]) -> io::Result<usize> {
+        if self.room == 0 {
+            return Err(io::Error::from(io::ErrorKind::Other));
+        }
+        let count = buf.len().min(self.room);
+        self.taken.extend_from_slice(&buf[..count])?;
+        self.room -= count;
+        Ok(count)
+    }
+
+    fn flush(&mut self) -> io::Result<()> {
+        Ok(())
+    }
+}
+
+/// One board that requests the bus at level 3.
+const ONE_BOARD: &[u8] = b"slots = 1
+arbiter = \"sgl\"
+
+[[board]]
+slot = 1
+requester = { level = 3, release = \"rwd\", burst = 1 }
+";
+
+/// One tenure of the bus.
+const TENURE: &[u8] = b"vme 1
+1 br-
+c bg3-
+1 bbsy-
+1 br+
+c bg3+
+1 bbsy+
+";
+
+const REPORT: &[u8] = b"1 ok
+2 ok
+3 ok
+4 ok
+5 ok
+6 ok
+accepted 6 refused 0
+";
+
+/// The two in one input.
+const BOTH: &[u8] = b"slots = 1
+arbiter = \"sgl\"
+
+[[board]]
+slot = 1
+requester = { level = 3, release = \"rwd\", burst = 1 }
+vme 1
+1 br-
+c bg3-
+1 bbsy-
+1 br+
+c bg3+
+1 bbsy+
+";
+
+#[test]
+fn joins_a_tenure(rt: HostRuntime) -> Result<(), Fail> {
+    let mut out = Vec::new(rt.alloc());
+    let mut input = BOTH;
+    assert!(rt; joined(rt.alloc(), &mut input, &mut out) == Ok(Status::Done));
+    assert!(rt; out.as_slice() == REPORT);
+    Ok(())
+}
+
+#[test]
+fn joins_byte_by_byte(rt: HostRuntime) -> Result<(), Fail> {
+    let mut out = Vec::new(rt.alloc());
+    let mut input = Drip {
+        rest: BOTH,
+        reads: 0,
+        fails_at: 0,
+    };
+    assert!(rt; joined(rt.alloc(), &mut input, &mut out) == Ok(Status::Done));
+    assert!(rt; out.as_slice() == REPORT);
+    Ok(())
+}
+
+#[test]
+fn a_failing_read_before_the_trace_is_no_scenario(rt: HostRuntime) -> Result<(), Fail> {
+    let mut out = Vec::new(rt.alloc());
+    let mut input = Drip {
+        rest: BOTH,
+        reads: 0,
+        fails_at: 13,
+    };
+    assert!(rt; joined(rt.alloc(), &mut input, &mut out) == Err(EngineFault::CannotRead));
+    assert!(rt; out.is_empty());
+    Ok(())
+}
+
+#[test]
+fn no_header_line_is_no_trace(rt: HostRuntime) -> Result<(), Fail> {
+    let cases: [&[u8]; 6] = [
+        b"",
+        b"slots = 1\n",
+        b"vme 1",
+        b"vme 1\r\n",
+        b" vme 1\n",
+        b"vme 3\n",
+    ];
+    for case in cases {
+        let mut out = Vec::new(rt.alloc());
+        let mut input = case;
+        let answer = joined(rt.alloc(), &mut input, &mut out);
+        assert!(rt;
+            answer == Err(EngineFault::Trace(Fault::Header)),
+            "{case:?}"
+        );
+        assert!(rt; out.is_empty());
+    }
+    Ok(())
+}
+
+#[test]
+fn a_full_device_cuts_the_report(rt: HostRuntime) -> Result<(), Fail> {
+    let mut input = BOTH;
+    let mut out = Tight {
+        taken: Vec::new(rt.alloc()),
+        room: 7,
+    };
+    assert!(rt; joined(rt.alloc(), &mut input, &mut out) == Err(EngineFault::Trace(Fault::Write)));
+    assert!(rt; out.taken.as_slice() == b"1 ok\n2 ".as_slice());
+    Ok(())
+}
+
+/// Three boards, of which the first has no parts.
+const THREE_BOARDS: &[u8] = b"slots = 3
+arbiter = \"sgl\"
+board = [
+  { slot = 1 },
+  { slot = 2, requester = { level = 3, release = \"rwd\", burst = 1 } },
+  { slot = 3, requester = { level = 3, release = \"rwd\", burst = 1 } },
+]
+";
+
+#[test]
+fn replays_a_tenure(rt: HostRuntime) -> Result<(), Fail> {
+    let mut out = Vec::new(rt.alloc());
+    let mut trace = TENURE;
+    assert!(rt; replay(rt.alloc(), ONE_BOARD, &mut trace, &mut out) == Ok(Status::Done));
+    assert!(rt; out.as_slice() == REPORT);
+    Ok(())
+}
+
+#[test]
+fn replays_no_edge(rt: HostRuntime) -> Result<(), Fail> {
+    let mut out = Vec::new(rt.alloc());
+    let mut trace: &[u8] = b"vme 1\n";
+    assert!(rt; replay(rt.alloc(), ONE_BOARD, &mut trace, &mut out) == Ok(Status::Done));
+    assert!(rt; out.as_slice() == b"accepted 0 refused 0\n".as_slice());
+    Ok(())
+}
+
+// A request that comes behind the grant is too late for it.
+#[test]
+fn goes_on_behind_a_refused_edge(rt: HostRuntime) -> Result<(), Fail> {
+    let mut out = Vec::new(rt.alloc());
+    let mut trace: &[u8] = b"vme 1\n3 br-\nc bg3-\n2 bgout-\n2 br-\n2 bbsy-\n3 bbsy-\n";
+    let answer = replay(rt.alloc(), THREE_BOARDS, &mut trace, &mut out);
+    assert!(rt; answer == Ok(Status::SomeRefused));
+    let wanted: &[u8] = b"1 ok\n2 ok\n3 ok\n4 ok\n5 E3 G13\n6 ok\naccepted 5 refused 1\n";
+    assert!(rt; out.as_slice() == wanted);
+    Ok(())
+}
+
+// The thirteenth read is behind the header line's six bytes and the first edge's six.
+#[test]
+fn a_failing_read_leaves_the_verdicts_before_it(rt: HostRuntime) -> Result<(), Fail> {
+    let mut out = Vec::new(rt.alloc());
+    let mut trace = Drip {
+        rest: TENURE,
+        reads: 0,
+        fails_at: 13,
+    };
+    let answer = replay(rt.alloc(), ONE_BOARD, &mut trace, &mut out);
+    assert!(rt; answer == Err(EngineFault::Trace(Fault::Read)));
+    assert!(rt; out.as_slice() == b"1 ok\n".as_slice());
+    Ok(())
+}
+
+#[test]
+fn a_replay_ends_at_a_fault_of_the_trace(rt: HostRuntime) -> Result<(), Fail> {
+    let cases: [(&[u8], Fault, &[u8]); 7] = [
+        (b"", Fault::Header, b""),
+        (b"vme 3\n", Fault::Header, b""),
+        (b"vme 1", Fault::CutOff, b""),
+        (b"vme 1\n1 br-\nc bg", Fault::CutOff, b"1 ok\n"),
+        (b"vme 1\n1 br-\n1 bg3-\n", Fault::Line { n: 3 }, b"1 ok\n"),
+        (b"vme 1\n1 br-\n\n", Fault::Line { n: 3 }, b"1 ok\n"),
+        (
+            b"vme 1\naaaaaaaaaaaaaaaaaaaaaaaaaaaaaaaaaaaaaaaaaaaaaaaaaaaaaaaaaaaaaaaaa",
+            Fault::TooLong { n: 2 },
+            b"",
+        ),
+    ];
+    for (text, fault, written) in cases {
+        let mut out = Vec::new(rt.alloc());
+        let mut trace = text;
+        let answer = replay(rt.alloc(), ONE_BOARD, &mut trace, &mut out);
+        assert!(rt; answer == Err(EngineFault::Trace(fault)), "{text:?}");
+        assert!(rt; out.as_slice() == written, "{text:?}");
+    }
+    Ok(())
+}
+
+#[test]
+fn a_long_scenario_is_not_read(rt: HostRuntime) -> Result<(), Fail> {
+    let scenario = vec![in rt.alloc(); b' '; SCENARIO_LIMIT + 1]?;
+    let mut out = Vec::new(rt.alloc());
+    let mut trace = TENURE;
+    let answer = replay(rt.alloc(), &scenario, &mut trace, &mut out);
+    assert!(rt; answer == Err(EngineFault::TooLong));
+    assert!(rt; out.is_empty());
+    assert!(rt; trace.len() == TENURE.len());
+    Ok(())
+}
+
+#[test]
+fn faults_have_their_texts(rt: HostRuntime) -> Result<(), Fail> {
+    let cases: [(EngineFault, &str); 4] = [
+        (EngineFault::CannotRead, "F1 cannot read the scenario"),
+        (EngineFault::TooLong, "F2 the scenario is too long"),
+        (EngineFault::NoMemory, "F3 no memory"),
+        (EngineFault::Trace(Fault::CutOff), "X4 the trace is cut off"),
+    ];
+    for (fault, text) in cases {
+        let written = format!(in rt.alloc(); "{fault}")?;
+        assert!(rt; written.as_str() == text);
+    }
+    Ok(())
+}
