@@ -40,11 +40,7 @@ impl Finding {
 }
 
 /// Judges the edges behind the first `judged`, up to the first that is refused: its number, and why.
-fn first_refused(
-    backplane: &mut Backplane,
-    judged: u64,
-    edges: &[Edge],
-) -> Option<(u64, Refused)>
+fn first_refused(backplane: &mut Backplane, judged: u64, edges: &[Edge]) -> Option<(u64, Refused)>
     requires { judged + length edges.now < 2 ^ 64 }
     ensures found { result ≡ first_refusal (judged + 1) backplane.old edges.now }
     ensures state { result ≡ None → backplane.new ≡ kept backplane.old edges.now }
@@ -117,12 +113,7 @@ fn find_on<R: Read>(
 }
 
 /// Checks a trace that stands alone, on a plan.
-fn find<R: Read>(
-    alloc: Global,
-    plan: Plan,
-    room: Trace,
-    trace: &mut R,
-) -> Result<Finding, Fault>
+fn find<R: Read>(alloc: Global, plan: Plan, room: Trace, trace: &mut R) -> Result<Finding, Fault>
     requires { room ≡ trace_limit }
     ensures { FindsInput plan (R.remaining trace.old) (R.remaining trace.new) result }
 {

@@ -1,7 +1,7 @@
 //! Letting the drivers of a backplane make edges in turn.
-ghost use Rattle.std.specs.Prelude.{◌≡◌, ◌==◌, ◌≤◌, OnOk, OnErr, IfErr, length, if◌then◌else◌};
+ghost use Rattle.std.specs.Prelude.{◌≡◌, ◌==◌, ◌%◌, OnOk, OnErr, IfErr, is_some, length, slice_get, if◌then◌else◌};
 ghost use Rattle.std.specs.Io.KnownBytes.{Appends, Keeps};
-ghost use Rattle.vme_model.specs.Plan.{drivers};
+ghost use Rattle.vme_model.specs.Plan.{board, drivers};
 ghost use Rattle.vme_model.specs.History.{in_order};
 ghost use Rattle.vme_model.specs.Offers.{turn, turns, rounds};
 ghost use Rattle.vme_model.specs.Text.{text, edge_lines};
@@ -17,41 +17,59 @@ use arrayvec::ArrayVec;
 use std::alloc::Global;
 use std::io::Write;
 use vme_backplane::Backplane;
-use vme_model::{Driver, Version};
+use vme_model::{Driver, Edge, Version};
 use vme_slots::Plan;
 use vme_trace::{Fault, line_of, put};
 
 /// The most drivers of a plan: the controller and 21 boards.
 const DRIVERS: usize = 22;
 
+/// Whether there is a board in the slot.
+fn has_board(plan: &Plan, slot: u8) -> bool
+    ensures { result ≡ is_some (board plan.now slot) }
+{
+    plan.row(slot).is_some()
+}
+
 /// The drivers of a plan: the controller, then each board by slot.
 fn drivers_of(plan: &Plan) -> ArrayVec<Driver, DRIVERS>
     ensures { result.items ≡ drivers plan.now }
 {
+    plan.accepted();
     let mut drivers = ArrayVec::new();
     drivers.push(Driver::Controller);
     for below in 0..plan.slots() {
         let slot = below + 1;
-        if plan.row(slot).is_some() {
+        if has_board(plan, slot) {
             drivers.push(Driver::Slot(slot));
         }
     }
     drivers
 }
 
-/// A driver's turn: of its offers it makes the round's, unless enough edges were made.
+/// The offer that a driver makes in a round.
+fn choice(offers: &[Edge], round: u32) -> Option<Edge>
+    ensures { result ≡ slice_get offers.now (round % length offers.now) }
+{
+    if offers.is_empty() {
+        return None;
+    }
+    offers.get(round as usize % offers.len()).copied()
+}
+
+/// A driver's turn: it makes an offer, unless there is none or enough edges were made.
 fn take_turn(backplane: &mut Backplane, round: u32, edges: u32, driver: Driver)
     ensures { backplane.new ≡ turn round edges backplane.old driver }
 {
     if backplane.len() == edges {
         return;
     }
-    let offers = backplane.offers(driver);
-    if offers.is_empty() {
-        return;
+    match choice(backplane.offers(driver).as_slice(), round) {
+        Some(edge) => {
+            let _ = backplane.step(edge);
+        }
+        None => {}
     }
-    let place = round as usize % offers.len();
-    let _ = backplane.step(offers[place]);
 }
 
 /// A turn of each driver.
@@ -83,6 +101,7 @@ fn write_lines<W: Write>(backplane: &Backplane, out: &mut W) -> Result<(), Fault
     ensures front { OnErr result (AppendsFront (W.contents out.old) (W.contents out.new) (edge_lines (in_order backplane.now.history))) }
     ensures fault { IfErr result (λ fault. fault ≡ Fault.Write) }
 {
+    backplane.laws();
     for place in 0..backplane.len() {
         let edge = backplane.edge_at(place);
         put(out, line_of(&edge).as_slice())?;

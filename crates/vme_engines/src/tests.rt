@@ -329,8 +329,7 @@ fn drives_a_board_to_the_limit(rt: HostRuntime) -> Result<(), Fail> {
     let mut out = Vec::new(rt.alloc());
     let answer = drive(rt.alloc(), ONE_BOARD, 8, &mut out, Version::One);
     assert!(rt; answer == Ok(Status::Limit));
-    let wanted: &[u8] =
-        b"vme 1\n1 br-\nc bg3-\n1 bbsy-\nc bg3+\n1 br+\n1 addr- r1\n1 as-\n1 ds-\n";
+    let wanted: &[u8] = b"vme 1\n1 br-\nc bg3-\n1 bbsy-\nc bg3+\n1 br+\n1 addr- r1\n1 as-\n1 ds-\n";
     assert!(rt; out.as_slice() == wanted);
     Ok(())
 }
