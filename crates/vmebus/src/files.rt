@@ -1,5 +1,6 @@
 //! What a run reads and writes.
-ghost use Rattle.std.specs.Prelude.{◌≡◌, ◌<◌, ◌≤◌, ◌⊎◌, IfOk, IfErr, IfSome, length};
+ghost use Rattle.std.specs.Prelude.{◌≡◌, ◌<◌, ◌≤◌, ◌⊎◌, IfOk, IfErr, IfSome, [], length};
+ghost use Rattle.std.specs.Io.Buffered.{reader_inner, reader_buffer, reader_capacity, writer_buffer, writer_capacity};
 
 use crate::faults::ProgramFault;
 use std::alloc::Global;
@@ -41,6 +42,7 @@ fn scenario_text<'a, R: Read + Drop>(
 /// The text of the scenario in the file of this name. Errors: F1, F2 and F3.
 pub fn read_scenario<'a>(rt: &HostRuntime, name: &'a str) -> Result<Vec<u8>, ProgramFault<'a>>
     ensures short { IfOk result (λ text. length text.items ≤ 1048576) }
+    ensures fault { IfErr result (λ fault. (fault ≡ ProgramFault.CannotRead name.entry) ⊎ (fault ≡ ProgramFault.TooLong name.entry) ⊎ (fault ≡ ProgramFault.Engine EngineFault.NoMemory)) }
 {
     scenario_text(rt.alloc(), name, open(rt, name)?)
 }
@@ -49,7 +51,10 @@ pub fn read_scenario<'a>(rt: &HostRuntime, name: &'a str) -> Result<Vec<u8>, Pro
 pub fn buffered<R: Read + Drop>(
     rt: &HostRuntime,
     input: R,
-) -> Result<BufReader<R>, ProgramFault<'static>> {
+) -> Result<BufReader<R>, ProgramFault<'static>>
+    ensures reader { IfOk result (λ reader. (reader_inner reader ≡ input) × (reader_buffer reader ≡ []) × (reader_capacity reader ≡ 65536)) }
+    ensures fault { IfErr result (λ fault. fault ≡ ProgramFault.Engine EngineFault.NoMemory) }
+{
     match BufReader::with_capacity(rt.alloc(), BUFFER, input) {
         Ok(reader) => Ok(reader),
         Err(_) => Err(ProgramFault::Engine(EngineFault::NoMemory)),
@@ -57,7 +62,10 @@ pub fn buffered<R: Read + Drop>(
 }
 
 /// Standard output, written much at once.
-pub fn output(rt: &HostRuntime) -> Result<BufWriter<Stdout>, ProgramFault<'static>> {
+pub fn output(rt: &HostRuntime) -> Result<BufWriter<Stdout>, ProgramFault<'static>>
+    ensures writer { IfOk result (λ writer. (writer_buffer writer ≡ []) × (writer_capacity writer ≡ 65536)) }
+    ensures fault { IfErr result (λ fault. fault ≡ ProgramFault.Engine EngineFault.NoMemory) }
+{
     match BufWriter::with_capacity(rt.alloc(), BUFFER, rt.stdout()) {
         Ok(out) => Ok(out),
         Err(_) => Err(ProgramFault::Engine(EngineFault::NoMemory)),

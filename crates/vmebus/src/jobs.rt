@@ -1,6 +1,7 @@
 //! Each job's engine, on the files that the words name.
-ghost use Rattle.std.specs.Prelude.{◌≡◌};
+ghost use Rattle.std.specs.Prelude.{◌≡◌, IfErr};
 ghost use Rattle.std.specs.Process.{exit_status};
+ghost use Rattle.vmebus.specs.Names.{IsFaultOf};
 ghost use Rattle.vmebus.specs.Statuses.{exit_code};
 
 use crate::faults::ProgramFault;
@@ -11,7 +12,9 @@ use vme_model::Version;
 use vme_words::Job;
 
 /// Replays what stands on standard input.
-fn run_joined(rt: &HostRuntime) -> Result<Status, ProgramFault<'static>> {
+fn run_joined(rt: &HostRuntime) -> Result<Status, ProgramFault<'static>>
+    ensures { IfErr result (IsFaultOf Job.Joined) }
+{
     let mut input = buffered(rt, rt.stdin())?;
     let mut out = output(rt)?;
     let answer = joined(rt.alloc(), &mut input, &mut out);
@@ -23,7 +26,9 @@ fn run_replay<'a>(
     rt: &HostRuntime,
     scenario: &'a str,
     trace: &'a str,
-) -> Result<Status, ProgramFault<'a>> {
+) -> Result<Status, ProgramFault<'a>>
+    ensures { IfErr result (IsFaultOf (Job.Replay scenario.entry trace.entry)) }
+{
     let text = read_scenario(rt, scenario)?;
     let mut input = buffered(rt, open(rt, trace)?)?;
     let mut out = output(rt)?;
@@ -36,7 +41,9 @@ fn run_check<'a>(
     rt: &HostRuntime,
     scenario: &'a str,
     trace: &'a str,
-) -> Result<Status, ProgramFault<'a>> {
+) -> Result<Status, ProgramFault<'a>>
+    ensures { IfErr result (IsFaultOf (Job.Check scenario.entry trace.entry)) }
+{
     let text = read_scenario(rt, scenario)?;
     let mut input = buffered(rt, open(rt, trace)?)?;
     let mut out = output(rt)?;
@@ -50,7 +57,9 @@ fn run_drive<'a>(
     scenario: &'a str,
     edges: u32,
     version: Version,
-) -> Result<Status, ProgramFault<'a>> {
+) -> Result<Status, ProgramFault<'a>>
+    ensures { IfErr result (IsFaultOf (Job.Drive scenario.entry edges version)) }
+{
     let text = read_scenario(rt, scenario)?;
     let mut out = output(rt)?;
     let answer = drive(rt.alloc(), &text, edges, &mut out, version);
@@ -58,7 +67,9 @@ fn run_drive<'a>(
 }
 
 /// Does a job. Errors: those of its files, and then those of its engine.
-pub fn run<'a>(rt: &HostRuntime, job: Job<'a>) -> Result<Status, ProgramFault<'a>> {
+pub fn run<'a>(rt: &HostRuntime, job: Job<'a>) -> Result<Status, ProgramFault<'a>>
+    ensures { IfErr result (IsFaultOf job.entry) }
+{
     match job {
         Job::Joined => run_joined(rt),
         Job::Replay { scenario, trace } => run_replay(rt, scenario, trace),

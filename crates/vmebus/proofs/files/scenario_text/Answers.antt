@@ -1,4 +1,4 @@
-use Rattle.std.proofs.Common.{rules, arith}
+use Rattle.std.proofs.Common.{rules}
 use Rattle.vmebus.proofs.Fronts.{whole_front}
 use Rattle.vmebus.proofs.files.scenario_text.Goals as goal
 
