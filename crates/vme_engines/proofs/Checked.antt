@@ -1,5 +1,5 @@
 -- A check, read by read.
-use Rattle.std.proofs.Common.{◌≡◌, ◌≢◌, ◌⊎◌, inl, inr, ℕ, ◌+◌, ◌-◌, ◌<◌, ◌≤◌, List, [], ◌∷◌, ◌++◌, length, Bool, true, false, get_or, drop, Option, Some, None, unwrap_or, Result, Ok, Err, refl, sym, ◌∙◌, ap, append_assoc, append-nil, subst, arith, reverse, is_ok}
+use Rattle.std.proofs.Common.{◌≡◌, ◌≢◌, inl, inr, ℕ, ◌+◌, ◌<◌, ◌≤◌, List, [], ◌∷◌, ◌++◌, length, Bool, true, false, get_or, drop, Option, Some, None, unwrap_or, Result, Ok, Err, refl, sym, ◌∙◌, ap, append_assoc, append-nil, subst, arith, reverse}
 use Rattle.std.proofs.Math.ListN.{length-append}
 use Rattle.std.proofs.Math.Seq.{drop-length}
 use mathlib.Core.List.{reverse-cons}
@@ -11,7 +11,9 @@ use Rattle.vme_model.specs.declared.deliveries.Delivery.{Delivery}
 use Rattle.vme_model.specs.declared.refusals.Refused.{Refused}
 use Rattle.vme_model.specs.Plan.{Plan}
 use Rattle.vme_model.specs.Verdict.{State, Judgement, verdict, after, made, kept, IsLegal}
-use Rattle.vme_model.specs.Safe.{IsSafe}
+use Rattle.vme_model.specs.Accepted.{IsAccepted}
+use Rattle.vme_model.proofs.Safety.{legal_is_safe}
+use Rattle.vme_scenario.specs.Format.{scenario}
 use Rattle.vme_model.specs.Deliveries.{answer, with_delivery}
 use Rattle.vme_model.specs.Text.{Reading, read_of}
 use Rattle.vme_trace.specs.declared.Fault.{Fault}
@@ -19,11 +21,11 @@ use Rattle.vme_trace.specs.declared.Fault.TheVariants.{Header, Line, TooLong, Cu
 use Rattle.vme_trace.specs.Reading as trace
 use Rattle.vme_engines.specs.declared.checks.Finding.{Finding}
 use Rattle.vme_engines.specs.declared.checks.Finding.TheVariants.{Legal, Illegal}
-use Rattle.vme_engines.specs.Streams.{streams, IsInput}
+use Rattle.vme_engines.specs.declared.Status.TheVariants.{Done}
+use Rattle.vme_engines.specs.Streams.{Streams, streams, IsInput}
 use Rattle.vme_engines.specs.Outcomes.{bench, HasFault}
-use Rattle.vme_engines.specs.Checking.{or_refusal, first_refusal, refusal_of, IsUnrefused, IsLegalTrace, IsFound, FindsNothing}
-use Rattle.vme_engines.specs.Steps.{Begins, Fails, Faults, Comes, Opens, ChecksPiece, Finds, FindsInput}
-use Rattle.vme_engines.proofs.Known.{unknown_version}
+use Rattle.vme_engines.specs.Checking.{or_refusal, first_refusal, refusal_of, IsUnrefused, IsLegalTrace, IsFound, FindsNothing, finding_status, IsSafeInput}
+use Rattle.vme_engines.specs.Steps.{Begins, Faults, Comes, Opens, ChecksPiece, FindsInput}
 use Rattle.vme_engines.proofs.Writing.{kept_append}
 use Rattle.vme_engines.proofs.Replaying.{IsReading, reading_of, begins_more, whole_input, read_out, no_such}
 
@@ -190,8 +192,8 @@ module _ (p : Plan) (v : Version) (from to : Option (List ℕ)) (b next : State)
 
   -- all edges are legal
   legal_trace : (r : Reading) → r.version ≡ Some v → r.edges ≡ es ++ fs → r.fault ≡ None → first_refusal (judged + 1) b fs ≡ None → next ≡ kept b fs
-      → IsLegal next.version next.plan next.history → IsSafe next.plan next.history → length next.history ≤ next.max → IsLegalTrace p r
-  legal_trace r named edges whole none stepped legal safe fits =
+      → IsLegal next.version next.plan next.history → length next.history ≤ next.max → IsLegalTrace p r
+  legal_trace r named edges whole none stepped legal fits =
       let all : first_refusal 1 (bench p v) (es ++ fs) ≡ None = refusal_is ∙ none in
       let is : next ≡ record (bench p v) { history = reverse r.edges } =
       stepped ∙ sym kept_is ∙ all_kept 1 (bench p v) (es ++ fs) all ∙ ap (λ l. record (bench p v) { history = l }) (append-nil (reverse (es ++ fs)))
@@ -203,7 +205,6 @@ module _ (p : Plan) (v : Version) (from to : Option (List ℕ)) (b next : State)
         whole = whole;
         unrefused = refusal_known p v r.edges r.version named ∙ ap (first_refusal 1 (bench p v)) edges ∙ all;
         legal = subst (λ (s : State). IsLegal s.version s.plan s.history) is legal;
-        safe = subst (λ (s : State). IsSafe s.plan s.history) is safe;
         fits = rw (length-reverse r.edges) at few;
       }
 
@@ -223,7 +224,7 @@ module _ (p : Plan) (v : Version) (from to : Option (List ℕ)) (b next : State)
         end.0,
         read_out from to end.0 end.1 end.2,
         (
-          legal_trace (read_of end.0) named end.4 end.5 h.1 h.2 h.4 h.5 h.6,
+          legal_trace (read_of end.0) named end.4 end.5 h.1 h.2 h.4 h.5,
           h.3 ∙ count_is ∙ ap length (sym end.4),
           end.2,
         ),
@@ -275,3 +276,9 @@ nothing_found p all from to old new Read h = h
 nothing_found p all from to old new Memory h = h
 nothing_found p all from to old new Failed h = h
 nothing_found p all from to old new Write h = h
+
+-- what is called legal is safe
+pub found_safe : (text : List ℕ) (p : Plan) (all : List ℕ) (s : Streams) (found : Finding) → scenario text ≡ Ok p → IsAccepted p → IsInput s.from all → IsFound p (read_of all) s found
+    → finding_status found ≡ Done → IsSafeInput text s.from
+found_safe text p all s (Legal edges) read accepted input h done = (p, all, read, input, legal_is_safe h.0.version p (reverse (read_of all).edges) accepted h.0.legal)
+found_safe text p all s (Illegal n refused) read accepted input h done = absurd cc

@@ -1,17 +1,16 @@
 -- The rounds of a drive, and the lines of what it made.
-use Rattle.std.proofs.Common.{◌≡◌, ◌≢◌, ◌⊎◌, inl, inr, ℕ, zero, suc, ◌+◌, ◌-◌, ◌<◌, ◌≤◌, ◌%◌, List, [], ◌∷◌, ◌++◌, length, map, is_some, Result, Ok, Err, Bool, true, false, get_or, drop, filter, Option, Some, None, refl, sym, ◌∙◌, ap, append_assoc, append-nil, subst, arith, reverse, IsTrue, All, is_ok, slice_get, ◌==◌, if◌then◌else◌, eq-eqb, ne_eqb, add-one}
+use Rattle.std.proofs.Common.{◌≡◌, ◌≢◌, ◌⊎◌, inl, inr, ℕ, zero, suc, ◌+◌, ◌<◌, ◌≤◌, ◌%◌, List, [], ◌∷◌, ◌++◌, length, map, is_some, Ok, Err, Bool, true, false, drop, filter, Option, Some, None, refl, sym, ◌∙◌, ap, append_assoc, append-nil, subst, arith, reverse, IsTrue, All, is_ok, slice_get, ◌==◌, if◌then◌else◌, eq-eqb, ne_eqb, add-one}
 use mathlib.Core.List.{reverse-cons}
 use Rattle.std.specs.List.{flat_map}
 use Rattle.std.specs.Option.{option_map_or}
 use Rattle.std.proofs.lemmas.List.{map-append, length-append}
 use Rattle.std.proofs.lemmas.List.Elements.{filter-append}
-use Rattle.std.proofs.lemmas.Option.{slice_get-get_or, get_or_from_slice_get, slice_get_within}
+use Rattle.std.proofs.lemmas.Option.{get_or_from_slice_get, slice_get_within}
 use Rattle.std.proofs.lemmas.List.Elements.{All-get_or, All-nil, All-push}
 use Rattle.std.proofs.Math.Seq.{drop-length}
-use Rattle.std.proofs.lemmas.List.{drop_more, length-reverse}
+use Rattle.std.proofs.lemmas.List.{drop_more}
 use Rattle.std.specs.Io.KnownBytes.{Appends}
 use Rattle.std.proofs.KnownBytes.{Appends-trans, Appends-nil}
-use Rattle.vme_model.specs.declared.refusals.Refused.{Refused}
 use Rattle.vme_model.specs.declared.refusals.Refused.TheVariants.{NoSuchDriver}
 use Rattle.vme_model.specs.declared.signals.Version.{Version}
 use Rattle.vme_model.specs.declared.signals.Driver.{Driver}
@@ -30,8 +29,9 @@ use Rattle.vme_trace.specs.Writing.{AppendsFront, edge_line}
 use Rattle.vme_engines.specs.declared.Status.{Status}
 use Rattle.vme_engines.specs.declared.Status.TheVariants.{Done, Limit}
 use Rattle.vme_engines.specs.declared.EngineFault.TheVariants as fault
+use Rattle.vme_scenario.specs.Format.{scenario}
 use Rattle.vme_engines.specs.Outcomes.{bench}
-use Rattle.vme_engines.specs.Driving.{driven, driven_text, Drives}
+use Rattle.vme_engines.specs.Driving.{driven, driven_text, Drives, DrivesSafely}
 use Rattle.vme_model.proofs.Bools.{and_left}
 use Rattle.vme_model.proofs.Passed.{checked}
 use Rattle.vme_engines.proofs.Writing.{front_of_more, front_behind}
@@ -181,17 +181,19 @@ module _ (p : Plan) (version : Version) (n : ℕ) (b : State) (is : b ≡ rounds
   text_is : text b.version (in_order b.history) ≡ driven_text p version n
   text_is = ap (λ v. text v (in_order b.history)) grew.version ∙ ap (λ h. text version (in_order h)) history_is
 
-  pub drives_done : (old new : Option (List ℕ)) (status : Status) → Appends old new (text b.version (in_order b.history)) → IsLegal b.version b.plan b.history → IsSafe b.plan b.history
+  pub drives_done : (old new : Option (List ℕ)) (status : Status) → Appends old new (text b.version (in_order b.history)) → IsLegal b.version b.plan b.history
       → status ≡ (if length b.history == n then Limit else Done) → Drives version n old new p (Ok status)
-  drives_done old new status w legal safe ends = (
+  drives_done old new status w legal ends = (
     subst (Appends old new) text_is w,
     subst (IsLegal version p) history_is (subst (λ (q : Plan). IsLegal version q b.history) grew.plan (subst (λ (v : Version). IsLegal v b.plan b.history) grew.version legal)),
-    subst (IsSafe p) history_is (subst (λ (q : Plan). IsSafe q b.history) grew.plan safe),
     ends ∙ ap (λ h. if length h == n then Limit else Done) history_is,
   )
 
   pub drives_cut : (old new : Option (List ℕ)) (f : Fault) → f ≡ Write → AppendsFront old new (text b.version (in_order b.history)) → Drives version n old new p (Err (fault.Trace f))
   drives_cut old new f e w = (e, subst (AppendsFront old new) text_is w)
+
+  pub drives_safely : (old : List ℕ) → scenario old ≡ Ok p → IsSafe b.plan b.history → DrivesSafely old version n
+  drives_safely old read safe = (p, read, subst (IsSafe p) history_is (subst (λ (q : Plan). IsSafe q b.history) grew.plan safe))
 
 -- ---- the lines of a legal list
 

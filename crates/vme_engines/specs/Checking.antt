@@ -8,6 +8,7 @@ use Rattle.vme_model.specs.Verdict.{State, Judgement, verdict, after, IsLegal}
 use Rattle.vme_model.specs.Safe.{IsSafe}
 use Rattle.vme_model.specs.Text.{Reading, read_of}
 use Rattle.vme_model.specs.Report.{verdict_text, trace_limit}
+use Rattle.vme_scenario.specs.Format.{scenario}
 use Rattle.vme_trace.specs.declared.Fault.{Fault}
 use Rattle.vme_trace.specs.declared.Fault.TheVariants.{Header, Line, TooLong, CutOff, Read, Memory, Failed, Write}
 use Rattle.vme_engines.specs.declared.Status.{Status}
@@ -39,14 +40,13 @@ IsUnrefused p r = refusal_of p r.version r.edges ≡ None
 
 -- ---- findings
 
--- A whole trace of which no edge is refused: its edges are a legal list of its version, and so a safe one.
+-- A whole trace of which no edge is refused: its edges are a legal list of its version, and are few enough to be kept.
 pub record IsLegalTrace (p : Plan) (r : Reading) : Type 0 where
   pub version : Version
   pub named : r.version ≡ Some version
   pub whole : r.fault ≡ None
   pub unrefused : IsUnrefused p r
   pub legal : IsLegal version p (reverse r.edges)
-  pub safe : IsSafe p (reverse r.edges)
   pub fits : length r.edges ≤ trace_limit
 
 -- What a check finds in a trace.
@@ -85,3 +85,7 @@ Checks p trace s (Err _) = ⊥
 -- a check of the whole input
 abbrev pub ChecksInput : Streams → Plan → Answer → Type 0
 ChecksInput s p answer = (trace : List ℕ) × IsInput s.from trace × Checks p trace s answer
+
+-- The edges of the whole input are a safe list.
+abbrev pub IsSafeInput : List ℕ → Option (List ℕ) → Type 0
+IsSafeInput text from = (p : Plan) × (trace : List ℕ) × (scenario text ≡ Ok p) × IsInput from trace × IsSafe p (reverse (read_of trace).edges)

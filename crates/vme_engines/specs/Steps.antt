@@ -5,7 +5,6 @@ use Rattle.vme_model.specs.declared.signals.Version.{Version}
 use Rattle.vme_model.specs.declared.signals.Edge.{Edge}
 use Rattle.vme_model.specs.Plan.{Plan}
 use Rattle.vme_model.specs.Verdict.{State, kept, IsLegal}
-use Rattle.vme_model.specs.Safe.{IsSafe}
 use Rattle.vme_model.specs.Text.{Reading, read_of}
 use Rattle.vme_model.specs.Report.{verdict_lines}
 use Rattle.vme_scenario.specs.Format.{scenario}
@@ -124,7 +123,7 @@ ChecksPiece b judged es more b' judged' (Ok None) =
 ChecksPiece b judged es more b' judged' (Ok (Some (Illegal n refused))) = first_refusal (judged + 1) b es ≡ Some (n, refused)
 ChecksPiece b judged es more b' judged' (Ok (Some (Legal edges))) =
     (more ≡ Ok false) × (first_refusal (judged + 1) b es ≡ None) × (b' ≡ kept b es) × (edges ≡ judged + length es)
-    × IsLegal b'.version b'.plan b'.history × IsSafe b'.plan b'.history × (length b'.history ≤ b'.max)
+    × IsLegal b'.version b'.plan b'.history × (length b'.history ≤ b'.max)
 ChecksPiece b judged es more b' judged' (Err f) = (more ≡ Err f) × (first_refusal (judged + 1) b es ≡ None)
 
 -- What a check finds in a trace, or why nothing.

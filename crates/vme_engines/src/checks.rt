@@ -2,9 +2,10 @@
 ghost use Rattle.std.specs.Prelude.{◌≡◌, ◌+◌, ◌<◌, ◌^◌, [], Ok, None, true, length};
 ghost use Rattle.vme_model.specs.Verdict.{kept};
 ghost use Rattle.vme_model.specs.Report.{trace_limit};
+ghost use Rattle.vme_engines.specs.declared.Status.TheVariants.{Done};
 ghost use Rattle.vme_engines.specs.Streams.{streams, ReadNothing, WroteNothing};
 ghost use Rattle.vme_engines.specs.Outcomes.{Lent};
-ghost use Rattle.vme_engines.specs.Checking.{ChecksInput, first_refusal, finding_status};
+ghost use Rattle.vme_engines.specs.Checking.{ChecksInput, IsSafeInput, first_refusal, finding_status};
 ghost use Rattle.vme_engines.specs.Steps.{IsCounted, ChecksPiece, FindsOn, FindsInput};
 
 use crate::lines::write_finding;
@@ -77,7 +78,6 @@ fn check_piece(
         Ok(true) => Ok(None),
         Ok(false) => {
             backplane.laws();
-            backplane.safety();
             Ok(Some(Finding::Legal { edges: *judged }))
         }
         Err(fault) => Err(fault),
@@ -135,7 +135,7 @@ fn find<R: Read>(alloc: Global, plan: Plan, room: Trace, trace: &mut R) -> Resul
 /// Checks a trace on the plan of a scenario.
 ///
 /// Writes `illegal N VERDICT` where the N-th edge is the first that is refused, and reads no further; or `legal N` where
-/// all N edges are accepted. The status is `SomeRefused` or `Done`. It makes at most 16,777,216 reads.
+/// all N edges are accepted, which are then a legal list and so a safe one. The status is `SomeRefused` or `Done`. It makes at most 16,777,216 reads.
 ///
 /// Errors: F2 and the faults of the scenario and F3, before anything is read or written; those of the trace, where no
 /// edge before them is refused, and then nothing is written; X8 where the output cannot be written.
@@ -145,10 +145,12 @@ pub fn check<R: Read, W: Write>(
     trace: &mut R,
     out: &mut W,
 ) -> Result<Status, EngineFault>
-    ensures { let s = streams (R.remaining trace.old) (R.remaining trace.new) (W.contents out.old) (W.contents out.new) in
+    ensures outcome { let s = streams (R.remaining trace.old) (R.remaining trace.new) (W.contents out.old) (W.contents out.new) in
         Lent scenario.now (ReadNothing s × WroteNothing s) (ChecksInput s) result }
+    ensures safe { result ≡ Ok Done → IsSafeInput scenario.now (R.remaining trace.old) }
 {
     let plan = plan_of(alloc, scenario)?;
+    plan.accepted();
     let room = history_room(alloc)?;
     let finding = match find(alloc, plan, room, trace) {
         Ok(finding) => finding,

@@ -8,7 +8,7 @@ ghost use Rattle.vme_model.specs.Text.{text, edge_lines};
 ghost use Rattle.vme_trace.specs.Writing.{AppendsFront};
 ghost use Rattle.vme_engines.specs.Outcomes.{Lent};
 ghost use Rattle.vme_engines.specs.declared.Status.TheVariants.{Done, Limit};
-ghost use Rattle.vme_engines.specs.Driving.{Drives};
+ghost use Rattle.vme_engines.specs.Driving.{Drives, DrivesSafely};
 
 use crate::lines::{flush, header_line};
 use crate::plans::{history_room, plan_of};
@@ -144,7 +144,8 @@ pub fn drive<W: Write>(
     out: &mut W,
     version: Version,
 ) -> Result<Status, EngineFault>
-    ensures { Lent scenario.now (Keeps (W.contents out.old) (W.contents out.new)) (Drives version edges (W.contents out.old) (W.contents out.new)) result }
+    ensures outcome { Lent scenario.now (Keeps (W.contents out.old) (W.contents out.new)) (Drives version edges (W.contents out.old) (W.contents out.new)) result }
+    ensures safe { OnOk result (DrivesSafely scenario.now version edges) }
 {
     let plan = plan_of(alloc, scenario)?;
     let room = history_room(alloc)?;

@@ -1,4 +1,4 @@
-use Rattle.std.proofs.Common.{◌≡◌, ◌-◌, ◌+◌, ℕ, suc, ap, sym, ◌∙◌, arith}
+use Rattle.std.proofs.Common.{◌≡◌, ◌-◌, ◌+◌, suc, ap, sym, ◌∙◌, arith}
 use Rattle.vme_model.specs.Offers.{rounds_from}
 use Rattle.vme_model.specs.Plan.{drivers}
 use Rattle.vme_engines.proofs.Driven.{last_round, next_round, plan_stays}

@@ -1,9 +1,7 @@
-use Rattle.std.proofs.Common.{◌++◌, ◌∷◌, [], ◌∙◌, ap, subst}
-use Rattle.std.specs.Io.KnownBytes.{Appends}
+use Rattle.std.proofs.Common.{◌++◌, ◌∷◌, []}
 use Rattle.std.proofs.KnownBytes.{Appends-trans}
 use Rattle.vme_model.specs.Text.{header, edge_lines, text}
 use Rattle.vme_model.specs.History.{in_order}
-use Rattle.vme_trace.specs.Writing.{AppendsFront}
 use Rattle.vme_engines.proofs.Writing.{front_of_more, front_behind, front_kept, on_err}
 use Rattle.vme_engines.proofs.drives.write_history.Goals as goal
 

@@ -1,4 +1,4 @@
-use Rattle.std.proofs.Common.{arith, ◌∙◌}
+use Rattle.std.proofs.Common.{◌∙◌}
 use Rattle.vme_engines.proofs.Writing.{on_err}
 use Rattle.vme_engines.proofs.Driven.{well_formed_at, listed_more, listed_front}
 use Rattle.vme_engines.proofs.drives.write_lines.Goals as goal
