@@ -31,6 +31,7 @@ impl<'r> Model for Store<'r> {
 
 impl<'r> Store<'r> {
     /// No edge, in the room of a trace.
+    #[tactic(auto, using(crate::proofs::Filling::none_stored))]
     pub fn new(trace: Trace<'r>) -> Store<'r>
         ensures { result ≡ record { history = []; max = trace.entry } }
     {

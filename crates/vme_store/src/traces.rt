@@ -1,5 +1,5 @@
 //! Room for edges.
-ghost use Rattle.std.specs.Prelude.{◌≡◌, ◌≤◌, ◌*◌, ◌⊎◌, IfOk, IfErr, Ok, Err, None, Some, vec_len, ℕ, [], min};
+ghost use Rattle.std.specs.Prelude.{◌≡◌, ◌<◌, ◌≤◌, ◌-◌, ◌*◌, ◌⊎◌, IfOk, IfErr, None, Some, vec_len, min};
 ghost use Rattle.vme_arena.specs.Stretch.{rounded};
 ghost use Rattle.vme_model.specs.Report.{trace_limit};
 ghost use Rattle.vme_store.specs.Pages.{pages_for, ArePages};
@@ -62,6 +62,15 @@ impl<'r> Trace<'r> {
         max.div_ceil(PAGE)
     }
 
+    /// How many edges a page of a trace of `max` edges holds, pages counted from 0: the lesser of 65,536 and what is left.
+    pub fn page_max(max: u32, page: u32) -> u32
+        requires limit { max ≤ trace_limit }
+        requires page { page < pages_for max }
+        ensures { result ≡ min (max - 65536 * page) 65536 }
+    {
+        PAGE.min(max - PAGE * page)
+    }
+
     /// How many bytes the lease of a page for `max` edges needs: four for each, rounded up to a multiple of 16.
     pub fn bytes(max: u32) -> usize
         requires { max ≤ trace_limit }
@@ -109,7 +118,11 @@ impl<'r> Trace<'r> {
 }
 
 /// A page on each lease, in their order.
-fn reserved<'r>(alloc: Global, leases: Vec<Lease<'r>>, max: u32) -> Result<Vec<Page<'r>>, AllocError>
+fn reserved<'r>(
+    alloc: Global,
+    leases: Vec<Lease<'r>>,
+    max: u32,
+) -> Result<Vec<Page<'r>>, AllocError>
     requires { vec_len leases ≡ pages_for max }
     ensures { IfOk result (λ v. ArePages max 0 v.items) }
 {

@@ -1,8 +1,8 @@
-use Rattle.std.proofs.Common.{rules, ◌≡◌, ◌≤◌, ◌*◌, ◌+◌, ◌-◌, ◌<◌, ◌/◌, ℕ, [], ◌∷◌, ◌++◌, min, length, arith, ap, sym, ◌∙◌, subst}
+use Rattle.std.proofs.Common.{◌≡◌, ◌*◌, ◌+◌, ◌<◌, [], ◌∷◌, ◌++◌, min, length, arith, ap, ◌∙◌}
 use Rattle.std.proofs.lemmas.Grind.{common_steps}
 use Rattle.std.proofs.lemmas.List.{length-append}
 use Rattle.std.specs.Vec.Iter.{into_iter_items}
-use Rattle.vme_store.specs.Pages.{Page, pages_for, ArePages}
+use Rattle.vme_store.specs.Pages.{Page}
 use Rattle.vme_store.proofs.Filling.{another_page}
 use Rattle.vme_store.proofs.traces.reserved.Goals as goal
 
@@ -20,6 +20,12 @@ loop-lease-preserved c =
     let least : r ≡ min c.loop-lease.left 65536 = c.min-room.ensures in
     let before : min c.args.max (length ps * 65536) ≡ length ps * 65536 = omega arith in
     let after : length ps * 65536 + r ≡ min c.args.max (length new * 65536) = omega (arith, i.5) in
-    let pages = another_page r ps (rw before at i.6) (omega arith) in
-    (tt, tt, omega (arith, i.2), omega (arith, i.2), omega (arith, i.4, c.push_reserved.ensures.capacity), omega (arith, i.5),
-        rw (← items, after) at pages)
+    let pages = another_page r ps (rw before at i.6) (omega arith) in (
+      tt,
+      tt,
+      omega (arith, i.2),
+      omega (arith, i.2),
+      omega (arith, i.4, c.push_reserved.ensures.capacity),
+      omega (arith, i.5),
+      rw (← items, after) at pages,
+    )

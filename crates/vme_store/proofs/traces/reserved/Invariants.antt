@@ -1,5 +1,5 @@
-use Rattle.std.proofs.Common.{◌≡◌, ◌+◌, ◌-◌, ◌*◌, ◌≤◌, ◌++◌, length, min, vec_len, vec_capacity}
-use Rattle.std.specs.Vec.Iter.{into_iter_items, into_iter_len}
+use Rattle.std.proofs.Common.{◌≡◌, ◌+◌, ◌-◌, ◌*◌, ◌≤◌, length, min, vec_capacity}
+use Rattle.std.specs.Vec.Iter.{into_iter_items}
 use Rattle.vme_store.specs.Pages.{pages_for, ArePages}
 use Rattle.vme_store.proofs.traces.reserved.Given as goal
 

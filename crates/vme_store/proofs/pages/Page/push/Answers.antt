@@ -1,4 +1,4 @@
-use Rattle.std.proofs.Common.{◌≡◌, ◌++◌, ℕ, [], ◌∷◌, List, map, ap, ◌∙◌, vec_capacity}
+use Rattle.std.proofs.Common.{◌++◌, ℕ, [], ◌∷◌, List, map, ap, ◌∙◌, vec_capacity}
 use Rattle.std.proofs.lemmas.List.{map-append}
 use Rattle.vme_model.specs.declared.signals.Edge.{Edge}
 use Rattle.vme_store.specs.Codes.{edge_of}

@@ -1,4 +1,4 @@
-use Rattle.std.proofs.Common.{◌≡◌, sym}
+use Rattle.std.proofs.Common.{sym}
 use Rattle.vme_store.proofs.Filling.{length_of}
 use Rattle.vme_store.proofs.stores.Store.len.Goals as goal
 

@@ -1,4 +1,4 @@
-use Rattle.std.proofs.Common.{◌≡◌, ◌+◌, ◌/◌, ◌<◌, ◌≤◌, ◌++◌, ℕ, [], ◌∷◌, List, length, reverse, arith, ap, ◌∙◌}
+use Rattle.std.proofs.Common.{◌/◌, ◌<◌, ℕ, [], ◌∷◌, List, length, reverse, arith, ap, ◌∙◌}
 use Rattle.std.proofs.lemmas.List.{reverse-append}
 use Rattle.vme_model.specs.declared.signals.Edge.{Edge}
 use Rattle.vme_store.specs.Pages.{Store, stored}
@@ -28,9 +28,11 @@ invariant_of-self c =
     let i = c.self.inside in
     let n = length_of i.max i.len i.pages.items c.args.self.now c.self.invariant.0 c.self.invariant.1 c.self.view_is in
     let m = ap (λ (s : Store). s.max) c.self.view_is in
-    let l : i.len < i.max = omega arith in
-    (pages_after i.max i.len i.pages.items c.index_mut.result.now c.push.new.self c.args.edge c.self.invariant.0 l c.index_mut.ensures.value c.push.ensures,
-        omega arith, c.self.invariant.2)
+    let l : i.len < i.max = omega arith in (
+      pages_after i.max i.len i.pages.items c.index_mut.result.now c.push.new.self c.args.edge c.self.invariant.0 l c.index_mut.ensures.value c.push.ensures,
+      omega arith,
+      c.self.invariant.2,
+    )
 
 pub returns : goal.returns
 returns c =
