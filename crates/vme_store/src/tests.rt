@@ -101,6 +101,21 @@ fn every_page_has_its_room(rt: HostRuntime) -> Result<(), Fail> {
 }
 
 #[test]
+fn a_trace_carves_what_it_needs(rt: HostRuntime) -> Result<(), Fail> {
+    let bytes = Trace::bytes(65_537);
+    let mut region = Region::new(rt.alloc(), bytes)?;
+    let mut rest = region.rest();
+    let trace = Trace::on(rt.alloc(), &mut rest, 65_537)?;
+    assert_eq!(rt; (trace.max(), rest.left()), (65_537, 0));
+    let beyond = Trace::on(rt.alloc(), &mut rest, 1_048_577).err();
+    assert_eq!(rt; beyond, Some(TraceError::TooMany));
+    let mut short = Region::new(rt.alloc(), bytes - 1)?;
+    let refused = Trace::on(rt.alloc(), &mut short.rest(), 65_537).err();
+    assert_eq!(rt; refused, Some(TraceError::NoRoom));
+    Ok(())
+}
+
+#[test]
 fn refusals_in_their_order(rt: HostRuntime) -> Result<(), Fail> {
     let alloc = rt.alloc();
     assert_eq!(rt; refusal(alloc, &[], 1_048_577)?, Some(TraceError::TooMany));

@@ -1,6 +1,7 @@
 //! Room for edges.
-ghost use Rattle.std.specs.Prelude.{◌≡◌, ◌<◌, ◌≤◌, ◌-◌, ◌*◌, ◌⊎◌, IfOk, IfErr, None, Some, vec_len, min};
+ghost use Rattle.std.specs.Prelude.{◌≡◌, ◌<◌, ◌≤◌, ◌+◌, ◌-◌, ◌*◌, ◌⊎◌, IfOk, IfErr, None, Some, if◌then◌else◌, nat_lt, vec_len, min};
 ghost use Rattle.vme_arena.specs.Stretch.{rounded};
+ghost use Rattle.vme_arena.specs.Words.{rest_left};
 ghost use Rattle.vme_model.specs.Report.{trace_limit};
 ghost use Rattle.vme_store.specs.Pages.{pages_for, ArePages};
 ghost use Rattle.vme_store.specs.Refusals.{refusal};
@@ -9,7 +10,7 @@ use crate::pages::Page;
 use std::alloc::{AllocError, Global};
 use std::marker::Model;
 use thiserror::Error;
-use vme_arena::Lease;
+use vme_arena::{Lease, Rest};
 
 /// The most edges that a trace can hold.
 const LONGEST: u32 = 1_048_576;
@@ -101,6 +102,24 @@ impl<'r> Trace<'r> {
         Ok(Trace { pages, max })
     }
 
+    /// The same on leases that are carved from the front of a rest, `Trace::bytes(max)` bytes of it.
+    ///
+    /// `TooMany` where `max` is over 1,048,576, else `NoRoom` where memory was refused or the rest is shorter.
+    pub fn on(alloc: Global, rest: &mut Rest<'r>, max: u32) -> Result<Trace<'r>, TraceError>
+        ensures made { IfOk result (λ t. t ≡ max) }
+        ensures fits { IfOk result (λ t. max ≤ trace_limit) }
+        ensures carved { IfOk result (λ t. rest_left rest.new + rounded (4 * max) ≡ rest_left rest.old) }
+        ensures refused { IfErr result (λ e. e ≡ (if nat_lt trace_limit max then TraceError.TooMany else TraceError.NoRoom)) }
+    {
+        if LONGEST < max {
+            return Err(TraceError::TooMany);
+        }
+        match carved(alloc, rest, max) {
+            Ok(leases) => Trace::new(alloc, leases, max),
+            Err(_) => Err(TraceError::NoRoom),
+        }
+    }
+
     /// How many edges fit.
     pub fn max(&self) -> u32
         ensures { result ≡ self.now }
@@ -115,6 +134,24 @@ impl<'r> Trace<'r> {
     {
         self.pages
     }
+}
+
+/// A lease for each page, in their order.
+fn carved<'r>(alloc: Global, rest: &mut Rest<'r>, max: u32) -> Result<Vec<Lease<'r>>, AllocError>
+    requires { max ≤ trace_limit }
+    ensures leases { IfOk result (λ v. vec_len v ≡ pages_for max) }
+    ensures carved { IfOk result (λ _. rest_left rest.new + rounded (4 * max) ≡ rest_left rest.old) }
+{
+    let pages = Trace::pages(max);
+    let mut leases = Vec::with_capacity(alloc, pages as usize)?;
+    for page in 0..pages {
+        let bytes = Trace::bytes(Trace::page_max(max, page));
+        let Ok(lease) = rest.carve(bytes) else {
+            return Err(AllocError);
+        };
+        leases.push_reserved(lease);
+    }
+    Ok(leases)
 }
 
 /// A page on each lease, in their order.
