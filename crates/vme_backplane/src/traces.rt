@@ -3,6 +3,7 @@ ghost use Rattle.std.specs.Prelude.{◌≡◌, ◌+◌, ◌*◌, ◌≤◌, ◌�
 ghost use Rattle.vme_arena.specs.Stretch.{rounded};
 ghost use Rattle.vme_arena.specs.Words.{rest_left};
 ghost use Rattle.vme_model.specs.Report.{trace_limit};
+ghost use Rattle.vme_store.specs.Pages.{pages_for};
 ghost use Rattle.vme_store.specs.Refusals.{refusal};
 
 use std::alloc::Global;
@@ -31,6 +32,22 @@ impl<'r> Model for Trace<'r> {
 }
 
 impl<'r> Trace<'r> {
+    /// How many pages, and so leases, a trace of `max` edges needs: 0 to 16.
+    pub fn pages(max: u32) -> u32
+        requires { max ≤ trace_limit }
+        ensures { result ≡ pages_for max }
+    {
+        vme_store::Trace::pages(max)
+    }
+
+    /// How many bytes the lease of a page for `max` edges needs, and a region for a trace of so many.
+    pub fn bytes(max: u32) -> usize
+        requires { max ≤ trace_limit }
+        ensures { result ≡ rounded (4 * max) }
+    {
+        vme_store::Trace::bytes(max)
+    }
+
     /// Reserves room for `max` edges, 0 to 1,048,576, with a page on each lease. No later step asks for memory.
     pub fn new(alloc: Global, leases: Vec<Lease<'r>>, max: u32) -> Result<Trace<'r>, TraceError>
         ensures made { IfOk result (λ t. t ≡ max) }
