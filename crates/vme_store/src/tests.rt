@@ -27,6 +27,13 @@ fn refusal(alloc: Global, sizes: &[usize], max: u32) -> Result<Option<TraceError
     Ok(trace_on(alloc, &mut region, sizes, max)?.err())
 }
 
+/// What a trace on a region of so many bytes is refused for.
+fn refusal_on(alloc: Global, bytes: usize, max: u32) -> Result<Option<TraceError>, Fail> {
+    let mut region = Region::new(alloc, bytes)?;
+    let mut rest = region.rest();
+    Ok(Trace::on(alloc, &mut rest, max).err())
+}
+
 /// An edge that tells its place from those beside it.
 fn request(place: u32) -> Edge {
     Edge {
@@ -102,16 +109,19 @@ fn every_page_has_its_room(rt: HostRuntime) -> Result<(), Fail> {
 
 #[test]
 fn a_trace_carves_what_it_needs(rt: HostRuntime) -> Result<(), Fail> {
-    let bytes = Trace::bytes(65_537);
-    let mut region = Region::new(rt.alloc(), bytes)?;
+    let mut region = Region::new(rt.alloc(), Trace::bytes(65_537))?;
     let mut rest = region.rest();
     let trace = Trace::on(rt.alloc(), &mut rest, 65_537)?;
     assert_eq!(rt; (trace.max(), rest.left()), (65_537, 0));
-    let beyond = Trace::on(rt.alloc(), &mut rest, 1_048_577).err();
-    assert_eq!(rt; beyond, Some(TraceError::TooMany));
-    let mut short = Region::new(rt.alloc(), bytes - 1)?;
-    let refused = Trace::on(rt.alloc(), &mut short.rest(), 65_537).err();
-    assert_eq!(rt; refused, Some(TraceError::NoRoom));
+    Ok(())
+}
+
+#[test]
+fn a_rest_is_too_short_or_a_trace_too_long(rt: HostRuntime) -> Result<(), Fail> {
+    let short = refusal_on(rt.alloc(), Trace::bytes(65_537) - 1, 65_537)?;
+    assert_eq!(rt; short, Some(TraceError::NoRoom));
+    let long = refusal_on(rt.alloc(), 16, 1_048_577)?;
+    assert_eq!(rt; long, Some(TraceError::TooMany));
     Ok(())
 }
 
