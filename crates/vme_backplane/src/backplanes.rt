@@ -1,6 +1,7 @@
 //! A backplane, which takes edges one by one.
-ghost use Rattle.std.specs.Prelude.{◌≡◌, ◌==◌, ◌+◌, ◌<◌, ◌≤◌, ◌↔◌, [], IfOk, IsTrue, Ok, OnOk, Some, false, is_ok, length, slice_get};
+ghost use Rattle.std.specs.Prelude.{◌≡◌, ◌==◌, ◌+◌, ◌<◌, ◌≤◌, ◌↔◌, [], IfOk, IsTrue, Ok, OnOk, Some, false, true, is_ok, length, slice_get};
 ghost use Rattle.vme_model.specs.History.{in_order};
+ghost use Rattle.vme_model.specs.Signals.{is_well_formed};
 ghost use Rattle.vme_model.specs.Verdict.{verdict, verdict_but_full, after, kept, IsLegal};
 ghost use Rattle.vme_model.specs.Safe.{IsSafe, IsOrderly};
 ghost use Rattle.vme_model.specs.Views.{pins};
@@ -18,27 +19,28 @@ use std::alloc::{AllocError, Global};
 use std::marker::Model;
 use vme_model::{Delivery, Driver, Edge, Pins, Refused, Version};
 use vme_slots::Plan;
+use vme_store::Store;
 
 /// A backplane: the version of its rules, its plan, and the edges that were made.
 #[derive(Drop)]
-pub struct Backplane {
+pub struct Backplane<'r> {
     version: Version,
     plan: Plan,
+    // The verdict looks back through this list. It holds the edges of the store.
     edges: Vec<Edge>,
-    max: u32,
+    store: Store<'r>,
 }
 
-impl Model for Backplane {
-    ghost use Rattle.std.specs.Prelude.{◌≤◌, reverse, vec_len, vec_capacity};
-    ghost use Rattle.vme_model.specs.Report.{trace_limit};
+impl<'r> Model for Backplane<'r> {
+    ghost use Rattle.std.specs.Prelude.{◌≡◌, ◌≤◌, reverse, vec_capacity};
     ghost use Rattle.vme_model.specs.Verdict.{State, IsLegal};
 
     ghost Value = { State };
 
-    ghost view = { λ b. record { version = b.version; plan = b.plan; history = reverse b.edges.items; max = b.max } };
+    ghost view = { λ b. record { version = b.version; plan = b.plan; history = reverse b.edges.items; max = b.store.max } };
 
     ghost invariant = { λ b.
-        (vec_len b.edges ≤ b.max) × (b.max ≤ vec_capacity b.edges) × (b.max ≤ trace_limit)
+        (b.store.history ≡ reverse b.edges.items) × (b.store.max ≤ vec_capacity b.edges)
         × IsLegal b.version b.plan (reverse b.edges.items) };
 }
 
@@ -49,17 +51,17 @@ pub struct Counts {
     pub refused: u64,
 }
 
-impl Backplane {
+impl<'r> Backplane<'r> {
     /// A backplane at power-up: no edge was made.
-    pub fn new(plan: Plan, trace: Trace, version: Version) -> Backplane
-        ensures { result ≡ at_power_up version plan trace }
+    pub fn new(plan: Plan, trace: Trace<'r>, version: Version) -> Backplane<'r>
+        ensures { result ≡ at_power_up version plan trace.entry }
     {
-        let max = trace.max();
+        let (edges, store) = trace.into_parts();
         Backplane {
             version,
             plan,
-            edges: trace.into_edges(),
-            max,
+            edges,
+            store,
         }
     }
 
@@ -71,6 +73,7 @@ impl Backplane {
         ensures bounded { self.now.max ≤ trace_limit }
     {
         self.plan.accepted();
+        self.store.laws();
     }
 
     /// What follows for its history: it is safe and orderly.
@@ -83,10 +86,12 @@ impl Backplane {
     }
 
     /// The answer to an edge, but for what it delivers.
+    #[tactic(auto, using(crate::proofs::WellFormed::allowed_is_well_formed))]
     fn verdict(&self, edge: Edge) -> Result<(), Refused>
         ensures value { result ≡ verdict self.now edge }
         ensures room { OnOk result ((length self.now.history == self.now.max) ≡ false) }
         ensures allowed { OnOk result (verdict_but_full self.now.version self.now.plan self.now.history edge ≡ Ok tt) }
+        ensures well_formed { OnOk result (is_well_formed edge ≡ true) }
     {
         let (version, plan) = (self.version(), &self.plan);
         settling::judge(version, plan, &self.edges, self.is_full(), edge)
@@ -107,8 +112,8 @@ impl Backplane {
         self.safety();
         self.verdict(edge)?;
         let delivery = scans::delivery(&self.plan, &self.edges, edge);
-        let fits = self.edges.push(edge).is_ok();
-        prove!(fits);
+        self.edges.push_reserved(edge);
+        self.store.push(edge);
         self.laws();
         self.safety();
         Ok(delivery)
@@ -185,8 +190,7 @@ impl Backplane {
     pub fn len(&self) -> u32
         ensures { result ≡ length self.now.history }
     {
-        prove!(self.edges.len() <= self.max as usize);
-        self.edges.len() as u32
+        self.store.len()
     }
 
     /// Whether no edge was made.
@@ -200,14 +204,14 @@ impl Backplane {
     fn is_full(&self) -> bool
         ensures { result ≡ (length self.now.history == self.now.max) }
     {
-        self.len() == self.max
+        self.len() == self.max()
     }
 
     /// How many edges can be made.
     pub fn max(&self) -> u32
         ensures { result ≡ self.now.max }
     {
-        self.max
+        self.store.max()
     }
 
     /// The edge at a place, counted from 0 in the order of time.
@@ -215,7 +219,7 @@ impl Backplane {
         requires { place < length self.now.history }
         ensures { slice_get (in_order self.now.history) place ≡ Some result }
     {
-        self.edges[place as usize]
+        self.store.edge_at(place)
     }
 
     /// A driver's look at it.

@@ -12,7 +12,8 @@ mod settling;
 mod traces;
 
 pub use backplanes::{Backplane, Counts};
-pub use traces::{Trace, TraceError};
+pub use traces::Trace;
+pub use vme_store::TraceError;
 
 #[cfg(test)]
 mod tests;

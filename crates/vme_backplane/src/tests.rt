@@ -3,6 +3,7 @@ use crate::{Backplane, Trace, TraceError};
 use bitflags::Flags;
 use std::process::Abort;
 use std::test::*;
+use vme_arena::Region;
 use vme_model::{
     ArbiterKind, Chains, Cycle, Delivery, Driver, Edge, InterrupterRow, IrqKind, Jumper, Levels,
     Refused, Release, RequesterRow, Row, Version, Wire,
@@ -100,17 +101,23 @@ fn edge(text: &str) -> Option<Edge> {
     })
 }
 
+/// Memory for a short trace.
+fn memory(rt: &impl AllocGlobal) -> Result<Region, Fail> {
+    Ok(Region::new(rt.alloc(), Trace::bytes(100))?)
+}
+
 /// A backplane at power-up.
-fn backplane(
+fn backplane<'r>(
     rt: &impl AllocGlobal,
+    region: &'r mut Region,
     rows: &[Row],
     jumpers: &[Jumper],
     max: u32,
     version: Version,
-) -> Result<Backplane, Fail> {
+) -> Result<Backplane<'r>, Fail> {
     let slots = rows.iter().map(|row| row.slot).max().unwrap_or(0);
     let plan = Plan::new(rt.alloc(), slots, rows, jumpers, ArbiterKind::Sgl)?;
-    let trace = Trace::new(rt.alloc(), max)?;
+    let trace = Trace::on(rt.alloc(), &mut region.rest(), max)?;
     Ok(Backplane::new(plan, trace, version))
 }
 
@@ -140,7 +147,8 @@ fn a_joined_wire_has_no_edge(rt: HostRuntime) -> Result<(), Fail> {
         chains: Chains::BG3,
     };
     let rows = [bare(1), requesting(3, 1)];
-    let mut backplane = backplane(&rt, &rows, &[jumper], 100, Version::One)?;
+    let mut region = memory(&rt)?;
+    let mut backplane = backplane(&rt, &mut region, &rows, &[jumper], 100, Version::One)?;
     meets(
         &rt,
         &mut backplane,
@@ -152,7 +160,8 @@ fn a_joined_wire_has_no_edge(rt: HostRuntime) -> Result<(), Fail> {
 #[test]
 fn each_status_goes_to_the_handler_once(rt: HostRuntime) -> Result<(), Fail> {
     let rows = [handling(2), interrupting(2, 65), interrupting(3, 66)];
-    let mut both = backplane(&rt, &rows, &[], 100, Version::One)?;
+    let mut region = memory(&rt)?;
+    let mut both = backplane(&rt, &mut region, &rows, &[], 100, Version::One)?;
     meets(
         &rt,
         &mut both,
@@ -165,7 +174,8 @@ fn each_status_goes_to_the_handler_once(rt: HostRuntime) -> Result<(), Fail> {
         [delivered(2, 65), delivered(3, 66)].as_slice()
     );
 
-    let mut alone = backplane(&rt, &rows[..2], &[], 100, Version::One)?;
+    let mut region = memory(&rt)?;
+    let mut alone = backplane(&rt, &mut region, &rows[..2], &[], 100, Version::One)?;
     meets(
         &rt,
         &mut alone,
@@ -180,7 +190,8 @@ fn each_status_goes_to_the_handler_once(rt: HostRuntime) -> Result<(), Fail> {
 #[test]
 fn an_answer_tells_its_delivery(rt: HostRuntime) -> Result<(), Fail> {
     let rows = [handling(1), interrupting(2, 65)];
-    let mut backplane = backplane(&rt, &rows, &[], 100, Version::One)?;
+    let mut region = memory(&rt)?;
+    let mut backplane = backplane(&rt, &mut region, &rows, &[], 100, Version::One)?;
     meets(
         &rt,
         &mut backplane,
@@ -197,7 +208,8 @@ const TENURE: &str = "1 br-; c bg3-; 1 bbsy-; 1 br+; c bg3+; 1 bbsy+";
 #[test]
 fn a_full_trace_refuses_last(rt: HostRuntime) -> Result<(), Fail> {
     let rows = [requesting(1, 1)];
-    let mut six = backplane(&rt, &rows, &[], 6, Version::One)?;
+    let mut region = memory(&rt)?;
+    let mut six = backplane(&rt, &mut region, &rows, &[], 6, Version::One)?;
     meets(&rt, &mut six, TENURE, &[])?;
     meets(
         &rt,
@@ -213,7 +225,8 @@ fn a_full_trace_refuses_last(rt: HostRuntime) -> Result<(), Fail> {
     assert!(&rt; six.offers(Driver::Slot(1)).is_empty());
     assert_eq!(&rt; (six.len(), six.max()), (6, 6));
 
-    let mut none = backplane(&rt, &rows, &[], 0, Version::One)?;
+    let mut region = memory(&rt)?;
+    let mut none = backplane(&rt, &mut region, &rows, &[], 0, Version::One)?;
     meets(&rt, &mut none, "1 br-", &[(1, Refused::TraceFull)])?;
     assert!(&rt; none.is_empty());
     Ok(())
@@ -221,10 +234,15 @@ fn a_full_trace_refuses_last(rt: HostRuntime) -> Result<(), Fail> {
 
 #[test]
 fn a_trace_has_a_limit(rt: HostRuntime) -> Result<(), Fail> {
-    let trace = Trace::new(rt.alloc(), 1_048_576)?;
-    assert_eq!(&rt; trace.max(), 1_048_576);
-    let refused = Trace::new(rt.alloc(), 1_048_577).err();
+    let mut region = Region::new(rt.alloc(), Trace::bytes(1_048_576))?;
+    let mut rest = region.rest();
+    let trace = Trace::on(rt.alloc(), &mut rest, 1_048_576)?;
+    assert_eq!(&rt; (trace.max(), rest.left()), (1_048_576, 0));
+    let refused = Trace::new(rt.alloc(), Vec::new(rt.alloc()), 1_048_577).err();
     assert_eq!(&rt; refused, Some(TraceError::TooMany));
+    let wrong = TraceError::WrongLeases { need: 2, given: 0 };
+    let refused = Trace::new(rt.alloc(), Vec::new(rt.alloc()), 65_537).err();
+    assert_eq!(&rt; refused, Some(wrong));
     Ok(())
 }
 
@@ -234,7 +252,8 @@ const WITHDRAWN: &str =
 #[test]
 fn the_second_version_withdraws_requests(rt: HostRuntime) -> Result<(), Fail> {
     let rows = [requesting(1, 1), requesting(2, 1)];
-    let mut two = backplane(&rt, &rows, &[], 100, Version::Two)?;
+    let mut region = memory(&rt)?;
+    let mut two = backplane(&rt, &mut region, &rows, &[], 100, Version::Two)?;
     meets(
         &rt,
         &mut two,
@@ -248,7 +267,8 @@ fn the_second_version_withdraws_requests(rt: HostRuntime) -> Result<(), Fail> {
     )?;
     assert_eq!(&rt; (two.len(), two.version()), (11, Version::Two));
 
-    let mut one = backplane(&rt, &rows, &[], 100, Version::One)?;
+    let mut region = memory(&rt)?;
+    let mut one = backplane(&rt, &mut region, &rows, &[], 100, Version::One)?;
     meets(
         &rt,
         &mut one,
@@ -270,7 +290,15 @@ fn the_second_version_withdraws_requests(rt: HostRuntime) -> Result<(), Fail> {
 
 #[test]
 fn a_run_keeps_what_is_offered(rt: HostRuntime) -> Result<(), Fail> {
-    let mut backplane = backplane(&rt, &[requesting(1, 1)], &[], 100, Version::One)?;
+    let mut region = memory(&rt)?;
+    let mut backplane = backplane(
+        &rt,
+        &mut region,
+        &[requesting(1, 1)],
+        &[],
+        100,
+        Version::One,
+    )?;
     let request = edge("1 br-").ok_or("no edge")?;
     let grant = edge("c bg3-").ok_or("no edge")?;
     let counts = backplane.run(&[request, grant, request]);

@@ -7,7 +7,7 @@ ghost use Rattle.vme_engines.specs.Outcomes.{Lent, ReplaysInput};
 ghost use Rattle.vme_engines.specs.Steps.{IsCounted, TakesPiece, ReplaysOn, status_at, traced};
 
 use crate::lines::{close, flush, write_verdicts};
-use crate::plans::{history_room, plan_of};
+use crate::plans::{history_region, history_room, plan_of};
 use crate::traces::open;
 use crate::{EngineFault, Status};
 use std::alloc::Global;
@@ -131,7 +131,8 @@ pub fn replay<R: Read, W: Write>(
         Lent scenario.now (ReadNothing s × WroteNothing s) (ReplaysInput s) result }
 {
     let plan = plan_of(alloc, scenario)?;
-    let room = history_room(alloc)?;
+    let mut region = history_region(alloc)?;
+    let room = history_room(alloc, &mut region)?;
     match replay_trace(alloc, plan, room, trace, out) {
         Ok(status) => Ok(status),
         Err(fault) => Err(EngineFault::Trace(fault)),
