@@ -94,7 +94,7 @@ fn find_on<R: Read>(
     input: &mut R,
 ) -> Result<Finding, Fault>
     requires { first ≡ Ok true → IsCounted reader reads (length edges.items) }
-    ensures { FindsOn backplane reader edges.items first reads (R.remaining input.old) (R.remaining input.new) result }
+    ensures { FindsOn backplane.entry reader edges.items first reads (R.remaining input.old) (R.remaining input.new) result }
 {
     let mut judged = 0;
     match check_piece(&mut backplane, &mut judged, &edges, first)? {
