@@ -91,22 +91,25 @@ fn push_verdict(line: &mut ArrayVec<u8, LINE>, answer: &Result<Option<Delivery>,
     }
 }
 
-/// The verdict line of the n-th edge.
-fn verdict_line(n: u64, answer: &Result<Option<Delivery>, Refused>) -> ArrayVec<u8, LINE>
-    ensures { result.items ≡ verdict_line n answer.now }
+/// Makes a line the verdict line of the n-th edge, whatever it was.
+fn set_verdict_line(
+    line: &mut ArrayVec<u8, LINE>,
+    n: u64,
+    answer: &Result<Option<Delivery>, Refused>,
+)
+    ensures { line.new.items ≡ verdict_line n answer.now }
 {
-    let mut line = ArrayVec::new();
-    push_number(&mut line, n);
+    line.clear();
+    push_number(line, n);
     match answer {
-        // by far the most lines are of this kind: one copy serves
-        Ok(None) => push(&mut line, b" ok\n"),
+        // By far the most lines are of this kind, and one copy serves.
+        Ok(None) => push(line, b" ok\n"),
         _ => {
-            push(&mut line, b" ");
-            push_verdict(&mut line, answer);
-            push(&mut line, b"\n");
+            push(line, b" ");
+            push_verdict(line, answer);
+            push(line, b"\n");
         }
     }
-    line
 }
 
 /// The closing line of a report.
@@ -167,10 +170,11 @@ pub(crate) fn write_verdicts<W: Write>(
     ensures fault { IfErr result (λ fault. fault ≡ Fault.Write) }
 {
     let mut n = judged;
+    let mut line = ArrayVec::new();
     for edge in edges {
         n += 1;
         let answer = backplane.step(*edge);
-        let line = verdict_line(n, &answer);
+        set_verdict_line(&mut line, n, &answer);
         put(out, line.as_slice())?;
     }
     Ok(())
