@@ -1,0 +1,3 @@
+pub mod Fresh
+pub mod Parts
+pub mod Asking

@@ -1,0 +1,5 @@
+pub mod Boards
+pub mod Counts
+pub mod Chained
+pub mod Wired
+pub mod Asked
