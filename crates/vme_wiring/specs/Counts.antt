@@ -1,11 +1,14 @@
 -- The open-collector lines, as counts of the boards that pull them.
-use Rattle.std.specs.Prelude.{◌≡◌, ◌&&◌, ◌+◌, ◌-◌, ◌<◌, if◌then◌else◌, ℕ, Bool, true, false, List, [], ◌∷◌, get_or, set, length, nat_lt}
+use Rattle.std.specs.Prelude.{◌≡◌, ◌&&◌, ◌+◌, ◌-◌, ◌<◌, if◌then◌else◌, ℕ, Bool, true, false, List, [], ◌∷◌, Option, Some, None, get_or, set, length, nat_lt}
 use Rattle.std.specs.Option.{option_map_or}
 use Rattle.vme_model.specs.declared.boards.Row.{Row}
 use Rattle.vme_model.specs.declared.signals.Driver.TheVariants.{Slot}
 use Rattle.vme_model.specs.declared.signals.Wire.{Wire}
-use Rattle.vme_model.specs.declared.signals.Wire.TheVariants.{Br, BgOut, Bbsy, AddressStrobe, DataStrobe, Irq, Dtack}
+use Rattle.vme_model.specs.declared.signals.Wire.TheVariants.{Bclr, Berr, Br, BgOut, Bbsy, Addr, AddressStrobe, DataStrobe, Irq, Dtack}
 use Rattle.vme_model.specs.declared.signals.Edge.{Edge}
+use Rattle.vme_model.specs.declared.pins.Pins.{Pins}
+use Rattle.vme_model.specs.declared.signals.Cycle.{Cycle}
+use Rattle.vme_model.specs.Sets.{bus_levels, irq_levels}
 use Rattle.vme_model.specs.Plan.{Plan, requests_on, interrupts_on, drives}
 use Rattle.vme_model.specs.History.{drive}
 use Rattle.vme_wiring.specs.declared.lines.Lines.{Lines}
@@ -82,3 +85,29 @@ lines_after l r AddressStrobe fall = record l { address_strobe = moved l.address
 lines_after l r DataStrobe fall = record l { data_strobe = moved l.data_strobe fall }
 lines_after l r Dtack fall = record l { dtack = moved l.dtack fall }
 lines_after l r _ fall = l
+
+-- what all drivers see where every line is high
+abbrev pub high_pins : Pins
+high_pins = record { requests = bus_levels (λ n. false); bbsy = false; bclr = false; address_strobe = false; data_strobe = false; dtack = false; berr = false; irq = irq_levels (λ n. false); shown = None; grant_in = false; iack_in = false }
+
+-- what all drivers see of the lines after an edge of a board's wire
+abbrev pub shared_after : Pins → Lines → Wire → Option Cycle → Pins
+shared_after s l Br value = record s { requests = bus_levels (λ n. nat_lt 0 (get_or l.br n 0)) }
+shared_after s l Irq value = record s { irq = irq_levels (λ n. nat_lt 0 (get_or l.irq n 0)) }
+shared_after s l Bbsy value = record s { bbsy = nat_lt 0 l.bbsy }
+shared_after s l Addr value = record s { shown = value }
+shared_after s l AddressStrobe value = record s { address_strobe = nat_lt 0 l.address_strobe }
+shared_after s l DataStrobe value = record s { data_strobe = nat_lt 0 l.data_strobe }
+shared_after s l Dtack value = record s { dtack = nat_lt 0 l.dtack }
+shared_after s l _ value = s
+
+-- and after one of the controller's
+abbrev pub shared_after_controller : Pins → Wire → Bool → Pins
+shared_after_controller s Bclr fall = record s { bclr = fall }
+shared_after_controller s Berr fall = record s { berr = fall }
+shared_after_controller s _ fall = s
+
+-- the slot whose address group is on, after an edge of the slot's
+abbrev pub addressing_after : Option ℕ → ℕ → Wire → Bool → Option ℕ
+addressing_after on s Addr fall = if fall then Some s else None
+addressing_after on s _ fall = on

@@ -3,9 +3,10 @@ ghost use Rattle.std.specs.Prelude.{◌≡◌, [], Some, true, false, not};
 ghost use Rattle.std.specs.List.{slice_get};
 ghost use Rattle.vme_chain.specs.Segments.{input, output_number, is_clear, is_past_end};
 
+use crate::lines::request_level;
 use vme_chain::Chain;
 use vme_iack::IackChain;
-use vme_model::ChainId;
+use vme_model::{ChainId, Edge, Row, Wire};
 use vme_slots::Plan;
 
 /// The chains of the four grants, and that of the acknowledge.
@@ -19,7 +20,7 @@ pub struct Chains {
 }
 
 impl Chains {
-    ghost use Rattle.vme_wiring.specs.Chained.{chains_of, chain_at, with_segment};
+    ghost use Rattle.vme_wiring.specs.Chained.{chains_of, chain_at, with_segment, after_board, after_controller, CanMove, CanMoveHead};
 
     /// The chains of a plan, high everywhere.
     #[tactic(auto, using(crate::proofs::Fresh::high_segments))]
@@ -122,19 +123,34 @@ impl Chains {
         }
     }
 
-    /// The controller's segment moves.
-    pub fn drive_head(&mut self, chain: ChainId, fall: bool)
-        requires other { slice_get (chain_at chain self.old).low 0 ≡ Some (not fall) }
-        ensures { self.new ≡ with_segment chain 0 fall self.old }
+    /// Takes in an edge of the board's wire.
+    pub fn note(&mut self, row: &Row, edge: Edge)
+        requires other { CanMove row.now edge.wire edge.fall self.old }
+        ensures { self.new ≡ after_board row.now edge.wire edge.fall self.old }
     {
-        self.drive(chain, 0, fall);
+        match edge.wire {
+            Wire::BgOut => {
+                let chain = ChainId::of_grant(request_level(row));
+                let segment = self.output_of(chain, row.slot);
+                self.drive(chain, segment, edge.fall);
+            }
+            Wire::IackOut => {
+                let segment = self.output_of(ChainId::Iack, row.slot);
+                self.drive(ChainId::Iack, segment, edge.fall);
+            }
+            _ => {}
+        }
     }
 
-    /// The segment of an active slot moves.
-    pub fn drive_output(&mut self, chain: ChainId, slot: u8, fall: bool)
-        requires other { slice_get (chain_at chain self.old).low (output_number (chain_at chain self.old).active slot) ≡ Some (not fall) }
-        ensures { self.new ≡ with_segment chain (output_number (chain_at chain self.old).active slot) fall self.old }
+    /// Takes in an edge of the controller's wire.
+    pub fn note_head(&mut self, edge: Edge)
+        requires other { CanMoveHead edge.wire edge.fall self.old }
+        ensures { self.new ≡ after_controller edge.wire edge.fall self.old }
     {
-        self.drive(chain, self.output_of(chain, slot), fall);
+        match edge.wire {
+            Wire::Bg(level) => self.drive(ChainId::of_grant(level), 0, edge.fall),
+            Wire::Iack => self.drive(ChainId::Iack, 0, edge.fall),
+            _ => {}
+        }
     }
 }

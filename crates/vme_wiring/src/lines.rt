@@ -1,10 +1,10 @@
 //! The open-collector lines that boards pull, as counts.
 ghost use Rattle.std.specs.Prelude.{◌≡◌, ◌<◌, [], ◌∷◌, true, get_or, nat_lt};
 ghost use Rattle.vme_model.specs.Sets.{bus_levels, irq_levels};
-ghost use Rattle.vme_wiring.specs.Counts.{moved, is_movable, request_level, interrupt_level, no_pulls, count_of, lines_after};
+ghost use Rattle.vme_wiring.specs.Counts.{moved, is_movable, request_level, interrupt_level, no_pulls, count_of, lines_after, shared_after, shared_after_controller, addressing_after};
 
 use vme_lines::OrLine;
-use vme_model::{BusLevels, Edge, Levels, Row, Wire};
+use vme_model::{BusLevels, Edge, Levels, Pins, Row, Wire};
 
 /// The lines, each as the number of the boards that pull it; and how many boards pass a grant on.
 #[derive(Clone, Copy)]
@@ -116,5 +116,47 @@ impl Lines {
             six.is_low(),
             seven.is_low(),
         ])
+    }
+}
+
+/// What all drivers see alike, after an edge of a board's wire that the lines have noted.
+pub fn shared_after(shared: Pins, lines: &Lines, edge: Edge) -> Pins
+    ensures { result ≡ shared_after shared lines.now edge.wire edge.value }
+{
+    let mut shared = shared;
+    match edge.wire {
+        Wire::Br => shared.requests = lines.requests(),
+        Wire::Irq => shared.irq = lines.irqs(),
+        Wire::Bbsy => shared.bbsy = lines.bbsy.is_low(),
+        Wire::Addr => shared.shown = edge.value,
+        Wire::AddressStrobe => shared.address_strobe = lines.address_strobe.is_low(),
+        Wire::DataStrobe => shared.data_strobe = lines.data_strobe.is_low(),
+        Wire::Dtack => shared.dtack = lines.dtack.is_low(),
+        _ => {}
+    }
+    shared
+}
+
+/// The same after an edge of the controller's wire.
+pub fn shared_after_controller(shared: Pins, edge: Edge) -> Pins
+    ensures { result ≡ shared_after_controller shared edge.wire edge.fall }
+{
+    let mut shared = shared;
+    match edge.wire {
+        Wire::Bclr => shared.bclr = edge.fall,
+        Wire::Berr => shared.berr = edge.fall,
+        _ => {}
+    }
+    shared
+}
+
+/// The slot whose address group is on, after an edge of the slot's.
+pub fn addressing_after(addressing: Option<u8>, slot: u8, edge: Edge) -> Option<u8>
+    ensures { result ≡ addressing_after addressing slot edge.wire edge.fall }
+{
+    match (edge.wire, edge.fall) {
+        (Wire::Addr, true) => Some(slot),
+        (Wire::Addr, false) => None,
+        _ => addressing,
     }
 }
