@@ -4,3 +4,8 @@ pub mod Asking
 pub mod Counting
 pub mod Others
 pub mod Chaining
+pub mod Standing
+pub mod LineNotes
+pub mod ChainNotes
+pub mod Showing
+pub mod Noting
