@@ -22,6 +22,7 @@ use Rattle.vme_model.specs.History.{drive, shown, addressing, last_level}
 use Rattle.vme_model.specs.Verdict.{IsLegal, verdict_but_full}
 use Rattle.vme_model.specs.Views.{pins}
 use Rattle.vme_model.proofs.Passed.{Passed, all_passed}
+use Rattle.vme_arbiter.specs.declared.policies.AnyPolicy.{AnyPolicy}
 use Rattle.vme_arbiter.specs.Local.{State as ControllerState, state_of as controller_of}
 use Rattle.vme_wiring.specs.Boards.{parts_of, place}
 use Rattle.vme_wiring.specs.Counts.{IsLines, lines_after, shared_after, shared_after_controller, addressing_after, is_movable, count_of}
@@ -31,6 +32,7 @@ use Rattle.vme_wiring.specs.declared.boards.Board.{Board}
 use Rattle.vme_wiring.specs.declared.lines.Lines.{Lines}
 use Rattle.vme_wiring.specs.declared.chains.Chains.{Chains}
 use Rattle.vme_wiring.specs.declared.wirings.Wiring.{Wiring}
+use Rattle.vme_wiring.proofs.Parts.{part}
 use Rattle.vme_wiring.proofs.Others.{parts_same}
 use Rattle.vme_wiring.proofs.Standing.{Stands, stands, IsDriven, driven, at, at_head, flipped}
 use Rattle.vme_wiring.proofs.LineNotes.{IsCounted, counted, uncounted, shared_by_board, shared_by_controller}
@@ -185,7 +187,7 @@ controller_noted version p h w fall v old new is allowed n =
       rules = n.rules ∙ is.rules;
       room = ap length n.boards ∙ is.room;
       boards = subst (IsBoards version p (e ∷ h)) (sym n.boards) (boards_kept version p h w fall v old.boards is.boards);
-      arbiter = cc (policy, state);
+      arbiter = ap (λ (a : AnyPolicy). (a, new.arbiter.1)) policy ∙ ap (λ (c : ControllerState). (record { kind = p.arbiter }, c)) state;
       lines = subst (IsLines p (e ∷ h)) (sym n.lines) (uncounted p h w fall v old.lines has is.lines);
       chains = n.chains ∙ ap (after_controller w fall) is.chains ∙ sym (chained_head p h w fall v has);
       shared = n.shared ∙ ap (λ (x : Pins). shared_after_controller x w fall) is.shared ∙ shared_by_controller p h w fall v has;
@@ -224,3 +226,44 @@ head_can version p h e w is allowed driver =
     let passed = all_passed version p h e.driver e.wire e.fall e.value allowed in
     subst (CanMoveHead e.wire e.fall) (sym is.chains)
     (can_move_head p h e.wire e.fall (subst (λ d. has_wire d e.wire ≡ true) driver passed.wire) (subst (λ d. drive h d e.wire ≡ not e.fall) driver passed.before))
+
+-- the board in a place
+pub record IsPlaced (version : Version) (p : Plan) (h : List Edge) (s : ℕ) (b : Board) : Type 0 where
+  pub row : Row
+  pub found : board p s ≡ Some row
+  pub is : b ≡ parts_of version p h row
+  pub same_row : b.row ≡ row
+  pub stands : Stands p s row
+
+pub placed_board : (version : Version) (p : Plan) (h : List Edge) (s : ℕ) (b : Board) (w : Wiring) → IsWiringOf version p h w → Some b ≡ place w.boards s → IsPlaced version p h s b
+placed_board version p h s b w is here =
+    let k = part (parts_of version p h) (board p s) b (here ∙ is.boards s) in
+    record {
+      row = k.of;
+      found = k.is_row;
+      is = k.is_part;
+      same_row = ap (λ (x : Board). x.row) k.is_part;
+      stands = stands p s k.of is.accepted k.is_row;
+    }
+
+-- the same by the row that the board carries
+pub record IsNotedWith (version : Version) (p : Plan) (h : List Edge) (s : ℕ) (own r : Row) (e : Edge) (old new : Wiring) : Type 0 where
+  pub rules : new.version ≡ old.version
+  pub boards : new.boards ≡ set old.boards s (Some (parts_of version p (e ∷ h) r))
+  pub arbiter : new.arbiter ≡ old.arbiter
+  pub lines : new.lines ≡ lines_after old.lines own e.wire e.fall
+  pub chains : new.chains ≡ after_board own e.wire e.fall old.chains
+  pub shared : new.shared ≡ shared_after old.shared new.lines e.wire e.value
+  pub addressing : new.addressing ≡ addressing_after old.addressing s e.wire e.fall
+
+pub with_row : (version : Version) (p : Plan) (h : List Edge) (s : ℕ) (own r : Row) (e : Edge) (old new : Wiring) → own ≡ r → IsNotedWith version p h s own r e old new → IsNotedByBoard version p h s r e old new
+with_row version p h s own r e old new same n = record {
+    rules = n.rules; boards = n.boards; arbiter = n.arbiter;
+    lines = n.lines ∙ ap (λ (x : Row). lines_after old.lines x e.wire e.fall) same;
+    chains = n.chains ∙ ap (λ (x : Row). after_board x e.wire e.fall old.chains) same;
+    shared = n.shared; addressing = n.addressing;
+  }
+
+pub none_placed : {X A : Type 0} (f : X → A) (o : Option X) → option_map f o ≡ None → o ≡ None
+none_placed {X} {A} f None e = refl
+none_placed {X} {A} f (Some x) e = absurd (cc)
