@@ -9,3 +9,5 @@ pub mod LineNotes
 pub mod ChainNotes
 pub mod Showing
 pub mod Noting
+pub mod Seeing
+pub mod Judging

@@ -125,6 +125,7 @@ addressing_kept p h w fall v has = absurd (cc)
 -- what an edge of a board leaves
 pub record IsNotedByBoard (version : Version) (p : Plan) (h : List Edge) (s : ℕ) (r : Row) (e : Edge) (old new : Wiring) : Type 0 where
   pub rules : new.version ≡ old.version
+  pub slots : new.slots ≡ old.slots
   pub boards : new.boards ≡ set old.boards s (Some (parts_of version p (e ∷ h) r))
   pub arbiter : new.arbiter ≡ old.arbiter
   pub lines : new.lines ≡ lines_after old.lines r e.wire e.fall
@@ -143,6 +144,7 @@ board_noted version p h s r w fall v old new is allowed found n =
       accepted = is.accepted;
       legal = (allowed, is.legal);
       rules = n.rules ∙ is.rules;
+      slots = n.slots ∙ is.slots;
       room = ap length n.boards ∙ length-set old.boards s (Some (parts_of version p (e ∷ h) r)) ∙ is.room;
       boards = subst (IsBoards version p (e ∷ h)) (sym n.boards) (boards_after version p h s r w fall v old.boards is.accepted k is.room is.boards);
       arbiter = n.arbiter ∙ is.arbiter ∙ ap (λ (c : ControllerState). (record { kind = p.arbiter }, c)) (controller_kept p.arbiter version h s w fall v d.wire);
@@ -166,6 +168,7 @@ noted_by_board version p h s r e old new is allowed driver found n =
 -- what an edge of the controller leaves
 pub record IsNotedByController (version : Version) (p : Plan) (h : List Edge) (e : Edge) (old new : Wiring) : Type 0 where
   pub rules : new.version ≡ old.version
+  pub slots : new.slots ≡ old.slots
   pub boards : new.boards ≡ old.boards
   pub policy : new.arbiter.0 ≡ old.arbiter.0
   pub arbiter : old.arbiter.1 ≡ controller_of p.arbiter version h → new.arbiter.1 ≡ controller_of p.arbiter version (e ∷ h)
@@ -185,6 +188,7 @@ controller_noted version p h w fall v old new is allowed n =
       accepted = is.accepted;
       legal = (allowed, is.legal);
       rules = n.rules ∙ is.rules;
+      slots = n.slots ∙ is.slots;
       room = ap length n.boards ∙ is.room;
       boards = subst (IsBoards version p (e ∷ h)) (sym n.boards) (boards_kept version p h w fall v old.boards is.boards);
       arbiter = ap (λ (a : AnyPolicy). (a, new.arbiter.1)) policy ∙ ap (λ (c : ControllerState). (record { kind = p.arbiter }, c)) state;
@@ -249,6 +253,7 @@ placed_board version p h s b w is here =
 -- the same by the row that the board carries
 pub record IsNotedWith (version : Version) (p : Plan) (h : List Edge) (s : ℕ) (own r : Row) (e : Edge) (old new : Wiring) : Type 0 where
   pub rules : new.version ≡ old.version
+  pub slots : new.slots ≡ old.slots
   pub boards : new.boards ≡ set old.boards s (Some (parts_of version p (e ∷ h) r))
   pub arbiter : new.arbiter ≡ old.arbiter
   pub lines : new.lines ≡ lines_after old.lines own e.wire e.fall
@@ -258,7 +263,7 @@ pub record IsNotedWith (version : Version) (p : Plan) (h : List Edge) (s : ℕ) 
 
 pub with_row : (version : Version) (p : Plan) (h : List Edge) (s : ℕ) (own r : Row) (e : Edge) (old new : Wiring) → own ≡ r → IsNotedWith version p h s own r e old new → IsNotedByBoard version p h s r e old new
 with_row version p h s own r e old new same n = record {
-    rules = n.rules; boards = n.boards; arbiter = n.arbiter;
+    rules = n.rules; slots = n.slots; boards = n.boards; arbiter = n.arbiter;
     lines = n.lines ∙ ap (λ (x : Row). lines_after old.lines x e.wire e.fall) same;
     chains = n.chains ∙ ap (λ (x : Row). after_board x e.wire e.fall old.chains) same;
     shared = n.shared; addressing = n.addressing;

@@ -19,6 +19,7 @@ pub record IsWiringOf (version : Version) (p : Plan) (h : List Edge) (w : Wiring
   pub accepted : IsAccepted p
   pub legal : IsLegal version p h
   pub rules : w.version ≡ version
+  pub slots : w.slots ≡ p.slots
   pub room : length w.boards ≡ 22
   pub boards : (s : ℕ) → place w.boards s ≡ option_map (parts_of version p h) (board p s)
   pub arbiter : w.arbiter ≡ (record { kind = p.arbiter }, controller_of p.arbiter version h)

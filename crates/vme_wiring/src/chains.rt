@@ -23,7 +23,7 @@ impl Chains {
     ghost use Rattle.vme_wiring.specs.Chained.{chains_of, chain_at, with_segment, after_board, after_controller, CanMove, CanMoveHead};
 
     /// The chains of a plan, high everywhere.
-    #[tactic(auto, using(crate::proofs::Fresh::high_segments, crate::proofs::Others::parts_same, crate::proofs::LineNotes::counted, crate::proofs::ChainNotes::chained, crate::proofs::Showing::shown_at))]
+    #[tactic(auto, using(crate::proofs::Fresh::high_segments))]
     pub fn new(plan: &Plan) -> Chains
         ensures { result ≡ chains_of plan.now [] }
     {

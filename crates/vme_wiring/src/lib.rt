@@ -4,6 +4,8 @@
 mod boards;
 mod chains;
 mod lines;
+mod sights;
+mod verdicts;
 mod wirings;
 
 pub use wirings::Wiring;

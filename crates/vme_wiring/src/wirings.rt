@@ -26,6 +26,7 @@ use vme_slots::Plan;
 #[derive(Drop)]
 pub struct Wiring {
     pub(crate) version: Version,
+    pub(crate) slots: u8,
     pub(crate) boards: [Option<Board>; 22],
     pub(crate) arbiter: Arbiter<AnyPolicy>,
     pub(crate) lines: Lines,
@@ -87,6 +88,7 @@ impl Wiring {
         plan.accepted();
         Wiring {
             version,
+            slots: plan.slots(),
             boards: boards_of(plan, version),
             arbiter: Arbiter::new(AnyPolicy::from(plan.arbiter()), plan.arbiter(), version),
             lines: Lines::new(),
@@ -124,6 +126,7 @@ impl Wiring {
     fn note_controller(&mut self, edge: Edge)
         requires head { CanMoveHead edge.wire edge.fall self.old.chains }
         ensures version { self.new.version ≡ self.old.version }
+        ensures slots { self.new.slots ≡ self.old.slots }
         ensures boards { self.new.boards ≡ self.old.boards }
         ensures policy { self.new.arbiter.0 ≡ self.old.arbiter.0 }
         ensures arbiter { (kind : KindValue) (version : VersionValue) (h : List EdgeValue) → self.old.arbiter.1 ≡ controller_of kind version h → self.new.arbiter.1 ≡ controller_of kind version (edge ∷ h) }
@@ -145,6 +148,7 @@ impl Wiring {
         requires line { is_movable (count_of self.old.lines board.row edge.wire) edge.fall ≡ true }
         requires chain { CanMove board.row edge.wire edge.fall self.old.chains }
         ensures version { self.new.version ≡ self.old.version }
+        ensures slots { self.new.slots ≡ self.old.slots }
         ensures boards { (version : VersionValue) (p : PlanValue) (h : List EdgeValue) (r : RowValue) → board ≡ parts_of version p h r → self.old.shared.shown ≡ shown p h → self.new.boards ≡ set self.old.boards slot (Some (parts_of version p (edge ∷ h) r)) }
         ensures arbiter { self.new.arbiter ≡ self.old.arbiter }
         ensures lines { self.new.lines ≡ lines_after self.old.lines board.row edge.wire edge.fall }
