@@ -1,4 +1,3 @@
-pub mod Fresh
 pub mod Parts
 pub mod Asking
 pub mod Counting
@@ -11,3 +10,4 @@ pub mod Showing
 pub mod Noting
 pub mod Seeing
 pub mod Judging
+pub mod Fresh

@@ -18,7 +18,7 @@ use Rattle.vme_model.specs.declared.signals.Wire.TheVariants.{Bg, Bclr, Iack, Be
 use Rattle.vme_model.specs.declared.signals.Edge.{Edge}
 use Rattle.vme_model.specs.Signals.{is_same_driver, is_same_wire, is_edge_of, has_wire}
 use Rattle.vme_model.specs.Plan.{Plan, board, board_of, has_driver, drives, grant_chain}
-use Rattle.vme_model.specs.History.{drive, input as input_after}
+use Rattle.vme_model.specs.History.{drive, input as input_after, is_past_end as is_past_end_after, line}
 use Rattle.vme_model.specs.Readings.{grant_in, iack_in}
 use Rattle.vme_model.specs.Verdict.{IsLegal}
 use Rattle.vme_model.specs.Views.{pins}
@@ -27,12 +27,14 @@ use Rattle.vme_model.proofs.Passed.{Passed, all_passed}
 use Rattle.vme_model.specs.declared.signals.Cycle.TheVariants.{Acknowledge}
 use Rattle.vme_model.specs.Signals.{is_two}
 use Rattle.vme_model.specs.History.{shown}
-use Rattle.vme_model.specs.Settling.{is_unanswerable, are_grants_through}
-use Rattle.vme_chain.specs.Segments.{Segments, segments_of, input, is_past_end}
-use Rattle.vme_chain.proofs.History.{reads_inputs, reads_the_end}
+use Rattle.vme_model.specs.Settling.{is_unanswerable, are_grants_through, is_chain_clear, settling}
+use Rattle.vme_chain.specs.Segments.{Segments, segments_of, input, is_past_end, is_clear}
+use Rattle.vme_chain.proofs.History.{reads_inputs, reads_the_end, reads_clearness}
 use Rattle.vme_wiring.specs.Counts.{passes_grant}
 use Rattle.vme_wiring.proofs.Counting.{no_pulls_left}
-use Rattle.vme_arbiter.specs.Local.{state_of as controller_of, low}
+use Rattle.vme_arbiter.specs.Local.{State as ControllerState, state_of as controller_of, low}
+use Rattle.vme_arbiter.specs.declared.policies.AnyPolicy.{AnyPolicy}
+use Rattle.vme_model.specs.declared.boards.ArbiterKind.{ArbiterKind}
 use Rattle.vme_requester.specs.Local.{state_of as requester_of}
 use Rattle.vme_master.specs.Local.{state_of as master_of}
 use Rattle.vme_interrupter.specs.Local.{seen, edges}
@@ -187,13 +189,39 @@ own_of_controller version p h Irq legal = sym (never_drove version p h Controlle
 own_of_controller version p h IackOut legal = sym (never_drove version p h Controller IackOut legal refl)
 own_of_controller version p h Dtack legal = sym (never_drove version p h Controller Dtack legal refl)
 
--- the settling rules
-pub grant_gone : (version : Version) (p : Plan) (h : List Edge) (w : Wiring) (is_low : Bool) → IsWiringOf version p h w → is_two w.version ≡ true → is_low ≡ nat_lt 0 w.lines.bgout → not is_low ≡ (not (is_two version) || are_grants_through p h)
-grant_gone version p h w is_low is two low =
-    ap not (low ∙ ap (nat_lt 0) is.lines.bgout) ∙ sym (no_pulls_left (passes_grant h) p.rows)
-    ∙ ap (λ b. not b || are_grants_through p h) (sym two ∙ ap is_two is.rules)
+abbrev pub pair : ℕ → Bool → ℕ × Bool
+pair n b = (n, b)
 
-pub unanswerable : (version : Version) (p : Plan) (h : List Edge) (w : Wiring) (n : ℕ) → IsWiringOf version p h w → w.shared.shown ≡ Some (Acknowledge n) → is_past_end w.chains.iack ≡ is_unanswerable p h (shown p h)
-unanswerable version p h w n is on =
-    ap (λ (x : Chains). is_past_end x.iack) is.chains ∙ reads_the_end p h chain.Iack
-    ∙ ap (is_unanswerable p h) (sym on ∙ ap (λ (x : Pins). x.shown) is.shared)
+abbrev pub arbiter_by : AnyPolicy → ArbiterKind → Version → AnyPolicy × ControllerState
+arbiter_by a kind version = (a, controller_of kind version [])
+
+-- the settling rules
+pub grant_gone : (version : Version) (p : Plan) (h : List Edge) (w : Wiring) → IsWiringOf version p h w → (not (is_two w.version) || not (nat_lt 0 w.lines.bgout)) ≡ (not (is_two version) || are_grants_through p h)
+grant_gone version p h w is =
+    ap (λ v. not (is_two v) || not (nat_lt 0 w.lines.bgout)) is.rules
+    ∙ ap (λ b. not (is_two version) || not b) (ap (nat_lt 0) is.lines.bgout)
+    ∙ ap (λ b. not (is_two version) || b) (sym (no_pulls_left (passes_grant h) p.rows))
+
+pub grant_seen : (version : Version) (p : Plan) (h : List Edge) (w : Wiring) (n : ℕ) → IsWiringOf version p h w →
+    (not (is_two w.version) || w.shared.bbsy || is_past_end (chain_at (grant_chain n) w.chains)) ≡ (not (is_two version) || line p h Bbsy || is_past_end_after p h (grant_chain n))
+grant_seen version p h w n is =
+    ap (λ v. not (is_two v) || w.shared.bbsy || is_past_end (chain_at (grant_chain n) w.chains)) is.rules
+    ∙ ap (λ (x : Pins). not (is_two version) || x.bbsy || is_past_end (chain_at (grant_chain n) w.chains)) is.shared
+    ∙ ap (λ b. not (is_two version) || line p h Bbsy || b) (
+      ap (λ (x : Chains). is_past_end (chain_at (grant_chain n) x)) is.chains
+      ∙ ap is_past_end (chain_is p h (grant_chain n)) ∙ reads_the_end p h (grant_chain n))
+
+pub acknowledge_clear : (version : Version) (p : Plan) (h : List Edge) (w : Wiring) → IsWiringOf version p h w → is_clear w.chains.iack ≡ is_chain_clear p h chain.Iack
+acknowledge_clear version p h w is = ap (λ (x : Chains). is_clear x.iack) is.chains ∙ reads_clearness p h chain.Iack
+
+pub past_boards : (version : Version) (p : Plan) (h : List Edge) (w : Wiring) → IsWiringOf version p h w → is_past_end w.chains.iack ≡ is_past_end_after p h chain.Iack
+past_boards version p h w is = ap (λ (x : Chains). is_past_end x.iack) is.chains ∙ reads_the_end p h chain.Iack
+
+-- the settling rule of a wire and a direction
+pub settling_at : (version : Version) (p : Plan) (h : List Edge) (x y : Wire) (fall down : Bool) (n : ℕ) (b : Bool) → x ≡ y → fall ≡ down → pair n b ≡ settling version p h y down → pair n b ≡ settling version p h x fall
+settling_at version p h x y fall down n b wire falls is =
+    is ∙ sym (ap (λ z. settling version p h z fall) wire ∙ ap (λ d. settling version p h y d) falls)
+
+pub arbiter_of : (a : AnyPolicy) (kind own : ArbiterKind) (version : Version) → a.kind ≡ kind → own ≡ kind → arbiter_by a own version ≡ arbiter_by (record { kind = kind }) kind version
+arbiter_of a kind own version policy same =
+    ap (λ (k : ArbiterKind). arbiter_by (record { kind = k }) own version) policy ∙ ap (λ k. arbiter_by (record { kind = kind }) k version) same

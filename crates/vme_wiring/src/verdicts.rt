@@ -1,12 +1,14 @@
 //! The verdict on an edge, but for the end of the trace.
-ghost use Rattle.std.specs.Prelude.{◌≡◌, ◌&&◌, true, false, List, Ok};
+ghost use Rattle.std.specs.Prelude.{◌≡◌, ◌&&◌, ◌||◌, not, true, false, List, Some, Ok, nat_lt};
 ghost use Rattle.vme_model.specs.declared.signals.Edge.{Edge as EdgeValue};
 ghost use Rattle.vme_model.specs.declared.signals.Version.{Version as VersionValue};
 ghost use Rattle.vme_model.specs.Signals.{is_two, is_well_formed};
-ghost use Rattle.vme_model.specs.Plan.{Plan as PlanValue, has_driver};
+ghost use Rattle.vme_model.specs.Plan.{Plan as PlanValue, grant_chain, has_driver};
 ghost use Rattle.vme_model.specs.History.{shown};
 ghost use Rattle.vme_model.specs.Settling.{is_unanswerable, settling};
 ghost use Rattle.vme_model.specs.Verdict.{check, settled, verdict_but_full};
+ghost use Rattle.vme_chain.specs.Segments.{is_past_end};
+ghost use Rattle.vme_wiring.specs.Chained.{chain_at};
 ghost use Rattle.vme_wiring.specs.Asked.{asked};
 
 use crate::wirings::Wiring;
@@ -55,20 +57,29 @@ impl Wiring {
         }
     }
 
+    /// Whether nobody can answer the cycle.
+    fn is_beyond_boards(&self, cycle: Cycle) -> bool
+        ensures { (version : VersionValue) (p : PlanValue) (h : List EdgeValue) → IsWiringOf version p h self.now → result ≡ is_unanswerable p h (Some cycle) }
+    {
+        match cycle {
+            Cycle::Acknowledge(_) => self.chains.is_past_end(ChainId::Iack),
+            Cycle::Access(slot) => self.board(slot).is_none(),
+        }
+    }
+
     /// S2: whether nobody can answer what is shown.
     fn is_unanswerable(&self) -> bool
         ensures { (version : VersionValue) (p : PlanValue) (h : List EdgeValue) → IsWiringOf version p h self.now → result ≡ is_unanswerable p h (shown p h) }
     {
         match self.shared.shown {
-            Some(Cycle::Acknowledge(_)) => self.chains.is_past_end(ChainId::Iack),
-            Some(Cycle::Access(slot)) => self.board(slot).is_none(),
+            Some(cycle) => self.is_beyond_boards(cycle),
             None => false,
         }
     }
 
     /// S3: whether a grant that nobody took has passed every board.
     fn is_grant_seen(&self, level: u8) -> bool
-        ensures { (version : VersionValue) (p : PlanValue) (h : List EdgeValue) → IsWiringOf version p h self.now → result ≡ (settling version p h (Wire.Bg level) false).1 }
+        ensures { result ≡ (not (is_two self.now.version) || self.now.shared.bbsy || is_past_end (chain_at (grant_chain level) self.now.chains)) }
     {
         !is_two(self.version)
             || self.shared.bbsy
@@ -77,7 +88,7 @@ impl Wiring {
 
     /// S4: whether the last grant has gone from every board.
     fn is_grant_gone(&self) -> bool
-        ensures { (version : VersionValue) (p : PlanValue) (h : List EdgeValue) → IsWiringOf version p h self.now → result ≡ (settling version p h (Wire.Bg 0) true).1 }
+        ensures { result ≡ (not (is_two self.now.version) || not (nat_lt 0 self.now.lines.bgout)) }
     {
         !is_two(self.version) || !self.lines.bgout.is_low()
     }
