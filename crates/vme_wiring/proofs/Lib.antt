@@ -11,3 +11,4 @@ pub mod Noting
 pub mod Seeing
 pub mod Judging
 pub mod Fresh
+pub mod Offering

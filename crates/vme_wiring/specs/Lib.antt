@@ -3,3 +3,4 @@ pub mod Counts
 pub mod Chained
 pub mod Wired
 pub mod Asked
+pub mod Considered

@@ -4,6 +4,7 @@
 mod boards;
 mod chains;
 mod lines;
+mod offers;
 mod sights;
 mod verdicts;
 mod wirings;

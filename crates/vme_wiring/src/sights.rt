@@ -5,7 +5,6 @@ ghost use Rattle.vme_model.specs.declared.boards.Row.{Row as RowValue};
 ghost use Rattle.vme_model.specs.declared.signals.Edge.{Edge as EdgeValue};
 ghost use Rattle.vme_model.specs.declared.signals.Version.{Version as VersionValue};
 ghost use Rattle.vme_model.specs.Plan.{Plan as PlanValue, board_of, grant_chain};
-ghost use Rattle.vme_model.specs.History.{drive};
 ghost use Rattle.vme_model.specs.Views.{pins};
 ghost use Rattle.vme_model.specs.Deliveries.{delivery, delivered_by};
 ghost use Rattle.vme_chain.specs.Segments.{input};
@@ -47,6 +46,7 @@ fn delivered_by(
 
 impl Wiring {
     ghost use Rattle.vme_wiring.specs.Wired.{IsWiringOf};
+    ghost use Rattle.vme_wiring.specs.Considered.{own_by};
 
     /// The input of the board's own grant chain, for a board with a requester.
     fn grant_in(&self, row: &Row) -> bool
@@ -91,8 +91,8 @@ impl Wiring {
     }
 
     /// Whether the driver's own wire is low, or its address group on.
-    pub fn own(&self, driver: Driver, wire: Wire) -> bool
-        ensures { (version : VersionValue) (p : PlanValue) (h : List EdgeValue) → IsWiringOf version p h self.now → result ≡ drive h driver wire }
+    pub(crate) fn is_low(&self, driver: Driver, wire: Wire) -> bool
+        ensures { result ≡ own_by self.now driver wire }
     {
         match driver {
             Driver::Controller => self.arbiter.is_low(wire),
@@ -104,7 +104,7 @@ impl Wiring {
     }
 
     /// The row of the driver's board.
-    pub fn row(&self, driver: Driver) -> Option<Row>
+    fn row(&self, driver: Driver) -> Option<Row>
         ensures { (version : VersionValue) (p : PlanValue) (h : List EdgeValue) → IsWiringOf version p h self.now → result ≡ board_of p driver }
     {
         match driver {
