@@ -164,16 +164,22 @@ impl Wiring {
         }
     }
 
-    /// All edges that are considered for the driver, in the order of its offers.
-    #[tactic(auto, using(crate::proofs::Offering::at_most_ten))]
-    pub fn all_considered(&self, driver: Driver) -> ArrayVec<Edge, 18>
-        ensures edges { (version : VersionValue) (p : PlanValue) (h : List EdgeValue) → IsWiringOf version p h self.now → result.items ≡ flat_map (considered p h driver) (wires driver) }
-        ensures few { length result.items ≤ 10 }
+    /// All edges that are considered for the driver, by the stored fields.
+    fn collected(&self, driver: Driver) -> ArrayVec<Edge, 18>
+        ensures { result.items ≡ flat_map (considered_by self.now driver) (wires driver) }
     {
         let mut edges = ArrayVec::new();
         for wire in wires(driver) {
             append(&mut edges, &self.considered(driver, *wire));
         }
         edges
+    }
+
+    /// All edges that are considered for the driver, in the order of its offers.
+    pub fn all_considered(&self, driver: Driver) -> ArrayVec<Edge, 18>
+        ensures edges { (version : VersionValue) (p : PlanValue) (h : List EdgeValue) → IsWiringOf version p h self.now → result.items ≡ flat_map (considered p h driver) (wires driver) }
+        ensures few { length result.items ≤ 10 }
+    {
+        self.collected(driver)
     }
 }

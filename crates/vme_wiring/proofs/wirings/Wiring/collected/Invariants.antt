@@ -2,7 +2,7 @@ use Rattle.std.proofs.Common.{◌≡◌, ◌≤◌, ◌+◌, take, length}
 use Rattle.std.specs.List.{flat_map}
 use Rattle.vme_model.specs.Offers.{wires}
 use Rattle.vme_wiring.specs.Considered.{considered_by}
-use Rattle.vme_wiring.proofs.wirings.Wiring.all_considered.Given as goal
+use Rattle.vme_wiring.proofs.wirings.Wiring.collected.Given as goal
 
 abbrev pub invariant-loop-wire : goal.invariant-loop-wire
 invariant-loop-wire l = record {
