@@ -1,0 +1,10 @@
+use Rattle.std.proofs.Common.{◌≡◌, reverse, take}
+use Rattle.vme_model.specs.Deliveries.{delivered}
+use Rattle.vme_wiring.specs.Wired.{IsWiringOf}
+use Rattle.vme_backplane.proofs.deliveries.deliveries.Given as goal
+
+abbrev pub invariant-loop-place : goal.invariant-loop-place
+invariant-loop-place l = record {
+  wired : IsWiringOf l.fn.version l.plan (reverse (take l.place l.stored.0)) l.wiring;
+  given : l.given.items ≡ delivered l.plan (reverse (take l.place l.stored.0));
+}
