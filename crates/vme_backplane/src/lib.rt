@@ -14,6 +14,3 @@ pub use traces::{Trace, TraceError};
 
 #[cfg(test)]
 mod tests;
-
-#[cfg(test)]
-mod tests;
