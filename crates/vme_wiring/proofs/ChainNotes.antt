@@ -96,7 +96,6 @@ on_level : (o : Option RequesterRow) (n m : ℕ) → is_some o ≡ true → opti
 on_level None n m some e = absurd (cc)
 on_level (Some q) n m some e = ap (λ x. x == m) e
 
-
 module _ (p : Plan) (h : List Edge) (s : ℕ) (r : Row) (fall : Bool) (v : Option Cycle) (k : Stands p s r) (d : IsDriven p h s r BgOut fall v) where
   abbrev passed : List Edge
   passed = at s BgOut fall v ∷ h
@@ -129,31 +128,31 @@ passes_by : (p : Plan) (h : List Edge) (s : ℕ) (r : Row) (fall : Bool) (v : Op
 passes_by p h s r fall v k d zero e l =
     let on = λ (c : ChainId) (m : ℕ) (is : works c r ≡ is_on r.requester m). works_is p h s r fall v k d 0 m c e is in
     all_chains (segments_of p h chain.Iack)
-      (mine p h s r fall v k d chain.Bg0 BgOut refl (on chain.Bg0 0 refl) (drive h Controller (Bg 0)))
-      (theirs p h s r fall v k d chain.Bg1 (on chain.Bg1 1 refl) (drive h Controller (Bg 1)))
-      (theirs p h s r fall v k d chain.Bg2 (on chain.Bg2 2 refl) (drive h Controller (Bg 2)))
-      (theirs p h s r fall v k d chain.Bg3 (on chain.Bg3 3 refl) (drive h Controller (Bg 3)))
+    (mine p h s r fall v k d chain.Bg0 BgOut refl (on chain.Bg0 0 refl) (drive h Controller (Bg 0)))
+    (theirs p h s r fall v k d chain.Bg1 (on chain.Bg1 1 refl) (drive h Controller (Bg 1)))
+    (theirs p h s r fall v k d chain.Bg2 (on chain.Bg2 2 refl) (drive h Controller (Bg 2)))
+    (theirs p h s r fall v k d chain.Bg3 (on chain.Bg3 3 refl) (drive h Controller (Bg 3)))
 passes_by p h s r fall v k d (suc zero) e l =
     let on = λ (c : ChainId) (m : ℕ) (is : works c r ≡ is_on r.requester m). works_is p h s r fall v k d 1 m c e is in
     all_chains (segments_of p h chain.Iack)
-      (theirs p h s r fall v k d chain.Bg0 (on chain.Bg0 0 refl) (drive h Controller (Bg 0)))
-      (mine p h s r fall v k d chain.Bg1 BgOut refl (on chain.Bg1 1 refl) (drive h Controller (Bg 1)))
-      (theirs p h s r fall v k d chain.Bg2 (on chain.Bg2 2 refl) (drive h Controller (Bg 2)))
-      (theirs p h s r fall v k d chain.Bg3 (on chain.Bg3 3 refl) (drive h Controller (Bg 3)))
+    (theirs p h s r fall v k d chain.Bg0 (on chain.Bg0 0 refl) (drive h Controller (Bg 0)))
+    (mine p h s r fall v k d chain.Bg1 BgOut refl (on chain.Bg1 1 refl) (drive h Controller (Bg 1)))
+    (theirs p h s r fall v k d chain.Bg2 (on chain.Bg2 2 refl) (drive h Controller (Bg 2)))
+    (theirs p h s r fall v k d chain.Bg3 (on chain.Bg3 3 refl) (drive h Controller (Bg 3)))
 passes_by p h s r fall v k d (suc (suc zero)) e l =
     let on = λ (c : ChainId) (m : ℕ) (is : works c r ≡ is_on r.requester m). works_is p h s r fall v k d 2 m c e is in
     all_chains (segments_of p h chain.Iack)
-      (theirs p h s r fall v k d chain.Bg0 (on chain.Bg0 0 refl) (drive h Controller (Bg 0)))
-      (theirs p h s r fall v k d chain.Bg1 (on chain.Bg1 1 refl) (drive h Controller (Bg 1)))
-      (mine p h s r fall v k d chain.Bg2 BgOut refl (on chain.Bg2 2 refl) (drive h Controller (Bg 2)))
-      (theirs p h s r fall v k d chain.Bg3 (on chain.Bg3 3 refl) (drive h Controller (Bg 3)))
+    (theirs p h s r fall v k d chain.Bg0 (on chain.Bg0 0 refl) (drive h Controller (Bg 0)))
+    (theirs p h s r fall v k d chain.Bg1 (on chain.Bg1 1 refl) (drive h Controller (Bg 1)))
+    (mine p h s r fall v k d chain.Bg2 BgOut refl (on chain.Bg2 2 refl) (drive h Controller (Bg 2)))
+    (theirs p h s r fall v k d chain.Bg3 (on chain.Bg3 3 refl) (drive h Controller (Bg 3)))
 passes_by p h s r fall v k d (suc (suc (suc zero))) e l =
     let on = λ (c : ChainId) (m : ℕ) (is : works c r ≡ is_on r.requester m). works_is p h s r fall v k d 3 m c e is in
     all_chains (segments_of p h chain.Iack)
-      (theirs p h s r fall v k d chain.Bg0 (on chain.Bg0 0 refl) (drive h Controller (Bg 0)))
-      (theirs p h s r fall v k d chain.Bg1 (on chain.Bg1 1 refl) (drive h Controller (Bg 1)))
-      (theirs p h s r fall v k d chain.Bg2 (on chain.Bg2 2 refl) (drive h Controller (Bg 2)))
-      (mine p h s r fall v k d chain.Bg3 BgOut refl (on chain.Bg3 3 refl) (drive h Controller (Bg 3)))
+    (theirs p h s r fall v k d chain.Bg0 (on chain.Bg0 0 refl) (drive h Controller (Bg 0)))
+    (theirs p h s r fall v k d chain.Bg1 (on chain.Bg1 1 refl) (drive h Controller (Bg 1)))
+    (theirs p h s r fall v k d chain.Bg2 (on chain.Bg2 2 refl) (drive h Controller (Bg 2)))
+    (mine p h s r fall v k d chain.Bg3 BgOut refl (on chain.Bg3 3 refl) (drive h Controller (Bg 3)))
 passes_by p h s r fall v k d (suc (suc (suc (suc n)))) e l = absurd (omega arith)
 
 can_pass : (p : Plan) (h : List Edge) (s : ℕ) (r : Row) (fall : Bool) (v : Option Cycle) → Stands p s r → IsDriven p h s r BgOut fall v → (n : ℕ) → request_level r ≡ n → n < 4 →
@@ -179,7 +178,7 @@ chained p h s r BgOut fall v k d = passes_by p h s r fall v k d (request_level r
 chained p h s r IackOut fall v k d =
     let f : Segments → Chains = λ x. record (chains_of p h) { iack = x } in
     ap f (moved_segments p h chain.Iack s IackOut fall v (drive h Controller Iack) k.from_one k.to_last (works_at p chain.Iack s r k.found ∙ d.drives)
-      ∙ ap (λ t. moved (segments_of p h chain.Iack) (output_number (active p chain.Iack) t) fall) (sym k.slot))
+    ∙ ap (λ t. moved (segments_of p h chain.Iack) (output_number (active p chain.Iack) t) fall) (sym k.slot))
 chained p h s r Br fall v k d = refl
 chained p h s r Bbsy fall v k d = refl
 chained p h s r Addr fall v k d = refl

@@ -103,16 +103,16 @@ at_last f g k n fall one =
       is_below = omega arith;
       within = omega arith;
       before =
-        ap (λ ys. slice_get ys (length xs)) (map-append g xs (suc n ∷ []))
-        ∙ ap (λ i. slice_get (map g xs ++ g (suc n) ∷ []) i) (sym (length-map xs g))
-        ∙ at_seam (map g xs) (g (suc n));
+          ap (λ ys. slice_get ys (length xs)) (map-append g xs (suc n ∷ []))
+          ∙ ap (λ i. slice_get (map g xs ++ g (suc n) ∷ []) i) (sym (length-map xs g))
+          ∙ at_seam (map g xs) (g (suc n));
       moved =
-        map-append k xs (suc n ∷ [])
-        ∙ ap (λ ys. ys ++ k (suc n) ∷ []) same
-        ∙ ap (λ y. map g xs ++ y ∷ []) one.one
-        ∙ sym (set-append_seam (map g xs) (g (suc n)) [] fall)
-        ∙ ap (λ i. set (map g xs ++ g (suc n) ∷ []) i fall) (length-map xs g)
-        ∙ ap (λ ys. set ys (length xs) fall) (sym (map-append g xs (suc n ∷ [])));
+          map-append k xs (suc n ∷ [])
+          ∙ ap (λ ys. ys ++ k (suc n) ∷ []) same
+          ∙ ap (λ y. map g xs ++ y ∷ []) one.one
+          ∙ sym (set-append_seam (map g xs) (g (suc n)) [] fall)
+          ∙ ap (λ i. set (map g xs ++ g (suc n) ∷ []) i fall) (length-map xs g)
+          ∙ ap (λ ys. set ys (length xs) fall) (sym (map-append g xs (suc n ∷ [])));
     }
 
 at_earlier : (b : Bool) (f g k : ℕ → Bool) (n s i : ℕ) (fall : Bool) → IsOne f g k s fall → s ≤ n → f (suc n) ≡ b → IsAt g k (worked f n) s i fall → IsAt g k (with_slot b (worked f n) (suc n)) s i fall
@@ -127,15 +127,15 @@ at_earlier true f g k n s i fall one l is at =
       is_below = let q = at.is_below in omega arith;
       within = let w = at.within in omega arith;
       before =
-        ap (λ ys. slice_get ys i) (map-append g xs (suc n ∷ []))
-        ∙ get_front (map g xs) (g (suc n) ∷ []) i inside
-        ∙ at.before;
+          ap (λ ys. slice_get ys i) (map-append g xs (suc n ∷ []))
+          ∙ get_front (map g xs) (g (suc n) ∷ []) i inside
+          ∙ at.before;
       moved =
-        map-append k xs (suc n ∷ [])
-        ∙ ap (λ ys. ys ++ k (suc n) ∷ []) at.moved
-        ∙ ap (λ y. set (map g xs) i fall ++ y ∷ []) (one.others (suc n) is (λ same. absurd (omega arith)))
-        ∙ sym (set-append_left (map g xs) (g (suc n) ∷ []) i fall inside)
-        ∙ ap (λ ys. set ys i fall) (sym (map-append g xs (suc n ∷ [])));
+          map-append k xs (suc n ∷ [])
+          ∙ ap (λ ys. ys ++ k (suc n) ∷ []) at.moved
+          ∙ ap (λ y. set (map g xs) i fall ++ y ∷ []) (one.others (suc n) is (λ same. absurd (omega arith)))
+          ∙ sym (set-append_left (map g xs) (g (suc n) ∷ []) i fall inside)
+          ∙ ap (λ ys. set ys i fall) (sym (map-append g xs (suc n ∷ [])));
     }
 
 pub record HasPlace (g k : ℕ → Bool) (xs : List ℕ) (s : ℕ) (fall : Bool) : Type 0 where

@@ -157,7 +157,7 @@ pub pulls_move : (p : Plan) (f g : Row → Bool) (s : ℕ) (r : Row) (fall : Boo
 pulls_move p f g s r fall ok from to found same before after =
     let swap = pulls_swap f g s r p.rows same (once p ok s from to) found in
     let even : pulls g p.rows + one_if (not fall) ≡ pulls f p.rows + one_if fall =
-        ap (λ t. pulls g p.rows + one_if t) (sym before) ∙ swap ∙ ap (λ t. pulls f p.rows + one_if t) after in
+    ap (λ t. pulls g p.rows + one_if t) (sym before) ∙ swap ∙ ap (λ t. pulls f p.rows + one_if t) after in
     let most = pulls_most f p.rows in
     let few = few_boards p ok in
     record {

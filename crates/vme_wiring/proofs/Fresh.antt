@@ -42,7 +42,17 @@ high_segments p c ok = ap all_high (holds_every_slot p c (in_range p ok).most) �
 
 abbrev of_lines : BusLevels → Levels → Bool → Bool → Bool → Bool → Option Cycle → Pins
 of_lines requests irq bbsy address_strobe data_strobe dtack shown = record {
-  requests = requests; bbsy = bbsy; bclr = false; address_strobe = address_strobe; data_strobe = data_strobe; dtack = dtack; berr = false; irq = irq; shown = shown; grant_in = false; iack_in = false;
+  requests = requests;
+  bbsy = bbsy;
+  bclr = false;
+  address_strobe = address_strobe;
+  data_strobe = data_strobe;
+  dtack = dtack;
+  berr = false;
+  irq = irq;
+  shown = shown;
+  grant_in = false;
+  iack_in = false;
 }
 
 -- every line is high
@@ -76,12 +86,16 @@ none_on (suc n) = skip (up_to n) (none_on n)
 
 pub high_lines : (p : Plan) → IsLines p [] no_pulls
 high_lines p = record {
-    br_room = refl; irq_room = refl;
-    br = λ n low. four n low ∙ none_pull (requests_on n) p.rows;
-    irq = λ n low. eight n low ∙ none_pull (interrupts_on n) p.rows;
-    bgout = none_pass p.rows;
-    bbsy = none_pull (drives Bbsy) p.rows; address_strobe = none_pull (drives AddressStrobe) p.rows; data_strobe = none_pull (drives DataStrobe) p.rows; dtack = none_pull (drives Dtack) p.rows;
-  }
+  br_room = refl;
+  irq_room = refl;
+  br = λ n low. four n low ∙ none_pull (requests_on n) p.rows;
+  irq = λ n low. eight n low ∙ none_pull (interrupts_on n) p.rows;
+  bgout = none_pass p.rows;
+  bbsy = none_pull (drives Bbsy) p.rows;
+  address_strobe = none_pull (drives AddressStrobe) p.rows;
+  data_strobe = none_pull (drives DataStrobe) p.rows;
+  dtack = none_pull (drives Dtack) p.rows;
+}
   where
     four : (n : ℕ) → n < 4 → get_or no_pulls.br n 0 ≡ 0
     four zero l = refl

@@ -99,10 +99,16 @@ counted p h s r Br fall v l ok k d old =
     let after = λ (n : ℕ). pulls (pulls_request (at s Br fall v ∷ h) n) p.rows in
     record {
       lines = record {
-        br_room = length-set l.br level (moved (get_or l.br level 0) fall) ∙ old.br_room; irq_room = old.irq_room;
+        br_room = length-set l.br level (moved (get_or l.br level 0) fall) ∙ old.br_room;
+        irq_room = old.irq_room;
         br = λ n low. by_level l.br 4 level n count after fall (level == n) refl old.br_room k.request low old.br one.count
             (λ is. stays p h s r Br fall v (requests_on n) ok k (gate n ∙ is));
-        irq = old.irq; bgout = old.bgout; bbsy = old.bbsy; address_strobe = old.address_strobe; data_strobe = old.data_strobe; dtack = old.dtack;
+        irq = old.irq;
+        bgout = old.bgout;
+        bbsy = old.bbsy;
+        address_strobe = old.address_strobe;
+        data_strobe = old.data_strobe;
+        dtack = old.dtack;
       };
       can = ap (λ n. is_movable n fall) (old.br level k.request) ∙ one.can;
     }
@@ -114,11 +120,16 @@ counted p h s r Irq fall v l ok k d old =
     let after = λ (n : ℕ). pulls (pulls_interrupt (at s Irq fall v ∷ h) n) p.rows in
     record {
       lines = record {
-        br_room = old.br_room; irq_room = length-set l.irq level (moved (get_or l.irq level 0) fall) ∙ old.irq_room;
+        br_room = old.br_room;
+        irq_room = length-set l.irq level (moved (get_or l.irq level 0) fall) ∙ old.irq_room;
         br = old.br;
         irq = λ n low. by_level l.irq 8 level n count after fall (level == n) refl old.irq_room k.interrupt low old.irq one.count
             (λ is. stays p h s r Irq fall v (interrupts_on n) ok k (gate n ∙ is));
-        bgout = old.bgout; bbsy = old.bbsy; address_strobe = old.address_strobe; data_strobe = old.data_strobe; dtack = old.dtack;
+        bgout = old.bgout;
+        bbsy = old.bbsy;
+        address_strobe = old.address_strobe;
+        data_strobe = old.data_strobe;
+        dtack = old.dtack;
       };
       can = ap (λ n. is_movable n fall) (old.irq level k.interrupt) ∙ one.can;
     }
@@ -126,9 +137,15 @@ counted p h s r BgOut fall v l ok k d old =
     let one = moves p h s r BgOut fall v (λ q. true) ok k d.before refl in
     record {
       lines = record {
-        br_room = old.br_room; irq_room = old.irq_room; br = old.br; irq = old.irq;
+        br_room = old.br_room;
+        irq_room = old.irq_room;
+        br = old.br;
+        irq = old.irq;
         bgout = ap (λ n. moved n fall) old.bgout ∙ sym one.count;
-        bbsy = old.bbsy; address_strobe = old.address_strobe; data_strobe = old.data_strobe; dtack = old.dtack;
+        bbsy = old.bbsy;
+        address_strobe = old.address_strobe;
+        data_strobe = old.data_strobe;
+        dtack = old.dtack;
       };
       can = ap (λ n. is_movable n fall) old.bgout ∙ one.can;
     }
@@ -136,9 +153,15 @@ counted p h s r Bbsy fall v l ok k d old =
     let one = moves p h s r Bbsy fall v (drives Bbsy) ok k d.before d.drives in
     record {
       lines = record {
-        br_room = old.br_room; irq_room = old.irq_room; br = old.br; irq = old.irq; bgout = old.bgout;
+        br_room = old.br_room;
+        irq_room = old.irq_room;
+        br = old.br;
+        irq = old.irq;
+        bgout = old.bgout;
         bbsy = ap (λ n. moved n fall) old.bbsy ∙ sym one.count;
-        address_strobe = old.address_strobe; data_strobe = old.data_strobe; dtack = old.dtack;
+        address_strobe = old.address_strobe;
+        data_strobe = old.data_strobe;
+        dtack = old.dtack;
       };
       can = ap (λ n. is_movable n fall) old.bbsy ∙ one.can;
     }
@@ -146,9 +169,15 @@ counted p h s r AddressStrobe fall v l ok k d old =
     let one = moves p h s r AddressStrobe fall v (drives AddressStrobe) ok k d.before d.drives in
     record {
       lines = record {
-        br_room = old.br_room; irq_room = old.irq_room; br = old.br; irq = old.irq; bgout = old.bgout; bbsy = old.bbsy;
+        br_room = old.br_room;
+        irq_room = old.irq_room;
+        br = old.br;
+        irq = old.irq;
+        bgout = old.bgout;
+        bbsy = old.bbsy;
         address_strobe = ap (λ n. moved n fall) old.address_strobe ∙ sym one.count;
-        data_strobe = old.data_strobe; dtack = old.dtack;
+        data_strobe = old.data_strobe;
+        dtack = old.dtack;
       };
       can = ap (λ n. is_movable n fall) old.address_strobe ∙ one.can;
     }
@@ -156,7 +185,13 @@ counted p h s r DataStrobe fall v l ok k d old =
     let one = moves p h s r DataStrobe fall v (drives DataStrobe) ok k d.before d.drives in
     record {
       lines = record {
-        br_room = old.br_room; irq_room = old.irq_room; br = old.br; irq = old.irq; bgout = old.bgout; bbsy = old.bbsy; address_strobe = old.address_strobe;
+        br_room = old.br_room;
+        irq_room = old.irq_room;
+        br = old.br;
+        irq = old.irq;
+        bgout = old.bgout;
+        bbsy = old.bbsy;
+        address_strobe = old.address_strobe;
         data_strobe = ap (λ n. moved n fall) old.data_strobe ∙ sym one.count;
         dtack = old.dtack;
       };
@@ -166,39 +201,94 @@ counted p h s r Dtack fall v l ok k d old =
     let one = moves p h s r Dtack fall v (drives Dtack) ok k d.before d.drives in
     record {
       lines = record {
-        br_room = old.br_room; irq_room = old.irq_room; br = old.br; irq = old.irq; bgout = old.bgout; bbsy = old.bbsy; address_strobe = old.address_strobe; data_strobe = old.data_strobe;
+        br_room = old.br_room;
+        irq_room = old.irq_room;
+        br = old.br;
+        irq = old.irq;
+        bgout = old.bgout;
+        bbsy = old.bbsy;
+        address_strobe = old.address_strobe;
+        data_strobe = old.data_strobe;
         dtack = ap (λ n. moved n fall) old.dtack ∙ sym one.count;
       };
       can = ap (λ n. is_movable n fall) old.dtack ∙ one.can;
     }
 counted p h s r Addr fall v l ok k d old = record {
-    lines = record {
-      br_room = old.br_room; irq_room = old.irq_room; br = old.br; irq = old.irq; bgout = old.bgout; bbsy = old.bbsy; address_strobe = old.address_strobe; data_strobe = old.data_strobe; dtack = old.dtack;
-    };
-    can = one_is_movable fall;
-  }
+  lines = record {
+    br_room = old.br_room;
+    irq_room = old.irq_room;
+    br = old.br;
+    irq = old.irq;
+    bgout = old.bgout;
+    bbsy = old.bbsy;
+    address_strobe = old.address_strobe;
+    data_strobe = old.data_strobe;
+    dtack = old.dtack;
+  };
+  can = one_is_movable fall;
+}
 counted p h s r IackOut fall v l ok k d old = record {
-    lines = record {
-      br_room = old.br_room; irq_room = old.irq_room; br = old.br; irq = old.irq; bgout = old.bgout; bbsy = old.bbsy; address_strobe = old.address_strobe; data_strobe = old.data_strobe; dtack = old.dtack;
-    };
-    can = one_is_movable fall;
-  }
+  lines = record {
+    br_room = old.br_room;
+    irq_room = old.irq_room;
+    br = old.br;
+    irq = old.irq;
+    bgout = old.bgout;
+    bbsy = old.bbsy;
+    address_strobe = old.address_strobe;
+    data_strobe = old.data_strobe;
+    dtack = old.dtack;
+  };
+  can = one_is_movable fall;
+}
 counted p h s r w fall v l ok k d old = let none = d.drives in absurd (cc)
 
 -- the controller pulls none of them
 pub uncounted : (p : Plan) (h : List Edge) (w : Wire) (fall : Bool) (v : Option Cycle) (l : Lines) → has_wire Controller w ≡ true → IsLines p h l → IsLines p (at_head w fall v ∷ h) l
 uncounted p h (Bg n) fall v l has old = record {
-    br_room = old.br_room; irq_room = old.irq_room; br = old.br; irq = old.irq; bgout = old.bgout; bbsy = old.bbsy; address_strobe = old.address_strobe; data_strobe = old.data_strobe; dtack = old.dtack;
-  }
+  br_room = old.br_room;
+  irq_room = old.irq_room;
+  br = old.br;
+  irq = old.irq;
+  bgout = old.bgout;
+  bbsy = old.bbsy;
+  address_strobe = old.address_strobe;
+  data_strobe = old.data_strobe;
+  dtack = old.dtack;
+}
 uncounted p h Bclr fall v l has old = record {
-    br_room = old.br_room; irq_room = old.irq_room; br = old.br; irq = old.irq; bgout = old.bgout; bbsy = old.bbsy; address_strobe = old.address_strobe; data_strobe = old.data_strobe; dtack = old.dtack;
-  }
+  br_room = old.br_room;
+  irq_room = old.irq_room;
+  br = old.br;
+  irq = old.irq;
+  bgout = old.bgout;
+  bbsy = old.bbsy;
+  address_strobe = old.address_strobe;
+  data_strobe = old.data_strobe;
+  dtack = old.dtack;
+}
 uncounted p h Iack fall v l has old = record {
-    br_room = old.br_room; irq_room = old.irq_room; br = old.br; irq = old.irq; bgout = old.bgout; bbsy = old.bbsy; address_strobe = old.address_strobe; data_strobe = old.data_strobe; dtack = old.dtack;
-  }
+  br_room = old.br_room;
+  irq_room = old.irq_room;
+  br = old.br;
+  irq = old.irq;
+  bgout = old.bgout;
+  bbsy = old.bbsy;
+  address_strobe = old.address_strobe;
+  data_strobe = old.data_strobe;
+  dtack = old.dtack;
+}
 uncounted p h Berr fall v l has old = record {
-    br_room = old.br_room; irq_room = old.irq_room; br = old.br; irq = old.irq; bgout = old.bgout; bbsy = old.bbsy; address_strobe = old.address_strobe; data_strobe = old.data_strobe; dtack = old.dtack;
-  }
+  br_room = old.br_room;
+  irq_room = old.irq_room;
+  br = old.br;
+  irq = old.irq;
+  bgout = old.bgout;
+  bbsy = old.bbsy;
+  address_strobe = old.address_strobe;
+  data_strobe = old.data_strobe;
+  dtack = old.dtack;
+}
 uncounted p h w fall v l has old = absurd (cc)
 
 -- what all drivers see, by the counts

@@ -70,8 +70,8 @@ boards_after version p h s r w fall v boards ok k room old t = by_slot (t == s) 
         let near = k.near in
         let P : ℕ → Type 0 = λ x. place (set boards s (Some (parts_of version p (at s w fall v ∷ h) r))) x ≡ option_map (parts_of version p (at s w fall v ∷ h)) (board p x) in
         subst P (sym same) (
-          ap (option_and_then (λ b. b)) (set_here boards s (Some (parts_of version p (at s w fall v ∷ h) r)) (omega arith))
-          ∙ ap (option_map (parts_of version p (at s w fall v ∷ h))) (sym k.found))
+        ap (option_and_then (λ b. b)) (set_here boards s (Some (parts_of version p (at s w fall v ∷ h) r)) (omega arith))
+        ∙ ap (option_map (parts_of version p (at s w fall v ∷ h))) (sym k.found))
     by_slot false is =
         ap (option_and_then (λ b. b)) (set_there boards s t (Some (parts_of version p (at s w fall v ∷ h) r)) is)
         ∙ old t
@@ -263,11 +263,15 @@ pub record IsNotedWith (version : Version) (p : Plan) (h : List Edge) (s : ℕ) 
 
 pub with_row : (version : Version) (p : Plan) (h : List Edge) (s : ℕ) (own r : Row) (e : Edge) (old new : Wiring) → own ≡ r → IsNotedWith version p h s own r e old new → IsNotedByBoard version p h s r e old new
 with_row version p h s own r e old new same n = record {
-    rules = n.rules; slots = n.slots; boards = n.boards; arbiter = n.arbiter;
-    lines = n.lines ∙ ap (λ (x : Row). lines_after old.lines x e.wire e.fall) same;
-    chains = n.chains ∙ ap (λ (x : Row). after_board x e.wire e.fall old.chains) same;
-    shared = n.shared; addressing = n.addressing;
-  }
+  rules = n.rules;
+  slots = n.slots;
+  boards = n.boards;
+  arbiter = n.arbiter;
+  lines = n.lines ∙ ap (λ (x : Row). lines_after old.lines x e.wire e.fall) same;
+  chains = n.chains ∙ ap (λ (x : Row). after_board x e.wire e.fall old.chains) same;
+  shared = n.shared;
+  addressing = n.addressing;
+}
 
 pub none_placed : {X A : Type 0} (f : X → A) (o : Option X) → option_map f o ≡ None → o ≡ None
 none_placed {X} {A} f None e = refl

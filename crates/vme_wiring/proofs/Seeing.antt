@@ -208,8 +208,8 @@ grant_seen version p h w n is =
     ap (λ v. not (is_two v) || w.shared.bbsy || is_past_end (chain_at (grant_chain n) w.chains)) is.rules
     ∙ ap (λ (x : Pins). not (is_two version) || x.bbsy || is_past_end (chain_at (grant_chain n) w.chains)) is.shared
     ∙ ap (λ b. not (is_two version) || line p h Bbsy || b) (
-      ap (λ (x : Chains). is_past_end (chain_at (grant_chain n) x)) is.chains
-      ∙ ap is_past_end (chain_is p h (grant_chain n)) ∙ reads_the_end p h (grant_chain n))
+    ap (λ (x : Chains). is_past_end (chain_at (grant_chain n) x)) is.chains
+    ∙ ap is_past_end (chain_is p h (grant_chain n)) ∙ reads_the_end p h (grant_chain n))
 
 pub acknowledge_clear : (version : Version) (p : Plan) (h : List Edge) (w : Wiring) → IsWiringOf version p h w → is_clear w.chains.iack ≡ is_chain_clear p h chain.Iack
 acknowledge_clear version p h w is = ap (λ (x : Chains). is_clear x.iack) is.chains ∙ reads_clearness p h chain.Iack

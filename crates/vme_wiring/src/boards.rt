@@ -91,7 +91,8 @@ impl Board {
     {
         match wire {
             Wire::Br | Wire::BgOut | Wire::Bbsy => {
-                self.requester.is_some_and(|requester| requester.is_low(wire))
+                self.requester
+                    .is_some_and(|requester| requester.is_low(wire))
             }
             Wire::Addr | Wire::AddressStrobe | Wire::DataStrobe => {
                 self.master.is_some_and(|master| master.is_low(wire))

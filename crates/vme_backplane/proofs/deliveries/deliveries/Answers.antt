@@ -10,10 +10,15 @@ use Rattle.vme_backplane.proofs.deliveries.deliveries.Goals as goal
 pub note-requires : goal.note-requires
 note-requires c =
     let past = reverse (take c.loop-place.place c.args.stored.now.0) in
-    record { allowed = record {
-      version = c.args.version; plan = c.args.plan.now; history = past; is_wiring = c.loop-place.invariant.wired;
-      allowed = was_allowed c.args.version c.args.plan.now c.args.stored.now.0 c.loop-place.place c.edge_at-edge.result c.requires c.edge_at-edge.ensures;
-    } }
+    record {
+      allowed = record {
+        version = c.args.version;
+        plan = c.args.plan.now;
+        history = past;
+        is_wiring = c.loop-place.invariant.wired;
+        allowed = was_allowed c.args.version c.args.plan.now c.args.stored.now.0 c.loop-place.place c.edge_at-edge.result c.requires c.edge_at-edge.ensures;
+      };
+    }
 
 pub loop-place-preserved : goal.loop-place-preserved
 loop-place-preserved c =
@@ -28,8 +33,8 @@ loop-place-preserved c =
     record {
       wired = subst (λ (h : List Edge). IsWiringOf v p h c.note.new.self) (sym next) (c.note.ensures v p past c.loop-place.invariant.wired allowed);
       given =
-        c.in_ok-append.ensures
-        ∙ ap (λ (ds : List Delivery). followed_by ds c.delivery.result) c.loop-place.invariant.given
-        ∙ ap (followed_by (delivered p past)) (c.delivery.ensures v p past c.loop-place.invariant.wired)
-        ∙ sym (ap (delivered p) next);
+          c.in_ok-append.ensures
+          ∙ ap (λ (ds : List Delivery). followed_by ds c.delivery.result) c.loop-place.invariant.given
+          ∙ ap (followed_by (delivered p past)) (c.delivery.ensures v p past c.loop-place.invariant.wired)
+          ∙ sym (ap (delivered p) next);
     }

@@ -13,7 +13,7 @@ returns-in-Some c version p h r same asked own =
     let has : is_some r.requester ≡ true = ap is_some k.is_row in
     let told = c.is_low.ensures ∙ low_at version p h r c.args.self.now Bbsy same has in
     let noted : c.in-Some.master ≡ state_of c.in-Some.master.slot c.in-Some.master.row c.in-Some.master.handler h =
-        let P : State → Type 0 = λ x. x ≡ state_of x.slot x.row x.handler h in subst P (sym k.is_part) refl in
+    let P : State → Type 0 = λ x. x ≡ state_of x.slot x.row x.handler h in subst P (sym k.is_part) refl in
     c.may.ensures version h noted own
     ∙ ap (λ (x : State). answer version (over x.slot x.row x.handler h c.args.pins c.is_low.result) c.args.edge) k.is_part
     ∙ master_asked version p h r k.of c.args.pins c.is_low.result c.args.edge asked k.is_row told own

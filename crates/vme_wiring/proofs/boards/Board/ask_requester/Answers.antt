@@ -12,7 +12,7 @@ returns-in-Some c version p h r same asked own =
     let has : is_some r.requester ≡ true = ap is_some k.is_row in
     let told = c.is_address_free.ensures ∙ free_at version p h r c.args.self.now same has in
     let noted : c.in-Some.requester ≡ state_of c.in-Some.requester.slot c.in-Some.requester.row c.in-Some.requester.version h =
-        let P : State → Type 0 = λ x. x ≡ state_of x.slot x.row x.version h in subst P (sym k.is_part) refl in
+    let P : State → Type 0 = λ x. x ≡ state_of x.slot x.row x.version h in subst P (sym k.is_part) refl in
     c.may.ensures.over_noted h noted own
     ∙ ap (λ (x : State). answer_over x.slot x.row x.version h c.args.pins c.is_address_free.result c.args.edge) k.is_part
     ∙ requester_asked version p h r k.of c.args.pins c.is_address_free.result c.args.edge asked k.is_row told own

@@ -53,7 +53,15 @@ pub returns-in-Controller : goal.returns-in-Controller
 returns-in-Controller c version p h is allowed =
     let n = c.note_controller.ensures in
     noted_by_controller version p h c.args.edge c.args.self.now c.note_controller.new.self is allowed c.in-Controller.is (record {
-      rules = n.version; slots = n.slots; boards = n.boards; policy = n.policy; arbiter = n.arbiter p.arbiter version h; lines = n.lines; chains = n.chains; shared = n.shared; addressing = n.addressing;
+      rules = n.version;
+      slots = n.slots;
+      boards = n.boards;
+      policy = n.policy;
+      arbiter = n.arbiter p.arbiter version h;
+      lines = n.lines;
+      chains = n.chains;
+      shared = n.shared;
+      addressing = n.addressing;
     })
 
 pub returns-in-Some : goal.returns-in-Some
@@ -62,7 +70,14 @@ returns-in-Some c version p h is allowed =
     let k = placed_board version p h c.in-Slot.slot c.in-Some.board c.args.self.now is (sym c.in-Some.is ∙ c.copied.ensures ∙ c.board.ensures) in
     noted_by_board version p h c.in-Slot.slot k.row c.args.edge c.args.self.now c.note_board.new.self is allowed c.in-Slot.is k.found
     (with_row version p h c.in-Slot.slot c.in-Some.board.row k.row c.args.edge c.args.self.now c.note_board.new.self k.same_row (record {
-      rules = n.version; slots = n.slots; boards = n.boards version p h k.row k.is (ap (λ (x : Pins). x.shown) is.shared); arbiter = n.arbiter; lines = n.lines; chains = n.chains; shared = n.shared; addressing = n.addressing;
+      rules = n.version;
+      slots = n.slots;
+      boards = n.boards version p h k.row k.is (ap (λ (x : Pins). x.shown) is.shared);
+      arbiter = n.arbiter;
+      lines = n.lines;
+      chains = n.chains;
+      shared = n.shared;
+      addressing = n.addressing;
     }))
 
 pub returns-in-None : goal.returns-in-None
