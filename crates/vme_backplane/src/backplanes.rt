@@ -9,39 +9,34 @@ ghost use Rattle.vme_model.specs.Deliveries.{answer, delivered};
 ghost use Rattle.vme_model.specs.Offers.{offered};
 ghost use Rattle.vme_model.specs.Accepted.{IsAccepted};
 ghost use Rattle.vme_model.specs.Report.{at_power_up, trace_limit};
-ghost use Rattle.vme_backplane.specs.Looks.{history_of};
 
-use crate::looks::Look;
-use crate::traces::Trace;
-use crate::{scans, settling};
+use crate::deliveries::deliveries;
 use arrayvec::ArrayVec;
 use std::alloc::{AllocError, Global};
 use std::marker::Model;
 use vme_model::{Delivery, Driver, Edge, Pins, Refused, Version};
 use vme_slots::Plan;
-use vme_store::Store;
+use vme_store::{Store, Trace};
+use vme_wiring::Wiring;
 
-/// A backplane: the version of its rules, its plan, and the edges that were made.
+/// A backplane: the version of its rules, its plan, and the edges that were made, with the wiring that they lead to.
 #[derive(Drop)]
 pub struct Backplane<'r> {
     version: Version,
     plan: Plan,
-    // The verdict looks back through this list. It holds the edges of the store.
-    edges: Vec<Edge>,
+    wiring: Wiring,
     store: Store<'r>,
 }
 
 impl<'r> Model for Backplane<'r> {
-    ghost use Rattle.std.specs.Prelude.{◌≡◌, ◌≤◌, reverse, vec_capacity};
-    ghost use Rattle.vme_model.specs.Verdict.{State, IsLegal};
+    ghost use Rattle.vme_model.specs.Verdict.{State};
+    ghost use Rattle.vme_wiring.specs.Wired.{IsWiringOf};
 
     ghost Value = { State };
 
-    ghost view = { λ b. record { version = b.version; plan = b.plan; history = reverse b.edges.items; max = b.store.max } };
+    ghost view = { λ b. record { version = b.version; plan = b.plan; history = b.store.history; max = b.store.max } };
 
-    ghost invariant = { λ b.
-        (b.store.history ≡ reverse b.edges.items) × (b.store.max ≤ vec_capacity b.edges)
-        × IsLegal b.version b.plan (reverse b.edges.items) };
+    ghost invariant = { λ b. IsWiringOf b.version b.plan b.store.history b.wiring };
 }
 
 /// How many edges a run accepted and refused.
@@ -56,12 +51,12 @@ impl<'r> Backplane<'r> {
     pub fn new(plan: Plan, trace: Trace<'r>, version: Version) -> Backplane<'r>
         ensures { result ≡ at_power_up version plan trace.entry }
     {
-        let (edges, store) = trace.into_parts();
+        let wiring = Wiring::new(&plan, version);
         Backplane {
             version,
             plan,
-            edges,
-            store,
+            wiring,
+            store: Store::new(trace),
         }
     }
 
@@ -72,7 +67,6 @@ impl<'r> Backplane<'r> {
         ensures fits { length self.now.history ≤ self.now.max }
         ensures bounded { self.now.max ≤ trace_limit }
     {
-        self.plan.accepted();
         self.store.laws();
     }
 
@@ -85,16 +79,31 @@ impl<'r> Backplane<'r> {
         self.laws();
     }
 
+    /// The answer to an edge, but for the end of the trace.
+    fn judge(&self, edge: Edge) -> Result<(), Refused>
+        ensures { result ≡ verdict_but_full self.now.version self.now.plan self.now.history edge }
+    {
+        self.wiring.judge(edge)
+    }
+
     /// The answer to an edge, but for what it delivers.
-    #[tactic(auto, using(crate::proofs::WellFormed::allowed_is_well_formed))]
+    #[tactic(auto, using(crate::proofs::Judged::refused, crate::proofs::Judged::passed, crate::proofs::WellFormed::allowed_is_well_formed))]
     fn verdict(&self, edge: Edge) -> Result<(), Refused>
         ensures value { result ≡ verdict self.now edge }
         ensures room { OnOk result ((length self.now.history == self.now.max) ≡ false) }
         ensures allowed { OnOk result (verdict_but_full self.now.version self.now.plan self.now.history edge ≡ Ok tt) }
         ensures well_formed { OnOk result (is_well_formed edge ≡ true) }
     {
-        let (version, plan) = (self.version(), &self.plan);
-        settling::judge(version, plan, &self.edges, self.is_full(), edge)
+        match self.judge(edge) {
+            Ok(()) => {
+                if self.is_full() {
+                    Err(Refused::TraceFull)
+                } else {
+                    Ok(())
+                }
+            }
+            Err(refused) => Err(refused),
+        }
     }
 
     /// Makes the edge where the rules allow it, and answers what it delivers.
@@ -111,8 +120,8 @@ impl<'r> Backplane<'r> {
         self.laws();
         self.safety();
         self.verdict(edge)?;
-        let delivery = scans::delivery(&self.plan, &self.edges, edge);
-        self.edges.push_reserved(edge);
+        let delivery = self.wiring.delivery(edge);
+        self.wiring.note(edge);
         self.store.push(edge);
         self.laws();
         self.safety();
@@ -147,7 +156,7 @@ impl<'r> Backplane<'r> {
     pub fn pins(&self, driver: Driver) -> Pins
         ensures { result ≡ pins self.now.plan self.now.history driver }
     {
-        self.look(driver).pins()
+        self.wiring.pins(driver)
     }
 
     /// The driver's edges that would be accepted, in the order of its wires, with one acknowledge and one access at
@@ -155,7 +164,7 @@ impl<'r> Backplane<'r> {
     pub fn offers(&self, driver: Driver) -> ArrayVec<Edge, 16>
         ensures { result.items ≡ offered self.now driver }
     {
-        let considered = self.look(driver).all_considered();
+        let considered = self.wiring.all_considered(driver);
         let mut offers = ArrayVec::new();
         for edge in considered.as_slice() {
             if self.verdict(*edge).is_ok() {
@@ -169,7 +178,7 @@ impl<'r> Backplane<'r> {
     pub fn deliveries(&self, alloc: Global) -> Result<Vec<Delivery>, AllocError>
         ensures { IfOk result (λ v. v.items ≡ delivered self.now.plan self.now.history) }
     {
-        scans::deliveries(alloc, &self.plan, &self.edges)
+        deliveries(alloc, self.version, &self.plan, &self.store)
     }
 
     /// The version of its rules.
@@ -197,7 +206,7 @@ impl<'r> Backplane<'r> {
     pub fn is_empty(&self) -> bool
         ensures { IsTrue result ↔ (self.now.history ≡ []) }
     {
-        self.edges.is_empty()
+        self.len() == 0
     }
 
     /// Whether the trace holds no further edge.
@@ -220,19 +229,5 @@ impl<'r> Backplane<'r> {
         ensures { slice_get (in_order self.now.history) place ≡ Some result }
     {
         self.store.edge_at(place)
-    }
-
-    /// A driver's look at it.
-    fn look(&self, driver: Driver) -> Look<'_>
-        ensures value { history_of result ≡ self.now.history }
-        ensures plan { result.plan.now ≡ self.now.plan }
-        ensures driver { result.driver ≡ driver }
-    {
-        Look {
-            version: self.version(),
-            plan: &self.plan,
-            edges: &self.edges,
-            driver,
-        }
     }
 }
