@@ -45,6 +45,7 @@ use Rattle.vme_wiring.specs.Wired.{IsWiringOf}
 use Rattle.vme_wiring.specs.declared.boards.Board.{Board}
 use Rattle.vme_wiring.specs.declared.chains.Chains.{Chains}
 use Rattle.vme_wiring.specs.declared.wirings.Wiring.{Wiring}
+use Rattle.vme_wiring.proofs.Others.{same_wire}
 use Rattle.vme_wiring.proofs.Parts.{low_driven}
 use Rattle.vme_wiring.proofs.Noting.{IsPlaced, placed_board, none_placed}
 
@@ -86,22 +87,6 @@ pub no_board_in : (version : Version) (p : Plan) (h : List Edge) (w : Wiring) (s
 no_board_in version p h w s is none = none_placed (parts_of version p h) (board p s) (sym (is.boards s) ∙ none)
 
 -- a driver without such a wire never drove it
-same_wire : (a b : Wire) → is_same_wire a b ≡ true → a ≡ b
-same_wire (Bg m) (Bg n) e = ap (λ x. Bg x) (same_number m n e)
-same_wire Bclr Bclr e = refl
-same_wire Iack Iack e = refl
-same_wire Berr Berr e = refl
-same_wire Br Br e = refl
-same_wire BgOut BgOut e = refl
-same_wire Bbsy Bbsy e = refl
-same_wire Addr Addr e = refl
-same_wire AddressStrobe AddressStrobe e = refl
-same_wire DataStrobe DataStrobe e = refl
-same_wire Irq Irq e = refl
-same_wire IackOut IackOut e = refl
-same_wire Dtack Dtack e = refl
-same_wire a b e = absurd (cc)
-
 same_driver : (a b : Driver) → is_same_driver a b ≡ true → a ≡ b
 same_driver Controller Controller e = refl
 same_driver (Slot s) (Slot t) e = ap (λ x. Slot x) (same_number s t e)

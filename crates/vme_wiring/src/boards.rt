@@ -9,7 +9,8 @@ ghost use Rattle.vme_model.specs.Plan.{Plan};
 ghost use Rattle.vme_model.specs.History.{shown as shown_after};
 ghost use Rattle.vme_requester.specs.Local.{state_of as requester_of, is_own as is_requesters};
 ghost use Rattle.vme_master.specs.Local.{state_of as master_of, is_own as is_masters};
-ghost use Rattle.vme_interrupter.specs.Local.{is_own as is_interrupters};
+ghost use Rattle.vme_model.specs.declared.boards.InterrupterRow.{InterrupterRow as InterrupterValue};
+ghost use Rattle.vme_interrupter.specs.Local.{Noted, state_of as interrupter_of, is_own as is_interrupters};
 ghost use Rattle.vme_wiring.specs.Asked.{asked, IsAsked};
 
 use vme_interrupter::Interrupter;
@@ -52,6 +53,15 @@ fn master_after(master: Option<Master>, edge: Edge) -> Option<Master>
     }
 }
 
+/// The interrupter after an edge that was made while that was shown.
+fn interrupter_after(interrupter: Interrupter, edge: Edge, shown: Option<Cycle>) -> Interrupter
+    ensures { (s : ℕ) (row : OptionValue InterrupterValue) (noted : List Noted) → interrupter ≡ interrupter_of s row noted → result ≡ interrupter_of s row ((edge, shown) ∷ noted) }
+{
+    let mut interrupter = interrupter;
+    interrupter.note(edge, shown);
+    interrupter
+}
+
 impl Board {
     ghost use Rattle.vme_wiring.specs.Boards.{parts_of, low_of};
 
@@ -75,13 +85,25 @@ impl Board {
     pub fn noted(self, edge: Edge, shown: Option<Cycle>) -> Board
         ensures { (version : VersionValue) (p : Plan) (h : List EdgeValue) (r : RowValue) → self ≡ parts_of version p h r → shown ≡ shown_after p h → result ≡ parts_of version p (edge ∷ h) r }
     {
-        let mut interrupter = self.interrupter;
-        interrupter.note(edge, shown);
-        Board {
-            row: self.row,
-            requester: requester_after(self.requester, edge),
-            master: master_after(self.master, edge),
-            interrupter,
+        match edge.wire {
+            Wire::Br | Wire::BgOut => Board {
+                requester: requester_after(self.requester, edge),
+                ..self
+            },
+            Wire::Bbsy => Board {
+                requester: requester_after(self.requester, edge),
+                master: master_after(self.master, edge),
+                ..self
+            },
+            Wire::Addr | Wire::AddressStrobe | Wire::DataStrobe => Board {
+                master: master_after(self.master, edge),
+                ..self
+            },
+            Wire::Irq | Wire::IackOut | Wire::Dtack => Board {
+                interrupter: interrupter_after(self.interrupter, edge, shown),
+                ..self
+            },
+            Wire::Bg(_) | Wire::Bclr | Wire::Iack | Wire::Berr => self,
         }
     }
 
