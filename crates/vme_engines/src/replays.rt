@@ -69,7 +69,7 @@ pub(crate) fn replay_on<R: Read, W: Write>(
     out: &mut W,
 ) -> Result<Status, Fault>
     requires { first ≡ Ok true → IsCounted reader reads (length edges.items) }
-    ensures { ReplaysOn backplane reader edges.items first reads (R.remaining input.old) (R.remaining input.new) (W.contents out.old) (W.contents out.new) result }
+    ensures { ReplaysOn backplane.entry reader edges.items first reads (R.remaining input.old) (R.remaining input.new) (W.contents out.old) (W.contents out.new) result }
 {
     let mut judged = 0;
     match take_piece(&mut backplane, &mut judged, &edges, first, out)? {
