@@ -250,28 +250,24 @@ placed_board version p h s b w is here =
       stands = stands p s k.of is.accepted k.is_row;
     }
 
--- the same by the row that the board carries
-pub record IsNotedWith (version : Version) (p : Plan) (h : List Edge) (s : ℕ) (own r : Row) (e : Edge) (old new : Wiring) : Type 0 where
-  pub rules : new.version ≡ old.version
-  pub slots : new.slots ≡ old.slots
-  pub boards : new.boards ≡ set old.boards s (Some (parts_of version p (e ∷ h) r))
-  pub arbiter : new.arbiter ≡ old.arbiter
-  pub lines : new.lines ≡ lines_after old.lines own e.wire e.fall
-  pub chains : new.chains ≡ after_board own e.wire e.fall old.chains
-  pub shared : new.shared ≡ shared_after old.shared new.lines e.wire e.value
-  pub addressing : new.addressing ≡ addressing_after old.addressing s e.wire e.fall
+-- the row in a place
+pub record IsRowIn (version : Version) (p : Plan) (h : List Edge) (s : ℕ) (r : Row) (w : Wiring) : Type 0 where
+  pub found : board p s ≡ Some r
+  pub here : place w.boards s ≡ Some (parts_of version p h r)
+  pub stands : Stands p s r
 
-pub with_row : (version : Version) (p : Plan) (h : List Edge) (s : ℕ) (own r : Row) (e : Edge) (old new : Wiring) → own ≡ r → IsNotedWith version p h s own r e old new → IsNotedByBoard version p h s r e old new
-with_row version p h s own r e old new same n = record {
-  rules = n.rules;
-  slots = n.slots;
-  boards = n.boards;
-  arbiter = n.arbiter;
-  lines = n.lines ∙ ap (λ (x : Row). lines_after old.lines x e.wire e.fall) same;
-  chains = n.chains ∙ ap (λ (x : Row). after_board x e.wire e.fall old.chains) same;
-  shared = n.shared;
-  addressing = n.addressing;
-}
+row_of_parts : (version : Version) (p : Plan) (h : List Edge) (r : Row) (o : Option Row) → Some r ≡ option_map (λ b. b.row) (option_map (parts_of version p h) o) → o ≡ Some r
+row_of_parts version p h r None e = absurd (cc)
+row_of_parts version p h r (Some q) e = let same : q ≡ r = cc in ap (λ (x : Row). Some x) same
+
+pub placed_row : (version : Version) (p : Plan) (h : List Edge) (s : ℕ) (r : Row) (w : Wiring) → IsWiringOf version p h w → Some r ≡ option_map (λ b. b.row) (place w.boards s) → IsRowIn version p h s r w
+placed_row version p h s r w is e =
+    let found = row_of_parts version p h r (board p s) (e ∙ ap (option_map (λ (b : Board). b.row)) (is.boards s)) in
+    record {
+      found = found;
+      here = is.boards s ∙ ap (option_map (parts_of version p h)) found;
+      stands = stands p s r is.accepted found;
+    }
 
 pub none_placed : {X A : Type 0} (f : X → A) (o : Option X) → option_map f o ≡ None → o ≡ None
 none_placed {X} {A} f None e = refl

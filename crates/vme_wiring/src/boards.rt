@@ -81,29 +81,23 @@ impl Board {
         }
     }
 
-    /// The board after an edge that was made while that was shown.
-    pub fn noted(self, edge: Edge, shown: Option<Cycle>) -> Board
-        ensures { (version : VersionValue) (p : Plan) (h : List EdgeValue) (r : RowValue) → self ≡ parts_of version p h r → shown ≡ shown_after p h → result ≡ parts_of version p (edge ∷ h) r }
+    /// Takes in an edge of the board that was made while that was shown.
+    pub fn note(&mut self, edge: Edge, shown: Option<Cycle>)
+        ensures { (version : VersionValue) (p : Plan) (h : List EdgeValue) (r : RowValue) → self.old ≡ parts_of version p h r → shown ≡ shown_after p h → self.new ≡ parts_of version p (edge ∷ h) r }
     {
         match edge.wire {
-            Wire::Br | Wire::BgOut => Board {
-                requester: requester_after(self.requester, edge),
-                ..self
-            },
-            Wire::Bbsy => Board {
-                requester: requester_after(self.requester, edge),
-                master: master_after(self.master, edge),
-                ..self
-            },
-            Wire::Addr | Wire::AddressStrobe | Wire::DataStrobe => Board {
-                master: master_after(self.master, edge),
-                ..self
-            },
-            Wire::Irq | Wire::IackOut | Wire::Dtack => Board {
-                interrupter: interrupter_after(self.interrupter, edge, shown),
-                ..self
-            },
-            Wire::Bg(_) | Wire::Bclr | Wire::Iack | Wire::Berr => self,
+            Wire::Br | Wire::BgOut => self.requester = requester_after(self.requester, edge),
+            Wire::Bbsy => {
+                self.requester = requester_after(self.requester, edge);
+                self.master = master_after(self.master, edge);
+            }
+            Wire::Addr | Wire::AddressStrobe | Wire::DataStrobe => {
+                self.master = master_after(self.master, edge);
+            }
+            Wire::Irq | Wire::IackOut | Wire::Dtack => {
+                self.interrupter = interrupter_after(self.interrupter, edge, shown);
+            }
+            Wire::Bg(_) | Wire::Bclr | Wire::Iack | Wire::Berr => {}
         }
     }
 

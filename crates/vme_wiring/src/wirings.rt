@@ -18,7 +18,7 @@ use crate::boards::Board;
 use crate::chains::Chains;
 use crate::lines::{Lines, addressing_after, shared_after, shared_after_controller};
 use vme_arbiter::{AnyPolicy, Arbiter};
-use vme_model::{BusLevels, Driver, Edge, Levels, Pins, Version};
+use vme_model::{BusLevels, Driver, Edge, Levels, Pins, Row, Version};
 use vme_slots::Plan;
 
 /// What the edges so far lead to, in places of fixed number: the parts of each board by its slot, the controller's, the
@@ -115,8 +115,8 @@ impl Wiring {
     {
         match edge.driver {
             Driver::Controller => self.note_controller(edge),
-            Driver::Slot(slot) => match self.board(slot).copied() {
-                Some(board) => self.note_board(slot, board, edge),
+            Driver::Slot(slot) => match self.row_at(slot) {
+                Some(row) => self.note_board(slot, row, edge),
                 None => {}
             },
         }
@@ -140,25 +140,48 @@ impl Wiring {
         self.shared = shared_after_controller(self.shared, edge);
     }
 
-    /// Takes in an edge of the slot's board.
-    fn note_board(&mut self, slot: u8, board: Board, edge: Edge)
+    /// The row of a slot's board.
+    fn row_at(&self, slot: u8) -> Option<Row>
+        ensures { result ≡ option_map (λ b. b.row) (place self.now.boards slot) }
+    {
+        match self.board(slot) {
+            Some(board) => Some(board.row),
+            None => None,
+        }
+    }
+
+    /// The parts of the slot's board take in its edge.
+    fn note_parts(&mut self, slot: u8, edge: Edge)
         requires slot { slot < 22 }
-        requires request_level { request_level board.row < 4 }
-        requires interrupt_level { interrupt_level board.row < 8 }
-        requires line { is_movable (count_of self.old.lines board.row edge.wire) edge.fall ≡ true }
-        requires chain { CanMove board.row edge.wire edge.fall self.old.chains }
+        ensures rest { self.new ≡ record self.old { boards = self.new.boards } }
+        ensures boards { (version : VersionValue) (p : PlanValue) (h : List EdgeValue) (r : RowValue) → place self.old.boards slot ≡ Some (parts_of version p h r) → self.old.shared.shown ≡ shown p h → self.new.boards ≡ set self.old.boards slot (Some (parts_of version p (edge ∷ h) r)) }
+    {
+        let shown = self.shared.shown;
+        match &mut self.boards[usize::from(slot)] {
+            Some(board) => board.note(edge, shown),
+            None => {}
+        }
+    }
+
+    /// Takes in an edge of the slot's board.
+    fn note_board(&mut self, slot: u8, row: Row, edge: Edge)
+        requires slot { slot < 22 }
+        requires request_level { request_level row < 4 }
+        requires interrupt_level { interrupt_level row < 8 }
+        requires line { is_movable (count_of self.old.lines row edge.wire) edge.fall ≡ true }
+        requires chain { CanMove row edge.wire edge.fall self.old.chains }
         ensures version { self.new.version ≡ self.old.version }
         ensures slots { self.new.slots ≡ self.old.slots }
-        ensures boards { (version : VersionValue) (p : PlanValue) (h : List EdgeValue) (r : RowValue) → board ≡ parts_of version p h r → self.old.shared.shown ≡ shown p h → self.new.boards ≡ set self.old.boards slot (Some (parts_of version p (edge ∷ h) r)) }
+        ensures boards { (version : VersionValue) (p : PlanValue) (h : List EdgeValue) (r : RowValue) → place self.old.boards slot ≡ Some (parts_of version p h r) → self.old.shared.shown ≡ shown p h → self.new.boards ≡ set self.old.boards slot (Some (parts_of version p (edge ∷ h) r)) }
         ensures arbiter { self.new.arbiter ≡ self.old.arbiter }
-        ensures lines { self.new.lines ≡ lines_after self.old.lines board.row edge.wire edge.fall }
-        ensures chains { self.new.chains ≡ after_board board.row edge.wire edge.fall self.old.chains }
+        ensures lines { self.new.lines ≡ lines_after self.old.lines row edge.wire edge.fall }
+        ensures chains { self.new.chains ≡ after_board row edge.wire edge.fall self.old.chains }
         ensures shared { self.new.shared ≡ shared_after self.old.shared self.new.lines edge.wire edge.value }
         ensures addressing { self.new.addressing ≡ addressing_after self.old.addressing slot edge.wire edge.fall }
     {
-        self.boards[usize::from(slot)] = Some(board.noted(edge, self.shared.shown));
-        self.lines.note(&board.row, edge);
-        self.chains.note(&board.row, edge);
+        self.note_parts(slot, edge);
+        self.lines.note(&row, edge);
+        self.chains.note(&row, edge);
         self.shared = shared_after(self.shared, &self.lines, edge);
         self.addressing = addressing_after(self.addressing, slot, edge);
     }
