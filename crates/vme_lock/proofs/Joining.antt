@@ -1,5 +1,6 @@
 -- One worker more.
-use Rattle.std.proofs.Common.{◌≡◌, List, [], ◌∷◌, ◌++◌, length, suc, ap, refl}
+use Rattle.std.proofs.Common.{◌≡◌, ◌<◌, ℕ, List, [], ◌∷◌, ◌++◌, length, suc, set, get_or, ap, refl}
+use Rattle.std.proofs.Math.Seq.{map-set_same}
 use Rattle.vme_model.specs.declared.signals.Driver.{Driver}
 use Rattle.vme_model.specs.declared.signals.Edge.{Edge}
 use Rattle.vme_lock.specs.Seats.{Place, worked, AllWorked, drivers_of}
@@ -28,3 +29,7 @@ same_drivers (x ∷ seats) (y ∷ after) [] all = absurd all
 pub as_many : (seats : List Place) → length (drivers_of seats) ≡ length seats
 as_many [] = refl
 as_many (s ∷ seats) = ap suc (as_many seats)
+
+-- a seat that made edges stays its driver's
+pub drivers_set : (seats : List Place) (i : ℕ) (s : Place) → i < length seats → s.driver ≡ (get_or seats i s).driver → drivers_of (set seats i s) ≡ drivers_of seats
+drivers_set seats i s within same = map-set_same (λ x. x.driver) seats i s s same

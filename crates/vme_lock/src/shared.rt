@@ -39,6 +39,7 @@ impl<L: Rig> Shared<L> {
     ) -> Result<Option<Delivery>, EdgeRefused>
         ensures answer { OfSome L.opened (λ b. result ≡ edge_answer b seat.old edge) }
         ensures seat { MatchResult result (λ _. seat.new ≡ one_more seat.old) (λ _. seat.new ≡ seat.old) }
+        ensures driver { seat.new.driver ≡ seat.old.driver }
     {
         let mut held = self.lock.lock(rt);
         edge_in(&mut *held, seat, edge)
