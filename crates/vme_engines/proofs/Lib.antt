@@ -5,3 +5,5 @@ pub mod Cuts
 pub mod Fronts
 pub mod Opening
 pub mod Starting
+pub mod Checked
+pub mod Driven

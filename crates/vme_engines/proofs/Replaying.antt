@@ -43,7 +43,7 @@ few text head from at reader left es r =
     let bounded : length (head ++ r.later) + 512 * left ≤ 2 ^ 34 = r.bounded in
     omega arith
 
-begins_more : (v : Version) (r : trace.State) (bytes : List ℕ) (es : List Edge) → trace.HasRead r bytes es → r.version ≡ Some v → (more : List ℕ) → Begins (read_of (bytes ++ more)) v es
+pub begins_more : (v : Version) (r : trace.State) (bytes : List ℕ) (es : List Edge) → trace.HasRead r bytes es → r.version ≡ Some v → (more : List ℕ) → Begins (read_of (bytes ++ more)) v es
 begins_more v r bytes es h known more =
     let on = reads_on v r bytes es h known more in record { version = on.2; others = on.0; edges = on.1 }
 

@@ -1,5 +1,7 @@
 pub mod Streams
 pub mod Outcomes
 pub mod Joining
+pub mod Checking
+pub mod Driving
 pub mod Steps
 pub mod Front

@@ -4,7 +4,7 @@ use Rattle.std.specs.Io.KnownBytes.{Appends, Consumes, IsAtEnd}
 use Rattle.vme_model.specs.declared.signals.Version.{Version}
 use Rattle.vme_model.specs.declared.signals.Edge.{Edge}
 use Rattle.vme_model.specs.Plan.{Plan}
-use Rattle.vme_model.specs.Verdict.{State, kept}
+use Rattle.vme_model.specs.Verdict.{State, kept, IsLegal}
 use Rattle.vme_model.specs.Text.{Reading, read_of}
 use Rattle.vme_model.specs.Report.{verdict_lines}
 use Rattle.vme_scenario.specs.Format.{scenario}
@@ -18,7 +18,10 @@ use Rattle.vme_engines.specs.declared.Status.TheVariants.{Done, SomeRefused}
 use Rattle.vme_engines.specs.declared.EngineFault.{EngineFault}
 use Rattle.vme_engines.specs.declared.EngineFault.TheVariants as fault
 use Rattle.vme_engines.specs.Streams.{streams, IsInput}
+use Rattle.vme_engines.specs.declared.checks.Finding.{Finding}
+use Rattle.vme_engines.specs.declared.checks.Finding.TheVariants.{Legal, Illegal}
 use Rattle.vme_engines.specs.Outcomes.{Answer, scenario_limit, bench, Replays}
+use Rattle.vme_engines.specs.Checking.{first_refusal, IsFound, FindsNothing}
 
 -- why there is no plan
 abbrev pub IsNoPlan : List ℕ → EngineFault → Type 0
@@ -110,3 +113,30 @@ ReplaysOn b reader es first left at to old new result =
     (p : Plan) (version : Version) (from : Option (List ℕ)) (text head : List ℕ) → b ≡ bench p version → reader.version ≡ Some version
     → Comes from at text head left reader es first
     → (rest : List ℕ) × IsInput from (text ++ (head ++ rest)) × Replays p text (head ++ rest) (streams from to old new) (traced result)
+
+-- ---- check
+
+-- What the edges of a piece do to a check: `more` is what the read answered.
+abbrev pub ChecksPiece : State → ℕ → List Edge → Result Bool Fault → State → ℕ → Result (Option Finding) Fault → Type 0
+ChecksPiece b judged es more b' judged' (Ok None) =
+    (more ≡ Ok true) × (first_refusal (judged + 1) b es ≡ None) × (b' ≡ kept b es) × (judged' ≡ judged + length es)
+ChecksPiece b judged es more b' judged' (Ok (Some (Illegal n refused))) = first_refusal (judged + 1) b es ≡ Some (n, refused)
+ChecksPiece b judged es more b' judged' (Ok (Some (Legal edges))) =
+    (more ≡ Ok false) × (first_refusal (judged + 1) b es ≡ None) × (b' ≡ kept b es) × (edges ≡ judged + length es)
+    × IsLegal b'.version b'.plan b'.history × (length b'.history ≤ b'.max)
+ChecksPiece b judged es more b' judged' (Err f) = (more ≡ Err f) × (first_refusal (judged + 1) b es ≡ None)
+
+-- What a check finds in a trace, or why nothing.
+abbrev pub Finds : Plan → List ℕ → Option (List ℕ) → Option (List ℕ) → Result Finding Fault → Type 0
+Finds p trace from to (Ok found) = IsFound p (read_of trace) (streams from to None None) found
+Finds p trace from to (Err f) = FindsNothing p trace (streams from to None None) f
+
+-- A check that goes on behind a first read finds what is to be found in the whole trace.
+abbrev pub FindsOn : State → trace.State → List Edge → Result Bool Fault → ℕ → Option (List ℕ) → Option (List ℕ) → Result Finding Fault → Type 0
+FindsOn b reader es first left at to result =
+    (p : Plan) (version : Version) (from : Option (List ℕ)) → b ≡ bench p version → reader.version ≡ Some version
+    → Comes from at [] [] left reader es first → (trace : List ℕ) × IsInput from trace × Finds p trace from to result
+
+-- a check of the whole input
+abbrev pub FindsInput : Plan → Option (List ℕ) → Option (List ℕ) → Result Finding Fault → Type 0
+FindsInput p from to result = (trace : List ℕ) × IsInput from trace × Finds p trace from to result

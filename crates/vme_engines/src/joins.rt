@@ -6,6 +6,7 @@ ghost use Rattle.vme_engines.specs.Streams.{streams};
 ghost use Rattle.vme_engines.specs.Joining.{Joins};
 ghost use Rattle.vme_engines.specs.Front.{IsHeld, IsFront, IsTextOf, Takes, Finds, Starts, JoinsBehind};
 
+use crate::lines::header_line;
 use crate::plans::{history_room, plan_of};
 use crate::replays::replay_on;
 use crate::{EngineFault, READS, SCENARIO_LIMIT, Status};
@@ -47,16 +48,6 @@ fn header_of(line: &[u8]) -> Option<Version>
         Some(Version::Two)
     } else {
         None
-    }
-}
-
-/// The header line of a version, with its line feed.
-fn header_line(version: Version) -> &'static [u8]
-    ensures { result.now ≡ header version ++ 10 ∷ [] }
-{
-    match version {
-        Version::One => b"vme 1\n",
-        Version::Two => b"vme 2\n",
     }
 }
 

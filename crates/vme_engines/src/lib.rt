@@ -3,12 +3,16 @@
 //! They are generic over the reader and the writer. `specs/Outcomes.antt` says what each leaves behind and answers.
 #![tactic(auto)]
 
+mod checks;
+mod drives;
 mod joins;
 mod lines;
 mod plans;
 mod replays;
 mod traces;
 
+pub use checks::check;
+pub use drives::drive;
 pub use joins::joined;
 pub use replays::replay;
 use thiserror::Error;

@@ -6,13 +6,16 @@ ghost use Rattle.vme_model.specs.Verdict.{kept};
 ghost use Rattle.vme_model.specs.Deliveries.{answer};
 ghost use Rattle.vme_model.specs.Report.{delivery_text, verdict_text, verdict_line, verdict_lines};
 ghost use Rattle.vme_trace.specs.Writing.{AppendsFront};
+ghost use Rattle.vme_model.specs.Text.{header};
+ghost use Rattle.vme_engines.specs.Checking.{finding_line};
 ghost use Rattle.vme_engines.specs.Steps.{closing_text};
 
+use crate::checks::Finding;
 use arrayvec::ArrayVec;
 use itoa::Buffer;
 use std::io::Write;
 use vme_backplane::Backplane;
-use vme_model::{Delivery, Edge, Refused};
+use vme_model::{Delivery, Edge, Refused, Version};
 use vme_trace::{Fault, put};
 
 /// Room for any verdict: the longest has 37 bytes.
@@ -128,6 +131,37 @@ fn closing_line(accepted: u64, refused: u64) -> ArrayVec<u8, LINE>
     line
 }
 
+/// The line of a finding.
+fn finding_line(finding: Finding) -> ArrayVec<u8, LINE>
+    ensures { result.items ≡ finding_line finding }
+{
+    let mut line = ArrayVec::new();
+    match finding {
+        Finding::Legal { edges } => {
+            push(&mut line, b"legal ");
+            push_number(&mut line, edges);
+        }
+        Finding::Illegal { n, refused } => {
+            push(&mut line, b"illegal ");
+            push_number(&mut line, n);
+            push(&mut line, b" ");
+            push(&mut line, verdict_text(&Err(refused)).as_slice());
+        }
+    }
+    push(&mut line, b"\n");
+    line
+}
+
+/// The header line of a version, with its line feed.
+pub(crate) fn header_line(version: Version) -> &'static [u8]
+    ensures { result.now ≡ header version ++ 10 ∷ [] }
+{
+    match version {
+        Version::One => b"vme 1\n",
+        Version::Two => b"vme 2\n",
+    }
+}
+
 /// Judges the edges behind the first `judged`, and writes the verdict line of each.
 pub(crate) fn write_verdicts<W: Write>(
     backplane: &mut Backplane,
@@ -169,5 +203,15 @@ pub(crate) fn close<W: Write>(accepted: u64, refused: u64, out: &mut W) -> Resul
     ensures fault { IfErr result (λ fault. fault ≡ Fault.Write) }
 {
     put(out, closing_line(accepted, refused).as_slice())?;
+    flush(out)
+}
+
+/// Writes the line of a finding.
+pub(crate) fn write_finding<W: Write>(finding: Finding, out: &mut W) -> Result<(), Fault>
+    ensures ok { OnOk result (Appends (W.contents out.old) (W.contents out.new) (finding_line finding)) }
+    ensures front { OnErr result (AppendsFront (W.contents out.old) (W.contents out.new) (finding_line finding)) }
+    ensures fault { IfErr result (λ fault. fault ≡ Fault.Write) }
+{
+    put(out, finding_line(finding).as_slice())?;
     flush(out)
 }

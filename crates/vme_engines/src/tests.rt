@@ -1,8 +1,9 @@
 //! What no clause says: the happy path of each engine, and devices that fail.
-use crate::{EngineFault, SCENARIO_LIMIT, Status, joined, replay};
+use crate::{EngineFault, SCENARIO_LIMIT, Status, check, drive, joined, replay};
 use std::io;
 use std::io::{Read, Write};
 use std::test::Fail;
+use vme_model::Version;
 use vme_trace::Fault;
 
 /// Gives a byte per read, and fails at a read.
@@ -271,5 +272,86 @@ fn faults_have_their_texts(rt: HostRuntime) -> Result<(), Fail> {
         let written = format!(in rt.alloc(); "{fault}")?;
         assert!(rt; written.as_str() == text);
     }
+    Ok(())
+}
+
+#[test]
+fn a_tenure_is_legal(rt: HostRuntime) -> Result<(), Fail> {
+    let mut out = Vec::new(rt.alloc());
+    let mut trace = TENURE;
+    assert!(rt; check(rt.alloc(), ONE_BOARD, &mut trace, &mut out) == Ok(Status::Done));
+    assert!(rt; out.as_slice() == b"legal 6\n".as_slice());
+    Ok(())
+}
+
+#[test]
+fn a_check_ends_at_a_refused_edge(rt: HostRuntime) -> Result<(), Fail> {
+    let mut out = Vec::new(rt.alloc());
+    let mut trace: &[u8] = b"vme 1\n3 br-\nc bg3-\n2 bgout-\n2 br-\n2 bbsy-\n3 bbsy-\n4 br-";
+    let answer = check(rt.alloc(), THREE_BOARDS, &mut trace, &mut out);
+    assert!(rt; answer == Ok(Status::SomeRefused));
+    assert!(rt; out.as_slice() == b"illegal 5 E3 G13\n".as_slice());
+    Ok(())
+}
+
+#[test]
+fn a_check_says_nothing_at_a_fault(rt: HostRuntime) -> Result<(), Fail> {
+    let mut out = Vec::new(rt.alloc());
+    let mut cut: &[u8] = b"vme 1\n1 br-\nc bg";
+    let answer = check(rt.alloc(), ONE_BOARD, &mut cut, &mut out);
+    assert!(rt; answer == Err(EngineFault::Trace(Fault::CutOff)));
+    let mut drip = Drip {
+        rest: TENURE,
+        reads: 0,
+        fails_at: 13,
+    };
+    let answer = check(rt.alloc(), ONE_BOARD, &mut drip, &mut out);
+    assert!(rt; answer == Err(EngineFault::Trace(Fault::Read)));
+    assert!(rt; out.is_empty());
+    Ok(())
+}
+
+#[test]
+fn a_full_device_cuts_a_finding(rt: HostRuntime) -> Result<(), Fail> {
+    let mut trace = TENURE;
+    let mut out = Tight {
+        taken: Vec::new(rt.alloc()),
+        room: 5,
+    };
+    let answer = check(rt.alloc(), ONE_BOARD, &mut trace, &mut out);
+    assert!(rt; answer == Err(EngineFault::Trace(Fault::Write)));
+    assert!(rt; out.taken.as_slice() == b"legal".as_slice());
+    Ok(())
+}
+
+#[test]
+fn drives_a_board_to_the_limit(rt: HostRuntime) -> Result<(), Fail> {
+    let mut out = Vec::new(rt.alloc());
+    let answer = drive(rt.alloc(), ONE_BOARD, 8, &mut out, Version::One);
+    assert!(rt; answer == Ok(Status::Limit));
+    let wanted: &[u8] = b"vme 1\n1 br-\nc bg3-\n1 bbsy-\nc bg3+\n1 br+\n1 addr- r1\n1 as-\n1 ds-\n";
+    assert!(rt; out.as_slice() == wanted);
+    Ok(())
+}
+
+#[test]
+fn a_board_without_parts_makes_no_edge(rt: HostRuntime) -> Result<(), Fail> {
+    let scenario: &[u8] = b"slots = 1\narbiter = \"sgl\"\nboard = [{ slot = 1 }]\n";
+    let mut out = Vec::new(rt.alloc());
+    let answer = drive(rt.alloc(), scenario, 8, &mut out, Version::Two);
+    assert!(rt; answer == Ok(Status::Done));
+    assert!(rt; out.as_slice() == b"vme 2\n".as_slice());
+    Ok(())
+}
+
+#[test]
+fn a_full_device_cuts_a_trace(rt: HostRuntime) -> Result<(), Fail> {
+    let mut out = Tight {
+        taken: Vec::new(rt.alloc()),
+        room: 7,
+    };
+    let answer = drive(rt.alloc(), ONE_BOARD, 8, &mut out, Version::One);
+    assert!(rt; answer == Err(EngineFault::Trace(Fault::Write)));
+    assert!(rt; out.taken.as_slice() == b"vme 1\n1".as_slice());
     Ok(())
 }

@@ -7,7 +7,7 @@ ghost use Rattle.vme_model.specs.declared.signals.Edge.{Edge as EdgeValue};
 ghost use Rattle.vme_model.specs.Signals.{is_two};
 ghost use Rattle.vme_model.specs.Sets.{has_bus_level};
 ghost use Rattle.vme_model.specs.Rules.{bus_numbers, may_release, rule};
-ghost use Rattle.vme_requester.specs.Local.{state_of, is_own, low, readings, answer, answer_over};
+ghost use Rattle.vme_requester.specs.Local.{state_of, is_own, low, readings, answer_over};
 
 use std::marker::Model;
 use vme_model::{BusLevels, Driver, Edge, Pins, Refused, Release, RequesterRow, Version, Wire};
@@ -111,8 +111,7 @@ impl Requester {
     /// # Errors
     /// E2 where the wire is in that state, else E3 where the rule's guard fails.
     pub fn may(&self, edge: Edge, pins: Pins, is_address_free: bool) -> Result<(), Refused>
-        ensures answer { is_own edge.wire ≡ true → result ≡ answer self.now.version (readings self.now.slot self.now.row (low self.now) pins is_address_free) edge }
-        ensures over_noted { (noted : List EdgeValue) → self.now ≡ state_of self.now.slot self.now.row self.now.version noted → is_own edge.wire ≡ true → result ≡ answer_over self.now.slot self.now.row self.now.version noted pins is_address_free edge }
+        ensures { (noted : List EdgeValue) → self.now ≡ state_of self.now.slot self.now.row self.now.version noted → is_own edge.wire ≡ true → result ≡ answer_over self.now.slot self.now.row self.now.version noted pins is_address_free edge }
     {
         if self.is_low(edge.wire) == edge.fall {
             return Err(Refused::AlreadyThere);

@@ -1,5 +1,6 @@
 //! A tenure of a requester, and the answers that its rules refuse.
 use crate::Requester;
+use std::test::Fail;
 use vme_model::{
     BusLevels, Driver, Edge, Levels, Pins, Refused, Release, RequesterRow, Version, Wire,
 };
@@ -106,4 +107,18 @@ fn a_release_on_request_waits_for_one(rt: HostRuntime) {
         Err(Refused::Rule(14))
     );
     assert_eq!(rt; requester.may(edge(Wire::Bbsy, false), asked, true), Ok(()));
+}
+
+#[test]
+fn refusals_are_printed(rt: HostRuntime) -> Result<(), Fail> {
+    for (refusal, text) in [
+        (Refused::NoSuchDriver, "E1"),
+        (Refused::AlreadyThere, "E2"),
+        (Refused::Rule(26), "E3 G26"),
+        (Refused::NotSettled(4), "E4 S4"),
+        (Refused::TraceFull, "E5"),
+    ] {
+        assert_eq!(rt; format!(in rt.alloc(); "{refusal}")?.as_str(), text);
+    }
+    Ok(())
 }

@@ -1,16 +1,16 @@
 -- A reader that is fed piece by piece.
-use Rattle.std.proofs.Common.{◌≡◌, ◌≢◌, ℕ, ◌+◌, ◌<◌, ◌≤◌, List, [], ◌∷◌, ◌++◌, length, Bool, true, false, cond, Option, Some, None, is_some, Result, Ok, Err, is_err, OnOk, IfOk, IfErr, subst, option_map, unwrap_or, take, length-take, refl, sym, ◌∙◌, ap, arith, append_assoc, append-nil, inl, inr}
+use Rattle.std.proofs.Common.{◌≡◌, ◌≢◌, ℕ, ◌<◌, ◌≤◌, List, [], ◌++◌, length, Bool, true, false, cond, Option, Some, None, is_some, Result, Ok, Err, is_err, OnOk, IfOk, IfErr, subst, option_map, unwrap_or, take, length-take, refl, sym, ◌∙◌, ap, arith, append_assoc, append-nil, inr}
 use Rattle.std.proofs.lemmas.Option.{same_Some}
 use Rattle.std.specs.Option.{ok_or}
 use Rattle.std.specs.Io.KnownBytes.{Consumes, IsAtEnd, Keeps}
 use Rattle.vme_model.specs.declared.signals.Version.{Version}
 use Rattle.vme_model.specs.declared.signals.Edge.{Edge}
-use Rattle.vme_model.specs.Text.{TextFault, no_header, cut_off, Reading, read_of}
+use Rattle.vme_model.specs.Text.{TextFault, no_header, cut_off, read_of}
 use Rattle.vme_trace.specs.declared.Fault.{Fault}
 use Rattle.vme_trace.specs.declared.Fault.TheVariants.{Memory}
-use Rattle.vme_trace.specs.Reading.{Place, State, fault_of, answer_of, rest_of, with_edges, HasFault, HasRead, Stops, Fed, Pumped, ReadsPiece}
-use Rattle.vme_trace.specs.Taking.{IsOneLine, IsPart, place, Leads, Fails}
-use Rattle.vme_trace.proofs.Lines.{faulty, settled, end_cut, end_absent, end_present, no_bytes}
+use Rattle.vme_trace.specs.Reading.{Place, State, fault_of, answer_of, rest_of, with_edges, HasRead, Stops, Fed, Pumped, ReadsPiece}
+use Rattle.vme_trace.specs.Taking.{IsPart, place, Leads, Fails}
+use Rattle.vme_trace.proofs.Lines.{settled, end_cut, end_absent, end_present, no_bytes}
 use Rattle.vme_trace.proofs.Stepping.{behind_fault}
 
 abbrev pub state : Option Version → Option Place → State

@@ -1,10 +1,9 @@
 -- The guess is right at every line that spells an edge.
-use Rattle.std.proofs.Common.{◌≡◌, ◌≢◌, ◌⊎◌, ◌&&◌, subst, ℕ, suc, zero, ◌+◌, ◌-◌, ◌<◌, ◌≤◌, Bool, true, false, eqb, ltb, leb, cond, IsTrue, List, [], ◌∷◌, ◌++◌, length, map, filter, find, Option, Some, None, refl, sym, ◌∙◌, ap, arith, inl, inr}
-use Rattle.std.proofs.lemmas.Bool.{cases_Bool}
+use Rattle.std.proofs.Common.{◌≡◌, ◌⊎◌, ◌&&◌, subst, ℕ, Bool, true, false, eqb, cond, List, Option, Some, None, refl, sym, ◌∙◌, ap, arith, inl, inr}
 use Rattle.std.proofs.lemmas.Bool.Decides.{nat_tests}
 use Rattle.std.proofs.lemmas.Option.{same_Some}
 use Rattle.std.proofs.lemmas.Slice.Eq.{bytes_eq-Decides}
-use Rattle.std.specs.List.{flat_map, list_all}
+use Rattle.std.specs.List.{list_all}
 use Rattle.std.specs.Str.{bytes_eq}
 use Rattle.vme_model.specs.declared.signals.Driver.{Driver}
 use Rattle.vme_model.specs.declared.signals.Driver.TheVariants.{Controller, Slot}
@@ -14,7 +13,6 @@ use Rattle.vme_model.specs.declared.signals.Cycle.{Cycle}
 use Rattle.vme_model.specs.declared.signals.Cycle.TheVariants.{Acknowledge, Access}
 use Rattle.vme_model.specs.declared.signals.Edge.{Edge}
 use Rattle.vme_model.specs.Signals.{is_same_driver, is_same_wire, is_well_formed}
-use Rattle.vme_model.specs.Plan.{up_to}
 use Rattle.vme_model.specs.Text.{spelling, Spells, all_edges, edge_of}
 use Rattle.vme_trace.specs.Decoding.{guess}
 use Rattle.vme_trace.proofs.Edges.{In, none_some, in_all, find_in, find_none, every_edge, formed}

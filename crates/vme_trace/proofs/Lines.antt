@@ -1,11 +1,9 @@
 -- Reading, line by line.
-use Rattle.std.proofs.Common.{◌≡◌, ◌≢◌, subst, ℕ, suc, zero, ◌+◌, ◌-◌, ◌<◌, ◌≤◌, Bool, true, false, eqb, ltb, cond, List, [], ◌∷◌, ◌++◌, length, take, drop, get_or, Option, Some, None, is_some, refl, sym, ◌∙◌, ap, arith, append_assoc, append-nil, length-append, add-one, inl, inr}
-use Rattle.std.proofs.lemmas.Bool.{cases_Bool}
+use Rattle.std.proofs.Common.{◌≡◌, ◌≢◌, subst, ℕ, suc, zero, ◌+◌, ◌-◌, ◌<◌, ◌≤◌, Bool, true, false, eqb, ltb, cond, List, [], ◌∷◌, ◌++◌, length, take, drop, get_or, Option, Some, None, is_some, refl, sym, ◌∙◌, ap, arith, append_assoc, append-nil, add-one}
 use Rattle.std.proofs.lemmas.Bool.Decides.{nat_tests}
 use Rattle.vme_model.specs.declared.signals.Version.{Version}
-use Rattle.vme_model.specs.declared.signals.Edge.{Edge}
-use Rattle.vme_model.specs.Text.{TextFault, no_header, no_edge, too_long, cut_off, Reading, begin_line, split_lines, is_too_long, next_number, end_fault, before_others, read_lines, unread, behind_header, read_from_header, version_of, edge_of}
-use Rattle.vme_trace.specs.Reading.{Place, rest_of, with_edges}
+use Rattle.vme_model.specs.Text.{TextFault, no_header, too_long, cut_off, Reading, begin_line, split_lines, is_too_long, next_number, before_others, read_lines, behind_header, read_from_header, version_of, edge_of}
+use Rattle.vme_trace.specs.Reading.{rest_of}
 use Rattle.vme_trace.specs.Taking.{IsOneLine, IsPart, place}
 
 pub IsOneLine-append : (a b : List ℕ) → IsOneLine a → IsOneLine b → IsOneLine (a ++ b)

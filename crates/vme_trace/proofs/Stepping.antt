@@ -1,13 +1,13 @@
 -- Steps of a reader, one after the other.
-use Rattle.std.proofs.Common.{◌≡◌, ◌≢◌, ℕ, ◌+◌, ◌<◌, ◌≤◌, Bool, true, false, cond, List, [], ◌∷◌, ◌++◌, length, Option, Some, None, Result, Ok, Err, OnOk, IfErr, option_map, refl, sym, ◌∙◌, ap, arith, append_assoc, append-nil}
+use Rattle.std.proofs.Common.{◌≡◌, ℕ, ◌<◌, ◌≤◌, List, [], ◌∷◌, ◌++◌, length, Option, Some, None, Result, Ok, Err, OnOk, IfErr, refl, sym, ◌∙◌, ap, append_assoc, append-nil}
 use Rattle.vme_model.specs.declared.signals.Version.{Version}
 use Rattle.vme_model.specs.declared.signals.Edge.{Edge}
-use Rattle.vme_model.specs.Text.{TextFault, no_header, no_edge, too_long, cut_off, Reading, split_lines, next_number, read_lines, before_others, version_of, edge_of}
+use Rattle.vme_model.specs.Text.{TextFault, no_header, no_edge, too_long, Reading, split_lines, next_number, read_lines, version_of, edge_of}
 use Rattle.vme_trace.specs.declared.Fault.{Fault}
-use Rattle.vme_trace.specs.declared.Fault.TheVariants.{Header, Line, TooLong, CutOff, Read, Memory, Failed, Write}
+use Rattle.vme_trace.specs.declared.Fault.TheVariants.{Header, Line, TooLong, Memory}
 use Rattle.vme_trace.specs.Reading.{Place, fault_of, rest_of, with_edges, HasFault}
-use Rattle.vme_trace.specs.Taking.{IsOneLine, IsPart, place, Leads, Fails}
-use Rattle.vme_trace.proofs.Lines.{faulty, line_read, whole_line, long_front, rest_part}
+use Rattle.vme_trace.specs.Taking.{IsOneLine, place, Leads, Fails}
+use Rattle.vme_trace.proofs.Lines.{faulty, whole_line, long_front, rest_part}
 
 pub on_ok_map : {A E : Type 0} (r : Result A E) (P Q : Type 0) → (P → Q) → OnOk r P → OnOk r Q
 on_ok_map (Ok a) P Q f h = f h

@@ -5,7 +5,7 @@ use Rattle.vme_model.specs.declared.signals.Version.{Version}
 use Rattle.vme_model.specs.declared.signals.Edge.{Edge}
 use Rattle.vme_model.specs.Text.{TextFault, no_header, no_edge, too_long, cut_off, Reading, split_lines, read_lines, read_from_header, behind_header, read_of}
 use Rattle.vme_trace.specs.declared.Fault.{Fault}
-use Rattle.vme_trace.specs.declared.Fault.TheVariants.{Header, Line, TooLong, CutOff, Read, Memory, Failed, Write}
+use Rattle.vme_trace.specs.declared.Fault.TheVariants.{Header, Line, TooLong, CutOff, Read, Memory}
 
 abbrev pub fault_of : TextFault → Fault
 fault_of no_header = Header
@@ -22,9 +22,6 @@ pub record Place : Type 0 where
 pub record State : Type 0 where
   pub version : Option Version
   pub place : Option Place
-
-abbrev pub at_start : State
-at_start = record { version = None; place = Some (record { line = 1; part = [] }) }
 
 -- what the bytes behind a place say
 abbrev pub rest_of : Option Version → Place → List ℕ → Reading

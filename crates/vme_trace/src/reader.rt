@@ -1,7 +1,7 @@
 //! A reader that is fed a trace in pieces.
 ghost use Rattle.std.specs.Prelude.{◌≡◌, ◌≢◌, ◌↔◌, IsTrue, ◌+◌, ◌<◌, ◌≤◌, ◌++◌, ◌∷◌, [], ℕ, List, length, drop, slice_index, None, Some, Err, Ok, OnOk, OnErr, IfOk, IfErr, IsSome, option_map};
 ghost use Rattle.vme_model.specs.declared.signals.Edge.{Edge};
-ghost use Rattle.vme_model.specs.Text.{read_of, version_of};
+ghost use Rattle.vme_model.specs.Text.{read_of, version_of, next_number};
 ghost use Rattle.vme_trace.specs.Reading.{HasRead, Fed, answer_of, fault_of};
 ghost use Rattle.vme_trace.specs.Taking.{IsOneLine, IsPart, Leads, Fails, place};
 
@@ -163,6 +163,13 @@ fn header_of(line: &[u8]) -> Option<Version>
     }
 }
 
+/// The number of the next line; it stays at its greatest value.
+fn next_number(n: u64) -> u64
+    ensures { result ≡ next_number n }
+{
+    n.saturating_add(1)
+}
+
 /// Reads the n-th line, which is complete.
 fn take_line<A: Allocator>(
     version: &mut Option<Version>,
@@ -193,7 +200,7 @@ fn take_line<A: Allocator>(
             }
         }
     }
-    *n = n.saturating_add(1);
+    *n = next_number(*n);
     Ok(())
 }
 

@@ -1,5 +1,9 @@
 //! What went wrong, as the line on standard error.
+ghost use Rattle.std.specs.Prelude.{◌≡◌, ◌≢◌};
+ghost use Rattle.std.specs.IoError.{error_kind};
+
 use std::fmt;
+use std::io::{Error, ErrorKind};
 use vme_engines::EngineFault;
 
 /// Why the program gave up. Files have the names that the user gave; standard input is `-`.
@@ -9,13 +13,28 @@ pub enum ProgramFault<'a> {
     CannotRead(&'a str),
     /// The scenario of this name has more than 1,048,576 bytes.
     TooLong(&'a str),
-    /// An engine's fault.
+    /// An engine's fault, or want of memory for what the program hands to one.
     Engine(EngineFault),
 }
 
 impl<'a> ProgramFault<'a> {
+    /// A fault of the file of this name: F3 where memory was refused, and else F1.
+    pub fn of_file(name: &'a str, error: &Error) -> Self
+        ensures memory { error_kind error.now ≡ ErrorKind.OutOfMemory → result ≡ ProgramFault.Engine EngineFault.NoMemory }
+        ensures other { error_kind error.now ≢ ErrorKind.OutOfMemory → result ≡ ProgramFault.CannotRead name.entry }
+    {
+        match error.kind() {
+            ErrorKind::OutOfMemory => ProgramFault::Engine(EngineFault::NoMemory),
+            _ => ProgramFault::CannotRead(name),
+        }
+    }
+
     /// An engine's fault, where the scenario has this name.
-    pub fn of_engine(name: &'a str, fault: EngineFault) -> Self {
+    pub fn of_engine(name: &'a str, fault: EngineFault) -> Self
+        ensures unreadable { fault ≡ EngineFault.CannotRead → result ≡ ProgramFault.CannotRead name.entry }
+        ensures long { fault ≡ EngineFault.TooLong → result ≡ ProgramFault.TooLong name.entry }
+        ensures other { fault ≢ EngineFault.CannotRead → fault ≢ EngineFault.TooLong → result ≡ ProgramFault.Engine fault }
+    {
         match fault {
             EngineFault::CannotRead => ProgramFault::CannotRead(name),
             EngineFault::TooLong => ProgramFault::TooLong(name),

@@ -1,42 +1,58 @@
-//! The program: replays the scenario and the trace on its standard input, and answers by its exit status.
+//! The program: reads its words, has an engine do what they ask for, and answers by its exit status.
 //!
-//! 0: all edges were accepted. 1: a fault, one line on standard error. 2: some edge was refused. 3: the limit of edges
-//! was reached.
+//! 0: all edges were accepted, or nobody could make a further one. 1: a fault, one line on standard error. 2: some edge
+//! was refused. 3: the limit of edges was reached.
 #![tactic(auto)]
 
+ghost use Rattle.std.specs.Prelude.{◌≡◌};
+ghost use Rattle.std.specs.Process.{exit_status};
+
 mod faults;
-mod streams;
+mod files;
+mod jobs;
 
-use faults::ProgramFault;
+use jobs::{code_of, run};
 use std::process::ExitCode;
-use streams::{buffered, output};
-use vme_engines::{Status, joined};
+use std::{env, fmt, io};
+use vme_engines::EngineFault;
+use vme_words::words;
 
-/// Replays what stands on standard input.
-fn run(rt: &HostRuntime) -> Result<Status, ProgramFault<'static>> {
-    let mut input = buffered(rt, rt.stdin())?;
-    let mut out = output(rt)?;
-    match joined(rt.alloc(), &mut input, &mut out) {
-        Ok(status) => Ok(status),
-        Err(fault) => Err(ProgramFault::of_engine("-", fault)),
+/// Writes the one line of a fault.
+fn tell<D: fmt::Display + Drop>(rt: &HostRuntime, fault: D) -> ExitCode
+    ensures { exit_status result ≡ 1 }
+{
+    let _ = eprintln!(rt; "vmebus: {fault}");
+    ExitCode::FAILURE
+}
+
+/// Does what the words behind the program's name ask for.
+fn obey(rt: &HostRuntime, given: &[&str]) -> ExitCode {
+    match words(rt.alloc(), given) {
+        Ok(job) => match run(rt, job) {
+            Ok(status) => code_of(status),
+            Err(fault) => tell(rt, fault),
+        },
+        Err(error) => {
+            let _ = eprint!(rt; "{error}");
+            ExitCode::FAILURE
+        }
     }
 }
 
-/// The exit status of a run that met no fault.
-fn code_of(status: Status) -> ExitCode {
-    match status {
-        Status::Done => ExitCode::SUCCESS,
-        Status::SomeRefused => ExitCode::from(2),
-        Status::Limit => ExitCode::from(3),
-    }
+/// Reads the words and obeys them. Errors: they are not text, or there is no memory for them.
+fn start(rt: &HostRuntime) -> io::Result<ExitCode> {
+    let alloc = rt.alloc();
+    let all: Vec<String> = env::args(rt)?.skip(1).collect(alloc)?;
+    let given: Vec<&str> = all.iter().map(String::as_str).collect(alloc)?;
+    Ok(obey(rt, &given))
 }
 
 fn main(rt: HostRuntime) -> ExitCode {
-    match run(&rt) {
-        Ok(status) => code_of(status),
-        Err(fault) => {
-            let _ = eprintln!(rt; "vmebus: {fault}");
-            ExitCode::FAILURE
+    match start(&rt) {
+        Ok(code) => code,
+        Err(error) if error.kind() == io::ErrorKind::OutOfMemory => {
+            tell(&rt, EngineFault::NoMemory)
         }
+        Err(error) => tell(&rt, error),
     }
 }

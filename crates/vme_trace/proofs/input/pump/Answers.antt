@@ -1,4 +1,4 @@
-use Rattle.std.proofs.Common.{rules, arith, sym, ◌∙◌, ◌≡◌, Err, Ok}
+use Rattle.std.proofs.Common.{sym, ◌∙◌}
 use Rattle.std.proofs.lemmas.Result.{err_from_is_err_and}
 use Rattle.vme_trace.proofs.Feeding.{pumped_end, pumped_end_fault, pumped_fault}
 use Rattle.vme_trace.proofs.input.pump.Goals as goal

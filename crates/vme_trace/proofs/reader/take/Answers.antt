@@ -1,4 +1,4 @@
-use Rattle.std.proofs.Common.{rules, arith}
+use Rattle.std.proofs.Common.{arith}
 use Rattle.std.proofs.lemmas.Result.{err_from_is_err_and}
 use Rattle.vme_trace.proofs.Lines.{no_bytes}
 use Rattle.vme_trace.proofs.Stepping.{taken_none, taken_more, taken_all, taken_fault}

@@ -1,5 +1,5 @@
-use Rattle.std.proofs.Common.{◌≡◌, List, ℕ, length, ◌++◌}
-use Rattle.vme_trace.specs.Taking.{IsPart, Leads, place}
+use Rattle.std.proofs.Common.{length}
+use Rattle.vme_trace.specs.Taking.{IsPart, place}
 use Rattle.vme_trace.proofs.Stepping.{Taken}
 use Rattle.vme_trace.proofs.reader.take.Given as goal
 

@@ -1,4 +1,4 @@
-use Rattle.std.proofs.Common.{rules, arith, ◌≡◌, ◌≤◌, ◌<◌, ◌+◌, ◌-◌, ◌++◌, ◌∷◌, [], length, length-append, refl, sym, append-nil, take, drop}
+use Rattle.std.proofs.Common.{rules, arith, ◌≡◌, ◌++◌, [], length-append, sym, append-nil}
 use Rattle.std.proofs.lemmas.Result.{err_from_is_err_and}
 use Rattle.vme_trace.proofs.Lines.{IsOneLine-append, IsOneLine-front, IsOneLine-whole, cut, nothing_behind}
 use Rattle.vme_trace.proofs.Stepping.{too_long_at, fault_before, kept}

@@ -1,4 +1,4 @@
-use Rattle.std.proofs.Common.{rules, arith, sym, ◌∙◌, ◌≡◌, ◌≤◌, true, false, refl, append-nil, ◌++◌, [], ◌∷◌, length, Some, None}
+use Rattle.std.proofs.Common.{rules, arith, sym, ◌∙◌, ◌≡◌, refl, ◌++◌, [], ◌∷◌}
 use Rattle.vme_trace.proofs.Stepping.{too_long_at, header_read, header_refused, edge_read, edge_refused, edge_lost}
 use Rattle.vme_trace.proofs.reader.take_line.Goals as goal
 use Rattle.vme_trace.proofs.reader.take_line.Goals.{in-None+in-Some-header_of, in-Some+in-Some-edge_of+else-is_err}
@@ -22,10 +22,10 @@ pub returns-clause-ok : goal.returns-clause-ok
 returns-clause-ok g c =
     elim c.match-version.branch [
       | in-None+in-Some-header_of w ↦
-          rw (w.version-is, w.edges-is, c.saturating_add.ensures)
+          rw (w.version-is, w.edges-is, c.next_number.ensures)
           (header_read _ c.args.line.now c.requires (grind arith) _ _ _ w.in-None.is (sym w.header_of.ensures ∙ w.in-Some-header_of.is))
       | in-Some+in-Some-edge_of+else-is_err w ↦
           let items : w.push.new.self.items ≡ c.args.edges.now.items ++ w.in-Some-edge_of.edge ∷ [] = search rules in
-          rw (w.version-is, w.edges-is, c.saturating_add.ensures, items)
+          rw (w.version-is, w.edges-is, c.next_number.ensures, items)
           (edge_read _ c.args.line.now c.requires (grind arith) _ _ _ w.in-Some.is _ (sym w.edge_of.ensures ∙ w.in-Some-edge_of.is))
     ]

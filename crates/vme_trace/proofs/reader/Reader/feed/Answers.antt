@@ -1,4 +1,4 @@
-use Rattle.std.proofs.Common.{rules, arith}
+use Rattle.std.proofs.Common.{arith}
 use Rattle.vme_trace.proofs.Feeding.{standing, fed_ok_any, fed_fault_any}
 use Rattle.vme_trace.proofs.reader.Reader.feed.Goals as goal
 

@@ -1,4 +1,4 @@
-use Rattle.std.proofs.Common.{rules, arith, sym, ◌∙◌, ap, not, length, ◌≡◌, ◌<◌}
+use Rattle.std.proofs.Common.{arith, sym, ◌∙◌, ap, not}
 use Rattle.vme_trace.specs.Reading.{answer_of}
 use Rattle.vme_trace.proofs.Feeding.{standing, ends_cut, ends_none, ends_whole}
 use Rattle.vme_trace.proofs.reader.Reader.finish.Goals as goal

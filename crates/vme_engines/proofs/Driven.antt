@@ -1,0 +1,242 @@
+-- The rounds of a drive, and the lines of what it made.
+use Rattle.std.proofs.Common.{◌≡◌, ◌≢◌, ◌⊎◌, inl, inr, ℕ, zero, suc, ◌+◌, ◌<◌, ◌≤◌, ◌%◌, List, [], ◌∷◌, ◌++◌, length, map, is_some, Ok, Err, Bool, true, false, drop, filter, Option, Some, None, refl, sym, ◌∙◌, ap, append_assoc, append-nil, subst, arith, reverse, IsTrue, All, is_ok, slice_get, ◌==◌, if◌then◌else◌, eq-eqb, ne_eqb, add-one}
+use mathlib.Core.List.{reverse-cons}
+use Rattle.std.specs.List.{flat_map}
+use Rattle.std.specs.Option.{option_map_or}
+use Rattle.std.proofs.lemmas.List.{map-append, length-append}
+use Rattle.std.proofs.lemmas.List.Elements.{filter-append}
+use Rattle.std.proofs.lemmas.Option.{get_or_from_slice_get, slice_get_within}
+use Rattle.std.proofs.lemmas.List.Elements.{All-get_or, All-nil, All-push}
+use Rattle.std.proofs.Math.Seq.{drop-length}
+use Rattle.std.proofs.lemmas.List.{drop_more}
+use Rattle.std.specs.Io.KnownBytes.{Appends}
+use Rattle.std.proofs.KnownBytes.{Appends-trans, Appends-nil}
+use Rattle.vme_model.specs.declared.refusals.Refused.TheVariants.{NoSuchDriver}
+use Rattle.vme_model.specs.declared.signals.Version.{Version}
+use Rattle.vme_model.specs.declared.signals.Driver.{Driver}
+use Rattle.vme_model.specs.declared.signals.Driver.TheVariants.{Controller, Slot}
+use Rattle.vme_model.specs.declared.signals.Edge.{Edge}
+use Rattle.vme_model.specs.Plan.{Plan, board, up_to, drivers, has_driver}
+use Rattle.vme_model.specs.History.{in_order}
+use Rattle.vme_model.specs.Safe.{IsSafe}
+use Rattle.vme_model.specs.Signals.{is_well_formed}
+use Rattle.vme_model.specs.Verdict.{State, verdict, after, made, IsLegal}
+use Rattle.vme_model.specs.Offers.{wires, considered, offered, turn, turns, rounds_from, rounds}
+use Rattle.vme_model.specs.Text.{edge_lines, text}
+use Rattle.vme_trace.specs.declared.Fault.{Fault}
+use Rattle.vme_trace.specs.declared.Fault.TheVariants.{Write}
+use Rattle.vme_trace.specs.Writing.{AppendsFront, edge_line}
+use Rattle.vme_engines.specs.declared.Status.{Status}
+use Rattle.vme_engines.specs.declared.Status.TheVariants.{Done, Limit}
+use Rattle.vme_engines.specs.declared.EngineFault.TheVariants as fault
+use Rattle.vme_scenario.specs.Format.{scenario}
+use Rattle.vme_engines.specs.Outcomes.{bench}
+use Rattle.vme_engines.specs.Driving.{driven, driven_text, Drives, DrivesSafely}
+use Rattle.vme_model.proofs.Bools.{and_left}
+use Rattle.vme_model.proofs.Passed.{checked}
+use Rattle.vme_engines.proofs.Writing.{front_of_more, front_behind}
+
+-- ---- a turn
+
+turn_when : (t : Bool) (b : State) (o : Option Edge) → t ≡ true → (if t then b else option_map_or (made b) o b) ≡ b
+turn_when t b o e = rw e refl
+
+-- enough edges were made
+pub turn_enough : (r n : ℕ) (b : State) (d : Driver) → length b.history ≡ n → b ≡ turn r n b d
+turn_enough r n b d e = sym (turn_when (length b.history == n) b _ (eq-eqb (length b.history) n e))
+
+turn_else : (t : Bool) (b : State) (o : Option Edge) → o ≡ None → (if t then b else option_map_or (made b) o b) ≡ b
+turn_else true b o e = refl
+turn_else false b o e = rw e refl
+
+-- nothing is offered
+pub turn_none : (r n : ℕ) (b : State) (d : Driver) → slice_get (offered b d) (r % length (offered b d)) ≡ None → b ≡ turn r n b d
+turn_none r n b d e = sym (turn_else (length b.history == n) b (slice_get (offered b d) (r % length (offered b d))) e)
+
+-- an edge that is kept by a test passes it
+passes_at : (test : Edge → Bool) (t : Bool) (e x : Edge) (rest : List Edge) → test e ≡ t → ((i : ℕ) → slice_get rest i ≡ Some x → test x ≡ true)
+    → (i : ℕ) → slice_get (if t then e ∷ rest else rest) i ≡ Some x → test x ≡ true
+passes_at test true e x rest is later zero h = (let same : e ≡ x = cc in ap test (sym same) ∙ is)
+passes_at test true e x rest is later (suc i) h = later i h
+passes_at test false e x rest is later i h = later i h
+
+passes : (test : Edge → Bool) (es : List Edge) (x : Edge) (i : ℕ) → slice_get (filter test es) i ≡ Some x → test x ≡ true
+passes test [] x i h = absurd cc
+passes test (e ∷ es) x i h = passes_at test (test e) e x (filter test es) refl (passes test es x) i h
+
+turn_some : (t : Bool) (b : State) (o : Option Edge) (e : Edge) → t ≡ false → o ≡ Some e → (if t then b else option_map_or (made b) o b) ≡ made b e
+turn_some t b o e f is = rw (f, is) refl
+
+after_ok : (t : Bool) (b : State) (e : Edge) → t ≡ true → (if t then made b e else b) ≡ made b e
+after_ok t b e is = rw is refl
+
+-- an offer is made
+pub turn_made : (r n : ℕ) (b : State) (d : Driver) (e : Edge) → length b.history ≢ n → slice_get (offered b d) (r % length (offered b d)) ≡ Some e → after b e ≡ turn r n b d
+turn_made r n b d e less is =
+    let ok = passes (λ e. is_ok (verdict b e)) (flat_map (considered b.plan b.history d) (wires d)) e (r % length (offered b d)) is in
+    after_ok (is_ok (verdict b e)) b e ok ∙ sym (turn_some (length b.history == n) b _ e (ne_eqb (length b.history) n less) is)
+
+-- the drivers up to a slot
+abbrev pub drivers_to : Plan → ℕ → List Driver
+drivers_to p n = Controller ∷ map (λ s. Slot s) (filter (λ s. is_some (board p s)) (up_to n))
+
+next_driver : (p : Plan) (n : ℕ) (t : Bool) → is_some (board p (suc n)) ≡ t → drivers_to p (suc n) ≡ (if t then drivers_to p n ++ Slot (suc n) ∷ [] else drivers_to p n)
+next_driver p n true is = rw (filter-append, is, map-append) refl
+next_driver p n false is = rw (filter-append, is, append-nil) refl
+
+next_driver_at : (p : Plan) (n m : ℕ) (t : Bool) → suc n ≡ m → is_some (board p m) ≡ t → drivers_to p m ≡ (if t then drivers_to p n ++ Slot m ∷ [] else drivers_to p n)
+next_driver_at p n m t e = subst (λ (k : ℕ). is_some (board p k) ≡ t → drivers_to p k ≡ (if t then drivers_to p n ++ Slot k ∷ [] else drivers_to p n)) e (next_driver p n t)
+
+-- a list of the drivers up to a slot, and the next slot
+pub with_driver : (p : Plan) (n : ℕ) (old new : List Driver) → is_some (board p (n + 1)) ≡ true → old ≡ drivers_to p n → new ≡ old ++ Slot (n + 1) ∷ [] → length old ≤ n + 1
+    → (new ≡ drivers_to p (n + 1)) × (length new ≤ n + 1 + 1)
+with_driver p n old new some all is few =
+    let longer : length new ≡ length old + 1 = ap length is ∙ length-append old (Slot (n + 1) ∷ []) in
+    (is ∙ ap (λ l. l ++ Slot (n + 1) ∷ []) all ∙ sym (next_driver_at p n (n + 1) true (sym (add-one n)) some), omega arith)
+
+pub without_driver : (p : Plan) (n : ℕ) (old : List Driver) → is_some (board p (n + 1)) ≡ false → old ≡ drivers_to p n → length old ≤ n + 1 → (old ≡ drivers_to p (n + 1)) × (length old ≤ n + 1 + 1)
+without_driver p n old none all few = (all ∙ sym (next_driver_at p n (n + 1) false (sym (add-one n)) none), omega arith)
+
+-- ---- rounds
+
+-- the backplane as it was, or one that grew
+pub record IsLater (b c : State) : Type 0 where
+  pub version : c.version ≡ b.version
+  pub plan : c.plan ≡ b.plan
+  pub grown : (c ≡ b) ⊎ (length b.history < length c.history)
+
+same_later : (b : State) → IsLater b b
+same_later b = record { version = refl; plan = refl; grown = inl refl }
+
+later_made : (b : State) (o : Option Edge) → IsLater b (option_map_or (made b) o b)
+later_made b None = same_later b
+later_made b (Some e) = record { version = refl; plan = refl; grown = inr (omega arith) }
+
+later_turn : (t : Bool) (b : State) (o : Option Edge) → IsLater b (if t then b else option_map_or (made b) o b)
+later_turn true b o = same_later b
+later_turn false b o = later_made b o
+
+later_still : (b c d : State) → IsLater b c → IsLater c d → IsLater b d
+later_still b c d f g = record {
+  version = g.version ∙ f.version;
+  plan = g.plan ∙ f.plan;
+  grown = elim f.grown [
+    | inl e ↦ elim g.grown [ inl k ↦ inl (k ∙ e) | inr k ↦ inr (subst (λ (s : State). length s.history < length d.history) e k) ]
+    | inr e ↦ elim g.grown [ inl k ↦ inr (subst (λ (s : State). length b.history < length s.history) (sym k) e) | inr k ↦ inr (omega arith) ]
+  ];
+}
+
+pub later : (r n : ℕ) (b : State) (ds : List Driver) → IsLater b (turns r n b ds)
+later r n b [] = same_later b
+later r n b (d ∷ ds) = later_still b (turn r n b d) (turns r n (turn r n b d) ds) (later_turn (length b.history == n) b _) (later r n (turn r n b d) ds)
+
+-- no more edges: nothing changed
+pub same_length : (b c : State) → IsLater b c → length c.history ≡ length b.history → c ≡ b
+same_length b c h e = elim h.grown [ inl same ↦ same | inr grew ↦ absurd (omega arith) ]
+
+round_when : (t : Bool) (b c : State) → t ≡ true → (if t then b else c) ≡ b
+round_when t b c e = rw e refl
+
+round_else : (t : Bool) (b c : State) → t ≡ false → (if t then b else c) ≡ c
+round_else t b c e = rw e refl
+
+module _ (r n left : ℕ) (b next : State) (all : List Driver) (are : all ≡ drivers b.plan) (is : next ≡ turns r n b all) where
+  here : next ≡ turns r n b (drivers b.plan)
+  here = is ∙ ap (turns r n b) are
+
+  pub last_round : length next.history ≡ length b.history → next ≡ rounds_from (suc left) r n b
+  last_round e =
+      let same : next ≡ b = same_length b next (subst (IsLater b) (sym is) (later r n b all)) e in
+      let none : length (turns r n b (drivers b.plan)).history ≡ length b.history = ap (λ s. length s.history) (sym here) ∙ e in
+      same ∙ sym (round_when (length (turns r n b (drivers b.plan)).history == length b.history) b _ (eq-eqb _ _ none))
+
+  pub next_round : length next.history ≢ length b.history → rounds_from (suc left) r n b ≡ rounds_from left (r + 1) n next
+  next_round ne =
+      let some : length (turns r n b (drivers b.plan)).history ≢ length b.history = λ e. ne (ap (λ s. length s.history) here ∙ e) in
+      round_else (length (turns r n b (drivers b.plan)).history == length b.history) b _ (ne_eqb _ _ some)
+      ∙ ap (rounds_from left (r + 1) n) (sym here)
+
+  pub plan_stays : next.plan ≡ b.plan
+  plan_stays = ap (λ s. s.plan) is ∙ (later r n b all).plan
+
+later_round : (t : Bool) (b c d : State) → IsLater b c → IsLater c d → IsLater b (if t then b else d)
+later_round true b c d f g = same_later b
+later_round false b c d f g = later_still b c d f g
+
+rounds_later : (left r n : ℕ) (b : State) → IsLater b (rounds_from left r n b)
+rounds_later zero r n b = same_later b
+rounds_later (suc left) r n b =
+    let next = turns r n b (drivers b.plan) in
+    later_round (length next.history == length b.history) b next (rounds_from left (r + 1) n next) (later r n b (drivers b.plan)) (rounds_later left (r + 1) n next)
+
+-- ---- what a drive leaves
+
+module _ (p : Plan) (version : Version) (n : ℕ) (b : State) (is : b ≡ rounds (bench p version) n) where
+  grew : IsLater (bench p version) b
+  grew = subst (IsLater (bench p version)) (sym is) (rounds_later n 0 n (bench p version))
+
+  history_is : b.history ≡ driven p version n
+  history_is = ap (λ s. s.history) is
+
+  text_is : text b.version (in_order b.history) ≡ driven_text p version n
+  text_is = ap (λ v. text v (in_order b.history)) grew.version ∙ ap (λ h. text version (in_order h)) history_is
+
+  pub drives_done : (old new : Option (List ℕ)) (status : Status) → Appends old new (text b.version (in_order b.history)) → IsLegal b.version b.plan b.history
+      → status ≡ (if length b.history == n then Limit else Done) → Drives version n old new p (Ok status)
+  drives_done old new status w legal ends = (
+    subst (Appends old new) text_is w,
+    subst (IsLegal version p) history_is (subst (λ (q : Plan). IsLegal version q b.history) grew.plan (subst (λ (v : Version). IsLegal v b.plan b.history) grew.version legal)),
+    ends ∙ ap (λ h. if length h == n then Limit else Done) history_is,
+  )
+
+  pub drives_cut : (old new : Option (List ℕ)) (f : Fault) → f ≡ Write → AppendsFront old new (text b.version (in_order b.history)) → Drives version n old new p (Err (fault.Trace f))
+  drives_cut old new f e w = (e, subst (AppendsFront old new) text_is w)
+
+  pub drives_safely : (old : List ℕ) → scenario old ≡ Ok p → IsSafe b.plan b.history → DrivesSafely old version n
+  drives_safely old read safe = (p, read, subst (IsSafe p) history_is (subst (λ (q : Plan). IsSafe q b.history) grew.plan safe))
+
+-- ---- the lines of a legal list
+
+-- each edge of a legal list is well formed
+all_well_formed : (version : Version) (p : Plan) (h : List Edge) → IsLegal version p h → All (λ e. IsTrue (is_well_formed e)) (reverse h)
+all_well_formed version p [] l = All-nil (λ e. IsTrue (is_well_formed e))
+all_well_formed version p (e ∷ h) l =
+    let one : is_well_formed e ≡ true = and_left (is_well_formed e) (has_driver p e.driver e.wire) (checked _ NoSuchDriver _ l.0).0 in
+    subst (All (λ e. IsTrue (is_well_formed e))) (sym (reverse-cons e h)) (All-push (λ e. IsTrue (is_well_formed e)) (reverse h) e (all_well_formed version p h l.1) one)
+
+pub well_formed_at : (version : Version) (p : Plan) (h : List Edge) (i : ℕ) (e : Edge) → IsLegal version p h → slice_get (reverse h) i ≡ Some e → IsTrue (is_well_formed e)
+well_formed_at version p h i e l at =
+    subst (λ (x : Edge). IsTrue (is_well_formed x)) (get_or_from_slice_get (reverse h) i e e at)
+    (All-get_or (λ e. IsTrue (is_well_formed e)) (reverse h) i e (slice_get_within (reverse h) i e at) (all_well_formed version p h l))
+
+-- In the loop over the edges: the lines of those before the rest were written.
+pub record HasListed (a b : Option (List ℕ)) (es rest : List Edge) : Type 0 where
+  pub front : List ℕ
+  pub lines : edge_lines es ≡ front ++ edge_lines rest
+  pub wrote : Appends a b front
+
+pub none_listed : (a : Option (List ℕ)) (es : List Edge) → HasListed a a es es
+none_listed a es = record { front = []; lines = refl; wrote = Appends-nil a }
+
+module _ (a b c : Option (List ℕ)) (i : ℕ) (es : List Edge) (e : Edge) (x : List ℕ) (run : HasListed a b es (drop i es)) (at : slice_get es i ≡ Some e) (is : x ≡ edge_line e) where
+  whole : edge_lines es ≡ run.front ++ (x ++ edge_lines (drop (i + 1) es))
+  whole =
+      run.lines ∙ ap (λ l. run.front ++ edge_lines l) (drop_more es i e (slice_get_within es i e at))
+      ∙ ap (λ d. run.front ++ (edge_line d ++ edge_lines (drop (i + 1) es))) (get_or_from_slice_get es i e e at)
+      ∙ ap (λ l. run.front ++ (l ++ edge_lines (drop (i + 1) es))) (sym is)
+
+  pub listed_more : Appends b c x → HasListed a c es (drop (i + 1) es)
+  listed_more w = record {
+    front = run.front ++ x;
+    lines = whole ∙ sym (append_assoc run.front x _);
+    wrote = Appends-trans a b c run.front x run.wrote w;
+  }
+
+  pub listed_front : AppendsFront b c x → AppendsFront a c (edge_lines es)
+  listed_front w = rw whole (front_behind a b c run.front _ run.wrote (front_of_more b c x _ w))
+
+pub listed_all : (a b : Option (List ℕ)) (es : List Edge) → HasListed a b es (drop (length es) es) → Appends a b (edge_lines es)
+listed_all a b es run =
+    let none : drop (length es) es ≡ [] = drop-length es in
+    let all : edge_lines es ≡ run.front = run.lines ∙ ap (λ l. run.front ++ edge_lines l) none ∙ append-nil run.front in
+    rw all run.wrote

@@ -1,0 +1,9 @@
+use Rattle.std.proofs.Common.{◌≡◌, ◌+◌, drop}
+use Rattle.vme_engines.proofs.Checked.{HasPassed}
+use Rattle.vme_engines.proofs.checks.first_refused.Given as goal
+
+abbrev pub invariant-loop-edge : goal.invariant-loop-edge
+invariant-loop-edge l = record {
+  number : l.n ≡ l.judged + l.edge-index;
+  run : HasPassed l.fn.backplane (l.judged + 1) l.edges l.backplane (l.n + 1) (drop l.edge-index l.edges);
+}

@@ -1,0 +1,91 @@
+-- What a check of a trace finds, writes and answers.
+use Rattle.std.specs.Prelude.{◌≡◌, ◌≤◌, ◌⊎◌, ◌+◌, ◌++◌, ◌∷◌, [], ℕ, List, length, reverse, codes, decimal, Option, Some, None, Ok, Err}
+use Rattle.vme_model.specs.declared.refusals.Refused.{Refused}
+use Rattle.vme_model.specs.declared.signals.Version.{Version}
+use Rattle.vme_model.specs.declared.signals.Edge.{Edge}
+use Rattle.vme_model.specs.Plan.{Plan}
+use Rattle.vme_model.specs.Verdict.{State, Judgement, verdict, after, IsLegal}
+use Rattle.vme_model.specs.Safe.{IsSafe}
+use Rattle.vme_model.specs.Text.{Reading, read_of}
+use Rattle.vme_model.specs.Report.{verdict_text, trace_limit}
+use Rattle.vme_scenario.specs.Format.{scenario}
+use Rattle.vme_trace.specs.declared.Fault.{Fault}
+use Rattle.vme_trace.specs.declared.Fault.TheVariants.{Header, Line, TooLong, CutOff, Read, Memory, Failed, Write}
+use Rattle.vme_engines.specs.declared.Status.{Status}
+use Rattle.vme_engines.specs.declared.Status.TheVariants.{Done, SomeRefused}
+use Rattle.vme_engines.specs.declared.EngineFault.TheVariants as fault
+use Rattle.vme_engines.specs.declared.checks.Finding.{Finding}
+use Rattle.vme_engines.specs.declared.checks.Finding.TheVariants.{Legal, Illegal}
+use Rattle.vme_engines.specs.Streams.{Streams, IsInput, HasRead, IsReadOut, Wrote, WroteFront, WroteNothing}
+use Rattle.vme_engines.specs.Outcomes.{Answer, bench, HasFault}
+
+-- ---- the first refusal
+
+abbrev pub or_refusal : ℕ → Judgement → Option (ℕ × Refused) → Option (ℕ × Refused)
+or_refusal n (Ok _) later = later
+or_refusal n (Err refused) later = Some (n, refused)
+
+-- the first edge that is refused, and why; the edges are counted from n
+abbrev pub first_refusal : ℕ → State → List Edge → Option (ℕ × Refused)
+first_refusal n b [] = None
+first_refusal n b (e ∷ es) = or_refusal n (verdict b e) (first_refusal (n + 1) (after b e) es)
+
+-- the first refusal among edges, whose trace names its version before the first of them
+abbrev pub refusal_of : Plan → Option Version → List Edge → Option (ℕ × Refused)
+refusal_of p None es = None
+refusal_of p (Some version) es = first_refusal 1 (bench p version) es
+
+abbrev pub IsUnrefused : Plan → Reading → Type 0
+IsUnrefused p r = refusal_of p r.version r.edges ≡ None
+
+-- ---- findings
+
+-- A whole trace of which no edge is refused: its edges are a legal list of its version, and are few enough to be kept.
+pub record IsLegalTrace (p : Plan) (r : Reading) : Type 0 where
+  pub version : Version
+  pub named : r.version ≡ Some version
+  pub whole : r.fault ≡ None
+  pub unrefused : IsUnrefused p r
+  pub legal : IsLegal version p (reverse r.edges)
+  pub fits : length r.edges ≤ trace_limit
+
+-- What a check finds in a trace.
+abbrev pub IsFound : Plan → Reading → Streams → Finding → Type 0
+IsFound p r s (Legal edges) = IsLegalTrace p r × (edges ≡ length r.edges) × IsReadOut s
+IsFound p r s (Illegal n refused) = refusal_of p r.version r.edges ≡ Some (n, refused)
+
+-- the line of a finding
+abbrev pub finding_line : Finding → List ℕ
+finding_line (Legal edges) = (codes "legal " ++ decimal edges) ++ 10 ∷ []
+finding_line (Illegal n refused) = (((codes "illegal " ++ decimal n) ++ codes " ") ++ verdict_text (Err refused)) ++ 10 ∷ []
+
+abbrev pub finding_status : Finding → Status
+finding_status (Legal edges) = Done
+finding_status (Illegal n refused) = SomeRefused
+
+-- Why nothing is found: no edge before the fault is refused. X1 to X4: of the trace. X5: of what was read. X6: of the
+-- edges that found room.
+abbrev pub FindsNothing : Plan → List ℕ → Streams → Fault → Type 0
+FindsNothing p trace s Header = HasFault trace Header × IsUnrefused p (read_of trace)
+FindsNothing p trace s (Line n) = HasFault trace (Line n) × IsUnrefused p (read_of trace)
+FindsNothing p trace s (TooLong n) = HasFault trace (TooLong n) × IsUnrefused p (read_of trace)
+FindsNothing p trace s CutOff = HasFault trace CutOff × IsUnrefused p (read_of trace)
+FindsNothing p trace s Read = (bytes : List ℕ) × HasRead s bytes × IsUnrefused p (read_of bytes)
+FindsNothing p trace s Memory = (es : List Edge) × (others : List Edge) × ((read_of trace).edges ≡ es ++ others) × (refusal_of p (read_of trace).version es ≡ None)
+FindsNothing p trace s Failed = ⊥
+FindsNothing p trace s Write = ⊥
+
+-- What a check of a trace on a plan leaves: the line of what it found, at X8 a front of it; where it finds nothing, nothing.
+abbrev pub Checks : Plan → List ℕ → Streams → Answer → Type 0
+Checks p trace s (Ok status) = (found : Finding) × IsFound p (read_of trace) s found × (status ≡ finding_status found) × Wrote s (finding_line found)
+Checks p trace s (Err (fault.Trace f)) =
+    (FindsNothing p trace s f × WroteNothing s) ⊎ ((f ≡ Write) × (found : Finding) × IsFound p (read_of trace) s found × WroteFront s (finding_line found))
+Checks p trace s (Err _) = ⊥
+
+-- a check of the whole input
+abbrev pub ChecksInput : Streams → Plan → Answer → Type 0
+ChecksInput s p answer = (trace : List ℕ) × IsInput s.from trace × Checks p trace s answer
+
+-- The edges of the whole input are a safe list.
+abbrev pub IsSafeInput : List ℕ → Option (List ℕ) → Type 0
+IsSafeInput text from = (p : Plan) × (trace : List ℕ) × (scenario text ≡ Ok p) × IsInput from trace × IsSafe p (reverse (read_of trace).edges)

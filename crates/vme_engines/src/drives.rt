@@ -1,0 +1,161 @@
+//! Letting the drivers of a backplane make edges in turn.
+ghost use Rattle.std.specs.Prelude.{◌≡◌, ◌==◌, ◌%◌, OnOk, OnErr, IfErr, is_some, length, slice_get, if◌then◌else◌};
+ghost use Rattle.std.specs.Io.KnownBytes.{Appends, Keeps};
+ghost use Rattle.vme_model.specs.Plan.{board, drivers};
+ghost use Rattle.vme_model.specs.History.{in_order};
+ghost use Rattle.vme_model.specs.Offers.{turn, turns, rounds};
+ghost use Rattle.vme_model.specs.Text.{text, edge_lines};
+ghost use Rattle.vme_trace.specs.Writing.{AppendsFront};
+ghost use Rattle.vme_engines.specs.Outcomes.{Lent};
+ghost use Rattle.vme_engines.specs.declared.Status.TheVariants.{Done, Limit};
+ghost use Rattle.vme_engines.specs.Driving.{Drives, DrivesSafely};
+
+use crate::lines::{flush, header_line};
+use crate::plans::{history_room, plan_of};
+use crate::{EngineFault, Status};
+use arrayvec::ArrayVec;
+use std::alloc::Global;
+use std::io::Write;
+use vme_backplane::Backplane;
+use vme_model::{Driver, Edge, Version};
+use vme_slots::Plan;
+use vme_trace::{Fault, line_of, put};
+
+/// The most drivers of a plan: the controller and 21 boards.
+const DRIVERS: usize = 22;
+
+/// Whether there is a board in the slot.
+fn has_board(plan: &Plan, slot: u8) -> bool
+    ensures { result ≡ is_some (board plan.now slot) }
+{
+    plan.row(slot).is_some()
+}
+
+/// The drivers of a plan: the controller, then each board by slot.
+fn drivers_of(plan: &Plan) -> ArrayVec<Driver, DRIVERS>
+    ensures { result.items ≡ drivers plan.now }
+{
+    plan.accepted();
+    let mut drivers = ArrayVec::new();
+    drivers.push(Driver::Controller);
+    for below in 0..plan.slots() {
+        let slot = below + 1;
+        if has_board(plan, slot) {
+            drivers.push(Driver::Slot(slot));
+        }
+    }
+    drivers
+}
+
+/// The offer that a driver makes in a round.
+fn choice(offers: &[Edge], round: u32) -> Option<Edge>
+    ensures { result ≡ slice_get offers.now (round % length offers.now) }
+{
+    if offers.is_empty() {
+        return None;
+    }
+    offers.get(round as usize % offers.len()).copied()
+}
+
+/// A driver's turn: it makes an offer, unless there is none or enough edges were made.
+fn take_turn(backplane: &mut Backplane, round: u32, edges: u32, driver: Driver)
+    ensures { backplane.new ≡ turn round edges backplane.old driver }
+{
+    if backplane.len() == edges {
+        return;
+    }
+    match choice(backplane.offers(driver).as_slice(), round) {
+        Some(edge) => {
+            let _ = backplane.step(edge);
+        }
+        None => {}
+    }
+}
+
+/// A turn of each driver.
+fn take_turns(backplane: &mut Backplane, round: u32, edges: u32, drivers: &[Driver])
+    ensures { backplane.new ≡ turns round edges backplane.old drivers.now }
+{
+    for driver in drivers {
+        take_turn(backplane, round, edges, *driver);
+    }
+}
+
+/// Rounds, until enough edges were made or a round makes none.
+fn take_rounds(backplane: &mut Backplane, edges: u32, all: &[Driver])
+    requires { all.now ≡ drivers backplane.old.plan }
+    ensures { backplane.new ≡ rounds backplane.old edges }
+{
+    for round in 0..edges {
+        let before = backplane.len();
+        take_turns(backplane, round, edges, all);
+        if backplane.len() == before {
+            return;
+        }
+    }
+}
+
+/// Writes the lines of the edges that were made.
+fn write_lines<W: Write>(backplane: &Backplane, out: &mut W) -> Result<(), Fault>
+    ensures ok { OnOk result (Appends (W.contents out.old) (W.contents out.new) (edge_lines (in_order backplane.now.history))) }
+    ensures front { OnErr result (AppendsFront (W.contents out.old) (W.contents out.new) (edge_lines (in_order backplane.now.history))) }
+    ensures fault { IfErr result (λ fault. fault ≡ Fault.Write) }
+{
+    backplane.laws();
+    for place in 0..backplane.len() {
+        let edge = backplane.edge_at(place);
+        put(out, line_of(&edge).as_slice())?;
+    }
+    Ok(())
+}
+
+/// Writes the trace of the edges that were made.
+fn write_history<W: Write>(backplane: &Backplane, out: &mut W) -> Result<(), Fault>
+    ensures ok { OnOk result (Appends (W.contents out.old) (W.contents out.new) (text backplane.now.version (in_order backplane.now.history))) }
+    ensures front { OnErr result (AppendsFront (W.contents out.old) (W.contents out.new) (text backplane.now.version (in_order backplane.now.history))) }
+    ensures fault { IfErr result (λ fault. fault ≡ Fault.Write) }
+{
+    put(out, header_line(backplane.version()))?;
+    write_lines(backplane, out)?;
+    flush(out)
+}
+
+/// The status of a drive that made so many edges, of so many that were asked for.
+fn status_of(made: u32, edges: u32) -> Status
+    ensures { result ≡ (if made == edges then Limit else Done) }
+{
+    if made == edges {
+        Status::Limit
+    } else {
+        Status::Done
+    }
+}
+
+/// Lets the drivers of a scenario make edges in turn, at most `edges`, and writes their trace.
+///
+/// The status is `Limit` where `edges` of them were made, and else `Done`. A driver with k offers makes, in round r, the
+/// one at place `r mod k`; a round that makes no edge is the last.
+///
+/// Errors: F2, the faults of the scenario and F3, before anything is written; X8 where the output cannot be written.
+pub fn drive<W: Write>(
+    alloc: Global,
+    scenario: &[u8],
+    edges: u32,
+    out: &mut W,
+    version: Version,
+) -> Result<Status, EngineFault>
+    ensures outcome { Lent scenario.now (Keeps (W.contents out.old) (W.contents out.new)) (Drives version edges (W.contents out.old) (W.contents out.new)) result }
+    ensures safe { OnOk result (DrivesSafely scenario.now version edges) }
+{
+    let plan = plan_of(alloc, scenario)?;
+    let room = history_room(alloc)?;
+    let all = drivers_of(&plan);
+    let mut backplane = Backplane::new(plan, room, version);
+    take_rounds(&mut backplane, edges, &all);
+    backplane.laws();
+    backplane.safety();
+    match write_history(&backplane, out) {
+        Ok(()) => Ok(status_of(backplane.len(), edges)),
+        Err(fault) => Err(EngineFault::Trace(fault)),
+    }
+}

@@ -1,0 +1,121 @@
+//! The commands that the program offers, and their help.
+use crate::MOST_EDGES;
+use clap::{Arg, ArgAction, Command, Error, value_parser};
+use std::alloc::Global;
+
+const ABOUT: &str =
+    "Simulates and checks the arbitration bus and the interrupt bus of a VMEbus backplane, edge by edge.";
+
+const OVERVIEW: &str =
+    "Without a command, a scenario and behind it a trace are read from standard input, and the trace is replayed:
+  cat board.toml tenure.vme | vmebus
+
+A scenario is a TOML file that says which boards stand in which slots. A trace is the line `vme 1` or `vme 2`, and then
+one edge a line, as `1 br-` or `c bg3-`.
+
+Exit status: 0 done, 1 a fault (one line on standard error), 2 some edge was refused, 3 the limit of edges was reached.";
+
+const REPLAY: &str =
+    "Writes the verdict on each edge of a trace, and how many were accepted and refused";
+
+const REPLAY_EXAMPLE: &str =
+    "Each edge has a line with its number and `ok`, or why it is refused, as `5 E3 G13`. A refused edge changes nothing,
+and the replay goes on behind it. The exit status is 2 where an edge was refused.
+
+Example:
+  vmebus replay board.toml tenure.vme";
+
+const CHECK: &str =
+    "Writes whether every edge of a trace is allowed, or which is the first that is not";
+
+const CHECK_EXAMPLE: &str =
+    "It writes `legal N`, with the number of edges, or `illegal N VERDICT` at the first refused edge, and reads no
+further. The exit status is 2 where an edge was refused.
+
+Example:
+  vmebus check board.toml tenure.vme";
+
+const DRIVE: &str = "Writes a trace that the drivers of a scenario make in turn";
+
+const DRIVE_EXAMPLE: &str =
+    "In each round the controller and then each board makes one of the edges that are open to it. It ends with the given
+number of edges, and then the exit status is 3, or after a round in which nobody could make one.
+
+Example:
+  vmebus drive board.toml --edges 1000 > tenure.vme";
+
+/// A file's name, which must be given.
+fn file<'a>(alloc: Global, name: &'a str, help: &'a str) -> Arg<'a> {
+    Arg::new(alloc, name)
+        .required(true)
+        .action(ArgAction::Set)
+        .help(help)
+}
+
+fn scenario_file<'a>(alloc: Global) -> Arg<'a> {
+    file(alloc, "SCENARIO", "The boards, a TOML file")
+}
+
+fn trace_file<'a>(alloc: Global) -> Arg<'a> {
+    file(alloc, "TRACE", "The edges, one a line")
+}
+
+/// A number from 1 to `most`, which must be given.
+fn number<'a>(alloc: Global, name: &'a str, value: &'a str, most: u32, help: &'a str) -> Arg<'a> {
+    Arg::new(alloc, name)
+        .long(name)
+        .value_name(value)
+        .required(true)
+        .action(ArgAction::Set)
+        .value_parser(value_parser!(u32).range(1..=i64::from(most)))
+        .help(help)
+}
+
+fn edges_option<'a>(alloc: Global) -> Arg<'a> {
+    number(
+        alloc,
+        "edges",
+        "N",
+        MOST_EDGES,
+        "The most edges to make, 1 to 1048576",
+    )
+}
+
+fn version_option<'a>(alloc: Global) -> Arg<'a> {
+    Arg::new(alloc, "version")
+        .long("version")
+        .value_name("V")
+        .action(ArgAction::Set)
+        .value_parser(value_parser!(u32).range(1..=2))
+        .default_value("1")
+        .help("The version of the rules, 1 or 2")
+}
+
+/// The program's command line.
+pub(crate) fn commands<'a>(alloc: Global) -> Result<Command<'a>, Error> {
+    let replay = Command::new(alloc, "replay")
+        .about(REPLAY)
+        .after_help(REPLAY_EXAMPLE)
+        .arg(scenario_file(alloc))?
+        .arg(trace_file(alloc))?;
+    let check = Command::new(alloc, "check")
+        .about(CHECK)
+        .after_help(CHECK_EXAMPLE)
+        .arg(scenario_file(alloc))?
+        .arg(trace_file(alloc))?;
+    let drive = Command::new(alloc, "drive")
+        .about(DRIVE)
+        .after_help(DRIVE_EXAMPLE)
+        .arg(scenario_file(alloc))?
+        .arg(edges_option(alloc))?
+        .arg(version_option(alloc))?;
+    let all = Command::new(alloc, "vmebus")
+        .bin_name("vmebus")?
+        .no_binary_name(true)
+        .about(ABOUT)
+        .after_help(OVERVIEW)
+        .subcommand(replay)?
+        .subcommand(check)?
+        .subcommand(drive)?;
+    Ok(all)
+}

@@ -1,0 +1,8 @@
+use Rattle.std.proofs.Common.{rules}
+use Rattle.vmebus.proofs.Fronts.{whole_front}
+use Rattle.vmebus.proofs.files.scenario_text.Goals as goal
+
+pub returns-in-Ok-2-clause-whole : goal.returns-in-Ok-2-clause-whole
+returns-in-Ok-2-clause-whole g c =
+    whole_front g.R.Read.remaining c.args.input c.take.result 1048577 c.new-text.result.items c.read_to_end.new.buf.items
+    (search rules) (search rules) (search rules) c.in-Ok-2.ensures.bytes (search rules)

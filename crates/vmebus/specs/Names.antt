@@ -1,0 +1,26 @@
+-- Which names a fault may tell.
+use Rattle.std.specs.Prelude.{◌≡◌, ◌⊎◌, ℕ, List, codes}
+use Rattle.vme_words.specs.declared.Job.{Job}
+use Rattle.vme_words.specs.declared.Job.TheVariants.{Joined, Replay, Check, Drive}
+use Rattle.vmebus.specs.declared.faults.ProgramFault.{ProgramFault}
+use Rattle.vmebus.specs.declared.faults.ProgramFault.TheVariants.{CannotRead, TooLong, Engine}
+
+-- the name of the scenario of a job: standard input is `-`
+abbrev pub scenario_name : Job → List ℕ
+scenario_name Joined = codes "-"
+scenario_name (Replay scenario trace) = scenario.now
+scenario_name (Check scenario trace) = scenario.now
+scenario_name (Drive scenario edges version) = scenario.now
+
+-- this is the name of a file of a job
+abbrev pub IsFileOf : Job → List ℕ → Type 0
+IsFileOf Joined name = name ≡ codes "-"
+IsFileOf (Replay scenario trace) name = (name ≡ scenario.now) ⊎ (name ≡ trace.now)
+IsFileOf (Check scenario trace) name = (name ≡ scenario.now) ⊎ (name ≡ trace.now)
+IsFileOf (Drive scenario edges version) name = name ≡ scenario.now
+
+-- a fault of a job: what cannot be read is one of its files, and what is too long is its scenario
+abbrev pub IsFaultOf : Job → ProgramFault → Type 0
+IsFaultOf job (CannotRead name) = IsFileOf job name.now
+IsFaultOf job (TooLong name) = name.now ≡ scenario_name job
+IsFaultOf job (Engine fault) = Unit {0}
