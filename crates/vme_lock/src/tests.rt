@@ -78,11 +78,15 @@ fn room<'r>(rest: &mut Rest<'r>, scratch: usize, log: usize) -> Result<Room<'r>,
     })
 }
 
-/// Ample rooms.
-fn rooms<'r>(alloc: Global, rest: &mut Rest<'r>, count: u8) -> Result<Vec<Room<'r>>, Fail> {
+/// A room for each of the sizes.
+fn rooms<'r>(
+    alloc: Global,
+    rest: &mut Rest<'r>,
+    sizes: &[(usize, usize)],
+) -> Result<Vec<Room<'r>>, Fail> {
     let mut rooms = Vec::new(alloc);
-    for _room in 0..count {
-        rooms.push(room(rest, AMPLE, AMPLE)?)?;
+    for size in sizes {
+        rooms.push(room(rest, size.0, size.1)?)?;
     }
     Ok(rooms)
 }
@@ -214,7 +218,7 @@ impl Gate for Together {
 fn all_run_at_once(rt: HostRuntime) -> Result<(), Fail> {
     let alloc = rt.alloc();
     let mut region = Region::new(alloc, 6 * AMPLE)?;
-    let rooms = rooms(alloc, &mut region.rest(), 3)?;
+    let rooms = rooms(alloc, &mut region.rest(), &[(AMPLE, AMPLE); 3])?;
     let gate = Together::new();
     let bounds = Bounds {
         turns: 100,
@@ -282,7 +286,7 @@ fn made_otherwise<L: Rig + Send + Sync, R: Threads + Wait + Abort + Sync>(
         None => return Err("three seats".into()),
     }
     let mut region = Region::new(alloc, 6 * AMPLE)?;
-    let rooms = rooms(alloc, &mut region.rest(), 3)?;
+    let rooms = rooms(alloc, &mut region.rest(), &[(AMPLE, AMPLE); 3])?;
     if rooms.len() != seats.len() {
         return Err("as many rooms as seats".into());
     }
@@ -417,11 +421,8 @@ fn short_room<R: Threads + Wait + Abort + Sync>(
     log: usize,
 ) -> Result<(), Fail> {
     let mut region = Region::new(alloc, 6 * AMPLE)?;
-    let mut rest = region.rest();
-    let mut rooms = Vec::new(alloc);
-    rooms.push(room(&mut rest, AMPLE, AMPLE)?)?;
-    rooms.push(room(&mut rest, scratch, log)?)?;
-    rooms.push(room(&mut rest, AMPLE, AMPLE)?)?;
+    let sizes = [(AMPLE, AMPLE), (scratch, log), (AMPLE, AMPLE)];
+    let rooms = rooms(alloc, &mut region.rest(), &sizes)?;
     let bounds = Bounds {
         turns: 100,
         edges: 1000,
@@ -474,11 +475,7 @@ fn stopping<R: Threads + Wait + Sync>(rt: &R, alloc: Global, after: u32) -> Resu
     };
     let bytes = 8 * 10_000;
     let mut region = Region::new(alloc, 6 * bytes)?;
-    let mut rest = region.rest();
-    let mut rooms = Vec::new(alloc);
-    for _room in 0..3u8 {
-        rooms.push(room(&mut rest, log_bytes(1000), bytes)?)?;
-    }
+    let rooms = rooms(alloc, &mut region.rest(), &[(log_bytes(1000), bytes); 3])?;
     let gate = Stops {
         after,
         accepted: AtomicU32::new(0),
@@ -537,7 +534,7 @@ fn many_boards_many_times(rt: HostRuntime) -> Result<(), Fail> {
     };
     let mut region = Region::new(alloc, 44 * AMPLE)?;
     for _run in 0..10u8 {
-        let rooms = rooms(alloc, &mut region.rest(), 22)?;
+        let rooms = rooms(alloc, &mut region.rest(), &[(AMPLE, AMPLE); 22])?;
         let backplane = boards(alloc, 21)?;
         let ran = run_and_close::<Brand, _, _>(
             &rt,
