@@ -28,13 +28,29 @@ pub record IsRun (lent : List ℕ) (version : Version) (n : ℕ) (h : List Edge)
   pub safe : IsSafe plan h
   pub within : length h ≤ n
 
--- Why there is no backplane to run on: F2, a fault of the scenario, or F3.
-abbrev pub IsNoBench : List ℕ → RunFault → Type 0
-IsNoBench lent (Engine fault.TooLong) = scenario_limit < length lent
-IsNoBench lent (Engine (fault.Scenario e)) = (length lent ≤ scenario_limit) × IsErrorOf (scenario lent) e
-IsNoBench lent (Engine fault.NoMemory) = Unit {0}
-IsNoBench lent (Engine _) = ⊥
-IsNoBench lent _ = ⊥
+-- a backplane with such edges
+pub record IsRunOn (lent : List ℕ) (version : Version) (n : ℕ) (b : State) : Type 0 where
+  pub ran : IsRun lent version n b.history
+  pub of_version : b.version ≡ version
+
+-- Why there is no run: F2 or a fault of the scenario, F3, L3, L4 or L6.
+abbrev pub IsNoRun : List ℕ → RunFault → Type 0
+IsNoRun lent (Engine fault.TooLong) = scenario_limit < length lent
+IsNoRun lent (Engine (fault.Scenario e)) = (length lent ≤ scenario_limit) × IsErrorOf (scenario lent) e
+IsNoRun lent (Engine fault.NoMemory) = Unit {0}
+IsNoRun lent (Engine fault.CannotRead) = ⊥
+IsNoRun lent (Engine (fault.Trace f)) = ⊥
+IsNoRun lent NotStarted = Unit {0}
+IsNoRun lent (LogDiffers driver at) = Unit {0}
+IsNoRun lent (NotReplayed at) = Unit {0}
+
+-- Why the boards came to no history: F3, L3 or L4.
+abbrev pub IsBoardsFault : RunFault → Type 0
+IsBoardsFault (Engine fault.NoMemory) = Unit {0}
+IsBoardsFault (Engine _) = ⊥
+IsBoardsFault NotStarted = Unit {0}
+IsBoardsFault (LogDiffers driver at) = Unit {0}
+IsBoardsFault (NotReplayed at) = ⊥
 
 -- What a run leaves, by what the writer held and holds: the trace of its edges, at X8 a front of it, at any other fault nothing.
 abbrev pub Runs : List ℕ → Version → ℕ → Option (List ℕ) → Option (List ℕ) → Result Status RunFault → Type 0
@@ -42,17 +58,8 @@ Runs lent version n old new (Ok status) =
     (h : List Edge) × IsRun lent version n h × Appends old new (text version (in_order h)) × (status ≡ (if length h == n then Limit else Done))
 Runs lent version n old new (Err (Engine (fault.Trace f))) =
     (h : List Edge) × IsRun lent version n h × (f ≡ Write) × AppendsFront old new (text version (in_order h))
-Runs lent version n old new (Err (Engine f)) = IsNoBench lent (Engine f) × Keeps old new
-Runs lent version n old new (Err f) = Keeps old new
+Runs lent version n old new (Err f) = IsNoRun lent f × Keeps old new
 
 -- a backplane at power-up, on the plan of the scenario
 abbrev pub IsBench : List ℕ → Version → ℕ → State → Type 0
 IsBench lent version n b = (p : Plan) × (scenario lent ≡ Ok p) × (b ≡ at_power_up version p n)
-
--- Why the boards' run came to no history: F3, L3 or L4.
-abbrev pub IsBoardsFault : RunFault → Type 0
-IsBoardsFault (Engine fault.NoMemory) = Unit {0}
-IsBoardsFault (Engine _) = ⊥
-IsBoardsFault NotStarted = Unit {0}
-IsBoardsFault (LogDiffers driver at) = Unit {0}
-IsBoardsFault (NotReplayed at) = ⊥

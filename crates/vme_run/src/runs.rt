@@ -1,8 +1,10 @@
 //! A run from a scenario to a trace.
-ghost use Rattle.std.specs.Prelude.{◌≡◌, ◌==◌, ◌≤◌, IfOk, IfErr, OnOk, OnErr, length, if◌then◌else◌};
+ghost use Rattle.std.specs.Prelude.{◌≡◌, ◌==◌, ◌≤◌, ℕ, IfOk, IfErr, OnOk, OnErr, length, if◌then◌else◌};
+ghost use Rattle.vme_model.specs.Verdict.{IsLegal};
+ghost use Rattle.vme_model.specs.Safe.{IsSafe};
 ghost use Rattle.vme_engines.specs.declared.Status.TheVariants.{Done, Limit};
 ghost use Rattle.vme_lock.specs.Seats.{Follows};
-ghost use Rattle.vme_run.specs.Running.{IsBench, IsNoBench, Runs};
+ghost use Rattle.vme_run.specs.Running.{IsBench, IsNoRun, IsRunOn, Runs};
 
 use crate::RunFault;
 use crate::boards::play;
@@ -24,7 +26,7 @@ fn bench_of(
 ) -> Result<Backplane, RunFault>
     requires { edges ≤ 1048576 }
     ensures ok { IfOk result (IsBench scenario.now version edges) }
-    ensures fault { IfErr result (IsNoBench scenario.now) }
+    ensures fault { IfErr result (IsNoRun scenario.now) }
 {
     let plan = plan_of(alloc, scenario).map_err(RunFault::Engine)?;
     match Trace::new(alloc, edges) {
@@ -36,6 +38,9 @@ fn bench_of(
 /// Makes the edges of a closed history once more.
 fn replay(closed: &Backplane, mut bench: Backplane) -> Result<Backplane, RunFault>
     ensures ok { IfOk result (Follows bench) }
+    ensures legal { IfOk result (λ b. IsLegal b.version b.plan b.history) }
+    ensures safe { IfOk result (λ b. IsSafe b.plan b.history) }
+    ensures fits { IfOk result (λ b. length b.history ≤ b.max) }
     ensures fault { IfErr result (λ f. (at : ℕ) × (f ≡ RunFault.NotReplayed at)) }
 {
     for at in 0..closed.len() {
@@ -43,7 +48,29 @@ fn replay(closed: &Backplane, mut bench: Backplane) -> Result<Backplane, RunFaul
             return Err(RunFault::NotReplayed { at });
         }
     }
+    bench.laws();
+    bench.safety();
     Ok(bench)
+}
+
+/// Runs the boards of a scenario, and makes their edges once more on a second backplane.
+#[tactic(auto, using(crate::proofs::Following::run_of, crate::proofs::Following::no_run_of))]
+fn made<R: Threads + Wait + Sync>(
+    rt: &R,
+    alloc: Global,
+    scenario: &[u8],
+    edges: u32,
+    turns: u32,
+    version: Version,
+) -> Result<Backplane, RunFault>
+    requires { edges ≤ 1048576 }
+    ensures ok { IfOk result (IsRunOn scenario.now version edges) }
+    ensures fault { IfErr result (IsNoRun scenario.now) }
+{
+    let opened = bench_of(alloc, scenario, edges, version)?;
+    let closed = play(rt, alloc, opened, Bounds { turns, edges })?;
+    let bench = bench_of(alloc, scenario, edges, version)?;
+    replay(&closed, bench)
 }
 
 /// The status of a run that made so many edges, of so many that were asked for.
@@ -65,6 +92,7 @@ fn status_of(made: u32, edges: u32) -> Status
 ///
 /// Errors: F2, the faults of the scenario, F3, L3, L4 and L6, before anything is written; X8 where the output cannot be
 /// written.
+#[tactic(auto, using(crate::proofs::Following::runs_done, crate::proofs::Following::runs_cut, crate::proofs::Following::runs_not))]
 pub fn run<R: Threads + Wait + Sync, W: Write>(
     rt: &R,
     alloc: Global,
@@ -77,14 +105,11 @@ pub fn run<R: Threads + Wait + Sync, W: Write>(
     requires limits { (edges ≤ 1048576) × (turns ≤ 1000000) }
     ensures { Runs scenario.now version edges (W.contents out.old) (W.contents out.new) result }
 {
-    let opened = bench_of(alloc, scenario, edges, version)?;
-    let closed = play(rt, alloc, opened, Bounds { turns, edges })?;
-    let bench = bench_of(alloc, scenario, edges, version)?;
-    let replayed = replay(&closed, bench)?;
-    replayed.laws();
-    replayed.safety();
-    match write_history(&replayed, out) {
-        Ok(()) => Ok(status_of(replayed.len(), edges)),
-        Err(fault) => Err(RunFault::Engine(EngineFault::Trace(fault))),
+    match made(rt, alloc, scenario, edges, turns, version) {
+        Ok(replayed) => match write_history(&replayed, out) {
+            Ok(()) => Ok(status_of(replayed.len(), edges)),
+            Err(fault) => Err(RunFault::Engine(EngineFault::Trace(fault))),
+        },
+        Err(fault) => Err(fault),
     }
 }
