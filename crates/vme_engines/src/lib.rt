@@ -12,8 +12,9 @@ mod replays;
 mod traces;
 
 pub use checks::check;
-pub use drives::drive;
+pub use drives::{drive, write_history};
 pub use joins::joined;
+pub use plans::plan_of;
 pub use replays::replay;
 use thiserror::Error;
 use vme_scenario::ScenarioError;

@@ -11,7 +11,9 @@ use vme_backplane::Trace;
 use vme_slots::Plan;
 
 /// The plan of a scenario's text.
-pub(crate) fn plan_of(alloc: Global, text: &[u8]) -> Result<Plan, EngineFault>
+///
+/// Errors: F2 where the text has more than 1,048,576 bytes, else the first fault of the scenario.
+pub fn plan_of(alloc: Global, text: &[u8]) -> Result<Plan, EngineFault>
     ensures ok { IfOk result (λ p. (length text.now ≤ 1048576) × (scenario text.now ≡ Ok p)) }
     ensures fault { IfErr result (IsNoPlan text.now) }
 {

@@ -1,0 +1,79 @@
+-- What the tests of a hold say of its answer.
+use Rattle.std.proofs.Common.{◌≡◌, ◌≢◌, ℕ, ◌+◌, ◌≤◌, Bool, true, false, refl, sym, ap, ◌∙◌, subst, arith, length}
+use Rattle.std.specs.Prelude.{◌==◌, not, if◌then◌else◌, Option, Result, Ok, Err}
+use Rattle.std.proofs.lemmas.Bool.{eq-eqb}
+use Rattle.std.proofs.lemmas.Bool.Decides.{nat_tests}
+use Rattle.std.proofs.lemmas.List.Sums.{count_by-le-length}
+use Rattle.vme_model.specs.declared.signals.Driver.{Driver}
+use Rattle.vme_model.specs.declared.signals.Edge.{Edge}
+use Rattle.vme_model.specs.declared.deliveries.Delivery.{Delivery}
+use Rattle.vme_model.specs.Signals.{is_same_driver}
+use Rattle.vme_model.specs.Verdict.{State}
+use Rattle.vme_model.specs.Deliveries.{answer}
+use Rattle.vme_model.specs.Counts.{count}
+use Rattle.vme_model.specs.Offers.{offered}
+use Rattle.vme_model.specs.Views.{pins}
+use Rattle.vme_lock.specs.declared.views.View.{View}
+use Rattle.vme_lock.specs.declared.views.Lost.{Lost}
+use Rattle.vme_lock.specs.declared.views.EdgeRefused.{EdgeRefused}
+use Rattle.vme_lock.specs.declared.views.EdgeRefused.TheVariants as refused
+use Rattle.vme_lock.specs.Seats.{Place}
+use Rattle.vme_lock.specs.Holds.{is_lost, lost, view_of, look_answer, edge_answer, by_step}
+
+other : (a b : ℕ) → a ≢ b → (a == b) ≡ false
+other a b apart = grind (arith, nat_tests)
+
+is_lost-other : (b : State) (s : Place) → count b.history s.driver ≢ s.made → is_lost b s ≡ true
+is_lost-other b s apart = ap not (other (count b.history s.driver) s.made apart)
+
+is_lost-same : (b : State) (s : Place) → count b.history s.driver ≡ s.made → is_lost b s ≡ false
+is_lost-same b s same = ap not (eq-eqb (count b.history s.driver) s.made same)
+
+-- another number than the seat's
+pub look_lost : (b : State) (s : Place) (own : ℕ) → own ≡ count b.history s.driver → own ≢ s.made → Err (record { own = own }) ≡ look_answer b s
+look_lost b s own is apart =
+    let read : is_lost b s ≡ true = is_lost-other b s (λ same. apart (is ∙ same)) in
+    let found : look_answer b s ≡ Err (lost b s) = ap (λ (x : Bool). if x then Err (lost b s) else Ok (view_of b s.driver)) read in
+    sym (found ∙ ap (λ (n : ℕ). Err (record { own = n })) (sym is))
+
+pub seen_is : (b : State) (d : Driver) (v : View) → v.pins ≡ pins b.plan b.history d → v.offers.items ≡ offered b d → v.own ≡ count b.history d → v.total ≡ length b.history → v ≡ view_of b d
+seen_is b d v pins offers own total = λ i. record { pins = pins i; offers = record { items = offers i }; own = own i; total = total i }
+
+-- the seat's number
+pub look_seen : (b : State) (s : Place) (v : View) → v ≡ view_of b s.driver → count b.history s.driver ≡ s.made → Ok v ≡ look_answer b s
+look_seen b s v is same =
+    let found : look_answer b s ≡ Ok (view_of b s.driver) = ap (λ (x : Bool). if x then Err (lost b s) else Ok (view_of b s.driver)) (is_lost-same b s same) in
+    ap (λ (x : View). Ok x) is ∙ sym found
+
+-- a driver's edges are no more than all
+pub own_within : (b : State) (d : Driver) → count b.history d ≤ length b.history
+own_within b d = count_by-le-length (λ e. is_same_driver e.driver d) b.history
+
+-- what is seen of the seat's own edges
+pub seen : (b : State) (s : Place) (v : View) → Ok v ≡ look_answer b s → (v.own ≡ s.made) × (v.own ≤ v.total)
+seen b s v is = go (count b.history s.driver == s.made) refl is
+  where
+    go : (x : Bool) → (count b.history s.driver == s.made) ≡ x → Ok v ≡ (if not x then Err (lost b s) else Ok (view_of b s.driver)) → (v.own ≡ s.made) × (v.own ≤ v.total)
+    go true same is =
+        let here : v ≡ view_of b s.driver = cc in
+        let number : count b.history s.driver ≡ s.made = grind (arith, nat_tests) in
+        (ap (λ x. x.own) here ∙ number, subst (λ x. x.own ≤ x.total) (sym here) (own_within b s.driver))
+    go false apart is = absurd (cc)
+
+-- another driver's edge
+pub edge_not_yours : (b : State) (s : Place) (e : Edge) → is_same_driver e.driver s.driver ≡ false → Err refused.NotYours ≡ edge_answer b s e
+edge_not_yours b s e other =
+    sym (ap (λ (x : Bool). if not x then Err refused.NotYours else (if is_lost b s then Err (refused.Lost (lost b s)) else by_step (answer b e))) other)
+
+own_edge : (b : State) (s : Place) (e : Edge) → is_same_driver e.driver s.driver ≡ true → edge_answer b s e ≡ (if is_lost b s then Err (refused.Lost (lost b s)) else by_step (answer b e))
+own_edge b s e same =
+    ap (λ (x : Bool). if not x then Err refused.NotYours else (if is_lost b s then Err (refused.Lost (lost b s)) else by_step (answer b e))) same
+
+pub edge_lost : (b : State) (s : Place) (e : Edge) (own : ℕ) → is_same_driver e.driver s.driver ≡ true → own ≡ count b.history s.driver → own ≢ s.made → Err (refused.Lost (record { own = own })) ≡ edge_answer b s e
+edge_lost b s e own same is apart =
+    let read : is_lost b s ≡ true = is_lost-other b s (λ same. apart (is ∙ same)) in
+    sym (own_edge b s e same ∙ (ap (λ (x : Bool). if x then Err (refused.Lost (lost b s)) else by_step (answer b e)) read ∙ ap (λ (n : ℕ). Err (refused.Lost (record { own = n }))) (sym is)))
+
+pub edge_stepped : (b : State) (s : Place) (e : Edge) → is_same_driver e.driver s.driver ≡ true → count b.history s.driver ≡ s.made → by_step (answer b e) ≡ edge_answer b s e
+edge_stepped b s e same number =
+    sym (own_edge b s e same ∙ ap (λ (x : Bool). if x then Err (refused.Lost (lost b s)) else by_step (answer b e)) (is_lost-same b s number))

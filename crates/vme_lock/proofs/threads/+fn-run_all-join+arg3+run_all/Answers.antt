@@ -1,0 +1,6 @@
+use Rattle.vme_lock.proofs.Joining.{AllWorked-push}
+use Rattle.vme_lock.proofs.threads.+fn-run_all-join+arg3+run_all.Goals as goal
+
+pub returns-clause-worked : goal.returns-clause-worked
+returns-clause-worked g t c =
+    rw (c.in-Some.ensures.items, c.push_reserved.ensures.items, c.push_reserved-2.ensures.items) (AllWorked-push _ _ _ _ _ _ c.join-seat.ensures.second.0 c.join-seat.ensures.first)

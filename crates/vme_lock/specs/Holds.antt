@@ -1,0 +1,49 @@
+-- What one hold of the lock answers.
+use Rattle.std.specs.Prelude.{◌≡◌, ℕ, ◌==◌, Bool, not, if◌then◌else◌, length, Option, Result, Ok, Err}
+use Rattle.vme_model.specs.declared.signals.Driver.{Driver}
+use Rattle.vme_model.specs.declared.signals.Edge.{Edge}
+use Rattle.vme_model.specs.declared.deliveries.Delivery.{Delivery}
+use Rattle.vme_model.specs.declared.refusals.Refused.{Refused}
+use Rattle.vme_model.specs.Signals.{is_same_driver}
+use Rattle.vme_model.specs.Verdict.{State, IsLegal}
+use Rattle.vme_model.specs.Deliveries.{answer}
+use Rattle.vme_model.specs.Counts.{count}
+use Rattle.vme_model.specs.Offers.{offered}
+use Rattle.vme_model.specs.Views.{pins}
+use Rattle.vme_lock.specs.declared.views.View.{View}
+use Rattle.vme_lock.specs.declared.views.Lost.{Lost}
+use Rattle.vme_lock.specs.declared.views.EdgeRefused.{EdgeRefused}
+use Rattle.vme_lock.specs.declared.views.EdgeRefused.TheVariants as refused
+use Rattle.vme_lock.specs.Seats.{Place, Follows}
+
+-- what a look at the backplane shows a driver
+abbrev pub view_of : State → Driver → View
+view_of b d = record { pins = pins b.plan b.history d; offers = record { items = offered b d }; own = count b.history d; total = length b.history }
+
+-- the history has other edges of the seat's driver than the seat made
+abbrev pub is_lost : State → Place → Bool
+is_lost b s = not (count b.history s.driver == s.made)
+
+-- L5, with the driver's number of edges
+abbrev pub lost : State → Place → Lost
+lost b s = record { own = count b.history s.driver }
+
+-- the answer to a look
+abbrev pub look_answer : State → Place → Result View Lost
+look_answer b s = if is_lost b s then Err (lost b s) else Ok (view_of b s.driver)
+
+-- what the backplane answers, its refusal as one of an edge
+abbrev pub by_step : Result (Option Delivery) Refused → Result (Option Delivery) EdgeRefused
+by_step (Ok delivered) = Ok delivered
+by_step (Err r) = Err (refused.Step r)
+
+-- the answer to an edge: L1, L5, or what the backplane answers
+abbrev pub edge_answer : State → Place → Edge → Result (Option Delivery) EdgeRefused
+edge_answer b s e =
+    if not (is_same_driver e.driver s.driver) then Err refused.NotYours
+    else if is_lost b s then Err (refused.Lost (lost b s))
+    else by_step (answer b e)
+
+-- it holds of some backplane with a legal history, which began as the one that was opened
+abbrev pub OfSome : State → (State → Type 0) → Type 0
+OfSome opened P = (b : State) × Follows opened b × IsLegal b.version b.plan b.history × P b

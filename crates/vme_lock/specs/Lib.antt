@@ -1,0 +1,4 @@
+pub mod Seats
+pub mod Holds
+pub mod Closing
+pub mod Logs

@@ -1,0 +1,146 @@
+//! Taking the backplane from the lock.
+ghost use Rattle.std.specs.Prelude.{◌≡◌, ◌≢◌, ◌+◌, ◌<◌, length, map, sum_by, vec_len, MatchBool, MatchResult, MatchOption, Some, slice_get};
+ghost use Rattle.vme_model.specs.Plan.{drivers};
+ghost use Rattle.vme_model.specs.Counts.{only};
+ghost use Rattle.vme_lock.specs.Seats.{drivers_of};
+ghost use Rattle.vme_lock.specs.Logs.{is_same_edge, is_same_value};
+ghost use Rattle.vme_lock.specs.Closing.{IsClosing, AreLogs, DiffersAt, FirstDiffers};
+
+use crate::held::Held;
+use crate::logs::Log;
+use crate::seats::{Rig, Seat, Seats};
+use crate::shared::Shared;
+use std::sync::ledger::{Book, Share};
+use vme_backplane::Backplane;
+use vme_model::{Cycle, Driver, Edge};
+
+/// The history that the boards made is their logs.
+#[derive(Drop)]
+pub struct Closed {
+    pub backplane: Backplane,
+}
+
+/// The history is not the boards' logs.
+#[derive(Drop)]
+pub struct LogMismatch {
+    /// The first driver whose edges in the history are not its log.
+    pub driver: Driver,
+    /// The first place where they differ, counted from 0.
+    pub at: u32,
+    pub backplane: Backplane,
+}
+
+impl<L: Rig> Shared<L> {
+    /// Takes the backplane from the lock, where each driver's edges in its history are its log.
+    ///
+    /// The seats are all of them, and there is one log for each, both in their order. L4 names the first driver whose edges
+    /// are not its log, and the first place where they differ: where one is longer, the other's length.
+    pub fn close(self, seats: Seats<L>, logs: &[Log<'_>]) -> Result<Closed, LogMismatch>
+        requires parts { L.parts ≡ 22 }
+        requires seats { drivers_of seats.items ≡ drivers L.opened.plan }
+        requires logs { length logs.now ≡ vec_len seats }
+        ensures history { MatchResult result (λ c. IsClosing L.opened seats.items c.backplane) (λ m. IsClosing L.opened seats.items m.backplane) }
+        ensures logs { MatchResult result
+            (λ c. AreLogs c.backplane.history (drivers L.opened.plan) logs.now)
+            (λ m. FirstDiffers m.backplane.history (drivers L.opened.plan) logs.now m.driver m.at) }
+    {
+        let Shared { lock } = self;
+        let Held {
+            backplane,
+            counts: _,
+            mut book,
+            spare,
+        } = lock.into_inner();
+        backplane.laws();
+        let found = first_difference(&backplane, seats.as_slice(), logs);
+        count_all(&mut book, spare, seats);
+        match found {
+            None => Ok(Closed { backplane }),
+            Some((driver, at)) => Err(LogMismatch {
+                driver,
+                at,
+                backplane,
+            }),
+        }
+    }
+}
+
+/// All seats together made what the book has.
+fn count_all<L: Rig>(book: &mut Book<L>, spare: Share<L>, mut seats: Seats<L>)
+    requires all { spare.parts + vec_len seats ≡ L.parts }
+    requires spare { spare.amount ≡ 0 }
+    ensures { book.old.total ≡ sum_by (λ s. s.made) seats.items }
+{
+    let mut all = spare;
+    while let Some(seat) = seats.pop() {
+        all.merge(seat.into_share());
+    }
+    book.audit(&mut all);
+}
+
+/// The first driver whose edges in the history are not its log, and where.
+fn first_difference<L: Rig>(
+    backplane: &Backplane,
+    seats: &[Seat<L>],
+    logs: &[Log<'_>],
+) -> Option<(Driver, u32)>
+    requires { length logs.now ≡ length seats.now }
+    ensures { MatchOption result
+        (AreLogs backplane.now.history (drivers_of seats.now) logs.now)
+        (λ d. FirstDiffers backplane.now.history (drivers_of seats.now) logs.now d.0 d.1) }
+{
+    match (seats, logs) {
+        ([seat, seats @ ..], [log, logs @ ..]) => {
+            let driver = seat.driver();
+            match difference(backplane, driver, log) {
+                Some(at) => Some((driver, at)),
+                None => first_difference(backplane, seats, logs),
+            }
+        }
+        _ => None,
+    }
+}
+
+/// Whether the two show the same.
+fn is_same_value(value: Option<Cycle>, other: Option<Cycle>) -> bool
+    ensures { result ≡ is_same_value value other }
+{
+    value == other
+}
+
+/// Whether the two are one edge.
+fn is_same(edge: Edge, other: Edge) -> bool
+    ensures { result ≡ is_same_edge edge other }
+{
+    edge.driver.is_same(other.driver)
+        && edge.wire.is_same(other.wire)
+        && edge.fall == other.fall
+        && is_same_value(edge.value, other.value)
+}
+
+/// Whether the log has this edge at the place.
+fn stands_at(log: &Log<'_>, at: u32, edge: Edge) -> bool
+    ensures { MatchBool result (slice_get log.now at ≡ Some edge) (slice_get log.now at ≢ Some edge) }
+{
+    at < log.len() && is_same(log.edge_at(at), edge)
+}
+
+/// Where the driver's edges in the history are not the log.
+fn difference(backplane: &Backplane, driver: Driver, log: &Log<'_>) -> Option<u32>
+    ensures { MatchOption result
+        (only backplane.now.history driver ≡ log.now)
+        (λ at. DiffersAt (only backplane.now.history driver) log.now at) }
+{
+    let len = log.len();
+    let mut at = 0;
+    for place in 0..backplane.len() {
+        let edge = backplane.edge_at(place);
+        if edge.driver.is_same(driver) {
+            if !stands_at(log, at, edge) {
+                return Some(at);
+            }
+            at += 1;
+        }
+    }
+    if at == len { None } else { Some(at) }
+}

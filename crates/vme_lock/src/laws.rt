@@ -1,0 +1,85 @@
+//! The work of each hold of the lock, on the locked value that it is lent, and what holds of that value.
+ghost use Rattle.std.specs.Prelude.{◌≡◌, MatchResult, true};
+ghost use Rattle.vme_model.specs.Verdict.{IsLegal};
+ghost use Rattle.vme_model.specs.Safe.{IsSafe, IsOrderly};
+ghost use Rattle.vme_lock.specs.Seats.{IsHeld, Follows, kept_more, one_more};
+ghost use Rattle.vme_lock.specs.Holds.{look_answer, edge_answer};
+
+use crate::held::Held;
+use crate::seats::{Rig, Seat, desk};
+use crate::views::{EdgeRefused, Lost, View};
+use vme_model::{Delivery, Edge};
+
+/// What holds of the locked value whenever the lock is free.
+pub fn whenever_free<L: Rig>(held: &Held<L>)
+    ensures held { IsHeld L.opened held.now }
+    ensures legal { IsLegal held.now.board.version held.now.board.plan held.now.board.history }
+    ensures safe { IsSafe held.now.board.plan held.now.board.history }
+    ensures orderly { IsOrderly held.now.board.version held.now.board.plan held.now.board.history }
+{
+    held.backplane.laws();
+    held.backplane.safety();
+}
+
+/// A hold that makes no edge: what the seat's driver sees.
+pub fn look_in<L: Rig>(held: &Held<L>, seat: &Seat<L>) -> Result<View, Lost>
+    ensures answer { result ≡ look_answer held.now.board seat.now }
+    ensures held { IsHeld L.opened held.now }
+    ensures legal { IsLegal held.now.board.version held.now.board.plan held.now.board.history }
+{
+    held.backplane.laws();
+    let driver = seat.driver;
+    let own = held.counts[desk(driver)];
+    if own != seat.made {
+        return Err(Lost { own });
+    }
+    Ok(View {
+        pins: held.backplane.pins(driver),
+        offers: held.backplane.offers(driver),
+        own,
+        total: held.backplane.len(),
+    })
+}
+
+/// A hold that makes the edge, where it is the seat's and the rules allow it.
+pub fn edge_in<L: Rig>(
+    held: &mut Held<L>,
+    seat: &mut Seat<L>,
+    edge: Edge,
+) -> Result<Option<Delivery>, EdgeRefused>
+    ensures answer { result ≡ edge_answer held.old.board seat.old edge }
+    ensures held { MatchResult result (λ _. held.new ≡ kept_more held.old edge seat.old.driver) (λ _. held.new ≡ held.old) }
+    ensures seat { MatchResult result (λ _. seat.new ≡ one_more seat.old) (λ _. seat.new ≡ seat.old) }
+    ensures before { IsHeld L.opened held.old }
+    ensures legal { IsLegal held.old.board.version held.old.board.plan held.old.board.history }
+{
+    let Held {
+        backplane,
+        counts,
+        book,
+        spare: _,
+    } = held;
+    let Seat {
+        driver,
+        made,
+        share,
+    } = seat;
+    backplane.laws();
+    if !edge.driver.is_same(*driver) {
+        return Err(EdgeRefused::NotYours);
+    }
+    let desk = desk(*driver);
+    let own = counts[desk];
+    if own != *made {
+        return Err(EdgeRefused::Lost(Lost { own }));
+    }
+    match backplane.step(edge) {
+        Err(refused) => Err(EdgeRefused::Step(refused)),
+        Ok(delivery) => {
+            counts[desk] += 1;
+            *made += 1;
+            book.add(share, 1);
+            Ok(delivery)
+        }
+    }
+}

@@ -1,0 +1,27 @@
+//! Seats at one locked backplane, and a thread for each board.
+//!
+//! Each hold of the lock makes one edge or none. The module `laws` has the work of a hold, on the value that it is lent.
+#![tactic(auto)]
+
+mod closing;
+mod held;
+pub mod laws;
+mod logs;
+mod opening;
+mod seats;
+mod shared;
+mod threads;
+mod views;
+mod workers;
+
+pub use closing::{Closed, LogMismatch};
+pub use held::Held;
+pub use logs::{Log, Room, log_bytes};
+pub use seats::{Rig, Seat, Seats};
+pub use shared::Shared;
+pub use threads::{NotStarted, run_boards};
+pub use views::{EdgeRefused, Lost, View};
+pub use workers::{Bounds, Gate, OpenGate, Spent, work_board};
+
+#[cfg(test)]
+mod tests;

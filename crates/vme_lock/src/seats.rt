@@ -1,0 +1,105 @@
+//! The seats of a lock.
+ghost use Rattle.std.specs.Prelude.{◌≡◌, ◌<◌, true, if◌then◌else◌, Some, None};
+ghost use Rattle.vme_lock.specs.Seats.{Place, nowhere, can_sit, desk};
+
+use std::marker::{Brand, Model};
+use std::sync::ledger::{Ledger, Share};
+use vme_model::Driver;
+
+/// The ledger of one lock, and the backplane that was opened under it. Each call of a program picks them.
+pub trait Rig: Ledger {
+    ghost use Rattle.vme_model.specs.Verdict.{State};
+
+    /// The backplane that was handed in.
+    ghost opened: { State };
+}
+
+impl Rig for Brand {
+    ghost opened = { nowhere };
+}
+
+/// The right to make the edges of one driver, with the number of those that were made.
+#[derive(Drop)]
+pub struct Seat<L: Rig> {
+    pub(crate) driver: Driver,
+    pub(crate) made: u32,
+    pub(crate) share: Share<L>,
+}
+
+/// The controller's seat, then each board's by slot.
+pub type Seats<L> = Vec<Seat<L>>;
+
+impl<L: Rig> Model for Seat<L> {
+    ghost use Rattle.std.specs.Prelude.{◌≡◌, true};
+    ghost use Rattle.vme_lock.specs.Seats.{Place, can_sit};
+
+    ghost Value = { Place };
+
+    ghost view = { λ s. record { driver = s.driver; made = s.made } };
+
+    ghost invariant = { λ s. (s.share.amount ≡ s.made) × (s.share.parts ≡ 1) × (can_sit s.driver ≡ true) };
+}
+
+impl<L: Rig> Seat<L> {
+    /// The seat of a driver with so many edges, which the share counts.
+    pub(crate) fn new(driver: Driver, made: u32, share: Share<L>) -> Seat<L>
+        requires share { (share.amount ≡ made) × (share.parts ≡ 1) }
+        requires driver { can_sit driver ≡ true }
+        ensures { result ≡ record { driver = driver; made = made } }
+    {
+        Seat {
+            driver,
+            made,
+            share,
+        }
+    }
+
+    /// The driver whose edges it makes.
+    pub fn driver(&self) -> Driver
+        ensures { result ≡ self.now.driver }
+    {
+        self.driver
+    }
+
+    /// How many edges its driver made, with those that stood in the backplane handed in.
+    pub fn made(&self) -> u32
+        ensures { result ≡ self.now.made }
+    {
+        self.made
+    }
+
+    /// What the ledger has of it.
+    pub(crate) fn into_share(self) -> Share<L>
+        ensures { (result.amount ≡ self.made) × (result.parts ≡ 1) }
+    {
+        let Seat {
+            driver: _,
+            made: _,
+            share,
+        } = self;
+        share
+    }
+}
+
+/// The place of a driver among the counts of all.
+pub(crate) fn desk(driver: Driver) -> usize
+    requires { can_sit driver ≡ true }
+    ensures place { result ≡ desk driver }
+    ensures within { result < 22 }
+{
+    match driver {
+        Driver::Controller => 0,
+        Driver::Slot(slot) => usize::from(slot),
+    }
+}
+
+/// The place of a driver among the counts of all, if some plan has it.
+pub(crate) fn desk_of(driver: Driver) -> Option<usize>
+    ensures { result ≡ (if can_sit driver then Some (desk driver) else None) }
+{
+    match driver {
+        Driver::Controller => Some(0),
+        Driver::Slot(slot @ 1..=21) => Some(usize::from(slot)),
+        Driver::Slot(_) => None,
+    }
+}

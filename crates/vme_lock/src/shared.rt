@@ -1,0 +1,47 @@
+//! The lock that seats share.
+ghost use Rattle.std.specs.Prelude.{◌≡◌, ◌≢◌, ◌≤◌, MatchResult};
+ghost use Rattle.vme_lock.specs.Seats.{one_more};
+ghost use Rattle.vme_lock.specs.Holds.{look_answer, edge_answer, OfSome};
+
+use crate::held::Held;
+use crate::laws::{edge_in, look_in};
+use crate::seats::{Rig, Seat};
+use crate::views::{EdgeRefused, Lost, View};
+use std::sync::{Mutex, Wait};
+use vme_model::{Delivery, Edge};
+
+/// A backplane under one lock. Each board has a seat at it.
+#[derive(Drop)]
+pub struct Shared<L: Rig> {
+    pub(crate) lock: Mutex<Held<L>>,
+}
+
+impl<L: Rig> Shared<L> {
+    /// What the seat's driver sees now. May wait for the lock.
+    ///
+    /// `Lost` where the history has another number of its edges than the seat made.
+    pub fn look<R: Wait>(&self, rt: &R, seat: &Seat<L>) -> Result<View, Lost>
+        ensures answer { OfSome L.opened (λ b. result ≡ look_answer b seat.now) }
+        ensures own { MatchResult result (λ v. (v.own ≡ seat.now.made) × (v.own ≤ v.total)) (λ lost. lost.own ≢ seat.now.made) }
+    {
+        let held = self.lock.lock(rt);
+        look_in(&*held, seat)
+    }
+
+    /// Makes the edge where it is the seat's and the rules allow it, and answers what it delivers. May wait for the lock.
+    ///
+    /// Errors: L1, L5, or what the backplane answers, tested in this order. Then nothing changes.
+    pub fn edge<R: Wait>(
+        &self,
+        rt: &R,
+        seat: &mut Seat<L>,
+        edge: Edge,
+    ) -> Result<Option<Delivery>, EdgeRefused>
+        ensures answer { OfSome L.opened (λ b. result ≡ edge_answer b seat.old edge) }
+        ensures seat { MatchResult result (λ _. seat.new ≡ one_more seat.old) (λ _. seat.new ≡ seat.old) }
+        ensures driver { seat.new.driver ≡ seat.old.driver }
+    {
+        let mut held = self.lock.lock(rt);
+        edge_in(&mut *held, seat, edge)
+    }
+}

@@ -1,0 +1,37 @@
+//! What a hold of the lock answers.
+use arrayvec::ArrayVec;
+use thiserror::Error;
+use vme_model::{Edge, Pins, Refused};
+
+/// What a driver sees in one hold.
+#[derive(Drop)]
+pub struct View {
+    pub pins: Pins,
+    /// The driver's edges that would be accepted.
+    pub offers: ArrayVec<Edge, 16>,
+    /// How many edges of the driver stand in the history.
+    pub own: u32,
+    /// How many edges stand in the history.
+    pub total: u32,
+}
+
+/// The history has another number of the driver's edges than its seat made.
+#[derive(Clone, Copy, PartialEq, Eq, Debug, Error)]
+#[error("L5 the history has {own} edges of the seat's driver")]
+pub struct Lost {
+    /// How many edges of the driver stand in the history.
+    pub own: u32,
+}
+
+/// Why no edge was made, in the order of the tests.
+#[derive(Clone, Copy, PartialEq, Eq, Debug, Error)]
+pub enum EdgeRefused {
+    /// The edge is another driver's than the seat's.
+    #[error("L1 the edge is not the seat's")]
+    NotYours,
+    #[error("{0}")]
+    Lost(Lost),
+    /// The backplane refuses the edge.
+    #[error("{0}")]
+    Step(Refused),
+}

@@ -1,0 +1,181 @@
+//! A worker: one driver's turns, each at one look and one edge at most.
+ghost use Rattle.std.specs.Prelude.{◌≡◌, ◌+◌, ◌≤◌, [], length, min};
+ghost use Rattle.vme_lock.specs.Seats.{worked};
+
+use crate::logs::{Log, Pages, Room};
+use crate::seats::{Rig, Seat};
+use crate::shared::Shared;
+use crate::views::{EdgeRefused, View};
+use std::sync::Wait;
+use vme_model::{Driver, Edge};
+
+/// Who lets a worker begin and end its turns. No lock is held while it is asked.
+pub trait Gate {
+    /// Whether the driver takes this turn, counted from 0.
+    fn before(&self, driver: Driver, turn: u32) -> bool;
+
+    /// Told at the end of a turn whether the driver made an edge in it.
+    fn after(&self, driver: Driver, turn: u32, accepted: bool);
+}
+
+/// A gate that is always open.
+#[derive(Clone, Copy, Drop)]
+pub struct OpenGate;
+
+impl Gate for OpenGate {
+    fn before(&self, _driver: Driver, _turn: u32) -> bool {
+        true
+    }
+
+    fn after(&self, _driver: Driver, _turn: u32, _accepted: bool) {}
+}
+
+/// How many turns a worker has, and at how many edges in the history it ends.
+#[derive(Clone, Copy, PartialEq, Eq, Debug)]
+pub struct Bounds {
+    pub turns: u32,
+    pub edges: u32,
+}
+
+impl Bounds {
+    /// The most edges that a worker can make.
+    fn most(self) -> u32
+        ensures { result ≡ min self.turns self.edges }
+    {
+        self.turns.min(self.edges)
+    }
+}
+
+/// Why a worker ended.
+#[derive(Clone, Copy, PartialEq, Eq, Debug)]
+pub enum Spent {
+    /// It took all its turns.
+    Turns,
+    /// The history has as many edges as the bounds allow.
+    Edges,
+    /// The gate let it take no further turn.
+    Gate,
+    /// Its log found no room.
+    NoRoom,
+    /// The history has another number of its driver's edges than its seat made.
+    Lost,
+}
+
+/// The offer of a turn, if there are offers.
+fn offer_of(view: &View, turn: u32) -> Option<Edge> {
+    let offers = view.offers.as_slice();
+    if offers.is_empty() {
+        return None;
+    }
+    Some(offers[turn as usize % offers.len()])
+}
+
+/// Makes room for an edge, and then the edge. False where the backplane refuses it.
+fn make_edge<L: Rig, R: Wait>(
+    rt: &R,
+    shared: &Shared<L>,
+    seat: &mut Seat<L>,
+    pages: &mut Pages<'_, '_>,
+    edge: Edge,
+) -> Result<bool, Spent>
+    ensures driver { seat.new.driver ≡ seat.old.driver }
+    ensures made { seat.new.made + length pages.old.edges ≡ seat.old.made + length pages.new.edges }
+    ensures one { length pages.new.edges ≤ length pages.old.edges + 1 }
+{
+    if pages.make_room().is_err() {
+        return Err(Spent::NoRoom);
+    }
+    match shared.edge(rt, seat, edge) {
+        Ok(_) => {
+            pages.push(edge);
+            Ok(true)
+        }
+        Err(EdgeRefused::Lost(_)) => Err(Spent::Lost),
+        Err(_) => Ok(false),
+    }
+}
+
+/// Takes one turn. `Err` where the worker ends.
+fn take_turn<L: Rig, G: Gate, R: Wait>(
+    rt: &R,
+    shared: &Shared<L>,
+    seat: &mut Seat<L>,
+    gate: &G,
+    bounds: Bounds,
+    turn: u32,
+    pages: &mut Pages<'_, '_>,
+) -> Result<(), Spent>
+    requires logged { length pages.old.edges ≤ seat.old.made }
+    requires most { length pages.old.edges ≤ bounds.edges }
+    ensures driver { seat.new.driver ≡ seat.old.driver }
+    ensures made { seat.new.made + length pages.old.edges ≡ seat.old.made + length pages.new.edges }
+    ensures one { length pages.new.edges ≤ length pages.old.edges + 1 }
+    ensures most { length pages.new.edges ≤ bounds.edges }
+{
+    let driver = seat.driver();
+    if !gate.before(driver, turn) {
+        return Err(Spent::Gate);
+    }
+    let Ok(view) = shared.look(rt, seat) else {
+        return Err(Spent::Lost);
+    };
+    if view.total >= bounds.edges {
+        return Err(Spent::Edges);
+    }
+    let accepted = match offer_of(&view, turn) {
+        Some(edge) => make_edge(rt, shared, seat, pages, edge)?,
+        None => false,
+    };
+    gate.after(driver, turn, accepted);
+    Ok(())
+}
+
+/// Takes the turns of a worker, and answers why it ended.
+fn take_turns<L: Rig, G: Gate, R: Wait>(
+    rt: &R,
+    shared: &Shared<L>,
+    seat: &mut Seat<L>,
+    gate: &G,
+    bounds: Bounds,
+    pages: &mut Pages<'_, '_>,
+) -> Spent
+    requires { pages.old.edges ≡ [] }
+    ensures driver { seat.new.driver ≡ seat.old.driver }
+    ensures made { seat.new.made ≡ seat.old.made + length pages.new.edges }
+    ensures most { (length pages.new.edges ≤ bounds.turns) × (length pages.new.edges ≤ bounds.edges) }
+{
+    for turn in 0..bounds.turns {
+        if let Err(spent) = take_turn(rt, shared, seat, gate, bounds, turn, pages) {
+            return spent;
+        }
+    }
+    Spent::Turns
+}
+
+/// Works a seat: makes edges of its driver, one a turn at most, each among those that it is offered. May wait for the lock.
+///
+/// Hands back the seat and the log of the edges made. In turn `t` the offer at place `t` modulo their number is tried. The
+/// worker ends after its turns, or as soon as the gate answers false, the history has as many edges as the bounds allow, no
+/// room is found for an edge, or the history is not the seat's.
+pub fn work_board<'r, L: Rig, G: Gate, R: Wait>(
+    rt: &R,
+    shared: &Shared<L>,
+    mut seat: Seat<L>,
+    gate: &G,
+    bounds: Bounds,
+    room: Room<'r>,
+) -> (Seat<L>, Log<'r>, Spent)
+    ensures seat { result.0 ≡ worked seat result.1 }
+    ensures most { (length result.1 ≤ bounds.turns) × (length result.1 ≤ bounds.edges) }
+{
+    let Room { scratch, log } = room;
+    let mut log = Vec::new(log);
+    let most = bounds.most();
+    if log.reserve_exact(most as usize).is_err() {
+        return (seat, Log::new(log), Spent::NoRoom);
+    }
+    let mut pages = Pages::new(&scratch, most);
+    let spent = take_turns(rt, shared, &mut seat, gate, bounds, &mut pages);
+    pages.copy_to(&mut log);
+    (seat, Log::new(log), spent)
+}

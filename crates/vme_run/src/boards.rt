@@ -1,0 +1,101 @@
+//! Running the boards of a backplane, each in a thread of its own.
+ghost use Rattle.std.specs.Prelude.{◌≡◌, ◌≤◌, IfOk, IfErr, vec_len};
+ghost use Rattle.vme_engines.specs.declared.EngineFault.TheVariants as fault;
+ghost use Rattle.vme_run.specs.Running.{IsBoardsFault};
+
+use crate::RunFault;
+use std::alloc::{AllocError, Global};
+use std::marker::Brand;
+use std::sync::Wait;
+use std::sync::ledger::Blank;
+use std::thread::Threads;
+use vme_arena::{Region, Rest};
+use vme_backplane::Backplane;
+use vme_engines::EngineFault;
+use vme_lock::{Bounds, OpenGate, Rig, Room, Shared, log_bytes, run_boards};
+
+/// The most drivers of a plan, and the parts of a ledger.
+const DRIVERS: u64 = 22;
+
+/// How many bytes a log takes for each of its edges, at most.
+const LOGGED: usize = 8;
+
+/// The bytes of a log of so many edges.
+fn bytes_of(edges: u32) -> usize {
+    (edges as usize * LOGGED).next_multiple_of(16)
+}
+
+/// Memory for so many boards, each of which makes so many edges at most.
+fn region_for(alloc: Global, boards: usize, edges: u32) -> Result<Region, AllocError> {
+    let room = log_bytes(edges).saturating_add(bytes_of(edges));
+    Region::new(alloc, room.saturating_mul(boards))
+}
+
+/// A room for so many edges.
+fn room<'r>(rest: &mut Rest<'r>, edges: u32) -> Result<Room<'r>, AllocError> {
+    match (rest.carve(log_bytes(edges)), rest.carve(bytes_of(edges))) {
+        (Ok(scratch), Ok(log)) => Ok(Room { scratch, log }),
+        _ => Err(AllocError),
+    }
+}
+
+/// A room for each board.
+fn rooms_for<'r>(
+    alloc: Global,
+    rest: &mut Rest<'r>,
+    boards: usize,
+    edges: u32,
+) -> Result<Vec<Room<'r>>, AllocError>
+    ensures { IfOk result (λ v. vec_len v ≡ boards) }
+{
+    let mut rooms = Vec::new(alloc);
+    for _board in 0..boards {
+        rooms.push(room(rest, edges)?)?;
+    }
+    Ok(rooms)
+}
+
+/// Runs all boards of a backplane, and gives it back with the history that they made.
+pub(crate) fn play<R: Threads + Wait + Sync>(
+    rt: &R,
+    alloc: Global,
+    backplane: Backplane,
+    bounds: Bounds,
+) -> Result<Backplane, RunFault>
+    ensures { IfErr result IsBoardsFault }
+{
+    play_on::<Brand, R>(rt, alloc, Blank::new(DRIVERS), backplane, bounds)
+}
+
+fn play_on<L: Rig + Send + Sync, R: Threads + Wait + Sync>(
+    rt: &R,
+    alloc: Global,
+    blank: Blank,
+    backplane: Backplane,
+    bounds: Bounds,
+) -> Result<Backplane, RunFault>
+    requires blank { (blank.name ≡ L.name) × (blank.parts ≡ L.parts) × (blank.parts ≡ 22) }
+    requires opened { L.opened ≡ backplane }
+    ensures { IfErr result IsBoardsFault }
+{
+    let Ok((shared, seats)) = Shared::<L>::new(alloc, blank, backplane) else {
+        return Err(RunFault::Engine(EngineFault::NoMemory));
+    };
+    let edges = bounds.turns.min(bounds.edges);
+    let Ok(mut region) = region_for(alloc, seats.len(), edges) else {
+        return Err(RunFault::Engine(EngineFault::NoMemory));
+    };
+    let Ok(rooms) = rooms_for(alloc, &mut region.rest(), seats.len(), edges) else {
+        return Err(RunFault::Engine(EngineFault::NoMemory));
+    };
+    let Ok((seats, logs)) = run_boards(rt, alloc, &shared, seats, &OpenGate, bounds, rooms) else {
+        return Err(RunFault::NotStarted);
+    };
+    match shared.close(seats, logs.as_slice()) {
+        Ok(closed) => Ok(closed.backplane),
+        Err(mismatch) => Err(RunFault::LogDiffers {
+            driver: mismatch.driver,
+            at: mismatch.at,
+        }),
+    }
+}
