@@ -1,5 +1,5 @@
 -- The verdict with the end of the trace, from that without.
-use Rattle.std.proofs.Common.{◌≡◌, refl, sym, Bool, true, false, List}
+use Rattle.std.proofs.Common.{◌≡◌, refl, Bool, true, false, List}
 use Rattle.std.specs.Prelude.{◌&&◌, Ok, Err}
 use Rattle.vme_model.specs.declared.refusals.Refused.{Refused}
 use Rattle.vme_model.specs.declared.refusals.Refused.TheVariants.{NoSuchDriver, AlreadyThere, Rule, NotSettled}

@@ -1,6 +1,6 @@
 -- The stored edges, made once more from the first.
-use Rattle.std.proofs.Common.{◌≡◌, ◌∙◌, refl, sym, ap, subst, ℕ, zero, suc, List, [], ◌∷◌, ◌++◌, ◌+◌, take, drop, length, reverse, arith, add-one}
-use Rattle.std.specs.Prelude.{Option, Some, None, Ok}
+use Rattle.std.proofs.Common.{◌≡◌, ◌∙◌, refl, ap, subst, ℕ, zero, suc, List, [], ◌∷◌, ◌++◌, ◌+◌, take, drop, reverse, add-one}
+use Rattle.std.specs.Prelude.{Some, Ok}
 use Rattle.std.specs.List.{slice_get}
 use Rattle.std.proofs.lemmas.List.{reverse-append}
 use Rattle.vme_model.specs.declared.signals.Version.{Version}

@@ -1,8 +1,7 @@
-use Rattle.std.proofs.Common.{◌≡◌, ◌∙◌, sym, ap, subst, reverse, take, ◌∷◌, List}
-use Rattle.std.specs.Prelude.{Option}
+use Rattle.std.proofs.Common.{◌∙◌, sym, ap, subst, reverse, take, List}
 use Rattle.vme_model.specs.declared.deliveries.Delivery.{Delivery}
 use Rattle.vme_model.specs.declared.signals.Edge.{Edge}
-use Rattle.vme_model.specs.Deliveries.{delivered, delivery, followed_by}
+use Rattle.vme_model.specs.Deliveries.{delivered, followed_by}
 use Rattle.vme_wiring.specs.Wired.{IsWiringOf}
 use Rattle.vme_backplane.proofs.Replayed.{next_edge, was_allowed}
 use Rattle.vme_backplane.proofs.deliveries.deliveries.Goals as goal

@@ -1,4 +1,4 @@
-use Rattle.std.proofs.Common.{◌≡◌, ◌∙◌, sym, length}
+use Rattle.std.proofs.Common.{◌∙◌, sym, length}
 use Rattle.std.specs.Prelude.{◌==◌, not, Ok}
 use Rattle.vme_model.specs.declared.refusals.Refused.TheVariants.{TraceFull}
 use Rattle.vme_model.specs.Verdict.{check}
