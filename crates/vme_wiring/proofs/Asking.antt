@@ -1,12 +1,11 @@
 -- What a part answers by its own rows of the table is what the whole backplane answers.
-use Rattle.std.proofs.Common.{◌≡◌, ◌∙◌, refl, sym, ap, subst, ℕ, zero, suc, Bool, true, false, List, [], ◌∷◌, ◌<◌, ◌≤◌, arith}
-use Rattle.std.specs.Prelude.{◌&&◌, ◌||◌, ◌==◌, not, Option, Some, None, Ok, nat_lt, nat_le}
-use Rattle.std.specs.List.{list_any, list_all}
+use Rattle.std.proofs.Common.{◌≡◌, ◌∙◌, refl, sym, ap, subst, ℕ, Bool, true, false, List, ◌<◌, ◌≤◌, arith}
+use Rattle.std.specs.Prelude.{◌&&◌, ◌||◌, ◌==◌, not, Option, Some, None, Ok, nat_lt}
+use Rattle.std.specs.List.{list_any}
 use Rattle.std.specs.Option.{option_map_or, option_and_then}
 use Rattle.std.proofs.lemmas.Bool.Decides.{nat_tests}
 use Rattle.vme_model.specs.declared.boards.Row.{Row}
 use Rattle.vme_model.specs.declared.boards.RequesterRow.{RequesterRow}
-use Rattle.vme_model.specs.declared.boards.InterrupterRow.{InterrupterRow}
 use Rattle.vme_model.specs.declared.boards.Release.{Release}
 use Rattle.vme_model.specs.declared.boards.Release.TheVariants.{Done, Request}
 use Rattle.vme_model.specs.declared.boards.ArbiterKind.{ArbiterKind}
@@ -22,9 +21,9 @@ use Rattle.vme_model.specs.declared.signals.Cycle.{Cycle}
 use Rattle.vme_model.specs.declared.signals.Cycle.TheVariants.{Acknowledge, Access}
 use Rattle.vme_model.specs.declared.signals.Edge.{Edge}
 use Rattle.vme_model.specs.Signals.{has_wire, has_value, is_well_formed, is_level}
-use Rattle.vme_model.specs.Sets.{has_level, has_bus_level, bus_levels, irq_levels}
+use Rattle.vme_model.specs.Sets.{has_level, has_bus_level, bus_levels}
 use Rattle.vme_model.specs.Plan.{Plan, board}
-use Rattle.vme_model.specs.History.{drive, request_line, interrupt_line, cycles, has_strobed, last_level, shown, line}
+use Rattle.vme_model.specs.History.{drive, request_line, interrupt_line, cycles, last_level, shown, line}
 use Rattle.vme_model.specs.Readings.{Readings, readings, is_served, grant_in, iack_in}
 use Rattle.vme_model.specs.Rules.{rule, bus_numbers, is_pick, may_release, is_asked, is_within_burst, is_below_burst, may_show, is_passed_by, may_answer, is_bus_clear_due, are_grants_high, is_pri}
 use Rattle.vme_model.specs.Verdict.{Judgement, check, is_other_state}
@@ -33,9 +32,9 @@ use Rattle.vme_model.proofs.PinSets.{has_bus, has_irq}
 use Rattle.vme_model.proofs.Bools.{and_left, and_right}
 use Rattle.vme_requester.specs.Local.{is_own as is_requesters, told as requester_told, readings as requester_readings, answer_over}
 use Rattle.vme_master.specs.Local.{is_own as is_masters, told as master_told, over as master_over, answer as master_answer}
-use Rattle.vme_interrupter.specs.Local.{Noted, is_own as is_interrupters, seen, served, readings as interrupter_readings, over as interrupter_over, answer as interrupter_answer}
+use Rattle.vme_interrupter.specs.Local.{is_own as is_interrupters, seen, served, readings as interrupter_readings, over as interrupter_over, answer as interrupter_answer}
 use Rattle.vme_interrupter.proofs.Seen.{edges_seen, served_seen}
-use Rattle.vme_arbiter.specs.Local.{is_own as is_controllers, over as controller_over, answer as controller_answer}
+use Rattle.vme_arbiter.specs.Local.{over as controller_over, answer as controller_answer}
 use Rattle.vme_wiring.specs.Asked.{asked, IsAsked}
 
 -- two sets of lines that agree

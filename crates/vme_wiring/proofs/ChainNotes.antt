@@ -1,6 +1,6 @@
 -- The chains after an edge.
-use Rattle.std.proofs.Common.{◌≡◌, ◌≢◌, ◌∙◌, refl, sym, ap, subst, ℕ, zero, suc, Bool, true, false, List, [], ◌∷◌, ◌+◌, ◌<◌, ◌≤◌, arith}
-use Rattle.std.specs.Prelude.{◌==◌, ◌&&◌, if◌then◌else◌, not, Option, Some, None, is_some, map, filter, set}
+use Rattle.std.proofs.Common.{◌≡◌, ◌≢◌, ◌∙◌, refl, sym, ap, subst, ℕ, zero, suc, Bool, true, false, List, ◌∷◌, ◌<◌, ◌≤◌, arith}
+use Rattle.std.specs.Prelude.{◌==◌, not, Option, Some, None, is_some, map}
 use Rattle.std.specs.List.{slice_get}
 use Rattle.std.specs.Option.{option_map_or}
 use Rattle.std.proofs.lemmas.Bool.Decides.{nat_tests}
@@ -13,16 +13,16 @@ use Rattle.vme_model.specs.declared.signals.Wire.{Wire}
 use Rattle.vme_model.specs.declared.signals.Wire.TheVariants.{Bg, Bclr, Iack, Berr, Br, BgOut, Bbsy, Addr, AddressStrobe, DataStrobe, Irq, IackOut, Dtack}
 use Rattle.vme_model.specs.declared.signals.Cycle.{Cycle}
 use Rattle.vme_model.specs.declared.signals.Edge.{Edge}
-use Rattle.vme_model.specs.Signals.{has_wire, is_same_driver}
-use Rattle.vme_model.specs.Plan.{Plan, board, active, is_active, up_to, works, drives, grant_chain, head_wire, out_wire}
-use Rattle.vme_model.specs.History.{drive, segment}
-use Rattle.vme_chain.specs.Segments.{Segments, segments_of, output_number, input_number}
+use Rattle.vme_model.specs.Signals.{has_wire}
+use Rattle.vme_model.specs.Plan.{Plan, board, active, is_active, works, grant_chain, out_wire}
+use Rattle.vme_model.specs.History.{drive}
+use Rattle.vme_chain.specs.Segments.{Segments, segments_of, output_number}
 use Rattle.vme_wiring.specs.Counts.{request_level}
 use Rattle.vme_wiring.specs.Chained.{chains_of, chain_at, moved, with_output, after_board, after_controller, IsBefore, CanMove, CanMoveHead}
 use Rattle.vme_wiring.specs.declared.chains.Chains.{Chains}
 use Rattle.vme_wiring.proofs.Others.{drive_same}
-use Rattle.vme_wiring.proofs.Chaining.{IsOne, IsAt, HasPlace, placed, map_others}
-use Rattle.vme_wiring.proofs.Standing.{Stands, IsDriven, at, at_head, own_after, flipped}
+use Rattle.vme_wiring.proofs.Chaining.{IsOne, HasPlace, placed, map_others}
+use Rattle.vme_wiring.proofs.Standing.{Stands, IsDriven, at, at_head, own_after}
 
 self : (n : ℕ) → (n == n) ≡ true
 self n = grind (arith, nat_tests)

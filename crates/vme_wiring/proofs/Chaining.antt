@@ -1,18 +1,14 @@
 -- How the segments of a chain move with the boards that work it.
-use Rattle.std.proofs.Common.{◌≡◌, ◌≢◌, ◌∙◌, refl, sym, ap, subst, ℕ, zero, suc, Bool, true, false, List, [], ◌∷◌, ◌++◌, ◌+◌, ◌-◌, ◌<◌, ◌≤◌, length, arith, inl, inr, add-one}
-use Rattle.std.specs.Prelude.{◌==◌, ◌&&◌, cond, if◌then◌else◌, Option, Some, None, map, filter, set, nat_lt}
+use Rattle.std.proofs.Common.{◌≡◌, ◌≢◌, ◌∙◌, refl, sym, ap, subst, ℕ, zero, suc, Bool, true, false, List, [], ◌∷◌, ◌++◌, ◌+◌, ◌<◌, ◌≤◌, length, arith, inl, inr}
+use Rattle.std.specs.Prelude.{cond, Some, map, filter, set, nat_lt}
 use Rattle.std.specs.List.{count_by, slice_get}
 use Rattle.std.proofs.Math.Nat.{eq-or-lt_of_le}
 use Rattle.std.proofs.Math.Seq.{set-append_seam}
 use Rattle.std.proofs.lemmas.Bool.Decides.{nat_tests}
 use Rattle.std.proofs.lemmas.List.{map-append, length-map, length-append, append-nil, set-append_left}
 use Rattle.std.proofs.lemmas.List.Elements.{filter-append}
-use Rattle.std.proofs.lemmas.List.Sums.{sum_by-append, count_by-le-length}
-use Rattle.std.proofs.lemmas.Option.{slice_get-get_or}
-use Rattle.vme_model.specs.declared.sets.ChainId.{ChainId}
-use Rattle.vme_model.specs.declared.signals.Edge.{Edge}
-use Rattle.vme_model.specs.Plan.{Plan, active, is_active, up_to}
-use Rattle.vme_model.specs.History.{segment}
+use Rattle.std.proofs.lemmas.List.Sums.{sum_by-append}
+use Rattle.vme_model.specs.Plan.{up_to}
 
 -- the slots up to n that pass a test
 abbrev worked : (ℕ → Bool) → ℕ → List ℕ

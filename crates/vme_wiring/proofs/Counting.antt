@@ -1,13 +1,13 @@
 -- How a count of pulls moves with one board.
-use Rattle.std.proofs.Common.{◌≡◌, ◌∙◌, refl, sym, ap, subst, ℕ, zero, suc, Bool, true, false, List, [], ◌∷◌, ◌+◌, ◌-◌, ◌<◌, ◌≤◌, length, map, arith}
-use Rattle.std.specs.Prelude.{◌&&◌, ◌||◌, ◌==◌, if◌then◌else◌, not, Option, Some, None, nat_lt, nat_le, filter}
+use Rattle.std.proofs.Common.{◌≡◌, ◌∙◌, refl, sym, ap, subst, ℕ, zero, suc, Bool, true, false, List, [], ◌∷◌, ◌+◌, ◌≤◌, length, arith}
+use Rattle.std.specs.Prelude.{◌&&◌, ◌||◌, ◌==◌, if◌then◌else◌, not, Some, nat_lt, nat_le, filter}
 use Rattle.std.specs.List.{list_any, list_all, All}
 use Rattle.std.proofs.lemmas.Bool.Decides.{nat_tests}
 use Rattle.std.proofs.lemmas.List.Elements.{All-head, All-tail, All-weaker}
 use Rattle.vme_model.specs.declared.boards.Row.{Row}
 use Rattle.vme_model.specs.Plan.{Plan, row_in}
 use Rattle.vme_model.specs.Accepted.{IsAccepted}
-use Rattle.vme_model.proofs.Ranges.{IsRowInRange, IsInRange, in_range, named_once, slots_of, times}
+use Rattle.vme_model.proofs.Ranges.{IsRowInRange, in_range, named_once, slots_of, times}
 use Rattle.vme_wiring.specs.Counts.{pulls, moved, is_movable}
 
 -- a line is low exactly where its count is not 0

@@ -1,5 +1,5 @@
 -- The counts of the lines after an edge of a board.
-use Rattle.std.proofs.Common.{◌≡◌, ◌≢◌, ◌∙◌, refl, sym, ap, subst, ℕ, Bool, true, false, List, [], ◌∷◌, ◌<◌, ◌≤◌, length, get_or, set, arith}
+use Rattle.std.proofs.Common.{◌≡◌, ◌≢◌, ◌∙◌, refl, sym, ap, subst, ℕ, Bool, true, false, List, ◌∷◌, ◌<◌, length, get_or, set, arith}
 use Rattle.std.specs.Prelude.{◌==◌, ◌&&◌, not, Option, Some, None, is_some, nat_lt}
 use Rattle.std.specs.List.{list_any}
 use Rattle.std.specs.Option.{option_map_or}
@@ -18,12 +18,12 @@ use Rattle.vme_model.specs.declared.signals.Cycle.{Cycle}
 use Rattle.vme_model.specs.declared.signals.Edge.{Edge}
 use Rattle.vme_model.specs.Signals.{has_wire}
 use Rattle.vme_model.specs.Sets.{bus_levels, irq_levels}
-use Rattle.vme_model.specs.Plan.{Plan, board, drives, requests_on, interrupts_on}
+use Rattle.vme_model.specs.Plan.{Plan, drives, requests_on, interrupts_on}
 use Rattle.vme_model.specs.Accepted.{IsAccepted}
-use Rattle.vme_model.specs.History.{drive, line, request_line, interrupt_line, shown}
+use Rattle.vme_model.specs.History.{drive, request_line, interrupt_line, shown}
 use Rattle.vme_model.specs.Views.{pins}
 use Rattle.vme_model.proofs.Bools.{same_number}
-use Rattle.vme_wiring.specs.Counts.{pulls, IsLines, pulls_line, pulls_request, pulls_interrupt, passes_grant, moved, is_movable, request_level, interrupt_level, count_of, lines_after, shared_after, shared_after_controller}
+use Rattle.vme_wiring.specs.Counts.{pulls, IsLines, pulls_line, pulls_request, pulls_interrupt, moved, is_movable, request_level, interrupt_level, count_of, lines_after, shared_after, shared_after_controller}
 use Rattle.vme_wiring.specs.declared.lines.Lines.{Lines}
 use Rattle.vme_wiring.proofs.Counting.{any_pulls, IsSameElsewhere, IsMoved, pulls_move, pulls_stay}
 use Rattle.vme_wiring.proofs.Others.{drive_same}

@@ -1,6 +1,6 @@
 -- The wiring after an edge is that of the longer history.
-use Rattle.std.proofs.Common.{◌≡◌, ◌≢◌, ◌∙◌, refl, sym, ap, subst, ℕ, zero, suc, Bool, true, false, List, [], ◌∷◌, ◌<◌, ◌≤◌, length, arith}
-use Rattle.std.specs.Prelude.{◌==◌, ◌&&◌, if◌then◌else◌, not, Option, Some, None, Ok, option_map, set}
+use Rattle.std.proofs.Common.{◌≡◌, ◌∙◌, refl, sym, ap, subst, ℕ, zero, suc, Bool, true, false, List, [], ◌∷◌, ◌<◌, length, arith}
+use Rattle.std.specs.Prelude.{◌==◌, not, Option, Some, None, Ok, option_map, set}
 use Rattle.std.specs.List.{slice_get}
 use Rattle.std.specs.Option.{option_and_then, option_map_or}
 use Rattle.std.proofs.lemmas.Bool.Decides.{nat_tests}
@@ -18,24 +18,21 @@ use Rattle.vme_model.specs.declared.signals.Edge.{Edge}
 use Rattle.vme_model.specs.Signals.{has_wire, is_same_driver}
 use Rattle.vme_model.specs.Plan.{Plan, board, has_driver, drives}
 use Rattle.vme_model.specs.Accepted.{IsAccepted}
-use Rattle.vme_model.specs.History.{drive, shown, addressing, last_level}
-use Rattle.vme_model.specs.Verdict.{IsLegal, verdict_but_full}
-use Rattle.vme_model.specs.Views.{pins}
-use Rattle.vme_model.proofs.Passed.{Passed, all_passed}
+use Rattle.vme_model.specs.History.{drive, addressing}
+use Rattle.vme_model.specs.Verdict.{verdict_but_full}
+use Rattle.vme_model.proofs.Passed.{all_passed}
 use Rattle.vme_arbiter.specs.declared.policies.AnyPolicy.{AnyPolicy}
 use Rattle.vme_arbiter.specs.Local.{State as ControllerState, state_of as controller_of}
 use Rattle.vme_wiring.specs.Boards.{parts_of, place}
 use Rattle.vme_wiring.specs.Counts.{IsLines, lines_after, shared_after, shared_after_controller, addressing_after, is_movable, count_of}
-use Rattle.vme_wiring.specs.Chained.{chains_of, after_board, after_controller, CanMove, CanMoveHead}
-use Rattle.vme_wiring.specs.Wired.{IsWiringOf, CanTake}
+use Rattle.vme_wiring.specs.Chained.{after_board, after_controller, CanMove, CanMoveHead}
+use Rattle.vme_wiring.specs.Wired.{IsWiringOf}
 use Rattle.vme_wiring.specs.declared.boards.Board.{Board}
-use Rattle.vme_wiring.specs.declared.lines.Lines.{Lines}
-use Rattle.vme_wiring.specs.declared.chains.Chains.{Chains}
 use Rattle.vme_wiring.specs.declared.wirings.Wiring.{Wiring}
 use Rattle.vme_wiring.proofs.Parts.{part}
 use Rattle.vme_wiring.proofs.Others.{parts_same}
-use Rattle.vme_wiring.proofs.Standing.{Stands, stands, IsDriven, driven, at, at_head, flipped}
-use Rattle.vme_wiring.proofs.LineNotes.{IsCounted, counted, uncounted, shared_by_board, shared_by_controller}
+use Rattle.vme_wiring.proofs.Standing.{Stands, stands, driven, at, at_head, flipped}
+use Rattle.vme_wiring.proofs.LineNotes.{counted, uncounted, shared_by_board, shared_by_controller}
 use Rattle.vme_wiring.proofs.ChainNotes.{chained, can_move, chained_head, can_move_head}
 use Rattle.vme_wiring.proofs.Showing.{IsShownAt, shown_at}
 

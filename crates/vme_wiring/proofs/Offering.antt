@@ -1,5 +1,5 @@
 -- What is considered by the stored fields is what is considered after the history.
-use Rattle.std.proofs.Common.{◌≡◌, ◌∙◌, refl, sym, ap, subst, ◌≤◌, ◌+◌, arith, Bool, true, false, List, [], ◌∷◌, ◌++◌, length, map, ℕ, zero, suc, length-append}
+use Rattle.std.proofs.Common.{◌≡◌, ◌∙◌, refl, ap, ◌≤◌, arith, Bool, true, false, List, [], ◌∷◌, ◌++◌, length, map, ℕ, zero, suc, length-append}
 use Rattle.std.specs.Prelude.{◌&&◌, not, if◌then◌else◌, Option, Some, None, option_map, cond, find, nat_lt, is_some}
 use Rattle.std.specs.List.{flat_map}
 use Rattle.std.specs.Option.{option_map_or, option_or, option_to_list}
@@ -14,18 +14,16 @@ use Rattle.vme_model.specs.declared.signals.Driver.{Driver}
 use Rattle.vme_model.specs.declared.signals.Driver.TheVariants.{Controller, Slot}
 use Rattle.vme_model.specs.declared.signals.Wire.{Wire}
 use Rattle.vme_model.specs.declared.signals.Wire.TheVariants.{Bg, Bclr, Iack, Berr, Br, BgOut, Bbsy, Addr, AddressStrobe, DataStrobe, Irq, IackOut, Dtack}
-use Rattle.vme_model.specs.declared.signals.Cycle.{Cycle}
 use Rattle.vme_model.specs.declared.signals.Cycle.TheVariants.{Acknowledge, Access}
 use Rattle.vme_model.specs.declared.signals.Edge.{Edge}
-use Rattle.vme_model.specs.Sets.{has_level, irq_levels}
+use Rattle.vme_model.specs.Sets.{has_level}
 use Rattle.vme_model.specs.Plan.{Plan, board, up_to}
 use Rattle.vme_model.specs.History.{drive, interrupt_line}
 use Rattle.vme_model.specs.Offers.{wires, wanted, next_board, cycles_of, going_on, turned, considered, irq_descending}
-use Rattle.vme_model.specs.Verdict.{IsLegal}
 use Rattle.vme_model.proofs.PinSets.{wanted_of_pins}
 use Rattle.vme_arbiter.specs.Local.{low}
 use Rattle.vme_wiring.specs.Boards.{parts_of, place, low_of}
-use Rattle.vme_wiring.specs.Considered.{own_by, wanted_by, board_above, next_by, cycles_by, going_on_by, turned_by, considered_by}
+use Rattle.vme_wiring.specs.Considered.{own_by, wanted_by, next_by, cycles_by, going_on_by, turned_by, considered_by}
 use Rattle.vme_wiring.specs.Wired.{IsWiringOf}
 use Rattle.vme_wiring.specs.declared.boards.Board.{Board}
 use Rattle.vme_wiring.specs.declared.wirings.Wiring.{Wiring}

@@ -1,6 +1,6 @@
 -- What an edge of another driver leaves as it was.
-use Rattle.std.proofs.Common.{◌≡◌, ◌∙◌, refl, sym, ap, ℕ, Bool, true, false, List, [], ◌∷◌, arith}
-use Rattle.std.specs.Prelude.{◌&&◌, ◌||◌, ◌+◌, if◌then◌else◌, Option, Some, None, option_map, min}
+use Rattle.std.proofs.Common.{◌≡◌, ◌∙◌, refl, sym, ap, ℕ, Bool, true, false, List, ◌∷◌, arith}
+use Rattle.std.specs.Prelude.{◌&&◌, ◌||◌, ◌+◌, if◌then◌else◌, Option, Some, None, option_map}
 use Rattle.vme_model.specs.declared.boards.Row.{Row}
 use Rattle.vme_model.specs.declared.boards.RequesterRow.{RequesterRow}
 use Rattle.vme_model.specs.declared.boards.InterrupterRow.{InterrupterRow}
@@ -15,8 +15,8 @@ use Rattle.vme_model.specs.Signals.{is_same_driver, is_same_wire, is_edge_of, is
 use Rattle.vme_model.specs.Plan.{Plan}
 use Rattle.vme_model.specs.History.{drive, cycles, has_strobed, shown}
 use Rattle.vme_requester.specs.Local.{state_of as requester_of, State as RequesterState}
-use Rattle.vme_master.specs.Local.{state_of as master_of, State as MasterState, most_cycles}
-use Rattle.vme_interrupter.specs.Local.{state_of as interrupter_of, State as InterrupterState, Noted, seen, edges, served, serves_board}
+use Rattle.vme_master.specs.Local.{state_of as master_of, State as MasterState}
+use Rattle.vme_interrupter.specs.Local.{state_of as interrupter_of, State as InterrupterState, seen, edges, served, serves_board}
 use Rattle.vme_model.proofs.Bools.{same_number, is_false}
 use Rattle.vme_wiring.specs.Boards.{parts_of}
 use Rattle.vme_wiring.specs.declared.boards.Board.{Board}

@@ -1,12 +1,10 @@
 -- What the stored fields say of the history.
-use Rattle.std.proofs.Common.{◌≡◌, ◌≢◌, ◌∙◌, refl, sym, ap, subst, ℕ, zero, suc, Bool, true, false, List, [], ◌∷◌, ◌<◌, ◌≤◌, arith}
-use Rattle.std.specs.Prelude.{◌==◌, ◌&&◌, ◌||◌, if◌then◌else◌, not, Option, Some, None, is_some, is_none, option_map, nat_lt}
-use Rattle.std.specs.List.{list_all}
-use Rattle.std.specs.Option.{option_map_or, option_and_then, option_copied}
+use Rattle.std.proofs.Common.{◌≡◌, ◌∙◌, refl, sym, ap, subst, ℕ, zero, suc, Bool, true, false, List, [], ◌∷◌, ◌≤◌, arith}
+use Rattle.std.specs.Prelude.{◌==◌, ◌&&◌, ◌||◌, if◌then◌else◌, not, Option, Some, None, is_some, option_map, nat_lt}
+use Rattle.std.specs.Option.{option_map_or}
 use Rattle.std.proofs.lemmas.Bool.Decides.{nat_tests}
 use Rattle.vme_model.specs.declared.boards.Row.{Row}
 use Rattle.vme_model.specs.declared.boards.RequesterRow.{RequesterRow}
-use Rattle.vme_model.specs.declared.boards.InterrupterRow.{InterrupterRow}
 use Rattle.vme_model.specs.declared.pins.Pins.{Pins}
 use Rattle.vme_model.specs.declared.sets.ChainId.{ChainId}
 use Rattle.vme_model.specs.declared.sets.ChainId.TheVariants as chain
@@ -17,18 +15,15 @@ use Rattle.vme_model.specs.declared.signals.Wire.{Wire}
 use Rattle.vme_model.specs.declared.signals.Wire.TheVariants.{Bg, Bclr, Iack, Berr, Br, BgOut, Bbsy, Addr, AddressStrobe, DataStrobe, Irq, IackOut, Dtack}
 use Rattle.vme_model.specs.declared.signals.Edge.{Edge}
 use Rattle.vme_model.specs.Signals.{is_same_driver, is_same_wire, is_edge_of, has_wire}
-use Rattle.vme_model.specs.Plan.{Plan, board, board_of, has_driver, drives, grant_chain}
+use Rattle.vme_model.specs.Plan.{Plan, board, has_driver, drives, grant_chain}
 use Rattle.vme_model.specs.History.{drive, input as input_after, is_past_end as is_past_end_after, line}
-use Rattle.vme_model.specs.Readings.{grant_in, iack_in}
 use Rattle.vme_model.specs.Verdict.{IsLegal}
 use Rattle.vme_model.specs.Views.{pins}
 use Rattle.vme_model.proofs.Bools.{same_number}
-use Rattle.vme_model.proofs.Passed.{Passed, all_passed}
-use Rattle.vme_model.specs.declared.signals.Cycle.TheVariants.{Acknowledge}
+use Rattle.vme_model.proofs.Passed.{all_passed}
 use Rattle.vme_model.specs.Signals.{is_two}
-use Rattle.vme_model.specs.History.{shown}
-use Rattle.vme_model.specs.Settling.{is_unanswerable, are_grants_through, is_chain_clear, settling}
-use Rattle.vme_chain.specs.Segments.{Segments, segments_of, input, is_past_end, is_clear}
+use Rattle.vme_model.specs.Settling.{are_grants_through, is_chain_clear, settling}
+use Rattle.vme_chain.specs.Segments.{segments_of, input, is_past_end, is_clear}
 use Rattle.vme_chain.proofs.History.{reads_inputs, reads_the_end, reads_clearness}
 use Rattle.vme_wiring.specs.Counts.{passes_grant}
 use Rattle.vme_wiring.proofs.Counting.{no_pulls_left}
@@ -47,7 +42,7 @@ use Rattle.vme_wiring.specs.declared.chains.Chains.{Chains}
 use Rattle.vme_wiring.specs.declared.wirings.Wiring.{Wiring}
 use Rattle.vme_wiring.proofs.Others.{same_wire}
 use Rattle.vme_wiring.proofs.Parts.{low_driven}
-use Rattle.vme_wiring.proofs.Noting.{IsPlaced, placed_board, none_placed}
+use Rattle.vme_wiring.proofs.Noting.{none_placed}
 
 pub chain_is : (p : Plan) (h : List Edge) (c : ChainId) → chain_at c (chains_of p h) ≡ segments_of p h c
 chain_is p h chain.Bg0 = refl

@@ -1,6 +1,6 @@
 -- The slot whose address group is on, and what it shows, after an edge of an address group.
-use Rattle.std.proofs.Common.{◌≡◌, ◌≢◌, ◌∙◌, refl, sym, ap, subst, ℕ, zero, suc, Bool, true, false, List, [], ◌∷◌, ◌<◌, ◌≤◌, arith}
-use Rattle.std.specs.Prelude.{◌==◌, ◌&&◌, if◌then◌else◌, not, Option, Some, None, Ok, find}
+use Rattle.std.proofs.Common.{◌≡◌, ◌≢◌, ◌∙◌, refl, sym, ap, subst, ℕ, Bool, true, false, List, [], ◌∷◌, arith}
+use Rattle.std.specs.Prelude.{◌==◌, if◌then◌else◌, Option, Some, None, Ok}
 use Rattle.std.specs.Option.{option_and_then}
 use Rattle.std.proofs.lemmas.Bool.Decides.{nat_tests}
 use Rattle.vme_model.specs.declared.boards.Row.{Row}
@@ -11,7 +11,7 @@ use Rattle.vme_model.specs.declared.signals.Wire.TheVariants.{Addr}
 use Rattle.vme_model.specs.declared.signals.Cycle.{Cycle}
 use Rattle.vme_model.specs.declared.signals.Edge.{Edge}
 use Rattle.vme_model.specs.Signals.{has_value}
-use Rattle.vme_model.specs.Plan.{Plan, up_to}
+use Rattle.vme_model.specs.Plan.{Plan}
 use Rattle.vme_model.specs.Accepted.{IsAccepted}
 use Rattle.vme_model.specs.History.{drive, addressing, shown, last_value}
 use Rattle.vme_model.specs.Verdict.{IsLegal, verdict_but_full}

@@ -1,13 +1,12 @@
 -- A board of an accepted plan, and an edge that is allowed it.
-use Rattle.std.proofs.Common.{◌≡◌, ◌∙◌, refl, sym, ap, subst, ℕ, Bool, true, false, List, [], ◌∷◌, ◌<◌, ◌≤◌, arith}
-use Rattle.std.specs.Prelude.{◌==◌, ◌&&◌, if◌then◌else◌, not, Option, Some, None, Ok, is_some}
+use Rattle.std.proofs.Common.{◌≡◌, refl, sym, ap, subst, ℕ, Bool, true, false, List, ◌∷◌, ◌<◌, ◌≤◌, arith}
+use Rattle.std.specs.Prelude.{◌==◌, ◌&&◌, if◌then◌else◌, not, Option, Some, None, Ok}
 use Rattle.std.specs.Option.{option_map_or, IfSome}
 use Rattle.std.proofs.lemmas.Bool.Decides.{nat_tests}
 use Rattle.vme_model.specs.declared.boards.Row.{Row}
 use Rattle.vme_model.specs.declared.boards.RequesterRow.{RequesterRow}
 use Rattle.vme_model.specs.declared.boards.InterrupterRow.{InterrupterRow}
 use Rattle.vme_model.specs.declared.signals.Version.{Version}
-use Rattle.vme_model.specs.declared.signals.Driver.{Driver}
 use Rattle.vme_model.specs.declared.signals.Driver.TheVariants.{Controller, Slot}
 use Rattle.vme_model.specs.declared.signals.Wire.{Wire}
 use Rattle.vme_model.specs.declared.signals.Wire.TheVariants.{Bg, Bclr, Iack, Berr, Br, BgOut, Bbsy, Addr, AddressStrobe, DataStrobe, Irq, IackOut, Dtack}
@@ -18,10 +17,10 @@ use Rattle.vme_model.specs.Plan.{Plan, board, drives, has_driver}
 use Rattle.vme_model.specs.Accepted.{IsAccepted}
 use Rattle.vme_model.specs.History.{drive}
 use Rattle.vme_model.specs.Verdict.{verdict_but_full}
-use Rattle.vme_model.proofs.Bools.{and_left, and_right, same_number}
-use Rattle.vme_model.proofs.Ranges.{IsRowInRange, IsInRange, in_range}
+use Rattle.vme_model.proofs.Bools.{and_left, and_right}
+use Rattle.vme_model.proofs.Ranges.{IsRowInRange, in_range}
 use Rattle.vme_model.proofs.Members.{found_row}
-use Rattle.vme_model.proofs.Passed.{checked, Passed, all_passed}
+use Rattle.vme_model.proofs.Passed.{checked, all_passed}
 use Rattle.vme_model.specs.declared.refusals.Refused.TheVariants.{NoSuchDriver}
 use Rattle.vme_wiring.specs.Counts.{request_level, interrupt_level}
 

@@ -1,5 +1,5 @@
 -- What a part is asked: E2 and E3.
-use Rattle.std.specs.Prelude.{◌≡◌, Bool, true, Some, List, Ok}
+use Rattle.std.specs.Prelude.{◌≡◌, true, Some, List, Ok}
 use Rattle.vme_model.specs.declared.boards.Row.{Row}
 use Rattle.vme_model.specs.declared.pins.Pins.{Pins}
 use Rattle.vme_model.specs.declared.refusals.Refused.TheVariants.{AlreadyThere, Rule}

@@ -1,5 +1,5 @@
 -- A board's parts, by the history of its backplane.
-use Rattle.std.specs.Prelude.{ℕ, Bool, true, false, Option, List, option_map, slice_get}
+use Rattle.std.specs.Prelude.{ℕ, Bool, false, Option, List, option_map, slice_get}
 use Rattle.std.specs.Option.{option_and_then, option_map_or}
 use Rattle.vme_model.specs.declared.boards.Row.{Row}
 use Rattle.vme_model.specs.declared.signals.Version.{Version}

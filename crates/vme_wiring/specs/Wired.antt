@@ -1,5 +1,5 @@
 -- Which wiring a history leads to.
-use Rattle.std.specs.Prelude.{◌≡◌, ℕ, Bool, true, false, Option, List, ◌∷◌, Ok, length, option_map}
+use Rattle.std.specs.Prelude.{◌≡◌, ℕ, List, Ok, length, option_map}
 use Rattle.vme_model.specs.declared.signals.Driver.TheVariants.{Controller}
 use Rattle.vme_model.specs.declared.signals.Version.{Version}
 use Rattle.vme_model.specs.declared.signals.Edge.{Edge}

@@ -1,4 +1,4 @@
-use Rattle.std.proofs.Common.{◌≡◌, ◌∙◌, sym, ap, []}
+use Rattle.std.proofs.Common.{◌∙◌, sym, ap, []}
 use Rattle.std.specs.Prelude.{Some, option_map}
 use Rattle.std.specs.Option.{option_copied}
 use Rattle.vme_wiring.specs.Boards.{parts_of}

@@ -1,6 +1,6 @@
 -- The parts that the wire does not concern are as they were.
 use Rattle.std.proofs.Common.{◌≡◌, ◌∙◌, ap, sym, false, ⊎_elim}
-use Rattle.vme_model.specs.declared.signals.Wire.TheVariants.{Br, BgOut, Bbsy, Addr, AddressStrobe, DataStrobe}
+use Rattle.vme_model.specs.declared.signals.Wire.TheVariants.{Br, BgOut, Addr, AddressStrobe, DataStrobe}
 use Rattle.vme_wiring.specs.declared.boards.Board.{Board}
 use Rattle.vme_wiring.proofs.Others.{concerns_master, concerns_requester, concerns_interrupter, requester_kept, master_kept, interrupter_kept, assembled}
 use Rattle.vme_wiring.proofs.boards.Board.note.Goals as goal

@@ -1,4 +1,4 @@
-use Rattle.std.proofs.Common.{◌≡◌, ◌∙◌, sym, ap}
+use Rattle.std.proofs.Common.{◌∙◌, sym, ap}
 use Rattle.std.specs.Prelude.{Some}
 use Rattle.vme_model.specs.Settling.{is_unanswerable}
 use Rattle.vme_wiring.proofs.Seeing.{past_boards}

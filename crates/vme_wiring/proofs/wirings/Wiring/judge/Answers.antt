@@ -1,6 +1,5 @@
-use Rattle.std.proofs.Common.{◌≡◌, ◌∙◌, sym, ap, true, false}
-use Rattle.std.specs.Prelude.{Ok, Err}
-use Rattle.vme_wiring.proofs.Judging.{no_such, refused, passed}
+use Rattle.std.proofs.Common.{◌∙◌, sym}
+use Rattle.vme_wiring.proofs.Judging.{refused, passed}
 use Rattle.vme_wiring.proofs.wirings.Wiring.judge.Goals as goal
 
 pub returns-in-Ok : goal.returns-in-Ok

@@ -1,6 +1,6 @@
 -- The board in the driver's place is that of the plan, and its edge is one that the wiring can take.
 use Rattle.std.proofs.Common.{◌≡◌, ◌∙◌, sym, ap}
-use Rattle.std.specs.Prelude.{None, option_map}
+use Rattle.std.specs.Prelude.{None}
 use Rattle.vme_model.specs.declared.pins.Pins.{Pins}
 use Rattle.vme_model.specs.Plan.{board}
 use Rattle.vme_wiring.specs.Boards.{parts_of}

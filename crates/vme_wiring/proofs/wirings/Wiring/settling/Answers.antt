@@ -1,5 +1,5 @@
-use Rattle.std.proofs.Common.{◌≡◌, ◌∙◌, sym, ap, ℕ, Bool, true, false}
-use Rattle.vme_model.specs.declared.signals.Wire.TheVariants.{Bg, Berr, AddressStrobe}
+use Rattle.std.proofs.Common.{◌∙◌, ap, true, false}
+use Rattle.vme_model.specs.declared.signals.Wire.TheVariants.{Bg, AddressStrobe}
 use Rattle.vme_wiring.proofs.Seeing.{pair, settling_at, acknowledge_clear, grant_seen, grant_gone}
 use Rattle.vme_wiring.proofs.wirings.Wiring.settling.Goals as goal
 
