@@ -1,0 +1,117 @@
+//! An edge as one number.
+ghost use Rattle.std.specs.Prelude.{◌≡◌, ◌<◌};
+ghost use Rattle.vme_store.specs.Codes.{driver_code, wire_code, fall_code, value_code, code_of, driver_of, wire_of, value_of, edge_of};
+
+use vme_model::{Cycle, Driver, Edge, Wire};
+
+fn driver_code(driver: Driver) -> u32
+    ensures value { result ≡ driver_code driver }
+    ensures bounded { result < 256 }
+{
+    match driver {
+        Driver::Controller => 0,
+        Driver::Slot(slot) => u32::from(slot),
+    }
+}
+
+fn wire_code(wire: Wire) -> u32
+    ensures value { result ≡ wire_code wire }
+    ensures bounded { result < 256 }
+{
+    match wire {
+        Wire::Bg(level) => u32::from(level),
+        Wire::Bclr => 4,
+        Wire::Iack => 5,
+        Wire::Berr => 6,
+        Wire::Br => 7,
+        Wire::BgOut => 8,
+        Wire::Bbsy => 9,
+        Wire::Addr => 10,
+        Wire::AddressStrobe => 11,
+        Wire::DataStrobe => 12,
+        Wire::Irq => 13,
+        Wire::IackOut => 14,
+        Wire::Dtack => 15,
+    }
+}
+
+fn value_code(value: Option<Cycle>) -> u32
+    ensures value { result ≡ value_code value }
+    ensures bounded { result < 512 }
+{
+    match value {
+        None => 0,
+        Some(Cycle::Acknowledge(level)) => u32::from(level),
+        Some(Cycle::Access(slot)) => u32::from(slot) + 7,
+    }
+}
+
+fn fall_code(fall: bool) -> u32
+    ensures value { result ≡ fall_code fall }
+    ensures bounded { result < 2 }
+{
+    u32::from(fall)
+}
+
+/// The code of an edge.
+pub(crate) fn code_of(edge: Edge) -> u32
+    ensures { result ≡ code_of edge }
+{
+    let wire = driver_code(edge.driver) * 16 + wire_code(edge.wire);
+    (wire * 2 + fall_code(edge.fall)) * 32 + value_code(edge.value)
+}
+
+fn wire_of(code: u32) -> Wire
+    requires { code < 16 }
+    ensures { result ≡ wire_of code }
+{
+    match code {
+        0..=3 => Wire::Bg(code as u8),
+        4 => Wire::Bclr,
+        5 => Wire::Iack,
+        6 => Wire::Berr,
+        7 => Wire::Br,
+        8 => Wire::BgOut,
+        9 => Wire::Bbsy,
+        10 => Wire::Addr,
+        11 => Wire::AddressStrobe,
+        12 => Wire::DataStrobe,
+        13 => Wire::Irq,
+        14 => Wire::IackOut,
+        _ => Wire::Dtack,
+    }
+}
+
+fn driver_of(code: u32) -> Driver
+    requires { code < 32 }
+    ensures { result ≡ driver_of code }
+{
+    match code {
+        0 => Driver::Controller,
+        _ => Driver::Slot(code as u8),
+    }
+}
+
+fn value_of(code: u32) -> Option<Cycle>
+    requires { code < 32 }
+    ensures { result ≡ value_of code }
+{
+    match code {
+        0 => None,
+        1..=7 => Some(Cycle::Acknowledge(code as u8)),
+        _ => Some(Cycle::Access((code - 7) as u8)),
+    }
+}
+
+/// The edge that a code stands for.
+#[tactic(auto, unfolding(crate::specs::Codes::edge_of))]
+pub(crate) fn edge_of(code: u32) -> Edge
+    ensures { result ≡ edge_of code }
+{
+    Edge {
+        driver: driver_of(code / 1024 % 32),
+        wire: wire_of(code / 64 % 16),
+        fall: code / 32 % 2 == 1,
+        value: value_of(code % 32),
+    }
+}
