@@ -1,4 +1,3 @@
-pub mod LastEdge
-pub mod Slots
-pub mod Considered
-pub mod Levels
+pub mod Judged
+pub mod Replayed
+mod WellFormed

@@ -1,6 +1,7 @@
 //! A backplane, which takes edges one by one.
-ghost use Rattle.std.specs.Prelude.{◌≡◌, ◌==◌, ◌+◌, ◌<◌, ◌≤◌, ◌↔◌, [], IfOk, IsTrue, Ok, OnOk, Some, false, is_ok, length, slice_get};
+ghost use Rattle.std.specs.Prelude.{◌≡◌, ◌==◌, ◌+◌, ◌<◌, ◌≤◌, ◌↔◌, [], IfOk, IsTrue, Ok, OnOk, Some, false, true, is_ok, length, slice_get};
 ghost use Rattle.vme_model.specs.History.{in_order};
+ghost use Rattle.vme_model.specs.Signals.{is_well_formed};
 ghost use Rattle.vme_model.specs.Verdict.{verdict, verdict_but_full, after, kept, IsLegal};
 ghost use Rattle.vme_model.specs.Safe.{IsSafe, IsOrderly};
 ghost use Rattle.vme_model.specs.Views.{pins};
@@ -8,38 +9,34 @@ ghost use Rattle.vme_model.specs.Deliveries.{answer, delivered};
 ghost use Rattle.vme_model.specs.Offers.{offered};
 ghost use Rattle.vme_model.specs.Accepted.{IsAccepted};
 ghost use Rattle.vme_model.specs.Report.{at_power_up, trace_limit};
-ghost use Rattle.vme_backplane.specs.Looks.{history_of};
 
-use crate::looks::Look;
-use crate::traces::Trace;
-use crate::{scans, settling};
+use crate::deliveries::deliveries;
 use arrayvec::ArrayVec;
 use std::alloc::{AllocError, Global};
 use std::marker::Model;
 use vme_model::{Delivery, Driver, Edge, Pins, Refused, Version};
 use vme_slots::Plan;
+use vme_store::{Store, Trace};
+use vme_wiring::Wiring;
 
-/// A backplane: the version of its rules, its plan, and the edges that were made.
+/// A backplane: the version of its rules, its plan, and the edges that were made, with the wiring that they lead to.
 #[derive(Drop)]
-pub struct Backplane {
+pub struct Backplane<'r> {
     version: Version,
     plan: Plan,
-    edges: Vec<Edge>,
-    max: u32,
+    wiring: Wiring,
+    store: Store<'r>,
 }
 
-impl Model for Backplane {
-    ghost use Rattle.std.specs.Prelude.{◌≤◌, reverse, vec_len, vec_capacity};
-    ghost use Rattle.vme_model.specs.Report.{trace_limit};
-    ghost use Rattle.vme_model.specs.Verdict.{State, IsLegal};
+impl<'r> Model for Backplane<'r> {
+    ghost use Rattle.vme_model.specs.Verdict.{State};
+    ghost use Rattle.vme_wiring.specs.Wired.{IsWiringOf};
 
     ghost Value = { State };
 
-    ghost view = { λ b. record { version = b.version; plan = b.plan; history = reverse b.edges.items; max = b.max } };
+    ghost view = { λ b. record { version = b.version; plan = b.plan; history = b.store.history; max = b.store.max } };
 
-    ghost invariant = { λ b.
-        (vec_len b.edges ≤ b.max) × (b.max ≤ vec_capacity b.edges) × (b.max ≤ trace_limit)
-        × IsLegal b.version b.plan (reverse b.edges.items) };
+    ghost invariant = { λ b. IsWiringOf b.version b.plan b.store.history b.wiring };
 }
 
 /// How many edges a run accepted and refused.
@@ -49,17 +46,17 @@ pub struct Counts {
     pub refused: u64,
 }
 
-impl Backplane {
+impl<'r> Backplane<'r> {
     /// A backplane at power-up: no edge was made.
-    pub fn new(plan: Plan, trace: Trace, version: Version) -> Backplane
-        ensures { result ≡ at_power_up version plan trace }
+    pub fn new(plan: Plan, trace: Trace<'r>, version: Version) -> Backplane<'r>
+        ensures { result ≡ at_power_up version plan trace.entry }
     {
-        let max = trace.max();
+        let wiring = Wiring::new(&plan, version);
         Backplane {
             version,
             plan,
-            edges: trace.into_edges(),
-            max,
+            wiring,
+            store: Store::new(trace),
         }
     }
 
@@ -70,7 +67,7 @@ impl Backplane {
         ensures fits { length self.now.history ≤ self.now.max }
         ensures bounded { self.now.max ≤ trace_limit }
     {
-        self.plan.accepted();
+        self.store.laws();
     }
 
     /// What follows for its history: it is safe and orderly.
@@ -82,14 +79,31 @@ impl Backplane {
         self.laws();
     }
 
+    /// The answer to an edge, but for the end of the trace.
+    fn judge(&self, edge: Edge) -> Result<(), Refused>
+        ensures { result ≡ verdict_but_full self.now.version self.now.plan self.now.history edge }
+    {
+        self.wiring.judge(edge)
+    }
+
     /// The answer to an edge, but for what it delivers.
+    #[tactic(auto, using(crate::proofs::Judged::refused, crate::proofs::Judged::passed, crate::proofs::WellFormed::allowed_is_well_formed))]
     fn verdict(&self, edge: Edge) -> Result<(), Refused>
         ensures value { result ≡ verdict self.now edge }
         ensures room { OnOk result ((length self.now.history == self.now.max) ≡ false) }
         ensures allowed { OnOk result (verdict_but_full self.now.version self.now.plan self.now.history edge ≡ Ok tt) }
+        ensures well_formed { OnOk result (is_well_formed edge ≡ true) }
     {
-        let (version, plan) = (self.version(), &self.plan);
-        settling::judge(version, plan, &self.edges, self.is_full(), edge)
+        match self.judge(edge) {
+            Ok(()) => {
+                if self.is_full() {
+                    Err(Refused::TraceFull)
+                } else {
+                    Ok(())
+                }
+            }
+            Err(refused) => Err(refused),
+        }
     }
 
     /// Makes the edge where the rules allow it, and answers what it delivers.
@@ -106,9 +120,9 @@ impl Backplane {
         self.laws();
         self.safety();
         self.verdict(edge)?;
-        let delivery = scans::delivery(&self.plan, &self.edges, edge);
-        let fits = self.edges.push(edge).is_ok();
-        prove!(fits);
+        let delivery = self.wiring.delivery(edge);
+        self.wiring.note(edge);
+        self.store.push(edge);
         self.laws();
         self.safety();
         Ok(delivery)
@@ -142,7 +156,7 @@ impl Backplane {
     pub fn pins(&self, driver: Driver) -> Pins
         ensures { result ≡ pins self.now.plan self.now.history driver }
     {
-        self.look(driver).pins()
+        self.wiring.pins(driver)
     }
 
     /// The driver's edges that would be accepted, in the order of its wires, with one acknowledge and one access at
@@ -150,7 +164,7 @@ impl Backplane {
     pub fn offers(&self, driver: Driver) -> ArrayVec<Edge, 16>
         ensures { result.items ≡ offered self.now driver }
     {
-        let considered = self.look(driver).all_considered();
+        let considered = self.wiring.all_considered(driver);
         let mut offers = ArrayVec::new();
         for edge in considered.as_slice() {
             if self.verdict(*edge).is_ok() {
@@ -164,7 +178,7 @@ impl Backplane {
     pub fn deliveries(&self, alloc: Global) -> Result<Vec<Delivery>, AllocError>
         ensures { IfOk result (λ v. v.items ≡ delivered self.now.plan self.now.history) }
     {
-        scans::deliveries(alloc, &self.plan, &self.edges)
+        deliveries(alloc, self.version, &self.plan, &self.store)
     }
 
     /// The version of its rules.
@@ -185,29 +199,28 @@ impl Backplane {
     pub fn len(&self) -> u32
         ensures { result ≡ length self.now.history }
     {
-        prove!(self.edges.len() <= self.max as usize);
-        self.edges.len() as u32
+        self.store.len()
     }
 
     /// Whether no edge was made.
     pub fn is_empty(&self) -> bool
         ensures { IsTrue result ↔ (self.now.history ≡ []) }
     {
-        self.edges.is_empty()
+        self.len() == 0
     }
 
     /// Whether the trace holds no further edge.
     fn is_full(&self) -> bool
         ensures { result ≡ (length self.now.history == self.now.max) }
     {
-        self.len() == self.max
+        self.len() == self.max()
     }
 
     /// How many edges can be made.
     pub fn max(&self) -> u32
         ensures { result ≡ self.now.max }
     {
-        self.max
+        self.store.max()
     }
 
     /// The edge at a place, counted from 0 in the order of time.
@@ -215,20 +228,6 @@ impl Backplane {
         requires { place < length self.now.history }
         ensures { slice_get (in_order self.now.history) place ≡ Some result }
     {
-        self.edges[place as usize]
-    }
-
-    /// A driver's look at it.
-    fn look(&self, driver: Driver) -> Look<'_>
-        ensures value { history_of result ≡ self.now.history }
-        ensures plan { result.plan.now ≡ self.now.plan }
-        ensures driver { result.driver ≡ driver }
-    {
-        Look {
-            version: self.version(),
-            plan: &self.plan,
-            edges: &self.edges,
-            driver,
-        }
+        self.store.edge_at(place)
     }
 }

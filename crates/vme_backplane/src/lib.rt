@@ -1,18 +1,14 @@
 //! The whole state of one backplane: the version of its rules, its plan, and the edges that were made.
 //!
-//! Each verdict is found by looking back through the edges.
+//! Each verdict is found by the counts, chains and parts that the edges lead to. The edges themselves are read only to
+//! hand them out, and to tell what was delivered.
 #![tactic(auto)]
 
 mod backplanes;
-mod looks;
-mod offers;
-mod rules;
-mod scans;
-mod settling;
-mod traces;
+mod deliveries;
 
 pub use backplanes::{Backplane, Counts};
-pub use traces::{Trace, TraceError};
+pub use vme_store::{Trace, TraceError};
 
 #[cfg(test)]
 mod tests;

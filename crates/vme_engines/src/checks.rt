@@ -9,7 +9,7 @@ ghost use Rattle.vme_engines.specs.Checking.{ChecksInput, IsSafeInput, first_ref
 ghost use Rattle.vme_engines.specs.Steps.{IsCounted, ChecksPiece, FindsOn, FindsInput};
 
 use crate::lines::write_finding;
-use crate::plans::{history_room, plan_of};
+use crate::plans::{history_region, history_room, plan_of};
 use crate::traces::open;
 use crate::{EngineFault, Status};
 use std::alloc::Global;
@@ -94,7 +94,7 @@ fn find_on<R: Read>(
     input: &mut R,
 ) -> Result<Finding, Fault>
     requires { first ≡ Ok true → IsCounted reader reads (length edges.items) }
-    ensures { FindsOn backplane reader edges.items first reads (R.remaining input.old) (R.remaining input.new) result }
+    ensures { FindsOn backplane.entry reader edges.items first reads (R.remaining input.old) (R.remaining input.new) result }
 {
     let mut judged = 0;
     match check_piece(&mut backplane, &mut judged, &edges, first)? {
@@ -151,7 +151,8 @@ pub fn check<R: Read, W: Write>(
 {
     let plan = plan_of(alloc, scenario)?;
     plan.accepted();
-    let room = history_room(alloc)?;
+    let mut region = history_region(alloc)?;
+    let room = history_room(alloc, &mut region)?;
     let finding = match find(alloc, plan, room, trace) {
         Ok(finding) => finding,
         Err(fault) => return Err(EngineFault::Trace(fault)),

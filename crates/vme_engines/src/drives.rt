@@ -11,7 +11,7 @@ ghost use Rattle.vme_engines.specs.declared.Status.TheVariants.{Done, Limit};
 ghost use Rattle.vme_engines.specs.Driving.{Drives, DrivesSafely};
 
 use crate::lines::{flush, header_line};
-use crate::plans::{history_room, plan_of};
+use crate::plans::{history_region, history_room, plan_of};
 use crate::{EngineFault, Status};
 use arrayvec::ArrayVec;
 use std::alloc::Global;
@@ -150,7 +150,8 @@ pub fn drive<W: Write>(
     ensures safe { OnOk result (DrivesSafely scenario.now version edges) }
 {
     let plan = plan_of(alloc, scenario)?;
-    let room = history_room(alloc)?;
+    let mut region = history_region(alloc)?;
+    let room = history_room(alloc, &mut region)?;
     let all = drivers_of(&plan);
     let mut backplane = Backplane::new(plan, room, version);
     take_rounds(&mut backplane, edges, &all);

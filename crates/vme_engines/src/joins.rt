@@ -7,7 +7,7 @@ ghost use Rattle.vme_engines.specs.Joining.{Joins};
 ghost use Rattle.vme_engines.specs.Front.{IsHeld, IsFront, IsTextOf, Takes, Finds, Starts, JoinsBehind};
 
 use crate::lines::header_line;
-use crate::plans::{history_room, plan_of};
+use crate::plans::{history_region, history_room, plan_of};
 use crate::replays::replay_on;
 use crate::{EngineFault, READS, SCENARIO_LIMIT, Status};
 use arrayvec::ArrayVec;
@@ -169,7 +169,8 @@ fn replay_behind<R: Read, W: Write>(
 {
     let text = front.into_text();
     let plan = plan_of(alloc, &text)?;
-    let room = history_room(alloc)?;
+    let mut region = history_region(alloc)?;
+    let room = history_room(alloc, &mut region)?;
     let mut reader = Reader::new();
     let mut edges = Vec::new(alloc);
     let first = start(&mut reader, version, rest, &mut edges);

@@ -18,9 +18,6 @@ use vme_backplane::Backplane;
 use vme_model::{Delivery, Edge, Refused, Version};
 use vme_trace::{Fault, put};
 
-/// Room for any verdict: the longest has 37 bytes.
-const VERDICT: usize = 40;
-
 /// Room for any line: two numbers of at most 20 digits, or one and a verdict, and a few words.
 const LINE: usize = 80;
 
@@ -46,8 +43,8 @@ fn push_number(line: &mut ArrayVec<u8, LINE>, n: u64)
 }
 
 /// Appends a byte's value in decimal.
-fn push_byte(line: &mut ArrayVec<u8, VERDICT>, n: u8)
-    requires { array_vec_len line.old + 3 ≤ 40 }
+fn push_byte(line: &mut ArrayVec<u8, LINE>, n: u8)
+    requires { array_vec_len line.old + 3 ≤ 80 }
     ensures items { line.new.items ≡ line.old.items ++ decimal n }
     ensures len { array_vec_len line.new ≤ array_vec_len line.old + 3 }
 {
@@ -55,67 +52,64 @@ fn push_byte(line: &mut ArrayVec<u8, VERDICT>, n: u8)
     push(line, digits.format(n).as_bytes());
 }
 
-/// What is written of a delivery.
-fn delivery_text(delivery: &Delivery) -> ArrayVec<u8, VERDICT>
-    ensures { result.items ≡ delivery_text delivery.now }
+/// Appends what is written of a delivery.
+fn push_delivery(line: &mut ArrayVec<u8, LINE>, delivery: &Delivery)
+    requires { array_vec_len line.old + 37 ≤ 80 }
+    ensures items { line.new.items ≡ line.old.items ++ delivery_text delivery.now }
+    ensures len { array_vec_len line.new ≤ array_vec_len line.old + 37 }
 {
-    let mut text = ArrayVec::new();
-    push(&mut text, b"ok irq ");
-    push_byte(&mut text, delivery.level);
-    push(&mut text, b" to ");
-    push_byte(&mut text, delivery.handler);
-    push(&mut text, b" from ");
-    push_byte(&mut text, delivery.answered_by);
-    push(&mut text, b" status ");
-    push_byte(&mut text, delivery.status);
-    text
+    push(line, b"ok irq ");
+    push_byte(line, delivery.level);
+    push(line, b" to ");
+    push_byte(line, delivery.handler);
+    push(line, b" from ");
+    push_byte(line, delivery.answered_by);
+    push(line, b" status ");
+    push_byte(line, delivery.status);
 }
 
-/// A word.
-fn word(text: &[u8]) -> ArrayVec<u8, VERDICT>
-    requires { length text.now ≤ 40 }
-    ensures { result.items ≡ text.now }
-{
-    let mut word = ArrayVec::new();
-    push(&mut word, text);
-    word
-}
-
-/// A word and a number behind it.
-fn numbered(text: &[u8], n: u8) -> ArrayVec<u8, VERDICT>
-    requires { length text.now ≤ 37 }
-    ensures { result.items ≡ text.now ++ decimal n }
-{
-    let mut word = word(text);
-    push_byte(&mut word, n);
-    word
-}
-
-/// What is written of an answer to an edge.
-fn verdict_text(answer: &Result<Option<Delivery>, Refused>) -> ArrayVec<u8, VERDICT>
-    ensures { result.items ≡ verdict_text answer.now }
+/// Appends what is written of an answer to an edge: at most 37 bytes.
+fn push_verdict(line: &mut ArrayVec<u8, LINE>, answer: &Result<Option<Delivery>, Refused>)
+    requires { array_vec_len line.old + 37 ≤ 80 }
+    ensures items { line.new.items ≡ line.old.items ++ verdict_text answer.now }
+    ensures len { array_vec_len line.new ≤ array_vec_len line.old + 37 }
 {
     match answer {
-        Ok(None) => word(b"ok"),
-        Ok(Some(delivery)) => delivery_text(delivery),
-        Err(Refused::NoSuchDriver) => word(b"E1"),
-        Err(Refused::AlreadyThere) => word(b"E2"),
-        Err(Refused::Rule(rule)) => numbered(b"E3 G", *rule),
-        Err(Refused::NotSettled(rule)) => numbered(b"E4 S", *rule),
-        Err(Refused::TraceFull) => word(b"E5"),
+        Ok(None) => push(line, b"ok"),
+        Ok(Some(delivery)) => push_delivery(line, delivery),
+        Err(Refused::NoSuchDriver) => push(line, b"E1"),
+        Err(Refused::AlreadyThere) => push(line, b"E2"),
+        Err(Refused::Rule(rule)) => {
+            push(line, b"E3 G");
+            push_byte(line, *rule);
+        }
+        Err(Refused::NotSettled(rule)) => {
+            push(line, b"E4 S");
+            push_byte(line, *rule);
+        }
+        Err(Refused::TraceFull) => push(line, b"E5"),
     }
 }
 
-/// The verdict line of the n-th edge.
-fn verdict_line(n: u64, answer: &Result<Option<Delivery>, Refused>) -> ArrayVec<u8, LINE>
-    ensures { result.items ≡ verdict_line n answer.now }
+/// Makes a line the verdict line of the n-th edge, whatever it was.
+fn set_verdict_line(
+    line: &mut ArrayVec<u8, LINE>,
+    n: u64,
+    answer: &Result<Option<Delivery>, Refused>,
+)
+    ensures { line.new.items ≡ verdict_line n answer.now }
 {
-    let mut line = ArrayVec::new();
-    push_number(&mut line, n);
-    push(&mut line, b" ");
-    push(&mut line, verdict_text(answer).as_slice());
-    push(&mut line, b"\n");
-    line
+    line.clear();
+    push_number(line, n);
+    match answer {
+        // By far the most lines are of this kind, and one copy serves.
+        Ok(None) => push(line, b" ok\n"),
+        _ => {
+            push(line, b" ");
+            push_verdict(line, answer);
+            push(line, b"\n");
+        }
+    }
 }
 
 /// The closing line of a report.
@@ -145,7 +139,7 @@ fn finding_line(finding: Finding) -> ArrayVec<u8, LINE>
             push(&mut line, b"illegal ");
             push_number(&mut line, n);
             push(&mut line, b" ");
-            push(&mut line, verdict_text(&Err(refused)).as_slice());
+            push_verdict(&mut line, &Err(refused));
         }
     }
     push(&mut line, b"\n");
@@ -176,10 +170,11 @@ pub(crate) fn write_verdicts<W: Write>(
     ensures fault { IfErr result (λ fault. fault ≡ Fault.Write) }
 {
     let mut n = judged;
+    let mut line = ArrayVec::new();
     for edge in edges {
         n += 1;
         let answer = backplane.step(*edge);
-        let line = verdict_line(n, &answer);
+        set_verdict_line(&mut line, n, &answer);
         put(out, line.as_slice())?;
     }
     Ok(())

@@ -6,6 +6,7 @@ ghost use Rattle.vme_engines.specs.Steps.{IsNoPlan};
 
 use crate::{EngineFault, SCENARIO_LIMIT, TRACE_LIMIT};
 use std::alloc::Global;
+use vme_arena::Region;
 use vme_backplane::Trace;
 use vme_slots::Plan;
 
@@ -25,10 +26,20 @@ pub fn plan_of(alloc: Global, text: &[u8]) -> Result<Plan, EngineFault>
     }
 }
 
-/// Room for the longest history.
-pub(crate) fn history_room(alloc: Global) -> Result<Trace, EngineFault>
+/// The memory of the longest history.
+pub(crate) fn history_region(alloc: Global) -> Result<Region, EngineFault>
+    ensures { IfErr result (λ fault. fault ≡ EngineFault.NoMemory) }
+{
+    Region::new(alloc, Trace::bytes(TRACE_LIMIT)).map_err(|_| EngineFault::NoMemory)
+}
+
+/// Room for it.
+pub(crate) fn history_room<'r>(
+    alloc: Global,
+    region: &'r mut Region,
+) -> Result<Trace<'r>, EngineFault>
     ensures ok { IfOk result (λ room. room ≡ trace_limit) }
     ensures fault { IfErr result (λ fault. fault ≡ EngineFault.NoMemory) }
 {
-    Trace::new(alloc, TRACE_LIMIT).map_err(|_| EngineFault::NoMemory)
+    Trace::on(alloc, &mut region.rest(), TRACE_LIMIT).map_err(|_| EngineFault::NoMemory)
 }

@@ -7,7 +7,7 @@ ghost use Rattle.vme_engines.specs.Outcomes.{Lent, ReplaysInput};
 ghost use Rattle.vme_engines.specs.Steps.{IsCounted, TakesPiece, ReplaysOn, status_at, traced};
 
 use crate::lines::{close, flush, write_verdicts};
-use crate::plans::{history_room, plan_of};
+use crate::plans::{history_region, history_room, plan_of};
 use crate::traces::open;
 use crate::{EngineFault, Status};
 use std::alloc::Global;
@@ -69,7 +69,7 @@ pub(crate) fn replay_on<R: Read, W: Write>(
     out: &mut W,
 ) -> Result<Status, Fault>
     requires { first ≡ Ok true → IsCounted reader reads (length edges.items) }
-    ensures { ReplaysOn backplane reader edges.items first reads (R.remaining input.old) (R.remaining input.new) (W.contents out.old) (W.contents out.new) result }
+    ensures { ReplaysOn backplane.entry reader edges.items first reads (R.remaining input.old) (R.remaining input.new) (W.contents out.old) (W.contents out.new) result }
 {
     let mut judged = 0;
     match take_piece(&mut backplane, &mut judged, &edges, first, out)? {
@@ -131,7 +131,8 @@ pub fn replay<R: Read, W: Write>(
         Lent scenario.now (ReadNothing s × WroteNothing s) (ReplaysInput s) result }
 {
     let plan = plan_of(alloc, scenario)?;
-    let room = history_room(alloc)?;
+    let mut region = history_region(alloc)?;
+    let room = history_room(alloc, &mut region)?;
     match replay_trace(alloc, plan, room, trace, out) {
         Ok(status) => Ok(status),
         Err(fault) => Err(EngineFault::Trace(fault)),

@@ -102,10 +102,10 @@ fields_of slots r e =
     }
 
 -- a slot that two rows name is named twice
-abbrev slots_of : List Row → List ℕ
+abbrev pub slots_of : List Row → List ℕ
 slots_of rows = map (λ r. r.slot) rows
 
-abbrev times : List ℕ → ℕ → ℕ
+abbrev pub times : List ℕ → ℕ → ℕ
 times ss s = length (filter (λ t. t == s) ss)
 
 self : (n : ℕ) → (n == n) ≡ true
@@ -182,13 +182,26 @@ rows_named p s =
 few : (n : ℕ) → nat_lt 21 n ≡ false → n ≤ 21
 few n e = grind (arith, nat_tests, e)
 
+-- what is left of the tests after that of each field's range
+past_ranges : (p : Plan) → IsAccepted p → (slot_twice p ≡ None)
+past_ranges p e =
+    let a = first_none (too_many_slots p) _ e in
+    let b = first_none (out_of_range p) _ a.1 in
+    let c = first_none (no_controller p) _ b.1 in
+    (first_none (slot_twice p) _ c.1).0
+
+not_twice : (p : Plan) → IsAccepted p → (s : ℕ) → 1 ≤ s → s ≤ p.slots → nat_lt 1 (namings p s) ≡ false
+not_twice p e = none_found (λ s. nat_lt 1 (namings p s)) p.slots (mapped_none (λ s. error.SlotTwice s) _ (past_ranges p e))
+
+-- at most one row names a slot
+pub named_once : (p : Plan) → IsAccepted p → (s : ℕ) → 1 ≤ s → s ≤ p.slots → times (slots_of p.rows) s ≤ 1
+named_once p e s from to = omega (arith, rows_named p s, few_namings (namings p s) (not_twice p e s from to))
+
 pub in_range : (p : Plan) → IsAccepted p → IsInRange p
 in_range p e =
     let a = first_none (too_many_slots p) _ e in
     let b = first_none (out_of_range p) _ a.1 in
-    let c = first_none (no_controller p) _ b.1 in
-    let d = first_none (slot_twice p) _ c.1 in
-    let twice = none_found (λ s. nat_lt 1 (namings p s)) p.slots (mapped_none (λ s. error.SlotTwice s) _ d.0) in
+    let twice = not_twice p e in
     let fields = each_none (row_range p.slots) p.rows (front_none (map (row_range p.slots) p.rows) (map (jumper_range p.slots) p.jumpers) (first_none (when (p.slots == 0) _) _ (mapped_none (λ f. error.OutOfRange f) _ b.0)).1) in
     record {
       most = few p.slots (none_when (nat_lt 21 p.slots) _ a.0);

@@ -4,15 +4,6 @@ use std::process::Abort;
 use std::test::Fail;
 use vme_model::{ArbiterKind, ChainId, IrqKind, PlanError, Release};
 
-/// One board, which requests the bus.
-const ONE_BOARD: &str = r#"slots = 1
-arbiter = "sgl"
-
-[[board]]
-slot = 1
-requester = { level = 3, release = "rwd", burst = 1 }
-"#;
-
 /// Three boards and a jumper, with every key that there is.
 const EVERY_KEY: &str = r#"slots = 4
 arbiter = "pri"
@@ -36,134 +27,19 @@ slot = 3
 chains = ["bg0", "iack", "bg0"]
 "#;
 
-/// Scenarios that are refused, each with the text of its error.
-const REFUSED: [(&str, &str); 40] = [
+/// Scenarios that are refused, each with the text of its error: one for each text.
+const REFUSED: [(&str, &str); 6] = [
     ("slots = ", "Q1 the scenario is not TOML"),
-    ("slots = 1\nslots = 1\n", "Q1 the scenario is not TOML"),
-    ("", "Q3 missing key slots"),
     ("speed = 1\n", "Q2 unknown key speed"),
-    ("b = 1\nab = 1\nZ = 1\n", "Q2 unknown key Z"),
-    ("slots = 256\nspeed = 1\n", "Q2 unknown key speed"),
+    ("", "Q3 missing key slots"),
     ("slots = 256\n", "Q4 bad value of slots"),
-    ("slots = -1\n", "Q4 bad value of slots"),
-    ("slots = 1.0\n", "Q4 bad value of slots"),
-    ("slots = 1\narbiter = \"SGL\"\n", "Q4 bad value of arbiter"),
-    ("slots = 1\narbiter = 1\n", "Q4 bad value of arbiter"),
-    (
-        "slots = 1\narbiter = \"sgl\"\njumper = 1\n",
-        "Q3 missing key board",
-    ),
-    (
-        "slots = 1\narbiter = \"sgl\"\nboard = 1\njumper = 1\n",
-        "Q4 bad value of board",
-    ),
-    (
-        "slots = 1\narbiter = \"sgl\"\nboard = [{}, 1]\njumper = 1\n",
-        "Q4 bad value of board",
-    ),
-    (
-        "slots = 1\narbiter = \"sgl\"\nboard = [{}]\njumper = {}\n",
-        "Q4 bad value of jumper",
-    ),
-    (
-        "slots = 1\narbiter = \"sgl\"\nboard = [{}]\njumper = [{}]\n",
-        "Q3 missing key board.1.slot",
-    ),
-    (
-        "slots = 1\narbiter = \"sgl\"\nboard = []\njumper = [{}]\n",
-        "Q3 missing key jumper.1.slot",
-    ),
-    (
-        "slots = 1\narbiter = \"sgl\"\nboard = []\n",
-        "P1 slot 1 is empty",
-    ),
-    (
-        "slots = 22\narbiter = \"sgl\"\nboard = []\n",
-        "P2 22 slots, at most 21",
-    ),
-    (
-        "slots = 1\narbiter = \"rrs\"\nboard = [{ slot = 9 }]\n",
-        "P8 slot is out of range",
-    ),
-    (
-        "slots = 1\narbiter = \"sgl\"\nboard = [{ slot = 1 }, { slot = 1, z = 1, a = 1 }]\n",
-        "Q2 unknown key board.2.a",
-    ),
-    (
-        "slots = 1\narbiter = \"sgl\"\nboard = [{ slot = true, handler = 1 }]\n",
-        "Q4 bad value of board.1.slot",
-    ),
-    (
-        "slots = 1\narbiter = \"sgl\"\nboard = [{ slot = 1, requester = 1, handler = 1 }]\n",
-        "Q4 bad value of board.1.requester",
-    ),
-    (
-        "slots = 1\narbiter = \"sgl\"\nboard = [{ slot = 1, requester = { speed = 1 } }]\n",
-        "Q3 missing key board.1.requester.release",
-    ),
-    (
-        "slots = 1\narbiter = \"sgl\"\nboard = [{ slot = 1, requester = { speed = 1, release = \"r\" } }]\n",
-        "Q4 bad value of board.1.requester.release",
-    ),
-    (
-        "slots = 1\narbiter = \"sgl\"\nboard = [{ slot = 1, requester = { speed = 1, release = \"rwd\" } }]\n",
-        "Q2 unknown key board.1.requester.speed",
-    ),
-    (
-        "slots = 1\narbiter = \"sgl\"\nboard = [{ slot = 1, requester = { burst = 1, release = \"ror\" } }]\n",
-        "Q2 unknown key board.1.requester.burst",
-    ),
-    (
-        "slots = 1\narbiter = \"sgl\"\nboard = [{ slot = 1, requester = { release = \"rwd\" } }]\n",
-        "Q3 missing key board.1.requester.level",
-    ),
-    (
-        "slots = 1\narbiter = \"sgl\"\nboard = [{ slot = 1, requester = { level = 3, release = \"rwd\" } }]\n",
-        "Q3 missing key board.1.requester.burst",
-    ),
-    (
-        "slots = 1\narbiter = \"sgl\"\nboard = [{ slot = 1, interrupter = [], handler = 1 }]\n",
-        "Q4 bad value of board.1.interrupter",
-    ),
-    (
-        "slots = 1\narbiter = \"sgl\"\nboard = [{ slot = 1, interrupter = { speed = 1 } }]\n",
-        "Q2 unknown key board.1.interrupter.speed",
-    ),
-    (
-        "slots = 1\narbiter = \"sgl\"\nboard = [{ slot = 1, interrupter = {} }]\n",
-        "Q3 missing key board.1.interrupter.level",
-    ),
-    (
-        "slots = 1\narbiter = \"sgl\"\nboard = [{ slot = 1, interrupter = { level = 9, status = 300 } }]\n",
-        "Q3 missing key board.1.interrupter.kind",
-    ),
-    (
-        "slots = 1\narbiter = \"sgl\"\nboard = [{ slot = 1, interrupter = { level = 9, kind = \"roak\", status = 300 } }]\n",
-        "Q4 bad value of board.1.interrupter.status",
-    ),
-    (
-        "slots = 1\narbiter = \"sgl\"\nboard = [{ slot = 1, handler = [1, 8] }]\n",
-        "Q4 bad value of board.1.handler",
-    ),
-    (
-        "slots = 1\narbiter = \"sgl\"\nboard = [{ slot = 1, handler = [0] }]\n",
-        "Q4 bad value of board.1.handler",
-    ),
-    (
-        "slots = 1\narbiter = \"sgl\"\nboard = []\njumper = [{ slot = 2, z = 1 }]\n",
-        "Q2 unknown key jumper.1.z",
-    ),
     (
         "slots = 1\narbiter = \"sgl\"\nboard = []\njumper = [{ slot = 2, chains = [] }, { slot = 3 }]\n",
         "Q3 missing key jumper.2.chains",
     ),
     (
-        "slots = 1\narbiter = \"sgl\"\nboard = []\njumper = [{ slot = 2, chains = [\"bg0\", \"bg4\"] }]\n",
-        "Q4 bad value of jumper.1.chains",
-    ),
-    (
-        "slots = 1\narbiter = \"sgl\"\nboard = []\njumper = [{ slot = 2, chains = \"bg0\" }]\n",
-        "Q4 bad value of jumper.1.chains",
+        "slots = 1\narbiter = \"sgl\"\nboard = []\n",
+        "P1 slot 1 is empty",
     ),
 ];
 
@@ -178,17 +54,6 @@ fn refusal(rt: &impl AllocGlobal, text: &[u8]) -> Result<String, Fail> {
         Ok(_) => Err("the scenario is read".into()),
         Err(error) => Ok(error.to_string(rt.alloc())?),
     }
-}
-
-#[test]
-fn reads_one_board(rt: HostRuntime) -> Result<(), Fail> {
-    let plan = scenario(&rt, ONE_BOARD)?.plan;
-    assert_eq!(rt; plan.slots(), 1);
-    assert_eq!(rt; plan.arbiter(), ArbiterKind::Sgl);
-    let requester = plan.row(1).ok_or("slot 1")?.requester.ok_or("requester")?;
-    assert_eq!(rt; requester.level, 3);
-    assert_eq!(rt; requester.release, Release::Done { burst: 1 });
-    Ok(())
 }
 
 #[test]
@@ -221,13 +86,6 @@ fn prints_the_first_fault(rt: HostRuntime) -> Result<(), Fail> {
         let found = refusal(&rt, text.as_bytes())?;
         assert!(rt; found.as_str() == wanted, "{text:?}: {found}");
     }
-    Ok(())
-}
-
-#[test]
-fn refuses_a_text_that_is_not_utf8(rt: HostRuntime) -> Result<(), Fail> {
-    let found = refusal(&rt, b"# \xff\n")?;
-    assert_eq!(rt; found.as_str(), "Q1 the scenario is not TOML");
     Ok(())
 }
 

@@ -1,7 +1,6 @@
-//! Plans with their answers, the printed refusals, and memory that is refused.
+//! A plan's calls, memory that is refused, and the printed refusals. Which plan is refused, and for what, the clauses say.
 use crate::{Field, Plan, PlanError};
 use bitflags::Flags;
-use std::alloc::Global;
 use std::test::Fail;
 use vme_model::{
     ArbiterKind, ChainId, Chains, InterrupterRow, IrqKind, Jumper, Levels, Release, RequesterRow,
@@ -45,14 +44,6 @@ fn jumper(slot: u8, chains: u8) -> Jumper {
     }
 }
 
-fn refusal(alloc: Global, slots: u8, rows: &[Row], jumpers: &[Jumper]) -> Option<PlanError> {
-    Plan::new(alloc, slots, rows, jumpers, ArbiterKind::Sgl).err()
-}
-
-fn out_of_range(field: Field) -> Option<PlanError> {
-    Some(PlanError::OutOfRange { field })
-}
-
 #[test]
 fn a_plan_tells_its_boards_and_chains(rt: HostRuntime) -> Result<(), Fail> {
     let rows = [
@@ -82,133 +73,13 @@ fn a_plan_tells_its_boards_and_chains(rt: HostRuntime) -> Result<(), Fail> {
     Ok(())
 }
 
+/// Holds where an allocation fails too: want of memory is then answered, and no fault of the plan.
 #[test]
-fn the_first_of_two_faults_is_answered(rt: HostRuntime) {
-    let alloc = rt.alloc();
-    let no_burst = Row {
-        requester: Some(RequesterRow {
-            level: 3,
-            release: Release::Done { burst: 0 },
-        }),
-        ..board(2)
-    };
-    let four = Levels::of(4);
-    let handler = |row: Row| Row {
-        handler: four,
-        ..row
-    };
-    let two_handlers = [handler(requester(1, 2)), handler(requester(2, 3))];
-    let handlers_apart = [handler(requester(1, 3)), handler(board(2))];
-    let twice = [requester(1, 3), requester(1, 3), requester(3, 3)];
-    let row_and_jumper = [requester(1, 3), requester(2, 0)];
-    assert_eq!(rt;
-        refusal(alloc, 22, &[], &[]),
-        Some(PlanError::TooManySlots { slots: 22 })
-    );
-    assert_eq!(rt;
-        refusal(alloc, 3, &[no_burst], &[]),
-        out_of_range(Field::RequesterBurst)
-    );
-    assert_eq!(rt;
-        refusal(alloc, 3, &twice, &[]),
-        Some(PlanError::SlotTwice { slot: 1 })
-    );
-    assert_eq!(rt;
-        refusal(alloc, 2, &row_and_jumper, &[jumper(2, 8)]),
-        Some(PlanError::SlotTwice { slot: 2 })
-    );
-    assert_eq!(rt;
-        refusal(alloc, 2, &two_handlers, &[]),
-        Some(PlanError::LevelNotServed { slot: 1 })
-    );
-    assert_eq!(rt;
-        refusal(alloc, 2, &handlers_apart, &[]),
-        Some(PlanError::HandlerTwice { level: 4 })
-    );
-}
-
-#[test]
-fn each_field_has_its_range(rt: HostRuntime) {
-    let alloc = rt.alloc();
-    let first = requester(1, 3);
-    let unknown_level = Row {
-        handler: Levels::from_bits_retain(0b1000_0000),
-        ..requester(2, 3)
-    };
-    assert_eq!(rt; refusal(alloc, 0, &[], &[]), out_of_range(Field::Slots));
-    assert_eq!(rt;
-        refusal(alloc, 2, &[first, board(0)], &[]),
-        out_of_range(Field::Slot)
-    );
-    assert_eq!(rt;
-        refusal(alloc, 2, &[first, board(3)], &[]),
-        out_of_range(Field::Slot)
-    );
-    assert_eq!(rt;
-        refusal(alloc, 2, &[first, requester(2, 4)], &[]),
-        out_of_range(Field::RequesterLevel)
-    );
-    assert_eq!(rt;
-        refusal(alloc, 2, &[first, interrupter(2, 0)], &[]),
-        out_of_range(Field::InterrupterLevel)
-    );
-    assert_eq!(rt;
-        refusal(alloc, 2, &[first, interrupter(2, 8)], &[]),
-        out_of_range(Field::InterrupterLevel)
-    );
-    assert_eq!(rt;
-        refusal(alloc, 2, &[first, unknown_level], &[]),
-        out_of_range(Field::Handler)
-    );
-    assert_eq!(rt;
-        refusal(alloc, 2, &[first], &[jumper(3, 8)]),
-        out_of_range(Field::JumperSlot)
-    );
-    assert_eq!(rt;
-        refusal(alloc, 2, &[first], &[jumper(2, 0b10_0000)]),
-        out_of_range(Field::JumperChains)
-    );
-}
-
-#[test]
-fn a_chain_needs_its_jumpers_below_a_board_that_works_it(rt: HostRuntime) {
-    let alloc = rt.alloc();
-    let gap = [requester(1, 3), interrupter(4, 1), requester(5, 1)];
-    let broken = |slot: u8, chain: ChainId| Some(PlanError::ChainBroken { slot, chain });
-    assert_eq!(rt;
-        refusal(alloc, 6, &[board(2)], &[]),
-        Some(PlanError::NoController)
-    );
-    assert_eq!(rt; refusal(alloc, 6, &gap, &[]), broken(2, ChainId::Bg1));
-    assert_eq!(rt;
-        refusal(alloc, 6, &gap, &[jumper(2, 0b0_0010)]),
-        broken(2, ChainId::Iack)
-    );
-    assert_eq!(rt;
-        refusal(alloc, 6, &gap, &[jumper(2, 0b1_0010)]),
-        broken(3, ChainId::Bg1)
-    );
-    let joined = [jumper(2, 0b1_0010), jumper(3, 0b1_0010)];
-    assert_eq!(rt;
-        refusal(alloc, 6, &gap, &joined),
-        Some(PlanError::LevelNotServed { slot: 5 })
-    );
-}
-
-#[test]
-fn many_boards_are_answered_at_once(rt: HostRuntime) -> Result<(), Fail> {
-    let rows = vec![in rt.alloc(); requester(21, 3); 50_000]?;
-    assert_eq!(rt;
-        refusal(rt.alloc(), 21, &rows, &[]),
-        Some(PlanError::NoController)
-    );
-    let mut rows = rows;
-    rows.push(requester(1, 3))?;
-    assert_eq!(rt;
-        refusal(rt.alloc(), 21, &rows, &[]),
-        Some(PlanError::SlotTwice { slot: 21 })
-    );
-    Ok(())
+fn answers_the_plan_or_want_of_memory(rt: HostRuntime) {
+    let rows = [requester(1, 3), interrupter(3, 7)];
+    let jumpers = [jumper(2, 0b1_0000)];
+    let plan = Plan::new(rt.alloc(), 3, &rows, &jumpers, ArbiterKind::Sgl);
+    assert!(rt; matches!(plan, Ok(_) | Err(PlanError::Memory)));
 }
 
 #[test]
@@ -248,15 +119,4 @@ fn refusals_are_printed(rt: HostRuntime) -> Result<(), Fail> {
         assert_eq!(rt; format!(in rt.alloc(); "{refusal}")?.as_str(), text);
     }
     Ok(())
-}
-
-#[test]
-fn a_handler_needs_a_requester(rt: HostRuntime) {
-    let handler = Levels::of(1);
-    let rows = [Row {
-        handler,
-        ..board(1)
-    }];
-    let wanted = Some(PlanError::HandlerWithoutRequester { slot: 1 });
-    assert_eq!(rt; refusal(rt.alloc(), 1, &rows, &[]), wanted);
 }

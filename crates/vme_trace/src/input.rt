@@ -51,6 +51,7 @@ pub fn pump<R: Read, A: Allocator>(
 pub fn read_piece<R: Read>(input: &mut R, buffer: &mut [u8; 512]) -> Result<usize, Fault>
     ensures ok { IfOk result (ReadsPiece (R.remaining input.old) (R.remaining input.new) buffer.new) }
     ensures err { IfErr result (λ fault. Keeps (R.remaining input.old) (R.remaining input.new)) }
+    ensures fault { IfErr result (λ fault. fault ≡ Fault.Read) }
 {
     for _ in 0..TRIES {
         match input.read(buffer) {

@@ -20,6 +20,16 @@ returns-in_err-plan g c =
       rw (e.1, e.2) (no_plan before (Keeps (g.W.Write.contents c.args.out.now) (g.W.Write.contents c.args.out.now)) (λ p r. Replays p before ((header c.args.version ++ 10 ∷ []) ++ (c.args.rest.now ++ unwrap_or (g.R.Read.remaining c.args.input.now) [])) (streams from (g.R.Read.remaining c.args.input.now) (g.W.Write.contents c.args.out.now) (g.W.Write.contents c.args.out.now)) r) c.in_err-plan.field-0.0 (no_plan_of before c.into_text-text.result.items c.in_err-plan.field-0.0 (c.into_text-text.ensures before c.args.version held) refused) (Keeps-refl _)),
     )
 
+pub returns-in_err-region : goal.returns-in_err-region
+returns-in_err-region g c =
+    λ from before held taken.
+    let e = err_from_is_err_and c.from_residual-in_err-region.result c.from_residual-in_err-region.ensures.1 in
+    let got = plan_of_text before c.into_text-text.result.items c.in_ok-plan.plan (c.into_text-text.ensures before c.args.version held) (rw c.deref.ensures.value at c.in_ok-plan.ensures.ok.0) (rw c.deref.ensures.value at c.in_ok-plan.ensures.ok.1) in (
+      c.args.rest.now ++ unwrap_or (g.R.Read.remaining c.args.input.now) [],
+      input_behind c.args.version from _ before c.args.rest.now taken,
+      rw (e.1, e.2, c.in_err-region.ensures) (c.in_ok-plan.plan, got.0, got.1, Keeps-refl _),
+    )
+
 pub returns-in_err-room : goal.returns-in_err-room
 returns-in_err-room g c =
     λ from before held taken.

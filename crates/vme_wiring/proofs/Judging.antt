@@ -1,0 +1,51 @@
+-- The verdict from E1, what a part answers, and the settling rules.
+use Rattle.std.proofs.Common.{◌≡◌, ◌∙◌, refl, sym, ap, Bool, true, false, List}
+use Rattle.std.specs.Prelude.{◌&&◌, Ok, Err}
+use Rattle.vme_model.specs.declared.refusals.Refused.{Refused}
+use Rattle.vme_model.specs.declared.refusals.Refused.TheVariants.{NoSuchDriver, AlreadyThere, Rule, NotSettled}
+use Rattle.vme_model.specs.declared.signals.Version.{Version}
+use Rattle.vme_model.specs.declared.signals.Edge.{Edge}
+use Rattle.vme_model.specs.Signals.{is_well_formed}
+use Rattle.vme_model.specs.Plan.{Plan, has_driver}
+use Rattle.vme_model.specs.History.{drive}
+use Rattle.vme_model.specs.Readings.{readings}
+use Rattle.vme_model.specs.Rules.{rule}
+use Rattle.vme_model.specs.Settling.{settling}
+use Rattle.vme_model.specs.Verdict.{Judgement, check, is_other_state, allowed, settled, verdict_but_full}
+use Rattle.vme_wiring.specs.Asked.{asked}
+
+refused_before : (a b : Bool) (x y r : Refused) (rest : Judgement) → check a x (check b y (Ok tt)) ≡ Err r → check a x (check b y rest) ≡ Err r
+refused_before true true x y r rest e = absurd (cc)
+refused_before true false x y r rest e = e
+refused_before false b x y r rest e = e
+
+passed_before : (a b : Bool) (x y : Refused) (rest : Judgement) → check a x (check b y (Ok tt)) ≡ Ok tt → check a x (check b y rest) ≡ rest
+passed_before true true x y rest e = refl
+passed_before true false x y rest e = absurd (cc)
+passed_before false b x y rest e = absurd (cc)
+
+module _ (version : Version) (p : Plan) (h : List Edge) (e : Edge) where
+  abbrev exists : Bool
+  exists = is_well_formed e && has_driver p e.driver e.wire
+
+  abbrev last : Judgement
+  last = check (settled version p h e) (NotSettled (settling version p h e.wire e.fall).0) (Ok tt)
+
+  abbrev named : Refused
+  named = Rule (rule version (readings p h e.driver) e.wire e.fall e.value).0
+
+  abbrev between : Judgement
+  between = check (is_other_state (drive h e.driver e.wire) e.fall) AlreadyThere (check (allowed version p h e) named last)
+
+  pub no_such : exists ≡ false → Err NoSuchDriver ≡ verdict_but_full version p h e
+  no_such none = sym (ap (λ b. check b NoSuchDriver between) none)
+
+  pub refused : (r : Refused) → exists ≡ true → asked version p h e ≡ Err r → Err r ≡ verdict_but_full version p h e
+  refused r some is =
+      sym (refused_before (is_other_state (drive h e.driver e.wire) e.fall) (allowed version p h e) AlreadyThere named r last is)
+      ∙ sym (ap (λ b. check b NoSuchDriver between) some)
+
+  pub passed : exists ≡ true → asked version p h e ≡ Ok tt → last ≡ verdict_but_full version p h e
+  passed some is =
+      sym (passed_before (is_other_state (drive h e.driver e.wire) e.fall) (allowed version p h e) AlreadyThere named last is)
+      ∙ sym (ap (λ b. check b NoSuchDriver between) some)

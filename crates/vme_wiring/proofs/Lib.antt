@@ -1,0 +1,14 @@
+pub mod Parts
+pub mod Asking
+pub mod Counting
+pub mod Others
+pub mod Chaining
+pub mod Standing
+pub mod LineNotes
+pub mod ChainNotes
+pub mod Showing
+pub mod Noting
+pub mod Seeing
+pub mod Judging
+pub mod Fresh
+pub mod Offering

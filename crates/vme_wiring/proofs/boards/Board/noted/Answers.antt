@@ -1,0 +1,34 @@
+-- The parts that the wire does not concern are as they were.
+use Rattle.std.proofs.Common.{◌≡◌, ◌∙◌, ap, sym, false, ⊎_elim}
+use Rattle.vme_model.specs.declared.signals.Wire.TheVariants.{Br, BgOut, Bbsy, Addr, AddressStrobe, DataStrobe}
+use Rattle.vme_wiring.specs.declared.boards.Board.{Board}
+use Rattle.vme_wiring.proofs.Others.{concerns_master, concerns_requester, concerns_interrupter, requester_kept, master_kept, interrupter_kept, assembled}
+use Rattle.vme_wiring.proofs.boards.Board.noted.Goals as goal
+
+pub returns-in-Br : goal.returns-in-Br
+returns-in-Br c version p h r same shown =
+    let e = c.args.edge in
+    let no_master : concerns_master e.wire ≡ false = ⊎_elim (λ (is : e.wire ≡ Br). ap concerns_master is) (λ (is : e.wire ≡ BgOut). ap concerns_master is) c.in-Br.is in
+    let no_interrupter : concerns_interrupter e.wire ≡ false = ⊎_elim (λ (is : e.wire ≡ Br). ap concerns_interrupter is) (λ (is : e.wire ≡ BgOut). ap concerns_interrupter is) c.in-Br.is in
+    assembled (ap (λ (b : Board). b.row) same)
+    (c.requester_after.ensures r.slot r.requester version h (ap (λ (b : Board). b.requester) same))
+    (ap (λ (b : Board). b.master) same ∙ sym (master_kept r.slot r.requester r.handler h e no_master))
+    (ap (λ (b : Board). b.interrupter) same ∙ sym (interrupter_kept p r.slot r.interrupter h e no_interrupter))
+
+pub returns-in-Bbsy : goal.returns-in-Bbsy
+returns-in-Bbsy c version p h r same shown =
+    let e = c.args.edge in
+    assembled (ap (λ (b : Board). b.row) same)
+    (c.requester_after-in-Bbsy.ensures r.slot r.requester version h (ap (λ (b : Board). b.requester) same))
+    (c.master_after.ensures r.slot r.requester r.handler h (ap (λ (b : Board). b.master) same))
+    (ap (λ (b : Board). b.interrupter) same ∙ sym (interrupter_kept p r.slot r.interrupter h e (ap concerns_interrupter c.in-Bbsy.is)))
+
+pub returns-in-Addr : goal.returns-in-Addr
+returns-in-Addr c version p h r same shown =
+    let e = c.args.edge in
+    let no_requester : concerns_requester e.wire ≡ false = ⊎_elim (λ (is : e.wire ≡ Addr). ap concerns_requester is) (⊎_elim (λ (is : e.wire ≡ AddressStrobe). ap concerns_requester is) (λ (is : e.wire ≡ DataStrobe). ap concerns_requester is)) c.in-Addr.is in
+    let no_interrupter : concerns_interrupter e.wire ≡ false = ⊎_elim (λ (is : e.wire ≡ Addr). ap concerns_interrupter is) (⊎_elim (λ (is : e.wire ≡ AddressStrobe). ap concerns_interrupter is) (λ (is : e.wire ≡ DataStrobe). ap concerns_interrupter is)) c.in-Addr.is in
+    assembled (ap (λ (b : Board). b.row) same)
+    (ap (λ (b : Board). b.requester) same ∙ sym (requester_kept r.slot r.requester version h e no_requester))
+    (c.master_after-in-Addr.ensures r.slot r.requester r.handler h (ap (λ (b : Board). b.master) same))
+    (ap (λ (b : Board). b.interrupter) same ∙ sym (interrupter_kept p r.slot r.interrupter h e no_interrupter))

@@ -1,0 +1,113 @@
+-- The open-collector lines, as counts of the boards that pull them.
+use Rattle.std.specs.Prelude.{◌≡◌, ◌&&◌, ◌+◌, ◌-◌, ◌<◌, if◌then◌else◌, ℕ, Bool, true, false, List, [], ◌∷◌, Option, Some, None, get_or, set, length, nat_lt}
+use Rattle.std.specs.Option.{option_map_or}
+use Rattle.vme_model.specs.declared.boards.Row.{Row}
+use Rattle.vme_model.specs.declared.signals.Driver.TheVariants.{Slot}
+use Rattle.vme_model.specs.declared.signals.Wire.{Wire}
+use Rattle.vme_model.specs.declared.signals.Wire.TheVariants.{Bclr, Berr, Br, BgOut, Bbsy, Addr, AddressStrobe, DataStrobe, Irq, Dtack}
+use Rattle.vme_model.specs.declared.signals.Edge.{Edge}
+use Rattle.vme_model.specs.declared.pins.Pins.{Pins}
+use Rattle.vme_model.specs.declared.signals.Cycle.{Cycle}
+use Rattle.vme_model.specs.Sets.{bus_levels, irq_levels}
+use Rattle.vme_model.specs.Plan.{Plan, requests_on, interrupts_on, drives}
+use Rattle.vme_model.specs.History.{drive}
+use Rattle.vme_wiring.specs.declared.lines.Lines.{Lines}
+
+-- how many boards pull
+abbrev pub pulls : (Row → Bool) → List Row → ℕ
+pulls f [] = 0
+pulls f (r ∷ rows) = if f r then pulls f rows + 1 else pulls f rows
+
+-- which boards pull a line, a level's bus request line, and a level's interrupt request line
+abbrev pub pulls_line : List Edge → Wire → Row → Bool
+pulls_line h w r = drives w r && drive h (Slot r.slot) w
+
+abbrev pub pulls_request : List Edge → ℕ → Row → Bool
+pulls_request h n r = requests_on n r && drive h (Slot r.slot) Br
+
+abbrev pub pulls_interrupt : List Edge → ℕ → Row → Bool
+pulls_interrupt h n r = interrupts_on n r && drive h (Slot r.slot) Irq
+
+-- which boards pass a grant on
+abbrev pub passes_grant : List Edge → Row → Bool
+passes_grant h r = drive h (Slot r.slot) BgOut
+
+-- each count is the number of the boards that pull
+pub record IsLines (p : Plan) (h : List Edge) (l : Lines) : Type 0 where
+  pub br_room : length l.br ≡ 4
+  pub irq_room : length l.irq ≡ 8
+  pub br : (n : ℕ) → n < 4 → get_or l.br n 0 ≡ pulls (pulls_request h n) p.rows
+  pub irq : (n : ℕ) → n < 8 → get_or l.irq n 0 ≡ pulls (pulls_interrupt h n) p.rows
+  pub bgout : l.bgout ≡ pulls (passes_grant h) p.rows
+  pub bbsy : l.bbsy ≡ pulls (pulls_line h Bbsy) p.rows
+  pub address_strobe : l.address_strobe ≡ pulls (pulls_line h AddressStrobe) p.rows
+  pub data_strobe : l.data_strobe ≡ pulls (pulls_line h DataStrobe) p.rows
+  pub dtack : l.dtack ≡ pulls (pulls_line h Dtack) p.rows
+
+-- nobody pulls
+abbrev pub no_pulls : Lines
+no_pulls = record { br = 0 ∷ 0 ∷ 0 ∷ 0 ∷ []; irq = 0 ∷ 0 ∷ 0 ∷ 0 ∷ 0 ∷ 0 ∷ 0 ∷ 0 ∷ []; bgout = 0; bbsy = 0; address_strobe = 0; data_strobe = 0; dtack = 0 }
+
+-- a count after one driver more pulls, or one fewer, and whether it can be so
+abbrev pub moved : ℕ → Bool → ℕ
+moved n true = n + 1
+moved n false = n - 1
+
+abbrev pub is_movable : ℕ → Bool → Bool
+is_movable n true = nat_lt n 22
+is_movable n false = nat_lt 0 n
+
+-- the levels of a board's requester and interrupter
+abbrev pub request_level : Row → ℕ
+request_level r = option_map_or (λ q. q.level) r.requester 0
+
+abbrev pub interrupt_level : Row → ℕ
+interrupt_level r = option_map_or (λ i. i.level) r.interrupter 0
+
+-- the count of the line that a board's wire is on
+abbrev pub count_of : Lines → Row → Wire → ℕ
+count_of l r Br = get_or l.br (request_level r) 0
+count_of l r Irq = get_or l.irq (interrupt_level r) 0
+count_of l r BgOut = l.bgout
+count_of l r Bbsy = l.bbsy
+count_of l r AddressStrobe = l.address_strobe
+count_of l r DataStrobe = l.data_strobe
+count_of l r Dtack = l.dtack
+count_of l r _ = 1
+
+-- the lines after an edge of the board's wire
+abbrev pub lines_after : Lines → Row → Wire → Bool → Lines
+lines_after l r Br fall = record l { br = set l.br (request_level r) (moved (get_or l.br (request_level r) 0) fall) }
+lines_after l r Irq fall = record l { irq = set l.irq (interrupt_level r) (moved (get_or l.irq (interrupt_level r) 0) fall) }
+lines_after l r BgOut fall = record l { bgout = moved l.bgout fall }
+lines_after l r Bbsy fall = record l { bbsy = moved l.bbsy fall }
+lines_after l r AddressStrobe fall = record l { address_strobe = moved l.address_strobe fall }
+lines_after l r DataStrobe fall = record l { data_strobe = moved l.data_strobe fall }
+lines_after l r Dtack fall = record l { dtack = moved l.dtack fall }
+lines_after l r _ fall = l
+
+-- what all drivers see where every line is high
+abbrev pub high_pins : Pins
+high_pins = record { requests = bus_levels (λ n. false); bbsy = false; bclr = false; address_strobe = false; data_strobe = false; dtack = false; berr = false; irq = irq_levels (λ n. false); shown = None; grant_in = false; iack_in = false }
+
+-- what all drivers see of the lines after an edge of a board's wire
+abbrev pub shared_after : Pins → Lines → Wire → Option Cycle → Pins
+shared_after s l Br value = record s { requests = bus_levels (λ n. nat_lt 0 (get_or l.br n 0)) }
+shared_after s l Irq value = record s { irq = irq_levels (λ n. nat_lt 0 (get_or l.irq n 0)) }
+shared_after s l Bbsy value = record s { bbsy = nat_lt 0 l.bbsy }
+shared_after s l Addr value = record s { shown = value }
+shared_after s l AddressStrobe value = record s { address_strobe = nat_lt 0 l.address_strobe }
+shared_after s l DataStrobe value = record s { data_strobe = nat_lt 0 l.data_strobe }
+shared_after s l Dtack value = record s { dtack = nat_lt 0 l.dtack }
+shared_after s l _ value = s
+
+-- and after one of the controller's
+abbrev pub shared_after_controller : Pins → Wire → Bool → Pins
+shared_after_controller s Bclr fall = record s { bclr = fall }
+shared_after_controller s Berr fall = record s { berr = fall }
+shared_after_controller s _ fall = s
+
+-- the slot whose address group is on, after an edge of the slot's
+abbrev pub addressing_after : Option ℕ → ℕ → Wire → Bool → Option ℕ
+addressing_after on s Addr fall = if fall then Some s else None
+addressing_after on s _ fall = on

@@ -1,0 +1,6 @@
+pub mod Boards
+pub mod Counts
+pub mod Chained
+pub mod Wired
+pub mod Asked
+pub mod Considered

@@ -1,0 +1,38 @@
+-- Which wiring a history leads to.
+use Rattle.std.specs.Prelude.{◌≡◌, ℕ, Bool, true, false, Option, List, ◌∷◌, Ok, length, option_map}
+use Rattle.vme_model.specs.declared.signals.Driver.TheVariants.{Controller}
+use Rattle.vme_model.specs.declared.signals.Version.{Version}
+use Rattle.vme_model.specs.declared.signals.Edge.{Edge}
+use Rattle.vme_model.specs.Plan.{Plan, board}
+use Rattle.vme_model.specs.Accepted.{IsAccepted}
+use Rattle.vme_model.specs.History.{addressing}
+use Rattle.vme_model.specs.Verdict.{IsLegal, verdict_but_full}
+use Rattle.vme_model.specs.Views.{pins}
+use Rattle.vme_arbiter.specs.Local.{state_of as controller_of}
+use Rattle.vme_wiring.specs.Boards.{parts_of, place}
+use Rattle.vme_wiring.specs.Counts.{IsLines}
+use Rattle.vme_wiring.specs.Chained.{chains_of}
+use Rattle.vme_wiring.specs.declared.wirings.Wiring.{Wiring}
+
+-- each stored field is that reading of a legal history of an accepted plan
+pub record IsWiringOf (version : Version) (p : Plan) (h : List Edge) (w : Wiring) : Type 0 where
+  pub accepted : IsAccepted p
+  pub legal : IsLegal version p h
+  pub rules : w.version ≡ version
+  pub slots : w.slots ≡ p.slots
+  pub room : length w.boards ≡ 22
+  pub boards : (s : ℕ) → place w.boards s ≡ option_map (parts_of version p h) (board p s)
+  pub arbiter : w.arbiter ≡ (record { kind = p.arbiter }, controller_of p.arbiter version h)
+  pub lines : IsLines p h w.lines
+  pub chains : w.chains ≡ chains_of p h
+  -- the controller's pins are the lines that all boards share
+  pub shared : w.shared ≡ pins p h Controller
+  pub addressing : w.addressing ≡ addressing p h
+
+-- some history leads to it after which the rules allow the edge
+pub record CanTake (w : Wiring) (e : Edge) : Type 0 where
+  pub version : Version
+  pub plan : Plan
+  pub history : List Edge
+  pub is_wiring : IsWiringOf version plan history w
+  pub allowed : verdict_but_full version plan history e ≡ Ok tt

@@ -1,0 +1,12 @@
+//! A backplane's wires as a few counts, chains and parts of boards, so that a verdict is constant work.
+#![tactic(auto)]
+
+mod boards;
+mod chains;
+mod lines;
+mod offers;
+mod sights;
+mod verdicts;
+mod wirings;
+
+pub use wirings::Wiring;

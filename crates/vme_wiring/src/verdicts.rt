@@ -1,0 +1,133 @@
+//! The verdict on an edge, but for the end of the trace.
+ghost use Rattle.std.specs.Prelude.{◌≡◌, ◌&&◌, ◌||◌, not, true, false, List, Some, Ok, nat_lt};
+ghost use Rattle.vme_model.specs.declared.signals.Edge.{Edge as EdgeValue};
+ghost use Rattle.vme_model.specs.declared.signals.Version.{Version as VersionValue};
+ghost use Rattle.vme_model.specs.Signals.{is_two, is_well_formed};
+ghost use Rattle.vme_model.specs.Plan.{Plan as PlanValue, grant_chain, has_driver};
+ghost use Rattle.vme_model.specs.History.{shown};
+ghost use Rattle.vme_model.specs.Settling.{is_unanswerable, settling};
+ghost use Rattle.vme_model.specs.Verdict.{check, settled, verdict_but_full};
+ghost use Rattle.vme_chain.specs.Segments.{is_past_end};
+ghost use Rattle.vme_wiring.specs.Chained.{chain_at};
+ghost use Rattle.vme_wiring.specs.Asked.{asked};
+
+use crate::wirings::Wiring;
+use vme_model::{ChainId, Cycle, Driver, Edge, Refused, Version, Wire};
+
+/// Whether these are the rules of the second version.
+fn is_two(version: Version) -> bool
+    ensures { result ≡ is_two version }
+{
+    matches!(version, Version::Two)
+}
+
+impl Wiring {
+    ghost use Rattle.vme_wiring.specs.Wired.{IsWiringOf};
+
+    /// Whether the backplane has the driver, with such a wire.
+    fn has_driver(&self, driver: Driver, wire: Wire) -> bool
+        ensures { (version : VersionValue) (p : PlanValue) (h : List EdgeValue) → IsWiringOf version p h self.now → result ≡ has_driver p driver wire }
+    {
+        match driver {
+            Driver::Controller => wire.is_controllers(),
+            Driver::Slot(slot) => match self.board(slot) {
+                Some(board) => board.row.drives(wire),
+                None => false,
+            },
+        }
+    }
+
+    /// E1: whether the edge is well formed, and there is such a driver.
+    fn exists(&self, edge: Edge) -> bool
+        ensures { (version : VersionValue) (p : PlanValue) (h : List EdgeValue) → IsWiringOf version p h self.now → result ≡ (is_well_formed edge && has_driver p edge.driver edge.wire) }
+    {
+        edge.is_well_formed() && self.has_driver(edge.driver, edge.wire)
+    }
+
+    /// E2 and E3, by the part that drives the wire.
+    fn ask(&self, edge: Edge) -> Result<(), Refused>
+        ensures { (version : VersionValue) (p : PlanValue) (h : List EdgeValue) → IsWiringOf version p h self.now → (is_well_formed edge && has_driver p edge.driver edge.wire) ≡ true → result ≡ asked version p h edge }
+    {
+        match edge.driver {
+            Driver::Controller => self.arbiter.may(edge, self.shared),
+            Driver::Slot(slot) => match self.board(slot) {
+                Some(board) => board.may(edge, self.pins_at(board)),
+                None => Err(Refused::NoSuchDriver),
+            },
+        }
+    }
+
+    /// Whether nobody can answer the cycle.
+    fn is_beyond_boards(&self, cycle: Cycle) -> bool
+        ensures { (version : VersionValue) (p : PlanValue) (h : List EdgeValue) → IsWiringOf version p h self.now → result ≡ is_unanswerable p h (Some cycle) }
+    {
+        match cycle {
+            Cycle::Acknowledge(_) => self.chains.is_past_end(ChainId::Iack),
+            Cycle::Access(slot) => self.board(slot).is_none(),
+        }
+    }
+
+    /// S2: whether nobody can answer what is shown.
+    fn is_unanswerable(&self) -> bool
+        ensures { (version : VersionValue) (p : PlanValue) (h : List EdgeValue) → IsWiringOf version p h self.now → result ≡ is_unanswerable p h (shown p h) }
+    {
+        match self.shared.shown {
+            Some(cycle) => self.is_beyond_boards(cycle),
+            None => false,
+        }
+    }
+
+    /// S3: whether a grant that nobody took has passed every board.
+    fn is_grant_seen(&self, level: u8) -> bool
+        ensures { result ≡ (not (is_two self.now.version) || self.now.shared.bbsy || is_past_end (chain_at (grant_chain level) self.now.chains)) }
+    {
+        !is_two(self.version)
+            || self.shared.bbsy
+            || self.chains.is_past_end(ChainId::of_grant(level))
+    }
+
+    /// S4: whether the last grant has gone from every board.
+    fn is_grant_gone(&self) -> bool
+        ensures { result ≡ (not (is_two self.now.version) || not (nat_lt 0 self.now.lines.bgout)) }
+    {
+        !is_two(self.version) || !self.lines.bgout.is_low()
+    }
+
+    /// The number of the settling rule that names the edge, and whether it holds; 0 where none does.
+    fn settling(&self, edge: Edge) -> (u8, bool)
+        ensures { (version : VersionValue) (p : PlanValue) (h : List EdgeValue) → IsWiringOf version p h self.now → result ≡ settling version p h edge.wire edge.fall }
+    {
+        match (edge.wire, edge.fall) {
+            (Wire::AddressStrobe, true) => (1, self.chains.is_acknowledge_clear()),
+            (Wire::Berr, true) => (2, self.is_unanswerable()),
+            (Wire::Bg(level), false) => (3, self.is_grant_seen(level)),
+            (Wire::Bg(_), true) => (4, self.is_grant_gone()),
+            _ => (0, true),
+        }
+    }
+
+    /// E4: the settling rules.
+    fn settle(&self, edge: Edge) -> Result<(), Refused>
+        ensures { (version : VersionValue) (p : PlanValue) (h : List EdgeValue) → IsWiringOf version p h self.now → result ≡ check (settled version p h edge) (Refused.NotSettled (settling version p h edge.wire edge.fall).0) (Ok tt) }
+    {
+        let (number, holds) = self.settling(edge);
+        if holds {
+            Ok(())
+        } else {
+            Err(Refused::NotSettled(number))
+        }
+    }
+
+    /// The first of E1 to E4 that applies to an edge.
+    pub fn judge(&self, edge: Edge) -> Result<(), Refused>
+        ensures { (version : VersionValue) (p : PlanValue) (h : List EdgeValue) → IsWiringOf version p h self.now → result ≡ verdict_but_full version p h edge }
+    {
+        if !self.exists(edge) {
+            return Err(Refused::NoSuchDriver);
+        }
+        match self.ask(edge) {
+            Ok(()) => self.settle(edge),
+            Err(refused) => Err(refused),
+        }
+    }
+}

@@ -1,0 +1,165 @@
+//! The state that a backplane's edges lead to.
+ghost use Rattle.std.specs.Prelude.{◌≡◌, ◌<◌, ◌∷◌, [], ℕ, true, List, Some, Ok, length, option_map, set};
+ghost use Rattle.std.specs.List.{slice_get};
+ghost use Rattle.std.specs.Option.{option_copied};
+ghost use Rattle.vme_model.specs.declared.boards.ArbiterKind.{ArbiterKind as KindValue};
+ghost use Rattle.vme_model.specs.declared.boards.Row.{Row as RowValue};
+ghost use Rattle.vme_model.specs.declared.signals.Edge.{Edge as EdgeValue};
+ghost use Rattle.vme_model.specs.declared.signals.Version.{Version as VersionValue};
+ghost use Rattle.vme_model.specs.Plan.{Plan as PlanValue, board};
+ghost use Rattle.vme_model.specs.History.{shown};
+ghost use Rattle.vme_model.specs.Verdict.{verdict_but_full};
+ghost use Rattle.vme_arbiter.specs.Local.{state_of as controller_of};
+ghost use Rattle.vme_wiring.specs.Boards.{parts_of, place};
+ghost use Rattle.vme_wiring.specs.Counts.{high_pins, is_movable, count_of, request_level, interrupt_level, lines_after, shared_after, shared_after_controller, addressing_after};
+ghost use Rattle.vme_wiring.specs.Chained.{after_board, after_controller, CanMove, CanMoveHead};
+
+use crate::boards::Board;
+use crate::chains::Chains;
+use crate::lines::{Lines, addressing_after, shared_after, shared_after_controller};
+use vme_arbiter::{AnyPolicy, Arbiter};
+use vme_model::{BusLevels, Driver, Edge, Levels, Pins, Version};
+use vme_slots::Plan;
+
+/// What the edges so far lead to, in places of fixed number: the parts of each board by its slot, the controller's, the
+/// counts of the lines, and the segments of the chains.
+#[derive(Drop)]
+pub struct Wiring {
+    pub(crate) version: Version,
+    pub(crate) slots: u8,
+    pub(crate) boards: [Option<Board>; 22],
+    pub(crate) arbiter: Arbiter<AnyPolicy>,
+    pub(crate) lines: Lines,
+    pub(crate) chains: Chains,
+    // what all drivers see alike: the lines, and what is shown
+    pub(crate) shared: Pins,
+    // the slot whose address group is on
+    pub(crate) addressing: Option<u8>,
+}
+
+/// The board of a slot, before any edge.
+fn board_of(plan: &Plan, slot: u8, version: Version) -> Option<Board>
+    ensures { result ≡ option_map (parts_of version plan.now []) (board plan.now slot) }
+{
+    match plan.row(slot) {
+        Some(row) => Some(Board::new(*row, version)),
+        None => None,
+    }
+}
+
+/// The boards of a plan, before any edge.
+fn boards_of(plan: &Plan, version: Version) -> [Option<Board>; 22]
+    ensures room { length result ≡ 22 }
+    ensures boards { (s : ℕ) → s < 22 → slice_get result s ≡ Some (option_map (parts_of version plan.now []) (board plan.now s)) }
+{
+    let mut boards = [None; 22];
+    for slot in 0..22_u8 {
+        boards[usize::from(slot)] = board_of(plan, slot, version);
+    }
+    boards
+}
+
+/// What all drivers see alike where every line is high.
+fn all_high() -> Pins
+    ensures { result ≡ high_pins }
+{
+    Pins {
+        requests: BusLevels::of_lines([false; 4]),
+        bbsy: false,
+        bclr: false,
+        address_strobe: false,
+        data_strobe: false,
+        dtack: false,
+        berr: false,
+        irq: Levels::of_lines([false; 7]),
+        shown: None,
+        grant_in: false,
+        iack_in: false,
+    }
+}
+
+impl Wiring {
+    ghost use Rattle.vme_wiring.specs.Wired.{IsWiringOf, CanTake};
+
+    /// The wiring of a plan at power-up, before any edge.
+    pub fn new(plan: &Plan, version: Version) -> Wiring
+        ensures { IsWiringOf version plan.now [] result }
+    {
+        plan.accepted();
+        Wiring {
+            version,
+            slots: plan.slots(),
+            boards: boards_of(plan, version),
+            arbiter: Arbiter::new(AnyPolicy::from(plan.arbiter()), plan.arbiter(), version),
+            lines: Lines::new(),
+            chains: Chains::new(plan),
+            shared: all_high(),
+            addressing: None,
+        }
+    }
+
+    /// The board of a slot.
+    pub(crate) fn board(&self, slot: u8) -> Option<&Board>
+        ensures { option_copied result ≡ place self.now.boards slot }
+    {
+        match self.boards.get(usize::from(slot)) {
+            Some(Some(board)) => Some(board),
+            _ => None,
+        }
+    }
+
+    /// Takes in an edge that the rules allow after a history that the wiring is of.
+    pub fn note(&mut self, edge: Edge)
+        requires allowed { CanTake self.old edge }
+        ensures { (version : VersionValue) (p : PlanValue) (h : List EdgeValue) → IsWiringOf version p h self.old → verdict_but_full version p h edge ≡ Ok tt → IsWiringOf version p (edge ∷ h) self.new }
+    {
+        match edge.driver {
+            Driver::Controller => self.note_controller(edge),
+            Driver::Slot(slot) => match self.board(slot).copied() {
+                Some(board) => self.note_board(slot, board, edge),
+                None => {}
+            },
+        }
+    }
+
+    /// Takes in an edge of the controller.
+    fn note_controller(&mut self, edge: Edge)
+        requires head { CanMoveHead edge.wire edge.fall self.old.chains }
+        ensures version { self.new.version ≡ self.old.version }
+        ensures slots { self.new.slots ≡ self.old.slots }
+        ensures boards { self.new.boards ≡ self.old.boards }
+        ensures policy { self.new.arbiter.0 ≡ self.old.arbiter.0 }
+        ensures arbiter { (kind : KindValue) (version : VersionValue) (h : List EdgeValue) → self.old.arbiter.1 ≡ controller_of kind version h → self.new.arbiter.1 ≡ controller_of kind version (edge ∷ h) }
+        ensures lines { self.new.lines ≡ self.old.lines }
+        ensures chains { self.new.chains ≡ after_controller edge.wire edge.fall self.old.chains }
+        ensures shared { self.new.shared ≡ shared_after_controller self.old.shared edge.wire edge.fall }
+        ensures addressing { self.new.addressing ≡ self.old.addressing }
+    {
+        self.arbiter.note(edge);
+        self.chains.note_head(edge);
+        self.shared = shared_after_controller(self.shared, edge);
+    }
+
+    /// Takes in an edge of the slot's board.
+    fn note_board(&mut self, slot: u8, board: Board, edge: Edge)
+        requires slot { slot < 22 }
+        requires request_level { request_level board.row < 4 }
+        requires interrupt_level { interrupt_level board.row < 8 }
+        requires line { is_movable (count_of self.old.lines board.row edge.wire) edge.fall ≡ true }
+        requires chain { CanMove board.row edge.wire edge.fall self.old.chains }
+        ensures version { self.new.version ≡ self.old.version }
+        ensures slots { self.new.slots ≡ self.old.slots }
+        ensures boards { (version : VersionValue) (p : PlanValue) (h : List EdgeValue) (r : RowValue) → board ≡ parts_of version p h r → self.old.shared.shown ≡ shown p h → self.new.boards ≡ set self.old.boards slot (Some (parts_of version p (edge ∷ h) r)) }
+        ensures arbiter { self.new.arbiter ≡ self.old.arbiter }
+        ensures lines { self.new.lines ≡ lines_after self.old.lines board.row edge.wire edge.fall }
+        ensures chains { self.new.chains ≡ after_board board.row edge.wire edge.fall self.old.chains }
+        ensures shared { self.new.shared ≡ shared_after self.old.shared self.new.lines edge.wire edge.value }
+        ensures addressing { self.new.addressing ≡ addressing_after self.old.addressing slot edge.wire edge.fall }
+    {
+        self.boards[usize::from(slot)] = Some(board.noted(edge, self.shared.shown));
+        self.lines.note(&board.row, edge);
+        self.chains.note(&board.row, edge);
+        self.shared = shared_after(self.shared, &self.lines, edge);
+        self.addressing = addressing_after(self.addressing, slot, edge);
+    }
+}
