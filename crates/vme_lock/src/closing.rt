@@ -16,26 +16,26 @@ use vme_model::{Cycle, Driver, Edge};
 
 /// The history that the boards made is their logs.
 #[derive(Drop)]
-pub struct Closed {
-    pub backplane: Backplane,
+pub struct Closed<'r> {
+    pub backplane: Backplane<'r>,
 }
 
 /// The history is not the boards' logs.
 #[derive(Drop)]
-pub struct LogMismatch {
+pub struct LogMismatch<'r> {
     /// The first driver whose edges in the history are not its log.
     pub driver: Driver,
     /// The first place where they differ, counted from 0.
     pub at: u32,
-    pub backplane: Backplane,
+    pub backplane: Backplane<'r>,
 }
 
-impl<L: Rig> Shared<L> {
+impl<'r, L: Rig> Shared<'r, L> {
     /// Takes the backplane from the lock, where each driver's edges in its history are its log.
     ///
     /// The seats are all of them, and there is one log for each, both in their order. L4 names the first driver whose edges
     /// are not its log, and the first place where they differ: where one is longer, the other's length.
-    pub fn close(self, seats: Seats<L>, logs: &[Log<'_>]) -> Result<Closed, LogMismatch>
+    pub fn close(self, seats: Seats<L>, logs: &[Log<'_>]) -> Result<Closed<'r>, LogMismatch<'r>>
         requires parts { L.parts ≡ 22 }
         requires seats { drivers_of seats.items ≡ drivers L.opened.plan }
         requires logs { length logs.now ≡ vec_len seats }
@@ -80,7 +80,7 @@ fn count_all<L: Rig>(book: &mut Book<L>, spare: Share<L>, mut seats: Seats<L>)
 
 /// The first driver whose edges in the history are not its log, and where.
 fn first_difference<L: Rig>(
-    backplane: &Backplane,
+    backplane: &Backplane<'_>,
     seats: &[Seat<L>],
     logs: &[Log<'_>],
 ) -> Option<(Driver, u32)>
@@ -126,7 +126,7 @@ fn stands_at(log: &Log<'_>, at: u32, edge: Edge) -> bool
 }
 
 /// Where the driver's edges in the history are not the log.
-fn difference(backplane: &Backplane, driver: Driver, log: &Log<'_>) -> Option<u32>
+fn difference(backplane: &Backplane<'_>, driver: Driver, log: &Log<'_>) -> Option<u32>
     ensures { MatchOption result
         (only backplane.now.history driver ≡ log.now)
         (λ at. DiffersAt (only backplane.now.history driver) log.now at) }

@@ -6,15 +6,15 @@ use vme_backplane::Backplane;
 
 /// The locked value: the backplane, each driver's number of edges, and the book of all seats' edges.
 #[derive(Drop)]
-pub struct Held<L: Rig> {
-    pub(crate) backplane: Backplane,
+pub struct Held<'r, L: Rig> {
+    pub(crate) backplane: Backplane<'r>,
     pub(crate) counts: [u32; 22],
     pub(crate) book: Book<L>,
     /// The parts of the ledger that no seat has.
     pub(crate) spare: Share<L>,
 }
 
-impl<L: Rig> Model for Held<L> {
+impl<'r, L: Rig> Model for Held<'r, L> {
     ghost use Rattle.std.specs.Prelude.{◌≡◌, ◌+◌, length};
     ghost use Rattle.vme_model.specs.Plan.{drivers};
     ghost use Rattle.vme_lock.specs.Seats.{Keeping, IsHeld};

@@ -11,7 +11,7 @@ use crate::views::{EdgeRefused, Lost, View};
 use vme_model::{Delivery, Edge};
 
 /// What holds of the locked value whenever the lock is free.
-pub fn whenever_free<L: Rig>(held: &Held<L>)
+pub fn whenever_free<L: Rig>(held: &Held<'_, L>)
     ensures held { IsHeld L.opened held.now }
     ensures legal { IsLegal held.now.board.version held.now.board.plan held.now.board.history }
     ensures safe { IsSafe held.now.board.plan held.now.board.history }
@@ -22,7 +22,7 @@ pub fn whenever_free<L: Rig>(held: &Held<L>)
 }
 
 /// A hold that makes no edge: what the seat's driver sees.
-pub fn look_in<L: Rig>(held: &Held<L>, seat: &Seat<L>) -> Result<View, Lost>
+pub fn look_in<L: Rig>(held: &Held<'_, L>, seat: &Seat<L>) -> Result<View, Lost>
     ensures answer { result ≡ look_answer held.now.board seat.now }
     ensures held { IsHeld L.opened held.now }
     ensures legal { IsLegal held.now.board.version held.now.board.plan held.now.board.history }
@@ -43,7 +43,7 @@ pub fn look_in<L: Rig>(held: &Held<L>, seat: &Seat<L>) -> Result<View, Lost>
 
 /// A hold that makes the edge, where it is the seat's and the rules allow it.
 pub fn edge_in<L: Rig>(
-    held: &mut Held<L>,
+    held: &mut Held<'_, L>,
     seat: &mut Seat<L>,
     edge: Edge,
 ) -> Result<Option<Delivery>, EdgeRefused>

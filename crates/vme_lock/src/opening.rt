@@ -16,19 +16,19 @@ use vme_model::Driver;
 /// The parts of a ledger, one for each driver that there can be.
 const PARTS: usize = 22;
 
-impl<L: Rig> Shared<L> {
+impl<'r, L: Rig> Shared<'r, L> {
     /// The backplane under a lock, with the seats at it.
     ///
     /// L2: where memory was refused, and only then, the backplane is handed back; the blank is spent.
     pub fn new(
         alloc: Global,
         blank: Blank,
-        backplane: Backplane,
-    ) -> Result<(Shared<L>, Seats<L>), Backplane>
+        backplane: Backplane<'r>,
+    ) -> Result<(Shared<'r, L>, Seats<L>), Backplane<'r>>
         requires blank { (blank.name ≡ L.name) × (blank.parts ≡ L.parts) × (blank.parts ≡ 22) }
         requires opened { L.opened ≡ backplane }
-        ensures seats { MatchResult result (λ r. r.1.items ≡ seats_of backplane) (λ b. b ≡ backplane) }
-        ensures drivers { IfOk result (λ r. drivers_of r.1.items ≡ drivers backplane.plan) }
+        ensures seats { MatchResult result (λ r. r.1.items ≡ seats_of backplane.entry) (λ b. b ≡ backplane.entry) }
+        ensures drivers { IfOk result (λ r. drivers_of r.1.items ≡ drivers backplane.entry.plan) }
     {
         let Ok(seats) = Vec::with_capacity(alloc, PARTS) else {
             return Err(backplane);
@@ -77,7 +77,7 @@ impl<L: Rig> Opening<L> {
     }
 
     /// Gives a seat to the controller, and to each board.
-    fn seat_all(&mut self, backplane: &Backplane, counts: &[u32; 22])
+    fn seat_all(&mut self, backplane: &Backplane<'_>, counts: &[u32; 22])
         requires counts { AreCounts counts.now backplane.now.history }
         requires empty { (self.old.seats.items ≡ []) × (22 ≤ vec_capacity self.old.seats) × (self.old.book.total ≡ 0) }
         requires rest { (self.old.rest.parts ≡ 22) × (self.old.rest.amount ≡ 0) }
@@ -97,7 +97,7 @@ impl<L: Rig> Opening<L> {
 }
 
 /// Each driver's number of edges.
-fn counts_of(backplane: &Backplane) -> [u32; 22]
+fn counts_of(backplane: &Backplane<'_>) -> [u32; 22]
     ensures { AreCounts result backplane.now.history }
 {
     backplane.laws();
@@ -113,7 +113,7 @@ fn counts_of(backplane: &Backplane) -> [u32; 22]
 }
 
 /// Whether the slot has a board.
-fn has_board(backplane: &Backplane, slot: u8) -> bool
+fn has_board(backplane: &Backplane<'_>, slot: u8) -> bool
     ensures { result ≡ is_some (board backplane.now.plan slot) }
 {
     backplane.plan().row(slot).is_some()

@@ -12,11 +12,11 @@ use vme_model::{Delivery, Edge};
 
 /// A backplane under one lock. Each board has a seat at it.
 #[derive(Drop)]
-pub struct Shared<L: Rig> {
-    pub(crate) lock: Mutex<Held<L>>,
+pub struct Shared<'r, L: Rig> {
+    pub(crate) lock: Mutex<Held<'r, L>>,
 }
 
-impl<L: Rig> Shared<L> {
+impl<'r, L: Rig> Shared<'r, L> {
     /// What the seat's driver sees now. May wait for the lock.
     ///
     /// `Lost` where the history has another number of its edges than the seat made.

@@ -39,13 +39,13 @@ fn requesting(slot: u8) -> Row {
 }
 
 /// A backplane with such boards in slots 1 to `slots`.
-fn boards(alloc: Global, slots: u8) -> Result<Backplane, Fail> {
+fn boards<'r>(alloc: Global, rest: &mut Rest<'r>, slots: u8) -> Result<Backplane<'r>, Fail> {
     let mut rows = Vec::new(alloc);
     for below in 0..slots.min(21) {
         rows.push(requesting(below + 1))?;
     }
     let plan = Plan::new(alloc, slots, rows.as_slice(), &[], ArbiterKind::Sgl)?;
-    Ok(Backplane::new(plan, Trace::new(alloc, 1000)?, Version::One))
+    Ok(Backplane::new(plan, Trace::on(alloc, rest, 1000)?, Version::One))
 }
 
 fn fall(driver: Driver, wire: Wire) -> Edge {
@@ -99,7 +99,7 @@ fn edges_of(alloc: Global, log: &Log<'_>) -> Result<Vec<Edge>, AllocError> {
     Ok(edges)
 }
 
-fn history_of(alloc: Global, backplane: &Backplane) -> Result<Vec<Edge>, AllocError> {
+fn history_of(alloc: Global, backplane: &Backplane<'_>) -> Result<Vec<Edge>, AllocError> {
     let mut edges = Vec::new(alloc);
     for place in 0..backplane.len() {
         edges.push(backplane.edge_at(place))?;
@@ -120,7 +120,7 @@ fn run_and_close<'r, L: Rig + Send + Sync, G: Gate + Sync, R: Threads + Wait + S
     rt: &R,
     alloc: Global,
     blank: Blank,
-    backplane: Backplane,
+    backplane: Backplane<'_>,
     gate: &G,
     bounds: Bounds,
     rooms: Vec<Room<'r>>,
@@ -224,7 +224,8 @@ fn all_run_at_once(rt: HostRuntime) -> Result<(), Fail> {
         turns: 100,
         edges: 1000,
     };
-    let backplane = boards(alloc, 2)?;
+    let mut tape = Region::new(alloc, AMPLE)?;
+    let backplane = boards(alloc, &mut tape.rest(), 2)?;
     let ran = run_and_close::<Brand, _, _>(
         &rt,
         alloc,
@@ -242,14 +243,15 @@ fn all_run_at_once(rt: HostRuntime) -> Result<(), Fail> {
 /// An edge that no worker made stands in no log.
 #[test]
 fn an_edge_made_otherwise(rt: HostRuntime) -> Result<(), Fail> {
-    let backplane = boards(rt.alloc(), 2)?;
+    let mut tape = Region::new(rt.alloc(), AMPLE)?;
+    let backplane = boards(rt.alloc(), &mut tape.rest(), 2)?;
     made_otherwise::<Brand, _>(&rt, rt.alloc(), Blank::new(22), backplane)
 }
 
 /// Makes the request of slot 1, and tries edges that are refused.
 fn requests<L: Rig, R: Wait + Abort>(
     rt: &R,
-    shared: &Shared<L>,
+    shared: &Shared<'_, L>,
     seat: &mut Seat<L>,
 ) -> Result<(), Fail>
     ensures { seat.new.driver ≡ seat.old.driver }
@@ -275,7 +277,7 @@ fn made_otherwise<L: Rig + Send + Sync, R: Threads + Wait + Abort + Sync>(
     rt: &R,
     alloc: Global,
     blank: Blank,
-    backplane: Backplane,
+    backplane: Backplane<'_>,
 ) -> Result<(), Fail>
     requires blank { (blank.name ≡ L.name) × (blank.parts ≡ L.parts) × (blank.parts ≡ 22) }
     requires opened { L.opened ≡ backplane }
@@ -334,7 +336,8 @@ impl Gate for Counts {
 /// The turns of two workers, one after the other on one thread.
 #[test]
 fn turns_of_a_worker(rt: HostRuntime) -> Result<(), Fail> {
-    let backplane = boards(rt.alloc(), 1)?;
+    let mut tape = Region::new(rt.alloc(), AMPLE)?;
+    let backplane = boards(rt.alloc(), &mut tape.rest(), 1)?;
     one_thread::<Brand, _>(&rt, rt.alloc(), Blank::new(22), backplane)
 }
 
@@ -342,7 +345,7 @@ fn turns_of_a_worker(rt: HostRuntime) -> Result<(), Fail> {
 fn counted<L: Rig, R: Wait + Abort>(
     rt: &R,
     alloc: Global,
-    shared: &Shared<L>,
+    shared: &Shared<'_, L>,
     seat: Seat<L>,
     turns: u32,
 ) -> Result<(Seat<L>, Vec<Edge>), Fail> {
@@ -360,7 +363,7 @@ fn counted<L: Rig, R: Wait + Abort>(
 fn idle<L: Rig, R: Wait + Abort>(
     rt: &R,
     alloc: Global,
-    shared: &Shared<L>,
+    shared: &Shared<'_, L>,
     seat: Seat<L>,
     open: bool,
     bytes: (usize, usize),
@@ -377,7 +380,7 @@ fn one_thread<L: Rig, R: Wait + Abort>(
     rt: &R,
     alloc: Global,
     blank: Blank,
-    backplane: Backplane,
+    backplane: Backplane<'_>,
 ) -> Result<(), Fail>
     requires blank { (blank.name ≡ L.name) × (blank.parts ≡ L.parts) × (blank.parts ≡ 22) }
     requires opened { L.opened ≡ backplane }
@@ -427,7 +430,8 @@ fn short_room<R: Threads + Wait + Abort + Sync>(
         turns: 100,
         edges: 1000,
     };
-    let backplane = boards(alloc, 2)?;
+    let mut tape = Region::new(alloc, AMPLE)?;
+    let backplane = boards(alloc, &mut tape.rest(), 2)?;
     let ran = run_and_close::<Brand, _, _>(
         rt,
         alloc,
@@ -480,7 +484,8 @@ fn stopping<R: Threads + Wait + Sync>(rt: &R, alloc: Global, after: u32) -> Resu
         after,
         accepted: AtomicU32::new(0),
     };
-    let backplane = boards(alloc, 2)?;
+    let mut tape = Region::new(alloc, AMPLE)?;
+    let backplane = boards(alloc, &mut tape.rest(), 2)?;
     run_and_close::<Brand, _, _>(rt, alloc, Blank::new(22), backplane, &gate, bounds, rooms)
 }
 
@@ -535,7 +540,8 @@ fn many_boards_many_times(rt: HostRuntime) -> Result<(), Fail> {
     let mut region = Region::new(alloc, 44 * AMPLE)?;
     for _run in 0..10u8 {
         let rooms = rooms(alloc, &mut region.rest(), &[(AMPLE, AMPLE); 22])?;
-        let backplane = boards(alloc, 21)?;
+        let mut tape = Region::new(alloc, AMPLE)?;
+        let backplane = boards(alloc, &mut tape.rest(), 21)?;
         let ran = run_and_close::<Brand, _, _>(
             &rt,
             alloc,
@@ -545,7 +551,8 @@ fn many_boards_many_times(rt: HostRuntime) -> Result<(), Fail> {
             bounds,
             rooms,
         )?;
-        let mut again = boards(alloc, 21)?;
+        let mut second = Region::new(alloc, AMPLE)?;
+        let mut again = boards(alloc, &mut second.rest(), 21)?;
         assert!(rt; again.run(ran.history.as_slice()).refused == 0);
         let mut logged = 0;
         for log in &ran.logs {

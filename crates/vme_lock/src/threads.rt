@@ -23,7 +23,7 @@ pub struct NotStarted;
 pub fn run_boards<'r, L: Rig + Send + Sync, G: Gate + Sync, R: Threads + Wait + Sync>(
     rt: &R,
     alloc: Global,
-    shared: &Shared<L>,
+    shared: &Shared<'_, L>,
     seats: Seats<L>,
     gate: &G,
     bounds: Bounds,
@@ -43,7 +43,7 @@ pub fn run_boards<'r, L: Rig + Send + Sync, G: Gate + Sync, R: Threads + Wait + 
 /// Works the last seat in a thread, and all before it in this one.
 fn run_all<'r, L: Rig + Send + Sync, G: Gate + Sync, R: Threads + Wait + Sync>(
     rt: &R,
-    shared: &Shared<L>,
+    shared: &Shared<'_, L>,
     mut seats: Seats<L>,
     gate: &G,
     bounds: Bounds,

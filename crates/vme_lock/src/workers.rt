@@ -73,7 +73,7 @@ fn offer_of(view: &View, turn: u32) -> Option<Edge> {
 /// Makes room for an edge, and then the edge. False where the backplane refuses it.
 fn make_edge<L: Rig, R: Wait>(
     rt: &R,
-    shared: &Shared<L>,
+    shared: &Shared<'_, L>,
     seat: &mut Seat<L>,
     pages: &mut Pages<'_, '_>,
     edge: Edge,
@@ -98,7 +98,7 @@ fn make_edge<L: Rig, R: Wait>(
 /// Takes one turn. `Err` where the worker ends.
 fn take_turn<L: Rig, G: Gate, R: Wait>(
     rt: &R,
-    shared: &Shared<L>,
+    shared: &Shared<'_, L>,
     seat: &mut Seat<L>,
     gate: &G,
     bounds: Bounds,
@@ -133,7 +133,7 @@ fn take_turn<L: Rig, G: Gate, R: Wait>(
 /// Takes the turns of a worker, and answers why it ended.
 fn take_turns<L: Rig, G: Gate, R: Wait>(
     rt: &R,
-    shared: &Shared<L>,
+    shared: &Shared<'_, L>,
     seat: &mut Seat<L>,
     gate: &G,
     bounds: Bounds,
@@ -159,7 +159,7 @@ fn take_turns<L: Rig, G: Gate, R: Wait>(
 /// room is found for an edge, or the history is not the seat's.
 pub fn work_board<'r, L: Rig, G: Gate, R: Wait>(
     rt: &R,
-    shared: &Shared<L>,
+    shared: &Shared<'_, L>,
     mut seat: Seat<L>,
     gate: &G,
     bounds: Bounds,

@@ -56,24 +56,24 @@ fn rooms_for<'r>(
 }
 
 /// Runs all boards of a backplane, and gives it back with the history that they made.
-pub(crate) fn play<R: Threads + Wait + Sync>(
+pub(crate) fn play<'r, R: Threads + Wait + Sync>(
     rt: &R,
     alloc: Global,
-    backplane: Backplane,
+    backplane: Backplane<'r>,
     bounds: Bounds,
-) -> Result<Backplane, RunFault>
+) -> Result<Backplane<'r>, RunFault>
     ensures { IfErr result IsBoardsFault }
 {
     play_on::<Brand, R>(rt, alloc, Blank::new(DRIVERS), backplane, bounds)
 }
 
-fn play_on<L: Rig + Send + Sync, R: Threads + Wait + Sync>(
+fn play_on<'r, L: Rig + Send + Sync, R: Threads + Wait + Sync>(
     rt: &R,
     alloc: Global,
     blank: Blank,
-    backplane: Backplane,
+    backplane: Backplane<'r>,
     bounds: Bounds,
-) -> Result<Backplane, RunFault>
+) -> Result<Backplane<'r>, RunFault>
     requires blank { (blank.name ≡ L.name) × (blank.parts ≡ L.parts) × (blank.parts ≡ 22) }
     requires opened { L.opened ≡ backplane }
     ensures { IfErr result IsBoardsFault }

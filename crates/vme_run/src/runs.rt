@@ -12,32 +12,48 @@ use std::alloc::Global;
 use std::io::Write;
 use std::sync::Wait;
 use std::thread::Threads;
+use vme_arena::Region;
 use vme_backplane::{Backplane, Trace};
 use vme_engines::{EngineFault, Status, plan_of, write_history};
 use vme_lock::Bounds;
 use vme_model::Version;
 
+/// Memory for the trace of so many edges.
+fn region_for(alloc: Global, edges: u32) -> Result<Region, RunFault>
+    requires { edges ≤ 1048576 }
+    ensures { IfErr result (λ f. f ≡ RunFault.Engine EngineFault.NoMemory) }
+{
+    match Region::new(alloc, Trace::bytes(edges)) {
+        Ok(region) => Ok(region),
+        Err(_) => Err(RunFault::Engine(EngineFault::NoMemory)),
+    }
+}
+
 /// A backplane at power-up, with the plan of a scenario and room for so many edges.
-fn bench_of(
+fn bench_of<'r>(
     alloc: Global,
+    region: &'r mut Region,
     scenario: &[u8],
     edges: u32,
     version: Version,
-) -> Result<Backplane, RunFault>
+) -> Result<Backplane<'r>, RunFault>
     requires { edges ≤ 1048576 }
     ensures ok { IfOk result (IsBench scenario.now version edges) }
     ensures fault { IfErr result (IsNoRun scenario.now) }
 {
     let plan = plan_of(alloc, scenario).map_err(RunFault::Engine)?;
-    match Trace::new(alloc, edges) {
+    match Trace::on(alloc, &mut region.rest(), edges) {
         Ok(trace) => Ok(Backplane::new(plan, trace, version)),
         Err(_) => Err(RunFault::Engine(EngineFault::NoMemory)),
     }
 }
 
 /// Makes the edges of a closed history once more.
-fn replay(closed: &Backplane, mut bench: Backplane) -> Result<Backplane, RunFault>
-    ensures ok { IfOk result (Follows bench) }
+fn replay<'r>(
+    closed: &Backplane<'_>,
+    mut bench: Backplane<'r>,
+) -> Result<Backplane<'r>, RunFault>
+    ensures ok { IfOk result (Follows bench.entry) }
     ensures legal { IfOk result (λ b. IsLegal b.version b.plan b.history) }
     ensures safe { IfOk result (λ b. IsSafe b.plan b.history) }
     ensures fits { IfOk result (λ b. length b.history ≤ b.max) }
@@ -55,21 +71,23 @@ fn replay(closed: &Backplane, mut bench: Backplane) -> Result<Backplane, RunFaul
 
 /// Runs the boards of a scenario, and makes their edges once more on a second backplane.
 #[tactic(auto, using(crate::proofs::Following::run_of, crate::proofs::Following::no_run_of))]
-fn made<R: Threads + Wait + Sync>(
+fn made<'r, R: Threads + Wait + Sync>(
     rt: &R,
     alloc: Global,
+    region: &'r mut Region,
     scenario: &[u8],
     edges: u32,
     turns: u32,
     version: Version,
-) -> Result<Backplane, RunFault>
+) -> Result<Backplane<'r>, RunFault>
     requires { edges ≤ 1048576 }
     ensures ok { IfOk result (IsRunOn scenario.now version edges) }
     ensures fault { IfErr result (IsNoRun scenario.now) }
 {
-    let opened = bench_of(alloc, scenario, edges, version)?;
+    let mut first = region_for(alloc, edges)?;
+    let opened = bench_of(alloc, &mut first, scenario, edges, version)?;
     let closed = play(rt, alloc, opened, Bounds { turns, edges })?;
-    let bench = bench_of(alloc, scenario, edges, version)?;
+    let bench = bench_of(alloc, region, scenario, edges, version)?;
     replay(&closed, bench)
 }
 
@@ -105,7 +123,8 @@ pub fn run<R: Threads + Wait + Sync, W: Write>(
     requires limits { (edges ≤ 1048576) × (turns ≤ 1000000) }
     ensures { Runs scenario.now version edges (W.contents out.old) (W.contents out.new) result }
 {
-    match made(rt, alloc, scenario, edges, turns, version) {
+    let mut region = region_for(alloc, edges)?;
+    match made(rt, alloc, &mut region, scenario, edges, turns, version) {
         Ok(replayed) => match write_history(&replayed, out) {
             Ok(()) => Ok(status_of(replayed.len(), edges)),
             Err(fault) => Err(RunFault::Engine(EngineFault::Trace(fault))),
