@@ -49,10 +49,7 @@ fn bench_of<'r>(
 }
 
 /// Makes the edges of a closed history once more.
-fn replay<'r>(
-    closed: &Backplane<'_>,
-    mut bench: Backplane<'r>,
-) -> Result<Backplane<'r>, RunFault>
+fn replay<'r>(closed: &Backplane<'_>, mut bench: Backplane<'r>) -> Result<Backplane<'r>, RunFault>
     ensures ok { IfOk result (Follows bench.entry) }
     ensures legal { IfOk result (λ b. IsLegal b.version b.plan b.history) }
     ensures safe { IfOk result (λ b. IsSafe b.plan b.history) }
