@@ -1,5 +1,5 @@
 //! The commands that the program offers, and their help.
-use crate::MOST_EDGES;
+use crate::{MOST_EDGES, MOST_TURNS};
 use clap::{Arg, ArgAction, Command, Error, value_parser};
 use std::alloc::Global;
 
@@ -44,6 +44,15 @@ number of edges, and then the exit status is 3, or after a round in which nobody
 Example:
   vmebus drive board.toml --edges 1000 > tenure.vme";
 
+const RUN: &str = "Writes a trace that the drivers of a scenario make at once, a thread for each";
+
+const RUN_EXAMPLE: &str =
+    "Each driver gets the given number of turns, and in a turn it tries one of the edges that are open to it. The exit status
+is 3 where as many edges were made as were asked for. Two runs may differ; what each writes is legal.
+
+Example:
+  vmebus run board.toml --edges 1000 --turns 100000 > tenure.vme";
+
 /// A file's name, which must be given.
 fn file<'a>(alloc: Global, name: &'a str, help: &'a str) -> Arg<'a> {
     Arg::new(alloc, name)
@@ -81,6 +90,16 @@ fn edges_option<'a>(alloc: Global) -> Arg<'a> {
     )
 }
 
+fn turns_option<'a>(alloc: Global) -> Arg<'a> {
+    number(
+        alloc,
+        "turns",
+        "T",
+        MOST_TURNS,
+        "The turns of each driver, 1 to 1000000",
+    )
+}
+
 fn version_option<'a>(alloc: Global) -> Arg<'a> {
     Arg::new(alloc, "version")
         .long("version")
@@ -109,6 +128,13 @@ pub(crate) fn commands<'a>(alloc: Global) -> Result<Command<'a>, Error> {
         .arg(scenario_file(alloc))?
         .arg(edges_option(alloc))?
         .arg(version_option(alloc))?;
+    let run = Command::new(alloc, "run")
+        .about(RUN)
+        .after_help(RUN_EXAMPLE)
+        .arg(scenario_file(alloc))?
+        .arg(edges_option(alloc))?
+        .arg(turns_option(alloc))?
+        .arg(version_option(alloc))?;
     let all = Command::new(alloc, "vmebus")
         .bin_name("vmebus")?
         .no_binary_name(true)
@@ -116,6 +142,7 @@ pub(crate) fn commands<'a>(alloc: Global) -> Result<Command<'a>, Error> {
         .after_help(OVERVIEW)
         .subcommand(replay)?
         .subcommand(check)?
-        .subcommand(drive)?;
+        .subcommand(drive)?
+        .subcommand(run)?;
     Ok(all)
 }

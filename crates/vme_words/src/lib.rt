@@ -15,6 +15,9 @@ use vme_model::Version;
 /// The most edges that a run makes.
 pub const MOST_EDGES: u32 = 1_048_576;
 
+/// The most turns that each driver of a run gets.
+pub const MOST_TURNS: u32 = 1_000_000;
+
 /// What the program is to do. Files have the names that the user gave.
 #[derive(Clone, Copy, PartialEq, Eq, Debug)]
 pub enum Job<'a> {
@@ -40,6 +43,17 @@ pub enum Job<'a> {
         scenario: &'a str,
         /// The most edges to make, 1 to [`MOST_EDGES`].
         edges: u32,
+        /// The version of the rules.
+        version: Version,
+    },
+    /// Let each driver make edges in a thread of its own.
+    Run {
+        /// The file of the boards.
+        scenario: &'a str,
+        /// The most edges to make, 1 to [`MOST_EDGES`].
+        edges: u32,
+        /// The turns of each driver, 1 to [`MOST_TURNS`].
+        turns: u32,
         /// The version of the rules.
         version: Version,
     },
@@ -84,6 +98,12 @@ fn job_of<'a>(name: &str, operands: &ArgMatches<'a>) -> Option<Job<'a>>
         "drive" => Some(Job::Drive {
             scenario,
             edges: number_of(operands, "edges", MOST_EDGES)?,
+            version: version_of(operands)?,
+        }),
+        "run" => Some(Job::Run {
+            scenario,
+            edges: number_of(operands, "edges", MOST_EDGES)?,
+            turns: number_of(operands, "turns", MOST_TURNS)?,
             version: version_of(operands)?,
         }),
         _ => None,

@@ -50,8 +50,32 @@ fn reads_what_to_drive(rt: HostRuntime) -> Result<(), Fail> {
 }
 
 #[test]
+fn reads_what_to_run(rt: HostRuntime) -> Result<(), Fail> {
+    let given = [
+        "run",
+        "S",
+        "--edges",
+        "1048576",
+        "--version=2",
+        "--turns",
+        "1000000",
+    ];
+    let wanted = Job::Run {
+        scenario: "S",
+        edges: 1048576,
+        turns: 1000000,
+        version: Version::Two,
+    };
+    assert!(rt; words(rt.alloc(), &given)? == wanted);
+    Ok(())
+}
+
+#[test]
 fn refuses_other_words(rt: HostRuntime) -> Result<(), Fail> {
-    let cases: [&[&str]; 16] = [
+    let cases: [&[&str]; 19] = [
+        &["run", "S", "--edges", "8"],
+        &["run", "S", "--edges", "8", "--turns", "0"],
+        &["run", "S", "--edges", "8", "--turns", "1000001"],
         &["drive", "S", "--edges", "0"],
         &["drive", "S", "--edges", "1048577"],
         &["drive", "S", "--edges", "x"],
