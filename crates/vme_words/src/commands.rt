@@ -1,7 +1,7 @@
 //! The commands that the program offers, and their help.
 use crate::{MOST_EDGES, MOST_TURNS};
-use clap::{Arg, ArgAction, Command, Error, value_parser};
-use std::alloc::Global;
+use clap::{Arg, ArgAction, Command, value_parser};
+use std::alloc::{AllocError, Global};
 
 const ABOUT: &str =
     "Simulates and checks the arbitration bus and the interrupt bus of a VMEbus backplane, edge by edge.";
@@ -110,39 +110,50 @@ fn version_option<'a>(alloc: Global) -> Arg<'a> {
         .help("The version of the rules, 1 or 2")
 }
 
-/// The program's command line.
-pub(crate) fn commands<'a>(alloc: Global) -> Result<Command<'a>, Error> {
-    let replay = Command::new(alloc, "replay")
+fn replay<'a>(alloc: Global) -> Result<Command<'a>, AllocError> {
+    Command::new(alloc, "replay")
         .about(REPLAY)
         .after_help(REPLAY_EXAMPLE)
         .arg(scenario_file(alloc))?
-        .arg(trace_file(alloc))?;
-    let check = Command::new(alloc, "check")
+        .arg(trace_file(alloc))
+}
+
+fn check<'a>(alloc: Global) -> Result<Command<'a>, AllocError> {
+    Command::new(alloc, "check")
         .about(CHECK)
         .after_help(CHECK_EXAMPLE)
         .arg(scenario_file(alloc))?
-        .arg(trace_file(alloc))?;
-    let drive = Command::new(alloc, "drive")
+        .arg(trace_file(alloc))
+}
+
+fn drive<'a>(alloc: Global) -> Result<Command<'a>, AllocError> {
+    Command::new(alloc, "drive")
         .about(DRIVE)
         .after_help(DRIVE_EXAMPLE)
         .arg(scenario_file(alloc))?
         .arg(edges_option(alloc))?
-        .arg(version_option(alloc))?;
-    let run = Command::new(alloc, "run")
+        .arg(version_option(alloc))
+}
+
+fn run<'a>(alloc: Global) -> Result<Command<'a>, AllocError> {
+    Command::new(alloc, "run")
         .about(RUN)
         .after_help(RUN_EXAMPLE)
         .arg(scenario_file(alloc))?
         .arg(edges_option(alloc))?
         .arg(turns_option(alloc))?
-        .arg(version_option(alloc))?;
-    let all = Command::new(alloc, "vmebus")
+        .arg(version_option(alloc))
+}
+
+/// The program's command line.
+pub(crate) fn commands<'a>(alloc: Global) -> Result<Command<'a>, AllocError> {
+    Command::new(alloc, "vmebus")
         .bin_name("vmebus")?
         .no_binary_name(true)
         .about(ABOUT)
         .after_help(OVERVIEW)
-        .subcommand(replay)?
-        .subcommand(check)?
-        .subcommand(drive)?
-        .subcommand(run)?;
-    Ok(all)
+        .subcommand(replay(alloc)?)?
+        .subcommand(check(alloc)?)?
+        .subcommand(drive(alloc)?)?
+        .subcommand(run(alloc)?)
 }

@@ -80,6 +80,19 @@ fn version_of(matches: &ArgMatches<'_>) -> Option<Version> {
     }
 }
 
+/// A run of the scenario, with its other operands.
+fn run_of<'a>(scenario: &'a str, operands: &ArgMatches<'a>) -> Option<Job<'a>>
+    ensures within { IfSome result IsWithin }
+    ensures command { result ≢ Some Job.Joined }
+{
+    Some(Job::Run {
+        scenario,
+        edges: number_of(operands, "edges", MOST_EDGES)?,
+        turns: number_of(operands, "turns", MOST_TURNS)?,
+        version: version_of(operands)?,
+    })
+}
+
 /// The job of a command's name, with its operands.
 fn job_of<'a>(name: &str, operands: &ArgMatches<'a>) -> Option<Job<'a>>
     ensures within { IfSome result IsWithin }
@@ -100,12 +113,7 @@ fn job_of<'a>(name: &str, operands: &ArgMatches<'a>) -> Option<Job<'a>>
             edges: number_of(operands, "edges", MOST_EDGES)?,
             version: version_of(operands)?,
         }),
-        "run" => Some(Job::Run {
-            scenario,
-            edges: number_of(operands, "edges", MOST_EDGES)?,
-            turns: number_of(operands, "turns", MOST_TURNS)?,
-            version: version_of(operands)?,
-        }),
+        "run" => run_of(scenario, operands),
         _ => None,
     }
 }

@@ -1,9 +1,9 @@
 -- Which names a fault may tell.
 use Rattle.std.specs.Prelude.{◌≡◌, ◌⊎◌, ℕ, List, codes}
 use Rattle.vme_words.specs.declared.Job.{Job}
-use Rattle.vme_words.specs.declared.Job.TheVariants.{Joined, Replay, Check, Drive}
+use Rattle.vme_words.specs.declared.Job.TheVariants.{Joined, Replay, Check, Drive, Run}
 use Rattle.vmebus.specs.declared.faults.ProgramFault.{ProgramFault}
-use Rattle.vmebus.specs.declared.faults.ProgramFault.TheVariants.{CannotRead, TooLong, Engine}
+use Rattle.vmebus.specs.declared.faults.ProgramFault.TheVariants.{CannotRead, TooLong, Engine, Boards}
 
 -- the name of the scenario of a job: standard input is `-`
 abbrev pub scenario_name : Job → List ℕ
@@ -11,6 +11,7 @@ scenario_name Joined = codes "-"
 scenario_name (Replay scenario trace) = scenario.now
 scenario_name (Check scenario trace) = scenario.now
 scenario_name (Drive scenario edges version) = scenario.now
+scenario_name (Run scenario edges turns version) = scenario.now
 
 -- this is the name of a file of a job
 abbrev pub IsFileOf : Job → List ℕ → Type 0
@@ -18,9 +19,18 @@ IsFileOf Joined name = name ≡ codes "-"
 IsFileOf (Replay scenario trace) name = (name ≡ scenario.now) ⊎ (name ≡ trace.now)
 IsFileOf (Check scenario trace) name = (name ≡ scenario.now) ⊎ (name ≡ trace.now)
 IsFileOf (Drive scenario edges version) name = name ≡ scenario.now
+IsFileOf (Run scenario edges turns version) name = name ≡ scenario.now
+
+-- a fault that names no file but one of this name
+abbrev pub NamesOnly : List ℕ → ProgramFault → Type 0
+NamesOnly name (CannotRead other) = other.now ≡ name
+NamesOnly name (TooLong other) = other.now ≡ name
+NamesOnly name (Engine fault) = Unit {0}
+NamesOnly name (Boards fault) = Unit {0}
 
 -- a fault of a job: what cannot be read is one of its files, and what is too long is its scenario
 abbrev pub IsFaultOf : Job → ProgramFault → Type 0
 IsFaultOf job (CannotRead name) = IsFileOf job name.now
 IsFaultOf job (TooLong name) = name.now ≡ scenario_name job
 IsFaultOf job (Engine fault) = Unit {0}
+IsFaultOf job (Boards fault) = Unit {0}

@@ -1,10 +1,12 @@
 //! What went wrong, as the line on standard error.
 ghost use Rattle.std.specs.Prelude.{◌≡◌, ◌≢◌};
 ghost use Rattle.std.specs.IoError.{error_kind};
+ghost use Rattle.vmebus.specs.Names.{NamesOnly};
 
 use std::fmt;
 use std::io::{Error, ErrorKind};
 use vme_engines::EngineFault;
+use vme_run::RunFault;
 
 /// Why the program gave up. Files have the names that the user gave; standard input is `-`.
 #[derive(Debug, Drop)]
@@ -15,6 +17,8 @@ pub enum ProgramFault<'a> {
     TooLong(&'a str),
     /// An engine's fault, or want of memory for what the program hands to one.
     Engine(EngineFault),
+    /// A fault of boards that run in threads.
+    Boards(RunFault),
 }
 
 impl<'a> ProgramFault<'a> {
@@ -41,6 +45,20 @@ impl<'a> ProgramFault<'a> {
             other => ProgramFault::Engine(other),
         }
     }
+
+    /// A fault of a run, where the scenario has this name.
+    pub fn of_run(name: &'a str, fault: RunFault) -> Self
+        ensures unreadable { fault ≡ RunFault.Engine EngineFault.CannotRead → result ≡ ProgramFault.CannotRead name.entry }
+        ensures long { fault ≡ RunFault.Engine EngineFault.TooLong → result ≡ ProgramFault.TooLong name.entry }
+        ensures engine { fault ≡ RunFault.Engine EngineFault.NoMemory → result ≡ ProgramFault.Engine EngineFault.NoMemory }
+        ensures boards { fault ≡ RunFault.NotStarted → result ≡ ProgramFault.Boards RunFault.NotStarted }
+        ensures names { NamesOnly name.entry.now result }
+    {
+        match fault {
+            RunFault::Engine(fault) => ProgramFault::of_engine(name, fault),
+            other => ProgramFault::Boards(other),
+        }
+    }
 }
 
 impl fmt::Display for ProgramFault<'_> {
@@ -49,6 +67,7 @@ impl fmt::Display for ProgramFault<'_> {
             ProgramFault::CannotRead(name) => write!(f, "F1 cannot read {name}"),
             ProgramFault::TooLong(name) => write!(f, "F2 {name} is too long"),
             ProgramFault::Engine(fault) => write!(f, "{fault}"),
+            ProgramFault::Boards(fault) => write!(f, "{fault}"),
         }
     }
 }

@@ -1,6 +1,7 @@
 //! Each job's engine, on the files that the words name.
-ghost use Rattle.std.specs.Prelude.{◌≡◌, IfErr};
+ghost use Rattle.std.specs.Prelude.{◌≡◌, ◌≤◌, IfErr};
 ghost use Rattle.std.specs.Process.{exit_status};
+ghost use Rattle.vme_words.specs.Limits.{IsWithin};
 ghost use Rattle.vmebus.specs.Names.{IsFaultOf};
 ghost use Rattle.vmebus.specs.Statuses.{exit_code};
 
@@ -9,6 +10,7 @@ use crate::files::{buffered, open, output, read_scenario};
 use std::process::ExitCode;
 use vme_engines::{Status, check, drive, joined, replay};
 use vme_model::Version;
+use vme_run::run as run_boards;
 use vme_words::Job;
 
 /// Replays what stands on standard input.
@@ -66,8 +68,26 @@ fn run_drive<'a>(
     answer.map_err(|fault| ProgramFault::of_engine(scenario, fault))
 }
 
+/// Lets each driver of a scenario make edges in a thread of its own. May wait.
+fn run_run<'a>(
+    rt: &HostRuntime,
+    scenario: &'a str,
+    edges: u32,
+    turns: u32,
+    version: Version,
+) -> Result<Status, ProgramFault<'a>>
+    requires { (edges ≤ 1048576) × (turns ≤ 1000000) }
+    ensures { IfErr result (IsFaultOf (Job.Run scenario.entry edges turns version)) }
+{
+    let text = read_scenario(rt, scenario)?;
+    let mut out = output(rt)?;
+    let answer = run_boards(rt, rt.alloc(), &text, edges, turns, &mut out, version);
+    answer.map_err(|fault| ProgramFault::of_run(scenario, fault))
+}
+
 /// Does a job. Errors: those of its files, and then those of its engine.
 pub fn run<'a>(rt: &HostRuntime, job: Job<'a>) -> Result<Status, ProgramFault<'a>>
+    requires { IsWithin job.entry }
     ensures { IfErr result (IsFaultOf job.entry) }
 {
     match job {
@@ -79,6 +99,12 @@ pub fn run<'a>(rt: &HostRuntime, job: Job<'a>) -> Result<Status, ProgramFault<'a
             edges,
             version,
         } => run_drive(rt, scenario, edges, version),
+        Job::Run {
+            scenario,
+            edges,
+            turns,
+            version,
+        } => run_run(rt, scenario, edges, turns, version),
     }
 }
 
