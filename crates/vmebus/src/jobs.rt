@@ -8,6 +8,8 @@ ghost use Rattle.vmebus.specs.Statuses.{exit_code};
 use crate::faults::ProgramFault;
 use crate::files::{buffered, open, output, read_scenario};
 use std::process::ExitCode;
+use std::sync::Wait;
+use std::thread::Threads;
 use vme_engines::{Status, check, drive, joined, replay};
 use vme_model::Version;
 use vme_run::run as run_boards;
@@ -69,8 +71,9 @@ fn run_drive<'a>(
 }
 
 /// Lets each driver of a scenario make edges in a thread of its own. May wait.
-fn run_run<'a>(
+fn run_run<'a, R: Threads + Wait + Sync>(
     rt: &HostRuntime,
+    threads: &R,
     scenario: &'a str,
     edges: u32,
     turns: u32,
@@ -81,13 +84,17 @@ fn run_run<'a>(
 {
     let text = read_scenario(rt, scenario)?;
     let mut out = output(rt)?;
-    let answer = run_boards(rt, rt.alloc(), &text, edges, turns, &mut out, version);
+    let answer = run_boards(threads, rt.alloc(), &text, edges, turns, &mut out, version);
     answer.map_err(|fault| ProgramFault::of_run(scenario, fault))
 }
 
-/// Does a job. Errors: those of its files, and then those of its engine.
-pub fn run<'a>(rt: &HostRuntime, job: Job<'a>) -> Result<Status, ProgramFault<'a>>
-    requires { IsWithin job.entry }
+/// Does a job, with threads from that handle. Errors: those of its files, and then those of its engine.
+pub fn run<'a, R: Threads + Wait + Sync>(
+    rt: &HostRuntime,
+    threads: &R,
+    job: Job<'a>,
+) -> Result<Status, ProgramFault<'a>>
+    requires { IsWithin job }
     ensures { IfErr result (IsFaultOf job.entry) }
 {
     match job {
@@ -104,7 +111,7 @@ pub fn run<'a>(rt: &HostRuntime, job: Job<'a>) -> Result<Status, ProgramFault<'a
             edges,
             turns,
             version,
-        } => run_run(rt, scenario, edges, turns, version),
+        } => run_run(rt, threads, scenario, edges, turns, version),
     }
 }
 

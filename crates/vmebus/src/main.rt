@@ -13,6 +13,8 @@ mod jobs;
 
 use jobs::{code_of, run};
 use std::process::ExitCode;
+use std::sync::Wait;
+use std::thread::Threads;
 use std::{env, fmt, io};
 use vme_engines::EngineFault;
 use vme_words::words;
@@ -26,9 +28,9 @@ fn tell<D: fmt::Display + Drop>(rt: &HostRuntime, fault: D) -> ExitCode
 }
 
 /// Does what the words behind the program's name ask for.
-fn obey(rt: &HostRuntime, given: &[&str]) -> ExitCode {
+fn obey<R: Threads + Wait + Sync>(rt: &HostRuntime, threads: &R, given: &[&str]) -> ExitCode {
     match words(rt.alloc(), given) {
-        Ok(job) => match run(rt, job) {
+        Ok(job) => match run(rt, threads, job) {
             Ok(status) => code_of(status),
             Err(fault) => tell(rt, fault),
         },
@@ -40,15 +42,15 @@ fn obey(rt: &HostRuntime, given: &[&str]) -> ExitCode {
 }
 
 /// Reads the words and obeys them. Errors: they are not text, or there is no memory for them.
-fn start(rt: &HostRuntime) -> io::Result<ExitCode> {
+fn start<R: Threads + Wait + Sync>(rt: &HostRuntime, threads: &R) -> io::Result<ExitCode> {
     let alloc = rt.alloc();
     let all: Vec<String> = env::args(rt)?.skip(1).collect(alloc)?;
     let given: Vec<&str> = all.iter().map(String::as_str).collect(alloc)?;
-    Ok(obey(rt, &given))
+    Ok(obey(rt, threads, &given))
 }
 
 fn main(rt: HostRuntime) -> ExitCode {
-    match start(&rt) {
+    match start(&rt, &rt) {
         Ok(code) => code,
         Err(error) if error.kind() == io::ErrorKind::OutOfMemory => {
             tell(&rt, EngineFault::NoMemory)
