@@ -1,6 +1,7 @@
 //! What went wrong, as the line on standard error.
 ghost use Rattle.std.specs.Prelude.{◌≡◌, ◌≢◌};
 ghost use Rattle.std.specs.IoError.{error_kind};
+ghost use Rattle.vme_engines.specs.declared.EngineFault.{EngineFault as EngineFaultValue};
 ghost use Rattle.vmebus.specs.Names.{NamesOnly};
 
 use std::fmt;
@@ -50,8 +51,8 @@ impl<'a> ProgramFault<'a> {
     pub fn of_run(name: &'a str, fault: RunFault) -> Self
         ensures unreadable { fault ≡ RunFault.Engine EngineFault.CannotRead → result ≡ ProgramFault.CannotRead name.entry }
         ensures long { fault ≡ RunFault.Engine EngineFault.TooLong → result ≡ ProgramFault.TooLong name.entry }
-        ensures engine { fault ≡ RunFault.Engine EngineFault.NoMemory → result ≡ ProgramFault.Engine EngineFault.NoMemory }
-        ensures boards { fault ≡ RunFault.NotStarted → result ≡ ProgramFault.Boards RunFault.NotStarted }
+        ensures engine { (f : EngineFaultValue) → fault ≡ RunFault.Engine f → f ≢ EngineFault.CannotRead → f ≢ EngineFault.TooLong → result ≡ ProgramFault.Engine f }
+        ensures boards { ((f : EngineFaultValue) → fault ≢ RunFault.Engine f) → result ≡ ProgramFault.Boards fault }
         ensures names { NamesOnly name.entry.now result }
     {
         match fault {
