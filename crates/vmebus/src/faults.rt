@@ -4,27 +4,31 @@ ghost use Rattle.std.specs.IoError.{error_kind};
 ghost use Rattle.vme_engines.specs.declared.EngineFault.{EngineFault as EngineFaultValue};
 ghost use Rattle.vmebus.specs.Names.{NamesOnly};
 
-use std::fmt;
-use std::io::{Error, ErrorKind};
+use std::io::{self, ErrorKind};
+use thiserror::Error;
 use vme_engines::EngineFault;
 use vme_run::RunFault;
 
 /// Why the program gave up. Files have the names that the user gave; standard input is `-`.
-#[derive(Debug, Drop)]
+#[derive(Debug, Drop, Error)]
 pub enum ProgramFault<'a> {
     /// The file of this name could not be opened or read.
+    #[error("F1 cannot read {0}")]
     CannotRead(&'a str),
     /// The scenario of this name has more than 1,048,576 bytes.
+    #[error("F2 {0} is too long")]
     TooLong(&'a str),
     /// An engine's fault, or want of memory for what the program hands to one.
+    #[error("{0}")]
     Engine(EngineFault),
     /// A fault of boards that run in threads.
+    #[error("{0}")]
     Boards(RunFault),
 }
 
 impl<'a> ProgramFault<'a> {
     /// A fault of the file of this name: F3 where memory was refused, and else F1.
-    pub fn of_file(name: &'a str, error: &Error) -> Self
+    pub fn of_file(name: &'a str, error: &io::Error) -> Self
         ensures memory { error_kind error.now ≡ ErrorKind.OutOfMemory → result ≡ ProgramFault.Engine EngineFault.NoMemory }
         ensures other { error_kind error.now ≢ ErrorKind.OutOfMemory → result ≡ ProgramFault.CannotRead name.entry }
     {
@@ -58,17 +62,6 @@ impl<'a> ProgramFault<'a> {
         match fault {
             RunFault::Engine(fault) => ProgramFault::of_engine(name, fault),
             other => ProgramFault::Boards(other),
-        }
-    }
-}
-
-impl fmt::Display for ProgramFault<'_> {
-    fn fmt<W: fmt::Write>(&self, f: &mut fmt::Formatter<W>) -> fmt::Result {
-        match self {
-            ProgramFault::CannotRead(name) => write!(f, "F1 cannot read {name}"),
-            ProgramFault::TooLong(name) => write!(f, "F2 {name} is too long"),
-            ProgramFault::Engine(fault) => write!(f, "{fault}"),
-            ProgramFault::Boards(fault) => write!(f, "{fault}"),
         }
     }
 }
