@@ -1,4 +1,4 @@
-// All bytes of a region, in granules of 16, each with a tag that says whether it is at home.
+//! All bytes of a region, in granules of 16, each with a tag that says whether it is at home.
 ghost use Rattle.std.specs.Prelude.{◌≡◌, ℕ, ◌+◌, ◌*◌, ◌^◌, ◌<◌};
 ghost use base.Fml.{fsep};
 ghost use denote.RawPtr.{block_ptr};

@@ -1,4 +1,4 @@
-// The granules of one stretch, and the blocks that are cut from them.
+//! The granules of one stretch, and the blocks that are cut from them.
 ghost use Rattle.std.specs.Prelude.{◌≡◌, ◌+◌, ◌*◌, ◌%◌, ◌^◌, ◌<◌, ◌≤◌, IfSome, MatchResult};
 
 use crate::loan::Loan;

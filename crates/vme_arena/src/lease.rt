@@ -1,3 +1,4 @@
+//! A stretch of a region, as an allocator.
 ghost use Rattle.std.specs.Prelude.{◌≡◌, ◌+◌, ◌-◌, ◌*◌, ◌%◌, ◌^◌, ◌<◌, ◌≤◌, IfSome};
 ghost use Rattle.vme_arena.specs.Stretch.{block_size, LiesIn};
 ghost use Rattle.vme_arena.specs.Ownership.{block_token};

@@ -1,4 +1,4 @@
-// Granules of a region that are lent for a lifetime.
+//! Granules of a region that are lent for a lifetime.
 ghost use Rattle.std.specs.Prelude.{◌≡◌, ℕ, ◌+◌, ◌-◌, ◌*◌, ◌<◌, ◌≤◌, nat_lt, IfSome, MatchResult};
 ghost use base.Fml.{GName, fbor};
 ghost use Rattle.vme_arena.specs.Ownership.{Spot, IsSpot, homes_at};

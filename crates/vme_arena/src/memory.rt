@@ -1,4 +1,4 @@
-// The region's block, as the allocator that it comes from sees it.
+//! The region's block, as the allocator that it comes from sees it.
 ghost use Rattle.std.specs.Prelude.{◌≡◌, ℕ, IfSome};
 ghost use denote.RawPtr.{Ptr};
 ghost use Rattle.vme_arena.specs.Stretch.{IsBlockSize};

@@ -1,4 +1,4 @@
-// Bytes of a region that nobody else holds.
+//! Bytes of a region that nobody else holds.
 ghost use Rattle.std.specs.Prelude.{◌≡◌, ℕ, ◌+◌};
 ghost use Rattle.vme_arena.specs.Stretch.{LiesAt};
 ghost use Rattle.vme_arena.specs.Ownership.{units_at};

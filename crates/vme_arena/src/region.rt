@@ -1,3 +1,4 @@
+//! A region of memory, and what of it was not carved yet.
 ghost use Rattle.std.specs.Prelude.{◌≡◌, ℕ, ◌+◌, ◌*◌, ◌%◌, ◌^◌, ◌<◌, ◌≤◌, ◌↔◌, IfOk, IfErr, IsErr};
 ghost use denote.RawPtr.{block_ptr};
 ghost use Rattle.vme_arena.specs.Stretch.{rounded};
@@ -8,9 +9,11 @@ use crate::loan::Loan;
 use crate::memory::{Deed, Memory, UNIT};
 use core::mem::replace_with;
 use std::alloc::{AllocError, Global};
+use thiserror::Error;
 
 /// A stretch was asked for that is longer than what is left.
-#[derive(Clone, Copy, Debug, PartialEq, Eq)]
+#[derive(Clone, Copy, Debug, PartialEq, Eq, Error)]
+#[error("{asked} bytes are asked for, and {left} are left")]
 pub struct Full {
     /// The bytes that were asked for, before rounding.
     pub asked: usize,

@@ -1,4 +1,4 @@
-// A cell that holds a stretch's granules, or nothing while they are in use.
+//! A cell that holds a stretch's granules, or nothing while they are in use.
 ghost use Rattle.std.specs.Prelude.{◌≡◌, IfSome};
 ghost use base.Fml.{fex, fsep, ftrue};
 ghost use Rattle.vme_arena.specs.Stretch.{Stretch};
