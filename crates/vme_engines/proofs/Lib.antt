@@ -1,4 +1,5 @@
 pub mod Writing
+pub mod Counting
 pub mod Known
 pub mod Replaying
 pub mod Cuts

@@ -5,3 +5,4 @@ pub mod Checking
 pub mod Driving
 pub mod Steps
 pub mod Front
+pub mod Counting

@@ -4,6 +4,7 @@
 #![tactic(auto)]
 
 mod checks;
+mod counts;
 mod drives;
 mod joins;
 mod lines;

@@ -11,6 +11,7 @@ ghost use Rattle.vme_engines.specs.Checking.{finding_line};
 ghost use Rattle.vme_engines.specs.Steps.{closing_text};
 
 use crate::checks::Finding;
+use crate::counts::Count;
 use arrayvec::ArrayVec;
 use itoa::Buffer;
 use std::io::Write;
@@ -91,23 +92,23 @@ fn push_verdict(line: &mut ArrayVec<u8, LINE>, answer: &Result<Option<Delivery>,
     }
 }
 
-/// Makes a line the verdict line of the n-th edge, whatever it was.
-fn set_verdict_line(
-    line: &mut ArrayVec<u8, LINE>,
-    n: u64,
+/// The verdict line of the edge with this number; the line is room for one that is not kept with the number.
+fn verdict_line<'a>(
+    count: &'a Count,
+    line: &'a mut ArrayVec<u8, LINE>,
     answer: &Result<Option<Delivery>, Refused>,
-)
-    ensures { line.new.items ≡ verdict_line n answer.now }
+) -> &'a [u8]
+    ensures { result.now ≡ verdict_line count.now answer.now }
 {
-    line.clear();
-    push_number(line, n);
     match answer {
-        // By far the most lines are of this kind, and one copy serves.
-        Ok(None) => push(line, b" ok\n"),
+        Ok(None) => count.accepted_line(),
         _ => {
+            line.clear();
+            push(line, count.digits());
             push(line, b" ");
             push_verdict(line, answer);
             push(line, b"\n");
+            line.as_slice()
         }
     }
 }
@@ -169,13 +170,12 @@ pub(crate) fn write_verdicts<W: Write>(
     ensures front { OnErr result (AppendsFront (W.contents out.old) (W.contents out.new) (verdict_lines backplane.old (judged + 1) edges.now)) }
     ensures fault { IfErr result (λ fault. fault ≡ Fault.Write) }
 {
-    let mut n = judged;
+    let mut count = Count::new(judged);
     let mut line = ArrayVec::new();
     for edge in edges {
-        n += 1;
+        count.advance();
         let answer = backplane.step(*edge);
-        set_verdict_line(&mut line, n, &answer);
-        put(out, line.as_slice())?;
+        put(out, verdict_line(&count, &mut line, &answer))?;
     }
     Ok(())
 }

@@ -1,5 +1,5 @@
 -- The guess is right at every line that spells an edge.
-use Rattle.std.proofs.Common.{◌≡◌, ◌⊎◌, ◌&&◌, subst, ℕ, Bool, true, false, eqb, cond, List, Option, Some, None, refl, sym, ◌∙◌, ap, arith, inl, inr}
+use Rattle.std.proofs.Common.{◌≡◌, ◌≢◌, ◌≤◌, ◌⊎◌, ◌&&◌, not, leb, subst, ℕ, Bool, true, false, eqb, cond, List, [], ◌∷◌, length, Option, Some, None, refl, sym, ◌∙◌, ap, arith, inl, inr}
 use Rattle.std.proofs.lemmas.Bool.Decides.{nat_tests}
 use Rattle.std.proofs.lemmas.Option.{same_Some}
 use Rattle.std.proofs.lemmas.Slice.Eq.{bytes_eq-Decides}
@@ -15,6 +15,7 @@ use Rattle.vme_model.specs.declared.signals.Edge.{Edge}
 use Rattle.vme_model.specs.Signals.{is_same_driver, is_same_wire, is_well_formed}
 use Rattle.vme_model.specs.Text.{spelling, Spells, all_edges, edge_of}
 use Rattle.vme_trace.specs.Decoding.{guess}
+use Rattle.vme_trace.specs.Taking.{IsOneLine}
 use Rattle.vme_trace.proofs.Edges.{In, none_some, in_all, find_in, find_none, every_edge, formed}
 
 abbrev same_cycle : Cycle → Cycle → Bool
@@ -169,3 +170,31 @@ not_formed line g h k = wrong_guess line g h (λ s. true_false (sym s.0 ∙ k))
 pub not_spelled : (line : List ℕ) (g : Edge) → guess line ≡ Some g → bytes_eq line (spelling g) ≡ false → edge_of line ≡ None
 not_spelled line g h k =
     wrong_guess line g h (λ s. true_false (sym (ap (λ l. bytes_eq l (spelling g)) s.1 ∙ bytes_same (spelling g)) ∙ k))
+
+-- a line is not longer than a reader takes, and has no line feed
+abbrev is_one_line : List ℕ → Bool
+is_one_line [] = true
+is_one_line (b ∷ bs) = not (eqb b 10) && is_one_line bs
+
+abbrev fits : Edge → Bool
+fits e = is_one_line (spelling e) && leb (length (spelling e)) 64
+
+-- so does the spelling of every well-formed edge: computed for each of them
+all_fit : list_all fits all_edges ≡ true
+unfolding all_edges
+all_fit = refl
+
+no_feed : (b : ℕ) → not (eqb b 10) ≡ true → b ≢ 10
+no_feed b h = grind (arith, nat_tests)
+
+one_line : (line : List ℕ) → is_one_line line ≡ true → IsOneLine line
+one_line [] h = tt
+one_line (b ∷ bs) h = let k = both (not (eqb b 10)) (is_one_line bs) h in (no_feed b k.0, one_line bs k.1)
+
+at_most : (n : ℕ) → leb n 64 ≡ true → n ≤ 64
+at_most n h = grind (arith, nat_tests)
+
+pub spelling_fits : (e : Edge) → is_well_formed e ≡ true → IsOneLine (spelling e) × (length (spelling e) ≤ 64)
+spelling_fits e h =
+    let k = both (is_one_line (spelling e)) (leb (length (spelling e)) 64) (in_all fits e all_edges all_fit (every_edge e h)) in
+    (one_line (spelling e) k.0, at_most (length (spelling e)) k.1)

@@ -3,6 +3,7 @@
 //! What the text says is `Rattle.vme_model.specs.Text`; what a reader has read of it is `specs/Reading.antt`.
 #![tactic(auto)]
 
+mod front;
 mod input;
 pub mod laws;
 mod line;

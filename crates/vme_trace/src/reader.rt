@@ -1,11 +1,13 @@
 //! A reader that is fed a trace in pieces.
 ghost use Rattle.std.specs.Prelude.{◌≡◌, ◌≢◌, ◌↔◌, IsTrue, ◌+◌, ◌<◌, ◌≤◌, ◌++◌, ◌∷◌, [], ℕ, List, length, drop, slice_index, None, Some, Err, Ok, OnOk, OnErr, IfOk, IfErr, IsSome, option_map};
 ghost use Rattle.vme_model.specs.declared.signals.Edge.{Edge};
+ghost use Rattle.vme_model.specs.declared.signals.Version.{Version};
 ghost use Rattle.vme_model.specs.Text.{read_of, version_of, next_number};
 ghost use Rattle.vme_trace.specs.Reading.{HasRead, Fed, answer_of, fault_of};
 ghost use Rattle.vme_trace.specs.Taking.{IsOneLine, IsPart, Leads, Fails, place};
 
 use crate::Fault;
+use crate::front::edge_at;
 use crate::line::edge_of;
 use arrayvec::ArrayVec;
 use memchr::memchr;
@@ -256,6 +258,28 @@ fn take_front<'a, A: Allocator>(
     Ok(&piece[end..])
 }
 
+/// Reads the lines at the front of a piece where they lie, as long as each spells an edge, and gives the rest.
+fn take_edges<'a, A: Allocator>(
+    n: &mut u64,
+    piece: &'a [u8],
+    edges: &mut Vec<Edge, A>,
+) -> Result<&'a [u8], Fault>
+    ensures shorter { IfOk result (λ rest. length rest.now ≤ length piece.now) }
+    ensures ok { IfOk result (λ rest. (version : Version) → (taken : List ℕ) × (piece.now ≡ taken ++ rest.now)
+        × Leads (Some version) (place n.old []) taken edges.old.items edges.new.items (Some version) (place n.new [])) }
+    ensures fault { IfErr result (λ fault. (version : Version) → Fails (Some version) (place n.old []) piece.now edges.old.items edges.new.items (Some version) fault) }
+{
+    let mut rest = piece;
+    'lines: while let Some((edge, behind)) = edge_at(rest) {
+        if edges.push(edge).is_err() {
+            return Err(Fault::Memory);
+        }
+        *n = next_number(*n);
+        rest = behind;
+    }
+    Ok(rest)
+}
+
 /// Reads a piece.
 fn take<A: Allocator>(
     version: &mut Option<Version>,
@@ -272,6 +296,9 @@ fn take<A: Allocator>(
     let mut rest = piece;
     'lines: while !rest.is_empty() {
         rest = take_front(version, n, part, rest, edges)?;
+        if part.is_empty() && version.is_some() {
+            rest = take_edges(n, rest, edges)?;
+        }
     }
     Ok(())
 }

@@ -4,6 +4,6 @@ use Rattle.vme_engines.proofs.lines.write_verdicts.Given as goal
 
 abbrev pub invariant-loop-edge : goal.invariant-loop-edge
 invariant-loop-edge g l = record {
-  number : l.n ≡ l.judged + l.edge-index;
-  run : HasJudged (g.W.Write.contents l.fn.out) (g.W.Write.contents l.out) l.fn.backplane (l.judged + 1) l.edges l.backplane (l.n + 1) (drop l.edge-index l.edges);
+  number : l.count ≡ l.judged + l.edge-index;
+  run : HasJudged (g.W.Write.contents l.fn.out) (g.W.Write.contents l.out) l.fn.backplane (l.judged + 1) l.edges l.backplane (l.count + 1) (drop l.edge-index l.edges);
 }

@@ -1,6 +1,7 @@
-use Rattle.std.proofs.Common.{arith}
+use Rattle.std.proofs.Common.{rules, arith, ◌≡◌, true, [], is_some}
 use Rattle.std.proofs.lemmas.Result.{err_from_is_err_and}
 use Rattle.vme_trace.proofs.Lines.{no_bytes}
+use Rattle.vme_trace.proofs.Reading.{lines_taken, lines_faulty}
 use Rattle.vme_trace.proofs.Stepping.{taken_none, taken_more, taken_all, taken_fault}
 use Rattle.vme_trace.proofs.reader.take.Goals as goal
 
@@ -8,6 +9,26 @@ pub returns-in_err-rest-clause-fault : goal.returns-in_err-rest-clause-fault
 returns-in_err-rest-clause-fault g c =
     let p = err_from_is_err_and c.from_residual.result c.from_residual.ensures.1 in
     rw (p.1, p.2) (taken_fault _ _ _ _ _ _ _ _ _ _ _ c.lines.invariant.so_far c.in_err-rest.ensures.fault)
+
+pub returns-in_err-rest-2-clause-fault : goal.returns-in_err-rest-2-clause-fault
+returns-in_err-rest-2-clause-fault g c =
+    let p = err_from_is_err_and c.from_residual-in_err-rest-2.result c.from_residual-in_err-rest-2.ensures.1 in
+    let step = c.in_ok-rest.ensures.ok in
+    let so_far = taken_more _ _ _ _ _ _ _ _ _ _ _ _ _ c.lines.invariant.so_far step.1 step.2 in
+    let known : is_some c.take_front.new.version ≡ true = search rules in
+    let none : c.take_front.new.part.items ≡ [] = no_bytes _ (grind arith) in
+    rw (p.1, p.2) (lines_faulty _ _ _ _ _ _ _ _ _ _ so_far known none _ c.in_err-rest-2.ensures.fault)
+
+pub lines-preserved-then-is_some : goal.lines-preserved-then-is_some
+lines-preserved-then-is_some g c = record {
+  part = c.in_ok-rest.ensures.part;
+  so_far =
+      let step = c.in_ok-rest.ensures.ok in
+      let so_far = taken_more _ _ _ _ _ _ _ _ _ _ _ _ _ c.lines.invariant.so_far step.1 step.2 in
+      let known : is_some c.take_front.new.version ≡ true = search rules in
+      let none : c.take_front.new.part.items ≡ [] = no_bytes _ (grind arith) in
+      lines_taken _ _ _ _ _ _ _ _ _ _ so_far known none _ _ c.in_ok-rest-2.ensures.ok;
+}
 
 pub lines-preserved : goal.lines-preserved
 lines-preserved g c = record {
