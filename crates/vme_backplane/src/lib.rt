@@ -6,6 +6,7 @@
 
 mod backplanes;
 mod deliveries;
+pub mod laws;
 
 pub use backplanes::{Backplane, Counts};
 pub use vme_store::{Trace, TraceError};
