@@ -1,5 +1,5 @@
 -- The answer by the fields is the answer over the edges that were noted.
-use Rattle.std.proofs.Common.{◌≡◌, refl, sym, subst, ap, Bool, true, false, List, ℕ}
+use Rattle.std.proofs.Common.{◌≡◌, ◌∙◌, refl, sym, subst, ap, Bool, true, false, List, ℕ}
 use Rattle.std.specs.Prelude.{◌&&◌, not, Option, Some, None, Ok}
 use Rattle.vme_model.specs.declared.boards.InterrupterRow.{InterrupterRow}
 use Rattle.vme_model.specs.declared.pins.Pins.{Pins}
@@ -16,7 +16,7 @@ use Rattle.vme_model.specs.declared.signals.Edge.{Edge}
 use Rattle.vme_model.specs.History.{drive}
 use Rattle.vme_model.specs.Rules.{is_passed_by, may_answer}
 use Rattle.vme_model.specs.Verdict.{Judgement, check, is_other_state}
-use Rattle.vme_interrupter.specs.Local.{Noted, State, edges, state_of, is_own, local, over, answer}
+use Rattle.vme_interrupter.specs.Local.{Noted, State, edges, state_of, is_own, local, over, ruling, answer}
 
 abbrev edge : Driver → Wire → Bool → Option Cycle → Edge
 edge d w f v = record { driver = d; wire = w; fall = f; value = v }
@@ -57,3 +57,10 @@ pub answers_over : (version : Version) (state : State) (noted : List Noted) (pin
 answers_over version state noted pins e same own =
     let P : State → Type 0 = λ i. answer One (local i pins) e ≡ answer version (over state.slot state.row noted pins) e in
     subst P (sym same) (by_parts version state.slot state.row noted pins e.driver e.wire e.fall e.value own)
+
+-- the same of an edge of the wire x, which is w
+pub rules_over : (version : Version) (state : State) (noted : List Noted) (pins : Pins) (d : Driver) (w x : Wire) (f : Bool) (v : Option Cycle) → state ≡ state_of state.slot state.row noted → w ≡ x → is_own x ≡ true →
+    ruling One (local state pins) x f v ≡ ruling version (over state.slot state.row noted pins) w f v
+rules_over version state noted pins d w x f v same is own =
+    answers_over version state noted pins (edge d x f v) same own
+    ∙ ap (λ y. ruling version (over state.slot state.row noted pins) y f v) (sym is)

@@ -1,14 +1,16 @@
 //! The interrupter of one board.
-ghost use Rattle.std.specs.Prelude.{◌≡◌, ◌==◌, ◌&&◌, ◌||◌, not, if◌then◌else◌, ℕ, true, false, Option as OptionValue, [], ◌∷◌, List};
+ghost use Rattle.std.specs.Prelude.{◌≡◌, ◌==◌, ◌&&◌, ◌||◌, not, if◌then◌else◌, ℕ, true, false, None, Ok, Option as OptionValue, [], ◌∷◌, List};
 ghost use Rattle.std.specs.Option.{option_map_or};
 ghost use Rattle.vme_model.specs.History.{serves};
 ghost use Rattle.vme_model.specs.declared.boards.InterrupterRow.{InterrupterRow as RowValue};
 ghost use Rattle.vme_model.specs.declared.pins.Pins.{Pins as PinsValue};
+ghost use Rattle.vme_model.specs.declared.signals.Cycle.{Cycle as CycleValue};
 ghost use Rattle.vme_model.specs.declared.signals.Version.{Version};
 ghost use Rattle.vme_model.specs.declared.signals.Version.TheVariants.{One};
 ghost use Rattle.vme_model.specs.Readings.{is_pending};
 ghost use Rattle.vme_model.specs.Rules.{is_passed_by, may_answer, rule};
-ghost use Rattle.vme_interrupter.specs.Local.{Noted, state_of, serves_board, is_own, low, local, over, answer};
+ghost use Rattle.vme_model.specs.Verdict.{check};
+ghost use Rattle.vme_interrupter.specs.Local.{Noted, state_of, serves_board, is_own, low, local, over, ruling, answer};
 
 use std::marker::Model;
 use vme_model::{Cycle, Driver, Edge, InterrupterRow, IrqKind, Pins, Refused, Wire};
@@ -43,6 +45,17 @@ fn serves(kind: IrqKind, shown: Option<Cycle>) -> bool
         (IrqKind::Roak, Some(Cycle::Acknowledge(_))) => true,
         (IrqKind::Rora, Some(Cycle::Access(_))) => true,
         _ => false,
+    }
+}
+
+/// The answer to an edge that changes its wire, by the rule that names it and whether its guard holds.
+fn allowed(number: u8, holds: bool) -> Result<(), Refused>
+    ensures { result ≡ check holds (Refused.Rule number) (Ok tt) }
+{
+    if holds {
+        Ok(())
+    } else {
+        Err(Refused::Rule(number))
     }
 }
 
@@ -98,43 +111,81 @@ impl Interrupter {
     }
 
     /// Whether it passes an acknowledge on that is shown.
-    fn is_passed_by(&self, pins: Pins) -> bool
-        ensures { result ≡ is_passed_by (local self.now pins) pins.shown }
+    fn is_passed_by(&self, lines: &Pins) -> bool
+        ensures { result ≡ is_passed_by (local self.now lines.now) lines.now.shown }
     {
-        match pins.shown {
+        match lines.shown {
             Some(Cycle::Acknowledge(level)) => !self.asks(level),
             _ => false,
         }
     }
 
     /// Whether it answers what is shown: an acknowledge that reached it, or an access to its slot.
-    fn may_answer(&self, pins: Pins) -> bool
-        ensures { result ≡ may_answer (local self.now pins) pins.shown }
+    fn answers(&self, lines: &Pins, iack_in: bool) -> bool
+        ensures { result ≡ may_answer (local self.now (record lines.now { iack_in = iack_in })) lines.now.shown }
     {
-        match pins.shown {
-            Some(Cycle::Acknowledge(level)) => pins.iack_in && !self.iackout && self.asks(level),
+        match lines.shown {
+            Some(Cycle::Acknowledge(level)) => iack_in && !self.iackout && self.asks(level),
             Some(Cycle::Access(slot)) => self.slot == slot,
             None => false,
         }
     }
 
-    /// The rule that names an edge of its own, and whether its guard holds.
-    fn rule(&self, edge: Edge, pins: Pins) -> (u8, bool)
-        ensures { is_own edge.wire ≡ true → result ≡ rule One (local self.now pins) edge.wire edge.fall edge.value }
+    /// Whether it may pass an acknowledge on now (G23).
+    fn may_go_on(&self, lines: &Pins, iack_in: bool) -> bool
+        ensures { result ≡ (rule One (local self.now (record lines.now { iack_in = iack_in })) Wire.IackOut true None).1 }
     {
-        match (edge.wire, edge.fall) {
-            (Wire::Irq, true) => (21, true),
-            (Wire::Irq, false) => (22, self.is_served),
-            (Wire::IackOut, true) => (
-                23,
-                pins.iack_in && !self.dtack && pins.data_strobe && self.is_passed_by(pins),
-            ),
-            (Wire::IackOut, false) => (24, !pins.address_strobe),
-            (_, true) => (
-                25,
-                pins.data_strobe && pins.address_strobe && self.may_answer(pins),
-            ),
-            (_, false) => (26, !pins.data_strobe),
+        iack_in && !self.dtack && lines.data_strobe && self.is_passed_by(lines)
+    }
+
+    /// Whether the board may answer now (G25).
+    fn may_begin(&self, lines: &Pins, iack_in: bool) -> bool
+        ensures { result ≡ (rule One (local self.now (record lines.now { iack_in = iack_in })) Wire.Dtack true None).1 }
+    {
+        lines.data_strobe && lines.address_strobe && self.answers(lines, iack_in)
+    }
+
+    /// Whether the rules G21 and G22 allow an edge of its interrupt request.
+    ///
+    /// # Errors
+    /// As for `may`.
+    pub fn may_request(&self, fall: bool) -> Result<(), Refused>
+        ensures { (pins : PinsValue) (value : OptionValue CycleValue) → result ≡ ruling One (local self.now pins) Wire.Irq fall value }
+    {
+        match (fall, self.irq) {
+            (true, true) | (false, false) => Err(Refused::AlreadyThere),
+            (true, false) => allowed(21, true),
+            (false, true) => allowed(22, self.is_served),
+        }
+    }
+
+    /// Whether the rules G23 and G24 allow an edge of its acknowledge out, of the lines that it sees and the input of
+    /// the acknowledge chain.
+    ///
+    /// # Errors
+    /// As for `may`.
+    pub fn may_pass(&self, fall: bool, lines: &Pins, iack_in: bool) -> Result<(), Refused>
+        ensures { (value : OptionValue CycleValue) → result ≡ ruling One (local self.now (record lines.now { iack_in = iack_in })) Wire.IackOut fall value }
+    {
+        match (fall, self.iackout) {
+            (true, true) | (false, false) => Err(Refused::AlreadyThere),
+            (true, false) => allowed(23, self.may_go_on(lines, iack_in)),
+            (false, true) => allowed(24, !lines.address_strobe),
+        }
+    }
+
+    /// Whether the rules G25 and G26 allow an edge of its data transfer acknowledge, of the lines that it sees and the
+    /// input of the acknowledge chain.
+    ///
+    /// # Errors
+    /// As for `may`.
+    pub fn may_answer(&self, fall: bool, lines: &Pins, iack_in: bool) -> Result<(), Refused>
+        ensures { (value : OptionValue CycleValue) → result ≡ ruling One (local self.now (record lines.now { iack_in = iack_in })) Wire.Dtack fall value }
+    {
+        match (fall, self.dtack) {
+            (true, true) | (false, false) => Err(Refused::AlreadyThere),
+            (true, false) => allowed(25, self.may_begin(lines, iack_in)),
+            (false, true) => allowed(26, !lines.data_strobe),
         }
     }
 
@@ -145,21 +196,12 @@ impl Interrupter {
     pub fn may(&self, edge: Edge, pins: Pins) -> Result<(), Refused>
         ensures { (version : Version) (noted : List Noted) → self.now ≡ state_of self.now.slot self.now.row noted → is_own edge.wire ≡ true → result ≡ answer version (over self.now.slot self.now.row noted pins) edge }
     {
-        self.judge(edge, pins)
-    }
-
-    /// The answer to an edge of its own, by the fields.
-    fn judge(&self, edge: Edge, pins: Pins) -> Result<(), Refused>
-        ensures { is_own edge.wire ≡ true → result ≡ answer One (local self.now pins) edge }
-    {
-        if self.is_low(edge.wire) == edge.fall {
-            return Err(Refused::AlreadyThere);
+        match edge.wire {
+            Wire::Irq => self.may_request(edge.fall),
+            Wire::IackOut => self.may_pass(edge.fall, &pins, pins.iack_in),
+            Wire::Dtack => self.may_answer(edge.fall, &pins, pins.iack_in),
+            _ => Err(Refused::NoSuchDriver),
         }
-        let (number, holds) = self.rule(edge, pins);
-        if !holds {
-            return Err(Refused::Rule(number));
-        }
-        Ok(())
     }
 
     /// Whether an answer while this is shown serves its interrupter.

@@ -1,5 +1,5 @@
 -- The answer by the fields is the answer over the edges that were noted.
-use Rattle.std.proofs.Common.{◌≡◌, refl, sym, subst, Bool, true, false, List, ℕ}
+use Rattle.std.proofs.Common.{◌≡◌, ◌∙◌, refl, sym, ap, subst, Bool, true, false, List, ℕ}
 use Rattle.std.specs.Prelude.{Option}
 use Rattle.vme_model.specs.declared.boards.RequesterRow.{RequesterRow}
 use Rattle.vme_model.specs.declared.pins.Pins.{Pins}
@@ -14,7 +14,7 @@ use Rattle.vme_model.specs.declared.signals.Cycle.{Cycle}
 use Rattle.vme_model.specs.declared.signals.Edge.{Edge}
 use Rattle.vme_model.specs.History.{cycles}
 use Rattle.vme_master.proofs.Counts.{below_burst}
-use Rattle.vme_master.specs.Local.{State, state_of, is_own, local, over, answer}
+use Rattle.vme_master.specs.Local.{State, state_of, is_own, local, over, ruling, answer}
 
 abbrev edge : Driver → Wire → Bool → Option Cycle → Edge
 edge d w f v = record { driver = d; wire = w; fall = f; value = v }
@@ -35,3 +35,10 @@ pub answers_over : (version : Version) (state : State) (noted : List Edge) (pins
 answers_over version state noted pins holds_bus e same own =
     let P : State → Type 0 = λ m. answer One (local m pins holds_bus) e ≡ answer version (over state.slot state.row state.handler noted pins holds_bus) e in
     subst P (sym same) (by_parts version state.slot state.row state.handler noted pins holds_bus e.driver e.wire e.fall e.value own)
+
+-- the same of an edge of the wire x, which is w
+pub rules_over : (version : Version) (state : State) (noted : List Edge) (pins : Pins) (holds_bus : Bool) (d : Driver) (w x : Wire) (f : Bool) (v : Option Cycle) → state ≡ state_of state.slot state.row state.handler noted → w ≡ x → is_own x ≡ true →
+    ruling One (local state pins holds_bus) x f v ≡ ruling version (over state.slot state.row state.handler noted pins holds_bus) w f v
+rules_over version state noted pins holds_bus d w x f v same is own =
+    answers_over version state noted pins holds_bus (edge d x f v) same own
+    ∙ ap (λ y. ruling version (over state.slot state.row state.handler noted pins holds_bus) y f v) (sym is)

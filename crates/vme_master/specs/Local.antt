@@ -1,5 +1,5 @@
 -- A master's local state, and what its rules read. A list of noted edges has its newest edge first.
-use Rattle.std.specs.Prelude.{ℕ, Bool, true, false, Some, None, Ok, List, min}
+use Rattle.std.specs.Prelude.{ℕ, Bool, true, false, Option, Some, None, Ok, List, min}
 use Rattle.vme_model.specs.declared.boards.RequesterRow.{RequesterRow}
 use Rattle.vme_model.specs.declared.boards.Release.{Release}
 use Rattle.vme_model.specs.declared.boards.Release.TheVariants.{Done, Request}
@@ -11,6 +11,7 @@ use Rattle.vme_model.specs.declared.signals.Version.{Version}
 use Rattle.vme_model.specs.declared.signals.Driver.TheVariants.{Slot}
 use Rattle.vme_model.specs.declared.signals.Wire.{Wire}
 use Rattle.vme_model.specs.declared.signals.Wire.TheVariants.{Bbsy, Addr, AddressStrobe, DataStrobe}
+use Rattle.vme_model.specs.declared.signals.Cycle.{Cycle}
 use Rattle.vme_model.specs.declared.signals.Edge.{Edge}
 use Rattle.vme_model.specs.Sets.{has_bus_level, has_level}
 use Rattle.vme_model.specs.History.{drive, cycles, has_strobed}
@@ -99,9 +100,12 @@ abbrev pub over : ℕ → RequesterRow → Levels → List Edge → Pins → Boo
 over s row handler noted pins holds_bus =
     readings s row handler (drive noted (Slot s)) (cycles noted (Slot s)) (has_strobed noted (Slot s)) pins holds_bus
 
--- the answer to an edge of its own by its rows of the table: E2, E3 or Ok
-abbrev pub answer : Version → Readings → Edge → Judgement
-answer version r e =
-    check (is_other_state (r.own e.wire) e.fall) AlreadyThere
-    (check (rule version r e.wire e.fall e.value).1 (Rule (rule version r e.wire e.fall e.value).0)
+-- the answer to an edge of a wire of its own by its rows of the table: E2, E3 or Ok
+abbrev pub ruling : Version → Readings → Wire → Bool → Option Cycle → Judgement
+ruling version r w fall v =
+    check (is_other_state (r.own w) fall) AlreadyThere
+    (check (rule version r w fall v).1 (Rule (rule version r w fall v).0)
     (Ok tt))
+
+abbrev pub answer : Version → Readings → Edge → Judgement
+answer version r e = ruling version r e.wire e.fall e.value

@@ -1,12 +1,14 @@
 //! The master of one board.
-ghost use Rattle.std.specs.Prelude.{◌≡◌, ◌+◌, ◌||◌, ℕ, Bool, true, false, if◌then◌else◌, nat_lt, [], ◌∷◌, List};
+ghost use Rattle.std.specs.Prelude.{◌≡◌, ◌&&◌, ◌+◌, ◌||◌, not, ℕ, Bool, Ok, Option as OptionValue, true, false, if◌then◌else◌, nat_lt, [], ◌∷◌, List};
 ghost use Rattle.vme_model.specs.declared.boards.RequesterRow.{RequesterRow as RowValue};
 ghost use Rattle.vme_model.specs.declared.sets.Levels.{Levels as LevelsValue};
 ghost use Rattle.vme_model.specs.declared.signals.Version.{Version};
 ghost use Rattle.vme_model.specs.declared.signals.Version.TheVariants.{One};
+ghost use Rattle.vme_model.specs.declared.signals.Cycle.{Cycle as CycleValue};
 ghost use Rattle.vme_model.specs.declared.signals.Edge.{Edge as EdgeValue};
 ghost use Rattle.vme_model.specs.Rules.{is_below_burst, may_show, rule};
-ghost use Rattle.vme_master.specs.Local.{state_of, most_cycles, is_own, low, local, over, answer};
+ghost use Rattle.vme_model.specs.Verdict.{check};
+ghost use Rattle.vme_master.specs.Local.{state_of, most_cycles, is_own, low, local, over, ruling, answer};
 
 use std::marker::Model;
 use vme_model::{Cycle, Driver, Edge, Levels, Pins, Refused, Release, RequesterRow, Wire};
@@ -32,6 +34,17 @@ impl Model for Master {
     ghost view = { λ m. record { slot = m.slot; row = m.row; handler = m.handler; addr = m.addr; address_strobe = m.address_strobe; data_strobe = m.data_strobe; cycles = m.cycles; has_strobed = m.has_strobed } };
 
     ghost inverse = { λ s. record { slot = s.slot; row = s.row; handler = s.handler; addr = s.addr; address_strobe = s.address_strobe; data_strobe = s.data_strobe; cycles = s.cycles; has_strobed = s.has_strobed } };
+}
+
+/// The answer to an edge that changes its wire, by the rule that names it and whether its guard holds.
+fn allowed(number: u8, holds: bool) -> Result<(), Refused>
+    ensures { result ≡ check holds (Refused.Rule number) (Ok tt) }
+{
+    if holds {
+        Ok(())
+    } else {
+        Err(Refused::Rule(number))
+    }
 }
 
 impl Master {
@@ -75,38 +88,85 @@ impl Master {
     }
 
     /// Whether it may show that value: an acknowledge only of a level that its board handles and that is requested.
-    fn may_show(&self, value: Option<Cycle>, pins: Pins, holds_bus: bool) -> bool
-        ensures { result ≡ may_show (local self.now pins holds_bus) value }
+    fn may_show(&self, value: Option<Cycle>, lines: &Pins, holds_bus: bool) -> bool
+        ensures { result ≡ may_show (local self.now lines.now holds_bus) value }
     {
         match value {
-            Some(Cycle::Acknowledge(level)) => self.handler.has(level) && pins.irq.has(level),
+            Some(Cycle::Acknowledge(level)) => self.handler.has(level) && lines.irq.has(level),
             _ => true,
         }
     }
 
-    /// The rule that names an edge of its address group or its strobes, and whether its guard holds.
-    fn rule(&self, edge: Edge, pins: Pins, holds_bus: bool) -> (u8, bool)
-        ensures { is_own edge.wire ≡ true → result ≡ rule One (local self.now pins holds_bus) edge.wire edge.fall edge.value }
+    /// Whether its address group may go on with that value (G15).
+    fn may_go_on(&self, value: Option<Cycle>, lines: &Pins, holds_bus: bool) -> bool
+        ensures { result ≡ (rule One (local self.now lines.now holds_bus) Wire.Addr true value).1 }
     {
-        match (edge.wire, edge.fall) {
-            (Wire::Addr, true) => (
-                15,
-                holds_bus
-                    && !pins.address_strobe
-                    && self.is_within_burst()
-                    && self.may_show(edge.value, pins, holds_bus),
-            ),
-            (Wire::Addr, false) => (
-                19,
-                self.address_strobe && !self.data_strobe && self.has_strobed,
-            ),
-            (Wire::AddressStrobe, true) => (16, self.addr && !pins.address_strobe),
-            (Wire::AddressStrobe, false) => (20, !self.addr),
-            (_, true) => (
-                17,
-                self.address_strobe && self.addr && !pins.dtack && !pins.berr && !self.has_strobed,
-            ),
-            (_, false) => (18, pins.dtack || pins.berr),
+        holds_bus
+            && !lines.address_strobe
+            && self.is_within_burst()
+            && self.may_show(value, lines, holds_bus)
+    }
+
+    /// Whether its address group may go off (G19).
+    fn may_go_off(&self) -> bool
+        ensures { result ≡ (self.now.address_strobe && not self.now.data_strobe && self.now.has_strobed) }
+    {
+        self.address_strobe && !self.data_strobe && self.has_strobed
+    }
+
+    /// Whether it may begin a transfer (G17).
+    fn may_begin(&self, lines: &Pins) -> bool
+        ensures { result ≡ (self.now.address_strobe && self.now.addr && not lines.now.dtack && not lines.now.berr && not self.now.has_strobed) }
+    {
+        self.address_strobe && self.addr && !lines.dtack && !lines.berr && !self.has_strobed
+    }
+
+    /// Whether the rules G15 and G19 allow an edge of its address group, of the lines that it sees, and whether its
+    /// board drives BBSY* low.
+    ///
+    /// # Errors
+    /// As for `may`.
+    pub fn may_address(
+        &self,
+        fall: bool,
+        value: Option<Cycle>,
+        lines: &Pins,
+        holds_bus: bool,
+    ) -> Result<(), Refused>
+        ensures { result ≡ ruling One (local self.now lines.now holds_bus) Wire.Addr fall value }
+    {
+        match (fall, self.addr) {
+            (true, true) | (false, false) => Err(Refused::AlreadyThere),
+            (true, false) => allowed(15, self.may_go_on(value, lines, holds_bus)),
+            (false, true) => allowed(19, self.may_go_off()),
+        }
+    }
+
+    /// Whether the rules G16 and G20 allow an edge of its address strobe, of the lines that it sees.
+    ///
+    /// # Errors
+    /// As for `may`.
+    pub fn may_strobe_address(&self, fall: bool, lines: &Pins) -> Result<(), Refused>
+        ensures { (holds_bus : Bool) (value : OptionValue CycleValue) → result ≡ ruling One (local self.now lines.now holds_bus) Wire.AddressStrobe fall value }
+    {
+        match (fall, self.address_strobe) {
+            (true, true) | (false, false) => Err(Refused::AlreadyThere),
+            (true, false) => allowed(16, self.addr && !lines.address_strobe),
+            (false, true) => allowed(20, !self.addr),
+        }
+    }
+
+    /// Whether the rules G17 and G18 allow an edge of its data strobe, of the lines that it sees.
+    ///
+    /// # Errors
+    /// As for `may`.
+    pub fn may_strobe_data(&self, fall: bool, lines: &Pins) -> Result<(), Refused>
+        ensures { (holds_bus : Bool) (value : OptionValue CycleValue) → result ≡ ruling One (local self.now lines.now holds_bus) Wire.DataStrobe fall value }
+    {
+        match (fall, self.data_strobe) {
+            (true, true) | (false, false) => Err(Refused::AlreadyThere),
+            (true, false) => allowed(17, self.may_begin(lines)),
+            (false, true) => allowed(18, lines.dtack || lines.berr),
         }
     }
 
@@ -120,21 +180,12 @@ impl Master {
     pub fn may(&self, edge: Edge, pins: Pins, holds_bus: bool) -> Result<(), Refused>
         ensures { (version : Version) (noted : List EdgeValue) → self.now ≡ state_of self.now.slot self.now.row self.now.handler noted → is_own edge.wire ≡ true → result ≡ answer version (over self.now.slot self.now.row self.now.handler noted pins holds_bus) edge }
     {
-        self.judge(edge, pins, holds_bus)
-    }
-
-    /// The answer to an edge of its own, by the fields.
-    fn judge(&self, edge: Edge, pins: Pins, holds_bus: bool) -> Result<(), Refused>
-        ensures { is_own edge.wire ≡ true → result ≡ answer One (local self.now pins holds_bus) edge }
-    {
-        if self.is_low(edge.wire) == edge.fall {
-            return Err(Refused::AlreadyThere);
+        match edge.wire {
+            Wire::Addr => self.may_address(edge.fall, edge.value, &pins, holds_bus),
+            Wire::AddressStrobe => self.may_strobe_address(edge.fall, &pins),
+            Wire::DataStrobe => self.may_strobe_data(edge.fall, &pins),
+            _ => Err(Refused::NoSuchDriver),
         }
-        let (number, holds) = self.rule(edge, pins, holds_bus);
-        if !holds {
-            return Err(Refused::Rule(number));
-        }
-        Ok(())
     }
 
     /// Takes in an edge that was made: its own, or its board's `bbsy-`, which begins a tenure. Any other changes

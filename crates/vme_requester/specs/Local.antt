@@ -1,6 +1,10 @@
 -- A requester's local state, and what its rules read. A list of noted edges has its newest edge first.
-use Rattle.std.specs.Prelude.{ℕ, Bool, true, false, not, Some, None, Ok, List}
+use Rattle.std.specs.Prelude.{ℕ, Bool, true, false, not, Option, Some, None, Ok, List}
 use Rattle.vme_model.specs.declared.boards.RequesterRow.{RequesterRow}
+use Rattle.std.specs.List.{list_any}
+use Rattle.vme_model.specs.declared.boards.Release.{Release}
+use Rattle.vme_model.specs.declared.boards.Release.TheVariants.{Done, Request}
+use Rattle.vme_model.specs.declared.sets.BusLevels.{BusLevels}
 use Rattle.vme_model.specs.declared.boards.ArbiterKind.TheVariants.{Sgl}
 use Rattle.vme_model.specs.declared.pins.Pins.{Pins}
 use Rattle.vme_model.specs.declared.refusals.Refused.TheVariants.{AlreadyThere, Rule}
@@ -8,11 +12,12 @@ use Rattle.vme_model.specs.declared.signals.Version.{Version}
 use Rattle.vme_model.specs.declared.signals.Driver.TheVariants.{Slot}
 use Rattle.vme_model.specs.declared.signals.Wire.{Wire}
 use Rattle.vme_model.specs.declared.signals.Wire.TheVariants.{Br, BgOut, Bbsy, Addr, AddressStrobe}
+use Rattle.vme_model.specs.declared.signals.Cycle.{Cycle}
 use Rattle.vme_model.specs.declared.signals.Edge.{Edge}
 use Rattle.vme_model.specs.Sets.{has_bus_level, has_level, no_levels}
 use Rattle.vme_model.specs.History.{drive}
 use Rattle.vme_model.specs.Readings.{Readings}
-use Rattle.vme_model.specs.Rules.{rule}
+use Rattle.vme_model.specs.Rules.{bus_numbers, rule}
 use Rattle.vme_model.specs.Verdict.{Judgement, check, is_other_state}
 
 -- what a requester keeps: where it stands, the version of its rules, and which of its wires are low
@@ -77,12 +82,20 @@ readings s row own pins is_address_free = record {
   board = Some (record { slot = s; requester = Some row; interrupter = None; handler = no_levels });
 }
 
--- the answer to an edge of its own by its rows of the table: E2, E3 or Ok
-abbrev pub answer : Version → Readings → Edge → Judgement
-answer version r e =
-    check (is_other_state (r.own e.wire) e.fall) AlreadyThere
-    (check (rule version r e.wire e.fall e.value).1 (Rule (rule version r e.wire e.fall e.value).0)
+-- it waits for a request, where it releases on one
+abbrev pub lets_go : Release → BusLevels → Bool
+lets_go (Done burst) requests = true
+lets_go Request requests = list_any (has_bus_level requests) bus_numbers
+
+-- the answer to an edge of a wire of its own by its rows of the table: E2, E3 or Ok
+abbrev pub ruling : Version → Readings → Wire → Bool → Option Cycle → Judgement
+ruling version r w fall v =
+    check (is_other_state (r.own w) fall) AlreadyThere
+    (check (rule version r w fall v).1 (Rule (rule version r w fall v).0)
     (Ok tt))
+
+abbrev pub answer : Version → Readings → Edge → Judgement
+answer version r e = ruling version r e.wire e.fall e.value
 
 -- the same, read over the edges that were noted
 abbrev pub answer_over : ℕ → RequesterRow → Version → List Edge → Pins → Bool → Edge → Judgement

@@ -1,13 +1,16 @@
 //! The requester of one board.
-ghost use Rattle.std.specs.Prelude.{◌≡◌, ℕ, true, [], ◌∷◌, List};
+ghost use Rattle.std.specs.Prelude.{◌≡◌, ℕ, Bool, true, false, None, Ok, [], ◌∷◌, List, Option as OptionValue};
 ghost use Rattle.std.specs.List.{list_any};
 ghost use Rattle.vme_model.specs.declared.boards.RequesterRow.{RequesterRow as RowValue};
+ghost use Rattle.vme_model.specs.declared.pins.Pins.{Pins as PinsValue};
+ghost use Rattle.vme_model.specs.declared.signals.Cycle.{Cycle as CycleValue};
 ghost use Rattle.vme_model.specs.declared.signals.Version.{Version as VersionValue};
 ghost use Rattle.vme_model.specs.declared.signals.Edge.{Edge as EdgeValue};
 ghost use Rattle.vme_model.specs.Signals.{is_two};
 ghost use Rattle.vme_model.specs.Sets.{has_bus_level};
-ghost use Rattle.vme_model.specs.Rules.{bus_numbers, may_release, rule};
-ghost use Rattle.vme_requester.specs.Local.{state_of, is_own, low, readings, answer_over};
+ghost use Rattle.vme_model.specs.Rules.{bus_numbers, rule};
+ghost use Rattle.vme_model.specs.Verdict.{check};
+ghost use Rattle.vme_requester.specs.Local.{state_of, is_own, low, readings, lets_go, ruling, answer_over};
 
 use std::marker::Model;
 use vme_model::{BusLevels, Driver, Edge, Pins, Refused, Release, RequesterRow, Version, Wire};
@@ -47,6 +50,17 @@ fn is_two(version: Version) -> bool
     matches!(version, Version::Two)
 }
 
+/// The answer to an edge that changes its wire, by the rule that names it and whether its guard holds.
+fn allowed(number: u8, holds: bool) -> Result<(), Refused>
+    ensures { result ≡ check holds (Refused.Rule number) (Ok tt) }
+{
+    if holds {
+        Ok(())
+    } else {
+        Err(Refused::Rule(number))
+    }
+}
+
 impl Requester {
     /// The requester of the board in a slot, before any edge, under that version of the rules.
     pub fn new(slot: u8, row: RequesterRow, version: Version) -> Requester
@@ -75,32 +89,68 @@ impl Requester {
     }
 
     /// Whether it may let go now, or waits for a request.
-    fn may_release(&self, pins: Pins, is_address_free: bool) -> bool
-        ensures { result ≡ may_release (readings self.now.slot self.now.row (low self.now) pins is_address_free) }
+    fn may_release(&self, requests: BusLevels) -> bool
+        ensures { result ≡ lets_go self.now.row.release requests }
     {
         match self.row.release {
             Release::Done { .. } => true,
-            Release::Request => is_any(pins.requests),
+            Release::Request => is_any(requests),
         }
     }
 
-    /// The rule that names an edge of its own, and whether its guard holds.
-    fn rule(&self, edge: Edge, pins: Pins, is_address_free: bool) -> (u8, bool)
-        ensures { is_own edge.wire ≡ true → result ≡ rule self.now.version (readings self.now.slot self.now.row (low self.now) pins is_address_free) edge.wire edge.fall edge.value }
+    /// Whether its owner may let the bus go (G14).
+    fn may_let_go(&self, lines: &Pins, grant_in: bool, is_address_free: bool) -> bool
+        ensures { result ≡ (rule self.now.version (readings self.now.slot self.now.row (low self.now) (record lines.now { grant_in = grant_in }) is_address_free) Wire.Bbsy false None).1 }
     {
-        match (edge.wire, edge.fall) {
-            (Wire::Br, true) => (9, !self.bbsy),
-            (Wire::Br, false) => (10, is_two(self.version) || self.bbsy),
-            (Wire::BgOut, true) => (11, pins.grant_in && !self.br && !self.bbsy),
-            (Wire::BgOut, false) => (12, !pins.grant_in),
-            (_, true) => (13, pins.grant_in && !self.bgout && self.br),
-            (_, false) => (
-                14,
-                !self.br
-                    && !pins.grant_in
-                    && is_address_free
-                    && self.may_release(pins, is_address_free),
-            ),
+        !self.br && !grant_in && is_address_free && self.may_release(lines.requests)
+    }
+
+    /// Whether the rules G9 and G10 allow an edge of its bus request.
+    ///
+    /// # Errors
+    /// As for `may`.
+    pub fn may_request(&self, fall: bool) -> Result<(), Refused>
+        ensures { (pins : PinsValue) (is_address_free : Bool) (value : OptionValue CycleValue) → result ≡ ruling self.now.version (readings self.now.slot self.now.row (low self.now) pins is_address_free) Wire.Br fall value }
+    {
+        match (fall, self.br) {
+            (true, true) | (false, false) => Err(Refused::AlreadyThere),
+            (true, false) => allowed(9, !self.bbsy),
+            (false, true) => allowed(10, is_two(self.version) || self.bbsy),
+        }
+    }
+
+    /// Whether the rules G11 and G12 allow an edge of its bus grant out, of the input of its grant chain.
+    ///
+    /// # Errors
+    /// As for `may`.
+    pub fn may_pass(&self, fall: bool, grant_in: bool) -> Result<(), Refused>
+        ensures { (pins : PinsValue) (is_address_free : Bool) (value : OptionValue CycleValue) → pins.grant_in ≡ grant_in → result ≡ ruling self.now.version (readings self.now.slot self.now.row (low self.now) pins is_address_free) Wire.BgOut fall value }
+    {
+        match (fall, self.bgout) {
+            (true, true) | (false, false) => Err(Refused::AlreadyThere),
+            (true, false) => allowed(11, grant_in && !self.br && !self.bbsy),
+            (false, true) => allowed(12, !grant_in),
+        }
+    }
+
+    /// Whether the rules G13 and G14 allow an edge of its bus busy, of the lines that it sees, the input of its
+    /// grant chain, and whether its master's address group is off or the master's address strobe low.
+    ///
+    /// # Errors
+    /// As for `may`.
+    pub fn may_hold(
+        &self,
+        fall: bool,
+        lines: &Pins,
+        grant_in: bool,
+        is_address_free: bool,
+    ) -> Result<(), Refused>
+        ensures { (value : OptionValue CycleValue) → result ≡ ruling self.now.version (readings self.now.slot self.now.row (low self.now) (record lines.now { grant_in = grant_in }) is_address_free) Wire.Bbsy fall value }
+    {
+        match (fall, self.bbsy) {
+            (true, true) | (false, false) => Err(Refused::AlreadyThere),
+            (true, false) => allowed(13, grant_in && !self.bgout && self.br),
+            (false, true) => allowed(14, self.may_let_go(lines, grant_in, is_address_free)),
         }
     }
 
@@ -113,14 +163,33 @@ impl Requester {
     pub fn may(&self, edge: Edge, pins: Pins, is_address_free: bool) -> Result<(), Refused>
         ensures { (noted : List EdgeValue) → self.now ≡ state_of self.now.slot self.now.row self.now.version noted → is_own edge.wire ≡ true → result ≡ answer_over self.now.slot self.now.row self.now.version noted pins is_address_free edge }
     {
-        if self.is_low(edge.wire) == edge.fall {
-            return Err(Refused::AlreadyThere);
+        match edge.wire {
+            Wire::Br => self.may_request(edge.fall),
+            Wire::BgOut => self.may_pass(edge.fall, pins.grant_in),
+            Wire::Bbsy => self.may_hold(edge.fall, &pins, pins.grant_in, is_address_free),
+            _ => Err(Refused::NoSuchDriver),
         }
-        let (number, holds) = self.rule(edge, pins, is_address_free);
-        if !holds {
-            return Err(Refused::Rule(number));
-        }
-        Ok(())
+    }
+
+    /// An edge of its bus request was made.
+    pub fn request(&mut self, fall: bool)
+        ensures { self.new ≡ record self.old { br = fall } }
+    {
+        self.br = fall;
+    }
+
+    /// An edge of its bus grant out was made.
+    pub fn pass(&mut self, fall: bool)
+        ensures { self.new ≡ record self.old { bgout = fall } }
+    {
+        self.bgout = fall;
+    }
+
+    /// An edge of its bus busy was made.
+    pub fn hold(&mut self, fall: bool)
+        ensures { self.new ≡ record self.old { bbsy = fall } }
+    {
+        self.bbsy = fall;
     }
 
     /// Takes in an edge that was made; one of another driver or wire changes nothing.

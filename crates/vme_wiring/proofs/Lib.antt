@@ -12,3 +12,4 @@ pub mod Seeing
 pub mod Judging
 pub mod Fresh
 pub mod Offering
+pub mod Ruling

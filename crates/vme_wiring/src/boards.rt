@@ -11,8 +11,10 @@ ghost use Rattle.vme_requester.specs.Local.{state_of as requester_of, is_own as 
 ghost use Rattle.vme_master.specs.Local.{state_of as master_of, is_own as is_masters};
 ghost use Rattle.vme_model.specs.declared.boards.InterrupterRow.{InterrupterRow as InterrupterValue};
 ghost use Rattle.vme_interrupter.specs.Local.{Noted, state_of as interrupter_of, is_own as is_interrupters};
-ghost use Rattle.vme_wiring.specs.Asked.{asked, IsAsked};
+ghost use Rattle.vme_wiring.specs.Asked.{asked, seen_by, IsAsked};
+ghost use Rattle.vme_wiring.specs.declared.chains.Chains.{Chains as ChainsValue};
 
+use crate::chains::Chains;
 use vme_interrupter::Interrupter;
 use vme_master::Master;
 use vme_model::{Cycle, Edge, Pins, Refused, Row, Version, Wire};
@@ -27,39 +29,24 @@ pub struct Board {
     pub interrupter: Interrupter,
 }
 
-/// The requester after an edge, if there is one.
-fn requester_after(requester: Option<Requester>, edge: Edge) -> Option<Requester>
-    ensures { (s : ℕ) (row : OptionValue RequesterValue) (version : VersionValue) (h : List EdgeValue) → requester ≡ option_map (λ q. requester_of s q version h) row → result ≡ option_map (λ q. requester_of s q version (edge ∷ h)) row }
+/// The requester takes in an edge, if there is one.
+fn note_requester(requester: &mut Option<Requester>, edge: Edge)
+    ensures { (s : ℕ) (row : OptionValue RequesterValue) (version : VersionValue) (h : List EdgeValue) → requester.old ≡ option_map (λ q. requester_of s q version h) row → requester.new ≡ option_map (λ q. requester_of s q version (edge ∷ h)) row }
 {
     match requester {
-        Some(mut requester) => {
-            requester.note(edge);
-            Some(requester)
-        }
-        None => None,
+        Some(requester) => requester.note(edge),
+        None => {}
     }
 }
 
-/// The master after an edge, if there is one.
-fn master_after(master: Option<Master>, edge: Edge) -> Option<Master>
-    ensures { (s : ℕ) (row : OptionValue RequesterValue) (handler : LevelsValue) (h : List EdgeValue) → master ≡ option_map (λ q. master_of s q handler h) row → result ≡ option_map (λ q. master_of s q handler (edge ∷ h)) row }
+/// The master takes in an edge, if there is one.
+fn note_master(master: &mut Option<Master>, edge: Edge)
+    ensures { (s : ℕ) (row : OptionValue RequesterValue) (handler : LevelsValue) (h : List EdgeValue) → master.old ≡ option_map (λ q. master_of s q handler h) row → master.new ≡ option_map (λ q. master_of s q handler (edge ∷ h)) row }
 {
     match master {
-        Some(mut master) => {
-            master.note(edge);
-            Some(master)
-        }
-        None => None,
+        Some(master) => master.note(edge),
+        None => {}
     }
-}
-
-/// The interrupter after an edge that was made while that was shown.
-fn interrupter_after(interrupter: Interrupter, edge: Edge, shown: Option<Cycle>) -> Interrupter
-    ensures { (s : ℕ) (row : OptionValue InterrupterValue) (noted : List Noted) → interrupter ≡ interrupter_of s row noted → result ≡ interrupter_of s row ((edge, shown) ∷ noted) }
-{
-    let mut interrupter = interrupter;
-    interrupter.note(edge, shown);
-    interrupter
 }
 
 impl Board {
@@ -86,17 +73,15 @@ impl Board {
         ensures { (version : VersionValue) (p : Plan) (h : List EdgeValue) (r : RowValue) → self.old ≡ parts_of version p h r → shown ≡ shown_after p h → self.new ≡ parts_of version p (edge ∷ h) r }
     {
         match edge.wire {
-            Wire::Br | Wire::BgOut => self.requester = requester_after(self.requester, edge),
+            Wire::Br | Wire::BgOut => note_requester(&mut self.requester, edge),
             Wire::Bbsy => {
-                self.requester = requester_after(self.requester, edge);
-                self.master = master_after(self.master, edge);
+                note_requester(&mut self.requester, edge);
+                note_master(&mut self.master, edge);
             }
             Wire::Addr | Wire::AddressStrobe | Wire::DataStrobe => {
-                self.master = master_after(self.master, edge);
+                note_master(&mut self.master, edge);
             }
-            Wire::Irq | Wire::IackOut | Wire::Dtack => {
-                self.interrupter = interrupter_after(self.interrupter, edge, shown);
-            }
+            Wire::Irq | Wire::IackOut | Wire::Dtack => self.interrupter.note(edge, shown),
             Wire::Bg(_) | Wire::Bclr | Wire::Iack | Wire::Berr => {}
         }
     }
@@ -125,40 +110,77 @@ impl Board {
     }
 
     /// E2 and E3 for an edge of its requester's.
-    fn ask_requester(&self, edge: Edge, pins: Pins) -> Result<(), Refused>
-        ensures { (version : VersionValue) (p : Plan) (h : List EdgeValue) (r : RowValue) → self.now ≡ parts_of version p h r → IsAsked p h r pins edge → is_requesters edge.wire ≡ true → result ≡ asked version p h edge }
+    fn ask_requester(
+        &self,
+        edge: Edge,
+        lines: &Pins,
+        chains: &Chains,
+    ) -> Result<(), Refused>
+        ensures { (version : VersionValue) (p : Plan) (h : List EdgeValue) (r : RowValue) → self.now ≡ parts_of version p h r → IsAsked p h r (seen_by chains.now lines.now self.now.row) edge → is_requesters edge.wire ≡ true → result ≡ asked version p h edge }
     {
-        match self.requester {
-            Some(requester) => requester.may(edge, pins, self.is_address_free()),
+        match &self.requester {
+            Some(requester) => match edge.wire {
+                Wire::Br => requester.may_request(edge.fall),
+                Wire::BgOut => requester.may_pass(edge.fall, chains.grant_in(&self.row)),
+                Wire::Bbsy => {
+                    let grant_in = chains.grant_in(&self.row);
+                    requester.may_hold(edge.fall, lines, grant_in, self.is_address_free())
+                }
+                _ => Err(Refused::NoSuchDriver),
+            },
             None => Err(Refused::NoSuchDriver),
         }
     }
 
     /// E2 and E3 for an edge of its master's.
-    fn ask_master(&self, edge: Edge, pins: Pins) -> Result<(), Refused>
-        ensures { (version : VersionValue) (p : Plan) (h : List EdgeValue) (r : RowValue) → self.now ≡ parts_of version p h r → IsAsked p h r pins edge → is_masters edge.wire ≡ true → result ≡ asked version p h edge }
+    fn ask_master(&self, edge: Edge, lines: &Pins) -> Result<(), Refused>
+        ensures { (version : VersionValue) (p : Plan) (h : List EdgeValue) (r : RowValue) (chains : ChainsValue) → self.now ≡ parts_of version p h r → IsAsked p h r (seen_by chains lines.now self.now.row) edge → is_masters edge.wire ≡ true → result ≡ asked version p h edge }
     {
-        match self.master {
-            Some(master) => master.may(edge, pins, self.is_low(Wire::Bbsy)),
+        match &self.master {
+            Some(master) => match edge.wire {
+                Wire::Addr => {
+                    let holds_bus = self.is_low(Wire::Bbsy);
+                    master.may_address(edge.fall, edge.value, lines, holds_bus)
+                }
+                Wire::AddressStrobe => master.may_strobe_address(edge.fall, lines),
+                Wire::DataStrobe => master.may_strobe_data(edge.fall, lines),
+                _ => Err(Refused::NoSuchDriver),
+            },
             None => Err(Refused::NoSuchDriver),
         }
     }
 
     /// E2 and E3 for an edge of its interrupter's.
-    fn ask_interrupter(&self, edge: Edge, pins: Pins) -> Result<(), Refused>
-        ensures { (version : VersionValue) (p : Plan) (h : List EdgeValue) (r : RowValue) → self.now ≡ parts_of version p h r → IsAsked p h r pins edge → is_interrupters edge.wire ≡ true → result ≡ asked version p h edge }
+    fn ask_interrupter(
+        &self,
+        edge: Edge,
+        lines: &Pins,
+        chains: &Chains,
+    ) -> Result<(), Refused>
+        ensures { (version : VersionValue) (p : Plan) (h : List EdgeValue) (r : RowValue) → self.now ≡ parts_of version p h r → IsAsked p h r (seen_by chains.now lines.now self.now.row) edge → is_interrupters edge.wire ≡ true → result ≡ asked version p h edge }
     {
-        self.interrupter.may(edge, pins)
+        match edge.wire {
+            Wire::Irq => self.interrupter.may_request(edge.fall),
+            Wire::IackOut => {
+                let iack_in = chains.iack_in(&self.row);
+                self.interrupter.may_pass(edge.fall, lines, iack_in)
+            }
+            Wire::Dtack => {
+                let iack_in = chains.iack_in(&self.row);
+                self.interrupter.may_answer(edge.fall, lines, iack_in)
+            }
+            _ => Err(Refused::NoSuchDriver),
+        }
     }
 
     /// E2 and E3 for an edge of one of its wires, by the part that drives it.
-    pub fn may(&self, edge: Edge, pins: Pins) -> Result<(), Refused>
-        ensures { (version : VersionValue) (p : Plan) (h : List EdgeValue) (r : RowValue) → self.now ≡ parts_of version p h r → IsAsked p h r pins edge → result ≡ asked version p h edge }
+    pub fn may(&self, edge: Edge, lines: &Pins, chains: &Chains) -> Result<(), Refused>
+        ensures { (version : VersionValue) (p : Plan) (h : List EdgeValue) (r : RowValue) → self.now ≡ parts_of version p h r → IsAsked p h r (seen_by chains.now lines.now self.now.row) edge → result ≡ asked version p h edge }
     {
         match edge.wire {
-            Wire::Br | Wire::BgOut | Wire::Bbsy => self.ask_requester(edge, pins),
-            Wire::Addr | Wire::AddressStrobe | Wire::DataStrobe => self.ask_master(edge, pins),
-            Wire::Irq | Wire::IackOut | Wire::Dtack => self.ask_interrupter(edge, pins),
+            Wire::Br | Wire::BgOut | Wire::Bbsy => self.ask_requester(edge, lines, chains),
+            Wire::Addr | Wire::AddressStrobe | Wire::DataStrobe => self.ask_master(edge, lines),
+            Wire::Irq | Wire::IackOut | Wire::Dtack => self.ask_interrupter(edge, lines, chains),
             Wire::Bg(_) | Wire::Bclr | Wire::Iack | Wire::Berr => Err(Refused::NoSuchDriver),
         }
     }

@@ -1,6 +1,8 @@
 //! The daisy chains of a backplane.
-ghost use Rattle.std.specs.Prelude.{◌≡◌, [], Some, true, false, not};
+ghost use Rattle.std.specs.Prelude.{◌≡◌, ◌&&◌, [], Some, true, false, not, is_some};
 ghost use Rattle.std.specs.List.{slice_get};
+ghost use Rattle.std.specs.Option.{option_map_or};
+ghost use Rattle.vme_model.specs.Plan.{grant_chain};
 ghost use Rattle.vme_chain.specs.Segments.{input, output_number, is_clear, is_past_end};
 
 use crate::lines::request_level;
@@ -48,6 +50,23 @@ impl Chains {
             ChainId::Bg3 => self.bg3.is_in_low(slot),
             ChainId::Iack => self.iack.is_in_low(slot),
         }
+    }
+
+    /// The input of the board's own grant chain, for a board with a requester.
+    pub fn grant_in(&self, row: &Row) -> bool
+        ensures { result ≡ option_map_or (λ q. input (chain_at (grant_chain q.level) self.now) row.now.slot) row.now.requester false }
+    {
+        match row.requester {
+            Some(requester) => self.input(ChainId::of_grant(requester.level), row.slot),
+            None => false,
+        }
+    }
+
+    /// The input of the acknowledge chain, for a board with an interrupter.
+    pub fn iack_in(&self, row: &Row) -> bool
+        ensures { result ≡ (is_some row.now.interrupter && input self.now.iack row.now.slot) }
+    {
+        row.interrupter.is_some() && self.iack.is_in_low(row.slot)
     }
 
     /// The number of the segment that an active slot drives.
@@ -123,23 +142,23 @@ impl Chains {
         }
     }
 
-    /// Takes in an edge of the board's wire.
-    pub fn note(&mut self, row: &Row, edge: Edge)
-        requires other { CanMove row.now edge.wire edge.fall self.old }
-        ensures { self.new ≡ after_board row.now edge.wire edge.fall self.old }
+    /// The board passes its grant on, or takes it back.
+    pub fn pass_grant(&mut self, row: &Row, fall: bool)
+        requires other { CanMove row.now Wire.BgOut fall self.old }
+        ensures { self.new ≡ after_board row.now Wire.BgOut fall self.old }
     {
-        match edge.wire {
-            Wire::BgOut => {
-                let chain = ChainId::of_grant(request_level(row));
-                let segment = self.output_of(chain, row.slot);
-                self.drive(chain, segment, edge.fall);
-            }
-            Wire::IackOut => {
-                let segment = self.output_of(ChainId::Iack, row.slot);
-                self.drive(ChainId::Iack, segment, edge.fall);
-            }
-            _ => {}
-        }
+        let chain = ChainId::of_grant(request_level(row));
+        let segment = self.output_of(chain, row.slot);
+        self.drive(chain, segment, fall);
+    }
+
+    /// The board passes the acknowledge on, or takes it back.
+    pub fn pass_acknowledge(&mut self, row: &Row, fall: bool)
+        requires other { CanMove row.now Wire.IackOut fall self.old }
+        ensures { self.new ≡ after_board row.now Wire.IackOut fall self.old }
+    {
+        let segment = self.output_of(ChainId::Iack, row.slot);
+        self.drive(ChainId::Iack, segment, fall);
     }
 
     /// Takes in an edge of the controller's wire.

@@ -1,7 +1,7 @@
 //! The open-collector lines that boards pull, as counts.
 ghost use Rattle.std.specs.Prelude.{◌≡◌, ◌<◌, [], ◌∷◌, true, get_or, nat_lt};
 ghost use Rattle.vme_model.specs.Sets.{bus_levels, irq_levels};
-ghost use Rattle.vme_wiring.specs.Counts.{moved, is_movable, request_level, interrupt_level, no_pulls, count_of, lines_after, shared_after, shared_after_controller, addressing_after};
+ghost use Rattle.vme_wiring.specs.Counts.{moved, is_movable, request_level, interrupt_level, no_pulls, count_of, lines_after, shared_after, shared_after_controller};
 
 use vme_lines::OrLine;
 use vme_model::{BusLevels, Edge, Levels, Pins, Row, Wire};
@@ -69,29 +69,24 @@ impl Lines {
         }
     }
 
-    /// Takes in an edge of the board's wire.
-    pub fn note(&mut self, row: &Row, edge: Edge)
-        requires request_level { request_level row.now < 4 }
-        requires interrupt_level { interrupt_level row.now < 8 }
-        requires movable { is_movable (count_of self.old row.now edge.wire) edge.fall ≡ true }
-        ensures { self.new ≡ lines_after self.old row.now edge.wire edge.fall }
+    /// One board more pulls the bus request line of its level, or one fewer.
+    fn request(&mut self, row: &Row, fall: bool)
+        requires level { request_level row.now < 4 }
+        requires movable { is_movable (count_of self.old row.now Wire.Br) fall ≡ true }
+        ensures { self.new ≡ lines_after self.old row.now Wire.Br fall }
     {
-        match edge.wire {
-            Wire::Br => {
-                let level = usize::from(request_level(row));
-                self.br[level] = moved(self.br[level], edge.fall);
-            }
-            Wire::Irq => {
-                let level = usize::from(interrupt_level(row));
-                self.irq[level] = moved(self.irq[level], edge.fall);
-            }
-            Wire::BgOut => self.bgout = moved(self.bgout, edge.fall),
-            Wire::Bbsy => self.bbsy = moved(self.bbsy, edge.fall),
-            Wire::AddressStrobe => self.address_strobe = moved(self.address_strobe, edge.fall),
-            Wire::DataStrobe => self.data_strobe = moved(self.data_strobe, edge.fall),
-            Wire::Dtack => self.dtack = moved(self.dtack, edge.fall),
-            _ => {}
-        }
+        let level = usize::from(request_level(row));
+        self.br[level] = moved(self.br[level], fall);
+    }
+
+    /// One board more pulls the interrupt request line of its level, or one fewer.
+    fn interrupt(&mut self, row: &Row, fall: bool)
+        requires level { interrupt_level row.now < 8 }
+        requires movable { is_movable (count_of self.old row.now Wire.Irq) fall ≡ true }
+        ensures { self.new ≡ lines_after self.old row.now Wire.Irq fall }
+    {
+        let level = usize::from(interrupt_level(row));
+        self.irq[level] = moved(self.irq[level], fall);
     }
 
     /// The bus request lines that are low.
@@ -119,44 +114,52 @@ impl Lines {
     }
 }
 
-/// What all drivers see alike, after an edge of a board's wire that the lines have noted.
-pub fn shared_after(shared: Pins, lines: &Lines, edge: Edge) -> Pins
-    ensures { result ≡ shared_after shared lines.now edge.wire edge.value }
+/// Takes in an edge of the board's wire: the lines, and what all drivers see alike of them.
+pub fn note_line(lines: &mut Lines, shared: &mut Pins, row: &Row, edge: Edge)
+    requires request_level { request_level row.now < 4 }
+    requires interrupt_level { interrupt_level row.now < 8 }
+    requires movable { is_movable (count_of lines.old row.now edge.wire) edge.fall ≡ true }
+    ensures lines { lines.new ≡ lines_after lines.old row.now edge.wire edge.fall }
+    ensures shared { shared.new ≡ shared_after shared.old lines.new edge.wire edge.value }
 {
-    let mut shared = shared;
     match edge.wire {
-        Wire::Br => shared.requests = lines.requests(),
-        Wire::Irq => shared.irq = lines.irqs(),
-        Wire::Bbsy => shared.bbsy = lines.bbsy.is_low(),
+        Wire::Br => {
+            lines.request(row, edge.fall);
+            shared.requests = lines.requests();
+        }
+        Wire::Irq => {
+            lines.interrupt(row, edge.fall);
+            shared.irq = lines.irqs();
+        }
+        Wire::BgOut => lines.bgout = moved(lines.bgout, edge.fall),
+        Wire::Bbsy => {
+            lines.bbsy = moved(lines.bbsy, edge.fall);
+            shared.bbsy = lines.bbsy.is_low();
+        }
         Wire::Addr => shared.shown = edge.value,
-        Wire::AddressStrobe => shared.address_strobe = lines.address_strobe.is_low(),
-        Wire::DataStrobe => shared.data_strobe = lines.data_strobe.is_low(),
-        Wire::Dtack => shared.dtack = lines.dtack.is_low(),
+        Wire::AddressStrobe => {
+            lines.address_strobe = moved(lines.address_strobe, edge.fall);
+            shared.address_strobe = lines.address_strobe.is_low();
+        }
+        Wire::DataStrobe => {
+            lines.data_strobe = moved(lines.data_strobe, edge.fall);
+            shared.data_strobe = lines.data_strobe.is_low();
+        }
+        Wire::Dtack => {
+            lines.dtack = moved(lines.dtack, edge.fall);
+            shared.dtack = lines.dtack.is_low();
+        }
         _ => {}
     }
-    shared
 }
 
-/// The same after an edge of the controller's wire.
-pub fn shared_after_controller(shared: Pins, edge: Edge) -> Pins
-    ensures { result ≡ shared_after_controller shared edge.wire edge.fall }
+/// What all drivers see alike takes in an edge of the controller's wire.
+pub fn note_controllers(shared: &mut Pins, edge: Edge)
+    ensures { shared.new ≡ shared_after_controller shared.old edge.wire edge.fall }
 {
-    let mut shared = shared;
     match edge.wire {
         Wire::Bclr => shared.bclr = edge.fall,
         Wire::Berr => shared.berr = edge.fall,
         _ => {}
-    }
-    shared
-}
-
-/// The slot whose address group is on, after an edge of the slot's.
-pub fn addressing_after(addressing: Option<u8>, slot: u8, edge: Edge) -> Option<u8>
-    ensures { result ≡ addressing_after addressing slot edge.wire edge.fall }
-{
-    match (edge.wire, edge.fall) {
-        (Wire::Addr, true) => Some(slot),
-        (Wire::Addr, false) => None,
-        _ => addressing,
     }
 }

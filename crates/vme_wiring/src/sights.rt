@@ -1,26 +1,25 @@
 //! What a driver sees of a wiring, and what an answer delivers.
-ghost use Rattle.std.specs.Prelude.{◌≡◌, ◌&&◌, false, List, is_some};
-ghost use Rattle.std.specs.Option.{option_map_or};
+ghost use Rattle.std.specs.Prelude.{◌≡◌, List};
+ghost use Rattle.std.specs.Option.{option_copied};
 ghost use Rattle.vme_model.specs.declared.boards.Row.{Row as RowValue};
 ghost use Rattle.vme_model.specs.declared.signals.Edge.{Edge as EdgeValue};
 ghost use Rattle.vme_model.specs.declared.signals.Version.{Version as VersionValue};
-ghost use Rattle.vme_model.specs.Plan.{Plan as PlanValue, board_of, grant_chain};
+ghost use Rattle.vme_model.specs.Plan.{Plan as PlanValue, board_of};
 ghost use Rattle.vme_model.specs.Views.{pins};
 ghost use Rattle.vme_model.specs.Deliveries.{delivery, delivered_by};
-ghost use Rattle.vme_chain.specs.Segments.{input};
-ghost use Rattle.vme_wiring.specs.Chained.{chain_at};
+ghost use Rattle.vme_wiring.specs.Asked.{seen_by};
 
 use crate::boards::Board;
 use crate::wirings::Wiring;
-use vme_model::{ChainId, Cycle, Delivery, Driver, Edge, Pins, Row, Wire};
+use vme_model::{Cycle, Delivery, Driver, Edge, Pins, Row, Wire};
 
 /// What an answer delivers, by what is shown, the slot that shows it, and the board that answers.
 fn delivered_by(
     shown: Option<Cycle>,
     addressing: Option<u8>,
-    board: Option<Row>,
+    board: Option<&Row>,
 ) -> Option<Delivery>
-    ensures { result ≡ delivered_by shown addressing board }
+    ensures { result ≡ delivered_by shown addressing (option_copied board.entry) }
 {
     let (
         Some(Cycle::Acknowledge(level)),
@@ -39,7 +38,7 @@ fn delivered_by(
     Some(Delivery {
         handler,
         level,
-        answered_by: slot,
+        answered_by: *slot,
         status: interrupter.status,
     })
 }
@@ -48,32 +47,13 @@ impl Wiring {
     ghost use Rattle.vme_wiring.specs.Wired.{IsWiringOf};
     ghost use Rattle.vme_wiring.specs.Considered.{own_by};
 
-    /// The input of the board's own grant chain, for a board with a requester.
-    fn grant_in(&self, row: &Row) -> bool
-        ensures { result ≡ option_map_or (λ q. input (chain_at (grant_chain q.level) self.now.chains) row.now.slot) row.now.requester false }
-    {
-        match row.requester {
-            Some(requester) => self
-                .chains
-                .input(ChainId::of_grant(requester.level), row.slot),
-            None => false,
-        }
-    }
-
-    /// The input of the acknowledge chain, for a board with an interrupter.
-    fn iack_in(&self, row: &Row) -> bool
-        ensures { result ≡ (is_some row.now.interrupter && input self.now.chains.iack row.now.slot) }
-    {
-        row.interrupter.is_some() && self.chains.input(ChainId::Iack, row.slot)
-    }
-
     /// What a board reads on its pins.
     pub(crate) fn pins_at(&self, board: &Board) -> Pins
-        ensures { result ≡ record self.now.shared { grant_in = option_map_or (λ q. input (chain_at (grant_chain q.level) self.now.chains) board.now.row.slot) board.now.row.requester false; iack_in = is_some board.now.row.interrupter && input self.now.chains.iack board.now.row.slot } }
+        ensures { result ≡ seen_by self.now.chains self.now.shared board.now.row }
     {
         let mut pins = self.shared;
-        pins.grant_in = self.grant_in(&board.row);
-        pins.iack_in = self.iack_in(&board.row);
+        pins.grant_in = self.chains.grant_in(&board.row);
+        pins.iack_in = self.chains.iack_in(&board.row);
         pins
     }
 
@@ -104,13 +84,13 @@ impl Wiring {
     }
 
     /// The row of the driver's board.
-    fn row(&self, driver: Driver) -> Option<Row>
-        ensures { (version : VersionValue) (p : PlanValue) (h : List EdgeValue) → IsWiringOf version p h self.now → result ≡ board_of p driver }
+    fn row(&self, driver: Driver) -> Option<&Row>
+        ensures { (version : VersionValue) (p : PlanValue) (h : List EdgeValue) → IsWiringOf version p h self.now → option_copied result ≡ board_of p driver }
     {
         match driver {
             Driver::Controller => None,
             Driver::Slot(slot) => match self.board(slot) {
-                Some(board) => Some(board.row),
+                Some(board) => Some(&board.row),
                 None => None,
             },
         }

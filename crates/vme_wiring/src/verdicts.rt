@@ -51,7 +51,7 @@ impl Wiring {
         match edge.driver {
             Driver::Controller => self.arbiter.may(edge, self.shared),
             Driver::Slot(slot) => match self.board(slot) {
-                Some(board) => board.may(edge, self.pins_at(board)),
+                Some(board) => board.may(edge, &self.shared, &self.chains),
                 None => Err(Refused::NoSuchDriver),
             },
         }

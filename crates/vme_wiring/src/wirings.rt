@@ -16,9 +16,9 @@ ghost use Rattle.vme_wiring.specs.Chained.{after_board, after_controller, CanMov
 
 use crate::boards::Board;
 use crate::chains::Chains;
-use crate::lines::{Lines, addressing_after, shared_after, shared_after_controller};
+use crate::lines::{Lines, note_controllers, note_line};
 use vme_arbiter::{AnyPolicy, Arbiter};
-use vme_model::{BusLevels, Driver, Edge, Levels, Pins, Row, Version};
+use vme_model::{BusLevels, Driver, Edge, Levels, Pins, Row, Version, Wire};
 use vme_slots::Plan;
 
 /// What the edges so far lead to, in places of fixed number: the parts of each board by its slot, the controller's, the
@@ -137,7 +137,7 @@ impl Wiring {
     {
         self.arbiter.note(edge);
         self.chains.note_head(edge);
-        self.shared = shared_after_controller(self.shared, edge);
+        note_controllers(&mut self.shared, edge);
     }
 
     /// The row of a slot's board.
@@ -180,9 +180,12 @@ impl Wiring {
         ensures addressing { self.new.addressing ≡ addressing_after self.old.addressing slot edge.wire edge.fall }
     {
         self.note_parts(slot, edge);
-        self.lines.note(&row, edge);
-        self.chains.note(&row, edge);
-        self.shared = shared_after(self.shared, &self.lines, edge);
-        self.addressing = addressing_after(self.addressing, slot, edge);
+        note_line(&mut self.lines, &mut self.shared, &row, edge);
+        match edge.wire {
+            Wire::BgOut => self.chains.pass_grant(&row, edge.fall),
+            Wire::IackOut => self.chains.pass_acknowledge(&row, edge.fall),
+            Wire::Addr => self.addressing = if edge.fall { Some(slot) } else { None },
+            _ => {}
+        }
     }
 }

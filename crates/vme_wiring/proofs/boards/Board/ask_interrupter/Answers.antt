@@ -1,14 +1,34 @@
-use Rattle.std.proofs.Common.{◌≡◌, ◌∙◌, refl, sym, subst, ap}
-use Rattle.vme_interrupter.specs.Local.{State, state_of, over, answer, seen}
-use Rattle.vme_wiring.specs.declared.boards.Board.{Board}
-use Rattle.vme_wiring.proofs.Asking.{interrupter_asked}
+use Rattle.std.proofs.Common.{◌≡◌, ◌∙◌, refl, ap}
+use Rattle.vme_model.specs.declared.signals.Version.TheVariants.{One}
+use Rattle.vme_model.specs.declared.signals.Wire.TheVariants.{Irq, IackOut, Dtack}
+use Rattle.vme_interrupter.specs.Local.{local, ruling}
+use Rattle.vme_wiring.specs.Asked.{seen_by}
+use Rattle.vme_wiring.proofs.Ruling.{interrupter_ruled, blind_to_pass, blind_to_answer, with_inputs}
 use Rattle.vme_wiring.proofs.boards.Board.ask_interrupter.Goals as goal
 
-pub returns : goal.returns
-returns c version p h r same asked own =
-    let is : c.args.self.now.interrupter ≡ state_of r.slot r.interrupter (seen p h) = ap (λ (b : Board). b.interrupter) same in
-    let noted : c.args.self.now.interrupter ≡ state_of c.args.self.now.interrupter.slot c.args.self.now.interrupter.row (seen p h) =
-    let P : State → Type 0 = λ x. x ≡ state_of x.slot x.row (seen p h) in subst P (sym is) refl in
-    c.may.ensures version (seen p h) noted own
-    ∙ ap (λ (x : State). answer version (over x.slot x.row (seen p h) c.args.pins) c.args.edge) is
-    ∙ interrupter_asked version p h r c.args.pins c.args.edge asked own
+pub returns-in-Irq : goal.returns-in-Irq
+returns-in-Irq c version p h r same asked own =
+    let b = c.args.self.now in
+    let pins = seen_by c.args.chains.now c.args.lines.now b.row in
+    interrupter_ruled version p h r b pins c.args.edge Irq _ same asked c.in-Irq.is refl
+    (c.may_request.ensures pins c.args.edge.value)
+
+pub returns-in-IackOut : goal.returns-in-IackOut
+returns-in-IackOut c version p h r same asked own =
+    let b = c.args.self.now in
+    let e = c.args.edge in
+    let pins = seen_by c.args.chains.now c.args.lines.now b.row in
+    interrupter_ruled version p h r b pins e IackOut _ same asked c.in-IackOut.is refl
+    (c.may_pass.ensures e.value
+    ∙ blind_to_pass b.interrupter c.args.lines.now pins.grant_in c.iack_in-iack_in.result e.fall e.value
+    ∙ ap (λ i. ruling One (local b.interrupter (with_inputs c.args.lines.now pins.grant_in i)) IackOut e.fall e.value) c.iack_in-iack_in.ensures)
+
+pub returns-in-Dtack : goal.returns-in-Dtack
+returns-in-Dtack c version p h r same asked own =
+    let b = c.args.self.now in
+    let e = c.args.edge in
+    let pins = seen_by c.args.chains.now c.args.lines.now b.row in
+    interrupter_ruled version p h r b pins e Dtack _ same asked c.in-Dtack.is refl
+    (c.may_answer.ensures e.value
+    ∙ blind_to_answer b.interrupter c.args.lines.now pins.grant_in c.iack_in-iack_in-in-Dtack.result e.fall e.value
+    ∙ ap (λ i. ruling One (local b.interrupter (with_inputs c.args.lines.now pins.grant_in i)) Dtack e.fall e.value) c.iack_in-iack_in-in-Dtack.ensures)

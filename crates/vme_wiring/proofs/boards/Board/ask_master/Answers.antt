@@ -1,19 +1,39 @@
-use Rattle.std.proofs.Common.{◌≡◌, ◌∙◌, refl, sym, subst, ap, true}
-use Rattle.std.specs.Prelude.{is_some}
-use Rattle.vme_model.specs.declared.signals.Wire.TheVariants.{Bbsy}
-use Rattle.vme_master.specs.Local.{State, state_of, over, answer}
-use Rattle.vme_wiring.specs.declared.boards.Board.{Board}
-use Rattle.vme_wiring.proofs.Parts.{part, low_at}
-use Rattle.vme_wiring.proofs.Asking.{master_asked}
+use Rattle.std.proofs.Common.{◌≡◌, ◌∙◌, refl, sym, ap}
+use Rattle.vme_model.specs.declared.signals.Version.TheVariants.{One}
+use Rattle.vme_model.specs.declared.signals.Wire.TheVariants.{Addr, AddressStrobe, DataStrobe, Bbsy}
+use Rattle.vme_master.specs.Local.{local, ruling}
+use Rattle.vme_wiring.specs.Asked.{seen_by}
+use Rattle.vme_wiring.specs.Boards.{low_of}
+use Rattle.vme_wiring.proofs.Ruling.{master_ruled, blind_to_inputs}
 use Rattle.vme_wiring.proofs.boards.Board.ask_master.Goals as goal
 
-pub returns-in-Some : goal.returns-in-Some
-returns-in-Some c version p h r same asked own =
-    let k = part (λ q. state_of r.slot q r.handler h) r.requester c.in-Some.master (sym c.in-Some.is ∙ ap (λ (b : Board). b.master) same) in
-    let has : is_some r.requester ≡ true = ap is_some k.is_row in
-    let told = c.is_low.ensures ∙ low_at version p h r c.args.self.now Bbsy same has in
-    let noted : c.in-Some.master ≡ state_of c.in-Some.master.slot c.in-Some.master.row c.in-Some.master.handler h =
-    let P : State → Type 0 = λ x. x ≡ state_of x.slot x.row x.handler h in subst P (sym k.is_part) refl in
-    c.may.ensures version h noted own
-    ∙ ap (λ (x : State). answer version (over x.slot x.row x.handler h c.args.pins c.is_low.result) c.args.edge) k.is_part
-    ∙ master_asked version p h r k.of c.args.pins c.is_low.result c.args.edge asked k.is_row told own
+pub returns-in-Addr : goal.returns-in-Addr
+returns-in-Addr c version p h r chains same asked own =
+    let b = c.args.self.now in
+    let m = c.in-Some.master in
+    let e = c.args.edge in
+    let pins = seen_by chains c.args.lines.now b.row in
+    master_ruled version p h r b m pins e Addr _ same c.in-Some.is asked c.in-Addr.is refl
+    (c.may_address.ensures
+    ∙ ap (λ holds. ruling One (local m c.args.lines.now holds) Addr e.fall e.value) c.is_low-holds_bus.ensures
+    ∙ blind_to_inputs m c.args.lines.now pins.grant_in pins.iack_in (low_of b Bbsy) Addr e.fall e.value refl)
+
+pub returns-in-AddressStrobe : goal.returns-in-AddressStrobe
+returns-in-AddressStrobe c version p h r chains same asked own =
+    let b = c.args.self.now in
+    let m = c.in-Some.master in
+    let e = c.args.edge in
+    let pins = seen_by chains c.args.lines.now b.row in
+    master_ruled version p h r b m pins e AddressStrobe _ same c.in-Some.is asked c.in-AddressStrobe.is refl
+    (c.may_strobe_address.ensures (low_of b Bbsy) e.value
+    ∙ blind_to_inputs m c.args.lines.now pins.grant_in pins.iack_in (low_of b Bbsy) AddressStrobe e.fall e.value refl)
+
+pub returns-in-DataStrobe : goal.returns-in-DataStrobe
+returns-in-DataStrobe c version p h r chains same asked own =
+    let b = c.args.self.now in
+    let m = c.in-Some.master in
+    let e = c.args.edge in
+    let pins = seen_by chains c.args.lines.now b.row in
+    master_ruled version p h r b m pins e DataStrobe _ same c.in-Some.is asked c.in-DataStrobe.is refl
+    (c.may_strobe_data.ensures (low_of b Bbsy) e.value
+    ∙ blind_to_inputs m c.args.lines.now pins.grant_in pins.iack_in (low_of b Bbsy) DataStrobe e.fall e.value refl)

@@ -1,18 +1,34 @@
-use Rattle.std.proofs.Common.{◌≡◌, ◌∙◌, refl, sym, subst, ap, true}
-use Rattle.std.specs.Prelude.{is_some}
-use Rattle.vme_requester.specs.Local.{State, state_of, answer_over}
-use Rattle.vme_wiring.specs.declared.boards.Board.{Board}
-use Rattle.vme_wiring.proofs.Parts.{part, free_at}
-use Rattle.vme_wiring.proofs.Asking.{requester_asked}
+use Rattle.std.proofs.Common.{◌≡◌, ◌∙◌, refl, sym, ap, Bool}
+use Rattle.std.specs.Prelude.{Some}
+use Rattle.vme_model.specs.declared.signals.Wire.TheVariants.{Br, BgOut, Bbsy}
+use Rattle.vme_requester.specs.Local.{low, readings, ruling}
+use Rattle.vme_wiring.specs.Asked.{seen_by}
+use Rattle.vme_wiring.proofs.Ruling.{requester_ruled, blind_to_acknowledge, is_free, with_inputs}
 use Rattle.vme_wiring.proofs.boards.Board.ask_requester.Goals as goal
 
-pub returns-in-Some : goal.returns-in-Some
-returns-in-Some c version p h r same asked own =
-    let k = part (λ q. state_of r.slot q version h) r.requester c.in-Some.requester (sym c.in-Some.is ∙ ap (λ (b : Board). b.requester) same) in
-    let has : is_some r.requester ≡ true = ap is_some k.is_row in
-    let told = c.is_address_free.ensures ∙ free_at version p h r c.args.self.now same has in
-    let noted : c.in-Some.requester ≡ state_of c.in-Some.requester.slot c.in-Some.requester.row c.in-Some.requester.version h =
-    let P : State → Type 0 = λ x. x ≡ state_of x.slot x.row x.version h in subst P (sym k.is_part) refl in
-    c.may.ensures h noted own
-    ∙ ap (λ (x : State). answer_over x.slot x.row x.version h c.args.pins c.is_address_free.result c.args.edge) k.is_part
-    ∙ requester_asked version p h r k.of c.args.pins c.is_address_free.result c.args.edge asked k.is_row told own
+pub returns-in-Br : goal.returns-in-Br
+returns-in-Br c version p h r same asked own =
+    let b = c.args.self.now in
+    let pins = seen_by c.args.chains.now c.args.lines.now b.row in
+    requester_ruled version p h r b c.in-Some.requester pins c.args.edge Br _ same c.in-Some.is asked c.in-Br.is refl
+    (c.may_request.ensures pins (is_free b) c.args.edge.value)
+
+pub returns-in-BgOut : goal.returns-in-BgOut
+returns-in-BgOut c version p h r same asked own =
+    let b = c.args.self.now in
+    let pins = seen_by c.args.chains.now c.args.lines.now b.row in
+    requester_ruled version p h r b c.in-Some.requester pins c.args.edge BgOut _ same c.in-Some.is asked c.in-BgOut.is refl
+    (c.may_pass.ensures pins (is_free b) c.args.edge.value (sym c.grant_in.ensures))
+
+pub returns-in-Bbsy : goal.returns-in-Bbsy
+returns-in-Bbsy c version p h r same asked own =
+    let b = c.args.self.now in
+    let q = c.in-Some.requester in
+    let e = c.args.edge in
+    let pins = seen_by c.args.chains.now c.args.lines.now b.row in
+    let by = λ (grant free : Bool). ruling q.version (readings q.slot q.row (low q) (with_inputs c.args.lines.now grant pins.iack_in) free) Bbsy e.fall e.value in
+    requester_ruled version p h r b q pins e Bbsy _ same c.in-Some.is asked c.in-Bbsy.is refl
+    (c.may_hold.ensures e.value
+    ∙ blind_to_acknowledge q.version q.slot q.row (low q) c.args.lines.now c.grant_in-grant_in.result pins.iack_in c.is_address_free.result e.fall e.value
+    ∙ ap (λ g. by g c.is_address_free.result) c.grant_in-grant_in.ensures
+    ∙ ap (by pins.grant_in) c.is_address_free.ensures)

@@ -11,7 +11,7 @@ returns-in-Br c version p h r same shown =
     let no_master : concerns_master e.wire ≡ false = ⊎_elim (λ (is : e.wire ≡ Br). ap concerns_master is) (λ (is : e.wire ≡ BgOut). ap concerns_master is) c.in-Br.is in
     let no_interrupter : concerns_interrupter e.wire ≡ false = ⊎_elim (λ (is : e.wire ≡ Br). ap concerns_interrupter is) (λ (is : e.wire ≡ BgOut). ap concerns_interrupter is) c.in-Br.is in
     assembled (ap (λ (b : Board). b.row) same)
-    (c.requester_after-self.ensures r.slot r.requester version h (ap (λ (b : Board). b.requester) same))
+    (c.note_requester.ensures r.slot r.requester version h (ap (λ (b : Board). b.requester) same))
     (ap (λ (b : Board). b.master) same ∙ sym (master_kept r.slot r.requester r.handler h e no_master))
     (ap (λ (b : Board). b.interrupter) same ∙ sym (interrupter_kept p r.slot r.interrupter h e no_interrupter))
 
@@ -19,8 +19,8 @@ pub returns-in-Bbsy : goal.returns-in-Bbsy
 returns-in-Bbsy c version p h r same shown =
     let e = c.args.edge in
     assembled (ap (λ (b : Board). b.row) same)
-    (c.requester_after-self-in-Bbsy.ensures r.slot r.requester version h (ap (λ (b : Board). b.requester) same))
-    (c.master_after-self.ensures r.slot r.requester r.handler h (ap (λ (b : Board). b.master) same))
+    (c.note_requester-in-Bbsy.ensures r.slot r.requester version h (ap (λ (b : Board). b.requester) same))
+    (c.note_master.ensures r.slot r.requester r.handler h (ap (λ (b : Board). b.master) same))
     (ap (λ (b : Board). b.interrupter) same ∙ sym (interrupter_kept p r.slot r.interrupter h e (ap concerns_interrupter c.in-Bbsy.is)))
 
 pub returns-in-Addr : goal.returns-in-Addr
@@ -30,5 +30,5 @@ returns-in-Addr c version p h r same shown =
     let no_interrupter : concerns_interrupter e.wire ≡ false = ⊎_elim (λ (is : e.wire ≡ Addr). ap concerns_interrupter is) (⊎_elim (λ (is : e.wire ≡ AddressStrobe). ap concerns_interrupter is) (λ (is : e.wire ≡ DataStrobe). ap concerns_interrupter is)) c.in-Addr.is in
     assembled (ap (λ (b : Board). b.row) same)
     (ap (λ (b : Board). b.requester) same ∙ sym (requester_kept r.slot r.requester version h e no_requester))
-    (c.master_after-self-in-Addr.ensures r.slot r.requester r.handler h (ap (λ (b : Board). b.master) same))
+    (c.note_master-in-Addr.ensures r.slot r.requester r.handler h (ap (λ (b : Board). b.master) same))
     (ap (λ (b : Board). b.interrupter) same ∙ sym (interrupter_kept p r.slot r.interrupter h e no_interrupter))

@@ -38,7 +38,7 @@ returns-in-Some c version p h is exists =
     c.may-in-Some.ensures version p h k.row k.is (record {
       driver = c.in-Slot.is ∙ ap (λ t. Slot t) (sym k.stands.slot);
       row = found;
-      pins = c.pins_at.ensures ∙ pins_of_board version p h c.args.self.now c.in-Some.board.now k.row is k.same_row found;
+      pins = pins_of_board version p h c.args.self.now c.in-Some.board.now k.row is k.same_row found;
       formed = and_left (is_well_formed e) (has_driver p e.driver e.wire) exists;
       drives = subst (λ (o : Option Row). option_map_or (drives e.wire) o false ≡ true) k.found has;
     })
