@@ -1,65 +1,73 @@
 -- What a run of the boards writes and answers.
-use Rattle.std.specs.Prelude.{◌≡◌, ◌==◌, ◌<◌, ◌≤◌, [], ℕ, List, length, Option, Result, Ok, Err, if◌then◌else◌}
+use Rattle.std.specs.Prelude.{◌≡◌, ◌==◌, ◌≤◌, ℕ, List, length, Option, Result, Ok, Err, if◌then◌else◌}
 use Rattle.std.specs.Io.KnownBytes.{Appends, Keeps}
 use Rattle.vme_model.specs.declared.signals.Version.{Version}
+use Rattle.vme_model.specs.declared.signals.Driver.{Driver}
 use Rattle.vme_model.specs.declared.signals.Edge.{Edge}
-use Rattle.vme_model.specs.Plan.{Plan}
+use Rattle.vme_model.specs.Plan.{Plan, drivers}
 use Rattle.vme_model.specs.History.{in_order}
 use Rattle.vme_model.specs.Verdict.{State, IsLegal}
 use Rattle.vme_model.specs.Safe.{IsSafe}
 use Rattle.vme_model.specs.Text.{text}
-use Rattle.vme_model.specs.Report.{at_power_up}
 use Rattle.vme_scenario.specs.Format.{scenario}
-use Rattle.vme_scenario.specs.Errors.{IsErrorOf}
 use Rattle.vme_trace.specs.declared.Fault.TheVariants.{Write}
 use Rattle.vme_trace.specs.Writing.{AppendsFront}
 use Rattle.vme_engines.specs.declared.Status.{Status}
 use Rattle.vme_engines.specs.declared.Status.TheVariants.{Done, Limit}
 use Rattle.vme_engines.specs.declared.EngineFault.TheVariants as fault
-use Rattle.vme_engines.specs.Outcomes.{scenario_limit}
+use Rattle.vme_engines.specs.Outcomes.{Answer, Lent, scenario_limit}
+use Rattle.vme_engines.specs.Steps.{IsNoPlan}
+use Rattle.vme_lock.specs.Seats.{Follows}
+use Rattle.vme_lock.specs.Closing.{FirstDiffers}
 use Rattle.vme_run.specs.declared.RunFault.{RunFault}
 use Rattle.vme_run.specs.declared.RunFault.TheVariants.{Engine, NotStarted, LogDiffers, NotReplayed}
 
--- at most n edges, which are legal for the plan of the scenario, and hence safe; the newest first
-pub record IsRun (lent : List ℕ) (version : Version) (n : ℕ) (h : List Edge) : Type 0 where
-  pub plan : Plan
-  pub read : scenario lent ≡ Ok plan
-  pub legal : IsLegal version plan h
-  pub safe : IsSafe plan h
+-- at most n edges, which are legal for the plan, and hence safe; the newest first
+pub record IsRun (version : Version) (n : ℕ) (p : Plan) (h : List Edge) : Type 0 where
+  pub legal : IsLegal version p h
+  pub safe : IsSafe p h
   pub within : length h ≤ n
 
--- a backplane with such edges
-pub record IsRunOn (lent : List ℕ) (version : Version) (n : ℕ) (b : State) : Type 0 where
-  pub ran : IsRun lent version n b.history
-  pub of_version : b.version ≡ version
+-- What a run leaves on a plan, by what the writer held and holds: the trace of its edges, at X8 a front of it.
+abbrev pub RunsOn : Version → ℕ → Option (List ℕ) → Option (List ℕ) → Plan → Answer → Type 0
+RunsOn version n old new p (Ok status) =
+    (h : List Edge) × IsRun version n p h × Appends old new (text version (in_order h)) × (status ≡ (if length h == n then Limit else Done))
+RunsOn version n old new p (Err (fault.Trace f)) =
+    (h : List Edge) × IsRun version n p h × (f ≡ Write) × AppendsFront old new (text version (in_order h))
+RunsOn version n old new p (Err _) = ⊥
 
--- Why there is no run: F2 or a fault of the scenario, F3, L3, L4 or L6.
-abbrev pub IsNoRun : List ℕ → RunFault → Type 0
-IsNoRun lent (Engine fault.TooLong) = scenario_limit < length lent
-IsNoRun lent (Engine (fault.Scenario e)) = (length lent ≤ scenario_limit) × IsErrorOf (scenario lent) e
-IsNoRun lent (Engine fault.NoMemory) = Unit {0}
-IsNoRun lent (Engine fault.CannotRead) = ⊥
-IsNoRun lent (Engine (fault.Trace f)) = ⊥
-IsNoRun lent NotStarted = Unit {0}
-IsNoRun lent (LogDiffers driver at) = Unit {0}
-IsNoRun lent (NotReplayed at) = Unit {0}
+-- L4: the drivers of a plan made these edges, and by some logs, this driver is the first whose edges are not its log
+abbrev pub HasOtherLogs : Version → ℕ → Plan → Driver → ℕ → Type 0
+HasOtherLogs version n p driver at = (h : List Edge) × IsRun version n p h × (logs : List (List Edge)) × FirstDiffers h (drivers p) logs driver at
 
--- Why the boards came to no history: F3, L3 or L4.
-abbrev pub IsBoardsFault : RunFault → Type 0
-IsBoardsFault (Engine fault.NoMemory) = Unit {0}
-IsBoardsFault (Engine _) = ⊥
-IsBoardsFault NotStarted = Unit {0}
-IsBoardsFault (LogDiffers driver at) = Unit {0}
-IsBoardsFault (NotReplayed at) = ⊥
+-- the scenario is read, and this holds of its plan
+abbrev pub OfPlan : List ℕ → (Plan → Type 0) → Type 0
+OfPlan lent P = (p : Plan) × (length lent ≤ scenario_limit) × (scenario lent ≡ Ok p) × P p
 
--- What a run leaves, by what the writer held and holds: the trace of its edges, at X8 a front of it, at any other fault nothing.
+-- What a run leaves and answers, where it is lent the text of a scenario: the first fault of the scenario, and nothing; or
+-- it is read, and the drivers of its plan ran, or found no memory (F3, L3).
 abbrev pub Runs : List ℕ → Version → ℕ → Option (List ℕ) → Option (List ℕ) → Result Status RunFault → Type 0
-Runs lent version n old new (Ok status) =
-    (h : List Edge) × IsRun lent version n h × Appends old new (text version (in_order h)) × (status ≡ (if length h == n then Limit else Done))
-Runs lent version n old new (Err (Engine (fault.Trace f))) =
-    (h : List Edge) × IsRun lent version n h × (f ≡ Write) × AppendsFront old new (text version (in_order h))
-Runs lent version n old new (Err f) = IsNoRun lent f × Keeps old new
+Runs lent version n old new (Ok status) = Lent lent (Keeps old new) (RunsOn version n old new) (Ok status)
+Runs lent version n old new (Err (Engine f)) = Lent lent (Keeps old new) (RunsOn version n old new) (Err f)
+Runs lent version n old new (Err NotStarted) = OfPlan lent (λ p. Keeps old new)
+Runs lent version n old new (Err (LogDiffers driver at)) = OfPlan lent (λ p. HasOtherLogs version n p driver at × Keeps old new)
+Runs lent version n old new (Err (NotReplayed at)) = ⊥
 
--- a backplane at power-up, on the plan of the scenario
-abbrev pub IsBench : List ℕ → Version → ℕ → State → Type 0
-IsBench lent version n b = (p : Plan) × (scenario lent ≡ Ok p) × (b ≡ at_power_up version p n)
+-- ---- between the functions of a run
+
+-- why there is no plan
+abbrev pub IsUnread : List ℕ → RunFault → Type 0
+IsUnread lent (Engine f) = IsNoPlan lent f
+IsUnread lent _ = ⊥
+
+-- the drivers of a backplane made edges of its rules, and nothing else changed
+abbrev pub IsPlayed : State → State → Type 0
+IsPlayed opened b = Follows opened b × IsLegal b.version b.plan b.history × IsSafe b.plan b.history × (length b.history ≤ b.max)
+
+-- Why a backplane was not played: F3, L3, or L4.
+abbrev pub IsNotPlayed : State → RunFault → Type 0
+IsNotPlayed opened (Engine fault.NoMemory) = Unit {0}
+IsNotPlayed opened (Engine _) = ⊥
+IsNotPlayed opened NotStarted = Unit {0}
+IsNotPlayed opened (LogDiffers driver at) = (b : State) × IsPlayed opened b × (logs : List (List Edge)) × FirstDiffers b.history (drivers opened.plan) logs driver at
+IsNotPlayed opened (NotReplayed at) = ⊥

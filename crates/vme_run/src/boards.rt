@@ -1,7 +1,6 @@
 //! Running the boards of a backplane, each in a thread of its own.
-ghost use Rattle.std.specs.Prelude.{◌≡◌, ◌≤◌, IfOk, IfErr, vec_len};
-ghost use Rattle.vme_engines.specs.declared.EngineFault.TheVariants as fault;
-ghost use Rattle.vme_run.specs.Running.{IsBoardsFault};
+ghost use Rattle.std.specs.Prelude.{◌≡◌, IfOk, MatchResult, vec_len};
+ghost use Rattle.vme_run.specs.Running.{IsPlayed, IsNotPlayed};
 
 use crate::RunFault;
 use std::alloc::{AllocError, Global};
@@ -12,7 +11,7 @@ use std::thread::Threads;
 use vme_arena::{Region, Rest};
 use vme_backplane::Backplane;
 use vme_engines::EngineFault;
-use vme_lock::{Bounds, OpenGate, Rig, Room, Shared, log_bytes, run_boards};
+use vme_lock::{Bounds, Closed, LogMismatch, OpenGate, Rig, Room, Shared, log_bytes, run_boards};
 
 /// The most drivers of a plan, and the parts of a ledger.
 const DRIVERS: u64 = 22;
@@ -62,7 +61,7 @@ pub(crate) fn play<'r, R: Threads + Wait + Sync>(
     backplane: Backplane<'r>,
     bounds: Bounds,
 ) -> Result<Backplane<'r>, RunFault>
-    ensures { IfErr result IsBoardsFault }
+    ensures { MatchResult result (IsPlayed backplane.entry) (IsNotPlayed backplane.entry) }
 {
     play_on::<Brand, R>(rt, alloc, Blank::new(DRIVERS), backplane, bounds)
 }
@@ -76,7 +75,7 @@ fn play_on<'r, L: Rig + Send + Sync, R: Threads + Wait + Sync>(
 ) -> Result<Backplane<'r>, RunFault>
     requires blank { (blank.name ≡ L.name) × (blank.parts ≡ L.parts) × (blank.parts ≡ 22) }
     requires opened { L.opened ≡ backplane }
-    ensures { IfErr result IsBoardsFault }
+    ensures { MatchResult result (IsPlayed L.opened) (IsNotPlayed L.opened) }
 {
     let Ok((shared, seats)) = Shared::<L>::new(alloc, blank, backplane) else {
         return Err(RunFault::Engine(EngineFault::NoMemory));
@@ -92,10 +91,21 @@ fn play_on<'r, L: Rig + Send + Sync, R: Threads + Wait + Sync>(
         return Err(RunFault::NotStarted);
     };
     match shared.close(seats, logs.as_slice()) {
-        Ok(closed) => Ok(closed.backplane),
-        Err(mismatch) => Err(RunFault::LogDiffers {
-            driver: mismatch.driver,
-            at: mismatch.at,
-        }),
+        Ok(Closed { backplane }) => {
+            backplane.laws();
+            backplane.safety();
+            Ok(backplane)
+        }
+        Err(
+            LogMismatch {
+                driver,
+                at,
+                backplane,
+            },
+        ) => {
+            backplane.laws();
+            backplane.safety();
+            Err(RunFault::LogDiffers { driver, at })
+        }
     }
 }

@@ -1,10 +1,9 @@
 //! A run from a scenario to a trace.
-ghost use Rattle.std.specs.Prelude.{◌≡◌, ◌==◌, ◌≤◌, ℕ, IfOk, IfErr, OnOk, OnErr, length, if◌then◌else◌};
-ghost use Rattle.vme_model.specs.Verdict.{IsLegal};
-ghost use Rattle.vme_model.specs.Safe.{IsSafe};
+ghost use Rattle.std.specs.Prelude.{◌≡◌, ◌==◌, ◌≤◌, [], Ok, IfOk, IfErr, length, if◌then◌else◌};
+ghost use Rattle.vme_model.specs.Report.{at_power_up};
+ghost use Rattle.vme_scenario.specs.Format.{scenario as read_scenario};
 ghost use Rattle.vme_engines.specs.declared.Status.TheVariants.{Done, Limit};
-ghost use Rattle.vme_lock.specs.Seats.{Follows};
-ghost use Rattle.vme_run.specs.Running.{IsBench, IsNoRun, IsRunOn, Runs};
+ghost use Rattle.vme_run.specs.Running.{IsUnread, Runs};
 
 use crate::RunFault;
 use crate::boards::play;
@@ -12,80 +11,50 @@ use std::alloc::Global;
 use std::io::Write;
 use std::sync::Wait;
 use std::thread::Threads;
-use vme_arena::Region;
-use vme_backplane::{Backplane, Trace};
+use vme_arena::{Region, Rest};
+use vme_backplane::{Backplane, Trace, TraceError};
 use vme_engines::{EngineFault, Status, plan_of, write_history};
 use vme_lock::Bounds;
 use vme_model::Version;
+use vme_slots::Plan;
 
-/// Memory for the trace of so many edges.
-fn region_for(alloc: Global, edges: u32) -> Result<Region, RunFault>
-    requires { edges ≤ 1048576 }
-    ensures { IfErr result (λ f. f ≡ RunFault.Engine EngineFault.NoMemory) }
+/// The plan of a scenario's text. Errors: F2, else the first fault of the scenario.
+fn plan_for(alloc: Global, text: &[u8]) -> Result<Plan, RunFault>
+    ensures ok { IfOk result (λ p. (length text.now ≤ 1048576) × (read_scenario text.now ≡ Ok p)) }
+    ensures fault { IfErr result (IsUnread text.now) }
 {
-    match Region::new(alloc, Trace::bytes(edges)) {
-        Ok(region) => Ok(region),
-        Err(_) => Err(RunFault::Engine(EngineFault::NoMemory)),
+    match plan_of(alloc, text) {
+        Ok(plan) => Ok(plan),
+        Err(fault) => Err(RunFault::Engine(fault)),
     }
 }
 
-/// A backplane at power-up, with the plan of a scenario and room for so many edges.
-fn bench_of<'r>(
+/// A backplane at power-up, with room for so many edges.
+fn bench_on<'r>(
     alloc: Global,
-    region: &'r mut Region,
-    scenario: &[u8],
+    rest: &mut Rest<'r>,
+    plan: Plan,
     edges: u32,
     version: Version,
-) -> Result<Backplane<'r>, RunFault>
-    requires { edges ≤ 1048576 }
-    ensures ok { IfOk result (IsBench scenario.now version edges) }
-    ensures fault { IfErr result (IsNoRun scenario.now) }
+) -> Result<Backplane<'r>, TraceError>
+    ensures { IfOk result (λ b. b ≡ at_power_up version plan edges) }
 {
-    let plan = plan_of(alloc, scenario).map_err(RunFault::Engine)?;
-    match Trace::on(alloc, &mut region.rest(), edges) {
-        Ok(trace) => Ok(Backplane::new(plan, trace, version)),
-        Err(_) => Err(RunFault::Engine(EngineFault::NoMemory)),
-    }
+    let trace = Trace::on(alloc, rest, edges)?;
+    Ok(Backplane::new(plan, trace, version))
 }
 
-/// Makes the edges of a closed history once more.
+/// Makes the edges of a closed history once more. None of them is refused.
 fn replay<'r>(closed: &Backplane<'_>, mut bench: Backplane<'r>) -> Result<Backplane<'r>, RunFault>
-    ensures ok { IfOk result (Follows bench.entry) }
-    ensures legal { IfOk result (λ b. IsLegal b.version b.plan b.history) }
-    ensures safe { IfOk result (λ b. IsSafe b.plan b.history) }
-    ensures fits { IfOk result (λ b. length b.history ≤ b.max) }
-    ensures fault { IfErr result (λ f. (at : ℕ) × (f ≡ RunFault.NotReplayed at)) }
+    requires { bench ≡ record closed.now { history = [] } }
+    ensures { result ≡ Ok closed.now }
 {
+    closed.laws();
     for at in 0..closed.len() {
         if bench.step(closed.edge_at(at)).is_err() {
             return Err(RunFault::NotReplayed { at });
         }
     }
-    bench.laws();
-    bench.safety();
     Ok(bench)
-}
-
-/// Runs the boards of a scenario, and makes their edges once more on a second backplane.
-#[tactic(auto, using(crate::proofs::Following::run_of, crate::proofs::Following::no_run_of))]
-fn made<'r, R: Threads + Wait + Sync>(
-    rt: &R,
-    alloc: Global,
-    region: &'r mut Region,
-    scenario: &[u8],
-    edges: u32,
-    turns: u32,
-    version: Version,
-) -> Result<Backplane<'r>, RunFault>
-    requires { edges ≤ 1048576 }
-    ensures ok { IfOk result (IsRunOn scenario.now version edges) }
-    ensures fault { IfErr result (IsNoRun scenario.now) }
-{
-    let mut first = region_for(alloc, edges)?;
-    let opened = bench_of(alloc, &mut first, scenario, edges, version)?;
-    let closed = play(rt, alloc, opened, Bounds { turns, edges })?;
-    let bench = bench_of(alloc, region, scenario, edges, version)?;
-    replay(&closed, bench)
 }
 
 /// The status of a run that made so many edges, of so many that were asked for.
@@ -105,9 +74,9 @@ fn status_of(made: u32, edges: u32) -> Status
 /// `edges` is 1 to 1,048,576 and `turns` 1 to 1,000,000. The status is `Limit` where `edges` of them were made, and else
 /// `Done`. What the boards made is made once more on a second backplane before it is written.
 ///
-/// Errors: F2, the faults of the scenario, F3, L3, L4 and L6, before anything is written; X8 where the output cannot be
-/// written.
-#[tactic(auto, using(crate::proofs::Following::runs_done, crate::proofs::Following::runs_cut, crate::proofs::Following::runs_not))]
+/// Errors: F2, the faults of the scenario, F3, L3 and L4, before anything is written; X8 where the output cannot be
+/// written. L6 never comes.
+#[tactic(auto, using(crate::proofs::Following::runs_out))]
 pub fn run<R: Threads + Wait + Sync, W: Write>(
     rt: &R,
     alloc: Global,
@@ -120,12 +89,22 @@ pub fn run<R: Threads + Wait + Sync, W: Write>(
     requires limits { (edges ≤ 1048576) × (turns ≤ 1000000) }
     ensures { Runs scenario.now version edges (W.contents out.old) (W.contents out.new) result }
 {
-    let mut region = region_for(alloc, edges)?;
-    match made(rt, alloc, &mut region, scenario, edges, turns, version) {
-        Ok(replayed) => match write_history(&replayed, out) {
-            Ok(()) => Ok(status_of(replayed.len(), edges)),
-            Err(fault) => Err(RunFault::Engine(EngineFault::Trace(fault))),
-        },
-        Err(fault) => Err(fault),
+    let plan = plan_for(alloc, scenario)?;
+    let Ok(mut region) = Region::new(alloc, 2 * Trace::bytes(edges)) else {
+        return Err(RunFault::Engine(EngineFault::NoMemory));
+    };
+    let mut rest = region.rest();
+    let Ok(opened) = bench_on(alloc, &mut rest, plan, edges, version) else {
+        return Err(RunFault::Engine(EngineFault::NoMemory));
+    };
+    let again = plan_for(alloc, scenario)?;
+    let Ok(bench) = bench_on(alloc, &mut rest, again, edges, version) else {
+        return Err(RunFault::Engine(EngineFault::NoMemory));
+    };
+    let closed = play(rt, alloc, opened, Bounds { turns, edges })?;
+    let replayed = replay(&closed, bench)?;
+    match write_history(&replayed, out) {
+        Ok(()) => Ok(status_of(replayed.len(), edges)),
+        Err(fault) => Err(RunFault::Engine(EngineFault::Trace(fault))),
     }
 }

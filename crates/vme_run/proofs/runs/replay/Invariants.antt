@@ -1,5 +1,6 @@
-use Rattle.vme_lock.specs.Seats.{Follows}
+use Rattle.std.specs.Prelude.{◌≡◌}
+use Rattle.vme_run.proofs.Remaking.{front}
 use Rattle.vme_run.proofs.runs.replay.Given as goal
 
 abbrev pub invariant-loop-at : goal.invariant-loop-at
-invariant-loop-at l = Follows l.fn.bench l.bench
+invariant-loop-at l = l.bench ≡ front l.closed l.at
