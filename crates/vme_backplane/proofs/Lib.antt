@@ -1,3 +1,4 @@
 pub mod Judged
 pub mod Replayed
 mod WellFormed
+mod Offering

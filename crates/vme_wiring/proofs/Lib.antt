@@ -12,3 +12,5 @@ pub mod Seeing
 pub mod Judging
 pub mod Fresh
 pub mod Offering
+pub mod Waiting
+pub mod More
