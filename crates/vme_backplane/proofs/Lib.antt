@@ -2,3 +2,4 @@ pub mod Judged
 pub mod Replayed
 mod WellFormed
 mod Alike
+mod Offering

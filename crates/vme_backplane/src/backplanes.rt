@@ -1,5 +1,5 @@
 //! A backplane, which takes edges one by one.
-ghost use Rattle.std.specs.Prelude.{◌≡◌, ◌==◌, ◌+◌, ◌<◌, ◌≤◌, ◌↔◌, [], IfOk, IsTrue, Ok, OnOk, Some, false, true, is_ok, length, slice_get};
+ghost use Rattle.std.specs.Prelude.{◌≡◌, ◌==◌, ◌+◌, ◌%◌, ◌<◌, ◌≤◌, ◌↔◌, [], IfOk, IsTrue, Ok, OnOk, Some, false, true, is_ok, length, slice_get};
 ghost use Rattle.vme_model.specs.History.{in_order};
 ghost use Rattle.vme_model.specs.Signals.{is_well_formed};
 ghost use Rattle.vme_model.specs.Verdict.{verdict, verdict_but_full, after, kept, IsLegal};
@@ -7,6 +7,7 @@ ghost use Rattle.vme_model.specs.Safe.{IsSafe, IsOrderly};
 ghost use Rattle.vme_model.specs.Views.{pins};
 ghost use Rattle.vme_model.specs.Deliveries.{answer, delivered};
 ghost use Rattle.vme_model.specs.Offers.{offered};
+ghost use Rattle.vme_wiring.specs.Offered.{offered_but_full};
 ghost use Rattle.vme_model.specs.Accepted.{IsAccepted};
 ghost use Rattle.vme_model.specs.Report.{at_power_up, trace_limit};
 
@@ -44,6 +45,16 @@ impl<'r> Model for Backplane<'r> {
 pub struct Counts {
     pub accepted: u64,
     pub refused: u64,
+}
+
+/// The offer that is made in a round.
+fn choice(offers: &[Edge], round: u32) -> Option<Edge>
+    ensures { result ≡ slice_get offers.now (round % length offers.now) }
+{
+    if offers.is_empty() {
+        return None;
+    }
+    offers.get(round as usize % offers.len()).copied()
 }
 
 impl<'r> Backplane<'r> {
@@ -164,14 +175,36 @@ impl<'r> Backplane<'r> {
     pub fn offers(&self, driver: Driver) -> ArrayVec<Edge, 16>
         ensures { result.items ≡ offered self.now driver }
     {
-        let considered = self.wiring.all_considered(driver);
-        let mut offers = ArrayVec::new();
-        for edge in considered.as_slice() {
-            if self.verdict(*edge).is_ok() {
-                offers.push(*edge);
-            }
+        if self.is_full() {
+            return ArrayVec::new();
         }
-        offers
+        self.offers_but_full(driver)
+    }
+
+    /// The same, but for the end of the trace.
+    fn offers_but_full(&self, driver: Driver) -> ArrayVec<Edge, 16>
+        ensures { result.items ≡ offered_but_full self.now.version self.now.plan self.now.history driver }
+    {
+        self.wiring.offers(driver)
+    }
+
+    /// Whether the driver has no offer. Where it answers false, there may be none either.
+    fn is_waiting(&self, driver: Driver) -> bool
+        ensures { result ≡ true → offered_but_full self.now.version self.now.plan self.now.history driver ≡ [] }
+    {
+        self.wiring.is_waiting(driver)
+    }
+
+    /// The offer that the driver makes in a round, if it has any: of k offers the one at place `round mod k`.
+    ///
+    /// It tries no edge of a driver that waits for another's, as most do.
+    pub fn offer(&self, driver: Driver, round: u32) -> Option<Edge>
+        ensures { result ≡ slice_get (offered self.now driver) (round % length (offered self.now driver)) }
+    {
+        if self.is_waiting(driver) {
+            return None;
+        }
+        choice(self.offers(driver).as_slice(), round)
     }
 
     /// What was delivered, in the order of time.

@@ -1,5 +1,5 @@
 //! Letting the drivers of a backplane make edges in turn.
-ghost use Rattle.std.specs.Prelude.{◌≡◌, ◌==◌, ◌%◌, OnOk, OnErr, IfErr, is_some, length, slice_get, if◌then◌else◌};
+ghost use Rattle.std.specs.Prelude.{◌≡◌, ◌==◌, OnOk, OnErr, IfErr, is_some, length, if◌then◌else◌};
 ghost use Rattle.std.specs.Io.KnownBytes.{Appends, Keeps};
 ghost use Rattle.vme_model.specs.Plan.{board, drivers};
 ghost use Rattle.vme_model.specs.History.{in_order};
@@ -17,7 +17,7 @@ use arrayvec::ArrayVec;
 use std::alloc::Global;
 use std::io::Write;
 use vme_backplane::Backplane;
-use vme_model::{Driver, Edge, Version};
+use vme_model::{Driver, Version};
 use vme_slots::Plan;
 use vme_trace::{Fault, line_of, put};
 
@@ -47,16 +47,6 @@ fn drivers_of(plan: &Plan) -> ArrayVec<Driver, DRIVERS>
     drivers
 }
 
-/// The offer that a driver makes in a round.
-fn choice(offers: &[Edge], round: u32) -> Option<Edge>
-    ensures { result ≡ slice_get offers.now (round % length offers.now) }
-{
-    if offers.is_empty() {
-        return None;
-    }
-    offers.get(round as usize % offers.len()).copied()
-}
-
 /// A driver's turn: it makes an offer, unless there is none or enough edges were made.
 fn take_turn(backplane: &mut Backplane, round: u32, edges: u32, driver: Driver)
     ensures { backplane.new ≡ turn round edges backplane.old driver }
@@ -64,7 +54,7 @@ fn take_turn(backplane: &mut Backplane, round: u32, edges: u32, driver: Driver)
     if backplane.len() == edges {
         return;
     }
-    match choice(backplane.offers(driver).as_slice(), round) {
+    match backplane.offer(driver, round) {
         Some(edge) => {
             let _ = backplane.step(edge);
         }

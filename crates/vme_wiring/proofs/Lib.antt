@@ -13,3 +13,5 @@ pub mod Judging
 pub mod Fresh
 pub mod Offering
 pub mod Ruling
+pub mod Waiting
+pub mod More

@@ -1,11 +1,9 @@
 -- What is considered by the stored fields is what is considered after the history.
-use Rattle.std.proofs.Common.{◌≡◌, ◌∙◌, refl, ap, ◌≤◌, arith, Bool, true, false, List, [], ◌∷◌, ◌++◌, length, map, ℕ, zero, suc, length-append}
-use Rattle.std.specs.Prelude.{◌&&◌, not, if◌then◌else◌, Option, Some, None, option_map, cond, find, nat_lt, is_some}
-use Rattle.std.specs.List.{flat_map}
+use Rattle.std.proofs.Common.{◌≡◌, ◌∙◌, refl, ap, arith, Bool, true, false, List, [], ◌∷◌, ◌++◌, map, ℕ, zero, suc}
+use Rattle.std.specs.Prelude.{◌&&◌, not, if◌then◌else◌, Option, Some, None, option_map, find, nat_lt, is_some}
 use Rattle.std.specs.Option.{option_map_or, option_or, option_to_list}
 use Rattle.std.proofs.Math.Path.{fun_ext}
 use Rattle.std.proofs.lemmas.Bool.Decides.{nat_tests}
-use Rattle.std.proofs.lemmas.List.{length-map}
 use Rattle.std.proofs.lemmas.List.Folds.{find-append}
 use Rattle.vme_model.specs.declared.boards.Row.{Row}
 use Rattle.vme_model.specs.declared.pins.Pins.{Pins}
@@ -19,7 +17,7 @@ use Rattle.vme_model.specs.declared.signals.Edge.{Edge}
 use Rattle.vme_model.specs.Sets.{has_level}
 use Rattle.vme_model.specs.Plan.{Plan, board, up_to}
 use Rattle.vme_model.specs.History.{drive, interrupt_line}
-use Rattle.vme_model.specs.Offers.{wires, wanted, next_board, cycles_of, going_on, turned, considered, irq_descending}
+use Rattle.vme_model.specs.Offers.{wanted, next_board, cycles_of, going_on, turned, considered, irq_descending}
 use Rattle.vme_model.proofs.PinSets.{wanted_of_pins}
 use Rattle.vme_arbiter.specs.Local.{low}
 use Rattle.vme_wiring.specs.Boards.{parts_of, place, low_of}
@@ -29,36 +27,6 @@ use Rattle.vme_wiring.specs.declared.boards.Board.{Board}
 use Rattle.vme_wiring.specs.declared.wirings.Wiring.{Wiring}
 use Rattle.vme_wiring.proofs.Standing.{stands}
 use Rattle.vme_wiring.proofs.Seeing.{own_of_controller, own_of_board, own_of_none}
-
--- at most two edges a wire
-at_most_one : {A : Type 0} (o : Option A) → length (option_to_list o) ≤ 1
-at_most_one None = omega arith
-at_most_one (Some a) = omega arith
-
-two_cycles : (w : Wiring) (r : Row) → length (cycles_by w r) ≤ 2
-two_cycles w r =
-    let a = option_map (λ v. Acknowledge v) (wanted_by w r) in
-    let b = option_map (λ t. Access t) (next_by w r.slot) in
-    omega (arith, length-append (option_to_list a) (option_to_list b), at_most_one a, at_most_one b)
-
-two_on : (w : Wiring) (s : ℕ) (o : Option Board) → length {A = Edge} (option_map_or (λ b. map (λ c. record { driver = Slot s; wire = Addr; fall = true; value = Some c }) (cycles_by w b.row)) o []) ≤ 2
-two_on w s None = omega arith
-two_on w s (Some b) = simp length-map (two_cycles w b.row)
-
-two_of : (b : Bool) (e : Edge) (es : List Edge) → length es ≤ 2 → length (cond b (e ∷ []) es) ≤ 2
-two_of true e es l = omega arith
-two_of false e es l = l
-
-around : (a b c d e f g i : Edge) (xs : List Edge) → length xs ≤ 2 → length (a ∷ b ∷ c ∷ (xs ++ d ∷ e ∷ f ∷ g ∷ i ∷ [])) ≤ 10
-around a b c d e f g i xs l = omega (arith, length-append xs (d ∷ e ∷ f ∷ g ∷ i ∷ []))
-
-pub at_most_ten : (w : Wiring) (d : Driver) → length (flat_map (considered_by w d) (wires d)) ≤ 10
-at_most_ten w Controller = omega arith
-at_most_ten w (Slot s) =
-    let t = λ (x : Wire). turned_by w (Slot s) x in
-    around (t Br) (t BgOut) (t Bbsy) (t AddressStrobe) (t DataStrobe) (t Irq) (t IackOut) (t Dtack)
-    (cond (own_by w (Slot s) Addr) (t Addr ∷ []) (going_on_by w (Slot s)))
-    (two_of (own_by w (Slot s) Addr) (t Addr) (going_on_by w (Slot s)) (two_on w s (place w.boards s)))
 
 -- each slot is above 0
 pub find_above_zero : (test : ℕ → Bool) (n : ℕ) → find (λ t. nat_lt 0 t && test t) (up_to n) ≡ find test (up_to n)
@@ -106,13 +74,13 @@ module _ (version : Version) (p : Plan) (h : List Edge) (w : Wiring) (is : IsWir
   going Controller = refl
   going (Slot s) = ap (λ (o : Option Board). option_map_or {T = Board} {U = List Edge} (λ b. map (λ c. record { driver = Slot s; wire = Addr; fall = true; value = Some c }) (cycles_by w b.row)) o []) (is.boards s) ∙ going_slot s (board p s)
 
-  turns : (d : Driver) (x : Wire) → turned_by w d x ≡ turned h d x
+  pub turns : (d : Driver) (x : Wire) → turned_by w d x ≡ turned h d x
   turns d x = let f : Bool → Edge = λ b. record { driver = d; wire = x; fall = not b; value = None } in ap f (own d x)
 
   one_edge : (d : Driver) (x : Wire) → turned_by w d x ∷ [] ≡ turned h d x ∷ []
   one_edge d x = ap (λ e. e ∷ []) (turns d x)
 
-  considers : (d : Driver) (x : Wire) → considered_by w d x ≡ considered p h d x
+  pub considers : (d : Driver) (x : Wire) → considered_by w d x ≡ considered p h d x
   considers d Addr =
       ap (λ b. if b then turned_by w d Addr ∷ [] else going_on_by w d) (own d Addr)
       ∙ ap (λ es. if drive h d Addr then es else going_on_by w d) (one_edge d Addr)
@@ -129,6 +97,3 @@ module _ (version : Version) (p : Plan) (h : List Edge) (w : Wiring) (is : IsWir
   considers d Irq = one_edge d Irq
   considers d IackOut = one_edge d IackOut
   considers d Dtack = one_edge d Dtack
-
-  pub all_considered : (d : Driver) → flat_map (considered_by w d) (wires d) ≡ flat_map (considered p h d) (wires d)
-  all_considered d = ap (λ (f : Wire → List Edge). flat_map f (wires d)) (fun_ext (considers d))

@@ -4,3 +4,4 @@ pub mod Chained
 pub mod Wired
 pub mod Asked
 pub mod Considered
+pub mod Offered

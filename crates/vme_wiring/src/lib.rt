@@ -7,6 +7,7 @@ mod lines;
 mod offers;
 mod sights;
 mod verdicts;
+mod waits;
 mod wirings;
 
 pub use wirings::Wiring;

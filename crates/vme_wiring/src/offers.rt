@@ -1,50 +1,17 @@
-//! The edges that are considered for a driver's offers.
-ghost use Rattle.std.specs.Prelude.{◌≡◌, ◌≤◌, ◌+◌, ◌++◌, ◌&&◌, ◌∷◌, [], List, true, Some, find, length, nat_lt, is_some};
-ghost use Rattle.std.specs.List.{flat_map};
+//! What a driver is offered.
+ghost use Rattle.std.specs.Prelude.{◌≡◌, ◌≤◌, ◌<◌, ◌+◌, ◌++◌, ◌&&◌, ◌∷◌, [], List, true, Some, filter, length, nat_lt, is_some};
+ghost use Rattle.vme_model.specs.declared.signals.Driver.TheVariants.{Controller, Slot};
 ghost use Rattle.vme_model.specs.declared.signals.Edge.{Edge as EdgeValue};
 ghost use Rattle.vme_model.specs.declared.signals.Version.{Version as VersionValue};
-ghost use Rattle.vme_model.specs.Plan.{Plan as PlanValue, up_to};
-ghost use Rattle.vme_model.specs.Offers.{wires, considered};
+ghost use Rattle.vme_model.specs.Plan.{Plan as PlanValue};
+ghost use Rattle.vme_model.specs.Offers.{considered, turned};
 ghost use Rattle.vme_wiring.specs.Boards.{place};
 
+use crate::boards::Board;
 use crate::wirings::Wiring;
 use arrayvec::ArrayVec;
 use vme_handler::Handler;
 use vme_model::{Cycle, Driver, Edge, Row, Wire};
-
-/// The controller's wires, in the order of its offers.
-const CONTROLLER_WIRES: [Wire; 7] = [
-    Wire::Bg(0),
-    Wire::Bg(1),
-    Wire::Bg(2),
-    Wire::Bg(3),
-    Wire::Bclr,
-    Wire::Iack,
-    Wire::Berr,
-];
-
-/// A board's wires, in the order of its offers.
-const BOARD_WIRES: [Wire; 9] = [
-    Wire::Br,
-    Wire::BgOut,
-    Wire::Bbsy,
-    Wire::Addr,
-    Wire::AddressStrobe,
-    Wire::DataStrobe,
-    Wire::Irq,
-    Wire::IackOut,
-    Wire::Dtack,
-];
-
-/// The driver's wires, in the order of its offers.
-fn wires<'a>(driver: Driver) -> &'a [Wire]
-    ensures { result.now ≡ wires driver }
-{
-    match driver {
-        Driver::Controller => &CONTROLLER_WIRES,
-        Driver::Slot(_) => &BOARD_WIRES,
-    }
-}
 
 /// The slot's address group going on.
 fn showing(slot: u8, cycle: Cycle) -> Edge
@@ -58,19 +25,10 @@ fn showing(slot: u8, cycle: Cycle) -> Edge
     }
 }
 
-/// Puts the edges behind the others.
-fn append(edges: &mut ArrayVec<Edge, 18>, more: &[Edge])
-    requires { length edges.old.items + length more.now ≤ 18 }
-    ensures { edges.new.items ≡ edges.old.items ++ more.now }
-{
-    for edge in more {
-        edges.push(*edge);
-    }
-}
-
 impl Wiring {
     ghost use Rattle.vme_wiring.specs.Wired.{IsWiringOf};
     ghost use Rattle.vme_wiring.specs.Considered.{wanted_by, board_above, next_by, going_on_by, turned_by, considered_by};
+    ghost use Rattle.vme_wiring.specs.Offered.{is_open, offered_on, offered_but_full, requester_wires, master_wires, interrupter_wires};
 
     /// Whether the slot has a board and stands above that one.
     fn is_board_above(&self, other: u8, slot: u8) -> bool
@@ -148,38 +106,131 @@ impl Wiring {
         edges
     }
 
-    /// The edges of a wire that are considered.
-    fn considered(&self, driver: Driver, wire: Wire) -> ArrayVec<Edge, 2>
-        ensures { result.items ≡ considered_by self.now driver wire }
+    /// The edges of the address group that are considered.
+    fn considered_address(&self, driver: Driver) -> ArrayVec<Edge, 2>
+        ensures { result.items ≡ considered_by self.now driver Wire.Addr }
     {
-        match wire {
-            Wire::Addr => {
-                if self.is_low(driver, Wire::Addr) {
-                    self.turning(driver, Wire::Addr)
-                } else {
-                    self.going_on(driver)
-                }
-            }
-            _ => self.turning(driver, wire),
+        if self.is_low(driver, Wire::Addr) {
+            self.turning(driver, Wire::Addr)
+        } else {
+            self.going_on(driver)
         }
     }
 
-    /// All edges that are considered for the driver, by the stored fields.
-    fn collected(&self, driver: Driver) -> ArrayVec<Edge, 18>
-        ensures { result.items ≡ flat_map (considered_by self.now driver) (wires driver) }
+    /// Puts the edge behind the others where the rules allow it.
+    fn offer(&self, edge: Edge, offers: &mut ArrayVec<Edge, 16>)
+        requires { length offers.old.items < 16 }
+        ensures offered { (version : VersionValue) (p : PlanValue) (h : List EdgeValue) → IsWiringOf version p h self.now → offers.new.items ≡ offers.old.items ++ filter (is_open version p h) (edge ∷ []) }
+        ensures few { length offers.new.items ≤ length offers.old.items + 1 }
     {
-        let mut edges = ArrayVec::new();
-        for wire in wires(driver) {
-            append(&mut edges, &self.considered(driver, *wire));
+        if self.judge(edge).is_ok() {
+            offers.push(edge);
         }
-        edges
     }
 
-    /// All edges that are considered for the driver, in the order of its offers.
-    pub fn all_considered(&self, driver: Driver) -> ArrayVec<Edge, 18>
-        ensures edges { (version : VersionValue) (p : PlanValue) (h : List EdgeValue) → IsWiringOf version p h self.now → result.items ≡ flat_map (considered p h driver) (wires driver) }
-        ensures few { length result.items ≤ 10 }
+    /// Puts the edge of a wire behind the others where the rules allow it.
+    fn offer_turned(&self, driver: Driver, wire: Wire, offers: &mut ArrayVec<Edge, 16>)
+        requires { length offers.old.items < 16 }
+        ensures offered { (version : VersionValue) (p : PlanValue) (h : List EdgeValue) → IsWiringOf version p h self.now → offers.new.items ≡ offers.old.items ++ filter (is_open version p h) (turned h driver wire ∷ []) }
+        ensures few { length offers.new.items ≤ length offers.old.items + 1 }
     {
-        self.collected(driver)
+        self.offer(self.turned(driver, wire), offers);
+    }
+
+    /// Puts the edges of the address group behind the others that the rules allow.
+    fn offer_address(&self, driver: Driver, offers: &mut ArrayVec<Edge, 16>)
+        requires { length offers.old.items ≤ 14 }
+        ensures offered { (version : VersionValue) (p : PlanValue) (h : List EdgeValue) → IsWiringOf version p h self.now → offers.new.items ≡ offers.old.items ++ filter (is_open version p h) (considered p h driver Wire.Addr) }
+        ensures few { length offers.new.items ≤ length offers.old.items + 2 }
+    {
+        for edge in self.considered_address(driver).as_slice() {
+            self.offer(*edge, offers);
+        }
+    }
+
+    /// Puts what a slot's requester may do behind the others.
+    fn offer_requester(&self, slot: u8, board: &Board, offers: &mut ArrayVec<Edge, 16>)
+        requires placed { Some board.now ≡ place self.now.boards slot }
+        requires room { length offers.old.items ≤ 12 }
+        ensures offered { (version : VersionValue) (p : PlanValue) (h : List EdgeValue) → IsWiringOf version p h self.now → offers.new.items ≡ offers.old.items ++ offered_on version p h (Slot slot) requester_wires }
+        ensures few { length offers.new.items ≤ length offers.old.items + 3 }
+    {
+        if self.is_requester_waiting(board) {
+            return;
+        }
+        self.offer_turned(Driver::Slot(slot), Wire::Br, offers);
+        self.offer_turned(Driver::Slot(slot), Wire::BgOut, offers);
+        self.offer_turned(Driver::Slot(slot), Wire::Bbsy, offers);
+    }
+
+    /// Puts what a slot's master may do behind the others.
+    fn offer_master(&self, slot: u8, board: &Board, offers: &mut ArrayVec<Edge, 16>)
+        requires placed { Some board.now ≡ place self.now.boards slot }
+        requires room { length offers.old.items ≤ 12 }
+        ensures offered { (version : VersionValue) (p : PlanValue) (h : List EdgeValue) → IsWiringOf version p h self.now → offers.new.items ≡ offers.old.items ++ offered_on version p h (Slot slot) master_wires }
+        ensures few { length offers.new.items ≤ length offers.old.items + 4 }
+    {
+        if self.is_master_waiting(board) {
+            return;
+        }
+        self.offer_address(Driver::Slot(slot), offers);
+        self.offer_turned(Driver::Slot(slot), Wire::AddressStrobe, offers);
+        self.offer_turned(Driver::Slot(slot), Wire::DataStrobe, offers);
+    }
+
+    /// Puts what a slot's interrupter may do, and its answer, behind the others.
+    fn offer_interrupter(&self, slot: u8, board: &Board, offers: &mut ArrayVec<Edge, 16>)
+        requires placed { Some board.now ≡ place self.now.boards slot }
+        requires room { length offers.old.items ≤ 12 }
+        ensures offered { (version : VersionValue) (p : PlanValue) (h : List EdgeValue) → IsWiringOf version p h self.now → offers.new.items ≡ offers.old.items ++ offered_on version p h (Slot slot) interrupter_wires }
+        ensures few { length offers.new.items ≤ length offers.old.items + 3 }
+    {
+        if self.is_interrupter_waiting(board) {
+            return;
+        }
+        self.offer_turned(Driver::Slot(slot), Wire::Irq, offers);
+        self.offer_turned(Driver::Slot(slot), Wire::IackOut, offers);
+        self.offer_turned(Driver::Slot(slot), Wire::Dtack, offers);
+    }
+
+    /// What the slot's board is offered.
+    fn board_offers(&self, slot: u8, board: &Board) -> ArrayVec<Edge, 16>
+        requires { Some board.now ≡ place self.now.boards slot }
+        ensures { (version : VersionValue) (p : PlanValue) (h : List EdgeValue) → IsWiringOf version p h self.now → result.items ≡ offered_but_full version p h (Slot slot) }
+    {
+        let mut offers = ArrayVec::new();
+        self.offer_requester(slot, board, &mut offers);
+        self.offer_master(slot, board, &mut offers);
+        self.offer_interrupter(slot, board, &mut offers);
+        offers
+    }
+
+    /// What the controller is offered.
+    fn controller_offers(&self) -> ArrayVec<Edge, 16>
+        ensures { (version : VersionValue) (p : PlanValue) (h : List EdgeValue) → IsWiringOf version p h self.now → result.items ≡ offered_but_full version p h Controller }
+    {
+        let mut offers = ArrayVec::new();
+        self.offer_turned(Driver::Controller, Wire::Bg(0), &mut offers);
+        self.offer_turned(Driver::Controller, Wire::Bg(1), &mut offers);
+        self.offer_turned(Driver::Controller, Wire::Bg(2), &mut offers);
+        self.offer_turned(Driver::Controller, Wire::Bg(3), &mut offers);
+        self.offer_turned(Driver::Controller, Wire::Bclr, &mut offers);
+        self.offer_turned(Driver::Controller, Wire::Iack, &mut offers);
+        self.offer_turned(Driver::Controller, Wire::Berr, &mut offers);
+        offers
+    }
+
+    /// What a driver is offered, but for the end of the trace: of the edges that are considered for it those that the
+    /// rules allow, in the order of its wires.
+    pub fn offers(&self, driver: Driver) -> ArrayVec<Edge, 16>
+        ensures { (version : VersionValue) (p : PlanValue) (h : List EdgeValue) → IsWiringOf version p h self.now → result.items ≡ offered_but_full version p h driver }
+    {
+        match driver {
+            Driver::Controller => self.controller_offers(),
+            Driver::Slot(slot) => match self.board(slot) {
+                Some(board) => self.board_offers(slot, board),
+                None => ArrayVec::new(),
+            },
+        }
     }
 }

@@ -6,4 +6,4 @@ pub returns-in-Some : goal.returns-in-Some
 returns-in-Some c =
     c.step.ensures.state
     ∙ turn_made c.args.round c.args.edges c.args.backplane.now c.args.driver c.in-Some.edge (λ e. c.if-len-edges.false (c.len.ensures ∙ e))
-    (sym (rw (c.as_slice.ensures.value, c.offers.ensures) at c.choice.ensures) ∙ c.in-Some.is)
+    (sym c.offer.ensures ∙ c.in-Some.is)

@@ -1,0 +1,54 @@
+-- The offers, from those but for the end of the trace.
+use Rattle.std.proofs.Common.{◌≡◌, ◌∙◌, refl, ap, ℕ, Bool, true, false, List, [], ◌∷◌, filter, length}
+use Rattle.std.specs.Prelude.{◌==◌, ◌&&◌, not, Ok, Err, is_ok}
+use Rattle.std.specs.List.{flat_map}
+use Rattle.vme_model.specs.declared.refusals.Refused.{Refused}
+use Rattle.vme_model.specs.declared.refusals.Refused.TheVariants.{NoSuchDriver, AlreadyThere, Rule, NotSettled, TraceFull}
+use Rattle.vme_model.specs.declared.signals.Driver.{Driver}
+use Rattle.vme_model.specs.declared.signals.Edge.{Edge}
+use Rattle.vme_model.specs.Signals.{is_well_formed}
+use Rattle.vme_model.specs.Plan.{has_driver}
+use Rattle.vme_model.specs.History.{drive}
+use Rattle.vme_model.specs.Readings.{readings}
+use Rattle.vme_model.specs.Rules.{rule}
+use Rattle.vme_model.specs.Settling.{settling}
+use Rattle.vme_model.specs.Verdict.{State, Judgement, check, is_other_state, allowed, settled, judged, verdict}
+use Rattle.vme_model.specs.Offers.{considered, wires, offered}
+use Rattle.vme_wiring.specs.Offered.{offered_but_full}
+
+four_err : (a b c d : Bool) (w x y z r : Refused) → is_ok {T = Unit {0}} {E = Refused} (check a w (check b x (check c y (check d z (Err r))))) ≡ false
+four_err true true true true w x y z r = refl
+four_err true true true false w x y z r = refl
+four_err true true false d w x y z r = refl
+four_err true false c d w x y z r = refl
+four_err false b c d w x y z r = refl
+
+none_pass : {A : Type 0} (test : A → Bool) (xs : List A) → ((x : A) → test x ≡ false) → filter test xs ≡ []
+none_pass {A} test [] fails = refl
+none_pass {A} test (x ∷ xs) fails = rw (fails x) (none_pass test xs fails)
+
+module _ (b : State) (d : Driver) where
+  -- the verdict where the trace is full, or not
+  abbrev at_end : Bool → Edge → Judgement
+  at_end full e = judged b.version b.plan b.history e (check (not full) TraceFull (Ok tt))
+
+  all_refused : (e : Edge) → is_ok (at_end true e) ≡ false
+  all_refused e =
+      four_err (is_well_formed e && has_driver b.plan e.driver e.wire) (is_other_state (drive b.history e.driver e.wire) e.fall) (allowed b.version b.plan b.history e) (settled b.version b.plan b.history e)
+      NoSuchDriver AlreadyThere (Rule (rule b.version (readings b.plan b.history e.driver) e.wire e.fall e.value).0) (NotSettled (settling b.version b.plan b.history e.wire e.fall).0) TraceFull
+
+  abbrev offered_at : Bool → List Edge
+  offered_at full = filter (λ e. is_ok (at_end full e)) (flat_map (considered b.plan b.history d) (wires d))
+
+  pub offered_full : (length b.history == b.max) ≡ true → offered b d ≡ []
+  offered_full full = ap offered_at full ∙ none_pass (λ e. is_ok (at_end true e)) (flat_map (considered b.plan b.history d) (wires d)) all_refused
+
+  pub offered_with_room : (length b.history == b.max) ≡ false → offered b d ≡ offered_but_full b.version b.plan b.history d
+  offered_with_room room = ap offered_at room
+
+  by_end : (full : Bool) → (length b.history == b.max) ≡ full → offered_but_full b.version b.plan b.history d ≡ [] → offered b d ≡ []
+  by_end true is none = offered_full is
+  by_end false is none = offered_with_room is ∙ none
+
+  pub none_offered : offered_but_full b.version b.plan b.history d ≡ [] → offered b d ≡ []
+  none_offered none = by_end (length b.history == b.max) refl none

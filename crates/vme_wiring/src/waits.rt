@@ -1,0 +1,123 @@
+//! Which drivers wait for an edge of another.
+ghost use Rattle.std.specs.Prelude.{◌≡◌, ◌&&◌, ℕ, not, true, List, [], Some};
+ghost use Rattle.std.specs.Option.{option_map_or};
+ghost use Rattle.vme_model.specs.declared.boards.Row.{Row as RowValue};
+ghost use Rattle.vme_model.specs.declared.signals.Driver.TheVariants.{Slot};
+ghost use Rattle.vme_model.specs.declared.signals.Edge.{Edge as EdgeValue};
+ghost use Rattle.vme_model.specs.declared.signals.Version.{Version as VersionValue};
+ghost use Rattle.vme_model.specs.Plan.{Plan as PlanValue};
+ghost use Rattle.vme_wiring.specs.Boards.{parts_of, place};
+ghost use Rattle.vme_wiring.specs.Offered.{waits_for_bus, is_access_to};
+
+use crate::boards::Board;
+use crate::wirings::Wiring;
+use vme_model::{ChainId, Cycle, Driver, Version, Wire};
+
+/// Whether an access to the slot is shown.
+fn is_access_to(slot: u8, shown: Option<Cycle>) -> bool
+    ensures { result ≡ is_access_to slot shown }
+{
+    match shown {
+        Some(Cycle::Access(target)) => slot == target,
+        _ => false,
+    }
+}
+
+/// Whether the board does not hold the bus, and its address group and strobes are off.
+fn waits_for_bus(board: &Board) -> bool
+    ensures { result ≡ waits_for_bus board.now }
+{
+    !board.is_low(Wire::Bbsy)
+        && !board.is_low(Wire::Addr)
+        && !board.is_low(Wire::AddressStrobe)
+        && !board.is_low(Wire::DataStrobe)
+}
+
+/// Whether the board's interrupter, if it has one, requests and was not served.
+fn is_unserved(board: &Board) -> bool
+    ensures { (version : VersionValue) (p : PlanValue) (h : List EdgeValue) (r : RowValue) → board.now ≡ parts_of version p h r → result ≡ option_map_or (λ i. board.now.interrupter.irq && not board.now.interrupter.is_served) board.now.row.interrupter true }
+{
+    match board.row.interrupter {
+        Some(interrupter) => board.interrupter.is_pending(interrupter.level),
+        None => true,
+    }
+}
+
+impl Wiring {
+    ghost use Rattle.vme_wiring.specs.Wired.{IsWiringOf};
+    ghost use Rattle.vme_wiring.specs.Offered.{offered_on, offered_but_full, requester_wires, master_wires, interrupter_wires, waits_for_grant, waits_for_cycle};
+
+    /// Whether the board's requester, if it has one, requests the bus, may not withdraw, and no grant has reached it.
+    fn waits_for_grant(&self, board: &Board) -> bool
+        ensures { result ≡ waits_for_grant self.now board.now }
+    {
+        match board.row.requester {
+            Some(requester) => {
+                matches!(self.version, Version::One)
+                    && board.is_low(Wire::Br)
+                    && !board.is_low(Wire::BgOut)
+                    && !board.is_low(Wire::Bbsy)
+                    && !self
+                        .chains
+                        .input(ChainId::of_grant(requester.level), board.row.slot)
+            }
+            None => true,
+        }
+    }
+
+    /// Whether the board has nothing to answer: no access to it is shown, and no acknowledge has reached its
+    /// interrupter, if it has one.
+    fn waits_for_cycle(&self, board: &Board) -> bool
+        ensures { result ≡ waits_for_cycle self.now board.now }
+    {
+        !board.is_low(Wire::Dtack)
+            && !is_access_to(board.row.slot, self.shared.shown)
+            && match board.row.interrupter {
+                Some(_) => {
+                    !board.is_low(Wire::IackOut)
+                        && !self.chains.input(ChainId::Iack, board.row.slot)
+                }
+                None => true,
+            }
+    }
+
+    /// Whether the requester of a slot's board has no edge to make. Where it answers false, there may be none either.
+    pub(crate) fn is_requester_waiting(&self, board: &Board) -> bool
+        ensures { (version : VersionValue) (p : PlanValue) (h : List EdgeValue) (s : ℕ) → IsWiringOf version p h self.now → Some board.now ≡ place self.now.boards s → result ≡ true → offered_on version p h (Slot s) requester_wires ≡ [] }
+    {
+        self.waits_for_grant(board)
+    }
+
+    /// The same of its master.
+    pub(crate) fn is_master_waiting(&self, board: &Board) -> bool
+        ensures { (version : VersionValue) (p : PlanValue) (h : List EdgeValue) (s : ℕ) → IsWiringOf version p h self.now → Some board.now ≡ place self.now.boards s → result ≡ true → offered_on version p h (Slot s) master_wires ≡ [] }
+    {
+        waits_for_bus(board)
+    }
+
+    /// The same of its interrupter and its answers.
+    pub(crate) fn is_interrupter_waiting(&self, board: &Board) -> bool
+        ensures { (version : VersionValue) (p : PlanValue) (h : List EdgeValue) (s : ℕ) → IsWiringOf version p h self.now → Some board.now ≡ place self.now.boards s → result ≡ true → offered_on version p h (Slot s) interrupter_wires ≡ [] }
+    {
+        self.waits_for_cycle(board) && is_unserved(board)
+    }
+
+    /// Whether the driver waits: the rules allow none of the edges that are considered for it.
+    ///
+    /// It looks at a few fields alone. Where it answers false, `offers` may still be empty.
+    pub fn is_waiting(&self, driver: Driver) -> bool
+        ensures { (version : VersionValue) (p : PlanValue) (h : List EdgeValue) → IsWiringOf version p h self.now → result ≡ true → offered_but_full version p h driver ≡ [] }
+    {
+        match driver {
+            Driver::Controller => false,
+            Driver::Slot(slot) => match self.board(slot) {
+                Some(board) => {
+                    self.is_requester_waiting(board)
+                        && self.is_master_waiting(board)
+                        && self.is_interrupter_waiting(board)
+                }
+                None => true,
+            },
+        }
+    }
+}
