@@ -1,5 +1,7 @@
 //! What an engine makes of a scenario before it runs.
-ghost use Rattle.std.specs.Prelude.{◌≡◌, ◌<◌, ◌≤◌, Ok, IfOk, IfErr, length};
+ghost use Rattle.std.specs.Prelude.{◌≡◌, ◌<◌, ◌≤◌, ◌*◌, Ok, IfOk, IfErr, length};
+ghost use Rattle.vme_arena.specs.Stretch.{rounded};
+ghost use Rattle.vme_arena.specs.Words.{region_size};
 ghost use Rattle.vme_model.specs.Report.{trace_limit};
 ghost use Rattle.vme_scenario.specs.Format.{scenario};
 ghost use Rattle.vme_engines.specs.Steps.{IsNoPlan};
@@ -26,9 +28,10 @@ pub fn plan_of(alloc: Global, text: &[u8]) -> Result<Plan, EngineFault>
     }
 }
 
-/// The memory of the longest history.
+/// The memory of the longest history, no less and no more.
 pub(crate) fn history_region(alloc: Global) -> Result<Region, EngineFault>
-    ensures { IfErr result (λ fault. fault ≡ EngineFault.NoMemory) }
+    ensures ok { IfOk result (λ region. region_size region ≡ rounded (4 * trace_limit)) }
+    ensures fault { IfErr result (λ fault. fault ≡ EngineFault.NoMemory) }
 {
     Region::new(alloc, Trace::bytes(TRACE_LIMIT)).map_err(|_| EngineFault::NoMemory)
 }

@@ -1,5 +1,5 @@
 //! Writing a trace.
-ghost use Rattle.std.specs.Prelude.{◌≡◌, ◌+◌, ◌<◌, ◌≤◌, ◌++◌, ◌∷◌, [], length, IsTrue, IfErr, OnOk, OnErr, All};
+ghost use Rattle.std.specs.Prelude.{◌≡◌, ◌+◌, ◌<◌, ◌≤◌, ◌++◌, ◌∷◌, [], length, IsTrue, IfErr, Ok, OnOk, OnErr, All};
 ghost use Rattle.std.specs.Io.KnownBytes.{Appends};
 ghost use Rattle.arrayvec.specs.ArrayVec.{array_vec_len};
 ghost use Rattle.vme_model.specs.Signals.{is_well_formed};
@@ -14,13 +14,14 @@ use vme_model::{Cycle, Driver, Edge, Version, Wire};
 /// Room for any line of a trace: the longest has 12 bytes and a line feed.
 const LINE: usize = 16;
 
-/// Writes all the bytes.
+/// Writes all the bytes; with none there is no write, and no fault.
 ///
 /// Errors: X8 where a write failed or took no byte; a front of the bytes was then written.
 pub fn put<W: Write>(out: &mut W, bytes: &[u8]) -> Result<(), Fault>
     ensures ok { OnOk result (Appends (W.contents out.old) (W.contents out.new) bytes.now) }
     ensures front { OnErr result (AppendsFront (W.contents out.old) (W.contents out.new) bytes.now) }
     ensures fault { IfErr result (λ fault. fault ≡ Fault.Write) }
+    ensures none { bytes.now ≡ [] → result ≡ Ok tt }
 {
     let mut rest = bytes;
     'writes: while !rest.is_empty() {

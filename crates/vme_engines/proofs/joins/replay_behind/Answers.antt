@@ -27,7 +27,7 @@ returns-in_err-region g c =
     let got = plan_of_text before c.into_text-text.result.items c.in_ok-plan.plan (c.into_text-text.ensures before c.args.version held) (rw c.deref.ensures.value at c.in_ok-plan.ensures.ok.0) (rw c.deref.ensures.value at c.in_ok-plan.ensures.ok.1) in (
       c.args.rest.now ++ unwrap_or (g.R.Read.remaining c.args.input.now) [],
       input_behind c.args.version from _ before c.args.rest.now taken,
-      rw (e.1, e.2, c.in_err-region.ensures) (c.in_ok-plan.plan, got.0, got.1, Keeps-refl _),
+      rw (e.1, e.2, c.in_err-region.ensures.fault) (c.in_ok-plan.plan, got.0, got.1, Keeps-refl _),
     )
 
 pub returns-in_err-room : goal.returns-in_err-room
