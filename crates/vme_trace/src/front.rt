@@ -1,4 +1,6 @@
-//! Which edge the line at the front of a text spells.
+//! Which edge the line at the front of a text spells, read part by part where it lies.
+//!
+//! Nearly all lines are read so. What is found is right; where nothing is found, `line` says whether there is an edge.
 ghost use Rattle.std.specs.Prelude.{◌≡◌, ◌++◌, ◌∷◌, IsTrue, IfSome, Some};
 ghost use Rattle.vme_model.specs.Signals.{has_wire, has_value, is_in_range};
 ghost use Rattle.vme_model.specs.Text.{driver_text, wire_text, sign, argument};
@@ -126,7 +128,9 @@ fn value_at(wire: Wire, fall: bool, text: &[u8]) -> Option<(Option<Cycle>, &[u8]
     }
 }
 
-/// The edge whose line stands at the front of a text, and the rest of the text.
+/// The edge whose line, with its line feed, stands at the front of a text, and the rest of the text.
+///
+/// None is no verdict on the line, which may not be all there: `line::edge_of` decides on whole lines.
 #[inline(always)]
 pub(crate) fn edge_at(text: &[u8]) -> Option<(Edge, &[u8])>
     ensures { IfSome result (λ found. IsFrontLine found.0 text.now found.1.now) }

@@ -259,6 +259,8 @@ fn take_front<'a, A: Allocator>(
 }
 
 /// Reads the lines at the front of a piece where they lie, as long as each spells an edge, and gives the rest.
+///
+/// A line that is not read here, as it is cut off or faulty, is one for `take_front`. Errors: X6.
 fn take_edges<'a, A: Allocator>(
     n: &mut u64,
     piece: &'a [u8],

@@ -247,24 +247,17 @@ placed_board version p h s b w is here =
       stands = stands p s k.of is.accepted k.is_row;
     }
 
--- the row in a place
-pub record IsRowIn (version : Version) (p : Plan) (h : List Edge) (s : ℕ) (r : Row) (w : Wiring) : Type 0 where
-  pub found : board p s ≡ Some r
-  pub here : place w.boards s ≡ Some (parts_of version p h r)
-  pub stands : Stands p s r
+-- the board that an allowed edge of a slot is of
+pub record IsStanding (p : Plan) (s : ℕ) : Type 0 where
+  pub row : Row
+  pub found : board p s ≡ Some row
 
-row_of_parts : (version : Version) (p : Plan) (h : List Edge) (r : Row) (o : Option Row) → Some r ≡ option_map (λ b. b.row) (option_map (parts_of version p h) o) → o ≡ Some r
-row_of_parts version p h r None e = absurd (cc)
-row_of_parts version p h r (Some q) e = let same : q ≡ r = cc in ap (λ (x : Row). Some x) same
-
-pub placed_row : (version : Version) (p : Plan) (h : List Edge) (s : ℕ) (r : Row) (w : Wiring) → IsWiringOf version p h w → Some r ≡ option_map (λ b. b.row) (place w.boards s) → IsRowIn version p h s r w
-placed_row version p h s r w is e =
-    let found = row_of_parts version p h r (board p s) (e ∙ ap (option_map (λ (b : Board). b.row)) (is.boards s)) in
-    record {
-      found = found;
-      here = is.boards s ∙ ap (option_map (parts_of version p h)) found;
-      stands = stands p s r is.accepted found;
-    }
+pub standing : (version : Version) (p : Plan) (h : List Edge) (s : ℕ) (e : Edge) → verdict_but_full version p h e ≡ Ok tt → e.driver ≡ Slot s → IsStanding p s
+standing version p h s e allowed driver = by_board (board p s) refl
+  where
+    by_board : (o : Option Row) → board p s ≡ o → IsStanding p s
+    by_board None is = absurd (no_board version p h s e allowed driver is)
+    by_board (Some r) is = record { row = r; found = is }
 
 pub none_placed : {X A : Type 0} (f : X → A) (o : Option X) → option_map f o ≡ None → o ≡ None
 none_placed {X} {A} f None e = refl

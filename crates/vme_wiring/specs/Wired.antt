@@ -1,5 +1,6 @@
 -- Which wiring a history leads to.
-use Rattle.std.specs.Prelude.{◌≡◌, ℕ, List, Ok, length, option_map}
+use Rattle.std.specs.Prelude.{◌≡◌, ◌<◌, ℕ, true, List, Ok, length, option_map}
+use Rattle.vme_model.specs.declared.boards.Row.{Row}
 use Rattle.vme_model.specs.declared.signals.Driver.TheVariants.{Controller}
 use Rattle.vme_model.specs.declared.signals.Version.{Version}
 use Rattle.vme_model.specs.declared.signals.Edge.{Edge}
@@ -10,8 +11,8 @@ use Rattle.vme_model.specs.Verdict.{IsLegal, verdict_but_full}
 use Rattle.vme_model.specs.Views.{pins}
 use Rattle.vme_arbiter.specs.Local.{state_of as controller_of}
 use Rattle.vme_wiring.specs.Boards.{parts_of, place}
-use Rattle.vme_wiring.specs.Counts.{IsLines}
-use Rattle.vme_wiring.specs.Chained.{chains_of}
+use Rattle.vme_wiring.specs.Counts.{IsLines, request_level, interrupt_level, is_movable, count_of}
+use Rattle.vme_wiring.specs.Chained.{chains_of, CanMove}
 use Rattle.vme_wiring.specs.declared.wirings.Wiring.{Wiring}
 
 -- each stored field is that reading of a legal history of an accepted plan
@@ -36,3 +37,10 @@ pub record CanTake (w : Wiring) (e : Edge) : Type 0 where
   pub history : List Edge
   pub is_wiring : IsWiringOf version plan history w
   pub allowed : verdict_but_full version plan history e ≡ Ok tt
+
+-- the levels of a board are in range, and the line and the segment that its edge moves are in the other state
+pub record CanNote (w : Wiring) (r : Row) (e : Edge) : Type 0 where
+  pub request_level : request_level r < 4
+  pub interrupt_level : interrupt_level r < 8
+  pub line : is_movable (count_of w.lines r e.wire) e.fall ≡ true
+  pub chain : CanMove r e.wire e.fall w.chains

@@ -3,6 +3,7 @@ ghost use Rattle.std.specs.Prelude.{◌≡◌, ◌&&◌, [], Some, true, false, 
 ghost use Rattle.std.specs.List.{slice_get};
 ghost use Rattle.std.specs.Option.{option_map_or};
 ghost use Rattle.vme_model.specs.Plan.{grant_chain};
+ghost use Rattle.vme_wiring.specs.Chained.{after_board, CanMove};
 ghost use Rattle.vme_chain.specs.Segments.{input, output_number, is_clear, is_past_end};
 
 use crate::lines::request_level;
@@ -22,7 +23,7 @@ pub struct Chains {
 }
 
 impl Chains {
-    ghost use Rattle.vme_wiring.specs.Chained.{chains_of, chain_at, with_segment, after_board, after_controller, CanMove, CanMoveHead};
+    ghost use Rattle.vme_wiring.specs.Chained.{chains_of, chain_at, with_segment, after_controller, CanMoveHead};
 
     /// The chains of a plan, high everywhere.
     #[tactic(auto, using(crate::proofs::Fresh::high_segments))]
@@ -171,5 +172,17 @@ impl Chains {
             Wire::Iack => self.drive(ChainId::Iack, 0, edge.fall),
             _ => {}
         }
+    }
+}
+
+/// The chains take in an edge of the board's wire.
+pub fn note_segment(chains: &mut Chains, row: &Row, edge: Edge)
+    requires other { CanMove row.now edge.wire edge.fall chains.old }
+    ensures { chains.new ≡ after_board row.now edge.wire edge.fall chains.old }
+{
+    match edge.wire {
+        Wire::BgOut => chains.pass_grant(row, edge.fall),
+        Wire::IackOut => chains.pass_acknowledge(row, edge.fall),
+        _ => {}
     }
 }

@@ -1,7 +1,7 @@
 //! The open-collector lines that boards pull, as counts.
 ghost use Rattle.std.specs.Prelude.{◌≡◌, ◌<◌, [], ◌∷◌, true, get_or, nat_lt};
 ghost use Rattle.vme_model.specs.Sets.{bus_levels, irq_levels};
-ghost use Rattle.vme_wiring.specs.Counts.{moved, is_movable, request_level, interrupt_level, no_pulls, count_of, lines_after, shared_after, shared_after_controller};
+ghost use Rattle.vme_wiring.specs.Counts.{moved, is_movable, request_level, interrupt_level, no_pulls, count_of, lines_after, shared_after, shared_after_controller, addressing_after};
 
 use vme_lines::OrLine;
 use vme_model::{BusLevels, Edge, Levels, Pins, Row, Wire};
@@ -160,6 +160,17 @@ pub fn note_controllers(shared: &mut Pins, edge: Edge)
     match edge.wire {
         Wire::Bclr => shared.bclr = edge.fall,
         Wire::Berr => shared.berr = edge.fall,
+        _ => {}
+    }
+}
+
+/// The slot whose address group is on takes in an edge of the slot's.
+pub fn note_address(addressing: &mut Option<u8>, slot: u8, edge: Edge)
+    ensures { addressing.new ≡ addressing_after addressing.old slot edge.wire edge.fall }
+{
+    match (edge.wire, edge.fall) {
+        (Wire::Addr, true) => *addressing = Some(slot),
+        (Wire::Addr, false) => *addressing = None,
         _ => {}
     }
 }

@@ -11,14 +11,15 @@ ghost use Rattle.vme_model.specs.History.{shown};
 ghost use Rattle.vme_model.specs.Verdict.{verdict_but_full};
 ghost use Rattle.vme_arbiter.specs.Local.{state_of as controller_of};
 ghost use Rattle.vme_wiring.specs.Boards.{parts_of, place};
-ghost use Rattle.vme_wiring.specs.Counts.{high_pins, is_movable, count_of, request_level, interrupt_level, lines_after, shared_after, shared_after_controller, addressing_after};
-ghost use Rattle.vme_wiring.specs.Chained.{after_board, after_controller, CanMove, CanMoveHead};
+ghost use Rattle.vme_wiring.specs.Counts.{high_pins, lines_after, shared_after, shared_after_controller, addressing_after};
+ghost use Rattle.vme_wiring.specs.Chained.{after_board, after_controller, CanMoveHead};
+ghost use Rattle.vme_wiring.specs.declared.boards.Board.{Board as BoardValue};
 
 use crate::boards::Board;
-use crate::chains::Chains;
-use crate::lines::{Lines, note_controllers, note_line};
+use crate::chains::{Chains, note_segment};
+use crate::lines::{Lines, note_address, note_controllers, note_line};
 use vme_arbiter::{AnyPolicy, Arbiter};
-use vme_model::{BusLevels, Driver, Edge, Levels, Pins, Row, Version, Wire};
+use vme_model::{BusLevels, Driver, Edge, Levels, Pins, Version};
 use vme_slots::Plan;
 
 /// What the edges so far lead to, in places of fixed number: the parts of each board by its slot, the controller's, the
@@ -79,7 +80,7 @@ fn all_high() -> Pins
 }
 
 impl Wiring {
-    ghost use Rattle.vme_wiring.specs.Wired.{IsWiringOf, CanTake};
+    ghost use Rattle.vme_wiring.specs.Wired.{IsWiringOf, CanNote, CanTake};
 
     /// The wiring of a plan at power-up, before any edge.
     pub fn new(plan: &Plan, version: Version) -> Wiring
@@ -115,10 +116,7 @@ impl Wiring {
     {
         match edge.driver {
             Driver::Controller => self.note_controller(edge),
-            Driver::Slot(slot) => match self.row_at(slot) {
-                Some(row) => self.note_board(slot, row, edge),
-                None => {}
-            },
+            Driver::Slot(slot) => self.note_board(slot, edge),
         }
     }
 
@@ -140,52 +138,28 @@ impl Wiring {
         note_controllers(&mut self.shared, edge);
     }
 
-    /// The row of a slot's board.
-    fn row_at(&self, slot: u8) -> Option<Row>
-        ensures { result ≡ option_map (λ b. b.row) (place self.now.boards slot) }
-    {
-        match self.board(slot) {
-            Some(board) => Some(board.row),
-            None => None,
-        }
-    }
-
-    /// The parts of the slot's board take in its edge.
-    fn note_parts(&mut self, slot: u8, edge: Edge)
-        requires slot { slot < 22 }
-        ensures rest { self.new ≡ record self.old { boards = self.new.boards } }
-        ensures boards { (version : VersionValue) (p : PlanValue) (h : List EdgeValue) (r : RowValue) → place self.old.boards slot ≡ Some (parts_of version p h r) → self.old.shared.shown ≡ shown p h → self.new.boards ≡ set self.old.boards slot (Some (parts_of version p (edge ∷ h) r)) }
-    {
-        let shown = self.shared.shown;
-        match &mut self.boards[usize::from(slot)] {
-            Some(board) => board.note(edge, shown),
-            None => {}
-        }
-    }
-
     /// Takes in an edge of the slot's board.
-    fn note_board(&mut self, slot: u8, row: Row, edge: Edge)
+    fn note_board(&mut self, slot: u8, edge: Edge)
         requires slot { slot < 22 }
-        requires request_level { request_level row < 4 }
-        requires interrupt_level { interrupt_level row < 8 }
-        requires line { is_movable (count_of self.old.lines row edge.wire) edge.fall ≡ true }
-        requires chain { CanMove row edge.wire edge.fall self.old.chains }
+        requires board { (b : BoardValue) → place self.old.boards slot ≡ Some b → CanNote self.old b.row edge }
         ensures version { self.new.version ≡ self.old.version }
         ensures slots { self.new.slots ≡ self.old.slots }
         ensures boards { (version : VersionValue) (p : PlanValue) (h : List EdgeValue) (r : RowValue) → place self.old.boards slot ≡ Some (parts_of version p h r) → self.old.shared.shown ≡ shown p h → self.new.boards ≡ set self.old.boards slot (Some (parts_of version p (edge ∷ h) r)) }
         ensures arbiter { self.new.arbiter ≡ self.old.arbiter }
-        ensures lines { self.new.lines ≡ lines_after self.old.lines row edge.wire edge.fall }
-        ensures chains { self.new.chains ≡ after_board row edge.wire edge.fall self.old.chains }
-        ensures shared { self.new.shared ≡ shared_after self.old.shared self.new.lines edge.wire edge.value }
-        ensures addressing { self.new.addressing ≡ addressing_after self.old.addressing slot edge.wire edge.fall }
+        ensures lines { (b : BoardValue) → place self.old.boards slot ≡ Some b → self.new.lines ≡ lines_after self.old.lines b.row edge.wire edge.fall }
+        ensures chains { (b : BoardValue) → place self.old.boards slot ≡ Some b → self.new.chains ≡ after_board b.row edge.wire edge.fall self.old.chains }
+        ensures shared { (b : BoardValue) → place self.old.boards slot ≡ Some b → self.new.shared ≡ shared_after self.old.shared self.new.lines edge.wire edge.value }
+        ensures addressing { (b : BoardValue) → place self.old.boards slot ≡ Some b → self.new.addressing ≡ addressing_after self.old.addressing slot edge.wire edge.fall }
     {
-        self.note_parts(slot, edge);
-        note_line(&mut self.lines, &mut self.shared, &row, edge);
-        match edge.wire {
-            Wire::BgOut => self.chains.pass_grant(&row, edge.fall),
-            Wire::IackOut => self.chains.pass_acknowledge(&row, edge.fall),
-            Wire::Addr => self.addressing = if edge.fall { Some(slot) } else { None },
-            _ => {}
+        let shown = self.shared.shown;
+        match &mut self.boards[usize::from(slot)] {
+            Some(board) => {
+                note_line(&mut self.lines, &mut self.shared, &board.row, edge);
+                note_segment(&mut self.chains, &board.row, edge);
+                note_address(&mut self.addressing, slot, edge);
+                board.note(edge, shown);
+            }
+            None => {}
         }
     }
 }

@@ -1,11 +1,12 @@
 -- The board in the driver's place is that of the plan, and its edge is one that the wiring can take.
-use Rattle.std.proofs.Common.{◌≡◌, ◌∙◌, sym, ap}
-use Rattle.std.specs.Prelude.{None}
+use Rattle.std.proofs.Common.{◌∙◌, sym, ap, subst}
+use Rattle.std.specs.Prelude.{option_map}
+use Rattle.vme_model.specs.declared.boards.Row.{Row}
 use Rattle.vme_model.specs.declared.pins.Pins.{Pins}
-use Rattle.vme_model.specs.Plan.{board}
 use Rattle.vme_wiring.specs.Boards.{parts_of}
-use Rattle.vme_wiring.specs.declared.boards.Board.{Board}
-use Rattle.vme_wiring.proofs.Noting.{noted_by_board, noted_by_controller, no_board, line_can, chain_can, head_can, placed_row, none_placed}
+use Rattle.vme_wiring.specs.Wired.{CanNote}
+use Rattle.vme_wiring.proofs.Standing.{stands}
+use Rattle.vme_wiring.proofs.Noting.{noted_by_board, noted_by_controller, line_can, chain_can, head_can, placed_board, standing}
 use Rattle.vme_wiring.proofs.wirings.Wiring.note.Goals as goal
 
 pub note_controller-requires : goal.note_controller-requires
@@ -16,29 +17,21 @@ note_controller-requires c =
 pub note_board-requires-clause-slot : goal.note_board-requires-clause-slot
 note_board-requires-clause-slot c =
     let t = c.requires.allowed in
-    (placed_row t.version t.plan t.history c.in-Slot.slot c.in-Some.row c.args.self.now t.is_wiring (sym c.in-Some.is ∙ c.row_at.ensures)).stands.near
+    let k = standing t.version t.plan t.history c.in-Slot.slot c.args.edge t.allowed c.in-Slot.is in
+    (stands t.plan c.in-Slot.slot k.row t.is_wiring.accepted k.found).near
 
-pub note_board-requires-clause-request_level : goal.note_board-requires-clause-request_level
-note_board-requires-clause-request_level c =
+pub note_board-requires-clause-board : goal.note_board-requires-clause-board
+note_board-requires-clause-board c b here =
     let t = c.requires.allowed in
-    (placed_row t.version t.plan t.history c.in-Slot.slot c.in-Some.row c.args.self.now t.is_wiring (sym c.in-Some.is ∙ c.row_at.ensures)).stands.request
-
-pub note_board-requires-clause-interrupt_level : goal.note_board-requires-clause-interrupt_level
-note_board-requires-clause-interrupt_level c =
-    let t = c.requires.allowed in
-    (placed_row t.version t.plan t.history c.in-Slot.slot c.in-Some.row c.args.self.now t.is_wiring (sym c.in-Some.is ∙ c.row_at.ensures)).stands.interrupt
-
-pub note_board-requires-clause-line : goal.note_board-requires-clause-line
-note_board-requires-clause-line c =
-    let t = c.requires.allowed in
-    let k = placed_row t.version t.plan t.history c.in-Slot.slot c.in-Some.row c.args.self.now t.is_wiring (sym c.in-Some.is ∙ c.row_at.ensures) in
-    line_can t.version t.plan t.history c.in-Slot.slot c.in-Some.row c.args.edge c.args.self.now t.is_wiring t.allowed c.in-Slot.is k.found
-
-pub note_board-requires-clause-chain : goal.note_board-requires-clause-chain
-note_board-requires-clause-chain c =
-    let t = c.requires.allowed in
-    let k = placed_row t.version t.plan t.history c.in-Slot.slot c.in-Some.row c.args.self.now t.is_wiring (sym c.in-Some.is ∙ c.row_at.ensures) in
-    chain_can t.version t.plan t.history c.in-Slot.slot c.in-Some.row c.args.edge c.args.self.now t.is_wiring t.allowed c.in-Slot.is k.found
+    let e = c.args.edge in
+    let w = c.args.self.now in
+    let k = placed_board t.version t.plan t.history c.in-Slot.slot b w t.is_wiring (sym here) in
+    subst (λ (r : Row). CanNote w r e) (sym k.same_row) (record {
+      request_level = k.stands.request;
+      interrupt_level = k.stands.interrupt;
+      line = line_can t.version t.plan t.history c.in-Slot.slot k.row e w t.is_wiring t.allowed c.in-Slot.is k.found;
+      chain = chain_can t.version t.plan t.history c.in-Slot.slot k.row e w t.is_wiring t.allowed c.in-Slot.is k.found;
+    })
 
 pub returns-in-Controller : goal.returns-in-Controller
 returns-in-Controller c version p h is allowed =
@@ -55,23 +48,20 @@ returns-in-Controller c version p h is allowed =
       addressing = n.addressing;
     })
 
-pub returns-in-Some : goal.returns-in-Some
-returns-in-Some c version p h is allowed =
+pub returns-in-Slot : goal.returns-in-Slot
+returns-in-Slot c version p h is allowed =
     let n = c.note_board.ensures in
-    let k = placed_row version p h c.in-Slot.slot c.in-Some.row c.args.self.now is (sym c.in-Some.is ∙ c.row_at.ensures) in
-    noted_by_board version p h c.in-Slot.slot c.in-Some.row c.args.edge c.args.self.now c.note_board.new.self is allowed c.in-Slot.is k.found (record {
+    let s = c.in-Slot.slot in
+    let k = standing version p h s c.args.edge allowed c.in-Slot.is in
+    let b = parts_of version p h k.row in
+    let here = is.boards s ∙ ap (option_map (parts_of version p h)) k.found in
+    noted_by_board version p h s k.row c.args.edge c.args.self.now c.note_board.new.self is allowed c.in-Slot.is k.found (record {
       rules = n.version;
       slots = n.slots;
-      boards = n.boards version p h c.in-Some.row k.here (ap (λ (x : Pins). x.shown) is.shared);
+      boards = n.boards version p h k.row here (ap (λ (x : Pins). x.shown) is.shared);
       arbiter = n.arbiter;
-      lines = n.lines;
-      chains = n.chains;
-      shared = n.shared;
-      addressing = n.addressing;
+      lines = n.lines b here;
+      chains = n.chains b here;
+      shared = n.shared b here;
+      addressing = n.addressing b here;
     })
-
-pub returns-in-None : goal.returns-in-None
-returns-in-None c version p h is allowed =
-    let empty = none_placed (λ (b : Board). b.row) _ (sym c.row_at.ensures ∙ c.in-None.is) in
-    let none : board p c.in-Slot.slot ≡ None = none_placed (parts_of version p h) (board p c.in-Slot.slot) (sym (is.boards c.in-Slot.slot) ∙ empty) in
-    absurd (no_board version p h c.in-Slot.slot c.args.edge allowed c.in-Slot.is none)
