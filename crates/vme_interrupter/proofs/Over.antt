@@ -16,7 +16,7 @@ use Rattle.vme_model.specs.declared.signals.Edge.{Edge}
 use Rattle.vme_model.specs.History.{drive}
 use Rattle.vme_model.specs.Rules.{is_passed_by, may_answer}
 use Rattle.vme_model.specs.Verdict.{Judgement, check, is_other_state}
-use Rattle.vme_interrupter.specs.Local.{Noted, State, edges, state_of, is_own, local, over, ruling, answer}
+use Rattle.vme_interrupter.specs.Local.{Noted, State, edges, state_of, is_own, local, over, ruling_on, answer}
 
 abbrev edge : Driver → Wire → Bool → Option Cycle → Edge
 edge d w f v = record { driver = d; wire = w; fall = f; value = v }
@@ -60,7 +60,7 @@ answers_over version state noted pins e same own =
 
 -- the same of an edge of the wire x, which is w
 pub rules_over : (version : Version) (state : State) (noted : List Noted) (pins : Pins) (d : Driver) (w x : Wire) (f : Bool) (v : Option Cycle) → state ≡ state_of state.slot state.row noted → w ≡ x → is_own x ≡ true →
-    ruling One (local state pins) x f v ≡ ruling version (over state.slot state.row noted pins) w f v
+    ruling_on One (local state pins) x f v ≡ ruling_on version (over state.slot state.row noted pins) w f v
 rules_over version state noted pins d w x f v same is own =
     answers_over version state noted pins (edge d x f v) same own
-    ∙ ap (λ y. ruling version (over state.slot state.row noted pins) y f v) (sym is)
+    ∙ ap (λ y. ruling_on version (over state.slot state.row noted pins) y f v) (sym is)

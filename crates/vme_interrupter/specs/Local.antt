@@ -103,14 +103,14 @@ abbrev pub over : ℕ → Option InterrupterRow → List Noted → Pins → Read
 over s row noted pins = readings s row (drive (edges noted) (Slot s)) (served noted (Slot s) row) pins
 
 -- the answer to an edge of a wire of its own by its rows of the table: E2, E3 or Ok
-abbrev pub ruling : Version → Readings → Wire → Bool → Option Cycle → Judgement
-ruling version r w fall v =
+abbrev pub ruling_on : Version → Readings → Wire → Bool → Option Cycle → Judgement
+ruling_on version r w fall v =
     check (is_other_state (r.own w) fall) AlreadyThere
     (check (rule version r w fall v).1 (Rule (rule version r w fall v).0)
     (Ok tt))
 
 abbrev pub answer : Version → Readings → Edge → Judgement
-answer version r e = ruling version r e.wire e.fall e.value
+answer version r e = ruling_on version r e.wire e.fall e.value
 
 -- a history as an interrupter notes it that is handed each edge
 abbrev pub seen : Plan → List Edge → List Noted

@@ -10,7 +10,7 @@ ghost use Rattle.vme_model.specs.declared.signals.Version.TheVariants.{One};
 ghost use Rattle.vme_model.specs.Readings.{is_pending};
 ghost use Rattle.vme_model.specs.Rules.{is_passed_by, may_answer, rule};
 ghost use Rattle.vme_model.specs.Verdict.{check};
-ghost use Rattle.vme_interrupter.specs.Local.{Noted, state_of, serves_board, is_own, low, local, over, ruling, answer};
+ghost use Rattle.vme_interrupter.specs.Local.{Noted, state_of, serves_board, is_own, low, local, over, ruling_on, answer};
 
 use std::marker::Model;
 use vme_model::{Cycle, Driver, Edge, InterrupterRow, IrqKind, Pins, Refused, Wire};
@@ -150,7 +150,7 @@ impl Interrupter {
     /// # Errors
     /// As for `may`.
     pub fn may_request(&self, fall: bool) -> Result<(), Refused>
-        ensures { (pins : PinsValue) (value : OptionValue CycleValue) → result ≡ ruling One (local self.now pins) Wire.Irq fall value }
+        ensures { (pins : PinsValue) (value : OptionValue CycleValue) → result ≡ ruling_on One (local self.now pins) Wire.Irq fall value }
     {
         match (fall, self.irq) {
             (true, true) | (false, false) => Err(Refused::AlreadyThere),
@@ -165,7 +165,7 @@ impl Interrupter {
     /// # Errors
     /// As for `may`.
     pub fn may_pass(&self, fall: bool, lines: &Pins, iack_in: bool) -> Result<(), Refused>
-        ensures { (value : OptionValue CycleValue) → result ≡ ruling One (local self.now (record lines.now { iack_in = iack_in })) Wire.IackOut fall value }
+        ensures { (value : OptionValue CycleValue) → result ≡ ruling_on One (local self.now (record lines.now { iack_in = iack_in })) Wire.IackOut fall value }
     {
         match (fall, self.iackout) {
             (true, true) | (false, false) => Err(Refused::AlreadyThere),
@@ -180,7 +180,7 @@ impl Interrupter {
     /// # Errors
     /// As for `may`.
     pub fn may_answer(&self, fall: bool, lines: &Pins, iack_in: bool) -> Result<(), Refused>
-        ensures { (value : OptionValue CycleValue) → result ≡ ruling One (local self.now (record lines.now { iack_in = iack_in })) Wire.Dtack fall value }
+        ensures { (value : OptionValue CycleValue) → result ≡ ruling_on One (local self.now (record lines.now { iack_in = iack_in })) Wire.Dtack fall value }
     {
         match (fall, self.dtack) {
             (true, true) | (false, false) => Err(Refused::AlreadyThere),

@@ -14,7 +14,7 @@ use Rattle.vme_model.specs.declared.signals.Cycle.{Cycle}
 use Rattle.vme_model.specs.declared.signals.Edge.{Edge}
 use Rattle.vme_model.specs.History.{cycles}
 use Rattle.vme_master.proofs.Counts.{below_burst}
-use Rattle.vme_master.specs.Local.{State, state_of, is_own, local, over, ruling, answer}
+use Rattle.vme_master.specs.Local.{State, state_of, is_own, local, over, ruling_on, answer}
 
 abbrev edge : Driver → Wire → Bool → Option Cycle → Edge
 edge d w f v = record { driver = d; wire = w; fall = f; value = v }
@@ -38,7 +38,7 @@ answers_over version state noted pins holds_bus e same own =
 
 -- the same of an edge of the wire x, which is w
 pub rules_over : (version : Version) (state : State) (noted : List Edge) (pins : Pins) (holds_bus : Bool) (d : Driver) (w x : Wire) (f : Bool) (v : Option Cycle) → state ≡ state_of state.slot state.row state.handler noted → w ≡ x → is_own x ≡ true →
-    ruling One (local state pins holds_bus) x f v ≡ ruling version (over state.slot state.row state.handler noted pins holds_bus) w f v
+    ruling_on One (local state pins holds_bus) x f v ≡ ruling_on version (over state.slot state.row state.handler noted pins holds_bus) w f v
 rules_over version state noted pins holds_bus d w x f v same is own =
     answers_over version state noted pins holds_bus (edge d x f v) same own
-    ∙ ap (λ y. ruling version (over state.slot state.row state.handler noted pins holds_bus) y f v) (sym is)
+    ∙ ap (λ y. ruling_on version (over state.slot state.row state.handler noted pins holds_bus) y f v) (sym is)

@@ -101,11 +101,11 @@ over s row handler noted pins holds_bus =
     readings s row handler (drive noted (Slot s)) (cycles noted (Slot s)) (has_strobed noted (Slot s)) pins holds_bus
 
 -- the answer to an edge of a wire of its own by its rows of the table: E2, E3 or Ok
-abbrev pub ruling : Version → Readings → Wire → Bool → Option Cycle → Judgement
-ruling version r w fall v =
+abbrev pub ruling_on : Version → Readings → Wire → Bool → Option Cycle → Judgement
+ruling_on version r w fall v =
     check (is_other_state (r.own w) fall) AlreadyThere
     (check (rule version r w fall v).1 (Rule (rule version r w fall v).0)
     (Ok tt))
 
 abbrev pub answer : Version → Readings → Edge → Judgement
-answer version r e = ruling version r e.wire e.fall e.value
+answer version r e = ruling_on version r e.wire e.fall e.value

@@ -8,7 +8,7 @@ ghost use Rattle.vme_model.specs.declared.signals.Cycle.{Cycle as CycleValue};
 ghost use Rattle.vme_model.specs.declared.signals.Edge.{Edge as EdgeValue};
 ghost use Rattle.vme_model.specs.Rules.{is_below_burst, may_show, rule};
 ghost use Rattle.vme_model.specs.Verdict.{check};
-ghost use Rattle.vme_master.specs.Local.{state_of, most_cycles, is_own, low, local, over, ruling, answer};
+ghost use Rattle.vme_master.specs.Local.{state_of, most_cycles, is_own, low, local, over, ruling_on, answer};
 
 use std::marker::Model;
 use vme_model::{Cycle, Driver, Edge, Levels, Pins, Refused, Release, RequesterRow, Wire};
@@ -133,7 +133,7 @@ impl Master {
         lines: &Pins,
         holds_bus: bool,
     ) -> Result<(), Refused>
-        ensures { result ≡ ruling One (local self.now lines.now holds_bus) Wire.Addr fall value }
+        ensures { result ≡ ruling_on One (local self.now lines.now holds_bus) Wire.Addr fall value }
     {
         match (fall, self.addr) {
             (true, true) | (false, false) => Err(Refused::AlreadyThere),
@@ -147,7 +147,7 @@ impl Master {
     /// # Errors
     /// As for `may`.
     pub fn may_strobe_address(&self, fall: bool, lines: &Pins) -> Result<(), Refused>
-        ensures { (holds_bus : Bool) (value : OptionValue CycleValue) → result ≡ ruling One (local self.now lines.now holds_bus) Wire.AddressStrobe fall value }
+        ensures { (holds_bus : Bool) (value : OptionValue CycleValue) → result ≡ ruling_on One (local self.now lines.now holds_bus) Wire.AddressStrobe fall value }
     {
         match (fall, self.address_strobe) {
             (true, true) | (false, false) => Err(Refused::AlreadyThere),
@@ -161,7 +161,7 @@ impl Master {
     /// # Errors
     /// As for `may`.
     pub fn may_strobe_data(&self, fall: bool, lines: &Pins) -> Result<(), Refused>
-        ensures { (holds_bus : Bool) (value : OptionValue CycleValue) → result ≡ ruling One (local self.now lines.now holds_bus) Wire.DataStrobe fall value }
+        ensures { (holds_bus : Bool) (value : OptionValue CycleValue) → result ≡ ruling_on One (local self.now lines.now holds_bus) Wire.DataStrobe fall value }
     {
         match (fall, self.data_strobe) {
             (true, true) | (false, false) => Err(Refused::AlreadyThere),

@@ -88,14 +88,14 @@ lets_go (Done burst) requests = true
 lets_go Request requests = list_any (has_bus_level requests) bus_numbers
 
 -- the answer to an edge of a wire of its own by its rows of the table: E2, E3 or Ok
-abbrev pub ruling : Version → Readings → Wire → Bool → Option Cycle → Judgement
-ruling version r w fall v =
+abbrev pub ruling_on : Version → Readings → Wire → Bool → Option Cycle → Judgement
+ruling_on version r w fall v =
     check (is_other_state (r.own w) fall) AlreadyThere
     (check (rule version r w fall v).1 (Rule (rule version r w fall v).0)
     (Ok tt))
 
 abbrev pub answer : Version → Readings → Edge → Judgement
-answer version r e = ruling version r e.wire e.fall e.value
+answer version r e = ruling_on version r e.wire e.fall e.value
 
 -- the same, read over the edges that were noted
 abbrev pub answer_over : ℕ → RequesterRow → Version → List Edge → Pins → Bool → Edge → Judgement

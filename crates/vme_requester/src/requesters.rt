@@ -10,7 +10,7 @@ ghost use Rattle.vme_model.specs.Signals.{is_two};
 ghost use Rattle.vme_model.specs.Sets.{has_bus_level};
 ghost use Rattle.vme_model.specs.Rules.{bus_numbers, rule};
 ghost use Rattle.vme_model.specs.Verdict.{check};
-ghost use Rattle.vme_requester.specs.Local.{state_of, is_own, low, readings, lets_go, ruling, answer_over};
+ghost use Rattle.vme_requester.specs.Local.{state_of, is_own, low, readings, lets_go, ruling_on, answer_over};
 
 use std::marker::Model;
 use vme_model::{BusLevels, Driver, Edge, Pins, Refused, Release, RequesterRow, Version, Wire};
@@ -110,7 +110,7 @@ impl Requester {
     /// # Errors
     /// As for `may`.
     pub fn may_request(&self, fall: bool) -> Result<(), Refused>
-        ensures { (pins : PinsValue) (is_address_free : Bool) (value : OptionValue CycleValue) → result ≡ ruling self.now.version (readings self.now.slot self.now.row (low self.now) pins is_address_free) Wire.Br fall value }
+        ensures { (pins : PinsValue) (is_address_free : Bool) (value : OptionValue CycleValue) → result ≡ ruling_on self.now.version (readings self.now.slot self.now.row (low self.now) pins is_address_free) Wire.Br fall value }
     {
         match (fall, self.br) {
             (true, true) | (false, false) => Err(Refused::AlreadyThere),
@@ -124,7 +124,7 @@ impl Requester {
     /// # Errors
     /// As for `may`.
     pub fn may_pass(&self, fall: bool, grant_in: bool) -> Result<(), Refused>
-        ensures { (pins : PinsValue) (is_address_free : Bool) (value : OptionValue CycleValue) → pins.grant_in ≡ grant_in → result ≡ ruling self.now.version (readings self.now.slot self.now.row (low self.now) pins is_address_free) Wire.BgOut fall value }
+        ensures { (pins : PinsValue) (is_address_free : Bool) (value : OptionValue CycleValue) → pins.grant_in ≡ grant_in → result ≡ ruling_on self.now.version (readings self.now.slot self.now.row (low self.now) pins is_address_free) Wire.BgOut fall value }
     {
         match (fall, self.bgout) {
             (true, true) | (false, false) => Err(Refused::AlreadyThere),
@@ -145,7 +145,7 @@ impl Requester {
         grant_in: bool,
         is_address_free: bool,
     ) -> Result<(), Refused>
-        ensures { (value : OptionValue CycleValue) → result ≡ ruling self.now.version (readings self.now.slot self.now.row (low self.now) (record lines.now { grant_in = grant_in }) is_address_free) Wire.Bbsy fall value }
+        ensures { (value : OptionValue CycleValue) → result ≡ ruling_on self.now.version (readings self.now.slot self.now.row (low self.now) (record lines.now { grant_in = grant_in }) is_address_free) Wire.Bbsy fall value }
     {
         match (fall, self.bbsy) {
             (true, true) | (false, false) => Err(Refused::AlreadyThere),

@@ -15,11 +15,11 @@ use Rattle.vme_model.specs.declared.signals.Edge.{Edge}
 use Rattle.vme_model.specs.Plan.{Plan}
 use Rattle.vme_model.specs.Rules.{is_passed_by, may_answer}
 use Rattle.vme_model.specs.Verdict.{Judgement, check, is_other_state}
-use Rattle.vme_requester.specs.Local.{State as RequesterState, state_of as requester_of, is_own as is_requesters, low as requester_low, readings as requester_readings, ruling as requester_ruling, answer_over}
+use Rattle.vme_requester.specs.Local.{State as RequesterState, state_of as requester_of, is_own as is_requesters, low as requester_low, readings as requester_readings, ruling_on as requester_ruling, answer_over}
 use Rattle.vme_requester.proofs.Over.{answers_over as requester_over}
-use Rattle.vme_master.specs.Local.{State as MasterState, state_of as master_of, is_own as is_masters, local as master_local, over as master_over, ruling as master_ruling, answer as master_answer}
+use Rattle.vme_master.specs.Local.{State as MasterState, state_of as master_of, is_own as is_masters, local as master_local, over as master_over, ruling_on as master_ruling, answer as master_answer}
 use Rattle.vme_master.proofs.Over.{rules_over as master_rules_over}
-use Rattle.vme_interrupter.specs.Local.{State as InterrupterState, state_of as interrupter_of, is_own as is_interrupters, local as interrupter_local, over as interrupter_over, ruling as interrupter_ruling, answer as interrupter_answer, seen}
+use Rattle.vme_interrupter.specs.Local.{State as InterrupterState, state_of as interrupter_of, is_own as is_interrupters, local as interrupter_local, over as interrupter_over, ruling_on as interrupter_ruling, answer as interrupter_answer, seen}
 use Rattle.vme_interrupter.proofs.Over.{rules_over as interrupter_rules_over}
 use Rattle.vme_wiring.specs.Asked.{asked, IsAsked}
 use Rattle.vme_wiring.specs.Boards.{parts_of, low_of}

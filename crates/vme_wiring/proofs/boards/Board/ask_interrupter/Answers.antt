@@ -1,7 +1,7 @@
 use Rattle.std.proofs.Common.{◌≡◌, ◌∙◌, refl, ap}
 use Rattle.vme_model.specs.declared.signals.Version.TheVariants.{One}
 use Rattle.vme_model.specs.declared.signals.Wire.TheVariants.{Irq, IackOut, Dtack}
-use Rattle.vme_interrupter.specs.Local.{local, ruling}
+use Rattle.vme_interrupter.specs.Local.{local, ruling_on}
 use Rattle.vme_wiring.specs.Asked.{seen_by}
 use Rattle.vme_wiring.proofs.Ruling.{interrupter_ruled, blind_to_pass, blind_to_answer, with_inputs}
 use Rattle.vme_wiring.proofs.boards.Board.ask_interrupter.Goals as goal
@@ -21,7 +21,7 @@ returns-in-IackOut c version p h r same asked own =
     interrupter_ruled version p h r b pins e IackOut _ same asked c.in-IackOut.is refl
     (c.may_pass.ensures e.value
     ∙ blind_to_pass b.interrupter c.args.lines.now pins.grant_in c.iack_in-iack_in.result e.fall e.value
-    ∙ ap (λ i. ruling One (local b.interrupter (with_inputs c.args.lines.now pins.grant_in i)) IackOut e.fall e.value) c.iack_in-iack_in.ensures)
+    ∙ ap (λ i. ruling_on One (local b.interrupter (with_inputs c.args.lines.now pins.grant_in i)) IackOut e.fall e.value) c.iack_in-iack_in.ensures)
 
 pub returns-in-Dtack : goal.returns-in-Dtack
 returns-in-Dtack c version p h r same asked own =
@@ -31,4 +31,4 @@ returns-in-Dtack c version p h r same asked own =
     interrupter_ruled version p h r b pins e Dtack _ same asked c.in-Dtack.is refl
     (c.may_answer.ensures e.value
     ∙ blind_to_answer b.interrupter c.args.lines.now pins.grant_in c.iack_in-iack_in-in-Dtack.result e.fall e.value
-    ∙ ap (λ i. ruling One (local b.interrupter (with_inputs c.args.lines.now pins.grant_in i)) Dtack e.fall e.value) c.iack_in-iack_in-in-Dtack.ensures)
+    ∙ ap (λ i. ruling_on One (local b.interrupter (with_inputs c.args.lines.now pins.grant_in i)) Dtack e.fall e.value) c.iack_in-iack_in-in-Dtack.ensures)

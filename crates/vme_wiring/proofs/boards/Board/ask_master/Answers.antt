@@ -1,7 +1,7 @@
 use Rattle.std.proofs.Common.{◌≡◌, ◌∙◌, refl, sym, ap}
 use Rattle.vme_model.specs.declared.signals.Version.TheVariants.{One}
 use Rattle.vme_model.specs.declared.signals.Wire.TheVariants.{Addr, AddressStrobe, DataStrobe, Bbsy}
-use Rattle.vme_master.specs.Local.{local, ruling}
+use Rattle.vme_master.specs.Local.{local, ruling_on}
 use Rattle.vme_wiring.specs.Asked.{seen_by}
 use Rattle.vme_wiring.specs.Boards.{low_of}
 use Rattle.vme_wiring.proofs.Ruling.{master_ruled, blind_to_inputs}
@@ -15,7 +15,7 @@ returns-in-Addr c version p h r chains same asked own =
     let pins = seen_by chains c.args.lines.now b.row in
     master_ruled version p h r b m pins e Addr _ same c.in-Some.is asked c.in-Addr.is refl
     (c.may_address.ensures
-    ∙ ap (λ holds. ruling One (local m c.args.lines.now holds) Addr e.fall e.value) c.is_low-holds_bus.ensures
+    ∙ ap (λ holds. ruling_on One (local m c.args.lines.now holds) Addr e.fall e.value) c.is_low-holds_bus.ensures
     ∙ blind_to_inputs m c.args.lines.now pins.grant_in pins.iack_in (low_of b Bbsy) Addr e.fall e.value refl)
 
 pub returns-in-AddressStrobe : goal.returns-in-AddressStrobe
