@@ -6,7 +6,8 @@ ghost use Rattle.vme_model.specs.declared.signals.Version.{Version};
 ghost use Rattle.vme_model.specs.declared.signals.Version.TheVariants.{One};
 ghost use Rattle.vme_model.specs.declared.signals.Edge.{Edge as EdgeValue};
 ghost use Rattle.vme_model.specs.Rules.{is_below_burst, may_show, rule};
-ghost use Rattle.vme_master.specs.Local.{state_of, most_cycles, is_own, low, local, over, answer};
+ghost use Rattle.vme_model.specs.Verdict.{ruling};
+ghost use Rattle.vme_master.specs.Local.{state_of, most_cycles, is_own, low, local, over};
 
 use std::marker::Model;
 use vme_model::{Cycle, Driver, Edge, Levels, Pins, Refused, Release, RequesterRow, Wire};
@@ -118,14 +119,14 @@ impl Master {
     /// # Errors
     /// E2 where the wire is in that state, else E3 where the rule's guard fails.
     pub fn may(&self, edge: Edge, pins: Pins, holds_bus: bool) -> Result<(), Refused>
-        ensures { (version : Version) (noted : List EdgeValue) → self.now ≡ state_of self.now.slot self.now.row self.now.handler noted → is_own edge.wire ≡ true → result ≡ answer version (over self.now.slot self.now.row self.now.handler noted pins holds_bus) edge }
+        ensures { (version : Version) (noted : List EdgeValue) → self.now ≡ state_of self.now.slot self.now.row self.now.handler noted → is_own edge.wire ≡ true → result ≡ ruling version (over self.now.slot self.now.row self.now.handler noted pins holds_bus) edge }
     {
         self.judge(edge, pins, holds_bus)
     }
 
     /// The answer to an edge of its own, by the fields.
     fn judge(&self, edge: Edge, pins: Pins, holds_bus: bool) -> Result<(), Refused>
-        ensures { is_own edge.wire ≡ true → result ≡ answer One (local self.now pins holds_bus) edge }
+        ensures { is_own edge.wire ≡ true → result ≡ ruling One (local self.now pins holds_bus) edge }
     {
         if self.is_low(edge.wire) == edge.fall {
             return Err(Refused::AlreadyThere);

@@ -40,13 +40,6 @@ fn is_any(requests: BusLevels) -> bool
     [0, 1, 2, 3].iter().any(|level| requests.has(*level))
 }
 
-/// Whether these are the rules of the second version.
-fn is_two(version: Version) -> bool
-    ensures { result ≡ is_two version }
-{
-    matches!(version, Version::Two)
-}
-
 impl Requester {
     /// The requester of the board in a slot, before any edge, under that version of the rules.
     pub fn new(slot: u8, row: RequesterRow, version: Version) -> Requester
@@ -90,7 +83,7 @@ impl Requester {
     {
         match (edge.wire, edge.fall) {
             (Wire::Br, true) => (9, !self.bbsy),
-            (Wire::Br, false) => (10, is_two(self.version) || self.bbsy),
+            (Wire::Br, false) => (10, self.version.is_two() || self.bbsy),
             (Wire::BgOut, true) => (11, pins.grant_in && !self.br && !self.bbsy),
             (Wire::BgOut, false) => (12, !pins.grant_in),
             (_, true) => (13, pins.grant_in && !self.bgout && self.br),

@@ -1,24 +1,18 @@
 -- What a part is asked: E2 and E3.
-use Rattle.std.specs.Prelude.{◌≡◌, true, Some, List, Ok}
+use Rattle.std.specs.Prelude.{◌≡◌, true, Some, List}
 use Rattle.vme_model.specs.declared.boards.Row.{Row}
 use Rattle.vme_model.specs.declared.pins.Pins.{Pins}
-use Rattle.vme_model.specs.declared.refusals.Refused.TheVariants.{AlreadyThere, Rule}
 use Rattle.vme_model.specs.declared.signals.Driver.TheVariants.{Slot}
 use Rattle.vme_model.specs.declared.signals.Version.{Version}
 use Rattle.vme_model.specs.declared.signals.Edge.{Edge}
 use Rattle.vme_model.specs.Signals.{is_well_formed}
 use Rattle.vme_model.specs.Plan.{Plan, board, drives}
-use Rattle.vme_model.specs.History.{drive}
 use Rattle.vme_model.specs.Readings.{readings}
-use Rattle.vme_model.specs.Rules.{rule}
-use Rattle.vme_model.specs.Verdict.{Judgement, check, is_other_state, allowed}
+use Rattle.vme_model.specs.Verdict.{Judgement, ruling}
 use Rattle.vme_model.specs.Views.{pins}
 
 abbrev pub asked : Version → Plan → List Edge → Edge → Judgement
-asked version p h e =
-    check (is_other_state (drive h e.driver e.wire) e.fall) AlreadyThere
-    (check (allowed version p h e) (Rule (rule version (readings p h e.driver) e.wire e.fall e.value).0)
-    (Ok tt))
+asked version p h e = ruling version (readings p h e.driver) e
 
 -- a board is asked for an edge of a wire that it drives, with its pins
 pub record IsAsked (p : Plan) (h : List Edge) (r : Row) (seen : Pins) (e : Edge) : Type 0 where
