@@ -17,13 +17,14 @@ use Rattle.vme_model.specs.Sets.{has_bus_level}
 use Rattle.vme_model.specs.History.{last_level}
 use Rattle.vme_model.specs.Rules.{pick, is_pick}
 use Rattle.vme_model.proofs.Picks.{one_pick}
-use Rattle.vme_arbiter.specs.Local.{State, state_of, is_own, local, over, answer}
+use Rattle.vme_model.specs.Verdict.{ruling}
+use Rattle.vme_arbiter.specs.Local.{State, state_of, is_own, local, over}
 
 abbrev edge : Driver → Wire → Bool → Option Cycle → Edge
 edge d w f v = record { driver = d; wire = w; fall = f; value = v }
 
 by_parts : (kind : ArbiterKind) (version : Version) (noted : List Edge) (pins : Pins) (d : Driver) (w : Wire) (f : Bool) (v : Option Cycle) → is_own w ≡ true →
-    answer version (local (state_of kind version noted) pins) (edge d w f v) ≡ answer version (over kind noted pins) (edge d w f v)
+    ruling version (local (state_of kind version noted) pins) (edge d w f v) ≡ ruling version (over kind noted pins) (edge d w f v)
 by_parts kind version noted pins d (Bg zero) true v own = refl
 by_parts kind version noted pins d (Bg zero) false v own = refl
 by_parts kind version noted pins d (Bg (suc zero)) true v own = refl
@@ -44,9 +45,9 @@ by_parts kind version noted pins d w f v own = absurd (cc)
 
 -- a state that a list leads to answers as the list says
 pub answers_over : (kind : ArbiterKind) (version : Version) (noted : List Edge) (state : State) (pins : Pins) (e : Edge) → state ≡ state_of kind version noted → is_own e.wire ≡ true →
-    answer state.version (local state pins) e ≡ answer version (over kind noted pins) e
+    ruling state.version (local state pins) e ≡ ruling version (over kind noted pins) e
 answers_over kind version noted state pins e same own =
-    let P : State → Type 0 = λ c. answer c.version (local c pins) e ≡ answer version (over kind noted pins) e in
+    let P : State → Type 0 = λ c. ruling c.version (local c pins) e ≡ ruling version (over kind noted pins) e in
     subst P (sym same) (by_parts kind version noted pins e.driver e.wire e.fall e.value own)
 
 -- a grant's level is one of the four

@@ -1,19 +1,15 @@
 -- A controller's local state, and what its rules read. A list of noted edges has its newest edge first.
-use Rattle.std.specs.Prelude.{◌==◌, if◌then◌else◌, ℕ, Bool, false, None, Ok, List}
+use Rattle.std.specs.Prelude.{◌==◌, if◌then◌else◌, ℕ, Bool, false, List}
 use Rattle.vme_model.specs.declared.boards.ArbiterKind.{ArbiterKind}
 use Rattle.vme_model.specs.declared.pins.Pins.{Pins}
-use Rattle.vme_model.specs.declared.refusals.Refused.TheVariants.{AlreadyThere, Rule}
 use Rattle.vme_model.specs.declared.signals.Version.{Version}
 use Rattle.vme_model.specs.declared.signals.Driver.TheVariants.{Controller}
 use Rattle.vme_model.specs.declared.signals.Wire.{Wire}
 use Rattle.vme_model.specs.declared.signals.Wire.TheVariants.{Bg, Bclr, Iack, Berr}
 use Rattle.vme_model.specs.declared.signals.Edge.{Edge}
 use Rattle.vme_model.specs.Signals.{has_wire}
-use Rattle.vme_model.specs.Sets.{has_bus_level, has_level}
 use Rattle.vme_model.specs.History.{drive, last_level}
-use Rattle.vme_model.specs.Readings.{Readings}
-use Rattle.vme_model.specs.Rules.{rule}
-use Rattle.vme_model.specs.Verdict.{Judgement, check, is_other_state}
+use Rattle.vme_model.specs.Readings.{Readings, readings_of_pins}
 
 -- what a controller keeps: its kind, the version of its rules, which of its wires are low, and the level last granted
 pub record State : Type 0 where
@@ -57,24 +53,10 @@ low c _ = false
 
 -- what its rules read: its own wires, its pins, its kind, and the level last granted
 abbrev pub readings : ArbiterKind → (Wire → Bool) → ℕ → Pins → Readings
-readings kind own last_level pins = record {
+readings kind own last_level pins = record (readings_of_pins pins) {
   own = own;
-  request = has_bus_level pins.requests;
-  irq = has_level pins.irq;
-  bbsy = pins.bbsy;
-  address_strobe = pins.address_strobe;
-  data_strobe = pins.data_strobe;
-  dtack = pins.dtack;
-  berr = pins.berr;
-  shown = pins.shown;
-  grant_in = pins.grant_in;
-  iack_in = pins.iack_in;
   last_level = last_level;
-  cycles = 0;
-  has_strobed = false;
-  served_since_request = false;
   arbiter = kind;
-  board = None;
 }
 
 -- what its rules read, by the state
@@ -84,10 +66,3 @@ local c pins = readings c.kind (low c) c.last_level pins
 -- what its rules read, over the edges that were noted
 abbrev pub over : ArbiterKind → List Edge → Pins → Readings
 over kind noted pins = readings kind (drive noted Controller) (last_level noted) pins
-
--- the answer to an edge of its own by its rows of the table: E2, E3 or Ok
-abbrev pub answer : Version → Readings → Edge → Judgement
-answer version r e =
-    check (is_other_state (r.own e.wire) e.fall) AlreadyThere
-    (check (rule version r e.wire e.fall e.value).1 (Rule (rule version r e.wire e.fall e.value).0)
-    (Ok tt))

@@ -11,7 +11,8 @@ ghost use Rattle.vme_model.specs.Signals.{is_two, is_grant, grant_level};
 ghost use Rattle.vme_model.specs.Sets.{has_bus_level};
 ghost use Rattle.vme_model.specs.History.{last_level};
 ghost use Rattle.vme_model.specs.Rules.{bus_numbers, pick, is_pick, are_grants_high, is_bus_clear_due, rule};
-ghost use Rattle.vme_arbiter.specs.Local.{state_of, is_own, low, local, over, answer};
+ghost use Rattle.vme_model.specs.Verdict.{ruling};
+ghost use Rattle.vme_arbiter.specs.Local.{state_of, is_own, low, local, over};
 
 use crate::policies::Policy;
 use std::marker::Model;
@@ -40,13 +41,6 @@ impl Model for Controller {
     ghost view = { λ c. record { kind = c.kind; version = c.version; bg0 = c.bg0; bg1 = c.bg1; bg2 = c.bg2; bg3 = c.bg3; bclr = c.bclr; iack = c.iack; berr = c.berr; last_level = c.last_level } };
 
     ghost inverse = { λ s. record { kind = s.kind; version = s.version; bg0 = s.bg0; bg1 = s.bg1; bg2 = s.bg2; bg3 = s.bg3; bclr = s.bclr; iack = s.iack; berr = s.berr; last_level = s.last_level } };
-}
-
-/// Whether these are the rules of the second version.
-fn is_two(version: Version) -> bool
-    ensures { result ≡ is_two version }
-{
-    matches!(version, Version::Two)
 }
 
 impl Controller {
@@ -119,7 +113,7 @@ impl Controller {
     {
         match (edge.wire, edge.fall) {
             (Wire::Bg(_), true) => (1, self.are_grants_high(pins) && !pins.bbsy && is_picked),
-            (Wire::Bg(_), false) => (2, is_two(self.version) || pins.bbsy),
+            (Wire::Bg(_), false) => (2, self.version.is_two() || pins.bbsy),
             (Wire::Bclr, true) => (3, self.is_bus_clear_due(pins)),
             (Wire::Bclr, false) => (4, !self.is_bus_clear_due(pins)),
             (Wire::Iack, true) => (
@@ -137,7 +131,7 @@ impl Controller {
     /// The answer to an edge of its own by the fields, where the policy picks the level of a grant or does not.
     fn judge(&self, edge: Edge, pins: Pins, is_picked: bool) -> Result<(), Refused>
         ensures picked { is_grant edge ≡ true → is_ok result ≡ true → is_picked ≡ true }
-        ensures rows { is_own edge.wire ≡ true → (is_grant edge ≡ true → is_picked ≡ is_pick self.now.kind (has_bus_level pins.requests) self.now.last_level (grant_level edge.wire)) → result ≡ answer self.now.version (local self.now pins) edge }
+        ensures rows { is_own edge.wire ≡ true → (is_grant edge ≡ true → is_picked ≡ is_pick self.now.kind (has_bus_level pins.requests) self.now.last_level (grant_level edge.wire)) → result ≡ ruling self.now.version (local self.now pins) edge }
     {
         if self.is_low(edge.wire) == edge.fall {
             return Err(Refused::AlreadyThere);
@@ -242,7 +236,7 @@ impl<P: Policy> Arbiter<P> {
     /// E2 where the wire is in that state, else E3 where the rule's guard fails.
     pub fn may(&self, edge: Edge, pins: Pins) -> Result<(), Refused>
         ensures picked { is_grant edge ≡ true → is_ok result ≡ true → P.picked self.now.0 pins.requests self.now.1.last_level ≡ Some (grant_level edge.wire) }
-        ensures rows { (kind : KindValue) (version : VersionValue) (noted : List EdgeValue) → self.now.1 ≡ state_of kind version noted → is_own edge.wire ≡ true → (is_grant edge ≡ true → P.picked self.now.0 pins.requests (last_level noted) ≡ pick kind (has_bus_level pins.requests) (last_level noted)) → result ≡ answer version (over kind noted pins) edge }
+        ensures rows { (kind : KindValue) (version : VersionValue) (noted : List EdgeValue) → self.now.1 ≡ state_of kind version noted → is_own edge.wire ≡ true → (is_grant edge ≡ true → P.picked self.now.0 pins.requests (last_level noted) ≡ pick kind (has_bus_level pins.requests) (last_level noted)) → result ≡ ruling version (over kind noted pins) edge }
     {
         let is_picked = self.picks(edge, pins.requests);
         self.controller.judge(edge, pins, is_picked)

@@ -11,7 +11,7 @@ use Rattle.vme_model.specs.History.{drive}
 use Rattle.vme_model.specs.Readings.{readings}
 use Rattle.vme_model.specs.Rules.{rule}
 use Rattle.vme_model.specs.Settling.{settling}
-use Rattle.vme_model.specs.Verdict.{Judgement, check, is_other_state, allowed, settled, judged, verdict_but_full}
+use Rattle.vme_model.specs.Verdict.{Judgement, check, is_other_state, settled, judged, verdict_but_full}
 
 refused_by : (b : Bool) (x r : Refused) (j k : Judgement) → (j ≡ Err r → k ≡ Err r) → check b x j ≡ Err r → check b x k ≡ Err r
 refused_by true x r j k on e = on e
@@ -36,6 +36,9 @@ module _ (version : Version) (p : Plan) (h : List Edge) (e : Edge) where
   abbrev turns : Bool
   turns = is_other_state (drive h e.driver e.wire) e.fall
 
+  abbrev holds : Bool
+  holds = (rule version (readings p h e.driver) e.wire e.fall e.value).1
+
   abbrev broken : Refused
   broken = Rule (rule version (readings p h e.driver) e.wire e.fall e.value).0
 
@@ -43,7 +46,7 @@ module _ (version : Version) (p : Plan) (h : List Edge) (e : Edge) where
   unsettled = NotSettled (settling version p h e.wire e.fall).0
 
   pub refused : (r : Refused) (rest : Judgement) → verdict_but_full version p h e ≡ Err r → judged version p h e rest ≡ Err r
-  refused r rest is = four_refused exists turns (allowed version p h e) (settled version p h e) NoSuchDriver AlreadyThere broken unsettled r rest is
+  refused r rest is = four_refused exists turns holds (settled version p h e) NoSuchDriver AlreadyThere broken unsettled r rest is
 
   pub passed : (rest : Judgement) → verdict_but_full version p h e ≡ Ok tt → judged version p h e rest ≡ rest
-  passed rest is = four_passed exists turns (allowed version p h e) (settled version p h e) NoSuchDriver AlreadyThere broken unsettled rest is
+  passed rest is = four_passed exists turns holds (settled version p h e) NoSuchDriver AlreadyThere broken unsettled rest is

@@ -11,8 +11,10 @@ use Rattle.std.proofs.lemmas.List.Sums.{sum_by-append, count_by-le-length}
 use Rattle.vme_model.specs.declared.sets.ChainId.{ChainId}
 use Rattle.vme_model.specs.declared.signals.Edge.{Edge}
 use Rattle.vme_model.specs.Plan.{Plan, active, is_active, up_to}
+use Rattle.vme_model.specs.Accepted.{IsAccepted}
 use Rattle.vme_model.specs.History.{segment, input as input_after, is_past_end as is_past_end_after}
 use Rattle.vme_model.specs.Settling.{is_chain_clear}
+use Rattle.vme_model.proofs.Ranges.{in_range}
 use Rattle.vme_chain.specs.Segments.{segments_of, input, is_clear, is_past_end}
 
 -- the segments, by what drives them
@@ -149,5 +151,5 @@ few f (suc n) =
     let P : List ℕ → Type 0 = λ xs. length xs ≤ suc n in
     subst P (sym (worked_more f n)) (few_more (f (suc n)) (worked f n) (suc n) n (few f n))
 
-pub holds_every_slot : (p : Plan) (c : ChainId) → p.slots ≤ 21 → take 21 (active p c) ≡ active p c
-holds_every_slot p c most = take_all 21 (active p c) (let short = few (is_active p.rows c) p.slots in omega (arith, short, most))
+pub holds_every_slot : (p : Plan) (c : ChainId) → IsAccepted p → take 21 (active p c) ≡ active p c
+holds_every_slot p c ok = take_all 21 (active p c) (let short = few (is_active p.rows c) p.slots in let most = (in_range p ok).most in omega (arith, short, most))

@@ -1,8 +1,9 @@
 //! A chain whose segments are those of a history is read as the definitions read the history.
-ghost use Rattle.std.specs.Prelude.{◌≡◌, ◌≤◌, ℕ, List, take};
+ghost use Rattle.std.specs.Prelude.{◌≡◌, ℕ, List, take};
 ghost use Rattle.vme_model.specs.declared.sets.ChainId.{ChainId};
 ghost use Rattle.vme_model.specs.declared.signals.Edge.{Edge};
 ghost use Rattle.vme_model.specs.Plan.{Plan, active};
+ghost use Rattle.vme_model.specs.Accepted.{IsAccepted};
 ghost use Rattle.vme_model.specs.History.{input as input_after, is_past_end as is_past_end_after};
 ghost use Rattle.vme_model.specs.Settling.{is_chain_clear};
 ghost use Rattle.vme_chain.specs.Segments.{segments_of, input, is_clear, is_past_end};
@@ -22,7 +23,7 @@ pub fn reads_the_end()
     ensures { (p : Plan) (h : List Edge) (c : ChainId) → is_past_end (segments_of p h c) ≡ is_past_end_after p h c }
 {}
 
-/// A backplane of at most 21 slots has no more that work a chain.
+/// An accepted plan has at most 21 slots, and so no more that work a chain.
 pub fn holds_every_slot()
-    ensures { (p : Plan) (c : ChainId) → p.slots ≤ 21 → take 21 (active p c) ≡ active p c }
+    ensures { (p : Plan) (c : ChainId) → IsAccepted p → take 21 (active p c) ≡ active p c }
 {}

@@ -1,5 +1,5 @@
 -- A replay, read by read.
-use Rattle.std.proofs.Common.{◌≡◌, ◌≢◌, ◌⊎◌, inl, inr, ℕ, ◌+◌, ◌-◌, ◌*◌, ◌^◌, ◌≤◌, List, [], ◌++◌, length, Bool, true, false, Option, Some, None, unwrap_or, Result, Ok, Err, refl, sym, ◌∙◌, ap, append_assoc, append-nil, subst, arith, if◌then◌else◌, ◌==◌, option_map}
+use Rattle.std.proofs.Common.{◌≡◌, ◌≢◌, ◌⊎◌, inl, inr, ℕ, ◌+◌, ◌-◌, ◌*◌, ◌^◌, ◌≤◌, List, [], ◌++◌, length, Bool, true, false, Option, Some, None, unwrap_or, Result, Ok, Err, refl, sym, ◌∙◌, ap, append_assoc, append-nil, subst, arith, option_map}
 use Rattle.std.proofs.Math.ListN.{length-append}
 use Rattle.std.specs.Io.KnownBytes.{Appends, Consumes, IsAtEnd, Keeps}
 use Rattle.std.proofs.KnownBytes.{Appends-trans, Appends-kept, Consumes-trans, Consumes-kept}
@@ -8,16 +8,15 @@ use Rattle.vme_model.specs.declared.signals.Edge.{Edge}
 use Rattle.vme_model.specs.Plan.{Plan}
 use Rattle.vme_model.specs.Verdict.{State, kept}
 use Rattle.vme_model.specs.Text.{Reading, TextFault, no_header, no_edge, too_long, cut_off, read_of}
-use Rattle.vme_model.specs.Report.{report, report_of, verdict_lines, closing, accepted_count}
+use Rattle.vme_model.specs.Report.{report, report_of, verdict_lines, closing_text, closing, accepted_count}
 use Rattle.vme_trace.specs.declared.Fault.{Fault}
 use Rattle.vme_trace.specs.declared.Fault.TheVariants.{Header, Line, TooLong, CutOff, Read, Memory, Failed, Write}
 use Rattle.vme_trace.specs.Reading as trace
 use Rattle.vme_trace.specs.Writing.{AppendsFront}
 use Rattle.vme_engines.specs.declared.Status.{Status}
-use Rattle.vme_engines.specs.declared.Status.TheVariants.{Done, SomeRefused}
 use Rattle.vme_engines.specs.Streams.{Streams, streams, IsInput, Wrote}
-use Rattle.vme_engines.specs.Outcomes.{bench, lines_of, refused_count, HasFault, ReplayStops, Replays}
-use Rattle.vme_engines.specs.Steps.{IsBounded, IsCounted, Begins, Faults, Comes, closing_text, ending, piece_text, status_at, TakesPiece, traced}
+use Rattle.vme_engines.specs.Outcomes.{bench, lines_of, refused_count, status_with, HasFault, ReplayStops, Replays}
+use Rattle.vme_engines.specs.Steps.{IsBounded, IsCounted, Begins, Faults, Comes, ending, piece_text, TakesPiece, traced}
 use Rattle.vme_engines.proofs.Writing.{front_of_all, front_of_more, front_behind, lines_append, kept_append}
 use Rattle.vme_engines.proofs.Known.{reads_on, few_edges, unknown_version}
 
@@ -279,11 +278,11 @@ module _ (p : Plan) (v : Version) (text head : List ℕ) (from to old mid new : 
       rw whole (ap (λ n. closing_text n (length r.edges - accepted_count (bench p v) r.edges)) accepted ∙ ap (closing_text (length (kept b fs).history)) refused)
 
   status_is : (r : Reading) (w : Option Version) → w ≡ Some v → r.edges ≡ es ++ fs
-      → (if refused_count p w r.edges == 0 then Done else SomeRefused) ≡ status_at (judged + length fs) (length (kept b fs).history)
+      → status_with (refused_count p w r.edges) ≡ status_with (judged + length fs - length (kept b fs).history)
   status_is r w e edges =
       let accepted : accepted_count (bench p v) r.edges ≡ length (kept b fs).history = ap (λ l. length (kept (bench p v) l).history - 0) edges ∙ ap (λ s. length s.history - 0) all_kept ∙ omega arith in
       let refused : length r.edges - accepted_count (bench p v) r.edges ≡ judged + length fs - length (kept b fs).history = ap (λ l. length l - accepted_count (bench p v) r.edges) edges ∙ ap (λ n. length (es ++ fs) - n) accepted ∙ ap (λ n. n - length (kept b fs).history) (sym all_count) in
-      rw e (ap (λ n. if n == 0 then Done else SomeRefused) refused)
+      rw e (ap status_with refused)
 
   report_is : (all : List ℕ) → (read_of all).version ≡ Some v → (read_of all).edges ≡ es ++ fs → (read_of all).fault ≡ None
       → report p all ≡ verdict_lines (bench p v) 1 es ++ piece_text b judged fs (Ok false)

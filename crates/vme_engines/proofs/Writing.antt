@@ -7,10 +7,10 @@ use Rattle.std.proofs.KnownBytes.{Appends-trans, Appends-nil, Appends-kept}
 use Rattle.vme_model.specs.declared.signals.Edge.{Edge}
 use Rattle.vme_model.specs.Verdict.{State, after, kept}
 use Rattle.vme_model.specs.Deliveries.{answer}
-use Rattle.vme_model.specs.Report.{verdict_line, verdict_lines}
+use Rattle.vme_model.specs.Report.{verdict_line, verdict_lines, closing_text}
 use Rattle.vme_trace.specs.declared.Fault.{Fault}
 use Rattle.vme_trace.specs.Writing.{AppendsFront}
-use Rattle.vme_engines.specs.Steps.{closing_text, piece_text}
+use Rattle.vme_engines.specs.Steps.{piece_text}
 
 -- all is a front of itself
 pub front_of_all : (a b : Option (List ℕ)) (x : List ℕ) → Appends a b x → AppendsFront a b x

@@ -46,8 +46,12 @@ abbrev pub refused_count : Plan → Option Version → List Edge → ℕ
 refused_count p None es = 0
 refused_count p (Some version) es = length es - accepted_count (bench p version) es
 
+-- the status of a replay that refused so many edges
+abbrev pub status_with : ℕ → Status
+status_with refused = if refused == 0 then Done else SomeRefused
+
 abbrev pub status_of : Plan → Reading → Status
-status_of p r = if refused_count p r.version r.edges == 0 then Done else SomeRefused
+status_of p r = status_with (refused_count p r.version r.edges)
 
 -- a trace with this fault
 abbrev pub HasFault : List ℕ → Fault → Type 0

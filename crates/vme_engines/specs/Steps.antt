@@ -1,12 +1,12 @@
 -- The words of the contracts between an engine's functions.
-use Rattle.std.specs.Prelude.{◌≡◌, ◌≢◌, ◌==◌, ◌<◌, ◌≤◌, ◌⊎◌, ◌+◌, if◌then◌else◌, ◌-◌, ◌*◌, ◌^◌, ◌++◌, ◌∷◌, [], ℕ, Bool, true, false, List, length, codes, decimal, Option, Some, None, unwrap_or, Result, Ok, Err}
+use Rattle.std.specs.Prelude.{◌≡◌, ◌≢◌, ◌<◌, ◌≤◌, ◌⊎◌, ◌+◌, ◌-◌, ◌*◌, ◌^◌, ◌++◌, [], ℕ, Bool, true, false, List, length, Option, Some, None, unwrap_or, Result, Ok, Err}
 use Rattle.std.specs.Io.KnownBytes.{Appends, Consumes, IsAtEnd}
 use Rattle.vme_model.specs.declared.signals.Version.{Version}
 use Rattle.vme_model.specs.declared.signals.Edge.{Edge}
 use Rattle.vme_model.specs.Plan.{Plan}
 use Rattle.vme_model.specs.Verdict.{State, kept, IsLegal}
 use Rattle.vme_model.specs.Text.{Reading, read_of}
-use Rattle.vme_model.specs.Report.{verdict_lines}
+use Rattle.vme_model.specs.Report.{verdict_lines, closing_text}
 use Rattle.vme_scenario.specs.Format.{scenario}
 use Rattle.vme_scenario.specs.Errors.{IsErrorOf}
 use Rattle.vme_trace.specs.declared.Fault.{Fault}
@@ -14,13 +14,12 @@ use Rattle.vme_trace.specs.declared.Fault.TheVariants.{Read, Write}
 use Rattle.vme_trace.specs.Reading as trace
 use Rattle.vme_trace.specs.Writing.{AppendsFront}
 use Rattle.vme_engines.specs.declared.Status.{Status}
-use Rattle.vme_engines.specs.declared.Status.TheVariants.{Done, SomeRefused}
 use Rattle.vme_engines.specs.declared.EngineFault.{EngineFault}
 use Rattle.vme_engines.specs.declared.EngineFault.TheVariants as fault
 use Rattle.vme_engines.specs.Streams.{streams, IsInput}
 use Rattle.vme_engines.specs.declared.checks.Finding.{Finding}
 use Rattle.vme_engines.specs.declared.checks.Finding.TheVariants.{Legal, Illegal}
-use Rattle.vme_engines.specs.Outcomes.{Answer, scenario_limit, bench, Replays}
+use Rattle.vme_engines.specs.Outcomes.{Answer, scenario_limit, bench, status_with, Replays}
 use Rattle.vme_engines.specs.Checking.{first_refusal, IsFound, FindsNothing}
 
 -- why there is no plan
@@ -77,9 +76,6 @@ Opens from to reader es (answer, left) = Comes from to [] [] left reader es answ
 
 -- ---- replay
 
-abbrev pub closing_text : ℕ → ℕ → List ℕ
-closing_text accepted refused = ((codes "accepted " ++ decimal accepted) ++ codes " refused ") ++ decimal refused ++ 10 ∷ []
-
 -- what stands behind the verdicts of a piece: the closing line at the end of the trace
 abbrev pub ending : Result Bool Fault → ℕ → ℕ → List ℕ
 ending (Ok true) judged accepted = []
@@ -90,15 +86,12 @@ ending (Err f) judged accepted = []
 abbrev pub piece_text : State → ℕ → List Edge → Result Bool Fault → List ℕ
 piece_text b judged es more = verdict_lines b (judged + 1) es ++ ending more (judged + length es) (length (kept b es).history)
 
-abbrev pub status_at : ℕ → ℕ → Status
-status_at judged accepted = if (judged - accepted) == 0 then Done else SomeRefused
-
 -- What the edges of a piece do to a replay: `more` is what the read answered.
 abbrev pub TakesPiece : State → ℕ → List Edge → Result Bool Fault → Option (List ℕ) → Option (List ℕ) → State → ℕ → Result (Option Status) Fault → Type 0
 TakesPiece b judged es more old new b' judged' (Ok None) =
     (more ≡ Ok true) × Appends old new (piece_text b judged es more) × (b' ≡ kept b es) × (judged' ≡ judged + length es)
 TakesPiece b judged es more old new b' judged' (Ok (Some status)) =
-    (more ≡ Ok false) × Appends old new (piece_text b judged es more) × (status ≡ status_at (judged + length es) (length (kept b es).history))
+    (more ≡ Ok false) × Appends old new (piece_text b judged es more) × (status ≡ status_with (judged + length es - length (kept b es).history))
 TakesPiece b judged es more old new b' judged' (Err f) =
     ((more ≡ Err f) × Appends old new (piece_text b judged es more)) ⊎ ((f ≡ Write) × AppendsFront old new (piece_text b judged es more))
 

@@ -1,7 +1,7 @@
 //! Letting the drivers of a backplane make edges in turn.
-ghost use Rattle.std.specs.Prelude.{◌≡◌, ◌==◌, OnOk, OnErr, IfErr, is_some, length, if◌then◌else◌};
+ghost use Rattle.std.specs.Prelude.{◌≡◌, ◌==◌, OnOk, OnErr, IfErr, length, if◌then◌else◌};
 ghost use Rattle.std.specs.Io.KnownBytes.{Appends, Keeps};
-ghost use Rattle.vme_model.specs.Plan.{board, drivers};
+ghost use Rattle.vme_model.specs.Plan.{drivers};
 ghost use Rattle.vme_model.specs.History.{in_order};
 ghost use Rattle.vme_model.specs.Offers.{turn, turns, rounds};
 ghost use Rattle.vme_model.specs.Text.{text, edge_lines};
@@ -24,13 +24,6 @@ use vme_trace::{Fault, line_of, put};
 /// The most drivers of a plan: the controller and 21 boards.
 const DRIVERS: usize = 22;
 
-/// Whether there is a board in the slot.
-fn has_board(plan: &Plan, slot: u8) -> bool
-    ensures { result ≡ is_some (board plan.now slot) }
-{
-    plan.row(slot).is_some()
-}
-
 /// The drivers of a plan: the controller, then each board by slot.
 fn drivers_of(plan: &Plan) -> ArrayVec<Driver, DRIVERS>
     ensures { result.items ≡ drivers plan.now }
@@ -40,7 +33,7 @@ fn drivers_of(plan: &Plan) -> ArrayVec<Driver, DRIVERS>
     drivers.push(Driver::Controller);
     for below in 0..plan.slots() {
         let slot = below + 1;
-        if has_board(plan, slot) {
+        if plan.has_board(slot) {
             drivers.push(Driver::Slot(slot));
         }
     }

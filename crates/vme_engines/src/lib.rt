@@ -24,9 +24,6 @@ use vme_trace::Fault;
 /// The greatest scenario, in bytes.
 pub const SCENARIO_LIMIT: usize = 1_048_576;
 
-/// The most edges that a replay keeps, and the most that `drive` makes.
-pub const TRACE_LIMIT: u32 = 1_048_576;
-
 /// The most reads of one engine.
 pub const READS: u32 = 16_777_216;
 

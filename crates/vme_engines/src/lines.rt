@@ -4,11 +4,10 @@ ghost use Rattle.std.specs.Io.KnownBytes.{Appends, Keeps};
 ghost use Rattle.arrayvec.specs.ArrayVec.{array_vec_len};
 ghost use Rattle.vme_model.specs.Verdict.{kept};
 ghost use Rattle.vme_model.specs.Deliveries.{answer};
-ghost use Rattle.vme_model.specs.Report.{delivery_text, verdict_text, verdict_line, verdict_lines};
+ghost use Rattle.vme_model.specs.Report.{delivery_text, verdict_text, verdict_line, verdict_lines, closing_text};
 ghost use Rattle.vme_trace.specs.Writing.{AppendsFront};
 ghost use Rattle.vme_model.specs.Text.{header};
 ghost use Rattle.vme_engines.specs.Checking.{finding_line};
-ghost use Rattle.vme_engines.specs.Steps.{closing_text};
 
 use crate::checks::Finding;
 use crate::counts::Count;

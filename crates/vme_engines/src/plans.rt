@@ -6,10 +6,11 @@ ghost use Rattle.vme_model.specs.Report.{trace_limit};
 ghost use Rattle.vme_scenario.specs.Format.{scenario};
 ghost use Rattle.vme_engines.specs.Steps.{IsNoPlan};
 
-use crate::{EngineFault, SCENARIO_LIMIT, TRACE_LIMIT};
+use crate::{EngineFault, SCENARIO_LIMIT};
 use std::alloc::Global;
 use vme_arena::Region;
 use vme_backplane::Trace;
+use vme_model::TRACE_LIMIT;
 use vme_slots::Plan;
 
 /// The plan of a scenario's text.

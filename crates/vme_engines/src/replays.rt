@@ -1,10 +1,9 @@
 //! Replaying a trace: a verdict on each edge, and the closing line.
-ghost use Rattle.std.specs.Prelude.{◌≡◌, ◌-◌, ◌+◌, ◌<◌, ◌^◌, ◌==◌, [], Ok, true, length, if◌then◌else◌};
+ghost use Rattle.std.specs.Prelude.{◌≡◌, ◌+◌, ◌<◌, ◌^◌, [], Ok, true, length};
 ghost use Rattle.vme_model.specs.Report.{trace_limit};
-ghost use Rattle.vme_engines.specs.declared.Status.TheVariants.{Done, SomeRefused};
 ghost use Rattle.vme_engines.specs.Streams.{streams, ReadNothing, WroteNothing};
-ghost use Rattle.vme_engines.specs.Outcomes.{Lent, ReplaysInput};
-ghost use Rattle.vme_engines.specs.Steps.{IsCounted, TakesPiece, ReplaysOn, status_at, traced};
+ghost use Rattle.vme_engines.specs.Outcomes.{Lent, ReplaysInput, status_with};
+ghost use Rattle.vme_engines.specs.Steps.{IsCounted, TakesPiece, ReplaysOn, traced};
 
 use crate::lines::{close, flush, write_verdicts};
 use crate::plans::{history_region, history_room, plan_of};
@@ -19,7 +18,7 @@ use vme_trace::{Fault, Reader, pump};
 
 /// The status of a replay with so many refused edges.
 fn status_of(refused: u64) -> Status
-    ensures { result ≡ (if refused == 0 then Done else SomeRefused) }
+    ensures { result ≡ status_with refused }
 {
     if refused == 0 {
         Status::Done

@@ -15,8 +15,8 @@ use Rattle.vme_model.specs.declared.refusals.Refused.TheVariants.{AlreadyThere, 
 use Rattle.vme_model.specs.declared.signals.Edge.{Edge}
 use Rattle.vme_model.specs.History.{drive}
 use Rattle.vme_model.specs.Rules.{is_passed_by, may_answer}
-use Rattle.vme_model.specs.Verdict.{Judgement, check, is_other_state}
-use Rattle.vme_interrupter.specs.Local.{Noted, State, edges, state_of, is_own, local, over, ruling_on, answer}
+use Rattle.vme_model.specs.Verdict.{Judgement, check, is_other_state, ruling, ruling_on}
+use Rattle.vme_interrupter.specs.Local.{Noted, State, edges, state_of, is_own, local, over}
 
 abbrev edge : Driver → Wire → Bool → Option Cycle → Edge
 edge d w f v = record { driver = d; wire = w; fall = f; value = v }
@@ -40,7 +40,7 @@ after s noted w rest = check (is_other_state (drive (edges noted) (Slot s) w) tr
 
 -- one rule names a wire and a direction, in both versions
 by_parts : (version : Version) (s : ℕ) (row : Option InterrupterRow) (noted : List Noted) (pins : Pins) (d : Driver) (w : Wire) (f : Bool) (v : Option Cycle) → is_own w ≡ true →
-    answer One (local (state_of s row noted) pins) (edge d w f v) ≡ answer version (over s row noted pins) (edge d w f v)
+    ruling One (local (state_of s row noted) pins) (edge d w f v) ≡ ruling version (over s row noted pins) (edge d w f v)
 by_parts version s row noted pins d Irq true v own = refl
 by_parts version s row noted pins d Irq false v own = refl
 by_parts version s row noted pins d IackOut true v own =
@@ -53,9 +53,9 @@ by_parts version s row noted pins d w f v own = absurd (cc)
 
 -- a state that a list leads to answers as the list says
 pub answers_over : (version : Version) (state : State) (noted : List Noted) (pins : Pins) (e : Edge) → state ≡ state_of state.slot state.row noted → is_own e.wire ≡ true →
-    answer One (local state pins) e ≡ answer version (over state.slot state.row noted pins) e
+    ruling One (local state pins) e ≡ ruling version (over state.slot state.row noted pins) e
 answers_over version state noted pins e same own =
-    let P : State → Type 0 = λ i. answer One (local i pins) e ≡ answer version (over state.slot state.row noted pins) e in
+    let P : State → Type 0 = λ i. ruling One (local i pins) e ≡ ruling version (over state.slot state.row noted pins) e in
     subst P (sym same) (by_parts version state.slot state.row noted pins e.driver e.wire e.fall e.value own)
 
 -- the same of an edge of the wire x, which is w

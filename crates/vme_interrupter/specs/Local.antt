@@ -1,11 +1,8 @@
 -- An interrupter's local state, and what its rules read. A list of noted edges has its newest edge first.
-use Rattle.std.specs.Prelude.{◌&&◌, ◌||◌, if◌then◌else◌, ℕ, Bool, true, false, Option, Some, None, Ok, List, [], ◌∷◌, map}
+use Rattle.std.specs.Prelude.{◌&&◌, ◌||◌, if◌then◌else◌, ℕ, Bool, true, false, Option, Some, None, List, [], ◌∷◌, map}
 use Rattle.std.specs.Option.{option_map_or}
 use Rattle.vme_model.specs.declared.boards.InterrupterRow.{InterrupterRow}
-use Rattle.vme_model.specs.declared.boards.ArbiterKind.TheVariants.{Sgl}
 use Rattle.vme_model.specs.declared.pins.Pins.{Pins}
-use Rattle.vme_model.specs.declared.refusals.Refused.TheVariants.{AlreadyThere, Rule}
-use Rattle.vme_model.specs.declared.signals.Version.{Version}
 use Rattle.vme_model.specs.declared.signals.Driver.{Driver}
 use Rattle.vme_model.specs.declared.signals.Driver.TheVariants.{Slot}
 use Rattle.vme_model.specs.declared.signals.Wire.{Wire}
@@ -13,12 +10,10 @@ use Rattle.vme_model.specs.declared.signals.Wire.TheVariants.{Irq, IackOut, Dtac
 use Rattle.vme_model.specs.declared.signals.Cycle.{Cycle}
 use Rattle.vme_model.specs.declared.signals.Edge.{Edge}
 use Rattle.vme_model.specs.Signals.{is_fall_of}
-use Rattle.vme_model.specs.Sets.{has_bus_level, has_level, no_levels}
+use Rattle.vme_model.specs.Sets.{no_levels}
 use Rattle.vme_model.specs.Plan.{Plan}
 use Rattle.vme_model.specs.History.{drive, serves, shown}
-use Rattle.vme_model.specs.Readings.{Readings}
-use Rattle.vme_model.specs.Rules.{rule}
-use Rattle.vme_model.specs.Verdict.{Judgement, check, is_other_state}
+use Rattle.vme_model.specs.Readings.{Readings, readings_of_pins}
 
 -- what `note` is handed: an edge, and what was shown just before it
 abbrev pub Noted : Type 0
@@ -74,23 +69,9 @@ low i _ = false
 
 -- what its rules read: its own wires, whether it was served, its pins, and its row
 abbrev pub readings : ℕ → Option InterrupterRow → (Wire → Bool) → Bool → Pins → Readings
-readings s row own is_served pins = record {
+readings s row own is_served pins = record (readings_of_pins pins) {
   own = own;
-  request = has_bus_level pins.requests;
-  irq = has_level pins.irq;
-  bbsy = pins.bbsy;
-  address_strobe = pins.address_strobe;
-  data_strobe = pins.data_strobe;
-  dtack = pins.dtack;
-  berr = pins.berr;
-  shown = pins.shown;
-  grant_in = pins.grant_in;
-  iack_in = pins.iack_in;
-  last_level = 0;
-  cycles = 0;
-  has_strobed = false;
   served_since_request = is_served;
-  arbiter = Sgl;
   board = Some (record { slot = s; requester = None; interrupter = row; handler = no_levels });
 }
 
@@ -101,16 +82,6 @@ local i pins = readings i.slot i.row (low i) i.is_served pins
 -- what its rules read, over the edges that were noted
 abbrev pub over : ℕ → Option InterrupterRow → List Noted → Pins → Readings
 over s row noted pins = readings s row (drive (edges noted) (Slot s)) (served noted (Slot s) row) pins
-
--- the answer to an edge of a wire of its own by its rows of the table: E2, E3 or Ok
-abbrev pub ruling_on : Version → Readings → Wire → Bool → Option Cycle → Judgement
-ruling_on version r w fall v =
-    check (is_other_state (r.own w) fall) AlreadyThere
-    (check (rule version r w fall v).1 (Rule (rule version r w fall v).0)
-    (Ok tt))
-
-abbrev pub answer : Version → Readings → Edge → Judgement
-answer version r e = ruling_on version r e.wire e.fall e.value
 
 -- a history as an interrupter notes it that is handed each edge
 abbrev pub seen : Plan → List Edge → List Noted

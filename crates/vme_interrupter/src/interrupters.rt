@@ -9,8 +9,8 @@ ghost use Rattle.vme_model.specs.declared.signals.Version.{Version};
 ghost use Rattle.vme_model.specs.declared.signals.Version.TheVariants.{One};
 ghost use Rattle.vme_model.specs.Readings.{is_pending};
 ghost use Rattle.vme_model.specs.Rules.{is_passed_by, may_answer, rule};
-ghost use Rattle.vme_model.specs.Verdict.{check};
-ghost use Rattle.vme_interrupter.specs.Local.{Noted, state_of, serves_board, is_own, low, local, over, ruling_on, answer};
+ghost use Rattle.vme_model.specs.Verdict.{check, ruling, ruling_on};
+ghost use Rattle.vme_interrupter.specs.Local.{Noted, state_of, serves_board, is_own, low, local, over};
 
 use std::marker::Model;
 use vme_model::{Cycle, Driver, Edge, InterrupterRow, IrqKind, Pins, Refused, Wire};
@@ -194,7 +194,7 @@ impl Interrupter {
     /// # Errors
     /// E2 where the wire is in that state, else E3 where the rule's guard fails.
     pub fn may(&self, edge: Edge, pins: Pins) -> Result<(), Refused>
-        ensures { (version : Version) (noted : List Noted) → self.now ≡ state_of self.now.slot self.now.row noted → is_own edge.wire ≡ true → result ≡ answer version (over self.now.slot self.now.row noted pins) edge }
+        ensures { (version : Version) (noted : List Noted) → self.now ≡ state_of self.now.slot self.now.row noted → is_own edge.wire ≡ true → result ≡ ruling version (over self.now.slot self.now.row noted pins) edge }
     {
         match edge.wire {
             Wire::Irq => self.may_request(edge.fall),

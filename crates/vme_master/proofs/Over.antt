@@ -14,13 +14,14 @@ use Rattle.vme_model.specs.declared.signals.Cycle.{Cycle}
 use Rattle.vme_model.specs.declared.signals.Edge.{Edge}
 use Rattle.vme_model.specs.History.{cycles}
 use Rattle.vme_master.proofs.Counts.{below_burst}
-use Rattle.vme_master.specs.Local.{State, state_of, is_own, local, over, ruling_on, answer}
+use Rattle.vme_model.specs.Verdict.{ruling, ruling_on}
+use Rattle.vme_master.specs.Local.{State, state_of, is_own, local, over}
 
 abbrev edge : Driver → Wire → Bool → Option Cycle → Edge
 edge d w f v = record { driver = d; wire = w; fall = f; value = v }
 
 by_parts : (version : Version) (s : ℕ) (row : RequesterRow) (handler : Levels) (noted : List Edge) (pins : Pins) (holds_bus : Bool) (d : Driver) (w : Wire) (f : Bool) (v : Option Cycle) → is_own w ≡ true →
-    answer One (local (state_of s row handler noted) pins holds_bus) (edge d w f v) ≡ answer version (over s row handler noted pins holds_bus) (edge d w f v)
+    ruling One (local (state_of s row handler noted) pins holds_bus) (edge d w f v) ≡ ruling version (over s row handler noted pins holds_bus) (edge d w f v)
 by_parts version s row handler noted pins holds_bus d Addr true v own = rw (below_burst (cycles noted (Slot s)) row.release) refl
 by_parts version s row handler noted pins holds_bus d Addr false v own = refl
 by_parts version s row handler noted pins holds_bus d AddressStrobe true v own = refl
@@ -31,9 +32,9 @@ by_parts version s row handler noted pins holds_bus d w f v own = absurd (cc)
 
 -- a state that a list leads to answers as the list says
 pub answers_over : (version : Version) (state : State) (noted : List Edge) (pins : Pins) (holds_bus : Bool) (e : Edge) → state ≡ state_of state.slot state.row state.handler noted → is_own e.wire ≡ true →
-    answer One (local state pins holds_bus) e ≡ answer version (over state.slot state.row state.handler noted pins holds_bus) e
+    ruling One (local state pins holds_bus) e ≡ ruling version (over state.slot state.row state.handler noted pins holds_bus) e
 answers_over version state noted pins holds_bus e same own =
-    let P : State → Type 0 = λ m. answer One (local m pins holds_bus) e ≡ answer version (over state.slot state.row state.handler noted pins holds_bus) e in
+    let P : State → Type 0 = λ m. ruling One (local m pins holds_bus) e ≡ ruling version (over state.slot state.row state.handler noted pins holds_bus) e in
     subst P (sym same) (by_parts version state.slot state.row state.handler noted pins holds_bus e.driver e.wire e.fall e.value own)
 
 -- the same of an edge of the wire x, which is w

@@ -1,23 +1,17 @@
 -- A master's local state, and what its rules read. A list of noted edges has its newest edge first.
-use Rattle.std.specs.Prelude.{ℕ, Bool, true, false, Option, Some, None, Ok, List, min}
+use Rattle.std.specs.Prelude.{ℕ, Bool, true, false, Some, None, List, min}
 use Rattle.vme_model.specs.declared.boards.RequesterRow.{RequesterRow}
 use Rattle.vme_model.specs.declared.boards.Release.{Release}
 use Rattle.vme_model.specs.declared.boards.Release.TheVariants.{Done, Request}
-use Rattle.vme_model.specs.declared.boards.ArbiterKind.TheVariants.{Sgl}
 use Rattle.vme_model.specs.declared.pins.Pins.{Pins}
-use Rattle.vme_model.specs.declared.refusals.Refused.TheVariants.{AlreadyThere, Rule}
 use Rattle.vme_model.specs.declared.sets.Levels.{Levels}
-use Rattle.vme_model.specs.declared.signals.Version.{Version}
 use Rattle.vme_model.specs.declared.signals.Driver.TheVariants.{Slot}
 use Rattle.vme_model.specs.declared.signals.Wire.{Wire}
 use Rattle.vme_model.specs.declared.signals.Wire.TheVariants.{Bbsy, Addr, AddressStrobe, DataStrobe}
 use Rattle.vme_model.specs.declared.signals.Cycle.{Cycle}
 use Rattle.vme_model.specs.declared.signals.Edge.{Edge}
-use Rattle.vme_model.specs.Sets.{has_bus_level, has_level}
 use Rattle.vme_model.specs.History.{drive, cycles, has_strobed}
-use Rattle.vme_model.specs.Readings.{Readings}
-use Rattle.vme_model.specs.Rules.{rule}
-use Rattle.vme_model.specs.Verdict.{Judgement, check, is_other_state}
+use Rattle.vme_model.specs.Readings.{Readings, readings_of_pins}
 
 -- what a master keeps: where it stands, which of its wires are low (the address group: on), its cycles, and its data strobe
 pub record State : Type 0 where
@@ -71,23 +65,10 @@ told own holds_bus w = own w
 
 -- what its rules read: its own wires, its pins, its board, its cycles, its data strobe, and what it is told
 abbrev pub readings : ℕ → RequesterRow → Levels → (Wire → Bool) → ℕ → Bool → Pins → Bool → Readings
-readings s row handler own cycles has_strobed pins holds_bus = record {
+readings s row handler own cycles has_strobed pins holds_bus = record (readings_of_pins pins) {
   own = told own holds_bus;
-  request = has_bus_level pins.requests;
-  irq = has_level pins.irq;
-  bbsy = pins.bbsy;
-  address_strobe = pins.address_strobe;
-  data_strobe = pins.data_strobe;
-  dtack = pins.dtack;
-  berr = pins.berr;
-  shown = pins.shown;
-  grant_in = pins.grant_in;
-  iack_in = pins.iack_in;
-  last_level = 0;
   cycles = cycles;
   has_strobed = has_strobed;
-  served_since_request = false;
-  arbiter = Sgl;
   board = Some (record { slot = s; requester = Some row; interrupter = None; handler = handler });
 }
 
@@ -99,13 +80,3 @@ local m pins holds_bus = readings m.slot m.row m.handler (low m) m.cycles m.has_
 abbrev pub over : ℕ → RequesterRow → Levels → List Edge → Pins → Bool → Readings
 over s row handler noted pins holds_bus =
     readings s row handler (drive noted (Slot s)) (cycles noted (Slot s)) (has_strobed noted (Slot s)) pins holds_bus
-
--- the answer to an edge of a wire of its own by its rows of the table: E2, E3 or Ok
-abbrev pub ruling_on : Version → Readings → Wire → Bool → Option Cycle → Judgement
-ruling_on version r w fall v =
-    check (is_other_state (r.own w) fall) AlreadyThere
-    (check (rule version r w fall v).1 (Rule (rule version r w fall v).0)
-    (Ok tt))
-
-abbrev pub answer : Version → Readings → Edge → Judgement
-answer version r e = ruling_on version r e.wire e.fall e.value

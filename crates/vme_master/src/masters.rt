@@ -7,8 +7,8 @@ ghost use Rattle.vme_model.specs.declared.signals.Version.TheVariants.{One};
 ghost use Rattle.vme_model.specs.declared.signals.Cycle.{Cycle as CycleValue};
 ghost use Rattle.vme_model.specs.declared.signals.Edge.{Edge as EdgeValue};
 ghost use Rattle.vme_model.specs.Rules.{is_below_burst, may_show, rule};
-ghost use Rattle.vme_model.specs.Verdict.{check};
-ghost use Rattle.vme_master.specs.Local.{state_of, most_cycles, is_own, low, local, over, ruling_on, answer};
+ghost use Rattle.vme_model.specs.Verdict.{check, ruling, ruling_on};
+ghost use Rattle.vme_master.specs.Local.{state_of, most_cycles, is_own, low, local, over};
 
 use std::marker::Model;
 use vme_model::{Cycle, Driver, Edge, Levels, Pins, Refused, Release, RequesterRow, Wire};
@@ -178,7 +178,7 @@ impl Master {
     /// # Errors
     /// E2 where the wire is in that state, else E3 where the rule's guard fails.
     pub fn may(&self, edge: Edge, pins: Pins, holds_bus: bool) -> Result<(), Refused>
-        ensures { (version : Version) (noted : List EdgeValue) → self.now ≡ state_of self.now.slot self.now.row self.now.handler noted → is_own edge.wire ≡ true → result ≡ answer version (over self.now.slot self.now.row self.now.handler noted pins holds_bus) edge }
+        ensures { (version : Version) (noted : List EdgeValue) → self.now ≡ state_of self.now.slot self.now.row self.now.handler noted → is_own edge.wire ≡ true → result ≡ ruling version (over self.now.slot self.now.row self.now.handler noted pins holds_bus) edge }
     {
         match edge.wire {
             Wire::Addr => self.may_address(edge.fall, edge.value, &pins, holds_bus),

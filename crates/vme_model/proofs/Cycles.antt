@@ -17,7 +17,7 @@ use Rattle.vme_model.specs.declared.signals.Wire.{Wire}
 use Rattle.vme_model.specs.declared.signals.Wire.TheVariants.{Iack, Berr, Bbsy, Addr, AddressStrobe, DataStrobe, IackOut, Dtack}
 use Rattle.vme_model.specs.Signals.{is_two}
 use Rattle.vme_model.specs.Plan.{Plan, board, drives, works, upstream, last_active, active}
-use Rattle.vme_model.specs.History.{drive, line, segment, input, shown, has_strobed}
+use Rattle.vme_model.specs.History.{drive, pulls_line, line, segment, input, shown, has_strobed}
 use Rattle.vme_model.specs.Readings.{readings, iack_in}
 use Rattle.vme_model.specs.Rules.{is_passed_by, may_answer}
 use Rattle.vme_model.specs.Settling.{is_unanswerable}
@@ -83,7 +83,7 @@ line_shows : (p : Plan) → IsInRange p → (h : List Edge) (w : Wire) (s : ℕ)
 line_shows p range h w s o low =
     let b = has_row p (drives w) s o in
     let f = found_row (IsRowInRange p) p.rows s b.row range.rows b.is_board in
-    f.passes (λ r. drives w r && drive h (Slot r.slot) w) (both (drives w b.row) (drive h (Slot b.row.slot) w) b.passes (subst (λ x. drive h (Slot x) w ≡ true) (sym f.slot) low))
+    f.passes (pulls_line h w) (both (drives w b.row) (drive h (Slot b.row.slot) w) b.passes (subst (λ x. drive h (Slot x) w ≡ true) (sym f.slot) low))
   where
     both : (x y : Bool) → x ≡ true → y ≡ true → (x && y) ≡ true
     both x y e f = grind arith
@@ -93,7 +93,7 @@ line_high p range h w e s o = is_false (drive h (Slot s) w) (λ b. cc (e, line_s
 
 pub line_from : (p : Plan) → IsInRange p → (h : List Edge) (w : Wire) → line p h w ≡ true → (s : ℕ) × (drive h (Slot s) w ≡ true)
 line_from p range h w e =
-    let r = some_row (λ r. drives w r && drive h (Slot r.slot) w) (IsRowInRange p) p.rows range.rows e in
+    let r = some_row (pulls_line h w) (IsRowInRange p) p.rows range.rows e in
     (r.0.slot, and_right (drives w r.0) _ r.1)
 
 pub within : (p : Plan) → IsInRange p → (s : ℕ) → interrupts p s ≡ true → (1 ≤ s) × (s ≤ p.slots)

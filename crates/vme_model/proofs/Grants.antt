@@ -15,8 +15,8 @@ use Rattle.vme_model.specs.declared.signals.Driver.TheVariants.{Controller, Slot
 use Rattle.vme_model.specs.declared.signals.Wire.{Wire}
 use Rattle.vme_model.specs.declared.signals.Wire.TheVariants.{Bg, Br, BgOut, Bbsy}
 use Rattle.vme_model.specs.Signals.{is_two}
-use Rattle.vme_model.specs.Plan.{Plan, requests_on, drives, upstream, last_active, grant_chain}
-use Rattle.vme_model.specs.History.{drive, line, request_line, segment, last_level, is_past_end}
+use Rattle.vme_model.specs.Plan.{Plan, requests_on, upstream, last_active, grant_chain}
+use Rattle.vme_model.specs.History.{drive, pulls_line, line, pulls_request, request_line, segment, last_level, is_past_end}
 use Rattle.vme_model.specs.Readings.{grant_in}
 use Rattle.vme_model.specs.Rules.{is_pick}
 use Rattle.vme_model.specs.Settling.{are_grants_through}
@@ -53,7 +53,7 @@ all_free p range h e m s o = is_false (drive h (Slot s) Bbsy) (λ b. cc (e, line
 -- somebody holds it where BBSY* is low
 pub holder : (p : Plan) → IsInRange p → (h : List Edge) → line p h Bbsy ≡ true → (s : ℕ) × (drive h (Slot s) Bbsy ≡ true)
 holder p range h e =
-    let r = some_row (λ r. drives Bbsy r && drive h (Slot r.slot) Bbsy) (IsRowInRange p) p.rows range.rows e in
+    let r = some_row (pulls_line h Bbsy) (IsRowInRange p) p.rows range.rows e in
     (r.0.slot, and_right _ _ r.1)
 
 -- a level that is picked is low
@@ -65,7 +65,7 @@ picked_low Rrs low last n e = and_left (low n) _ e
 -- somebody waits where a request line is low
 waiter : (p : Plan) → IsInRange p → (h : List Edge) (n : ℕ) → request_line p h n ≡ true → (s : ℕ) × (on p n s ≡ true) × (drive h (Slot s) Br ≡ true)
 waiter p range h n e =
-    let r = some_row (λ r. requests_on n r && drive h (Slot r.slot) Br) (IsRowInRange p) p.rows range.rows e in
+    let r = some_row (pulls_request h n) (IsRowInRange p) p.rows range.rows e in
     (r.0.slot, ap (λ x. option_map_or (requests_on n) x false) r.2.alone ∙ and_left _ _ r.1, and_right (requests_on n r.0) _ r.1)
 
 pub grants_high : (bg : ℕ → Bool) → list_all (λ n. not (bg n)) (0 ∷ 1 ∷ 2 ∷ 3 ∷ []) ≡ true → (m : ℕ) → m < 4 → bg m ≡ false

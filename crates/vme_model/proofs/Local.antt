@@ -18,13 +18,13 @@ use Rattle.vme_model.specs.declared.signals.Cycle.{Cycle}
 use Rattle.vme_model.specs.declared.signals.Driver.{Driver}
 use Rattle.vme_model.specs.declared.signals.Driver.TheVariants.{Controller, Slot}
 use Rattle.vme_model.specs.declared.signals.Wire.{Wire}
-use Rattle.vme_model.specs.declared.signals.Wire.TheVariants.{Bg, Bclr, Berr, Br, Bbsy, AddressStrobe, DataStrobe, Irq, Dtack}
+use Rattle.vme_model.specs.declared.signals.Wire.TheVariants.{Bg, Bclr, Berr, Bbsy, AddressStrobe, DataStrobe, Irq, Dtack}
 use Rattle.vme_model.specs.Signals.{is_same_driver, is_same_wire, is_edge_of, is_fall_of, is_grant, is_grant_wire, grant_level, has_wire, has_value, is_well_formed}
 use Rattle.vme_model.specs.Sets.{bus_levels, irq_levels}
-use Rattle.vme_model.specs.Plan.{Plan, board_of, requests_on, interrupts_on, has_driver}
+use Rattle.vme_model.specs.Plan.{Plan, board_of, has_driver}
 use Rattle.vme_model.specs.Accepted.{IsAccepted}
-use Rattle.vme_model.specs.History.{drive, last_level, cycles, has_strobed, served_since_request, serves, shown, request_line, interrupt_line}
-use Rattle.vme_model.specs.Readings.{Readings, readings, is_served}
+use Rattle.vme_model.specs.History.{drive, last_level, cycles, has_strobed, served_since_request, serves, shown, pulls_request, request_line, pulls_interrupt, interrupt_line}
+use Rattle.vme_model.specs.Readings.{Readings, readings, readings_of_pins, is_served}
 use Rattle.vme_model.specs.Rules.{rule}
 use Rattle.vme_model.specs.Settling.{settling}
 use Rattle.vme_model.specs.Views.{pins, noted}
@@ -115,18 +115,10 @@ own_last p = record {
 
 -- what the rules read, from what the driver saw and its own edges
 abbrev gathered : Plan → Option Row → (Wire → Bool) → (ℕ → Bool) → (ℕ → Bool) → Pins → ℕ → ℕ → Bool → Bool → Readings
-gathered p row own request irq t last n strobed served = record {
+gathered p row own request irq t last n strobed served = record (readings_of_pins t) {
   own = own;
   request = request;
   irq = irq;
-  bbsy = t.bbsy;
-  address_strobe = t.address_strobe;
-  data_strobe = t.data_strobe;
-  dtack = t.dtack;
-  berr = t.berr;
-  shown = t.shown;
-  grant_in = t.grant_in;
-  iack_in = t.iack_in;
   last_level = last;
   cycles = n;
   has_strobed = strobed;
@@ -145,7 +137,7 @@ no_request p range h n l = is_false (request_line p h n) (λ e. none e)
 
     none : request_line p h n ≡ true → ⊥
     none e =
-        let r = some_row (λ r. requests_on n r && drive h (Slot r.slot) Br) (IsRowInRange p) p.rows range.rows e in
+        let r = some_row (pulls_request h n) (IsRowInRange p) p.rows range.rows e in
         level r.0.requester r.2.level (and_left _ _ r.1)
 
 no_interrupt : (p : Plan) → IsInRange p → (h : List Edge) (n : ℕ) → (1 ≤ n → n < 8 → ⊥) → interrupt_line p h n ≡ false
@@ -157,7 +149,7 @@ no_interrupt p range h n l = is_false (interrupt_line p h n) (λ e. none e)
 
     none : interrupt_line p h n ≡ true → ⊥
     none e =
-        let r = some_row (λ r. interrupts_on n r && drive h (Slot r.slot) Irq) (IsRowInRange p) p.rows range.rows e in
+        let r = some_row (pulls_interrupt h n) (IsRowInRange p) p.rows range.rows e in
         level r.0.interrupter r.2.irq (and_left _ _ r.1)
 
 same_request : (p : Plan) → IsInRange p → (h k : List Edge) → bus_levels (request_line p h) ≡ bus_levels (request_line p k) → (n : ℕ) → request_line p h n ≡ request_line p k n
@@ -186,8 +178,8 @@ board_rule version r w true v n e f = refl
 board_rule version r w false v n e f = refl
 
 -- the answer to an edge, from what it reads
-abbrev ruled : Bool → Bool → Bool → ℕ × Bool → ℕ × Bool → Result (Unit {0}) Refused
-ruled exists low fall named settles =
+abbrev answer_of : Bool → Bool → Bool → ℕ × Bool → ℕ × Bool → Result (Unit {0}) Refused
+answer_of exists low fall named settles =
     check exists NoSuchDriver (check (is_other_state low fall) AlreadyThere (check named.1 (Rule named.0) (check settles.1 (NotSettled settles.0) (Ok tt))))
 
 same_settling : (version : Version) (p : Plan) (h k : List Edge) (w : Wire) (fall : Bool) → is_settled_by_others version w fall ≡ false → settling version p h w fall ≡ settling version p k w fall
@@ -201,9 +193,9 @@ same_settling version p h k w fall e = refl
 same_verdict : (version : Version) (p : Plan) (h k : List Edge) (d : Driver) (w : Wire) (fall : Bool) (v : Option Cycle) → drive h d w ≡ drive k d w → rule version (readings p h d) w fall v ≡ rule version (readings p k d) w fall v → settling version p h w fall ≡ settling version p k w fall → verdict_but_full version p h (record { driver = d; wire = w; fall = fall; value = v }) ≡ verdict_but_full version p k (record { driver = d; wire = w; fall = fall; value = v })
 same_verdict version p h k d w fall v a b c =
     let exists = is_well_formed (record { driver = d; wire = w; fall = fall; value = v }) && has_driver p d w in
-    ap (λ x. ruled exists x fall (rule version (readings p h d) w fall v) (settling version p h w fall)) a
-    ∙ ap (λ x. ruled exists (drive k d w) fall x (settling version p h w fall)) b
-    ∙ ap (λ x. ruled exists (drive k d w) fall (rule version (readings p k d) w fall v) x) c
+    ap (λ x. answer_of exists x fall (rule version (readings p h d) w fall v) (settling version p h w fall)) a
+    ∙ ap (λ x. answer_of exists (drive k d w) fall x (settling version p h w fall)) b
+    ∙ ap (λ x. answer_of exists (drive k d w) fall (rule version (readings p k d) w fall v) x) c
 
 all_drives : (p : Plan) (h k : List Edge) (d : Driver) → AreWellFormed h → AreWellFormed k → noted p h d ≡ noted p k d → drive h d ≡ drive k d
 all_drives p h k d l m e = fun_ext (λ w. same_own p d (λ h. drive h d w) _ false (own_drive p d w) h k l m e)

@@ -3,6 +3,7 @@
 use Rattle.std.specs.Prelude.{◌&&◌, ◌||◌, ◌+◌, ℕ, Bool, true, false, if◌then◌else◌, Option, Some, None, List, [], ◌∷◌, find, reverse}
 use Rattle.std.specs.List.{list_any}
 use Rattle.std.specs.Option.{option_and_then}
+use Rattle.vme_model.specs.declared.boards.Row.{Row}
 use Rattle.vme_model.specs.declared.boards.IrqKind.{IrqKind}
 use Rattle.vme_model.specs.declared.boards.IrqKind.TheVariants.{Roak, Rora}
 use Rattle.vme_model.specs.declared.sets.ChainId.{ChainId}
@@ -25,17 +26,27 @@ abbrev pub drive : List Edge → Driver → Wire → Bool
 drive [] d w = false
 drive (e ∷ h) d w = if is_edge_of d w e then e.fall else drive h d w
 
--- an open-collector line is low where some board pulls it low (chapters 2 and 3)
+-- a board pulls an open-collector line low
+abbrev pub pulls_line : List Edge → Wire → Row → Bool
+pulls_line h w r = drives w r && drive h (Slot r.slot) w
+
+-- which is low where some board does (chapters 2 and 3)
 abbrev pub line : Plan → List Edge → Wire → Bool
-line p h w = list_any (λ r. drives w r && drive h (Slot r.slot) w) p.rows
+line p h w = list_any (pulls_line h w) p.rows
 
 -- BRn*, of the requesters of level n (chapter 3)
+abbrev pub pulls_request : List Edge → ℕ → Row → Bool
+pulls_request h n r = requests_on n r && drive h (Slot r.slot) Br
+
 abbrev pub request_line : Plan → List Edge → ℕ → Bool
-request_line p h n = list_any (λ r. requests_on n r && drive h (Slot r.slot) Br) p.rows
+request_line p h n = list_any (pulls_request h n) p.rows
 
 -- IRQn*, of the interrupters of level n (chapter 4)
+abbrev pub pulls_interrupt : List Edge → ℕ → Row → Bool
+pulls_interrupt h n r = interrupts_on n r && drive h (Slot r.slot) Irq
+
 abbrev pub interrupt_line : Plan → List Edge → ℕ → Bool
-interrupt_line p h n = list_any (λ r. interrupts_on n r && drive h (Slot r.slot) Irq) p.rows
+interrupt_line p h n = list_any (pulls_interrupt h n) p.rows
 
 -- a segment of a daisy chain: what the controller drives at its head, or an active slot at its output (chapters 3 and 4)
 abbrev pub segment : List Edge → ChainId → Option ℕ → Bool

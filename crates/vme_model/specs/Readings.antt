@@ -1,8 +1,10 @@
 -- What a rule may read just before an edge. (Profile: each rule reads the wires as they are before its edge.)
-use Rattle.std.specs.Prelude.{◌==◌, ◌&&◌, ℕ, Bool, false, not, Option, List, is_some}
+use Rattle.std.specs.Prelude.{◌==◌, ◌&&◌, ℕ, Bool, false, not, Option, None, List, is_some}
 use Rattle.std.specs.Option.{option_map_or, option_and_then}
 use Rattle.vme_model.specs.declared.boards.Row.{Row}
 use Rattle.vme_model.specs.declared.boards.ArbiterKind.{ArbiterKind}
+use Rattle.vme_model.specs.declared.boards.ArbiterKind.TheVariants.{Sgl}
+use Rattle.vme_model.specs.declared.pins.Pins.{Pins}
 use Rattle.vme_model.specs.declared.sets.ChainId.TheVariants as chain
 use Rattle.vme_model.specs.declared.signals.Driver.{Driver}
 use Rattle.vme_model.specs.declared.signals.Driver.TheVariants.{Controller, Slot}
@@ -10,6 +12,7 @@ use Rattle.vme_model.specs.declared.signals.Wire.{Wire}
 use Rattle.vme_model.specs.declared.signals.Wire.TheVariants.{Berr, Bbsy, AddressStrobe, DataStrobe, Irq, Dtack}
 use Rattle.vme_model.specs.declared.signals.Cycle.{Cycle}
 use Rattle.vme_model.specs.declared.signals.Edge.{Edge}
+use Rattle.vme_model.specs.Sets.{has_bus_level, has_level}
 use Rattle.vme_model.specs.Plan.{Plan, board_of, grant_chain}
 use Rattle.vme_model.specs.History.{drive, line, request_line, interrupt_line, input, shown, served_since_request, last_level, cycles, has_strobed}
 
@@ -36,6 +39,28 @@ pub record Readings : Type 0 where
   pub served_since_request : Bool
   pub arbiter : ArbiterKind
   pub board : Option Row
+
+-- what the pins alone say of it: no wire of the driver's own is low, it made no edge, it has no board, and the arbiter is SGL
+abbrev pub readings_of_pins : Pins → Readings
+readings_of_pins pins = record {
+  own = λ w. false;
+  request = has_bus_level pins.requests;
+  irq = has_level pins.irq;
+  bbsy = pins.bbsy;
+  address_strobe = pins.address_strobe;
+  data_strobe = pins.data_strobe;
+  dtack = pins.dtack;
+  berr = pins.berr;
+  shown = pins.shown;
+  grant_in = pins.grant_in;
+  iack_in = pins.iack_in;
+  last_level = 0;
+  cycles = 0;
+  has_strobed = false;
+  served_since_request = false;
+  arbiter = Sgl;
+  board = None;
+}
 
 -- the input of the board's own grant chain, for a board with a requester (chapter 3)
 abbrev pub grant_in : Plan → List Edge → Driver → Bool

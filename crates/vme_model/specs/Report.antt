@@ -45,9 +45,12 @@ at_power_up version p max = record { version = version; plan = p; history = []; 
 abbrev pub accepted_count : State → List Edge → ℕ
 accepted_count b es = length (kept b es).history - length b.history
 
+-- the closing line, of so many edges that were accepted and refused
+abbrev pub closing_text : ℕ → ℕ → List ℕ
+closing_text accepted refused = ((codes "accepted " ++ decimal accepted) ++ codes " refused ") ++ decimal refused ++ 10 ∷ []
+
 abbrev pub closing_line : State → List Edge → List ℕ
-closing_line b es =
-    ((codes "accepted " ++ decimal (accepted_count b es)) ++ codes " refused ") ++ decimal (length es - accepted_count b es) ++ 10 ∷ []
+closing_line b es = closing_text (accepted_count b es) (length es - accepted_count b es)
 
 -- the closing line stands only behind a whole trace
 abbrev pub closing : Option TextFault → State → List Edge → List ℕ

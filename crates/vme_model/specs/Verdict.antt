@@ -1,13 +1,14 @@
 -- The answer to an edge, legal histories, and the edges that are kept. (The order of refusals is this project's profile.)
-use Rattle.std.specs.Prelude.{◌==◌, ◌≡◌, ◌&&◌, ◌∷◌, ℕ, Bool, true, false, not, if◌then◌else◌, Result, Ok, Err, List, [], length, is_ok}
+use Rattle.std.specs.Prelude.{◌==◌, ◌≡◌, ◌&&◌, ◌∷◌, ℕ, Bool, true, false, not, if◌then◌else◌, Option, Result, Ok, Err, List, [], length, is_ok}
 use Rattle.vme_model.specs.declared.refusals.Refused.{Refused}
 use Rattle.vme_model.specs.declared.refusals.Refused.TheVariants.{NoSuchDriver, AlreadyThere, Rule, NotSettled, TraceFull}
 use Rattle.vme_model.specs.declared.signals.Version.{Version}
+use Rattle.vme_model.specs.declared.signals.Cycle.{Cycle}
 use Rattle.vme_model.specs.declared.signals.Edge.{Edge}
+use Rattle.vme_model.specs.declared.signals.Wire.{Wire}
 use Rattle.vme_model.specs.Signals.{is_well_formed}
 use Rattle.vme_model.specs.Plan.{Plan, has_driver}
-use Rattle.vme_model.specs.History.{drive}
-use Rattle.vme_model.specs.Readings.{readings}
+use Rattle.vme_model.specs.Readings.{Readings, readings}
 use Rattle.vme_model.specs.Rules.{rule}
 use Rattle.vme_model.specs.Settling.{settling}
 
@@ -30,9 +31,20 @@ check false refusal rest = Err refusal
 abbrev pub is_other_state : Bool → Bool → Bool
 is_other_state low fall = if fall then not low else low
 
--- the guard of the rule that names the edge holds
-abbrev pub allowed : Version → Plan → List Edge → Edge → Bool
-allowed version p h e = (rule version (readings p h e.driver) e.wire e.fall e.value).1
+-- E2 and E3 by what the driver's rules read, or what comes after
+abbrev pub ruled : Version → Readings → Wire → Bool → Option Cycle → Judgement → Judgement
+ruled version r w fall v rest =
+    check (is_other_state (r.own w) fall) AlreadyThere
+    (check (rule version r w fall v).1 (Rule (rule version r w fall v).0)
+    rest)
+
+-- the answer of the rules alone to an edge of a wire: E2, E3 or Ok
+abbrev pub ruling_on : Version → Readings → Wire → Bool → Option Cycle → Judgement
+ruling_on version r w fall v = ruled version r w fall v (Ok tt)
+
+-- the same for an edge
+abbrev pub ruling : Version → Readings → Edge → Judgement
+ruling version r e = ruling_on version r e.wire e.fall e.value
 
 -- the settling rule that names the edge, if any, holds
 abbrev pub settled : Version → Plan → List Edge → Edge → Bool
@@ -42,10 +54,9 @@ settled version p h e = (settling version p h e.wire e.fall).1
 abbrev pub judged : Version → Plan → List Edge → Edge → Judgement → Judgement
 judged version p h e rest =
     check (is_well_formed e && has_driver p e.driver e.wire) NoSuchDriver
-    (check (is_other_state (drive h e.driver e.wire) e.fall) AlreadyThere
-    (check (allowed version p h e) (Rule (rule version (readings p h e.driver) e.wire e.fall e.value).0)
+    (ruled version (readings p h e.driver) e.wire e.fall e.value
     (check (settled version p h e) (NotSettled (settling version p h e.wire e.fall).0)
-    rest)))
+    rest))
 
 -- the first of E1 to E5 that applies
 abbrev pub verdict : State → Edge → Judgement

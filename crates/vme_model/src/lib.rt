@@ -17,3 +17,6 @@ pub use pins::Pins;
 pub use refusals::{Field, PlanError, Refused};
 pub use sets::{BusLevels, ChainId, Chains, Levels};
 pub use signals::{Cycle, Driver, Edge, Version, Wire};
+
+/// The most edges that a trace can hold.
+pub const TRACE_LIMIT: u32 = 1_048_576;

@@ -1,6 +1,6 @@
 //! Drivers, wires and edges.
 ghost use Rattle.std.specs.Prelude.{◌≡◌, Some};
-ghost use Rattle.vme_model.specs.Signals.{is_same_driver, is_same_wire, is_edge_of, is_fall_of, is_grant, is_grant_wire, grant_level, has_wire, is_slot, is_level, is_acknowledge, is_in_range, is_well_formed};
+ghost use Rattle.vme_model.specs.Signals.{is_two, is_same_driver, is_same_wire, is_edge_of, is_fall_of, is_grant, is_grant_wire, grant_level, has_wire, is_slot, is_level, is_acknowledge, is_in_range, is_well_formed};
 
 /// Which version of the rules a backplane keeps.
 ///
@@ -85,6 +85,15 @@ fn is_level(level: u8) -> bool
     ensures { result ≡ is_level level }
 {
     (1..=7).contains(&level)
+}
+
+impl Version {
+    /// Whether these are the rules of the second version.
+    pub fn is_two(self) -> bool
+        ensures { result ≡ is_two self }
+    {
+        matches!(self, Version::Two)
+    }
 }
 
 impl Driver {

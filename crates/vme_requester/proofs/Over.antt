@@ -10,7 +10,8 @@ use Rattle.vme_model.specs.declared.signals.Wire.TheVariants.{Br, BgOut, Bbsy}
 use Rattle.vme_model.specs.declared.signals.Cycle.{Cycle}
 use Rattle.vme_model.specs.declared.signals.Edge.{Edge}
 use Rattle.vme_model.specs.History.{drive}
-use Rattle.vme_requester.specs.Local.{State, state_of, is_own, low, readings, ruling_on}
+use Rattle.vme_model.specs.Verdict.{ruling_on}
+use Rattle.vme_requester.specs.Local.{State, state_of, is_own, low, readings}
 
 by_parts : (s : ℕ) (row : RequesterRow) (version : Version) (noted : List Edge) (pins : Pins) (free : Bool) (w : Wire) (f : Bool) (v : Option Cycle) → is_own w ≡ true →
     ruling_on version (readings s row (low (state_of s row version noted)) pins free) w f v ≡ ruling_on version (readings s row (drive noted (Slot s)) pins free) w f v

@@ -1,24 +1,22 @@
 -- A requester's local state, and what its rules read. A list of noted edges has its newest edge first.
-use Rattle.std.specs.Prelude.{ℕ, Bool, true, false, not, Option, Some, None, Ok, List}
+use Rattle.std.specs.Prelude.{ℕ, Bool, true, false, not, Some, None, List}
 use Rattle.vme_model.specs.declared.boards.RequesterRow.{RequesterRow}
 use Rattle.std.specs.List.{list_any}
 use Rattle.vme_model.specs.declared.boards.Release.{Release}
 use Rattle.vme_model.specs.declared.boards.Release.TheVariants.{Done, Request}
 use Rattle.vme_model.specs.declared.sets.BusLevels.{BusLevels}
-use Rattle.vme_model.specs.declared.boards.ArbiterKind.TheVariants.{Sgl}
 use Rattle.vme_model.specs.declared.pins.Pins.{Pins}
-use Rattle.vme_model.specs.declared.refusals.Refused.TheVariants.{AlreadyThere, Rule}
 use Rattle.vme_model.specs.declared.signals.Version.{Version}
 use Rattle.vme_model.specs.declared.signals.Driver.TheVariants.{Slot}
 use Rattle.vme_model.specs.declared.signals.Wire.{Wire}
 use Rattle.vme_model.specs.declared.signals.Wire.TheVariants.{Br, BgOut, Bbsy, Addr, AddressStrobe}
 use Rattle.vme_model.specs.declared.signals.Cycle.{Cycle}
 use Rattle.vme_model.specs.declared.signals.Edge.{Edge}
-use Rattle.vme_model.specs.Sets.{has_bus_level, has_level, no_levels}
+use Rattle.vme_model.specs.Sets.{no_levels}
 use Rattle.vme_model.specs.History.{drive}
-use Rattle.vme_model.specs.Readings.{Readings}
-use Rattle.vme_model.specs.Rules.{bus_numbers, rule}
-use Rattle.vme_model.specs.Verdict.{Judgement, check, is_other_state}
+use Rattle.vme_model.specs.Readings.{Readings, readings_of_pins}
+use Rattle.vme_model.specs.Rules.{bus_numbers}
+use Rattle.vme_model.specs.Verdict.{Judgement, ruling}
 
 -- what a requester keeps: where it stands, the version of its rules, and which of its wires are low
 pub record State : Type 0 where
@@ -62,23 +60,8 @@ told own is_address_free w = own w
 
 -- what its rules read: its own wires, its pins, its row, and what it is told
 abbrev pub readings : ℕ → RequesterRow → (Wire → Bool) → Pins → Bool → Readings
-readings s row own pins is_address_free = record {
+readings s row own pins is_address_free = record (readings_of_pins pins) {
   own = told own is_address_free;
-  request = has_bus_level pins.requests;
-  irq = has_level pins.irq;
-  bbsy = pins.bbsy;
-  address_strobe = pins.address_strobe;
-  data_strobe = pins.data_strobe;
-  dtack = pins.dtack;
-  berr = pins.berr;
-  shown = pins.shown;
-  grant_in = pins.grant_in;
-  iack_in = pins.iack_in;
-  last_level = 0;
-  cycles = 0;
-  has_strobed = false;
-  served_since_request = false;
-  arbiter = Sgl;
   board = Some (record { slot = s; requester = Some row; interrupter = None; handler = no_levels });
 }
 
@@ -87,17 +70,7 @@ abbrev pub lets_go : Release → BusLevels → Bool
 lets_go (Done burst) requests = true
 lets_go Request requests = list_any (has_bus_level requests) bus_numbers
 
--- the answer to an edge of a wire of its own by its rows of the table: E2, E3 or Ok
-abbrev pub ruling_on : Version → Readings → Wire → Bool → Option Cycle → Judgement
-ruling_on version r w fall v =
-    check (is_other_state (r.own w) fall) AlreadyThere
-    (check (rule version r w fall v).1 (Rule (rule version r w fall v).0)
-    (Ok tt))
-
-abbrev pub answer : Version → Readings → Edge → Judgement
-answer version r e = ruling_on version r e.wire e.fall e.value
-
--- the same, read over the edges that were noted
+-- the answer to an edge of its own by its rows of the table, read over the edges that were noted
 abbrev pub answer_over : ℕ → RequesterRow → Version → List Edge → Pins → Bool → Edge → Judgement
 answer_over s row version noted pins is_address_free e =
-    answer version (readings s row (drive noted (Slot s)) pins is_address_free) e
+    ruling version (readings s row (drive noted (Slot s)) pins is_address_free) e

@@ -9,8 +9,8 @@ ghost use Rattle.vme_model.specs.declared.signals.Edge.{Edge as EdgeValue};
 ghost use Rattle.vme_model.specs.Signals.{is_two};
 ghost use Rattle.vme_model.specs.Sets.{has_bus_level};
 ghost use Rattle.vme_model.specs.Rules.{bus_numbers, rule};
-ghost use Rattle.vme_model.specs.Verdict.{check};
-ghost use Rattle.vme_requester.specs.Local.{state_of, is_own, low, readings, lets_go, ruling_on, answer_over};
+ghost use Rattle.vme_model.specs.Verdict.{check, ruling_on};
+ghost use Rattle.vme_requester.specs.Local.{state_of, is_own, low, readings, lets_go, answer_over};
 
 use std::marker::Model;
 use vme_model::{BusLevels, Driver, Edge, Pins, Refused, Release, RequesterRow, Version, Wire};
@@ -41,13 +41,6 @@ fn is_any(requests: BusLevels) -> bool
     ensures { result ≡ list_any (has_bus_level requests) bus_numbers }
 {
     [0, 1, 2, 3].iter().any(|level| requests.has(*level))
-}
-
-/// Whether these are the rules of the second version.
-fn is_two(version: Version) -> bool
-    ensures { result ≡ is_two version }
-{
-    matches!(version, Version::Two)
 }
 
 /// The answer to an edge that changes its wire, by the rule that names it and whether its guard holds.
@@ -115,7 +108,7 @@ impl Requester {
         match (fall, self.br) {
             (true, true) | (false, false) => Err(Refused::AlreadyThere),
             (true, false) => allowed(9, !self.bbsy),
-            (false, true) => allowed(10, is_two(self.version) || self.bbsy),
+            (false, true) => allowed(10, self.version.is_two() || self.bbsy),
         }
     }
 

@@ -1,5 +1,5 @@
 //! The plan, with the slots that work each daisy chain.
-ghost use Rattle.std.specs.Prelude.{◌≡◌, ◌≢◌, IfOk, IfErr};
+ghost use Rattle.std.specs.Prelude.{◌≡◌, ◌≢◌, IfOk, IfErr, is_some};
 ghost use Rattle.std.specs.Option.{option_copied};
 ghost use Rattle.vme_model.specs.Accepted.{IsAccepted};
 
@@ -117,6 +117,13 @@ impl Plan {
         ensures { option_copied result ≡ board self.now slot }
     {
         row_in(self.rows(), slot)
+    }
+
+    /// Whether there is a board in the slot.
+    pub fn has_board(&self, slot: u8) -> bool
+        ensures { result ≡ is_some (board self.now slot) }
+    {
+        self.row(slot).is_some()
     }
 
     /// The slots whose board works the chain, ascending.

@@ -11,9 +11,7 @@ use std::alloc::{AllocError, Global};
 use std::marker::Model;
 use thiserror::Error;
 use vme_arena::{Lease, Rest};
-
-/// The most edges that a trace can hold.
-const LONGEST: u32 = 1_048_576;
+use vme_model::TRACE_LIMIT;
 
 /// How many edges a full page holds.
 pub(crate) const PAGE: u32 = 65_536;
@@ -89,7 +87,7 @@ impl<'r> Trace<'r> {
         ensures fits { IfOk result (λ t. refusal max (vec_len leases.entry) ≡ None) }
         ensures refused { IfErr result (λ e. (refusal max (vec_len leases.entry) ≡ Some e) ⊎ (refusal max (vec_len leases.entry) ≡ None) × (e ≡ TraceError.NoRoom)) }
     {
-        if max > LONGEST {
+        if max > TRACE_LIMIT {
             return Err(TraceError::TooMany);
         }
         let (need, given) = (Trace::pages(max), leases.len());
@@ -111,7 +109,7 @@ impl<'r> Trace<'r> {
         ensures carved { IfOk result (λ t. rest_left rest.new + rounded (4 * max) ≡ rest_left rest.old) }
         ensures refused { IfErr result (λ e. e ≡ (if nat_lt trace_limit max then TraceError.TooMany else TraceError.NoRoom)) }
     {
-        if LONGEST < max {
+        if TRACE_LIMIT < max {
             return Err(TraceError::TooMany);
         }
         match carved(alloc, rest, max) {

@@ -26,15 +26,15 @@ use Rattle.vme_model.specs.Plan.{Plan, board}
 use Rattle.vme_model.specs.History.{drive, request_line, interrupt_line, cycles, last_level, shown, line}
 use Rattle.vme_model.specs.Readings.{Readings, readings, is_served, grant_in, iack_in}
 use Rattle.vme_model.specs.Rules.{rule, bus_numbers, is_pick, may_release, is_asked, is_within_burst, is_below_burst, may_show, is_passed_by, may_answer, is_bus_clear_due, are_grants_high, is_pri}
-use Rattle.vme_model.specs.Verdict.{Judgement, check, is_other_state}
+use Rattle.vme_model.specs.Verdict.{Judgement, check, is_other_state, ruling}
 use Rattle.vme_model.specs.Views.{pins}
 use Rattle.vme_model.proofs.PinSets.{has_bus, has_irq}
 use Rattle.vme_model.proofs.Bools.{and_left, and_right}
 use Rattle.vme_requester.specs.Local.{is_own as is_requesters, told as requester_told, readings as requester_readings, answer_over}
-use Rattle.vme_master.specs.Local.{is_own as is_masters, told as master_told, over as master_over, answer as master_answer}
-use Rattle.vme_interrupter.specs.Local.{is_own as is_interrupters, seen, served, readings as interrupter_readings, over as interrupter_over, answer as interrupter_answer}
+use Rattle.vme_master.specs.Local.{is_own as is_masters, told as master_told, over as master_over}
+use Rattle.vme_interrupter.specs.Local.{is_own as is_interrupters, seen, served, readings as interrupter_readings, over as interrupter_over}
 use Rattle.vme_interrupter.proofs.Seen.{edges_seen, served_seen}
-use Rattle.vme_arbiter.specs.Local.{over as controller_over, answer as controller_answer}
+use Rattle.vme_arbiter.specs.Local.{over as controller_over}
 use Rattle.vme_wiring.specs.Asked.{asked, IsAsked}
 
 -- two sets of lines that agree
@@ -178,11 +178,11 @@ value_of : (e : Edge) → is_well_formed e ≡ true → has_value e.wire e.fall 
 value_of e formed = and_right (has_wire e.driver e.wire) (has_value e.wire e.fall e.value) formed
 
 pub master_asked : (version : Version) (p : Plan) (h : List Edge) (r : Row) (q : RequesterRow) (seen : Pins) (holds : Bool) (e : Edge) → IsAsked p h r seen e → r.requester ≡ Some q → holds ≡ drive h (Slot r.slot) Bbsy → is_masters e.wire ≡ true →
-    master_answer version (master_over r.slot q r.handler h seen holds) e ≡ asked version p h e
+    ruling version (master_over r.slot q r.handler h seen holds) e ≡ asked version p h e
 master_asked version p h r q seen holds e k has told own =
     let s = r.slot in
-    ap (λ (x : Pins). master_answer version (master_over s q r.handler h x holds) e) k.pins
-    ∙ ap (λ b. master_answer version (master_over s q r.handler h (pins p h (Slot s)) b) e) told
+    ap (λ (x : Pins). ruling version (master_over s q r.handler h x holds) e) k.pins
+    ∙ ap (λ b. ruling version (master_over s q r.handler h (pins p h (Slot s)) b) e) told
     ∙ ap (λ b. by_row b e.fall (rule version (master_sees p h r q) e.wire e.fall e.value)) (master_own h s e.wire own)
     ∙ by_same (drive h (Slot s) e.wire) e.fall _ _ (master_row version p h r q e.wire e.fall e.value k.row (part_of_board p s r q k.row has) (value_of e k.formed) own)
     ∙ asked_of version p h (Slot s) e k.driver
@@ -223,9 +223,9 @@ over_seen p h r seen_pins found same =
     ∙ ap (λ b. interrupter_readings r.slot r.interrupter (drive h (Slot r.slot)) b (pins p h (Slot r.slot))) (served_seen p h (Slot r.slot) r found)
 
 pub interrupter_asked : (version : Version) (p : Plan) (h : List Edge) (r : Row) (seen_pins : Pins) (e : Edge) → IsAsked p h r seen_pins e → is_interrupters e.wire ≡ true →
-    interrupter_answer version (interrupter_over r.slot r.interrupter (seen p h) seen_pins) e ≡ asked version p h e
+    ruling version (interrupter_over r.slot r.interrupter (seen p h) seen_pins) e ≡ asked version p h e
 interrupter_asked version p h r seen_pins e k own =
-    ap (λ (x : Readings). interrupter_answer version x e) (over_seen p h r seen_pins k.row k.pins)
+    ap (λ (x : Readings). ruling version x e) (over_seen p h r seen_pins k.row k.pins)
     ∙ by_same (drive h (Slot r.slot) e.wire) e.fall _ _ (interrupter_row version p h r e.wire e.fall e.value k.row own)
     ∙ asked_of version p h (Slot r.slot) e k.driver
 
@@ -253,7 +253,7 @@ controller_row version p h Berr false v own = refl
 controller_row version p h w f v own = absurd (cc)
 
 pub controller_asked : (version : Version) (p : Plan) (h : List Edge) (e : Edge) → e.driver ≡ Controller → is_well_formed e ≡ true →
-    controller_answer version (controller_over p.arbiter h (pins p h Controller)) e ≡ asked version p h e
+    ruling version (controller_over p.arbiter h (pins p h Controller)) e ≡ asked version p h e
 controller_asked version p h e same formed =
     by_same (drive h Controller e.wire) e.fall _ _ (controller_row version p h e.wire e.fall e.value (subst (λ d. has_wire d e.wire ≡ true) same (and_left (has_wire e.driver e.wire) (has_value e.wire e.fall e.value) formed)))
     ∙ asked_of version p h Controller e same

@@ -38,7 +38,7 @@ abbrev with_low : List ℕ → List Bool → Segments
 with_low active low = record { active = active; low = low }
 
 pub high_segments : (p : Plan) (c : ChainId) → IsAccepted p → all_high (take 21 (active p c)) ≡ segments_of p [] c
-high_segments p c ok = ap all_high (holds_every_slot p c (in_range p ok).most) ∙ ap (with_low (active p c)) (high (active p c))
+high_segments p c ok = ap all_high (holds_every_slot p c ok) ∙ ap (with_low (active p c)) (high (active p c))
 
 abbrev of_lines : BusLevels → Levels → Bool → Bool → Bool → Bool → Option Cycle → Pins
 of_lines requests irq bbsy address_strobe data_strobe dtack shown = record {

@@ -11,7 +11,7 @@ use Rattle.vme_model.specs.History.{drive}
 use Rattle.vme_model.specs.Readings.{readings}
 use Rattle.vme_model.specs.Rules.{rule}
 use Rattle.vme_model.specs.Settling.{settling}
-use Rattle.vme_model.specs.Verdict.{Judgement, check, is_other_state, allowed, settled, verdict_but_full}
+use Rattle.vme_model.specs.Verdict.{Judgement, check, is_other_state, settled, verdict_but_full}
 use Rattle.vme_wiring.specs.Asked.{asked}
 
 refused_before : (a b : Bool) (x y r : Refused) (rest : Judgement) → check a x (check b y (Ok tt)) ≡ Err r → check a x (check b y rest) ≡ Err r
@@ -34,18 +34,21 @@ module _ (version : Version) (p : Plan) (h : List Edge) (e : Edge) where
   abbrev named : Refused
   named = Rule (rule version (readings p h e.driver) e.wire e.fall e.value).0
 
+  abbrev holds : Bool
+  holds = (rule version (readings p h e.driver) e.wire e.fall e.value).1
+
   abbrev between : Judgement
-  between = check (is_other_state (drive h e.driver e.wire) e.fall) AlreadyThere (check (allowed version p h e) named last)
+  between = check (is_other_state (drive h e.driver e.wire) e.fall) AlreadyThere (check holds named last)
 
   pub no_such : exists ≡ false → Err NoSuchDriver ≡ verdict_but_full version p h e
   no_such none = sym (ap (λ b. check b NoSuchDriver between) none)
 
   pub refused : (r : Refused) → exists ≡ true → asked version p h e ≡ Err r → Err r ≡ verdict_but_full version p h e
   refused r some is =
-      sym (refused_before (is_other_state (drive h e.driver e.wire) e.fall) (allowed version p h e) AlreadyThere named r last is)
+      sym (refused_before (is_other_state (drive h e.driver e.wire) e.fall) holds AlreadyThere named r last is)
       ∙ sym (ap (λ b. check b NoSuchDriver between) some)
 
   pub passed : exists ≡ true → asked version p h e ≡ Ok tt → last ≡ verdict_but_full version p h e
   passed some is =
-      sym (passed_before (is_other_state (drive h e.driver e.wire) e.fall) (allowed version p h e) AlreadyThere named last is)
+      sym (passed_before (is_other_state (drive h e.driver e.wire) e.fall) holds AlreadyThere named last is)
       ∙ sym (ap (λ b. check b NoSuchDriver between) some)

@@ -20,10 +20,10 @@ use Rattle.vme_model.specs.Signals.{has_wire}
 use Rattle.vme_model.specs.Sets.{bus_levels, irq_levels}
 use Rattle.vme_model.specs.Plan.{Plan, drives, requests_on, interrupts_on}
 use Rattle.vme_model.specs.Accepted.{IsAccepted}
-use Rattle.vme_model.specs.History.{drive, request_line, interrupt_line, shown}
+use Rattle.vme_model.specs.History.{pulls_line, pulls_request, pulls_interrupt, drive, request_line, interrupt_line, shown}
 use Rattle.vme_model.specs.Views.{pins}
 use Rattle.vme_model.proofs.Bools.{same_number}
-use Rattle.vme_wiring.specs.Counts.{pulls, IsLines, pulls_line, pulls_request, pulls_interrupt, moved, is_movable, request_level, interrupt_level, count_of, lines_after, shared_after, shared_after_controller}
+use Rattle.vme_wiring.specs.Counts.{pulls, IsLines, moved, is_movable, request_level, interrupt_level, count_of, lines_after, shared_after, shared_after_controller}
 use Rattle.vme_wiring.specs.declared.lines.Lines.{Lines}
 use Rattle.vme_wiring.proofs.Counting.{any_pulls, IsSameElsewhere, IsMoved, pulls_move, pulls_stay}
 use Rattle.vme_wiring.proofs.Others.{drive_same}

@@ -1,28 +1,22 @@
 -- What a part is asked: E2 and E3.
-use Rattle.std.specs.Prelude.{◌≡◌, ◌&&◌, true, false, Some, List, Ok, is_some}
+use Rattle.std.specs.Prelude.{◌≡◌, ◌&&◌, true, Some, List, is_some}
 use Rattle.std.specs.Option.{option_map_or}
 use Rattle.vme_model.specs.declared.boards.Row.{Row}
 use Rattle.vme_model.specs.declared.pins.Pins.{Pins}
-use Rattle.vme_model.specs.declared.refusals.Refused.TheVariants.{AlreadyThere, Rule}
 use Rattle.vme_model.specs.declared.signals.Driver.TheVariants.{Slot}
 use Rattle.vme_model.specs.declared.signals.Version.{Version}
 use Rattle.vme_model.specs.declared.signals.Edge.{Edge}
 use Rattle.vme_model.specs.Signals.{is_well_formed}
 use Rattle.vme_model.specs.Plan.{Plan, board, drives, grant_chain}
-use Rattle.vme_model.specs.History.{drive}
 use Rattle.vme_model.specs.Readings.{readings}
-use Rattle.vme_model.specs.Rules.{rule}
-use Rattle.vme_model.specs.Verdict.{Judgement, check, is_other_state, allowed}
+use Rattle.vme_model.specs.Verdict.{Judgement, ruling}
 use Rattle.vme_model.specs.Views.{pins}
 use Rattle.vme_chain.specs.Segments.{input}
 use Rattle.vme_wiring.specs.Chained.{chain_at}
 use Rattle.vme_wiring.specs.declared.chains.Chains.{Chains}
 
 abbrev pub asked : Version → Plan → List Edge → Edge → Judgement
-asked version p h e =
-    check (is_other_state (drive h e.driver e.wire) e.fall) AlreadyThere
-    (check (allowed version p h e) (Rule (rule version (readings p h e.driver) e.wire e.fall e.value).0)
-    (Ok tt))
+asked version p h e = ruling version (readings p h e.driver) e
 
 -- a board's pins, by the chains and the lines that all drivers see alike
 abbrev pub seen_by : Chains → Pins → Row → Pins

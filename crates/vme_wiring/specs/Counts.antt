@@ -1,5 +1,5 @@
 -- The open-collector lines, as counts of the boards that pull them.
-use Rattle.std.specs.Prelude.{◌≡◌, ◌&&◌, ◌+◌, ◌-◌, ◌<◌, if◌then◌else◌, ℕ, Bool, true, false, List, [], ◌∷◌, Option, Some, None, get_or, set, length, nat_lt}
+use Rattle.std.specs.Prelude.{◌≡◌, ◌+◌, ◌-◌, ◌<◌, if◌then◌else◌, ℕ, Bool, true, false, List, [], ◌∷◌, Option, Some, None, get_or, set, length, nat_lt}
 use Rattle.std.specs.Option.{option_map_or}
 use Rattle.vme_model.specs.declared.boards.Row.{Row}
 use Rattle.vme_model.specs.declared.signals.Driver.TheVariants.{Slot}
@@ -9,24 +9,14 @@ use Rattle.vme_model.specs.declared.signals.Edge.{Edge}
 use Rattle.vme_model.specs.declared.pins.Pins.{Pins}
 use Rattle.vme_model.specs.declared.signals.Cycle.{Cycle}
 use Rattle.vme_model.specs.Sets.{bus_levels, irq_levels}
-use Rattle.vme_model.specs.Plan.{Plan, requests_on, interrupts_on, drives}
-use Rattle.vme_model.specs.History.{drive}
+use Rattle.vme_model.specs.Plan.{Plan}
+use Rattle.vme_model.specs.History.{drive, pulls_line, pulls_request, pulls_interrupt}
 use Rattle.vme_wiring.specs.declared.lines.Lines.{Lines}
 
 -- how many boards pull
 abbrev pub pulls : (Row → Bool) → List Row → ℕ
 pulls f [] = 0
 pulls f (r ∷ rows) = if f r then pulls f rows + 1 else pulls f rows
-
--- which boards pull a line, a level's bus request line, and a level's interrupt request line
-abbrev pub pulls_line : List Edge → Wire → Row → Bool
-pulls_line h w r = drives w r && drive h (Slot r.slot) w
-
-abbrev pub pulls_request : List Edge → ℕ → Row → Bool
-pulls_request h n r = requests_on n r && drive h (Slot r.slot) Br
-
-abbrev pub pulls_interrupt : List Edge → ℕ → Row → Bool
-pulls_interrupt h n r = interrupts_on n r && drive h (Slot r.slot) Irq
 
 -- which boards pass a grant on
 abbrev pub passes_grant : List Edge → Row → Bool

@@ -12,14 +12,7 @@ ghost use Rattle.vme_wiring.specs.Chained.{chain_at};
 ghost use Rattle.vme_wiring.specs.Asked.{asked};
 
 use crate::wirings::Wiring;
-use vme_model::{ChainId, Cycle, Driver, Edge, Refused, Version, Wire};
-
-/// Whether these are the rules of the second version.
-fn is_two(version: Version) -> bool
-    ensures { result ≡ is_two version }
-{
-    matches!(version, Version::Two)
-}
+use vme_model::{ChainId, Cycle, Driver, Edge, Refused, Wire};
 
 impl Wiring {
     ghost use Rattle.vme_wiring.specs.Wired.{IsWiringOf};
@@ -81,7 +74,7 @@ impl Wiring {
     fn is_grant_seen(&self, level: u8) -> bool
         ensures { result ≡ (not (is_two self.now.version) || self.now.shared.bbsy || is_past_end (chain_at (grant_chain level) self.now.chains)) }
     {
-        !is_two(self.version)
+        !self.version.is_two()
             || self.shared.bbsy
             || self.chains.is_past_end(ChainId::of_grant(level))
     }
@@ -90,7 +83,7 @@ impl Wiring {
     fn is_grant_gone(&self) -> bool
         ensures { result ≡ (not (is_two self.now.version) || not (nat_lt 0 self.now.lines.bgout)) }
     {
-        !is_two(self.version) || !self.lines.bgout.is_low()
+        !self.version.is_two() || !self.lines.bgout.is_low()
     }
 
     /// The number of the settling rule that names the edge, and whether it holds; 0 where none does.

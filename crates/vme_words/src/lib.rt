@@ -10,10 +10,10 @@ use clap::error::ErrorKind;
 use clap::{ArgMatches, Error};
 use commands::commands;
 use std::alloc::Global;
-use vme_model::Version;
+use vme_model::{TRACE_LIMIT, Version};
 
 /// The most edges that a run makes.
-pub const MOST_EDGES: u32 = 1_048_576;
+pub const MOST_EDGES: u32 = TRACE_LIMIT;
 
 /// The most turns that each driver of a run gets.
 pub const MOST_TURNS: u32 = 1_000_000;

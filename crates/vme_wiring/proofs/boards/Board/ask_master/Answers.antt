@@ -1,7 +1,8 @@
 use Rattle.std.proofs.Common.{◌≡◌, ◌∙◌, refl, sym, ap}
 use Rattle.vme_model.specs.declared.signals.Version.TheVariants.{One}
 use Rattle.vme_model.specs.declared.signals.Wire.TheVariants.{Addr, AddressStrobe, DataStrobe, Bbsy}
-use Rattle.vme_master.specs.Local.{local, ruling_on}
+use Rattle.vme_model.specs.Verdict.{ruling_on}
+use Rattle.vme_master.specs.Local.{local}
 use Rattle.vme_wiring.specs.Asked.{seen_by}
 use Rattle.vme_wiring.specs.Boards.{low_of}
 use Rattle.vme_wiring.proofs.Ruling.{master_ruled, blind_to_inputs}

@@ -11,7 +11,8 @@ use Rattle.vme_model.specs.History.{last_level}
 use Rattle.vme_model.specs.Rules.{pick}
 use Rattle.vme_model.proofs.Bools.{and_left, and_right}
 use Rattle.vme_arbiter.specs.declared.policies.AnyPolicy.{AnyPolicy}
-use Rattle.vme_arbiter.specs.Local.{over, answer}
+use Rattle.vme_model.specs.Verdict.{ruling}
+use Rattle.vme_arbiter.specs.Local.{over}
 use Rattle.vme_wiring.proofs.Asking.{controller_asked}
 use Rattle.vme_wiring.proofs.Noting.{placed_board}
 use Rattle.vme_wiring.proofs.Seeing.{pins_of_board}
@@ -25,7 +26,7 @@ returns-in-Controller c version p h is exists =
     let w = c.args.self.now in
     let picks = ap (λ (a : AnyPolicy). pick a.kind (has_bus_level w.shared.requests) (last_level h)) (ap (λ a. a.0) is.arbiter) in
     c.may.ensures.rows p.arbiter version h (ap (λ a. a.1) is.arbiter) own (λ grant. picks)
-    ∙ ap (λ (x : Pins). answer version (over p.arbiter h x) e) is.shared
+    ∙ ap (λ (x : Pins). ruling version (over p.arbiter h x) e) is.shared
     ∙ controller_asked version p h e c.in-Controller.is formed
 
 pub returns-in-Some : goal.returns-in-Some
