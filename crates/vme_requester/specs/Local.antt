@@ -12,7 +12,7 @@ use Rattle.vme_model.specs.declared.signals.Wire.{Wire}
 use Rattle.vme_model.specs.declared.signals.Wire.TheVariants.{Br, BgOut, Bbsy, Addr, AddressStrobe}
 use Rattle.vme_model.specs.declared.signals.Cycle.{Cycle}
 use Rattle.vme_model.specs.declared.signals.Edge.{Edge}
-use Rattle.vme_model.specs.Sets.{no_levels}
+use Rattle.vme_model.specs.Sets.{no_levels, has_bus_level}
 use Rattle.vme_model.specs.History.{drive}
 use Rattle.vme_model.specs.Readings.{Readings, readings_of_pins}
 use Rattle.vme_model.specs.Rules.{bus_numbers}

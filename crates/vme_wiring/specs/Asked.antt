@@ -1,5 +1,5 @@
 -- What a part is asked: E2 and E3.
-use Rattle.std.specs.Prelude.{◌≡◌, ◌&&◌, true, Some, List, is_some}
+use Rattle.std.specs.Prelude.{◌≡◌, ◌&&◌, true, false, Some, List, is_some}
 use Rattle.std.specs.Option.{option_map_or}
 use Rattle.vme_model.specs.declared.boards.Row.{Row}
 use Rattle.vme_model.specs.declared.pins.Pins.{Pins}
