@@ -8,8 +8,8 @@ use std::marker::Model;
 /// Where the digits end.
 const END: usize = 20;
 
-/// The number of an edge, kept as the verdict line of an edge that is accepted: most lines are of that kind, and are
-/// written as they stand here.
+/// The number of an edge, below 2^64, kept as the verdict line of an edge that is accepted: most lines are of that kind,
+/// and are written as they stand here.
 #[derive(Drop)]
 pub(crate) struct Count {
     n: u64,
@@ -38,7 +38,7 @@ impl Count {
         Count { n, first, line }
     }
 
-    /// Counts on by one.
+    /// Counts on by one. Nine times in ten only the last digit changes.
     #[inline(always)]
     pub(crate) fn advance(&mut self)
         requires { self.old + 1 < 2 ^ 64 }
