@@ -77,8 +77,9 @@ const REFUSED_BEHIND_THE_ACCESS: [(Edge, Refused); 2] = [
     (fall!(FIRST, Wire::Dtack), Refused::TraceFull),
 ];
 
-/// An acknowledge of a request on level 4, up to its answer.
-const ACKNOWLEDGE: [Edge; 10] = [
+/// A request on level 4 is acknowledged and answered at place 10. It stays, and is acknowledged again; now nobody answers,
+/// and the bus timer ends the cycle.
+const ANSWERED_ONCE: [Edge; 26] = [
     fall!(SECOND, Wire::Irq),
     fall!(FIRST, Wire::Br),
     fall!(CONTROLLER, Wire::Bg(3)),
@@ -89,10 +90,6 @@ const ACKNOWLEDGE: [Edge; 10] = [
     fall!(FIRST, Wire::AddressStrobe),
     fall!(FIRST, Wire::DataStrobe),
     fall!(CONTROLLER, Wire::Iack),
-];
-
-/// The answer, and a second acknowledge of the request, which nobody answers: the bus timer ends it.
-const ACKNOWLEDGE_AGAIN: [Edge; 16] = [
     fall!(SECOND, Wire::Dtack),
     rise!(FIRST, Wire::DataStrobe),
     rise!(SECOND, Wire::Dtack),
@@ -112,7 +109,7 @@ const ACKNOWLEDGE_AGAIN: [Edge; 16] = [
 ];
 
 /// Two boards request on one level: the nearer answers first, and then the other.
-const TWO_ACKNOWLEDGES: [Edge; 26] = [
+const ANSWERED_IN_TURN: [Edge; 26] = [
     fall!(SECOND, Wire::Irq),
     fall!(THIRD, Wire::Irq),
     fall!(FIRST, Wire::Br),
@@ -154,6 +151,15 @@ const FROM_THE_THIRD: Delivery = Delivery {
     answered_by: 3,
     status: 66,
 };
+
+/// Three edges of the rounds of 21 boards: from place 24 on the same 22 edges come again and again.
+///
+/// They stand at places 63 to 65, and so, 2,976 times 22 further on, at 65,535 to 65,537.
+const IN_ROUNDS: [Edge; 3] = [
+    rise!(THIRD, Wire::Addr),
+    fall!(Driver::Slot(7), Wire::Br),
+    fall!(THIRD, Wire::Bbsy),
+];
 
 fn board(slot: u8) -> Row {
     Row {
@@ -204,6 +210,25 @@ fn backplane<'r>(
     Ok(Backplane::new(plan, trace, Version::One))
 }
 
+/// Makes the edges, and tells how many were accepted and refused.
+fn run(backplane: &mut Backplane<'_>, edges: &[Edge]) -> (u64, u64) {
+    let counts = backplane.run(edges);
+    (counts.accepted, counts.refused)
+}
+
+fn first_offer(backplane: &Backplane<'_>, driver: Driver) -> Option<Edge> {
+    backplane.offers(driver).as_slice().first().copied()
+}
+
+/// The edge at a place, if so many were made.
+fn made_at(backplane: &Backplane<'_>, place: u32) -> Option<Edge> {
+    if place < backplane.len() {
+        Some(backplane.edge_at(place))
+    } else {
+        None
+    }
+}
+
 /// Each edge is refused, for the reason beside it.
 fn assert_refused(rt: &impl Abort, backplane: &mut Backplane<'_>, cases: &[(Edge, Refused)]) {
     for (edge, refused) in cases {
@@ -221,33 +246,35 @@ fn offers_nothing(backplane: &Backplane<'_>) -> bool {
     true
 }
 
-#[test]
-fn a_full_trace_refuses_last(rt: HostRuntime) -> Result<(), Fail> {
-    let mut region = Region::new(rt.alloc(), Trace::bytes(6))?;
-    let mut backplane = backplane(&rt, &mut region, &[requester(1, 3)], 6)?;
-    assert!(rt; backplane.run(&TENURE).accepted == 6);
-    assert_refused(&rt, &mut backplane, &REFUSED_BEHIND_THE_TENURE);
+/// The edges fill a trace, and then each of the others is refused.
+fn assert_filled<R: AllocGlobal + Abort>(
+    rt: &R,
+    edges: &[Edge],
+    max: u32,
+    refused: &[(Edge, Refused)],
+) -> Result<(), Fail> {
+    let mut region = Region::new(rt.alloc(), Trace::bytes(100))?;
+    let mut backplane = backplane(rt, &mut region, &[requester(1, 3)], max)?;
+    assert!(rt; run(&mut backplane, edges).1 == 0);
+    assert!(rt; backplane.len() == backplane.max());
+    assert_refused(rt, &mut backplane, refused);
     assert!(rt; offers_nothing(&backplane));
     Ok(())
+}
+
+#[test]
+fn a_full_trace_refuses_last(rt: HostRuntime) -> Result<(), Fail> {
+    assert_filled(&rt, &TENURE, 6, &REFUSED_BEHIND_THE_TENURE)
 }
 
 #[test]
 fn a_settling_rule_refuses_before_a_full_trace(rt: HostRuntime) -> Result<(), Fail> {
-    let mut region = Region::new(rt.alloc(), Trace::bytes(6))?;
-    let mut backplane = backplane(&rt, &mut region, &[requester(1, 3)], 6)?;
-    assert!(rt; backplane.run(&ACCESS).accepted == 6);
-    assert_refused(&rt, &mut backplane, &REFUSED_BEHIND_THE_ACCESS);
-    assert!(rt; offers_nothing(&backplane));
-    Ok(())
+    assert_filled(&rt, &ACCESS, 6, &REFUSED_BEHIND_THE_ACCESS)
 }
 
 #[test]
 fn a_trace_of_no_edge_is_full(rt: HostRuntime) -> Result<(), Fail> {
-    let mut region = Region::new(rt.alloc(), 0)?;
-    let mut backplane = backplane(&rt, &mut region, &[requester(1, 3)], 0)?;
-    assert!(rt; backplane.is_empty() && backplane.max() == 0);
-    assert!(rt; backplane.step(TENURE[0]) == Err(Refused::TraceFull));
-    Ok(())
+    assert_filled(&rt, &[], 0, &[(TENURE[0], Refused::TraceFull)])
 }
 
 #[test]
@@ -255,50 +282,41 @@ fn an_acknowledge_is_answered(rt: HostRuntime) -> Result<(), Fail> {
     let mut region = Region::new(rt.alloc(), Trace::bytes(100))?;
     let rows = [handler(), interrupter(2, 65)];
     let mut backplane = backplane(&rt, &mut region, &rows, 100)?;
-    assert!(rt; backplane.run(&ACKNOWLEDGE).accepted == 10);
+    assert!(rt; run(&mut backplane, &ANSWERED_ONCE[..10]) == (10, 0));
     assert!(rt; backplane.pins(SECOND).iack_in);
-    let answer = ACKNOWLEDGE_AGAIN[0];
-    assert!(rt; backplane.offers(SECOND).as_slice() == [answer].as_slice());
+    let answer = ANSWERED_ONCE[10];
+    assert!(rt; first_offer(&backplane, SECOND) == Some(answer));
     assert!(rt; backplane.step(answer) == Ok(Some(FROM_THE_SECOND)));
-    assert!(rt; backplane.len() == 11);
-    assert!(rt; backplane.edge_at(10) == answer);
+    assert!(rt; made_at(&backplane, 10) == Some(answer));
+    Ok(())
+}
+
+/// All but two of the edges are accepted, and deliver this.
+fn assert_delivered<R: AllocGlobal + Abort>(
+    rt: &R,
+    rows: &[Row],
+    edges: &[Edge],
+    deliveries: &[Delivery],
+) -> Result<(), Fail> {
+    let mut region = Region::new(rt.alloc(), Trace::bytes(100))?;
+    let mut backplane = backplane(rt, &mut region, rows, 100)?;
+    assert!(rt; run(&mut backplane, edges) == (24, 2));
+    assert!(rt; backplane.deliveries(rt.alloc())?.as_slice() == deliveries);
     Ok(())
 }
 
 #[test]
 fn a_status_is_delivered_once(rt: HostRuntime) -> Result<(), Fail> {
-    let mut region = Region::new(rt.alloc(), Trace::bytes(100))?;
     let rows = [handler(), interrupter(2, 65)];
-    let mut backplane = backplane(&rt, &mut region, &rows, 100)?;
-    assert!(rt; backplane.run(&ACKNOWLEDGE).accepted == 10);
-    let counts = backplane.run(&ACKNOWLEDGE_AGAIN);
-    assert!(rt; counts.accepted == 14 && counts.refused == 2);
-    let deliveries = backplane.deliveries(rt.alloc())?;
-    assert!(rt; deliveries.as_slice() == [FROM_THE_SECOND].as_slice());
-    Ok(())
+    assert_delivered(&rt, &rows, &ANSWERED_ONCE, &[FROM_THE_SECOND])
 }
 
 #[test]
 fn two_statuses_are_delivered_in_turn(rt: HostRuntime) -> Result<(), Fail> {
-    let mut region = Region::new(rt.alloc(), Trace::bytes(100))?;
     let rows = [handler(), interrupter(2, 65), interrupter(3, 66)];
-    let mut backplane = backplane(&rt, &mut region, &rows, 100)?;
-    let counts = backplane.run(&TWO_ACKNOWLEDGES);
-    assert!(rt; counts.accepted == 24 && counts.refused == 2);
-    let deliveries = backplane.deliveries(rt.alloc())?;
-    assert!(rt; deliveries.as_slice() == [FROM_THE_SECOND, FROM_THE_THIRD].as_slice());
-    Ok(())
+    let deliveries = [FROM_THE_SECOND, FROM_THE_THIRD];
+    assert_delivered(&rt, &rows, &ANSWERED_IN_TURN, &deliveries)
 }
-
-/// A request, a grant and what follows, made in rounds: from place 43 on the same 22 edges come again and again.
-///
-/// So places 63 and 65,535 (2,976 times 22 further on) have the first of these, 64 and 65,536 the second, and 65,537 the
-/// third.
-const IN_ROUNDS: [Edge; 3] = [
-    rise!(THIRD, Wire::Addr),
-    fall!(Driver::Slot(7), Wire::Br),
-    fall!(THIRD, Wire::Bbsy),
-];
 
 /// 21 boards that request on four levels.
 fn full_backplane<'r>(
@@ -315,15 +333,17 @@ fn full_backplane<'r>(
     Ok(Backplane::new(plan, trace, Version::One))
 }
 
-/// A driver with k offers makes the one at place `round mod k`.
-fn take_turn(backplane: &mut Backplane<'_>, round: u32, driver: Driver) {
-    let offers = backplane.offers(driver);
-    let offers = offers.as_slice();
+/// Of k offers the one at place `round mod k`.
+fn choice(offers: &[Edge], round: u32) -> Option<Edge> {
     if offers.is_empty() {
-        return;
+        return None;
     }
-    if let Some(edge) = offers.get(round as usize % offers.len()) {
-        let _ = backplane.step(*edge);
+    offers.get(round as usize % offers.len()).copied()
+}
+
+fn take_turn(backplane: &mut Backplane<'_>, round: u32, driver: Driver) {
+    if let Some(edge) = choice(backplane.offers(driver).as_slice(), round) {
+        let _ = backplane.step(edge);
     }
 }
 
@@ -345,32 +365,31 @@ fn take_rounds(backplane: &mut Backplane<'_>) {
     }
 }
 
-/// The edge at a place, if so many were made.
-fn made_at(backplane: &Backplane<'_>, place: u32) -> Option<Edge> {
-    if place < backplane.len() {
-        Some(backplane.edge_at(place))
-    } else {
-        None
+/// Rounds on a trace of so many edges, on so many bytes, make these edges at their places; the next is refused.
+fn assert_rounds<R: AllocGlobal + Abort>(
+    rt: &R,
+    bytes: usize,
+    max: u32,
+    made: &[(u32, Edge)],
+    next: Edge,
+) -> Result<(), Fail> {
+    let mut region = Region::new(rt.alloc(), bytes)?;
+    let mut backplane = full_backplane(rt, &mut region, max)?;
+    take_rounds(&mut backplane);
+    for (place, edge) in made {
+        assert!(rt; made_at(&backplane, *place) == Some(*edge));
     }
+    assert_refused(rt, &mut backplane, &[(next, Refused::TraceFull)]);
+    Ok(())
 }
 
 #[test]
 fn rounds_fill_a_short_lease(rt: HostRuntime) -> Result<(), Fail> {
-    let mut region = Region::new(rt.alloc(), 256)?;
-    let mut backplane = full_backplane(&rt, &mut region, 64)?;
-    take_rounds(&mut backplane);
-    assert!(rt; made_at(&backplane, 63) == Some(IN_ROUNDS[0]));
-    assert_refused(&rt, &mut backplane, &[(IN_ROUNDS[1], Refused::TraceFull)]);
-    Ok(())
+    assert_rounds(&rt, 256, 64, &[(63, IN_ROUNDS[0])], IN_ROUNDS[1])
 }
 
 #[test]
 fn rounds_fill_two_pages(rt: HostRuntime) -> Result<(), Fail> {
-    let mut region = Region::new(rt.alloc(), Trace::bytes(65_537))?;
-    let mut backplane = full_backplane(&rt, &mut region, 65_537)?;
-    take_rounds(&mut backplane);
-    assert!(rt; made_at(&backplane, 65_535) == Some(IN_ROUNDS[0]));
-    assert!(rt; made_at(&backplane, 65_536) == Some(IN_ROUNDS[1]));
-    assert_refused(&rt, &mut backplane, &[(IN_ROUNDS[2], Refused::TraceFull)]);
-    Ok(())
+    let made = [(65_535, IN_ROUNDS[0]), (65_536, IN_ROUNDS[1])];
+    assert_rounds(&rt, Trace::bytes(65_537), 65_537, &made, IN_ROUNDS[2])
 }
