@@ -53,7 +53,7 @@ const TENURE: [Edge; 6] = [
     rise!(FIRST, Wire::Bbsy),
 ];
 
-/// The tenure's edges and one more, on a trace that they fill: which refusal comes before which.
+/// On a trace that the tenure fills: the other refusals come before that of a full trace.
 const REFUSED_BEHIND_THE_TENURE: [(Edge, Refused); 4] = [
     (fall!(SECOND, Wire::Br), Refused::NoSuchDriver),
     (rise!(FIRST, Wire::Br), Refused::AlreadyThere),
@@ -71,7 +71,7 @@ const ACCESS: [Edge; 6] = [
     fall!(FIRST, Wire::DataStrobe),
 ];
 
-/// The bus timer may not end a cycle that a board can answer.
+/// On a trace that the access fills: the bus timer may not end a cycle that a board can answer.
 const REFUSED_BEHIND_THE_ACCESS: [(Edge, Refused); 2] = [
     (fall!(CONTROLLER, Wire::Berr), Refused::NotSettled(2)),
     (fall!(FIRST, Wire::Dtack), Refused::TraceFull),
@@ -220,6 +220,19 @@ fn first_offer(backplane: &Backplane<'_>, driver: Driver) -> Option<Edge> {
     backplane.offers(driver).as_slice().first().copied()
 }
 
+/// What the edge delivers, if it is accepted.
+fn delivered_by(backplane: &mut Backplane<'_>, edge: Edge) -> Option<Delivery> {
+    match backplane.step(edge) {
+        Ok(delivery) => delivery,
+        Err(_) => None,
+    }
+}
+
+/// Whether it is at power-up, under the first version, with three slots.
+fn is_new(backplane: &Backplane<'_>) -> bool {
+    backplane.is_empty() && backplane.version() == Version::One && backplane.plan().slots() == 3
+}
+
 /// The edge at a place, if so many were made.
 fn made_at(backplane: &Backplane<'_>, place: u32) -> Option<Edge> {
     if place < backplane.len() {
@@ -282,11 +295,12 @@ fn an_acknowledge_is_answered(rt: HostRuntime) -> Result<(), Fail> {
     let mut region = Region::new(rt.alloc(), Trace::bytes(100))?;
     let rows = [handler(), interrupter(2, 65)];
     let mut backplane = backplane(&rt, &mut region, &rows, 100)?;
+    assert!(rt; is_new(&backplane));
     assert!(rt; run(&mut backplane, &ANSWERED_ONCE[..10]) == (10, 0));
     assert!(rt; backplane.pins(SECOND).iack_in);
     let answer = ANSWERED_ONCE[10];
     assert!(rt; first_offer(&backplane, SECOND) == Some(answer));
-    assert!(rt; backplane.step(answer) == Ok(Some(FROM_THE_SECOND)));
+    assert!(rt; delivered_by(&mut backplane, answer) == Some(FROM_THE_SECOND));
     assert!(rt; made_at(&backplane, 10) == Some(answer));
     Ok(())
 }
