@@ -1,6 +1,7 @@
-//! Each call once: an interrupt that is acknowledged, and the end of a trace.
+//! What no clause says: worked traces with what they deliver, and the end of a trace.
 use crate::{Backplane, Trace};
 use bitflags::Flags;
+use std::process::Abort;
 use std::test::*;
 use vme_arena::Region;
 use vme_model::{
@@ -9,116 +10,400 @@ use vme_model::{
 };
 use vme_slots::Plan;
 
-const MASTER: Driver = Driver::Slot(1);
+const CONTROLLER: Driver = Driver::Controller;
 
-const INTERRUPTER: Driver = Driver::Slot(2);
+const FIRST: Driver = Driver::Slot(1);
 
-fn fall(driver: Driver, wire: Wire) -> Edge {
-    Edge {
-        driver,
-        wire,
-        fall: true,
-        value: None,
+const SECOND: Driver = Driver::Slot(2);
+
+const THIRD: Driver = Driver::Slot(3);
+
+macro_rules! fall {
+    ($driver:expr, $wire:expr) => {
+        fall!($driver, $wire, None)
+    };
+    ($driver:expr, $wire:expr, $value:expr) => {
+        Edge {
+            driver: $driver,
+            wire: $wire,
+            fall: true,
+            value: $value,
+        }
+    };
+}
+
+macro_rules! rise {
+    ($driver:expr, $wire:expr) => {
+        Edge {
+            driver: $driver,
+            wire: $wire,
+            fall: false,
+            value: None,
+        }
+    };
+}
+
+/// A board requests the bus, takes it and lets it go.
+const TENURE: [Edge; 6] = [
+    fall!(FIRST, Wire::Br),
+    fall!(CONTROLLER, Wire::Bg(3)),
+    fall!(FIRST, Wire::Bbsy),
+    rise!(FIRST, Wire::Br),
+    rise!(CONTROLLER, Wire::Bg(3)),
+    rise!(FIRST, Wire::Bbsy),
+];
+
+/// On a trace that the tenure fills: the other refusals come before that of a full trace.
+const REFUSED_BEHIND_THE_TENURE: [(Edge, Refused); 4] = [
+    (fall!(SECOND, Wire::Br), Refused::NoSuchDriver),
+    (rise!(FIRST, Wire::Br), Refused::AlreadyThere),
+    (fall!(FIRST, Wire::Bbsy), Refused::Rule(13)),
+    (fall!(FIRST, Wire::Br), Refused::TraceFull),
+];
+
+/// A master accesses its own board's register.
+const ACCESS: [Edge; 6] = [
+    fall!(FIRST, Wire::Br),
+    fall!(CONTROLLER, Wire::Bg(3)),
+    fall!(FIRST, Wire::Bbsy),
+    fall!(FIRST, Wire::Addr, Some(Cycle::Access(1))),
+    fall!(FIRST, Wire::AddressStrobe),
+    fall!(FIRST, Wire::DataStrobe),
+];
+
+/// On a trace that the access fills: the bus timer may not end a cycle that a board can answer.
+const REFUSED_BEHIND_THE_ACCESS: [(Edge, Refused); 2] = [
+    (fall!(CONTROLLER, Wire::Berr), Refused::NotSettled(2)),
+    (fall!(FIRST, Wire::Dtack), Refused::TraceFull),
+];
+
+/// A request on level 4 is acknowledged and answered at place 10. It stays, and is acknowledged again; now nobody answers,
+/// and the bus timer ends the cycle.
+const ANSWERED_ONCE: [Edge; 26] = [
+    fall!(SECOND, Wire::Irq),
+    fall!(FIRST, Wire::Br),
+    fall!(CONTROLLER, Wire::Bg(3)),
+    fall!(FIRST, Wire::Bbsy),
+    rise!(FIRST, Wire::Br),
+    rise!(CONTROLLER, Wire::Bg(3)),
+    fall!(FIRST, Wire::Addr, Some(Cycle::Acknowledge(4))),
+    fall!(FIRST, Wire::AddressStrobe),
+    fall!(FIRST, Wire::DataStrobe),
+    fall!(CONTROLLER, Wire::Iack),
+    fall!(SECOND, Wire::Dtack),
+    rise!(FIRST, Wire::DataStrobe),
+    rise!(SECOND, Wire::Dtack),
+    rise!(FIRST, Wire::Addr),
+    rise!(FIRST, Wire::AddressStrobe),
+    rise!(CONTROLLER, Wire::Iack),
+    fall!(FIRST, Wire::Addr, Some(Cycle::Acknowledge(4))),
+    fall!(FIRST, Wire::AddressStrobe),
+    fall!(FIRST, Wire::DataStrobe),
+    fall!(CONTROLLER, Wire::Iack),
+    fall!(SECOND, Wire::Dtack),
+    fall!(CONTROLLER, Wire::Berr),
+    fall!(SECOND, Wire::IackOut),
+    fall!(CONTROLLER, Wire::Berr),
+    rise!(FIRST, Wire::DataStrobe),
+    rise!(CONTROLLER, Wire::Berr),
+];
+
+/// Two boards request on one level: the nearer answers first, and then the other.
+const ANSWERED_IN_TURN: [Edge; 26] = [
+    fall!(SECOND, Wire::Irq),
+    fall!(THIRD, Wire::Irq),
+    fall!(FIRST, Wire::Br),
+    fall!(CONTROLLER, Wire::Bg(3)),
+    fall!(FIRST, Wire::Bbsy),
+    rise!(FIRST, Wire::Br),
+    rise!(CONTROLLER, Wire::Bg(3)),
+    fall!(FIRST, Wire::Addr, Some(Cycle::Acknowledge(4))),
+    fall!(FIRST, Wire::AddressStrobe),
+    fall!(FIRST, Wire::DataStrobe),
+    fall!(CONTROLLER, Wire::Iack),
+    fall!(THIRD, Wire::Dtack),
+    fall!(SECOND, Wire::Dtack),
+    rise!(FIRST, Wire::DataStrobe),
+    rise!(SECOND, Wire::Dtack),
+    rise!(SECOND, Wire::Irq),
+    rise!(FIRST, Wire::Addr),
+    rise!(FIRST, Wire::AddressStrobe),
+    fall!(FIRST, Wire::Addr, Some(Cycle::Acknowledge(4))),
+    fall!(FIRST, Wire::AddressStrobe),
+    rise!(CONTROLLER, Wire::Iack),
+    fall!(FIRST, Wire::AddressStrobe),
+    fall!(FIRST, Wire::DataStrobe),
+    fall!(CONTROLLER, Wire::Iack),
+    fall!(SECOND, Wire::IackOut),
+    fall!(THIRD, Wire::Dtack),
+];
+
+const FROM_THE_SECOND: Delivery = Delivery {
+    handler: 1,
+    level: 4,
+    answered_by: 2,
+    status: 65,
+};
+
+const FROM_THE_THIRD: Delivery = Delivery {
+    handler: 1,
+    level: 4,
+    answered_by: 3,
+    status: 66,
+};
+
+/// Three edges of the rounds of 21 boards: from place 24 on the same 22 edges come again and again.
+///
+/// They stand at places 63 to 65, and so, 2,976 times 22 further on, at 65,535 to 65,537.
+const IN_ROUNDS: [Edge; 3] = [
+    rise!(THIRD, Wire::Addr),
+    fall!(Driver::Slot(7), Wire::Br),
+    fall!(THIRD, Wire::Bbsy),
+];
+
+fn board(slot: u8) -> Row {
+    Row {
+        slot,
+        requester: None,
+        interrupter: None,
+        handler: Levels::empty(),
     }
 }
 
-/// A master in slot 1 that handles level 4, and an interrupter of that level in slot 2.
-fn boards() -> [Row; 2] {
-    let master = Row {
-        slot: 1,
-        requester: Some(RequesterRow {
-            level: 3,
-            release: Release::Done { burst: 1 },
-        }),
-        interrupter: None,
-        handler: Levels::IRQ4,
-    };
-    let interrupter = Row {
-        slot: 2,
-        requester: None,
+fn requester(slot: u8, level: u8) -> Row {
+    let release = Release::Done { burst: 2 };
+    Row {
+        requester: Some(RequesterRow { level, release }),
+        ..board(slot)
+    }
+}
+
+fn interrupter(slot: u8, status: u8) -> Row {
+    let kind = IrqKind::Roak;
+    Row {
         interrupter: Some(InterrupterRow {
             level: 4,
-            kind: IrqKind::Roak,
-            status: 65,
+            kind,
+            status,
         }),
-        handler: Levels::empty(),
-    };
-    [master, interrupter]
+        ..board(slot)
+    }
 }
 
-/// Memory for a short trace.
-fn memory(rt: &impl AllocGlobal) -> Result<Region, Fail> {
-    Ok(Region::new(rt.alloc(), Trace::bytes(100))?)
+/// A master that handles level 4.
+fn handler() -> Row {
+    Row {
+        handler: Levels::IRQ4,
+        ..requester(1, 3)
+    }
 }
 
+/// A backplane of a master and the boards behind it, at the front of a region.
 fn backplane<'r>(
     rt: &impl AllocGlobal,
     region: &'r mut Region,
+    rows: &[Row],
     max: u32,
 ) -> Result<Backplane<'r>, Fail> {
-    let plan = Plan::new(rt.alloc(), 2, &boards(), &[], ArbiterKind::Sgl)?;
+    let plan = Plan::new(rt.alloc(), 3, rows, &[], ArbiterKind::Sgl)?;
     let trace = Trace::on(rt.alloc(), &mut region.rest(), max)?;
     Ok(Backplane::new(plan, trace, Version::One))
 }
 
-#[test]
-fn an_acknowledge_is_delivered(rt: HostRuntime) -> Result<(), Fail> {
-    let mut region = memory(&rt)?;
-    let mut backplane = backplane(&rt, &mut region, 100)?;
-    let shown = Edge {
-        value: Some(Cycle::Acknowledge(4)),
-        ..fall(MASTER, Wire::Addr)
-    };
-    let counts = backplane.run(&[
-        fall(INTERRUPTER, Wire::Irq),
-        fall(MASTER, Wire::Br),
-        fall(Driver::Controller, Wire::Bg(3)),
-        fall(MASTER, Wire::Bbsy),
-        fall(MASTER, Wire::DataStrobe),
-        shown,
-        fall(MASTER, Wire::AddressStrobe),
-        fall(MASTER, Wire::DataStrobe),
-        fall(Driver::Controller, Wire::Iack),
-    ]);
-    assert_eq!(rt; (counts.accepted, counts.refused), (8, 1));
-    assert!(rt; backplane.pins(INTERRUPTER).iack_in);
-    let answer = fall(INTERRUPTER, Wire::Dtack);
-    assert_eq!(rt;
-        backplane.offers(INTERRUPTER).as_slice(),
-        [answer].as_slice()
-    );
-    let delivery = Delivery {
-        handler: 1,
-        level: 4,
-        answered_by: 2,
-        status: 65,
-    };
-    assert_eq!(rt; backplane.step(answer), Ok(Some(delivery)));
-    assert_eq!(rt;
-        backplane.deliveries(rt.alloc())?.as_slice(),
-        [delivery].as_slice()
-    );
-    assert_eq!(rt; backplane.len(), 9);
-    assert_eq!(rt; backplane.edge_at(4), shown);
-    assert_eq!(rt;
-        (backplane.version(), backplane.plan().slots()),
-        (Version::One, 2)
-    );
+/// Makes the edges, and tells how many were accepted and refused.
+fn run(backplane: &mut Backplane<'_>, edges: &[Edge]) -> (u64, u64) {
+    let counts = backplane.run(edges);
+    (counts.accepted, counts.refused)
+}
+
+fn first_offer(backplane: &Backplane<'_>, driver: Driver) -> Option<Edge> {
+    backplane.offers(driver).as_slice().first().copied()
+}
+
+/// What the edge delivers, if it is accepted.
+fn delivered_by(backplane: &mut Backplane<'_>, edge: Edge) -> Option<Delivery> {
+    match backplane.step(edge) {
+        Ok(delivery) => delivery,
+        Err(_) => None,
+    }
+}
+
+/// Whether it is at power-up, under the first version, with three slots.
+fn is_new(backplane: &Backplane<'_>) -> bool {
+    backplane.is_empty() && backplane.version() == Version::One && backplane.plan().slots() == 3
+}
+
+/// The edge at a place, if so many were made.
+fn made_at(backplane: &Backplane<'_>, place: u32) -> Option<Edge> {
+    if place < backplane.len() {
+        Some(backplane.edge_at(place))
+    } else {
+        None
+    }
+}
+
+/// Each edge is refused, for the reason beside it.
+fn assert_refused(rt: &impl Abort, backplane: &mut Backplane<'_>, cases: &[(Edge, Refused)]) {
+    for (edge, refused) in cases {
+        assert!(rt; backplane.step(*edge) == Err(*refused));
+    }
+}
+
+/// Whether no driver is offered anything.
+fn offers_nothing(backplane: &Backplane<'_>) -> bool {
+    for driver in [CONTROLLER, FIRST] {
+        if !backplane.offers(driver).is_empty() {
+            return false;
+        }
+    }
+    true
+}
+
+/// The edges fill a trace, and then each of the others is refused.
+fn assert_filled<R: AllocGlobal + Abort>(
+    rt: &R,
+    edges: &[Edge],
+    max: u32,
+    refused: &[(Edge, Refused)],
+) -> Result<(), Fail> {
+    let mut region = Region::new(rt.alloc(), Trace::bytes(100))?;
+    let mut backplane = backplane(rt, &mut region, &[requester(1, 3)], max)?;
+    assert!(rt; run(&mut backplane, edges).1 == 0);
+    assert!(rt; backplane.len() == backplane.max());
+    assert_refused(rt, &mut backplane, refused);
+    assert!(rt; offers_nothing(&backplane));
     Ok(())
 }
 
 #[test]
 fn a_full_trace_refuses_last(rt: HostRuntime) -> Result<(), Fail> {
-    let mut region = memory(&rt)?;
-    let mut backplane = backplane(&rt, &mut region, 1)?;
-    assert!(rt; backplane.is_empty());
-    assert_eq!(rt; backplane.step(fall(MASTER, Wire::Br)), Ok(None));
-    assert_eq!(rt;
-        backplane.step(fall(MASTER, Wire::Br)),
-        Err(Refused::AlreadyThere)
-    );
-    let grant = fall(Driver::Controller, Wire::Bg(3));
-    assert_eq!(rt; backplane.step(grant), Err(Refused::TraceFull));
-    assert_eq!(rt; backplane.max(), 1);
+    assert_filled(&rt, &TENURE, 6, &REFUSED_BEHIND_THE_TENURE)
+}
+
+#[test]
+fn a_settling_rule_refuses_before_a_full_trace(rt: HostRuntime) -> Result<(), Fail> {
+    assert_filled(&rt, &ACCESS, 6, &REFUSED_BEHIND_THE_ACCESS)
+}
+
+#[test]
+fn a_trace_of_no_edge_is_full(rt: HostRuntime) -> Result<(), Fail> {
+    assert_filled(&rt, &[], 0, &[(TENURE[0], Refused::TraceFull)])
+}
+
+#[test]
+fn an_acknowledge_is_answered(rt: HostRuntime) -> Result<(), Fail> {
+    let mut region = Region::new(rt.alloc(), Trace::bytes(100))?;
+    let rows = [handler(), interrupter(2, 65)];
+    let mut backplane = backplane(&rt, &mut region, &rows, 100)?;
+    assert!(rt; is_new(&backplane));
+    assert!(rt; run(&mut backplane, &ANSWERED_ONCE[..10]) == (10, 0));
+    assert!(rt; backplane.pins(SECOND).iack_in);
+    let answer = ANSWERED_ONCE[10];
+    assert!(rt; first_offer(&backplane, SECOND) == Some(answer));
+    assert!(rt; delivered_by(&mut backplane, answer) == Some(FROM_THE_SECOND));
+    assert!(rt; made_at(&backplane, 10) == Some(answer));
     Ok(())
+}
+
+/// All but two of the edges are accepted, and deliver this.
+fn assert_delivered<R: AllocGlobal + Abort>(
+    rt: &R,
+    rows: &[Row],
+    edges: &[Edge],
+    deliveries: &[Delivery],
+) -> Result<(), Fail> {
+    let mut region = Region::new(rt.alloc(), Trace::bytes(100))?;
+    let mut backplane = backplane(rt, &mut region, rows, 100)?;
+    assert!(rt; run(&mut backplane, edges) == (24, 2));
+    assert!(rt; backplane.deliveries(rt.alloc())?.as_slice() == deliveries);
+    Ok(())
+}
+
+#[test]
+fn a_status_is_delivered_once(rt: HostRuntime) -> Result<(), Fail> {
+    let rows = [handler(), interrupter(2, 65)];
+    assert_delivered(&rt, &rows, &ANSWERED_ONCE, &[FROM_THE_SECOND])
+}
+
+#[test]
+fn two_statuses_are_delivered_in_turn(rt: HostRuntime) -> Result<(), Fail> {
+    let rows = [handler(), interrupter(2, 65), interrupter(3, 66)];
+    let deliveries = [FROM_THE_SECOND, FROM_THE_THIRD];
+    assert_delivered(&rt, &rows, &ANSWERED_IN_TURN, &deliveries)
+}
+
+/// 21 boards that request on four levels.
+fn full_backplane<'r>(
+    rt: &impl AllocGlobal,
+    region: &'r mut Region,
+    max: u32,
+) -> Result<Backplane<'r>, Fail> {
+    let mut rows = Vec::new(rt.alloc());
+    for slot in 1..22 {
+        rows.push(requester(slot, slot % 4))?;
+    }
+    let plan = Plan::new(rt.alloc(), 21, &rows, &[], ArbiterKind::Pri)?;
+    let trace = Trace::on(rt.alloc(), &mut region.rest(), max)?;
+    Ok(Backplane::new(plan, trace, Version::One))
+}
+
+/// Of k offers the one at place `round mod k`.
+fn choice(offers: &[Edge], round: u32) -> Option<Edge> {
+    if offers.is_empty() {
+        return None;
+    }
+    offers.get(round as usize % offers.len()).copied()
+}
+
+fn take_turn(backplane: &mut Backplane<'_>, round: u32, driver: Driver) {
+    if let Some(edge) = choice(backplane.offers(driver).as_slice(), round) {
+        let _ = backplane.step(edge);
+    }
+}
+
+/// The controller's turn, and then each board's.
+fn take_turns(backplane: &mut Backplane<'_>, round: u32) {
+    take_turn(backplane, round, CONTROLLER);
+    for slot in 1..22 {
+        take_turn(backplane, round, Driver::Slot(slot));
+    }
+}
+
+/// Rounds, until the trace is full.
+fn take_rounds(backplane: &mut Backplane<'_>) {
+    for round in 0..backplane.max() {
+        if backplane.len() == backplane.max() {
+            return;
+        }
+        take_turns(backplane, round);
+    }
+}
+
+/// Rounds on a trace of so many edges, on so many bytes, make these edges at their places; the next is refused.
+fn assert_rounds<R: AllocGlobal + Abort>(
+    rt: &R,
+    bytes: usize,
+    max: u32,
+    made: &[(u32, Edge)],
+    next: Edge,
+) -> Result<(), Fail> {
+    let mut region = Region::new(rt.alloc(), bytes)?;
+    let mut backplane = full_backplane(rt, &mut region, max)?;
+    take_rounds(&mut backplane);
+    for (place, edge) in made {
+        assert!(rt; made_at(&backplane, *place) == Some(*edge));
+    }
+    assert_refused(rt, &mut backplane, &[(next, Refused::TraceFull)]);
+    Ok(())
+}
+
+#[test]
+fn rounds_fill_a_short_lease(rt: HostRuntime) -> Result<(), Fail> {
+    assert_rounds(&rt, 256, 64, &[(63, IN_ROUNDS[0])], IN_ROUNDS[1])
+}
+
+#[test]
+fn rounds_fill_two_pages(rt: HostRuntime) -> Result<(), Fail> {
+    let made = [(65_535, IN_ROUNDS[0]), (65_536, IN_ROUNDS[1])];
+    assert_rounds(&rt, Trace::bytes(65_537), 65_537, &made, IN_ROUNDS[2])
 }
