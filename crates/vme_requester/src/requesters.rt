@@ -164,27 +164,6 @@ impl Requester {
         }
     }
 
-    /// An edge of its bus request was made.
-    pub fn request(&mut self, fall: bool)
-        ensures { self.new ≡ record self.old { br = fall } }
-    {
-        self.br = fall;
-    }
-
-    /// An edge of its bus grant out was made.
-    pub fn pass(&mut self, fall: bool)
-        ensures { self.new ≡ record self.old { bgout = fall } }
-    {
-        self.bgout = fall;
-    }
-
-    /// An edge of its bus busy was made.
-    pub fn hold(&mut self, fall: bool)
-        ensures { self.new ≡ record self.old { bbsy = fall } }
-    {
-        self.bbsy = fall;
-    }
-
     /// Takes in an edge that was made; one of another driver or wire changes nothing.
     pub fn note(&mut self, edge: Edge)
         ensures { (s : ℕ) (row : RowValue) (version : VersionValue) (noted : List EdgeValue) → self.old ≡ state_of s row version noted → self.new ≡ state_of s row version (edge ∷ noted) }

@@ -110,12 +110,7 @@ impl Board {
     }
 
     /// E2 and E3 for an edge of its requester's.
-    fn ask_requester(
-        &self,
-        edge: Edge,
-        lines: &Pins,
-        chains: &Chains,
-    ) -> Result<(), Refused>
+    fn ask_requester(&self, edge: Edge, lines: &Pins, chains: &Chains) -> Result<(), Refused>
         ensures { (version : VersionValue) (p : Plan) (h : List EdgeValue) (r : RowValue) → self.now ≡ parts_of version p h r → IsAsked p h r (seen_by chains.now lines.now self.now.row) edge → is_requesters edge.wire ≡ true → result ≡ asked version p h edge }
     {
         match &self.requester {
@@ -151,12 +146,7 @@ impl Board {
     }
 
     /// E2 and E3 for an edge of its interrupter's.
-    fn ask_interrupter(
-        &self,
-        edge: Edge,
-        lines: &Pins,
-        chains: &Chains,
-    ) -> Result<(), Refused>
+    fn ask_interrupter(&self, edge: Edge, lines: &Pins, chains: &Chains) -> Result<(), Refused>
         ensures { (version : VersionValue) (p : Plan) (h : List EdgeValue) (r : RowValue) → self.now ≡ parts_of version p h r → IsAsked p h r (seen_by chains.now lines.now self.now.row) edge → is_interrupters edge.wire ≡ true → result ≡ asked version p h edge }
     {
         match edge.wire {
