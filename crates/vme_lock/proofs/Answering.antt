@@ -1,12 +1,11 @@
 -- What the tests of a hold say of its answer.
-use Rattle.std.proofs.Common.{◌≡◌, ◌≢◌, ℕ, ◌+◌, ◌≤◌, Bool, true, false, refl, sym, ap, ◌∙◌, subst, arith, length}
-use Rattle.std.specs.Prelude.{◌==◌, not, if◌then◌else◌, Option, Result, Ok, Err}
+use Rattle.std.proofs.Common.{◌≡◌, ◌≢◌, ℕ, ◌≤◌, Bool, true, false, refl, sym, ap, ◌∙◌, subst, arith, length}
+use Rattle.std.specs.Prelude.{◌==◌, not, if◌then◌else◌, Ok, Err}
 use Rattle.std.proofs.lemmas.Bool.{eq-eqb}
 use Rattle.std.proofs.lemmas.Bool.Decides.{nat_tests}
 use Rattle.std.proofs.lemmas.List.Sums.{count_by-le-length}
 use Rattle.vme_model.specs.declared.signals.Driver.{Driver}
 use Rattle.vme_model.specs.declared.signals.Edge.{Edge}
-use Rattle.vme_model.specs.declared.deliveries.Delivery.{Delivery}
 use Rattle.vme_model.specs.Signals.{is_same_driver}
 use Rattle.vme_model.specs.Verdict.{State}
 use Rattle.vme_model.specs.Deliveries.{answer}
@@ -14,8 +13,6 @@ use Rattle.vme_model.specs.Counts.{count}
 use Rattle.vme_model.specs.Offers.{offered}
 use Rattle.vme_model.specs.Views.{pins}
 use Rattle.vme_lock.specs.declared.views.View.{View}
-use Rattle.vme_lock.specs.declared.views.Lost.{Lost}
-use Rattle.vme_lock.specs.declared.views.EdgeRefused.{EdgeRefused}
 use Rattle.vme_lock.specs.declared.views.EdgeRefused.TheVariants as refused
 use Rattle.vme_lock.specs.Seats.{Place}
 use Rattle.vme_lock.specs.Holds.{is_lost, lost, view_of, look_answer, edge_answer, by_step}

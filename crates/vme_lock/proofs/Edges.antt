@@ -1,5 +1,5 @@
 -- When two edges are one.
-use Rattle.std.proofs.Common.{◌≡◌, ℕ, Bool, true, false, ◌&&◌, cond, refl, sym, ap, ◌∙◌, subst, arith, Option, Some, None}
+use Rattle.std.proofs.Common.{◌≡◌, ℕ, Bool, true, false, ◌&&◌, cond, refl, sym, ap, subst, arith, Option, Some, None}
 use Rattle.std.specs.Prelude.{◌==◌}
 use Rattle.std.proofs.lemmas.Bool.Decides.{nat_tests}
 use Rattle.vme_model.specs.declared.signals.Driver.{Driver}
@@ -10,7 +10,7 @@ use Rattle.vme_model.specs.declared.signals.Cycle.{Cycle}
 use Rattle.vme_model.specs.declared.signals.Cycle.TheVariants.{Acknowledge, Access}
 use Rattle.vme_model.specs.declared.signals.Edge.{Edge}
 use Rattle.vme_model.specs.Signals.{is_same_driver, is_same_wire}
-use Rattle.vme_lock.specs.Logs.{is_same_cycle, is_same_value, is_same_turn, is_same_edge}
+use Rattle.vme_lock.specs.Logs.{is_same_value, is_same_turn, is_same_edge}
 
 pub never : true ≡ false → ⊥
 never e = let P : Bool → Type 0 = λ b. cond b (Unit {0}) ⊥ in subst P e tt

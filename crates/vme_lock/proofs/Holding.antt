@@ -1,16 +1,14 @@
 -- What a hold leaves of the locked value.
-use Rattle.std.proofs.Common.{◌≡◌, ℕ, ◌+◌, List, [], ◌∷◌, ◌++◌, length, Bool, true, false, refl, sym, ap, ◌∙◌, subst, arith}
-use Rattle.std.specs.Prelude.{◌==◌, if◌then◌else◌, cond, Option, Result, Ok, Err, is_ok, slice_index, slice_set}
-use Rattle.std.proofs.lemmas.Bool.Decides.{nat_tests}
+use Rattle.std.proofs.Common.{◌≡◌, ℕ, ◌+◌, ◌∷◌, Bool, true, false, sym, ap, ◌∙◌, arith}
+use Rattle.std.specs.Prelude.{if◌then◌else◌, Option, Result, Ok, Err, is_ok, slice_index, slice_set}
 use Rattle.vme_model.specs.declared.signals.Driver.{Driver}
-use Rattle.vme_model.specs.declared.signals.Driver.TheVariants.{Controller, Slot}
 use Rattle.vme_model.specs.declared.signals.Edge.{Edge}
 use Rattle.vme_model.specs.declared.deliveries.Delivery.{Delivery}
 use Rattle.vme_model.specs.declared.refusals.Refused.{Refused}
 use Rattle.vme_model.specs.Signals.{is_same_driver}
 use Rattle.vme_model.specs.Verdict.{State, verdict, made, after}
 use Rattle.vme_model.specs.Counts.{count}
-use Rattle.vme_lock.specs.Seats.{Keeping, IsHeld, AreCounts, can_sit, desk, counted_more, kept_more}
+use Rattle.vme_lock.specs.Seats.{Keeping, IsHeld, can_sit, desk, kept_more}
 use Rattle.vme_lock.proofs.Edges.{one_driver}
 use Rattle.vme_lock.proofs.Counting.{one_if, AreCounts-more, count-made}
 

@@ -1,6 +1,6 @@
 -- The drivers of a plan, whose edges make up each legal history.
-use Rattle.std.proofs.Common.{◌≡◌, ◌≢◌, ℕ, zero, suc, ◌+◌, ◌<◌, ◌≤◌, List, [], ◌∷◌, ◌++◌, length, map, length-append, append-nil, Bool, true, false, ◌&&◌, Option, Some, None, refl, sym, ap, ◌∙◌, subst, arith}
-use Rattle.std.specs.Prelude.{count_by, sum_by, cond, filter, is_some, ◌==◌, if◌then◌else◌}
+use Rattle.std.proofs.Common.{◌≡◌, ℕ, zero, suc, ◌+◌, ◌<◌, ◌≤◌, List, [], ◌∷◌, ◌++◌, length, map, length-append, append-nil, Bool, true, false, Option, Some, None, refl, sym, ap, ◌∙◌, subst, arith}
+use Rattle.std.specs.Prelude.{count_by, sum_by, filter, is_some, ◌==◌, if◌then◌else◌}
 use Rattle.std.specs.Option.{option_map_or}
 use Rattle.std.proofs.lemmas.Bool.Decides.{nat_tests}
 use Rattle.std.proofs.lemmas.List.Sums.{sum_by-cons, sum_by-append, sum_by_push}
@@ -13,12 +13,12 @@ use Rattle.vme_model.specs.declared.signals.Driver.TheVariants.{Controller, Slot
 use Rattle.vme_model.specs.declared.signals.Wire.{Wire}
 use Rattle.vme_model.specs.declared.signals.Edge.{Edge}
 use Rattle.vme_model.specs.declared.signals.Version.{Version}
-use Rattle.vme_model.specs.Signals.{is_same_driver, is_well_formed, is_slot}
+use Rattle.vme_model.specs.Signals.{is_same_driver, is_well_formed}
 use Rattle.vme_model.specs.Plan.{Plan, board, up_to, drivers, has_driver, drives}
 use Rattle.vme_model.specs.Accepted.{IsAccepted}
 use Rattle.vme_model.specs.Verdict.{State, IsLegal}
 use Rattle.vme_model.specs.Counts.{count}
-use Rattle.vme_model.proofs.Bools.{and_left, and_right}
+use Rattle.vme_model.proofs.Bools.{and_right}
 use Rattle.vme_model.proofs.Members.{found_row}
 use Rattle.vme_model.proofs.Passed.{checked}
 use Rattle.vme_model.proofs.Ranges.{IsInRange, IsRowInRange, in_range}

@@ -1,5 +1,5 @@
 -- What one hold of the lock answers.
-use Rattle.std.specs.Prelude.{◌≡◌, ℕ, ◌==◌, Bool, not, if◌then◌else◌, length, Option, Result, Ok, Err}
+use Rattle.std.specs.Prelude.{◌==◌, Bool, not, if◌then◌else◌, length, Option, Result, Ok, Err}
 use Rattle.vme_model.specs.declared.signals.Driver.{Driver}
 use Rattle.vme_model.specs.declared.signals.Edge.{Edge}
 use Rattle.vme_model.specs.declared.deliveries.Delivery.{Delivery}

@@ -22,3 +22,6 @@ pub use shared::Shared;
 pub use threads::{NotStarted, run_boards};
 pub use views::{EdgeRefused, Lost, View};
 pub use workers::{Bounds, Gate, OpenGate, Spent, work_board};
+
+#[cfg(test)]
+mod tests;

@@ -1,5 +1,5 @@
 //! A worker: one driver's turns, each at one look and one edge at most.
-ghost use Rattle.std.specs.Prelude.{◌≡◌, ◌+◌, ◌≤◌, [], length, min};
+ghost use Rattle.std.specs.Prelude.{◌≡◌, ◌+◌, ◌≤◌, [], length, min, true};
 ghost use Rattle.vme_lock.specs.Seats.{worked};
 
 use crate::logs::{Log, Pages, Room};
@@ -23,7 +23,9 @@ pub trait Gate {
 pub struct OpenGate;
 
 impl Gate for OpenGate {
-    fn before(&self, _driver: Driver, _turn: u32) -> bool {
+    fn before(&self, _driver: Driver, _turn: u32) -> bool
+        ensures { result ≡ true }
+    {
         true
     }
 

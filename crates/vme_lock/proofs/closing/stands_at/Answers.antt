@@ -1,4 +1,4 @@
-use Rattle.std.proofs.Common.{◌≡◌, ◌≢◌, rules, arith, sym, ap, ◌∙◌, refl}
+use Rattle.std.proofs.Common.{arith}
 use Rattle.std.proofs.lemmas.Bool.Decides.{nat_tests}
 use Rattle.vme_lock.proofs.Differing.{stands, stands_not}
 use Rattle.vme_lock.proofs.closing.stands_at.Goals as goal

@@ -1,8 +1,6 @@
-use Rattle.std.proofs.Common.{◌≡◌, ◌+◌, sym, ap, ◌∙◌, true}
+use Rattle.std.proofs.Common.{sym, ap, ◌∙◌}
 use Rattle.std.specs.Prelude.{slice_index}
-use Rattle.vme_model.specs.Signals.{is_same_driver}
-use Rattle.vme_model.specs.Counts.{count}
-use Rattle.vme_lock.specs.Seats.{Keeping, desk}
+use Rattle.vme_lock.specs.Seats.{Keeping}
 use Rattle.vme_lock.specs.Holds.{by_step, edge_answer}
 use Rattle.vme_lock.proofs.Answering.{edge_lost, edge_stepped}
 use Rattle.vme_lock.proofs.Holding.{stepped, held_after}

@@ -1,4 +1,4 @@
-use Rattle.std.proofs.Common.{◌≡◌, ◌≤◌, arith, sym, ap, ◌∙◌, subst, length, take}
+use Rattle.std.proofs.Common.{arith, sym, ◌∙◌, subst}
 use Rattle.std.proofs.lemmas.List.{take_all, length-reverse}
 use Rattle.vme_model.specs.History.{in_order}
 use Rattle.vme_lock.specs.Seats.{AreCounts}

@@ -1,4 +1,4 @@
-use Rattle.std.proofs.Common.{◌≡◌, ◌++◌, arith, sym, ap, ◌∙◌, length, take, append_assoc, length-append}
+use Rattle.std.proofs.Common.{◌++◌, arith, sym, ap, ◌∙◌, length, take, append_assoc, length-append}
 use Rattle.vme_lock.specs.Logs.{joined}
 use Rattle.vme_lock.proofs.Paging.{joined-next, joined-front}
 use Rattle.vme_lock.proofs.logs.Pages.copy_to.Goals as goal

@@ -1,4 +1,4 @@
-use Rattle.std.proofs.Common.{◌≡◌, ◌<◌, ◌+◌, ◌-◌, ◌++◌, ◌∷◌, [], arith, sym, ap, ◌∙◌, length, set, refl}
+use Rattle.std.proofs.Common.{◌<◌, ◌-◌, ◌++◌, ◌∷◌, [], arith, sym, ap, ◌∙◌, set}
 use Rattle.std.specs.Prelude.{vec_len}
 use Rattle.vme_lock.specs.Logs.{joined, room_of}
 use Rattle.vme_lock.proofs.Edges.{never}

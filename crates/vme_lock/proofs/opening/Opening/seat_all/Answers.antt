@@ -1,9 +1,7 @@
-use Rattle.std.proofs.Common.{◌≡◌, ◌+◌, ◌<◌, ◌≤◌, rules, arith, refl, sym, ap, ◌∙◌, length, true, false}
-use Rattle.std.specs.Prelude.{slice_index, vec_len}
+use Rattle.std.proofs.Common.{◌≡◌, ◌+◌, ◌≤◌, arith, refl, sym, ap, ◌∙◌}
+use Rattle.std.specs.Prelude.{slice_index}
 use Rattle.vme_model.specs.declared.signals.Driver.TheVariants.{Controller, Slot}
-use Rattle.vme_model.specs.Plan.{board, drivers}
-use Rattle.vme_model.proofs.Ranges.{in_range}
-use Rattle.vme_lock.proofs.Seating.{AreSeated, drivers_below, seated_first, seated_more, seated_same, seated_all, all_counted, board_sits}
+use Rattle.vme_lock.proofs.Seating.{seated_first, seated_more, seated_same, seated_all, all_counted, board_sits}
 use Rattle.vme_lock.proofs.opening.Opening.seat_all.Goals as goal
 use Rattle.vme_lock.proofs.opening.Opening.seat_all.Goals.{then-has_board, else-has_board}
 

@@ -1,4 +1,4 @@
-use Rattle.std.specs.Prelude.{◌≡◌, ◌≤◌, vec_len, vec_capacity}
+use Rattle.std.specs.Prelude.{◌≡◌, ◌≤◌, vec_capacity}
 use Rattle.vme_lock.proofs.Seating.{AreSeated}
 use Rattle.vme_lock.proofs.opening.Opening.seat_all.Given as goal
 

@@ -1,4 +1,4 @@
-use Rattle.std.proofs.Common.{◌≡◌, ◌+◌, arith, sym, ap, ◌∙◌, length}
+use Rattle.std.proofs.Common.{arith, ap, length}
 use Rattle.vme_lock.proofs.Joining.{as_many}
 use Rattle.vme_lock.proofs.shared.Shared.close.Goals as goal
 

@@ -1,0 +1,8 @@
+use Rattle.vme_lock.proofs.tests.run_in_rooms.Given as goal
+
+-- the ledger of the blank, and the backplane that is opened
+abbrev pub ghosts-run_and_close-L-Ledger : goal.ghosts-run_and_close-L-Ledger
+ghosts-run_and_close-L-Ledger g a = record { name = a.blank.name; parts = a.blank.parts }
+
+abbrev pub ghosts-run_and_close-L-Rig : goal.ghosts-run_and_close-L-Rig
+ghosts-run_and_close-L-Rig g a = record { opened = a.backplane }
