@@ -1,9 +1,12 @@
 //! What no clause says of a run: that the boards come to their edges, and that a run finds its memory.
+ghost use Rattle.std.specs.Prelude.{◌≤◌};
+
 use crate::run;
-use std::alloc::{AllocError, Global};
-use std::fmt::Write;
+use std::alloc::Global;
 use std::process::Abort;
+use std::sync::Wait;
 use std::test::*;
+use std::thread::Threads;
 use vme_engines::{Status, check};
 use vme_model::Version;
 
@@ -37,10 +40,10 @@ struct Ran {
 impl Ran {
     /// How many edges the trace has.
     fn edges(&self) -> usize {
-        let mut lines = 0;
+        let mut lines: usize = 0;
         for byte in &self.trace {
             if *byte == b'\n' {
-                lines = usize::min(lines + 1, self.trace.len());
+                lines = lines.saturating_add(1);
             }
         }
         lines.saturating_sub(1)
@@ -49,25 +52,23 @@ impl Ran {
 
 /// Runs a scenario, and asserts that `check` calls its trace legal, and that the status is `Limit` exactly where it has as
 /// many edges as were asked for.
-fn ran(
-    rt: &HostRuntime,
+fn checked_run<R: Threads + Wait + Abort + Sync>(
+    rt: &R,
+    alloc: Global,
     text: &str,
     edges: u32,
     turns: u32,
     version: Version,
-) -> Result<Ran, Fail> {
-    let mut trace = Vec::new(rt.alloc());
+) -> Result<Ran, Fail>
+    requires { (edges ≤ 1048576) × (turns ≤ 1000000) }
+{
     let scenario = text.as_bytes();
-    let status = run(rt, rt.alloc(), scenario, edges, turns, &mut trace, version)?;
+    let mut trace = Vec::new(alloc);
+    let status = run(rt, alloc, scenario, edges, turns, &mut trace, version)?;
     let ran = Ran { status, trace };
-    let mut verdict = Vec::new(rt.alloc());
-    check(
-        rt.alloc(),
-        scenario,
-        &mut ran.trace.as_slice(),
-        &mut verdict,
-    )?;
-    let legal = format!(in rt.alloc(); "legal {}\n", ran.edges())?;
+    let mut verdict = Vec::new(alloc);
+    check(alloc, scenario, &mut ran.trace.as_slice(), &mut verdict)?;
+    let legal = format!(in alloc; "legal {}\n", ran.edges())?;
     assert!(rt; verdict.as_slice() == legal.as_bytes());
     assert!(rt; ran.edges() <= edges as usize);
     assert!(rt; (ran.status == Status::Limit) == (ran.edges() == edges as usize));
@@ -77,7 +78,7 @@ fn ran(
 /// One edge can be made at power-up: the request.
 #[test]
 fn one_edge(rt: HostRuntime) -> Result<(), Fail> {
-    let ran = ran(&rt, ONE_BOARD, 1, 1, Version::One)?;
+    let ran = checked_run(&rt, rt.alloc(), ONE_BOARD, 1, 1, Version::One)?;
     assert!(rt; ran.trace.as_slice() == b"vme 1\n1 br-\n".as_slice());
     assert!(rt; ran.status == Status::Limit);
     Ok(())
@@ -86,8 +87,8 @@ fn one_edge(rt: HostRuntime) -> Result<(), Fail> {
 /// In one turn each, the board requests, and the controller grants where its turn comes later.
 #[test]
 fn one_turn(rt: HostRuntime) -> Result<(), Fail> {
-    for _run in 0..100 {
-        let ran = ran(&rt, ONE_BOARD, 1_000, 1, Version::Two)?;
+    for _run in 0..50 {
+        let ran = checked_run(&rt, rt.alloc(), ONE_BOARD, 1_000, 1, Version::Two)?;
         let trace = ran.trace.as_slice();
         assert!(rt;
             trace == b"vme 2\n1 br-\n".as_slice() || trace == b"vme 2\n1 br-\nc bg3-\n".as_slice()
@@ -100,7 +101,7 @@ fn one_turn(rt: HostRuntime) -> Result<(), Fail> {
 /// What two boards write is a legal trace, and more than its header.
 #[test]
 fn two_boards(rt: HostRuntime) -> Result<(), Fail> {
-    let ran = ran(&rt, TWO_BOARDS, 50, 10_000, Version::Two)?;
+    let ran = checked_run(&rt, rt.alloc(), TWO_BOARDS, 50, 10_000, Version::Two)?;
     assert!(rt; ran.trace.as_slice().starts_with(b"vme 2\n"));
     assert!(rt; ran.edges() > 1);
     Ok(())
@@ -110,10 +111,10 @@ fn two_boards(rt: HostRuntime) -> Result<(), Fail> {
 #[test]
 fn first_edges_of_all_boards(rt: HostRuntime) -> Result<(), Fail> {
     let text = all_boards(rt.alloc())?;
-    for _run in 0..100 {
-        let full = ran(&rt, &text, 21, 1_000, Version::One)?;
+    for _run in 0..50 {
+        let full = checked_run(&rt, rt.alloc(), &text, 21, 1_000, Version::One)?;
         assert!(rt; full.status == Status::Limit);
-        let short = ran(&rt, &text, 1_000, 1, Version::Two)?;
+        let short = checked_run(&rt, rt.alloc(), &text, 1_000, 1, Version::Two)?;
         assert!(rt; short.status == Status::Done);
         assert!(rt; short.edges() == 21 || short.edges() == 22);
     }
@@ -124,10 +125,10 @@ fn first_edges_of_all_boards(rt: HostRuntime) -> Result<(), Fail> {
 #[test]
 fn many_edges_of_all_boards(rt: HostRuntime) -> Result<(), Fail> {
     let text = all_boards(rt.alloc())?;
-    for _run in 0..20 {
-        let one = ran(&rt, &text, 500, 200, Version::One)?;
+    for _run in 0..10 {
+        let one = checked_run(&rt, rt.alloc(), &text, 500, 200, Version::One)?;
         assert!(rt; one.edges() >= 21);
-        let two = ran(&rt, &text, 500, 200, Version::Two)?;
+        let two = checked_run(&rt, rt.alloc(), &text, 500, 200, Version::Two)?;
         assert!(rt; two.edges() >= 21);
     }
     Ok(())
