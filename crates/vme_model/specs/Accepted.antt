@@ -1,4 +1,5 @@
--- Which plans are accepted: the first fault, in the order of the tests. (Profile, but for P2, P4 and P6: chapters 7, 3 and 4.)
+-- Which plans are accepted: the first fault, in the order of the tests. (Profile, but for P1: chapter 3, the arbiter stands in
+-- slot 1; P2: chapter 7; P4: chapters 3 and 4; P5: chapter 3, SGL serves level 3 alone; and P6: chapter 4.)
 use Rattle.std.specs.Prelude.{◌≡◌, ◌==◌, ◌&&◌, not, ℕ, Bool, true, false, Option, Some, None, List, [], ◌∷◌, ◌++◌, length, map, filter, find, nat_lt, nat_le, is_none, option_map}
 use Rattle.std.specs.List.{list_any}
 use Rattle.std.specs.Option.{option_map_or}
@@ -24,17 +25,20 @@ first_of [] = None
 first_of (Some a ∷ rest) = Some a
 first_of (None ∷ rest) = first_of rest
 
+-- the value where the test holds
 abbrev pub when : {A : Type 0} → Bool → A → Option A
 when true a = Some a
 when false a = None
 
--- P2
+-- P2 (chapter 7)
 abbrev pub too_many_slots : Plan → Option PlanError
 too_many_slots p = when (nat_lt 21 p.slots) (error.TooManySlots p.slots)
 
+-- the slot is one of 1 to `slots`
 abbrev pub is_within : ℕ → ℕ → Bool
 is_within slots s = nat_le 1 s && nat_le s slots
 
+-- an RWD requester that may make no cycle (profile)
 abbrev pub has_no_burst : Release → Bool
 has_no_burst (Done burst) = burst == 0
 has_no_burst Request = false
@@ -49,6 +53,7 @@ row_range slots r = first_of (
     ∷ when (nat_lt 127 (bits_of_levels r.handler)) field.Handler
     ∷ [])
 
+-- the first field of a jumper that is out of range
 abbrev pub jumper_range : ℕ → Jumper → Option Field
 jumper_range slots j = first_of (
     when (not (is_within slots j.slot)) field.JumperSlot
@@ -62,7 +67,7 @@ out_of_range p = option_map (λ f. error.OutOfRange f) (first_of (
     ∷ map (row_range p.slots) p.rows
     ++ map (jumper_range p.slots) p.jumpers))
 
--- P1
+-- P1: slot 1 has a board, on which the arbiter stands (chapter 3)
 abbrev pub no_controller : Plan → Option PlanError
 no_controller p = when (is_none (board p 1)) error.NoController
 
@@ -70,10 +75,11 @@ no_controller p = when (is_none (board p 1)) error.NoController
 abbrev pub namings : Plan → ℕ → ℕ
 namings p s = length (filter (λ t. t == s) (map (λ r. r.slot) p.rows ++ map (λ j. j.slot) p.jumpers))
 
--- P3
+-- P3 (profile)
 abbrev pub slot_twice : Plan → Option PlanError
 slot_twice p = option_map (λ s. error.SlotTwice s) (find (λ s. nat_lt 1 (namings p s)) (up_to p.slots))
 
+-- the five daisy chains (chapters 3 and 4)
 abbrev pub chains : List ChainId
 chains = chain.Bg0 ∷ chain.Bg1 ∷ chain.Bg2 ∷ chain.Bg3 ∷ chain.Iack ∷ []
 
@@ -85,28 +91,30 @@ is_joined p s c = list_any (λ j. j.slot == s && has_chain j.chains c) p.jumpers
 abbrev pub is_broken : Plan → ℕ → ChainId → Bool
 is_broken p s c = is_none (board p s) && not (is_joined p s c) && list_any (λ r. nat_lt s r.slot && works c r) p.rows
 
--- P4: the least slot, then the least chain
+-- P4: the least slot, then the least chain; an empty slot joins input to output (chapters 3 and 4)
 abbrev pub chain_broken : Plan → Option PlanError
 chain_broken p = first_of (map (λ s. option_map (λ c. error.ChainBroken s c) (find (is_broken p s) chains)) (up_to p.slots))
 
+-- a single level arbiter (chapter 3)
 abbrev pub is_sgl : ArbiterKind → Bool
 is_sgl Sgl = true
 is_sgl _ = false
 
--- P5
+-- P5: an SGL arbiter serves level 3 alone (chapter 3)
 abbrev pub level_not_served : Plan → Option PlanError
 level_not_served p = option_map (λ r. error.LevelNotServed r.slot)
     (find (λ r. is_sgl p.arbiter && option_map_or (λ q. not (q.level == 3)) r.requester false) p.rows)
 
+-- the levels of IRQ1* to IRQ7* (chapter 4)
 abbrev pub irq_numbers : List ℕ
 irq_numbers = 1 ∷ 2 ∷ 3 ∷ 4 ∷ 5 ∷ 6 ∷ 7 ∷ []
 
--- P6: each request line has at most one handler
+-- P6: each request line has at most one handler (chapter 4)
 abbrev pub handler_twice : Plan → Option PlanError
 handler_twice p = option_map (λ v. error.HandlerTwice v)
     (find (λ v. nat_lt 1 (length (filter (λ r. has_level r.handler v) p.rows))) irq_numbers)
 
--- P7
+-- P7 (profile)
 abbrev pub handler_without_requester : Plan → Option PlanError
 handler_without_requester p = option_map (λ r. error.HandlerWithoutRequester r.slot)
     (find (λ r. nat_lt 0 (bits_of_levels r.handler) && is_none r.requester) p.rows)
@@ -124,5 +132,6 @@ plan_fault p = first_of (
     ∷ handler_without_requester p
     ∷ [])
 
+-- a plan without a fault
 abbrev pub IsAccepted : Plan → Type 0
 IsAccepted p = plan_fault p ≡ None

@@ -9,5 +9,6 @@ use Rattle.vme_model.specs.History.{in_order}
 abbrev pub only : List Edge → Driver → List Edge
 only h d = filter (λ e. is_same_driver e.driver d) (in_order h)
 
+-- how many they are
 abbrev pub count : List Edge → Driver → ℕ
 count h d = count_by (λ e. is_same_driver e.driver d) h

@@ -38,17 +38,19 @@ Answers h (Slot s) = drive h (Slot s) Dtack ≡ true
 abbrev pub OneAnswers : List Edge → Type 0
 OneAnswers h = (a b : Driver) → Answers h a → Answers h b → a ≡ b
 
--- slot s answers, and lets go of its interrupt request
+-- slot s answers
 abbrev pub answers : ℕ → Edge → Bool
 answers s e = is_fall_of (Slot s) Dtack e
 
+-- slot s lets go of its interrupt request
 abbrev pub releases_request : ℕ → Edge → Bool
 releases_request s e = not e.fall && is_edge_of (Slot s) Irq e
 
--- the controller begins the acknowledge chain, and a board passes it on
+-- the controller begins the acknowledge chain (chapter 4)
 abbrev pub begins_acknowledge : Edge → Bool
 begins_acknowledge e = is_fall_on Iack e
 
+-- a board passes it on (chapter 4)
 abbrev pub passes_acknowledge : Edge → Bool
 passes_acknowledge e = is_fall_on IackOut e
 
@@ -93,6 +95,7 @@ abbrev pub AnswersRightfully : Plan → List Edge → Edge → Type 0
 AnswersRightfully p h e =
     (k level : ℕ) → answers k e ≡ true → shown p h ≡ Some (Acknowledge level) → IsRightfulAnswer p h k level
 
+-- it lets its request go because of the acknowledge (chapter 4)
 abbrev pub is_roak : IrqKind → Bool
 is_roak Roak = true
 is_roak Rora = false

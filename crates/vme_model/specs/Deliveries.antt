@@ -23,6 +23,7 @@ abbrev pub delivery : Plan → List Edge → Edge → Option Delivery
 delivery p h e =
     if e.fall && is_same_wire e.wire Dtack then delivered_by (shown p h) (addressing p h) (board_of p e.driver) else None
 
+-- a list with one more delivery, where there is one
 abbrev pub followed_by : List Delivery → Option Delivery → List Delivery
 followed_by ds None = ds
 followed_by ds (Some d) = ds ++ d ∷ []
@@ -32,6 +33,7 @@ abbrev pub delivered : Plan → List Edge → List Delivery
 delivered p [] = []
 delivered p (e ∷ h) = followed_by (delivered p h) (delivery p h e)
 
+-- a judgement, with the delivery where it is Ok
 abbrev pub with_delivery : Judgement → Option Delivery → Result (Option Delivery) Refused
 with_delivery (Ok _) d = Ok d
 with_delivery (Err refusal) d = Err refusal

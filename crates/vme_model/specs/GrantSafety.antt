@@ -41,10 +41,11 @@ OneHolds h = (s t : ℕ) → Holds h s → Holds h t → s ≡ t
 abbrev pub is_fall_on : Wire → Edge → Bool
 is_fall_on w e = e.fall && is_same_wire e.wire w
 
--- slot s takes the bus, and releases it
+-- slot s takes the bus
 abbrev pub takes_bus : ℕ → Edge → Bool
 takes_bus s e = is_fall_of (Slot s) Bbsy e
 
+-- slot s releases it
 abbrev pub releases_bus : ℕ → Edge → Bool
 releases_bus s e = not e.fall && is_edge_of (Slot s) Bbsy e
 
@@ -94,6 +95,7 @@ abbrev pub IsSegment : Plan → ℕ → Option ℕ → Type 0
 IsSegment p n None = n < 4
 IsSegment p n (Some s) = (n < 4) × Contains (active p (grant_chain n)) s
 
+-- such a segment is low
 pub record IsLow (p : Plan) (h : List Edge) (n : ℕ) (place : Option ℕ) : Type 0 where
   pub part : IsSegment p n place
   pub low : segment h (grant_chain n) place ≡ true

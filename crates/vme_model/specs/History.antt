@@ -1,4 +1,5 @@
--- What a list of edges says of the wires, by looking back through it.
+-- What a list of edges says of the wires, by looking back through it. (The lines and chains are those of chapters 2 to 4; that
+-- wires have a state between edges, and no times, is this project's profile.)
 -- A history has its newest edge first, so `e ∷ h` is h with e made after it; `in_order h` is the order of time.
 use Rattle.std.specs.Prelude.{◌&&◌, ◌||◌, ◌+◌, ℕ, Bool, true, false, if◌then◌else◌, Option, Some, None, List, [], ◌∷◌, find, reverse}
 use Rattle.std.specs.List.{list_any}
@@ -74,7 +75,8 @@ addressing p h = find (λ s. drive h (Slot s) Addr) (up_to p.slots)
 abbrev pub shown : Plan → List Edge → Option Cycle
 shown p h = option_and_then (λ s. last_value h (Slot s)) (addressing p h)
 
--- an answer while this is shown serves an interrupter of the kind: ROAK an acknowledge, RORA an access (chapter 4)
+-- an answer while this is shown serves an interrupter of the kind: ROAK an acknowledge, RORA an access (chapter 4). (`serves` of
+-- Rules speaks of arbiters instead.)
 abbrev pub serves : IrqKind → Option Cycle → Bool
 serves Roak (Some (Acknowledge level)) = true
 serves Rora (Some (Access s)) = true

@@ -1,4 +1,4 @@
--- The verdict on an edge depends on what its driver saw.
+-- The verdict on an edge depends on what its driver saw. (The claim is this project's own.)
 use Rattle.std.specs.Prelude.{◌≡◌, Bool, true, false, List}
 use Rattle.std.specs.List.{list_all}
 use Rattle.vme_model.specs.declared.signals.Version.{Version}

@@ -63,6 +63,7 @@ turn r n b d =
     if length b.history == n then b
     else option_map_or (made b) (slice_get (offered b d) (r % length (offered b d))) b
 
+-- one turn of each of these drivers, in their order
 abbrev pub turns : ℕ → ℕ → State → List Driver → State
 turns r n b [] = b
 turns r n b (d ∷ ds) = turns r n (turn r n b d) ds

@@ -1,4 +1,5 @@
--- The boards of a backplane, and the slots that work each daisy chain.
+-- The boards of a backplane, and the slots that work each daisy chain. (The chains are those of chapters 3 and 4; which parts a
+-- board can have, and that joined pins are one wire, is this project's profile.)
 use Rattle.std.specs.Prelude.{◌==◌, ◌++◌, if◌then◌else◌, ℕ, zero, suc, Bool, true, false, Option, None, List, [], ◌∷◌, nat_lt, is_some, filter, map, reverse, find}
 use Rattle.std.specs.Option.{option_map_or}
 use Rattle.vme_model.specs.declared.boards.Row.{Row}
@@ -73,7 +74,7 @@ last_active p c = find (λ s. true) (reverse (active p c))
 abbrev pub grant_chain : ℕ → ChainId
 grant_chain level = if level == 0 then chain.Bg0 else (if level == 1 then chain.Bg1 else (if level == 2 then chain.Bg2 else chain.Bg3))
 
--- the controller's wire at the head of a chain, and a board's on it
+-- the controller's wire at the head of a chain (chapters 3 and 4)
 abbrev pub head_wire : ChainId → Wire
 head_wire chain.Bg0 = wire.Bg 0
 head_wire chain.Bg1 = wire.Bg 1
@@ -81,6 +82,7 @@ head_wire chain.Bg2 = wire.Bg 2
 head_wire chain.Bg3 = wire.Bg 3
 head_wire chain.Iack = wire.Iack
 
+-- the wire at a board's output on a chain: BGnOUT*, and IACKOUT* (chapters 3 and 4)
 abbrev pub out_wire : ChainId → Wire
 out_wire chain.Iack = wire.IackOut
 out_wire _ = wire.BgOut

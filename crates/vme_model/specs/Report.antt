@@ -10,6 +10,7 @@ use Rattle.vme_model.specs.Verdict.{State, after, kept}
 use Rattle.vme_model.specs.Deliveries.{answer}
 use Rattle.vme_model.specs.Text.{Reading, TextFault, read_of}
 
+-- what is written of a delivery
 abbrev pub delivery_text : Delivery → List ℕ
 delivery_text d =
     ((((((codes "ok irq " ++ decimal d.level) ++ codes " to ") ++ decimal d.handler) ++ codes " from ") ++ decimal d.answered_by)
@@ -42,6 +43,7 @@ trace_limit = 1048576
 abbrev pub at_power_up : Version → Plan → ℕ → State
 at_power_up version p max = record { version = version; plan = p; history = []; max = max }
 
+-- how many of the edges are kept
 abbrev pub accepted_count : State → List Edge → ℕ
 accepted_count b es = length (kept b es).history - length b.history
 
@@ -49,6 +51,7 @@ accepted_count b es = length (kept b es).history - length b.history
 abbrev pub closing_text : ℕ → ℕ → List ℕ
 closing_text accepted refused = ((codes "accepted " ++ decimal accepted) ++ codes " refused ") ++ decimal refused ++ 10 ∷ []
 
+-- how many were accepted, and how many refused
 abbrev pub closing_line : State → List Edge → List ℕ
 closing_line b es = closing_text (accepted_count b es) (length es - accepted_count b es)
 
@@ -57,6 +60,7 @@ abbrev pub closing : Option TextFault → State → List Edge → List ℕ
 closing (Some fault) b es = []
 closing None b es = closing_line b es
 
+-- the verdicts on what was read; none without a version
 abbrev pub report_of : Option Version → Plan → Reading → List ℕ
 report_of None p r = []
 report_of (Some version) p r =

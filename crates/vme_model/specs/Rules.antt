@@ -1,4 +1,4 @@
--- The rules of edges, as one table.
+-- The rules of edges, as one table. (Chapters 2 to 4, with guards that are this project's profile: see `rule`.)
 use Rattle.std.specs.Prelude.{◌==◌, ◌&&◌, ◌||◌, ◌+◌, ◌-◌, ◌%◌, ℕ, Bool, true, false, not, Option, Some, None, List, [], ◌∷◌, nat_lt, nat_le, find}
 use Rattle.std.specs.List.{list_any, list_all}
 use Rattle.std.specs.Option.{option_map_or, option_and_then}
@@ -37,7 +37,7 @@ is_pick Sgl low last n = n == 3 && low 3
 is_pick Pri low last n = low n && is_highest low n
 is_pick Rrs low last n = low n && is_next low last n
 
--- the levels that a policy serves at all: SGL level 3 alone (chapter 3)
+-- the levels that a policy serves at all: SGL level 3 alone (chapter 3). (`serves` of History speaks of interrupters instead.)
 abbrev pub serves : ArbiterKind → ℕ → Bool
 serves Sgl n = n == 3
 serves Pri n = true
@@ -47,6 +47,7 @@ serves Rrs n = true
 abbrev pub pick : ArbiterKind → (ℕ → Bool) → ℕ → Option ℕ
 pick kind low last = find (is_pick kind low last) bus_numbers
 
+-- a priority arbiter (chapter 3)
 abbrev pub is_pri : ArbiterKind → Bool
 is_pri Pri = true
 is_pri _ = false
@@ -66,6 +67,7 @@ abbrev pub is_asked : Readings → Release → Bool
 is_asked r (Done burst) = true
 is_asked r Request = list_any r.request bus_numbers
 
+-- the board's requester may give up the bus: RWD at any time, ROR once it is asked (chapter 3)
 abbrev pub may_release : Readings → Bool
 may_release r = option_map_or (λ q. is_asked r q.release) (option_and_then (λ b. b.requester) r.board) true
 
@@ -74,6 +76,7 @@ abbrev pub is_below_burst : ℕ → Release → Bool
 is_below_burst cycles (Done burst) = nat_lt cycles burst
 is_below_burst cycles Request = true
 
+-- the board may begin one more cycle in this tenure (profile)
 abbrev pub is_within_burst : Readings → Bool
 is_within_burst r = option_map_or (λ q. is_below_burst r.cycles q.release) (option_and_then (λ b. b.requester) r.board) true
 
@@ -95,7 +98,14 @@ may_answer r None = false
 
 -- The number of the rule that names a wire and a direction, and whether its guard holds.
 -- `true` is a fall, and for the address group going on; `v` is what it then shows.
--- G1 to G8 are the controller's. The guards beyond chapters 2 to 4 of the standard are this project's profile.
+-- G1 to G8 are the controller's. Each guard is this project's form of what the standard says in times. What it renders:
+-- chapter 2: G7, G8, G16, G17's DTACK* and BERR*, G18, G26 and an access in G25;
+-- chapter 3: the policy's pick in G1, G3, G4, G11, that the bus is taken at one's own grant in G13, that it is given up during
+-- the last transfer, and by ROR once another asks, in G14, and that the next master waits for AS* to be high in G15;
+-- chapter 4: G5, G6, the handled level in G15, G21 to G24 and an acknowledge in G25.
+-- Profile alone: G2, G9, G10, G12, G19, G20; that the grants and BBSY* are high in G1, and the grants in G3; own `bgout` and own
+-- `br` in G13; own `br` and grant-in in G14; the burst and the low IRQ line in G15; one strobe a cycle in G17; and that every
+-- board has a register in G25.
 abbrev pub rule : Version → Readings → Wire → Bool → Option Cycle → ℕ × Bool
 rule version r (Bg n) true v = (1, are_grants_high r && not r.bbsy && is_pick r.arbiter r.request r.last_level n)
 rule version r (Bg n) false v = (2, is_two version || r.bbsy)

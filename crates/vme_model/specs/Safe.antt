@@ -1,4 +1,4 @@
--- What is safe about a list of edges.
+-- What is safe about a list of edges. (The claims are this project's own; the words are those of chapters 2 to 4.)
 use Rattle.std.specs.Prelude.{List, [], ◌∷◌}
 use Rattle.vme_model.specs.declared.signals.Version.{Version}
 use Rattle.vme_model.specs.declared.signals.Edge.{Edge}

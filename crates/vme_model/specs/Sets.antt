@@ -11,6 +11,7 @@ use Rattle.vme_model.specs.Signals.{is_level}
 abbrev pub has_level : Levels → ℕ → Bool
 has_level set level = is_level level && (bit_and set.0 (2 ^ (level - 1)) == 2 ^ (level - 1))
 
+-- the set with one more interrupt level
 abbrev pub with_level : Levels → ℕ → Levels
 with_level set level = record { 0 = bit_or set.0 (2 ^ (level - 1)) }
 
@@ -18,6 +19,7 @@ with_level set level = record { 0 = bit_or set.0 (2 ^ (level - 1)) }
 abbrev pub has_bus_level : BusLevels → ℕ → Bool
 has_bus_level set level = nat_lt level 4 && (bit_and set.0 (2 ^ level) == 2 ^ level)
 
+-- the bit of a daisy chain
 abbrev pub chain_bit : ChainId → ℕ
 chain_bit chain.Bg0 = 1
 chain_bit chain.Bg1 = 2
@@ -33,16 +35,19 @@ chain_name chain.Bg2 = codes "bg2"
 chain_name chain.Bg3 = codes "bg3"
 chain_name chain.Iack = codes "iack"
 
+-- the chain is in the set
 abbrev pub has_chain : Chains → ChainId → Bool
 has_chain set c = bit_and set.0 (chain_bit c) == chain_bit c
 
+-- the set with one more chain
 abbrev pub with_chain : Chains → ChainId → Chains
 with_chain set c = record { 0 = bit_or set.0 (chain_bit c) }
 
--- no level, and no chain
+-- no level
 abbrev pub no_levels : Levels
 no_levels = record { 0 = 0 }
 
+-- no chain
 abbrev pub no_chains : Chains
 no_chains = record { 0 = 0 }
 
@@ -50,9 +55,11 @@ no_chains = record { 0 = 0 }
 abbrev pub bits_of_levels : Levels → ℕ
 bits_of_levels set = set.0
 
+-- the same, of chains
 abbrev pub bits_of_chains : Chains → ℕ
 bits_of_chains set = set.0
 
+-- a line's bit
 abbrev bit : Bool → ℕ → ℕ
 bit low value = if low then value else 0
 

@@ -14,17 +14,17 @@ use Rattle.vme_model.specs.Signals.{is_two}
 use Rattle.vme_model.specs.Plan.{Plan, board, active, grant_chain}
 use Rattle.vme_model.specs.History.{drive, line, shown, segment, is_past_end}
 
--- every segment of the chain is high
+-- S1: every segment of the chain is high, the controller's and each board's output
 abbrev pub is_chain_clear : Plan → List Edge → ChainId → Bool
 is_chain_clear p h c = not (segment h c None) && list_all (λ s. not (segment h c (Some s))) (active p c)
 
--- nobody can answer what is shown: the acknowledge has passed every board, or the slot has no board
+-- S2: nobody can answer what is shown: the acknowledge has passed every board, or the slot has no board
 abbrev pub is_unanswerable : Plan → List Edge → Option Cycle → Bool
 is_unanswerable p h (Some (Acknowledge level)) = is_past_end p h chain.Iack
 is_unanswerable p h (Some (Access s)) = is_none (board p s)
 is_unanswerable p h None = false
 
--- every `bgout` is high
+-- S4: every board's output is high, on all four grant chains; that the controller's segments are high too is G1's own guard
 abbrev pub are_grants_through : Plan → List Edge → Bool
 are_grants_through p h = list_all (λ r. not (drive h (Slot r.slot) BgOut)) p.rows
 

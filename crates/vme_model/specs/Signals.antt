@@ -15,11 +15,13 @@ abbrev pub is_two : Version → Bool
 is_two One = false
 is_two Two = true
 
+-- the same driver
 abbrev pub is_same_driver : Driver → Driver → Bool
 is_same_driver Controller Controller = true
 is_same_driver (Slot s) (Slot t) = s == t
 is_same_driver _ _ = false
 
+-- the same wire of a driver; grants of two levels are two wires
 abbrev pub is_same_wire : Wire → Wire → Bool
 is_same_wire (Bg m) (Bg n) = m == n
 is_same_wire Bclr Bclr = true
@@ -44,6 +46,7 @@ is_edge_of d w e = is_same_wire e.wire w && is_same_driver e.driver d
 abbrev pub is_fall_of : Driver → Wire → Edge → Bool
 is_fall_of d w e = e.fall && is_edge_of d w e
 
+-- one of the controller's grants, BG0* to BG3* (chapter 3)
 abbrev pub is_grant_wire : Wire → Bool
 is_grant_wire (Bg level) = true
 is_grant_wire _ = false
@@ -52,6 +55,7 @@ is_grant_wire _ = false
 abbrev pub is_grant : Edge → Bool
 is_grant e = e.fall && is_grant_wire e.wire
 
+-- the level of a grant; 0 for other wires
 abbrev pub grant_level : Wire → ℕ
 grant_level (Bg level) = level
 grant_level _ = 0
@@ -82,6 +86,7 @@ abbrev pub is_acknowledge : Option Cycle → Bool
 is_acknowledge (Some (Acknowledge level)) = true
 is_acknowledge _ = false
 
+-- a level of chapter 4, or a slot of chapter 7
 abbrev pub is_in_range : Cycle → Bool
 is_in_range (Acknowledge level) = is_level level
 is_in_range (Access s) = is_slot s
@@ -93,5 +98,6 @@ has_value Addr true None = false
 has_value _ _ None = true
 has_value _ _ (Some _) = false
 
+-- an edge that some backplane can have (profile)
 abbrev pub is_well_formed : Edge → Bool
 is_well_formed e = has_wire e.driver e.wire && has_value e.wire e.fall e.value

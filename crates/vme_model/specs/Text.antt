@@ -18,10 +18,12 @@ use Rattle.vme_model.specs.Plan.{up_to}
 abbrev pub number : ℕ → List ℕ
 number n = if nat_lt n 10 then (48 + n) ∷ [] else (48 + n / 10) ∷ (48 + n % 10) ∷ []
 
+-- how a driver is spelled
 abbrev pub driver_text : Driver → List ℕ
 driver_text Controller = codes "c"
 driver_text (Slot s) = number s
 
+-- how a wire is spelled
 abbrev pub wire_text : Wire → List ℕ
 wire_text (Bg n) = codes "bg" ++ (48 + n) ∷ []
 wire_text Bclr = codes "bclr"
@@ -37,10 +39,12 @@ wire_text Irq = codes "irq"
 wire_text IackOut = codes "iackout"
 wire_text Dtack = codes "dtack"
 
+-- a fall, and a rise
 abbrev pub sign : Bool → List ℕ
 sign true = codes "-"
 sign false = codes "+"
 
+-- what an edge shows, behind a blank
 abbrev pub argument : Option Cycle → List ℕ
 argument None = []
 argument (Some (Acknowledge v)) = codes " i" ++ number v
@@ -54,12 +58,15 @@ spelling e = (((driver_text e.driver ++ codes " ") ++ wire_text e.wire) ++ sign 
 abbrev pub Spells : List ℕ → Edge → Type 0
 Spells line e = IsTrue (is_well_formed e) × (line ≡ spelling e)
 
+-- every driver that a line can name
 abbrev pub all_drivers : List Driver
 all_drivers = Controller ∷ map (λ s. Slot s) (up_to 21)
 
+-- every wire
 abbrev pub all_wires : List Wire
 all_wires = Bg 0 ∷ Bg 1 ∷ Bg 2 ∷ Bg 3 ∷ Bclr ∷ Iack ∷ Berr ∷ Br ∷ BgOut ∷ Bbsy ∷ Addr ∷ AddressStrobe ∷ DataStrobe ∷ Irq ∷ IackOut ∷ Dtack ∷ []
 
+-- every value, and none
 abbrev pub all_values : List (Option Cycle)
 all_values = None ∷ map (λ v. Some (Acknowledge v)) (up_to 7) ++ map (λ t. Some (Access t)) (up_to 21)
 
@@ -75,6 +82,7 @@ all_edges = filter is_well_formed
 unfoldable pub edge_of : List ℕ → Option Edge
 edge_of line = find (λ e. bytes_eq line (spelling e)) all_edges
 
+-- the first line
 abbrev pub header : Version → List ℕ
 header One = codes "vme 1"
 header Two = codes "vme 2"
@@ -83,10 +91,11 @@ header Two = codes "vme 2"
 abbrev pub version_of : List ℕ → Option Version
 version_of line = if bytes_eq line (header One) then Some One else (if bytes_eq line (header Two) then Some Two else None)
 
--- the text of these edges: the header line, and a line for each edge
+-- a line for each of these edges
 abbrev pub edge_lines : List Edge → List ℕ
 edge_lines es = flat_map (λ e. spelling e ++ 10 ∷ []) es
 
+-- the text of these edges: the header line, and a line for each edge
 abbrev pub text : Version → List Edge → List ℕ
 text version es = (header version ++ 10 ∷ []) ++ edge_lines es
 
@@ -103,11 +112,12 @@ pub record Reading : Type 0 where
   pub edges : List Edge
   pub fault : Option TextFault
 
--- bytes as lines: the complete ones, each without its line feed, and what stands behind the last line feed
+-- one more byte at the head of the first line
 abbrev pub begin_line : ℕ → List (List ℕ) × List ℕ → List (List ℕ) × List ℕ
 begin_line b ([], rest) = ([], b ∷ rest)
 begin_line b (l ∷ ls, rest) = ((b ∷ l) ∷ ls, rest)
 
+-- bytes as lines: the complete ones, each without its line feed, and what stands behind the last line feed
 unfoldable pub split_lines : List ℕ → List (List ℕ) × List ℕ
 split_lines [] = ([], [])
 split_lines (b ∷ bs) = if b == 10 then ([] ∷ (split_lines bs).0, (split_lines bs).1) else begin_line b (split_lines bs)
@@ -137,9 +147,11 @@ read_lines n (line ∷ lines) rest =
     if is_too_long line then ([], Some (too_long n))
     else before_others n (edge_of line) (read_lines (next_number n) lines rest)
 
+-- a trace that is at fault before its first edge
 abbrev pub unread : TextFault → Reading
 unread fault = record { version = None; edges = []; fault = Some fault }
 
+-- what a trace says, by its header line and by the lines behind it
 abbrev pub behind_header : Option Version → List Edge × Option TextFault → Reading
 behind_header None others = unread no_header
 behind_header (Some version) others = record { version = Some version; edges = others.0; fault = others.1 }

@@ -19,6 +19,7 @@ pub record State : Type 0 where
   pub history : List Edge
   pub max : ℕ
 
+-- the answer to an edge: it is accepted, or refused
 abbrev pub Judgement : Type 0
 Judgement = Result (Unit {0}) Refused
 

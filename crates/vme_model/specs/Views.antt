@@ -11,6 +11,7 @@ use Rattle.vme_model.specs.Plan.{Plan}
 use Rattle.vme_model.specs.History.{drive, line, request_line, interrupt_line, shown}
 use Rattle.vme_model.specs.Readings.{grant_in, iack_in}
 
+-- what a driver reads on its pins after a history
 abbrev pub pins : Plan → List Edge → Driver → Pins
 pins p h d = record {
   requests = bus_levels (request_line p h);
