@@ -26,7 +26,7 @@ use vme_slots::Plan;
 const LOOKS: u32 = 200_000_000;
 
 /// The bytes of a lease that is long enough for 1,000 edges.
-const AMPLE: usize = 16_384;
+const AMPLE: usize = 8192;
 
 /// The bytes of a region for a trace and 22 ample rooms.
 const MEMORY: usize = 1_048_576;
@@ -694,8 +694,8 @@ fn filled(alloc: Global, edges: u32, sizes: (usize, usize)) -> Result<u32, Fail>
 #[test]
 fn rooms_of_their_exact_sizes(rt: HostRuntime) -> Result<(), Fail> {
     for edges in [1, 256, 257, 1000] {
-        let bytes = (8 * edges as usize).next_multiple_of(16);
-        let filled = filled(rt.alloc(), edges, (log_bytes(edges), bytes))?;
+        let sizes = (log_bytes(edges), Trace::bytes(edges));
+        let filled = filled(rt.alloc(), edges, sizes)?;
         assert_eq!(rt; filled, edges);
     }
     Ok(())
