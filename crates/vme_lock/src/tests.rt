@@ -683,9 +683,13 @@ fn filled(alloc: Global, edges: u32, sizes: (usize, usize)) -> Result<u32, Fail>
     let mut log = Vec::new(log);
     log.reserve_exact(edges as usize)?;
     let mut pages = Pages::new(&scratch, edges);
+    let request = fall(FIRST, Wire::Br);
+    if !request.is_well_formed() {
+        return Err("a well-formed edge".into());
+    }
     for _edge in 0..edges {
         pages.make_room()?;
-        pages.push(fall(FIRST, Wire::Br));
+        pages.push(request);
     }
     pages.copy_to(&mut log);
     Ok(Log::new(log).len())

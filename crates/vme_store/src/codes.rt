@@ -26,6 +26,14 @@ impl Model for Code {
     ghost inverse = { λ e. record { code = code_of e } };
 }
 
+/// The code 0: the controller's `bg0+`.
+impl Default for Code {
+    #[tactic(auto, unfolding(crate::specs::Codes::edge_of))]
+    fn default() -> Code {
+        Code { code: 0 }
+    }
+}
+
 impl Code {
     /// The code of a well-formed edge.
     #[tactic(auto, using(crate::proofs::RoundTrip::round_trip))]
