@@ -6,3 +6,4 @@ pub mod Holding
 pub mod Seating
 pub mod Joining
 pub mod Paging
+pub mod Standing

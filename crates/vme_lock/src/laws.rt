@@ -1,5 +1,6 @@
 //! The work of each hold of the lock, on the locked value that it is lent, and what holds of that value.
-ghost use Rattle.std.specs.Prelude.{◌≡◌, MatchResult, true};
+ghost use Rattle.std.specs.Prelude.{◌≡◌, MatchResult, OnOk, true};
+ghost use Rattle.vme_model.specs.Signals.{is_well_formed};
 ghost use Rattle.vme_model.specs.Verdict.{IsLegal};
 ghost use Rattle.vme_model.specs.Safe.{IsSafe, IsOrderly};
 ghost use Rattle.vme_lock.specs.Seats.{IsHeld, Follows, kept_more, one_more};
@@ -50,6 +51,7 @@ pub fn edge_in<L: Rig>(
     ensures answer { result ≡ edge_answer held.old.board seat.old edge }
     ensures held { MatchResult result (λ _. held.new ≡ kept_more held.old edge seat.old.driver) (λ _. held.new ≡ held.old) }
     ensures seat { MatchResult result (λ _. seat.new ≡ one_more seat.old) (λ _. seat.new ≡ seat.old) }
+    ensures well_formed { OnOk result (is_well_formed edge ≡ true) }
     ensures before { IsHeld L.opened held.old }
     ensures legal { IsLegal held.old.board.version held.old.board.plan held.old.board.history }
 {

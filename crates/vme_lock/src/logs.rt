@@ -1,6 +1,7 @@
 //! Logs, and the memory of a worker.
-ghost use Rattle.std.specs.Prelude.{◌≡◌, ◌+◌, ◌-◌, ◌*◌, ◌<◌, ◌≤◌, ◌++◌, [], ◌∷◌, ◌↔◌, ◌==◌, IfOk, IsTrue, OnOk, Some, length, slice_get, vec_capacity};
+ghost use Rattle.std.specs.Prelude.{◌≡◌, ◌+◌, ◌-◌, ◌*◌, ◌<◌, ◌≤◌, ◌++◌, [], ◌∷◌, ◌↔◌, ◌==◌, IfOk, IsTrue, OnOk, Some, length, slice_get, true, vec_capacity};
 ghost use Rattle.std.specs.Int.{div_ceil};
+ghost use Rattle.vme_model.specs.Signals.{is_well_formed};
 ghost use Rattle.vme_lock.specs.Logs.{Filling};
 
 use arrayvec::ArrayVec;
@@ -8,6 +9,7 @@ use std::alloc::AllocError;
 use std::marker::Model;
 use vme_arena::Lease;
 use vme_model::Edge;
+use vme_store::Code;
 
 /// How many edges a working page holds.
 const PAGE: usize = 256;
@@ -15,7 +17,7 @@ const PAGE: usize = 256;
 /// The edges that one seat made in the turns of a worker, in the order of time.
 #[derive(Drop)]
 pub struct Log<'r> {
-    edges: Vec<Edge, Lease<'r>>,
+    edges: Vec<Code, Lease<'r>>,
 }
 
 impl<'r> Model for Log<'r> {
@@ -31,7 +33,7 @@ impl<'r> Model for Log<'r> {
 
 impl<'r> Log<'r> {
     /// The log of these edges.
-    pub(crate) fn new(edges: Vec<Edge, Lease<'r>>) -> Log<'r>
+    pub(crate) fn new(edges: Vec<Code, Lease<'r>>) -> Log<'r>
         requires { length edges.items < 4294967296 }
         ensures { result ≡ edges.entry.items }
     {
@@ -57,7 +59,7 @@ impl<'r> Log<'r> {
         requires { place < length self.now }
         ensures { slice_get self.now place ≡ Some result }
     {
-        self.edges[place as usize]
+        self.edges[place as usize].edge()
     }
 }
 
@@ -71,7 +73,7 @@ pub struct Room<'r> {
 /// One working page.
 #[derive(Drop)]
 struct Page<'s, 'r> {
-    edges: Box<ArrayVec<Edge, 256>, &'s Lease<'r>>,
+    edges: Box<ArrayVec<Code, 256>, &'s Lease<'r>>,
 }
 
 impl<'s, 'r> Model for Page<'s, 'r> {
@@ -100,10 +102,11 @@ impl<'s, 'r> Page<'s, 'r> {
     }
 
     fn push(&mut self, edge: Edge)
-        requires { length self.old < 256 }
+        requires room { length self.old < 256 }
+        requires well_formed { is_well_formed edge ≡ true }
         ensures { self.new ≡ self.old ++ edge ∷ [] }
     {
-        self.edges.push(edge);
+        self.edges.push(Code::of(edge));
     }
 }
 
@@ -162,7 +165,8 @@ impl<'s, 'r> Pages<'s, 'r> {
     }
 
     pub(crate) fn push(&mut self, edge: Edge)
-        requires { 0 < self.old.room }
+        requires room { 0 < self.old.room }
+        requires well_formed { is_well_formed edge ≡ true }
         ensures { self.new.edges ≡ self.old.edges ++ edge ∷ [] }
     {
         match self.pages.last_mut() {
@@ -172,7 +176,7 @@ impl<'s, 'r> Pages<'s, 'r> {
     }
 
     /// Copies the edges to the end of a log that has room for them.
-    pub(crate) fn copy_to(&self, log: &mut Vec<Edge, Lease<'_>>)
+    pub(crate) fn copy_to(&self, log: &mut Vec<Code, Lease<'_>>)
         requires { length log.old.items + length self.now.edges ≤ vec_capacity log.old }
         ensures { log.new.items ≡ log.old.items ++ self.now.edges }
     {
@@ -183,7 +187,7 @@ impl<'s, 'r> Pages<'s, 'r> {
 }
 
 /// Copies the edges of a page to the end of a log that has room for them.
-fn copy_page(page: &Page<'_, '_>, log: &mut Vec<Edge, Lease<'_>>)
+fn copy_page(page: &Page<'_, '_>, log: &mut Vec<Code, Lease<'_>>)
     requires { length log.old.items + length page.now ≤ vec_capacity log.old }
     ensures items { log.new.items ≡ log.old.items ++ page.now }
     ensures capacity { vec_capacity log.new ≡ vec_capacity log.old }
@@ -196,7 +200,7 @@ fn copy_page(page: &Page<'_, '_>, log: &mut Vec<Edge, Lease<'_>>)
 /// How many bytes of scratch are enough for the working pages of so many edges: a page for each 256 edges begun, and its
 /// place in the list of pages.
 pub fn log_bytes(edges: u32) -> usize
-    ensures { result ≡ 2080 * div_ceil edges 256 }
+    ensures { result ≡ 1056 * div_ceil edges 256 }
 {
-    (edges as usize).div_ceil(PAGE) * 2080
+    (edges as usize).div_ceil(PAGE) * 1056
 }

@@ -1,5 +1,6 @@
 //! The lock that seats share.
-ghost use Rattle.std.specs.Prelude.{◌≡◌, ◌≢◌, ◌≤◌, MatchResult};
+ghost use Rattle.std.specs.Prelude.{◌≡◌, ◌≢◌, ◌≤◌, MatchResult, OnOk, true};
+ghost use Rattle.vme_model.specs.Signals.{is_well_formed};
 ghost use Rattle.vme_lock.specs.Seats.{one_more};
 ghost use Rattle.vme_lock.specs.Holds.{look_answer, edge_answer, OfSome};
 
@@ -39,6 +40,7 @@ impl<'r, L: Rig> Shared<'r, L> {
     ) -> Result<Option<Delivery>, EdgeRefused>
         ensures answer { OfSome L.opened (λ b. result ≡ edge_answer b seat.old edge) }
         ensures seat { MatchResult result (λ _. seat.new ≡ one_more seat.old) (λ _. seat.new ≡ seat.old) }
+        ensures well_formed { OnOk result (is_well_formed edge ≡ true) }
         ensures driver { seat.new.driver ≡ seat.old.driver }
     {
         let mut held = self.lock.lock(rt);

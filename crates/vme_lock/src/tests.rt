@@ -26,7 +26,7 @@ use vme_slots::Plan;
 const LOOKS: u32 = 200_000_000;
 
 /// The bytes of a lease that is long enough for 1,000 edges.
-const AMPLE: usize = 16_384;
+const AMPLE: usize = 8192;
 
 /// The bytes of a region for a trace and 22 ample rooms.
 const MEMORY: usize = 1_048_576;
@@ -683,9 +683,13 @@ fn filled(alloc: Global, edges: u32, sizes: (usize, usize)) -> Result<u32, Fail>
     let mut log = Vec::new(log);
     log.reserve_exact(edges as usize)?;
     let mut pages = Pages::new(&scratch, edges);
+    let request = fall(FIRST, Wire::Br);
+    if !request.is_well_formed() {
+        return Err("a well-formed edge".into());
+    }
     for _edge in 0..edges {
         pages.make_room()?;
-        pages.push(fall(FIRST, Wire::Br));
+        pages.push(request);
     }
     pages.copy_to(&mut log);
     Ok(Log::new(log).len())
@@ -694,8 +698,8 @@ fn filled(alloc: Global, edges: u32, sizes: (usize, usize)) -> Result<u32, Fail>
 #[test]
 fn rooms_of_their_exact_sizes(rt: HostRuntime) -> Result<(), Fail> {
     for edges in [1, 256, 257, 1000] {
-        let bytes = (8 * edges as usize).next_multiple_of(16);
-        let filled = filled(rt.alloc(), edges, (log_bytes(edges), bytes))?;
+        let sizes = (log_bytes(edges), Trace::bytes(edges));
+        let filled = filled(rt.alloc(), edges, sizes)?;
         assert_eq!(rt; filled, edges);
     }
     Ok(())

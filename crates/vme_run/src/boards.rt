@@ -16,8 +16,8 @@ use vme_lock::{Bounds, Closed, LogMismatch, OpenGate, Rig, Room, Shared, log_byt
 /// The most drivers of a plan, and the parts of a ledger.
 const DRIVERS: u64 = 22;
 
-/// How many bytes a log takes for each of its edges, at most.
-const LOGGED: usize = 8;
+/// How many bytes a log takes for each of its edges.
+const LOGGED: usize = 4;
 
 /// The bytes of a log of so many edges.
 fn bytes_of(edges: u32) -> usize {

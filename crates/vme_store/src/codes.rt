@@ -1,8 +1,58 @@
 //! An edge as one number.
-ghost use Rattle.std.specs.Prelude.{◌≡◌, ◌<◌};
+ghost use Rattle.std.specs.Prelude.{◌≡◌, ◌<◌, true};
+ghost use Rattle.vme_model.specs.Signals.{is_well_formed};
 ghost use Rattle.vme_store.specs.Codes.{driver_code, wire_code, fall_code, value_code, code_of, driver_of, wire_of, value_of, edge_of};
 
+use std::marker::Model;
 use vme_model::{Cycle, Driver, Edge, Wire};
+
+/// A well-formed edge as the one number of four bytes that a trace keeps of it. A contract sees it as the edge.
+#[derive(Clone, Copy)]
+pub struct Code {
+    code: u32,
+}
+
+impl Model for Code {
+    ghost use Rattle.vme_model.specs.declared.signals.Edge.{Edge};
+    ghost use Rattle.std.specs.Prelude.{◌≡◌};
+    ghost use Rattle.vme_store.specs.Codes.{code_of, edge_of};
+
+    ghost Value = { Edge };
+
+    ghost view = { λ c. edge_of c.code };
+
+    ghost invariant = { λ c. code_of (edge_of c.code) ≡ c.code };
+
+    ghost inverse = { λ e. record { code = code_of e } };
+}
+
+/// The code 0: the controller's `bg0+`.
+impl Default for Code {
+    #[tactic(auto, unfolding(crate::specs::Codes::edge_of))]
+    fn default() -> Code {
+        Code { code: 0 }
+    }
+}
+
+impl Code {
+    /// The code of a well-formed edge.
+    #[tactic(auto, using(crate::proofs::RoundTrip::round_trip))]
+    pub fn of(edge: Edge) -> Code
+        requires { is_well_formed edge ≡ true }
+        ensures { result ≡ edge }
+    {
+        Code {
+            code: code_of(edge),
+        }
+    }
+
+    /// The edge that it stands for.
+    pub fn edge(self) -> Edge
+        ensures { result ≡ self }
+    {
+        edge_of(self.code)
+    }
+}
 
 fn driver_code(driver: Driver) -> u32
     ensures value { result ≡ driver_code driver }

@@ -9,6 +9,7 @@ mod pages;
 mod stores;
 mod traces;
 
+pub use codes::Code;
 pub use stores::Store;
 pub use traces::{Trace, TraceError};
 

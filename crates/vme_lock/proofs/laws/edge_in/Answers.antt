@@ -4,6 +4,7 @@ use Rattle.vme_lock.specs.Seats.{Keeping}
 use Rattle.vme_lock.specs.Holds.{by_step, edge_answer}
 use Rattle.vme_lock.proofs.Answering.{edge_lost, edge_stepped}
 use Rattle.vme_lock.proofs.Holding.{stepped, held_after}
+use Rattle.vme_lock.proofs.Standing.{answered_is_well_formed}
 use Rattle.vme_lock.proofs.laws.edge_in.Goals as goal
 
 pub returns-then-own-made-clause-answer : goal.returns-then-own-made-clause-answer
@@ -30,3 +31,7 @@ returns-in-Ok-clause-answer g c =
     let same = sym c.is_same.ensures ∙ c.if-not-is_same.false in
     let own = ap (slice_index c.held.inside.counts) c.desk-desk.ensures.place ∙ c.held.invariant.0.counts.counted c.seat.inside.driver c.seat.invariant.2 in
     ap by_step (sym c.in-Ok.is ∙ c.step.ensures.answer) ∙ edge_stepped c.held.inside.backplane _ c.args.edge same (sym own ∙ c.if-own-made.false) ∙ (λ i. edge_answer (c.held.view_is i).board (c.seat.view_is i) c.args.edge)
+
+pub returns-in-Ok-clause-well_formed : goal.returns-in-Ok-clause-well_formed
+returns-in-Ok-clause-well_formed g c =
+    answered_is_well_formed c.held.inside.backplane c.args.edge c.in-Ok.delivery (sym c.step.ensures.answer ∙ c.in-Ok.is)

@@ -6,17 +6,17 @@ use Rattle.vme_lock.proofs.Paging.{fits, some_page, joined-set}
 use Rattle.vme_lock.proofs.logs.Pages.push.Goals as goal
 use Rattle.vme_lock.proofs.logs.Pages.push.Goals.{in-Some, in-None}
 
-pub push-requires : goal.push-requires
-push-requires c =
+pub push-requires-clause-room : goal.push-requires-clause-room
+push-requires-clause-room c =
     let pages = c.self.inside.pages in
-    let room : 0 < room_of pages.items = omega (arith, c.requires, ap (λ f. f.room) c.self.view_is) in
+    let room : 0 < room_of pages.items = omega (arith, c.requires.room, ap (λ f. f.room) c.self.view_is) in
     let some = some_page pages.items room in
     fits pages.items (vec_len pages) c.in-Some.page.now room (omega (arith, pages.ok)) (omega (arith, some, pages.ok)) c.in-Some.ensures.value
 
 pub returns : goal.returns
 returns c =
     let pages = c.self.inside.pages in
-    let room : 0 < room_of pages.items = omega (arith, c.requires, ap (λ f. f.room) c.self.view_is) in
+    let room : 0 < room_of pages.items = omega (arith, c.requires.room, ap (λ f. f.room) c.self.view_is) in
     let some = some_page pages.items room in
     let n = vec_len pages - 1 in
     elim c.match-last_mut.branch [
