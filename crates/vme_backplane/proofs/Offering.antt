@@ -12,7 +12,7 @@ use Rattle.vme_model.specs.History.{drive}
 use Rattle.vme_model.specs.Readings.{readings}
 use Rattle.vme_model.specs.Rules.{rule}
 use Rattle.vme_model.specs.Settling.{settling}
-use Rattle.vme_model.specs.Verdict.{State, Judgement, check, is_other_state, allowed, settled, judged, verdict}
+use Rattle.vme_model.specs.Verdict.{State, Judgement, check, is_other_state, settled, judged, verdict}
 use Rattle.vme_model.specs.Offers.{considered, wires, offered}
 use Rattle.vme_wiring.specs.Offered.{offered_but_full}
 
@@ -34,7 +34,7 @@ module _ (b : State) (d : Driver) where
 
   all_refused : (e : Edge) → is_ok (at_end true e) ≡ false
   all_refused e =
-      four_err (is_well_formed e && has_driver b.plan e.driver e.wire) (is_other_state (drive b.history e.driver e.wire) e.fall) (allowed b.version b.plan b.history e) (settled b.version b.plan b.history e)
+      four_err (is_well_formed e && has_driver b.plan e.driver e.wire) (is_other_state (drive b.history e.driver e.wire) e.fall) (rule b.version (readings b.plan b.history e.driver) e.wire e.fall e.value).1 (settled b.version b.plan b.history e)
       NoSuchDriver AlreadyThere (Rule (rule b.version (readings b.plan b.history e.driver) e.wire e.fall e.value).0) (NotSettled (settling b.version b.plan b.history e.wire e.fall).0) TraceFull
 
   abbrev offered_at : Bool → List Edge
