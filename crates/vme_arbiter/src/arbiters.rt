@@ -63,6 +63,7 @@ impl Controller {
     }
 
     /// Whether it drives the wire low; only the controller's wires are its own.
+    #[inline(always)]
     fn is_low(&self, wire: Wire) -> bool
         ensures { result ≡ low self.now wire }
     {
@@ -107,6 +108,7 @@ impl Controller {
 
     /// The rule that names an edge of its own, and whether its guard holds, where the policy picks the level of a
     /// grant or does not.
+    #[inline(always)]
     fn rule(&self, edge: Edge, pins: Pins, is_picked: bool) -> (u8, bool)
         ensures picked { is_grant edge ≡ true → result.1 ≡ true → is_picked ≡ true }
         ensures rows { is_own edge.wire ≡ true → (is_grant edge ≡ true → is_picked ≡ is_pick self.now.kind (has_bus_level pins.requests) self.now.last_level (grant_level edge.wire)) → result ≡ rule self.now.version (local self.now pins) edge.wire edge.fall edge.value }
@@ -129,6 +131,7 @@ impl Controller {
     }
 
     /// The answer to an edge of its own by the fields, where the policy picks the level of a grant or does not.
+    #[inline(always)]
     fn judge(&self, edge: Edge, pins: Pins, is_picked: bool) -> Result<(), Refused>
         ensures picked { is_grant edge ≡ true → is_ok result ≡ true → is_picked ≡ true }
         ensures rows { is_own edge.wire ≡ true → (is_grant edge ≡ true → is_picked ≡ is_pick self.now.kind (has_bus_level pins.requests) self.now.last_level (grant_level edge.wire)) → result ≡ ruling self.now.version (local self.now pins) edge }
@@ -204,6 +207,7 @@ impl<P: Policy> Arbiter<P> {
     }
 
     /// Whether the controller drives the wire low; only `bg0` to `bg3`, `bclr`, `iack` and `berr` are its own.
+    #[inline(always)]
     pub fn is_low(&self, wire: Wire) -> bool
         ensures { result ≡ low self.now.1 wire }
     {
@@ -234,6 +238,7 @@ impl<P: Policy> Arbiter<P> {
     ///
     /// # Errors
     /// E2 where the wire is in that state, else E3 where the rule's guard fails.
+    #[inline(always)]
     pub fn may(&self, edge: Edge, pins: Pins) -> Result<(), Refused>
         ensures picked { is_grant edge ≡ true → is_ok result ≡ true → P.picked self.now.0 pins.requests self.now.1.last_level ≡ Some (grant_level edge.wire) }
         ensures rows { (kind : KindValue) (version : VersionValue) (noted : List EdgeValue) → self.now.1 ≡ state_of kind version noted → is_own edge.wire ≡ true → (is_grant edge ≡ true → P.picked self.now.0 pins.requests (last_level noted) ≡ pick kind (has_bus_level pins.requests) (last_level noted)) → result ≡ ruling version (over kind noted pins) edge }

@@ -91,6 +91,7 @@ impl<'r> Backplane<'r> {
     }
 
     /// The answer to an edge, but for the end of the trace.
+    #[inline(always)]
     fn judge(&self, edge: Edge) -> Result<(), Refused>
         ensures { result ≡ verdict_but_full self.now.version self.now.plan self.now.history edge }
     {
@@ -99,6 +100,7 @@ impl<'r> Backplane<'r> {
 
     /// The answer to an edge, but for what it delivers.
     #[tactic(auto, using(crate::proofs::Judged::refused, crate::proofs::Judged::passed, crate::proofs::WellFormed::allowed_is_well_formed))]
+    #[inline(always)]
     fn verdict(&self, edge: Edge) -> Result<(), Refused>
         ensures value { result ≡ verdict self.now edge }
         ensures room { OnOk result ((length self.now.history == self.now.max) ≡ false) }

@@ -136,6 +136,7 @@ impl Chain {
 
     /// What a slot reads at its input: the segment of the greatest active slot below it, or the controller's.
     #[tactic(auto, using(crate::proofs::Counts::at_most))]
+    #[inline(always)]
     pub fn is_in_low(&self, slot: u8) -> bool
         ensures { result ≡ input self.now slot }
     {

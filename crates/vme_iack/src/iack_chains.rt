@@ -58,6 +58,7 @@ impl IackChain {
     }
 
     /// Whether a slot's IACKIN* is low: the segment of the greatest active slot below it, or the controller's.
+    #[inline(always)]
     pub fn is_in_low(&self, slot: u8) -> bool
         ensures { result ≡ input self.now slot }
     {

@@ -49,6 +49,7 @@ fn serves(kind: IrqKind, shown: Option<Cycle>) -> bool
 }
 
 /// The answer to an edge that changes its wire, by the rule that names it and whether its guard holds.
+#[inline(always)]
 fn allowed(number: u8, holds: bool) -> Result<(), Refused>
     ensures { result ≡ check holds (Refused.Rule number) (Ok tt) }
 {
@@ -76,6 +77,7 @@ impl Interrupter {
     }
 
     /// Whether it drives the wire low; only `irq`, `iackout` and `dtack` are its own.
+    #[inline(always)]
     pub fn is_low(&self, wire: Wire) -> bool
         ensures { result ≡ low self.now wire }
     {
@@ -149,6 +151,7 @@ impl Interrupter {
     ///
     /// # Errors
     /// As for `may`.
+    #[inline(always)]
     pub fn may_request(&self, fall: bool) -> Result<(), Refused>
         ensures { (pins : PinsValue) (value : OptionValue CycleValue) → result ≡ ruling_on One (local self.now pins) Wire.Irq fall value }
     {
@@ -164,6 +167,7 @@ impl Interrupter {
     ///
     /// # Errors
     /// As for `may`.
+    #[inline(always)]
     pub fn may_pass(&self, fall: bool, lines: &Pins, iack_in: bool) -> Result<(), Refused>
         ensures { (value : OptionValue CycleValue) → result ≡ ruling_on One (local self.now (record lines.now { iack_in = iack_in })) Wire.IackOut fall value }
     {
@@ -179,6 +183,7 @@ impl Interrupter {
     ///
     /// # Errors
     /// As for `may`.
+    #[inline(always)]
     pub fn may_answer(&self, fall: bool, lines: &Pins, iack_in: bool) -> Result<(), Refused>
         ensures { (value : OptionValue CycleValue) → result ≡ ruling_on One (local self.now (record lines.now { iack_in = iack_in })) Wire.Dtack fall value }
     {
@@ -193,6 +198,7 @@ impl Interrupter {
     ///
     /// # Errors
     /// E2 where the wire is in that state, else E3 where the rule's guard fails.
+    #[inline(always)]
     pub fn may(&self, edge: Edge, pins: Pins) -> Result<(), Refused>
         ensures { (version : Version) (noted : List Noted) → self.now ≡ state_of self.now.slot self.now.row noted → is_own edge.wire ≡ true → result ≡ ruling version (over self.now.slot self.now.row noted pins) edge }
     {

@@ -37,6 +37,7 @@ impl Model for Master {
 }
 
 /// The answer to an edge that changes its wire, by the rule that names it and whether its guard holds.
+#[inline(always)]
 fn allowed(number: u8, holds: bool) -> Result<(), Refused>
     ensures { result ≡ check holds (Refused.Rule number) (Ok tt) }
 {
@@ -66,6 +67,7 @@ impl Master {
     }
 
     /// Whether it drives the wire low, or its address group on; only `addr`, `as` and `ds` are its own.
+    #[inline(always)]
     pub fn is_low(&self, wire: Wire) -> bool
         ensures { result ≡ low self.now wire }
     {
@@ -126,6 +128,7 @@ impl Master {
     ///
     /// # Errors
     /// As for `may`.
+    #[inline(always)]
     pub fn may_address(
         &self,
         fall: bool,
@@ -146,6 +149,7 @@ impl Master {
     ///
     /// # Errors
     /// As for `may`.
+    #[inline(always)]
     pub fn may_strobe_address(&self, fall: bool, lines: &Pins) -> Result<(), Refused>
         ensures { (holds_bus : Bool) (value : OptionValue CycleValue) → result ≡ ruling_on One (local self.now lines.now holds_bus) Wire.AddressStrobe fall value }
     {
@@ -160,6 +164,7 @@ impl Master {
     ///
     /// # Errors
     /// As for `may`.
+    #[inline(always)]
     pub fn may_strobe_data(&self, fall: bool, lines: &Pins) -> Result<(), Refused>
         ensures { (holds_bus : Bool) (value : OptionValue CycleValue) → result ≡ ruling_on One (local self.now lines.now holds_bus) Wire.DataStrobe fall value }
     {
@@ -177,6 +182,7 @@ impl Master {
     ///
     /// # Errors
     /// E2 where the wire is in that state, else E3 where the rule's guard fails.
+    #[inline(always)]
     pub fn may(&self, edge: Edge, pins: Pins, holds_bus: bool) -> Result<(), Refused>
         ensures { (version : Version) (noted : List EdgeValue) → self.now ≡ state_of self.now.slot self.now.row self.now.handler noted → is_own edge.wire ≡ true → result ≡ ruling version (over self.now.slot self.now.row self.now.handler noted pins holds_bus) edge }
     {

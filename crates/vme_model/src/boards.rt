@@ -101,6 +101,7 @@ impl Row {
     }
 
     /// Whether the board has the part that drives the wire.
+    #[inline(always)]
     pub fn drives(&self, wire: Wire) -> bool
         ensures { result ≡ drives wire self.now }
     {

@@ -89,6 +89,7 @@ fn is_level(level: u8) -> bool
 
 impl Version {
     /// Whether these are the rules of the second version.
+    #[inline(always)]
     pub fn is_two(self) -> bool
         ensures { result ≡ is_two self }
     {
@@ -105,6 +106,7 @@ impl Driver {
     }
 
     /// Whether such a driver has such a wire, on some backplane.
+    #[inline(always)]
     pub fn has_wire(self, wire: Wire) -> bool
         ensures { result ≡ has_wire self wire }
     {
@@ -196,6 +198,7 @@ impl Edge {
 
     /// Whether the driver can have such a wire, slots and levels are in range, and a value stands exactly with a
     /// fall of the address group.
+    #[inline(always)]
     pub fn is_well_formed(&self) -> bool
         ensures { result ≡ is_well_formed self.now }
     {

@@ -44,6 +44,7 @@ fn is_any(requests: BusLevels) -> bool
 }
 
 /// The answer to an edge that changes its wire, by the rule that names it and whether its guard holds.
+#[inline(always)]
 fn allowed(number: u8, holds: bool) -> Result<(), Refused>
     ensures { result ≡ check holds (Refused.Rule number) (Ok tt) }
 {
@@ -70,6 +71,7 @@ impl Requester {
     }
 
     /// Whether it drives the wire low; only `br`, `bgout` and `bbsy` are its own.
+    #[inline(always)]
     pub fn is_low(&self, wire: Wire) -> bool
         ensures { result ≡ low self.now wire }
     {
@@ -82,6 +84,7 @@ impl Requester {
     }
 
     /// Whether it may let go now, or waits for a request.
+    #[inline(always)]
     fn may_release(&self, requests: BusLevels) -> bool
         ensures { result ≡ lets_go self.now.row.release requests }
     {
@@ -92,6 +95,7 @@ impl Requester {
     }
 
     /// Whether its owner may let the bus go (G14).
+    #[inline(always)]
     fn may_let_go(&self, lines: &Pins, grant_in: bool, is_address_free: bool) -> bool
         ensures { result ≡ (rule self.now.version (readings self.now.slot self.now.row (low self.now) (record lines.now { grant_in = grant_in }) is_address_free) Wire.Bbsy false None).1 }
     {
@@ -102,6 +106,7 @@ impl Requester {
     ///
     /// # Errors
     /// As for `may`.
+    #[inline(always)]
     pub fn may_request(&self, fall: bool) -> Result<(), Refused>
         ensures { (pins : PinsValue) (is_address_free : Bool) (value : OptionValue CycleValue) → result ≡ ruling_on self.now.version (readings self.now.slot self.now.row (low self.now) pins is_address_free) Wire.Br fall value }
     {
@@ -116,6 +121,7 @@ impl Requester {
     ///
     /// # Errors
     /// As for `may`.
+    #[inline(always)]
     pub fn may_pass(&self, fall: bool, grant_in: bool) -> Result<(), Refused>
         ensures { (pins : PinsValue) (is_address_free : Bool) (value : OptionValue CycleValue) → pins.grant_in ≡ grant_in → result ≡ ruling_on self.now.version (readings self.now.slot self.now.row (low self.now) pins is_address_free) Wire.BgOut fall value }
     {
@@ -131,6 +137,7 @@ impl Requester {
     ///
     /// # Errors
     /// As for `may`.
+    #[inline(always)]
     pub fn may_hold(
         &self,
         fall: bool,
@@ -153,6 +160,7 @@ impl Requester {
     ///
     /// # Errors
     /// E2 where the wire is in that state, else E3 where the rule's guard fails.
+    #[inline(always)]
     pub fn may(&self, edge: Edge, pins: Pins, is_address_free: bool) -> Result<(), Refused>
         ensures { (noted : List EdgeValue) → self.now ≡ state_of self.now.slot self.now.row self.now.version noted → is_own edge.wire ≡ true → result ≡ answer_over self.now.slot self.now.row self.now.version noted pins is_address_free edge }
     {

@@ -87,6 +87,7 @@ impl Board {
     }
 
     /// Whether the board drives its wire low, or its address group on.
+    #[inline(always)]
     pub fn is_low(&self, wire: Wire) -> bool
         ensures { result ≡ low_of self.now wire }
     {
@@ -103,6 +104,7 @@ impl Board {
     }
 
     /// Whether the master's address group is off or its address strobe low.
+    #[inline(always)]
     fn is_address_free(&self) -> bool
         ensures { result ≡ (not (low_of self.now Wire.Addr) || low_of self.now Wire.AddressStrobe) }
     {
@@ -110,6 +112,7 @@ impl Board {
     }
 
     /// E2 and E3 for an edge of its requester's.
+    #[inline(always)]
     fn ask_requester(&self, edge: Edge, lines: &Pins, chains: &Chains) -> Result<(), Refused>
         ensures { (version : VersionValue) (p : Plan) (h : List EdgeValue) (r : RowValue) → self.now ≡ parts_of version p h r → IsAsked p h r (seen_by chains.now lines.now self.now.row) edge → is_requesters edge.wire ≡ true → result ≡ asked version p h edge }
     {
@@ -128,6 +131,7 @@ impl Board {
     }
 
     /// E2 and E3 for an edge of its master's.
+    #[inline(always)]
     fn ask_master(&self, edge: Edge, lines: &Pins) -> Result<(), Refused>
         ensures { (version : VersionValue) (p : Plan) (h : List EdgeValue) (r : RowValue) (chains : ChainsValue) → self.now ≡ parts_of version p h r → IsAsked p h r (seen_by chains lines.now self.now.row) edge → is_masters edge.wire ≡ true → result ≡ asked version p h edge }
     {
@@ -146,6 +150,7 @@ impl Board {
     }
 
     /// E2 and E3 for an edge of its interrupter's.
+    #[inline(always)]
     fn ask_interrupter(&self, edge: Edge, lines: &Pins, chains: &Chains) -> Result<(), Refused>
         ensures { (version : VersionValue) (p : Plan) (h : List EdgeValue) (r : RowValue) → self.now ≡ parts_of version p h r → IsAsked p h r (seen_by chains.now lines.now self.now.row) edge → is_interrupters edge.wire ≡ true → result ≡ asked version p h edge }
     {
@@ -164,6 +169,7 @@ impl Board {
     }
 
     /// E2 and E3 for an edge of one of its wires, by the part that drives it.
+    #[inline(always)]
     pub fn may(&self, edge: Edge, lines: &Pins, chains: &Chains) -> Result<(), Refused>
         ensures { (version : VersionValue) (p : Plan) (h : List EdgeValue) (r : RowValue) → self.now ≡ parts_of version p h r → IsAsked p h r (seen_by chains.now lines.now self.now.row) edge → result ≡ asked version p h edge }
     {

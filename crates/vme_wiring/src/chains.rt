@@ -41,6 +41,7 @@ impl Chains {
     }
 
     /// What a slot reads at its input on a chain.
+    #[inline(always)]
     pub fn input(&self, chain: ChainId, slot: u8) -> bool
         ensures { result ≡ input (chain_at chain self.now) slot }
     {
@@ -54,6 +55,7 @@ impl Chains {
     }
 
     /// The input of the board's own grant chain, for a board with a requester.
+    #[inline(always)]
     pub fn grant_in(&self, row: &Row) -> bool
         ensures { result ≡ option_map_or (λ q. input (chain_at (grant_chain q.level) self.now) row.now.slot) row.now.requester false }
     {
@@ -64,6 +66,7 @@ impl Chains {
     }
 
     /// The input of the acknowledge chain, for a board with an interrupter.
+    #[inline(always)]
     pub fn iack_in(&self, row: &Row) -> bool
         ensures { result ≡ (is_some row.now.interrupter && input self.now.iack row.now.slot) }
     {

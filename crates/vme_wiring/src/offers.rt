@@ -86,6 +86,7 @@ impl Wiring {
     }
 
     /// The edge without a value that moves the wire to its other state.
+    #[inline(always)]
     fn turned(&self, driver: Driver, wire: Wire) -> Edge
         ensures { result ≡ turned_by self.now driver wire }
     {
@@ -118,6 +119,7 @@ impl Wiring {
     }
 
     /// Puts the edge behind the others where the rules allow it.
+    #[inline(always)]
     fn offer(&self, edge: Edge, offers: &mut ArrayVec<Edge, 16>)
         requires { length offers.old.items < 16 }
         ensures offered { (version : VersionValue) (p : PlanValue) (h : List EdgeValue) → IsWiringOf version p h self.now → offers.new.items ≡ offers.old.items ++ filter (is_open version p h) (edge ∷ []) }
@@ -129,6 +131,7 @@ impl Wiring {
     }
 
     /// Puts the edge of a wire behind the others where the rules allow it.
+    #[inline(always)]
     fn offer_turned(&self, driver: Driver, wire: Wire, offers: &mut ArrayVec<Edge, 16>)
         requires { length offers.old.items < 16 }
         ensures offered { (version : VersionValue) (p : PlanValue) (h : List EdgeValue) → IsWiringOf version p h self.now → offers.new.items ≡ offers.old.items ++ filter (is_open version p h) (turned h driver wire ∷ []) }
@@ -138,6 +141,7 @@ impl Wiring {
     }
 
     /// Puts the edges of the address group behind the others that the rules allow.
+    #[inline(always)]
     fn offer_address(&self, driver: Driver, offers: &mut ArrayVec<Edge, 16>)
         requires { length offers.old.items ≤ 14 }
         ensures offered { (version : VersionValue) (p : PlanValue) (h : List EdgeValue) → IsWiringOf version p h self.now → offers.new.items ≡ offers.old.items ++ filter (is_open version p h) (considered p h driver Wire.Addr) }

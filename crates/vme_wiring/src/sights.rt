@@ -71,6 +71,7 @@ impl Wiring {
     }
 
     /// Whether the driver's own wire is low, or its address group on.
+    #[inline(always)]
     pub(crate) fn is_low(&self, driver: Driver, wire: Wire) -> bool
         ensures { result ≡ own_by self.now driver wire }
     {
@@ -97,6 +98,7 @@ impl Wiring {
     }
 
     /// What an edge delivers.
+    #[inline(always)]
     pub fn delivery(&self, edge: Edge) -> Option<Delivery>
         ensures { (version : VersionValue) (p : PlanValue) (h : List EdgeValue) → IsWiringOf version p h self.now → result ≡ delivery p h edge }
     {

@@ -18,6 +18,7 @@ impl Wiring {
     ghost use Rattle.vme_wiring.specs.Wired.{IsWiringOf};
 
     /// Whether the backplane has the driver, with such a wire.
+    #[inline(always)]
     fn has_driver(&self, driver: Driver, wire: Wire) -> bool
         ensures { (version : VersionValue) (p : PlanValue) (h : List EdgeValue) → IsWiringOf version p h self.now → result ≡ has_driver p driver wire }
     {
@@ -31,6 +32,7 @@ impl Wiring {
     }
 
     /// E1: whether the edge is well formed, and there is such a driver.
+    #[inline(always)]
     fn exists(&self, edge: Edge) -> bool
         ensures { (version : VersionValue) (p : PlanValue) (h : List EdgeValue) → IsWiringOf version p h self.now → result ≡ (is_well_formed edge && has_driver p edge.driver edge.wire) }
     {
@@ -38,6 +40,7 @@ impl Wiring {
     }
 
     /// E2 and E3, by the part that drives the wire.
+    #[inline(always)]
     fn ask(&self, edge: Edge) -> Result<(), Refused>
         ensures { (version : VersionValue) (p : PlanValue) (h : List EdgeValue) → IsWiringOf version p h self.now → (is_well_formed edge && has_driver p edge.driver edge.wire) ≡ true → result ≡ asked version p h edge }
     {
@@ -71,6 +74,7 @@ impl Wiring {
     }
 
     /// S3: whether a grant that nobody took has passed every board.
+    #[inline(always)]
     fn is_grant_seen(&self, level: u8) -> bool
         ensures { result ≡ (not (is_two self.now.version) || self.now.shared.bbsy || is_past_end (chain_at (grant_chain level) self.now.chains)) }
     {
@@ -80,6 +84,7 @@ impl Wiring {
     }
 
     /// S4: whether the last grant has gone from every board.
+    #[inline(always)]
     fn is_grant_gone(&self) -> bool
         ensures { result ≡ (not (is_two self.now.version) || not (nat_lt 0 self.now.lines.bgout)) }
     {
@@ -87,6 +92,7 @@ impl Wiring {
     }
 
     /// The number of the settling rule that names the edge, and whether it holds; 0 where none does.
+    #[inline(always)]
     fn settling(&self, edge: Edge) -> (u8, bool)
         ensures { (version : VersionValue) (p : PlanValue) (h : List EdgeValue) → IsWiringOf version p h self.now → result ≡ settling version p h edge.wire edge.fall }
     {
@@ -100,6 +106,7 @@ impl Wiring {
     }
 
     /// E4: the settling rules.
+    #[inline(always)]
     fn settle(&self, edge: Edge) -> Result<(), Refused>
         ensures { (version : VersionValue) (p : PlanValue) (h : List EdgeValue) → IsWiringOf version p h self.now → result ≡ check (settled version p h edge) (Refused.NotSettled (settling version p h edge.wire edge.fall).0) (Ok tt) }
     {
@@ -112,6 +119,7 @@ impl Wiring {
     }
 
     /// The first of E1 to E4 that applies to an edge.
+    #[inline(always)]
     pub fn judge(&self, edge: Edge) -> Result<(), Refused>
         ensures { (version : VersionValue) (p : PlanValue) (h : List EdgeValue) → IsWiringOf version p h self.now → result ≡ verdict_but_full version p h edge }
     {

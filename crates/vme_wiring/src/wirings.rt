@@ -100,6 +100,7 @@ impl Wiring {
     }
 
     /// The board of a slot.
+    #[inline(always)]
     pub(crate) fn board(&self, slot: u8) -> Option<&Board>
         ensures { option_copied result ≡ place self.now.boards slot }
     {
