@@ -5,3 +5,4 @@ pub mod Wired
 pub mod Asked
 pub mod Considered
 pub mod Offered
+pub mod Quiet
