@@ -15,3 +15,4 @@ pub mod Offering
 pub mod Ruling
 pub mod Waiting
 pub mod More
+pub mod Quiet

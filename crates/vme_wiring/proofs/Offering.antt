@@ -41,7 +41,7 @@ module _ (version : Version) (p : Plan) (h : List Edge) (w : Wiring) (is : IsWir
   own_slot s x None found = own_of_none version p h s x is.legal found
   own_slot s x (Some r) found = own_of_board version p h s r (parts_of version p h r) x is.legal found (stands p s r is.accepted found).slot refl
 
-  own : (d : Driver) (x : Wire) → own_by w d x ≡ drive h d x
+  pub own : (d : Driver) (x : Wire) → own_by w d x ≡ drive h d x
   own Controller x = ap (λ a. low a.1 x) is.arbiter ∙ own_of_controller version p h x is.legal
   own (Slot s) x = ap (λ o. option_map_or (λ b. low_of b x) o false) (is.boards s) ∙ own_slot s x (board p s) refl
 

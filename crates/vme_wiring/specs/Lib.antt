@@ -6,3 +6,4 @@ pub mod Asked
 pub mod Considered
 pub mod Offered
 pub mod Waits
+pub mod Quiet

@@ -5,6 +5,7 @@ mod boards;
 mod chains;
 mod lines;
 mod offers;
+mod places;
 mod sights;
 mod verdicts;
 mod waits;

@@ -3,6 +3,7 @@ ghost use Rattle.std.specs.Prelude.{◌≡◌, ◌≤◌, ◌<◌, ◌+◌, ◌+
 ghost use Rattle.vme_model.specs.declared.signals.Driver.TheVariants.{Controller, Slot};
 ghost use Rattle.vme_model.specs.declared.signals.Edge.{Edge as EdgeValue};
 ghost use Rattle.vme_model.specs.declared.signals.Version.{Version as VersionValue};
+ghost use Rattle.vme_model.specs.declared.signals.Wire.TheVariants.{Bg};
 ghost use Rattle.vme_model.specs.Plan.{Plan as PlanValue};
 ghost use Rattle.vme_model.specs.Offers.{considered, turned};
 ghost use Rattle.vme_wiring.specs.Boards.{place};
@@ -28,6 +29,7 @@ fn showing(slot: u8, cycle: Cycle) -> Edge
 impl Wiring {
     ghost use Rattle.vme_wiring.specs.Wired.{IsWiringOf};
     ghost use Rattle.vme_wiring.specs.Considered.{wanted_by, board_above, next_by, going_on_by, turned_by, considered_by};
+    ghost use Rattle.vme_wiring.specs.Quiet.{may_grant};
     ghost use Rattle.vme_wiring.specs.Offered.{is_open, offered_on, offered_but_full, requester_wires, master_wires, interrupter_wires};
 
     /// Whether the slot has a board and stands above that one.
@@ -209,15 +211,41 @@ impl Wiring {
         offers
     }
 
+    /// Whether the controller's grants are high, and the bus is free.
+    fn may_grant(&self) -> bool
+        ensures { result ≡ may_grant self.now }
+    {
+        !self.arbiter.is_low(Wire::Bg(0))
+            && !self.arbiter.is_low(Wire::Bg(1))
+            && !self.arbiter.is_low(Wire::Bg(2))
+            && !self.arbiter.is_low(Wire::Bg(3))
+            && !self.shared.bbsy
+    }
+
+    /// Puts the edge of a level's grant behind the others where the rules allow it: none falls but where it may.
+    #[inline(always)]
+    fn offer_grant(&self, level: u8, is_free: bool, offers: &mut ArrayVec<Edge, 16>)
+        requires room { length offers.old.items < 16 }
+        requires known { is_free ≡ may_grant self.now }
+        ensures offered { (version : VersionValue) (p : PlanValue) (h : List EdgeValue) → IsWiringOf version p h self.now → offers.new.items ≡ offers.old.items ++ filter (is_open version p h) (turned h Controller (Bg level) ∷ []) }
+        ensures few { length offers.new.items ≤ length offers.old.items + 1 }
+    {
+        if !is_free && !self.arbiter.is_low(Wire::Bg(level)) {
+            return;
+        }
+        self.offer_turned(Driver::Controller, Wire::Bg(level), offers);
+    }
+
     /// What the controller is offered.
     fn controller_offers(&self) -> ArrayVec<Edge, 16>
         ensures { (version : VersionValue) (p : PlanValue) (h : List EdgeValue) → IsWiringOf version p h self.now → result.items ≡ offered_but_full version p h Controller }
     {
         let mut offers = ArrayVec::new();
-        self.offer_turned(Driver::Controller, Wire::Bg(0), &mut offers);
-        self.offer_turned(Driver::Controller, Wire::Bg(1), &mut offers);
-        self.offer_turned(Driver::Controller, Wire::Bg(2), &mut offers);
-        self.offer_turned(Driver::Controller, Wire::Bg(3), &mut offers);
+        let is_free = self.may_grant();
+        self.offer_grant(0, is_free, &mut offers);
+        self.offer_grant(1, is_free, &mut offers);
+        self.offer_grant(2, is_free, &mut offers);
+        self.offer_grant(3, is_free, &mut offers);
         self.offer_turned(Driver::Controller, Wire::Bclr, &mut offers);
         self.offer_turned(Driver::Controller, Wire::Iack, &mut offers);
         self.offer_turned(Driver::Controller, Wire::Berr, &mut offers);

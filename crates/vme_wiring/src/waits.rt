@@ -11,6 +11,7 @@ ghost use Rattle.vme_wiring.specs.Waits.{is_access_to, is_unserved, read_by, wai
 ghost use Rattle.vme_wiring.specs.declared.wirings.Wiring.{Wiring as WiringValue};
 
 use crate::boards::Board;
+use crate::places::{Placed, is_master_quiet};
 use crate::wirings::Wiring;
 use vme_model::{ChainId, Cycle, Driver, Version, Wire};
 
@@ -28,10 +29,7 @@ fn is_access_to(slot: u8, shown: Option<Cycle>) -> bool
 fn waits_for_bus(board: &Board) -> bool
     ensures { (w : WiringValue) → result ≡ waits_for_bus (read_by w board.now) }
 {
-    !board.is_low(Wire::Bbsy)
-        && !board.is_low(Wire::Addr)
-        && !board.is_low(Wire::AddressStrobe)
-        && !board.is_low(Wire::DataStrobe)
+    is_master_quiet(board)
 }
 
 /// Whether the board's interrupter, if it has one, requests and was not served.
@@ -46,6 +44,8 @@ fn is_unserved(board: &Board) -> bool
 
 impl Wiring {
     ghost use Rattle.vme_wiring.specs.Wired.{IsWiringOf};
+    ghost use Rattle.vme_wiring.specs.Boards.{is_quiet};
+    ghost use Rattle.vme_wiring.specs.Quiet.{is_ungranted, is_unaddressed};
     ghost use Rattle.vme_wiring.specs.Offered.{offered_on, offered_but_full, requester_wires, master_wires, interrupter_wires};
     ghost use Rattle.vme_wiring.specs.Waits.{is_waiting, waits_for_cycle, waits_for_grant};
 
@@ -107,6 +107,45 @@ impl Wiring {
         self.waits_for_cycle(board) && is_unserved(board)
     }
 
+    /// Whether the board's requester, if it has one, may not withdraw, and no grant has reached it.
+    #[inline(always)]
+    fn is_ungranted(&self, board: &Board) -> bool
+        ensures { result ≡ is_ungranted self.now board.now }
+    {
+        match board.row.requester {
+            Some(requester) => {
+                !self.version.is_two()
+                    && !self
+                        .chains
+                        .input(ChainId::of_grant(requester.level), board.row.slot)
+            }
+            None => true,
+        }
+    }
+
+    /// Whether no access to the board is shown, and no acknowledge has reached its interrupter, if it has one.
+    #[inline(always)]
+    fn is_unaddressed(&self, board: &Board) -> bool
+        ensures { result ≡ is_unaddressed self.now board.now }
+    {
+        !is_access_to(board.row.slot, self.shared.shown)
+            && match board.row.interrupter {
+                Some(_) => !self.chains.input(ChainId::Iack, board.row.slot),
+                None => true,
+            }
+    }
+
+    /// Whether the board is quiet, and nothing has come to it. Then its requester and its master wait, and it has nothing
+    /// to answer; that is so of most boards in most turns.
+    #[inline(always)]
+    fn is_board_waiting(&self, placed: &Placed) -> bool
+        ensures { result ≡ (is_quiet placed.now && is_ungranted self.now placed.now && is_unaddressed self.now placed.now) }
+    {
+        placed.is_quiet()
+            && self.is_ungranted(placed.board())
+            && self.is_unaddressed(placed.board())
+    }
+
     /// Whether the driver waits for an edge of another: each part of its board waits, the requester for a grant, the
     /// master for the bus, and the rest for a cycle. The rules then allow none of the edges that are considered for it.
     ///
@@ -117,12 +156,8 @@ impl Wiring {
     {
         match driver {
             Driver::Controller => false,
-            Driver::Slot(slot) => match self.board(slot) {
-                Some(board) => {
-                    self.is_requester_waiting(board)
-                        && self.is_master_waiting(board)
-                        && self.is_interrupter_waiting(board)
-                }
+            Driver::Slot(slot) => match self.placed(slot) {
+                Some(placed) => self.is_board_waiting(placed) && is_unserved(placed.board()),
                 None => true,
             },
         }

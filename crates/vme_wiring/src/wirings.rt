@@ -18,6 +18,7 @@ ghost use Rattle.vme_wiring.specs.declared.boards.Board.{Board as BoardValue};
 use crate::boards::Board;
 use crate::chains::{Chains, note_segment};
 use crate::lines::{Lines, note_address, note_controllers, note_line};
+use crate::places::Placed;
 use vme_arbiter::{AnyPolicy, Arbiter};
 use vme_model::{BusLevels, Driver, Edge, Levels, Pins, Version};
 use vme_slots::Plan;
@@ -28,7 +29,7 @@ use vme_slots::Plan;
 pub struct Wiring {
     pub(crate) version: Version,
     pub(crate) slots: u8,
-    pub(crate) boards: [Option<Board>; 22],
+    pub(crate) boards: [Option<Placed>; 22],
     pub(crate) arbiter: Arbiter<AnyPolicy>,
     pub(crate) lines: Lines,
     pub(crate) chains: Chains,
@@ -39,17 +40,17 @@ pub struct Wiring {
 }
 
 /// The board of a slot, before any edge.
-fn board_of(plan: &Plan, slot: u8, version: Version) -> Option<Board>
+fn board_of(plan: &Plan, slot: u8, version: Version) -> Option<Placed>
     ensures { result ≡ option_map (parts_of version plan.now []) (board plan.now slot) }
 {
     match plan.row(slot) {
-        Some(row) => Some(Board::new(*row, version)),
+        Some(row) => Some(Placed::new(*row, version)),
         None => None,
     }
 }
 
 /// The boards of a plan, before any edge.
-fn boards_of(plan: &Plan, version: Version) -> [Option<Board>; 22]
+fn boards_of(plan: &Plan, version: Version) -> [Option<Placed>; 22]
     ensures room { length result ≡ 22 }
     ensures boards { (s : ℕ) → s < 22 → slice_get result s ≡ Some (option_map (parts_of version plan.now []) (board plan.now s)) }
 {
@@ -99,14 +100,25 @@ impl Wiring {
         }
     }
 
+    /// The board of a slot in its place.
+    #[inline(always)]
+    pub(crate) fn placed(&self, slot: u8) -> Option<&Placed>
+        ensures { option_copied result ≡ place self.now.boards slot }
+    {
+        match self.boards.get(usize::from(slot)) {
+            Some(Some(placed)) => Some(placed),
+            _ => None,
+        }
+    }
+
     /// The board of a slot.
     #[inline(always)]
     pub(crate) fn board(&self, slot: u8) -> Option<&Board>
         ensures { option_copied result ≡ place self.now.boards slot }
     {
-        match self.boards.get(usize::from(slot)) {
-            Some(Some(board)) => Some(board),
-            _ => None,
+        match self.placed(slot) {
+            Some(placed) => Some(placed.board()),
+            None => None,
         }
     }
 
@@ -154,11 +166,12 @@ impl Wiring {
     {
         let shown = self.shared.shown;
         match &mut self.boards[usize::from(slot)] {
-            Some(board) => {
-                note_line(&mut self.lines, &mut self.shared, &board.row, edge);
-                note_segment(&mut self.chains, &board.row, edge);
+            Some(placed) => {
+                let row = &placed.board().row;
+                note_line(&mut self.lines, &mut self.shared, row, edge);
+                note_segment(&mut self.chains, row, edge);
                 note_address(&mut self.addressing, slot, edge);
-                board.note(edge, shown);
+                placed.note(edge, shown);
             }
             None => {}
         }

@@ -1,0 +1,117 @@
+//! A board in its place, with what each of its edges moves and every turn asks.
+ghost use Rattle.std.specs.Prelude.{◌≡◌, ◌&&◌, ◌∷◌, [], true, not, List};
+ghost use Rattle.std.specs.Option.{option_map_or};
+ghost use Rattle.vme_model.specs.declared.boards.Row.{Row as RowValue};
+ghost use Rattle.vme_model.specs.declared.signals.Edge.{Edge as EdgeValue};
+ghost use Rattle.vme_model.specs.declared.signals.Version.{Version as VersionValue};
+ghost use Rattle.vme_model.specs.declared.signals.Wire.{Wire as WireValue};
+ghost use Rattle.vme_model.specs.Plan.{Plan};
+ghost use Rattle.vme_model.specs.History.{shown as shown_after};
+ghost use Rattle.vme_wiring.specs.Boards.{parts_of, low_of, is_quiet, is_requester_quiet, is_master_quiet};
+
+use crate::boards::Board;
+use std::marker::Model;
+use vme_model::{Cycle, Edge, Row, Version, Wire};
+
+/// Whether the board's requester, if it has one, requests the bus, and has nothing to undo.
+fn is_requester_quiet(board: &Board) -> bool
+    ensures { result ≡ is_requester_quiet board.now }
+{
+    match board.row.requester {
+        Some(_) => {
+            board.is_low(Wire::Br) && !board.is_low(Wire::BgOut) && !board.is_low(Wire::Bbsy)
+        }
+        None => true,
+    }
+}
+
+/// Whether the board does not hold the bus, and its address group and strobes are off.
+pub fn is_master_quiet(board: &Board) -> bool
+    ensures { result ≡ is_master_quiet board.now }
+{
+    !board.is_low(Wire::Bbsy)
+        && !board.is_low(Wire::Addr)
+        && !board.is_low(Wire::AddressStrobe)
+        && !board.is_low(Wire::DataStrobe)
+}
+
+/// Whether the board's interrupter, if it has one, passes no acknowledge on.
+fn is_interrupter_quiet(board: &Board) -> bool
+    ensures { result ≡ option_map_or (λ i. not (low_of board.now WireValue.IackOut)) board.now.row.interrupter true }
+{
+    match board.row.interrupter {
+        Some(_) => !board.is_low(Wire::IackOut),
+        None => true,
+    }
+}
+
+/// Whether none of the board's own wires keeps it from waiting.
+fn is_quiet(board: &Board) -> bool
+    ensures { result ≡ is_quiet board.now }
+{
+    is_requester_quiet(board)
+        && is_master_quiet(board)
+        && !board.is_low(Wire::Dtack)
+        && is_interrupter_quiet(board)
+}
+
+/// A board, and whether it is quiet.
+///
+/// A clause sees it as its board.
+#[derive(Clone, Copy)]
+pub struct Placed {
+    board: Board,
+    quiet: bool,
+}
+
+impl Model for Placed {
+    ghost use Rattle.std.specs.Prelude.{◌≡◌};
+    ghost use Rattle.std.proofs.Common.{sym};
+    ghost use Rattle.vme_wiring.specs.declared.boards.Board.{Board as BoardValue};
+    ghost use Rattle.vme_wiring.specs.Boards.{is_quiet};
+
+    ghost Value = { BoardValue };
+
+    ghost view = { λ x. x.board };
+
+    ghost invariant = { λ x. x.quiet ≡ is_quiet x.board };
+
+    ghost inverse = { λ b. record { board = b; quiet = is_quiet b } };
+
+    ghost inverse_ok = { λ x h i. record { board = x.board; quiet = sym h i } };
+}
+
+impl Placed {
+    /// The board of a row, before any edge.
+    pub fn new(row: Row, version: Version) -> Placed
+        ensures { (p : Plan) → result ≡ parts_of version p [] row }
+    {
+        let board = Board::new(row, version);
+        let quiet = is_quiet(&board);
+        Placed { board, quiet }
+    }
+
+    /// The board.
+    #[inline(always)]
+    pub fn board(&self) -> &Board
+        ensures { result.now ≡ self.now }
+    {
+        &self.board
+    }
+
+    /// Whether none of the board's own wires keeps it from waiting.
+    #[inline(always)]
+    pub fn is_quiet(&self) -> bool
+        ensures { result ≡ is_quiet self.now }
+    {
+        self.quiet
+    }
+
+    /// Takes in an edge of the board that was made while that was shown.
+    pub fn note(&mut self, edge: Edge, shown: Option<Cycle>)
+        ensures { (version : VersionValue) (p : Plan) (h : List EdgeValue) (r : RowValue) → self.old ≡ parts_of version p h r → shown ≡ shown_after p h → self.new ≡ parts_of version p (edge ∷ h) r }
+    {
+        self.board.note(edge, shown);
+        self.quiet = is_quiet(&self.board);
+    }
+}
