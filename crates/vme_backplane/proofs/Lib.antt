@@ -3,3 +3,4 @@ pub mod Replayed
 mod WellFormed
 mod Alike
 mod Offering
+mod Making

@@ -1,8 +1,9 @@
 //! A backplane, which takes edges one by one.
 ghost use Rattle.std.specs.Prelude.{◌≡◌, ◌==◌, ◌+◌, ◌%◌, ◌<◌, ◌≤◌, ◌↔◌, [], IfOk, IsTrue, Ok, OnOk, Some, false, true, is_ok, length, slice_get};
+ghost use Rattle.std.specs.Option.{option_map_or};
 ghost use Rattle.vme_model.specs.History.{in_order};
 ghost use Rattle.vme_model.specs.Signals.{is_well_formed};
-ghost use Rattle.vme_model.specs.Verdict.{verdict, verdict_but_full, after, kept, IsLegal};
+ghost use Rattle.vme_model.specs.Verdict.{verdict, verdict_but_full, made, after, kept, IsLegal};
 ghost use Rattle.vme_model.specs.Safe.{IsSafe, IsOrderly};
 ghost use Rattle.vme_model.specs.Views.{pins};
 ghost use Rattle.vme_model.specs.Deliveries.{answer, delivered};
@@ -135,11 +136,23 @@ impl<'r> Backplane<'r> {
         self.safety();
         self.verdict(edge)?;
         let delivery = self.wiring.delivery(edge);
-        self.wiring.note(edge);
-        self.store.push(edge);
+        self.make(edge);
         self.laws();
         self.safety();
         Ok(delivery)
+    }
+
+    /// Makes an edge that would be accepted.
+    #[inline(always)]
+    fn make(&mut self, edge: Edge)
+        requires room { (length self.old.history == self.old.max) ≡ false }
+        requires allowed { verdict_but_full self.old.version self.old.plan self.old.history edge ≡ Ok tt }
+        requires well_formed { is_well_formed edge ≡ true }
+        ensures { self.new ≡ made self.old edge }
+    {
+        self.laws();
+        self.wiring.note(edge);
+        self.store.push(edge);
     }
 
     /// Steps through all the edges, past those that are refused.
@@ -209,6 +222,27 @@ impl<'r> Backplane<'r> {
             return None;
         }
         choice(self.offers(driver).as_slice(), round)
+    }
+
+    /// Makes the offer that the driver makes in a round, if it has any, and answers it.
+    ///
+    /// It is `offer`, and a step with what that answers: the edge is not judged again.
+    #[inline(always)]
+    pub fn make_offer(&mut self, driver: Driver, round: u32) -> Option<Edge>
+        ensures offer { result ≡ slice_get (offered self.old driver) (round % length (offered self.old driver)) }
+        ensures state { self.new ≡ option_map_or (made self.old) result self.old }
+        ensures legal { IsLegal self.new.version self.new.plan self.new.history }
+        ensures safe { IsSafe self.new.plan self.new.history }
+        ensures orderly { IsOrderly self.new.version self.new.plan self.new.history }
+    {
+        let offer = self.offer(driver, round);
+        match offer {
+            Some(edge) => self.make(edge),
+            None => {}
+        }
+        self.laws();
+        self.safety();
+        offer
     }
 
     /// What was delivered, in the order of time.

@@ -47,12 +47,7 @@ fn take_turn(backplane: &mut Backplane, round: u32, edges: u32, driver: Driver)
     if backplane.len() == edges {
         return;
     }
-    match backplane.offer(driver, round) {
-        Some(edge) => {
-            let _ = backplane.step(edge);
-        }
-        None => {}
-    }
+    let _ = backplane.make_offer(driver, round);
 }
 
 /// A turn of each driver.
