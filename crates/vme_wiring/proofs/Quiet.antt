@@ -18,17 +18,17 @@ use Rattle.vme_model.specs.History.{drive, line, last_level, request_line}
 use Rattle.vme_model.specs.Readings.{readings}
 use Rattle.vme_model.specs.Rules.{bus_numbers, is_pick}
 use Rattle.vme_model.specs.Offers.{turned}
+use Rattle.vme_arbiter.specs.Local.{low}
 use Rattle.vme_chain.specs.Segments.{input}
 use Rattle.vme_wiring.specs.Boards.{low_of, place, is_quiet, is_master_quiet}
 use Rattle.vme_wiring.specs.Chained.{chain_at}
-use Rattle.vme_wiring.specs.Considered.{own_by}
 use Rattle.vme_wiring.specs.Offered.{is_open}
 use Rattle.vme_wiring.specs.Waits.{waits_for_grant, waits_for_bus, waits_for_cycle, is_access_to, read_by}
 use Rattle.vme_wiring.specs.Quiet.{is_ungranted, is_unaddressed, may_grant}
 use Rattle.vme_wiring.specs.Wired.{IsWiringOf}
 use Rattle.vme_wiring.specs.declared.boards.Board.{Board}
 use Rattle.vme_wiring.specs.declared.wirings.Wiring.{Wiring}
-use Rattle.vme_wiring.proofs.Offering.{own}
+use Rattle.vme_wiring.proofs.Seeing.{own_of_controller}
 use Rattle.vme_wiring.proofs.Waiting.{closed, reads_grant, reads_bus, reads_cycle}
 
 same_truth : (a b : Bool) → (a ≡ true → b ≡ true) → (b ≡ true → a ≡ true) → a ≡ b
@@ -116,15 +116,18 @@ module _ (version : Version) (p : Plan) (h : List Edge) (w : Wiring) (is : IsWir
   abbrev grants_high : (Wire → Bool) → Bool
   grants_high f = list_all (λ n. not (f (Bg n))) bus_numbers
 
+  own : (x : Wire) → low w.arbiter.1 x ≡ drive h Controller x
+  own x = ap (λ a. low a.1 x) is.arbiter ∙ own_of_controller version p h x is.legal
+
   free : may_grant w ≡ (grants_high (drive h Controller) && not (line p h Bbsy))
   free =
-      ap (λ f. grants_high f && not w.shared.bbsy) (fun_ext (own version p h w is Controller))
+      ap (λ f. grants_high f && not w.shared.bbsy) (fun_ext own)
       ∙ ap (λ (x : Pins). grants_high (drive h Controller) && not x.bbsy) is.shared
 
-  pub no_grant : (n : ℕ) → own_by w Controller (Bg n) ≡ false → may_grant w ≡ false → filter (is_open version p h) (turned h Controller (Bg n) ∷ []) ≡ []
+  pub no_grant : (n : ℕ) → low w.arbiter.1 (Bg n) ≡ false → may_grant w ≡ false → filter (is_open version p h) (turned h Controller (Bg n) ∷ []) ≡ []
   no_grant n high busy =
       let shut : is_open version p h (turned h Controller (Bg n)) ≡ false =
-      closed version p h Controller (Bg n) false (sym (own version p h w is Controller (Bg n)) ∙ high)
+      closed version p h Controller (Bg n) false (sym (own (Bg n)) ∙ high)
       (and_stops (grants_high (drive h Controller)) (not (line p h Bbsy)) (is_pick p.arbiter (request_line p h) (last_level h) n) (sym free ∙ busy)) in
       rw shut
 
