@@ -53,29 +53,6 @@ turn_else false b o e = rw e refl
 pub turn_none : (r n : ℕ) (b : State) (d : Driver) → slice_get (offered b d) (r % length (offered b d)) ≡ None → b ≡ turn r n b d
 turn_none r n b d e = sym (turn_else (length b.history == n) b (slice_get (offered b d) (r % length (offered b d))) e)
 
--- an edge that is kept by a test passes it
-passes_at : (test : Edge → Bool) (t : Bool) (e x : Edge) (rest : List Edge) → test e ≡ t → ((i : ℕ) → slice_get rest i ≡ Some x → test x ≡ true)
-    → (i : ℕ) → slice_get (if t then e ∷ rest else rest) i ≡ Some x → test x ≡ true
-passes_at test true e x rest is later zero h = (let same : e ≡ x = cc in ap test (sym same) ∙ is)
-passes_at test true e x rest is later (suc i) h = later i h
-passes_at test false e x rest is later i h = later i h
-
-passes : (test : Edge → Bool) (es : List Edge) (x : Edge) (i : ℕ) → slice_get (filter test es) i ≡ Some x → test x ≡ true
-passes test [] x i h = absurd cc
-passes test (e ∷ es) x i h = passes_at test (test e) e x (filter test es) refl (passes test es x) i h
-
-turn_some : (t : Bool) (b : State) (o : Option Edge) (e : Edge) → t ≡ false → o ≡ Some e → (if t then b else option_map_or (made b) o b) ≡ made b e
-turn_some t b o e f is = rw (f, is) refl
-
-after_ok : (t : Bool) (b : State) (e : Edge) → t ≡ true → (if t then made b e else b) ≡ made b e
-after_ok t b e is = rw is refl
-
--- an offer is made
-pub turn_made : (r n : ℕ) (b : State) (d : Driver) (e : Edge) → length b.history ≢ n → slice_get (offered b d) (r % length (offered b d)) ≡ Some e → after b e ≡ turn r n b d
-turn_made r n b d e less is =
-    let ok = passes (λ e. is_ok (verdict b e)) (flat_map (considered b.plan b.history d) (wires d)) e (r % length (offered b d)) is in
-    after_ok (is_ok (verdict b e)) b e ok ∙ sym (turn_some (length b.history == n) b _ e (ne_eqb (length b.history) n less) is)
-
 -- the drivers up to a slot
 abbrev pub drivers_to : Plan → ℕ → List Driver
 drivers_to p n = Controller ∷ map (λ s. Slot s) (filter (λ s. is_some (board p s)) (up_to n))
