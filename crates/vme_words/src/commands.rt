@@ -1,4 +1,8 @@
 //! The commands that the program offers, and their help.
+ghost use Rattle.std.specs.Prelude.{◌≡◌, ◌≤◌, [], ◌∷◌, IfOk, codes};
+ghost use Rattle.clap.specs.Words.{app_of, rule_of, shape_of};
+ghost use Rattle.vme_words.specs.Commands as said;
+
 use crate::{MOST_EDGES, MOST_TURNS};
 use clap::{Arg, ArgAction, Command, value_parser};
 use std::alloc::{AllocError, Global};
@@ -18,6 +22,8 @@ Exit status: 0 done, 1 a fault (one line on standard error), 2 some edge was ref
 const REPLAY: &str =
     "Writes the verdict on each edge of a trace, and how many were accepted and refused";
 
+const REPLAY_USAGE: &str = "vmebus replay <SCENARIO> <TRACE>";
+
 const REPLAY_EXAMPLE: &str =
     "Each edge has a line with its number and `ok`, or why it is refused, as `5 E3 G13`. A refused edge changes nothing,
 and the replay goes on behind it. The exit status is 2 where an edge was refused.
@@ -28,6 +34,8 @@ Example:
 const CHECK: &str =
     "Writes whether every edge of a trace is allowed, or which is the first that is not";
 
+const CHECK_USAGE: &str = "vmebus check <SCENARIO> <TRACE>";
+
 const CHECK_EXAMPLE: &str =
     "It writes `legal N`, with the number of edges, or `illegal N VERDICT` at the first refused edge, and reads no
 further. The exit status is 2 where an edge was refused.
@@ -36,6 +44,8 @@ Example:
   vmebus check board.toml tenure.vme";
 
 const DRIVE: &str = "Writes a trace that the drivers of a scenario make in turn";
+
+const DRIVE_USAGE: &str = "vmebus drive <SCENARIO> --edges <N> [--version <V>]";
 
 const DRIVE_EXAMPLE: &str =
     "In each round the controller and then each board makes one of the edges that are open to it. It ends with the given
@@ -46,6 +56,8 @@ Example:
 
 const RUN: &str = "Writes a trace that the drivers of a scenario make at once, a thread for each";
 
+const RUN_USAGE: &str = "vmebus run <SCENARIO> --edges <N> --turns <T> [--version <V>]";
+
 const RUN_EXAMPLE: &str =
     "Each driver gets the given number of turns, and in a turn it tries one of the edges that are open to it. The exit status
 is 3 where as many edges were made as were asked for. Two runs may differ; what each writes is legal.
@@ -54,99 +66,110 @@ Example:
   vmebus run board.toml --edges 1000 --turns 100000 > tenure.vme";
 
 /// A file's name, which must be given.
-fn file<'a>(alloc: Global, name: &'a str, help: &'a str) -> Arg<'a> {
+fn file<'a>(alloc: Global, name: &'a str, help: &'a str) -> Arg<'a>
+    ensures { rule_of result ≡ said.file name.entry.now }
+{
     Arg::new(alloc, name)
         .required(true)
         .action(ArgAction::Set)
         .help(help)
 }
 
-fn scenario_file<'a>(alloc: Global) -> Arg<'a> {
+fn scenario_file<'a>(alloc: Global) -> Arg<'a>
+    ensures { rule_of result ≡ said.file (codes "SCENARIO") }
+{
     file(alloc, "SCENARIO", "The boards, a TOML file")
 }
 
-fn trace_file<'a>(alloc: Global) -> Arg<'a> {
+fn trace_file<'a>(alloc: Global) -> Arg<'a>
+    ensures { rule_of result ≡ said.file (codes "TRACE") }
+{
     file(alloc, "TRACE", "The edges, one a line")
 }
 
-/// A number from 1 to `most`, which must be given.
-fn number<'a>(alloc: Global, name: &'a str, value: &'a str, most: u32, help: &'a str) -> Arg<'a> {
+/// An option with a number from 1 to `most`.
+fn option<'a>(alloc: Global, name: &'a str, value: &'a str, most: u32, help: &'a str) -> Arg<'a>
+    ensures { rule_of result ≡ said.option name.entry.now most }
+{
     Arg::new(alloc, name)
         .long(name)
         .value_name(value)
-        .required(true)
         .action(ArgAction::Set)
         .value_parser(value_parser!(u32).range(1..=i64::from(most)))
         .help(help)
 }
 
-fn edges_option<'a>(alloc: Global) -> Arg<'a> {
-    number(
-        alloc,
-        "edges",
-        "N",
-        MOST_EDGES,
-        "The most edges to make, 1 to 1048576",
-    )
+fn edges_option<'a>(alloc: Global) -> Arg<'a>
+    ensures { rule_of result ≡ said.edges }
+{
+    let help = "The most edges to make, 1 to 1048576";
+    option(alloc, "edges", "N", MOST_EDGES, help).required(true)
 }
 
-fn turns_option<'a>(alloc: Global) -> Arg<'a> {
-    number(
-        alloc,
-        "turns",
-        "T",
-        MOST_TURNS,
-        "The turns of each driver, 1 to 1000000",
-    )
+fn turns_option<'a>(alloc: Global) -> Arg<'a>
+    ensures { rule_of result ≡ said.turns }
+{
+    let help = "The turns of each driver, 1 to 1000000";
+    option(alloc, "turns", "T", MOST_TURNS, help).required(true)
 }
 
-fn version_option<'a>(alloc: Global) -> Arg<'a> {
-    Arg::new(alloc, "version")
-        .long("version")
-        .value_name("V")
-        .action(ArgAction::Set)
-        .value_parser(value_parser!(u32).range(1..=2))
-        .default_value("1")
-        .help("The version of the rules, 1 or 2")
+fn version_option<'a>(alloc: Global) -> Arg<'a>
+    ensures { rule_of result ≡ said.version }
+{
+    let help = "The version of the rules, 1 or 2";
+    option(alloc, "version", "V", 2, help).default_value("1")
 }
 
-fn replay<'a>(alloc: Global) -> Result<Command<'a>, AllocError> {
-    Command::new(alloc, "replay")
-        .about(REPLAY)
-        .after_help(REPLAY_EXAMPLE)
-        .arg(scenario_file(alloc))?
-        .arg(trace_file(alloc))
+/// A command that takes a scenario.
+fn command<'a>(
+    alloc: Global,
+    name: &'a str,
+    about: &'a str,
+    usage: &'a str,
+    example: &'a str,
+) -> Result<Command<'a>, AllocError>
+    ensures { IfOk result (λ c. app_of c ≡ said.leaf name.entry.now []) }
+{
+    Command::new(alloc, name)
+        .about(about)
+        .override_usage(usage)
+        .after_help(example)
+        .arg(scenario_file(alloc))
 }
 
-fn check<'a>(alloc: Global) -> Result<Command<'a>, AllocError> {
-    Command::new(alloc, "check")
-        .about(CHECK)
-        .after_help(CHECK_EXAMPLE)
-        .arg(scenario_file(alloc))?
-        .arg(trace_file(alloc))
+fn replay<'a>(alloc: Global) -> Result<Command<'a>, AllocError>
+    ensures { IfOk result (λ c. shape_of c ≡ said.replay) }
+{
+    command(alloc, "replay", REPLAY, REPLAY_USAGE, REPLAY_EXAMPLE)?.arg(trace_file(alloc))
 }
 
-fn drive<'a>(alloc: Global) -> Result<Command<'a>, AllocError> {
-    Command::new(alloc, "drive")
-        .about(DRIVE)
-        .after_help(DRIVE_EXAMPLE)
-        .arg(scenario_file(alloc))?
+fn check<'a>(alloc: Global) -> Result<Command<'a>, AllocError>
+    ensures { IfOk result (λ c. shape_of c ≡ said.check) }
+{
+    command(alloc, "check", CHECK, CHECK_USAGE, CHECK_EXAMPLE)?.arg(trace_file(alloc))
+}
+
+fn drive<'a>(alloc: Global) -> Result<Command<'a>, AllocError>
+    ensures { IfOk result (λ c. shape_of c ≡ said.drive) }
+{
+    command(alloc, "drive", DRIVE, DRIVE_USAGE, DRIVE_EXAMPLE)?
         .arg(edges_option(alloc))?
         .arg(version_option(alloc))
 }
 
-fn run<'a>(alloc: Global) -> Result<Command<'a>, AllocError> {
-    Command::new(alloc, "run")
-        .about(RUN)
-        .after_help(RUN_EXAMPLE)
-        .arg(scenario_file(alloc))?
+fn run<'a>(alloc: Global) -> Result<Command<'a>, AllocError>
+    ensures { IfOk result (λ c. shape_of c ≡ said.run) }
+{
+    command(alloc, "run", RUN, RUN_USAGE, RUN_EXAMPLE)?
         .arg(edges_option(alloc))?
         .arg(turns_option(alloc))?
         .arg(version_option(alloc))
 }
 
 /// The program's command line.
-pub(crate) fn commands<'a>(alloc: Global) -> Result<Command<'a>, AllocError> {
+pub(crate) fn commands<'a>(alloc: Global) -> Result<Command<'a>, AllocError>
+    ensures { IfOk result (λ c. app_of c ≡ said.commands) }
+{
     Command::new(alloc, "vmebus")
         .bin_name("vmebus")?
         .no_binary_name(true)

@@ -1,7 +1,10 @@
 //! The words behind the name of the program `vmebus`, and what they ask for.
 #![tactic(auto)]
 
-ghost use Rattle.std.specs.Prelude.{◌≡◌, ◌≢◌, ◌≤◌, ◌↔◌, IfOk, IfSome, Ok, Some, length};
+ghost use Rattle.std.specs.Prelude.{◌≡◌, ◌≤◌, ◌↔◌, ◌⊎◌, [], ◌∷◌, IfErr, IfOk, IfSome, IsSomeAnd, Ok, Some, codes, length, map};
+ghost use Rattle.clap.specs.Words.{FailsBy, IsAmong, fault_of, found_of, kind_of, rows_of, subcommand_of, subcommand_rows_of};
+ghost use Rattle.vme_words.specs.Asked.{Ask, AsksFor, IsFile, spelled, version_number};
+ghost use Rattle.vme_words.specs.Commands.{commands as commands_said};
 ghost use Rattle.vme_words.specs.Limits.{IsWithin};
 
 mod commands;
@@ -59,11 +62,19 @@ pub enum Job<'a> {
     },
 }
 
-/// The number of that name, where it is 1 to `most`.
-fn number_of(matches: &ArgMatches<'_>, name: &str, most: u32) -> Option<u32>
-    ensures { IfSome result (λ n. (1 ≤ n) × (n ≤ most)) }
+/// The file that the operand of that name names.
+fn file_of<'a>(operands: &ArgMatches<'a>, name: &str) -> Option<&'a str>
+    ensures { IfSome result (λ file. IsFile name.now (rows_of (found_of operands.now)) file.now) }
 {
-    let number = matches.get_one::<u32>(name)?;
+    operands.get_str(name)
+}
+
+/// The number that the option of that name spells, where it is 1 to `most`.
+fn number_of(operands: &ArgMatches<'_>, name: &str, most: u32) -> Option<u32>
+    ensures within { IfSome result (λ n. (1 ≤ n) × (n ≤ most)) }
+    ensures spelled { IfSome result (λ n. spelled name.now (rows_of (found_of operands.now)) ≡ Some n) }
+{
+    let number = operands.get_one::<u32>(name)?;
     if 1 <= number && number <= most {
         Some(number)
     } else {
@@ -71,19 +82,34 @@ fn number_of(matches: &ArgMatches<'_>, name: &str, most: u32) -> Option<u32>
     }
 }
 
-/// The version of the rules, where there is one of that number.
-fn version_of(matches: &ArgMatches<'_>) -> Option<Version> {
-    match matches.get_one::<u32>("version")? {
+/// The version of the rules, where there is one of the number that `--version` spells.
+fn version_of(operands: &ArgMatches<'_>) -> Option<Version>
+    ensures { IfSome result (λ version. spelled (codes "version") (rows_of (found_of operands.now)) ≡ Some (version_number version)) }
+{
+    match number_of(operands, "version", 2)? {
         1 => Some(Version::One),
-        2 => Some(Version::Two),
-        _ => None,
+        _ => Some(Version::Two),
     }
+}
+
+/// A drive of the scenario, with its other operands.
+fn drive_of<'a>(scenario: &'a str, operands: &ArgMatches<'a>) -> Option<Job<'a>>
+    ensures within { IfSome result IsWithin }
+    ensures asked { IsFile (codes "SCENARIO") (rows_of (found_of operands.now)) scenario.now
+        → IfSome result (AsksFor (codes "drive") (rows_of (found_of operands.now))) }
+{
+    Some(Job::Drive {
+        scenario,
+        edges: number_of(operands, "edges", MOST_EDGES)?,
+        version: version_of(operands)?,
+    })
 }
 
 /// A run of the scenario, with its other operands.
 fn run_of<'a>(scenario: &'a str, operands: &ArgMatches<'a>) -> Option<Job<'a>>
     ensures within { IfSome result IsWithin }
-    ensures command { result ≢ Some Job.Joined }
+    ensures asked { IsFile (codes "SCENARIO") (rows_of (found_of operands.now)) scenario.now
+        → IfSome result (AsksFor (codes "run") (rows_of (found_of operands.now))) }
 {
     Some(Job::Run {
         scenario,
@@ -96,26 +122,39 @@ fn run_of<'a>(scenario: &'a str, operands: &ArgMatches<'a>) -> Option<Job<'a>>
 /// The job of a command's name, with its operands.
 fn job_of<'a>(name: &str, operands: &ArgMatches<'a>) -> Option<Job<'a>>
     ensures within { IfSome result IsWithin }
-    ensures command { result ≢ Some Job.Joined }
+    ensures asked { IfSome result (AsksFor name.now (rows_of (found_of operands.now))) }
 {
-    let scenario = operands.get_str("SCENARIO")?;
+    let scenario = file_of(operands, "SCENARIO")?;
     match name {
         "replay" => Some(Job::Replay {
             scenario,
-            trace: operands.get_str("TRACE")?,
+            trace: file_of(operands, "TRACE")?,
         }),
         "check" => Some(Job::Check {
             scenario,
-            trace: operands.get_str("TRACE")?,
+            trace: file_of(operands, "TRACE")?,
         }),
-        "drive" => Some(Job::Drive {
-            scenario,
-            edges: number_of(operands, "edges", MOST_EDGES)?,
-            version: version_of(operands)?,
-        }),
+        "drive" => drive_of(scenario, operands),
         "run" => run_of(scenario, operands),
         _ => None,
     }
+}
+
+/// The job that the command of a parse asks for.
+fn job_in<'a>(matches: &ArgMatches<'a>) -> Option<Job<'a>>
+    ensures within { IfSome result IsWithin }
+    ensures asked { IfSome result (λ job. IsSomeAnd (subcommand_rows_of matches.now) (λ met. AsksFor met.0 met.1 job)) }
+{
+    let (name, operands) = matches.subcommand()?;
+    job_of(name, operands)
+}
+
+/// What the command line makes of words.
+fn parsed<'a>(alloc: Global, words: &'a [&'a str]) -> Result<ArgMatches<'a>, Error>
+    ensures fault { FailsBy (fault_of commands_said (map (λ word. word.now) words.entry.now)) result }
+    ensures found { IfOk result (λ m. subcommand_rows_of m ≡ subcommand_of commands_said (map (λ word. word.now) words.entry.now)) }
+{
+    commands(alloc)?.try_get_matches_from(words)
 }
 
 /// The job that the words behind the program's name ask for.
@@ -123,17 +162,16 @@ fn job_of<'a>(name: &str, operands: &ArgMatches<'a>) -> Option<Job<'a>>
 /// No words ask for [`Job::Joined`]. An error's `Display` is the text for the user; a call for help is one too.
 pub fn words<'a>(alloc: Global, words: &'a [&'a str]) -> Result<Job<'a>, Error>
     ensures within { IfOk result IsWithin }
+    ensures asked { IfOk result (Ask (map (λ word. word.now) words.entry.now)) }
+    ensures taken { IfOk result (λ _. (length words.entry.now ≡ 0) ⊎ (fault_of commands_said (map (λ word. word.now) words.entry.now) ≡ [])) }
+    ensures refused { IfErr result (λ error. IsAmong (kind_of error)
+        (ErrorKind.OutOfMemory ∷ ErrorKind.MissingSubcommand ∷ fault_of commands_said (map (λ word. word.now) words.entry.now))) }
     ensures joined { (result ≡ Ok Job.Joined) ↔ (length words.entry.now ≡ 0) }
 {
     if words.is_empty() {
         return Ok(Job::Joined);
     }
-    let matches = commands(alloc)?.try_get_matches_from(words)?;
-    let job = match matches.subcommand() {
-        None => None,
-        Some((name, operands)) => job_of(name, operands),
-    };
-    match job {
+    match job_in(&parsed(alloc, words)?) {
         Some(job) => Ok(job),
         None => Err(commands(alloc)?.error(ErrorKind::MissingSubcommand, "a command is missing")?),
     }

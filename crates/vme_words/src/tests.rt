@@ -131,13 +131,18 @@ fn help_tells_what_each_command_is(rt: HostRuntime) -> Result<(), Fail> {
         "  vmebus check board.toml tenure.vme\n",
     ];
     let drive: [&str; 5] = [
-        "Usage: vmebus drive --edges <N> <SCENARIO>",
+        "Usage: vmebus drive <SCENARIO> --edges <N> [--version <V>]",
         "--edges <N>",
         "1 to 1048576",
         "--version <V>  The version of the rules, 1 or 2 [default: 1]",
         "  vmebus drive board.toml --edges 1000 > tenure.vme\n",
     ];
-    let cases: [(&[&str], &[&str]); 7] = [
+    let run: [&str; 3] = [
+        "Usage: vmebus run <SCENARIO> --edges <N> --turns <T> [--version <V>]",
+        "1 to 1000000",
+        "  vmebus run board.toml --edges 1000 --turns 100000 > tenure.vme\n",
+    ];
+    let cases: [(&[&str], &[&str]); 8] = [
         (&["--help"], &overview),
         (&["-h"], &overview),
         (&["help"], &overview),
@@ -145,6 +150,7 @@ fn help_tells_what_each_command_is(rt: HostRuntime) -> Result<(), Fail> {
         (&["help", "check"], &check),
         (&["drive", "-h"], &drive),
         (&["drive", "S", "--edges", "8", "--help"], &drive),
+        (&["run", "--help"], &run),
     ];
     for (given, parts) in cases {
         let text = told(rt.alloc(), given)?;

@@ -1,0 +1,35 @@
+-- What the getters of a parse give, by the rows that it found.
+use Rattle.std.proofs.Common.{◌≡◌, ◌∙◌, ℕ, List, Option, Some, None, Result, Ok, IfSome, option_map, refl, sym, ap, unwrap_or}
+use Rattle.std.specs.Str.Parse.{ParsesUnsigned, digits_value, without_leading_plus}
+use Rattle.std.specs.Borrow.{Bor}
+use Rattle.clap.specs.Words.{ReadsOne, Text, first_of, first_value, one_text, rows_of}
+use Rattle.clap.specs.declared.parser.matches.Found.{Found}
+use Rattle.clap.proofs.WalkLemmas.{first_value-rows, one_text-rows}
+use Rattle.vme_words.specs.Asked.{spelled}
+
+pub file_named : (f : Found) (id : Text) (r : Option (Bor Text)) → option_map (λ s. s.now) r ≡ first_value f id
+    → IfSome r (λ s. first_of id (rows_of f) ≡ Some s.now)
+file_named f id None e = tt
+file_named f id (Some s) e = sym (e ∙ first_value-rows f id)
+
+spelled_text : (f : Found) (id t : Text) → one_text f id ≡ Some t → spelled id (rows_of f) ≡ Some (digits_value 10 (without_leading_plus t))
+spelled_text f id t e = ap (option_map (λ u. digits_value 10 (without_leading_plus u))) (sym (one_text-rows f id) ∙ e)
+
+read : {E : Type 0} (G : List ℕ → Result ℕ E → Type 0) (k : ℕ) (t : Text) (r : Option ℕ) (n : ℕ)
+    → ((u : List ℕ) (x : Result ℕ E) → G u x → ParsesUnsigned k 10 u x) → ReadsOne G t r → r ≡ Some n → n ≡ digits_value 10 (without_leading_plus t)
+read G k t None n parses reads is = cc
+read G k t (Some m) n parses reads is = some_is m n is ∙ (parses t (Ok m) reads).1
+  where
+    some_is : (a b : ℕ) → Some a ≡ Some b → b ≡ a
+    some_is a b e = ap (λ o. unwrap_or o a) (sym e)
+
+pub number_read : {E : Type 0} (G : List ℕ → Result ℕ E → Type 0) (k : ℕ) (f : Found) (id : Text) (r : Option ℕ) (n : ℕ)
+    → ((u : List ℕ) (x : Result ℕ E) → G u x → ParsesUnsigned k 10 u x)
+    → (one_text f id ≡ None → r ≡ None) → ((t : List ℕ) → one_text f id ≡ Some t → ReadsOne G t r) → r ≡ Some n → spelled id (rows_of f) ≡ Some n
+number_read G k f id r n parses none value is = go (one_text f id) refl
+  where
+    go : (o : Option Text) → one_text f id ≡ o → spelled id (rows_of f) ≡ Some n
+    go None e =
+        let missing : r ≡ None = none e in
+        cc
+    go (Some t) e = spelled_text f id t e ∙ ap Some (sym (read G k t r n parses (value t e) is))

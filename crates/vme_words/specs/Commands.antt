@@ -1,0 +1,60 @@
+-- The command line of the program: which commands it has, which files and options each takes, and which are required.
+use Rattle.std.specs.Prelude.{ℕ, List, [], ◌∷◌, Some, true, false, codes, pos}
+use Rattle.vme_model.specs.Report.{trace_limit}
+use Rattle.vme_words.specs.Limits.{most_turns}
+use Rattle.clap.specs.Words.{App, Rule, Shape, Text, new_rule}
+use Rattle.clap.specs.Simple.{new_shape}
+use Rattle.clap.specs.declared.builder.action.ArgAction.TheVariants.{Set}
+use Rattle.clap.specs.declared.builder.value_parser.ValueParser.TheVariants.{Signed}
+
+-- a word that must be given
+abbrev pub file : Text → Rule
+file name = record (new_rule name) { action = Some Set; required = true }
+
+-- `--NAME` with a number from 1 to `most`
+abbrev pub option : Text → ℕ → Rule
+option name most = record (new_rule name) {
+  long = Some name;
+  action = Some Set;
+  value_names = 1;
+  parser = Some (Signed (pos 1) (pos most));
+}
+
+-- such a number that must be given
+abbrev pub number : Text → ℕ → Rule
+number name most = record (option name most) { required = true }
+
+-- 1 where it is not given
+abbrev pub version : Rule
+version = record (option (codes "version") 2) { defaults = codes "1" ∷ [] }
+
+abbrev pub edges : Rule
+edges = number (codes "edges") trace_limit
+
+abbrev pub turns : Rule
+turns = number (codes "turns") most_turns
+
+-- a command of this name that takes a scenario, and then these
+abbrev pub leaf : Text → List Rule → App
+leaf name operands = record {
+  top = record (new_shape name) { rules = file (codes "SCENARIO") ∷ operands };
+  subs = [];
+}
+
+abbrev pub replay : Shape
+replay = (leaf (codes "replay") (file (codes "TRACE") ∷ [])).top
+
+abbrev pub check : Shape
+check = (leaf (codes "check") (file (codes "TRACE") ∷ [])).top
+
+abbrev pub drive : Shape
+drive = (leaf (codes "drive") (edges ∷ version ∷ [])).top
+
+abbrev pub run : Shape
+run = (leaf (codes "run") (edges ∷ turns ∷ version ∷ [])).top
+
+abbrev pub commands : App
+commands = record {
+  top = record (new_shape (codes "vmebus")) { is_leaf = false; no_binary_name = true };
+  subs = replay ∷ check ∷ drive ∷ run ∷ [];
+}
