@@ -100,8 +100,8 @@ pub fn write_history<W: Write>(backplane: &Backplane, out: &mut W) -> Result<(),
     flush(out)
 }
 
-/// The status of a drive that made so many edges, of so many that were asked for.
-fn status_of(made: u32, edges: u32) -> Status
+/// The status of an engine that made so many edges, of so many that were asked for.
+pub fn status_of(made: u32, edges: u32) -> Status
     ensures { result ≡ (if made == edges then Limit else Done) }
 {
     if made == edges {

@@ -13,7 +13,7 @@ mod replays;
 mod traces;
 
 pub use checks::check;
-pub use drives::{drive, write_history};
+pub use drives::{drive, status_of, write_history};
 pub use joins::joined;
 pub use plans::plan_of;
 pub use replays::replay;

@@ -1,6 +1,6 @@
 -- What the tests of a hold say of its answer.
 use Rattle.std.proofs.Common.{◌≡◌, ◌≢◌, ℕ, ◌≤◌, Bool, true, false, refl, sym, ap, ◌∙◌, subst, arith, length}
-use Rattle.std.specs.Prelude.{◌==◌, not, if◌then◌else◌, Ok, Err}
+use Rattle.std.specs.Prelude.{◌==◌, ◌%◌, not, if◌then◌else◌, slice_get, Ok, Err}
 use Rattle.std.proofs.lemmas.Bool.{eq-eqb}
 use Rattle.std.proofs.lemmas.Bool.Decides.{nat_tests}
 use Rattle.std.proofs.lemmas.List.Sums.{count_by-le-length}
@@ -13,9 +13,10 @@ use Rattle.vme_model.specs.Counts.{count}
 use Rattle.vme_model.specs.Offers.{offered}
 use Rattle.vme_model.specs.Views.{pins}
 use Rattle.vme_lock.specs.declared.views.View.{View}
+use Rattle.vme_lock.specs.declared.views.Turn.{Turn}
 use Rattle.vme_lock.specs.declared.views.EdgeRefused.TheVariants as refused
 use Rattle.vme_lock.specs.Seats.{Place}
-use Rattle.vme_lock.specs.Holds.{is_lost, lost, view_of, look_answer, edge_answer, by_step}
+use Rattle.vme_lock.specs.Holds.{is_lost, lost, view_of, look_answer, turn_of, turn_answer, edge_answer, by_step}
 
 other : (a b : ℕ) → a ≢ b → (a == b) ≡ false
 other a b apart = grind (arith, nat_tests)
@@ -42,6 +43,21 @@ look_seen b s v is same =
     let found : look_answer b s ≡ Ok (view_of b s.driver) = ap (λ (x : Bool). if x then Err (lost b s) else Ok (view_of b s.driver)) (is_lost-same b s same) in
     ap (λ (x : View). Ok x) is ∙ sym found
 
+-- the same of a turn
+pub turn_lost : (b : State) (s : Place) (t own : ℕ) → own ≡ count b.history s.driver → own ≢ s.made → Err (record { own = own }) ≡ turn_answer b s t
+turn_lost b s t own is apart =
+    let read : is_lost b s ≡ true = is_lost-other b s (λ same. apart (is ∙ same)) in
+    let found : turn_answer b s t ≡ Err (lost b s) = ap (λ (x : Bool). if x then Err (lost b s) else Ok (turn_of b s.driver t)) read in
+    sym (found ∙ ap (λ (n : ℕ). Err (record { own = n })) (sym is))
+
+pub turn_is : (b : State) (d : Driver) (t : ℕ) (v : Turn) → v.offer ≡ slice_get (offered b d) (t % length (offered b d)) → v.total ≡ length b.history → v ≡ turn_of b d t
+turn_is b d t v offer total = λ i. record { offer = offer i; total = total i }
+
+pub turn_seen : (b : State) (s : Place) (t : ℕ) (v : Turn) → v ≡ turn_of b s.driver t → count b.history s.driver ≡ s.made → Ok v ≡ turn_answer b s t
+turn_seen b s t v is same =
+    let found : turn_answer b s t ≡ Ok (turn_of b s.driver t) = ap (λ (x : Bool). if x then Err (lost b s) else Ok (turn_of b s.driver t)) (is_lost-same b s same) in
+    ap (λ (x : Turn). Ok x) is ∙ sym found
+
 -- a driver's edges are no more than all
 pub own_within : (b : State) (d : Driver) → count b.history d ≤ length b.history
 own_within b d = count_by-le-length (λ e. is_same_driver e.driver d) b.history
@@ -55,6 +71,17 @@ seen b s v is = go (count b.history s.driver == s.made) refl is
         let here : v ≡ view_of b s.driver = cc in
         let number : count b.history s.driver ≡ s.made = grind (arith, nat_tests) in
         (ap (λ x. x.own) here ∙ number, subst (λ x. x.own ≤ x.total) (sym here) (own_within b s.driver))
+    go false apart is = absurd (cc)
+
+-- the seat's edges in a turn are no more than all
+pub turn_within : (b : State) (s : Place) (t : ℕ) (v : Turn) → Ok v ≡ turn_answer b s t → s.made ≤ v.total
+turn_within b s t v is = go (count b.history s.driver == s.made) refl is
+  where
+    go : (x : Bool) → (count b.history s.driver == s.made) ≡ x → Ok v ≡ (if not x then Err (lost b s) else Ok (turn_of b s.driver t)) → s.made ≤ v.total
+    go true same is =
+        let here : v ≡ turn_of b s.driver t = cc in
+        let number : count b.history s.driver ≡ s.made = grind (arith, nat_tests) in
+        subst (λ x. s.made ≤ x.total) (sym here) (subst (λ n. n ≤ length b.history) number (own_within b s.driver))
     go false apart is = absurd (cc)
 
 -- another driver's edge

@@ -1,5 +1,5 @@
 -- What one hold of the lock answers.
-use Rattle.std.specs.Prelude.{◌==◌, Bool, not, if◌then◌else◌, length, Option, Result, Ok, Err}
+use Rattle.std.specs.Prelude.{◌==◌, ◌%◌, ℕ, Bool, not, if◌then◌else◌, length, slice_get, Option, Result, Ok, Err}
 use Rattle.vme_model.specs.declared.signals.Driver.{Driver}
 use Rattle.vme_model.specs.declared.signals.Edge.{Edge}
 use Rattle.vme_model.specs.declared.deliveries.Delivery.{Delivery}
@@ -11,6 +11,7 @@ use Rattle.vme_model.specs.Counts.{count}
 use Rattle.vme_model.specs.Offers.{offered}
 use Rattle.vme_model.specs.Views.{pins}
 use Rattle.vme_lock.specs.declared.views.View.{View}
+use Rattle.vme_lock.specs.declared.views.Turn.{Turn}
 use Rattle.vme_lock.specs.declared.views.Lost.{Lost}
 use Rattle.vme_lock.specs.declared.views.EdgeRefused.{EdgeRefused}
 use Rattle.vme_lock.specs.declared.views.EdgeRefused.TheVariants as refused
@@ -31,6 +32,14 @@ lost b s = record { own = count b.history s.driver }
 -- the answer to a look
 abbrev pub look_answer : State → Place → Result View Lost
 look_answer b s = if is_lost b s then Err (lost b s) else Ok (view_of b s.driver)
+
+-- what a turn shows a driver: the offer at the place of the turn among all
+abbrev pub turn_of : State → Driver → ℕ → Turn
+turn_of b d t = record { offer = slice_get (offered b d) (t % length (offered b d)); total = length b.history }
+
+-- the answer to it
+abbrev pub turn_answer : State → Place → ℕ → Result Turn Lost
+turn_answer b s t = if is_lost b s then Err (lost b s) else Ok (turn_of b s.driver t)
 
 -- what the backplane answers, its refusal as one of an edge
 abbrev pub by_step : Result (Option Delivery) Refused → Result (Option Delivery) EdgeRefused

@@ -1,5 +1,5 @@
 -- The edges of a worker, while it works.
-use Rattle.std.specs.Prelude.{◌==◌, ◌&&◌, not, ℕ, ◌-◌, ◌++◌, Bool, true, false, Option, Some, None, List, [], ◌∷◌, length, slice_get}
+use Rattle.std.specs.Prelude.{◌==◌, ◌&&◌, not, ℕ, ◌-◌, ◌≤◌, ◌++◌, Bool, true, false, Option, Some, None, List, [], ◌∷◌, length, slice_get}
 use Rattle.std.specs.Option.{option_map_or}
 use Rattle.vme_model.specs.declared.signals.Cycle.{Cycle}
 use Rattle.vme_model.specs.declared.signals.Cycle.TheVariants.{Acknowledge, Access}
@@ -10,6 +10,10 @@ use Rattle.vme_model.specs.declared.signals.Edge.{Edge}
 pub record Filling : Type 0 where
   pub edges : List Edge
   pub room : ℕ
+
+-- no more edges than turns, nor than the history may have
+abbrev pub IsWithin : ℕ → ℕ → List Edge → Type 0
+IsWithin turns edges log = (length log ≤ turns) × (length log ≤ edges)
 
 -- the edges of all pages
 abbrev pub joined : List (List Edge) → List Edge

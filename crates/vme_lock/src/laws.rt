@@ -4,11 +4,11 @@ ghost use Rattle.vme_model.specs.Signals.{is_well_formed};
 ghost use Rattle.vme_model.specs.Verdict.{IsLegal};
 ghost use Rattle.vme_model.specs.Safe.{IsSafe, IsOrderly};
 ghost use Rattle.vme_lock.specs.Seats.{IsHeld, Follows, kept_more, one_more};
-ghost use Rattle.vme_lock.specs.Holds.{look_answer, edge_answer};
+ghost use Rattle.vme_lock.specs.Holds.{look_answer, turn_answer, edge_answer};
 
 use crate::held::Held;
 use crate::seats::{Rig, Seat, desk};
-use crate::views::{EdgeRefused, Lost, View};
+use crate::views::{EdgeRefused, Lost, Turn, View};
 use vme_model::{Delivery, Edge};
 
 /// What holds of the locked value whenever the lock is free.
@@ -40,6 +40,22 @@ pub fn look_in<L: Rig>(held: &Held<'_, L>, seat: &Seat<L>) -> Result<View, Lost>
         own,
         total: held.backplane.len(),
     })
+}
+
+/// A hold that makes no edge: what the seat's driver may do in a turn.
+pub fn turn_in<L: Rig>(held: &Held<'_, L>, seat: &Seat<L>, turn: u32) -> Result<Turn, Lost>
+    ensures answer { result ≡ turn_answer held.now.board seat.now turn }
+    ensures held { IsHeld L.opened held.now }
+    ensures legal { IsLegal held.now.board.version held.now.board.plan held.now.board.history }
+{
+    held.backplane.laws();
+    let made = held.counts[desk(seat.driver)];
+    if made != seat.made {
+        return Err(Lost { own: made });
+    }
+    let offer = held.backplane.offer(seat.driver, turn);
+    let total = held.backplane.len();
+    Ok(Turn { offer, total })
 }
 
 /// A hold that makes the edge, where it is the seat's and the rules allow it.

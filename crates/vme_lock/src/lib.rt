@@ -20,7 +20,7 @@ pub use logs::{Log, Room, log_bytes};
 pub use seats::{Rig, Seat, Seats};
 pub use shared::Shared;
 pub use threads::{NotStarted, run_boards};
-pub use views::{EdgeRefused, Lost, View};
+pub use views::{EdgeRefused, Lost, Turn, View};
 pub use workers::{Bounds, Gate, OpenGate, Spent, work_board};
 
 #[cfg(test)]

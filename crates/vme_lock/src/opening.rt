@@ -1,6 +1,6 @@
 //! Locking a backplane.
-ghost use Rattle.std.specs.Prelude.{◌≡◌, ◌+◌, ◌<◌, ◌≤◌, [], ◌∷◌, ◌++◌, length, map, sum_by, vec_len, vec_capacity, MatchResult, IfOk, true, is_some};
-ghost use Rattle.vme_model.specs.Plan.{board, drivers};
+ghost use Rattle.std.specs.Prelude.{◌≡◌, ◌+◌, ◌<◌, ◌≤◌, [], ◌∷◌, ◌++◌, length, map, sum_by, vec_len, vec_capacity, MatchResult, IfOk, true};
+ghost use Rattle.vme_model.specs.Plan.{drivers};
 ghost use Rattle.vme_model.specs.Counts.{count};
 ghost use Rattle.vme_lock.specs.Seats.{AreCounts, can_sit, seats_of, drivers_of};
 
@@ -87,9 +87,10 @@ impl<L: Rig> Opening<L> {
     {
         backplane.laws();
         self.seat(Driver::Controller, counts[0]);
-        for below in 0..backplane.plan().slots() {
+        let plan = backplane.plan();
+        for below in 0..plan.slots() {
             let slot = below + 1;
-            if has_board(backplane, slot) {
+            if plan.has_board(slot) {
                 self.seat(Driver::Slot(slot), counts[usize::from(slot)]);
             }
         }
@@ -110,11 +111,4 @@ fn counts_of(backplane: &Backplane<'_>) -> [u32; 22]
         }
     }
     counts
-}
-
-/// Whether the slot has a board.
-fn has_board(backplane: &Backplane<'_>, slot: u8) -> bool
-    ensures { result ≡ is_some (board backplane.now.plan slot) }
-{
-    backplane.plan().row(slot).is_some()
 }

@@ -2,12 +2,12 @@
 ghost use Rattle.std.specs.Prelude.{◌≡◌, ◌≢◌, ◌≤◌, MatchResult, OnOk, true};
 ghost use Rattle.vme_model.specs.Signals.{is_well_formed};
 ghost use Rattle.vme_lock.specs.Seats.{one_more};
-ghost use Rattle.vme_lock.specs.Holds.{look_answer, edge_answer, OfSome};
+ghost use Rattle.vme_lock.specs.Holds.{look_answer, turn_answer, edge_answer, OfSome};
 
 use crate::held::Held;
-use crate::laws::{edge_in, look_in};
+use crate::laws::{edge_in, look_in, turn_in};
 use crate::seats::{Rig, Seat};
-use crate::views::{EdgeRefused, Lost, View};
+use crate::views::{EdgeRefused, Lost, Turn, View};
 use std::sync::{Mutex, Wait};
 use vme_model::{Delivery, Edge};
 
@@ -27,6 +27,18 @@ impl<'r, L: Rig> Shared<'r, L> {
     {
         let held = self.lock.lock(rt);
         look_in(&*held, seat)
+    }
+
+    /// What the seat's driver may do in a turn, counted from 0: of k offers the one at place `turn mod k`. May wait for the
+    /// lock.
+    ///
+    /// `Lost` as for a look.
+    pub fn turn<R: Wait>(&self, rt: &R, seat: &Seat<L>, turn: u32) -> Result<Turn, Lost>
+        ensures answer { OfSome L.opened (λ b. result ≡ turn_answer b seat.now turn) }
+        ensures own { MatchResult result (λ t. seat.now.made ≤ t.total) (λ lost. lost.own ≢ seat.now.made) }
+    {
+        let held = self.lock.lock(rt);
+        turn_in(&*held, seat, turn)
     }
 
     /// Makes the edge where it is the seat's and the rules allow it, and answers what it delivers. May wait for the lock.

@@ -136,6 +136,14 @@ impl Ran {
     }
 }
 
+/// L2, where the backplane that was handed back takes an edge as before.
+fn refused_lock(mut backplane: Backplane<'_>) -> Fail {
+    match backplane.step(fall(FIRST, Wire::Br)) {
+        Ok(_) => "L2".into(),
+        Err(_) => "another backplane was handed back".into(),
+    }
+}
+
 /// Runs all boards and closes.
 fn run_and_close<L: Rig + Send + Sync, G: Gate + Sync, R: Threads + Wait + Sync>(
     rt: &R,
@@ -149,13 +157,16 @@ fn run_and_close<L: Rig + Send + Sync, G: Gate + Sync, R: Threads + Wait + Sync>
     requires blank { (blank.name ≡ L.name) × (blank.parts ≡ L.parts) × (blank.parts ≡ 22) }
     requires opened { L.opened ≡ backplane }
 {
-    let Ok((shared, seats)) = Shared::<'_, L>::new(alloc, blank, backplane) else {
-        return Err("L2".into());
+    let (shared, seats) = match Shared::<'_, L>::new(alloc, blank, backplane) {
+        Ok(opened) => opened,
+        Err(same) => return Err(refused_lock(same)),
     };
     if rooms.len() != seats.len() {
         return Err("as many rooms as seats".into());
     }
-    let (seats, logs) = run_boards(rt, alloc, &shared, seats, gate, bounds, rooms)?;
+    let Ok((seats, logs)) = run_boards(rt, alloc, &shared, seats, gate, bounds, rooms) else {
+        return Err("L3".into());
+    };
     let mut made = Vec::new(alloc);
     for seat in &seats {
         made.push(seat.made())?;
@@ -190,6 +201,16 @@ fn run_in_rooms<G: Gate + Sync, R: Threads + Wait + Sync>(
     let bounds = Bounds { turns, edges: 1000 };
     let blank = Blank::new(22);
     run_and_close::<Brand, G, R>(rt, alloc, blank, backplane, gate, bounds, rooms)
+}
+
+/// One board asks. `acceptance/failing-calls` refuses each of this test's calls for memory in turn: it ends by the name of
+/// what was refused, L2 and L3 among them, or as it does else.
+#[test]
+fn refused_memory(rt: HostRuntime) -> Result<(), Fail> {
+    let ran = run_in_rooms(&rt, rt.alloc(), 1, &OpenGate, 1, &[(AMPLE, AMPLE); 2])?;
+    assert!(rt; ran.begins(1, &[fall(FIRST, Wire::Br)]));
+    assert!(rt; ran.made.get(1) == Some(&1));
+    Ok(())
 }
 
 /// Waits for a flag, and says whether it came up.

@@ -1,7 +1,8 @@
 //! One thread for each board.
-ghost use Rattle.std.specs.Prelude.{◌≡◌, ◌≤◌, [], IfOk, vec_len, vec_capacity};
+ghost use Rattle.std.specs.Prelude.{◌≡◌, ◌≤◌, [], All, IfOk, vec_len, vec_capacity};
 ghost use Rattle.std.specs.Thread.{IsSync};
 ghost use Rattle.vme_lock.specs.Seats.{worked, AllWorked, drivers_of};
+ghost use Rattle.vme_lock.specs.Logs.{IsWithin};
 
 use crate::logs::{Log, Room};
 use crate::seats::{Rig, Seat, Seats};
@@ -33,6 +34,7 @@ pub fn run_boards<'r, L: Rig + Send + Sync, G: Gate + Sync, R: Threads + Wait + 
     ensures worked { IfOk result (λ r. AllWorked seats.items r.0.items r.1.items) }
     ensures drivers { IfOk result (λ r. drivers_of r.0.items ≡ drivers_of seats.items) }
     ensures logs { IfOk result (λ r. vec_len r.1 ≡ vec_len r.0) }
+    ensures most { IfOk result (λ r. All (IsWithin bounds.turns bounds.edges) r.1.items) }
 {
     let Ok(logs) = Vec::with_capacity(alloc, seats.len()) else {
         return Err(NotStarted);
@@ -56,6 +58,7 @@ fn run_all<'r, L: Rig + Send + Sync, G: Gate + Sync, R: Threads + Wait + Sync>(
     ensures worked { AllWorked seats.items result.0.items result.1.items }
     ensures len { (vec_len result.0 ≡ vec_len seats) × (vec_len result.1 ≡ vec_len seats) }
     ensures reserved { (vec_capacity result.0 ≡ vec_capacity seats) × (vec_capacity result.1 ≡ vec_capacity logs.entry) }
+    ensures most { All (IsWithin bounds.turns bounds.edges) result.1.items }
 {
     let Some(seat) = seats.pop() else {
         return (seats, logs);
@@ -66,7 +69,8 @@ fn run_all<'r, L: Rig + Send + Sync, G: Gate + Sync, R: Threads + Wait + Sync>(
     let ((seat, log, _), (mut seats, mut logs)) = join(
         rt,
         move || -> (Seat<L>, Log, Spent)
-            ensures { result.0 ≡ worked seat result.1 }
+            ensures worked { result.0 ≡ worked seat result.1 }
+            ensures most { IsWithin bounds.turns bounds.edges result.1 }
         { work_board(rt, shared, seat, gate, bounds, room) },
         move || -> (Seats<L>, Vec<Log>)
             requires here { IsSync R.row × IsSync L.row × IsSync G.row }
@@ -76,6 +80,7 @@ fn run_all<'r, L: Rig + Send + Sync, G: Gate + Sync, R: Threads + Wait + Sync>(
             ensures worked { AllWorked seats.items result.0.items result.1.items }
             ensures len { (vec_len result.0 ≡ vec_len seats) × (vec_len result.1 ≡ vec_len seats) }
             ensures reserved { (vec_capacity result.0 ≡ vec_capacity seats) × (vec_capacity result.1 ≡ vec_capacity logs.entry) }
+            ensures most { All (IsWithin bounds.turns bounds.edges) result.1.items }
         { run_all(rt, shared, seats, gate, bounds, rooms, logs) },
     );
     seats.push_reserved(seat);

@@ -15,6 +15,15 @@ pub struct View {
     pub total: u32,
 }
 
+/// What a driver sees of one turn in one hold.
+#[derive(Clone, Copy, PartialEq, Eq, Debug)]
+pub struct Turn {
+    /// The edge that the turn is for, if the driver is offered any.
+    pub offer: Option<Edge>,
+    /// How many edges stand in the history.
+    pub total: u32,
+}
+
 /// The history has another number of the driver's edges than its seat made.
 #[derive(Clone, Copy, PartialEq, Eq, Debug, Error)]
 #[error("L5 the history has {own} edges of the seat's driver")]

@@ -1,11 +1,12 @@
 //! A worker: one driver's turns, each at one look and one edge at most.
 ghost use Rattle.std.specs.Prelude.{◌≡◌, ◌+◌, ◌≤◌, [], length, min, true};
 ghost use Rattle.vme_lock.specs.Seats.{worked};
+ghost use Rattle.vme_lock.specs.Logs.{IsWithin};
 
 use crate::logs::{Log, Pages, Room};
 use crate::seats::{Rig, Seat};
 use crate::shared::Shared;
-use crate::views::{EdgeRefused, View};
+use crate::views::EdgeRefused;
 use std::sync::Wait;
 use vme_model::{Driver, Edge};
 
@@ -63,15 +64,6 @@ pub enum Spent {
     Lost,
 }
 
-/// The offer of a turn, if there are offers.
-fn offer_of(view: &View, turn: u32) -> Option<Edge> {
-    let offers = view.offers.as_slice();
-    if offers.is_empty() {
-        return None;
-    }
-    Some(offers[turn as usize % offers.len()])
-}
-
 /// Makes room for an edge, and then the edge. False where the backplane refuses it.
 fn make_edge<L: Rig, R: Wait>(
     rt: &R,
@@ -118,13 +110,13 @@ fn take_turn<L: Rig, G: Gate, R: Wait>(
     if !gate.before(driver, turn) {
         return Err(Spent::Gate);
     }
-    let Ok(view) = shared.look(rt, seat) else {
+    let Ok(seen) = shared.turn(rt, seat, turn) else {
         return Err(Spent::Lost);
     };
-    if view.total >= bounds.edges {
+    if seen.total >= bounds.edges {
         return Err(Spent::Edges);
     }
-    let accepted = match offer_of(&view, turn) {
+    let accepted = match seen.offer {
         Some(edge) => make_edge(rt, shared, seat, pages, edge)?,
         None => false,
     };
@@ -168,7 +160,7 @@ pub fn work_board<'r, L: Rig, G: Gate, R: Wait>(
     room: Room<'r>,
 ) -> (Seat<L>, Log<'r>, Spent)
     ensures seat { result.0 ≡ worked seat result.1 }
-    ensures most { (length result.1 ≤ bounds.turns) × (length result.1 ≤ bounds.edges) }
+    ensures most { IsWithin bounds.turns bounds.edges result.1 }
 {
     let Room { scratch, log } = room;
     let mut log = Vec::new(log);

@@ -1,5 +1,5 @@
 -- What a run leaves of the boards' history.
-use Rattle.std.proofs.Common.{◌≡◌, ℕ, ◌≤◌, List, [], length, sym, ap, ◌∙◌, subst, Option}
+use Rattle.std.proofs.Common.{◌≡◌, ℕ, ◌+◌, ◌*◌, ◌≤◌, arith, List, [], length, sym, ap, ◌∙◌, subst, Option}
 use Rattle.std.specs.Prelude.{◌==◌, Result, Ok, Err, if◌then◌else◌}
 use Rattle.std.specs.Io.KnownBytes.{Appends, Keeps}
 use Rattle.std.proofs.KnownBytes.{Keeps-refl}
@@ -26,8 +26,8 @@ use Rattle.vme_run.specs.declared.RunFault.TheVariants.{Engine, NotStarted, LogD
 use Rattle.vme_run.specs.Running.{IsRun, RunsOn, HasOtherLogs, Runs, IsUnread, IsPlayed, IsNotPlayed}
 
 -- a played backplane has a run's edges
-pub run_of : (version : Version) (p : Plan) (n : ℕ) (b : State) → IsPlayed (at_power_up version p n) b → IsRun version n p b.history
-run_of version p n b played =
+pub run_of : (version : Version) (p : Plan) (n turns : ℕ) (b : State) → IsPlayed turns (at_power_up version p n) b → IsRun version n turns p b.history
+run_of version p n turns b played =
     let same_plan : b.plan ≡ p = ap (λ x. x.plan) played.0.1 in
     let same_version : b.version ≡ version = ap (λ x. x.version) played.0.1 in
     let same_max : b.max ≡ n = ap (λ x. x.max) played.0.1 in
@@ -35,16 +35,17 @@ run_of version p n b played =
       legal = subst (λ q. IsLegal version q b.history) same_plan (subst (λ v. IsLegal v b.plan b.history) same_version played.1);
       safe = subst (λ q. IsSafe q b.history) same_plan played.2;
       within = subst (λ m. length b.history ≤ m) same_max played.3;
+      in_turns = omega (arith, played.4);
     }
 
 -- in the version handed in
-version_of : (version : Version) (p : Plan) (n : ℕ) (b : State) → IsPlayed (at_power_up version p n) b → b.version ≡ version
-version_of version p n b played = ap (λ x. x.version) played.0.1
+version_of : (version : Version) (p : Plan) (n turns : ℕ) (b : State) → IsPlayed turns (at_power_up version p n) b → b.version ≡ version
+version_of version p n turns b played = ap (λ x. x.version) played.0.1
 
 -- a second backplane of the scenario is the played one without its edges
-pub reopened : (lent : List ℕ) (version : Version) (p q : Plan) (n : ℕ) (opened closed bench : State) → scenario lent ≡ Ok p → scenario lent ≡ Ok q → opened ≡ at_power_up version p n → bench ≡ at_power_up version q n
-    → IsPlayed opened closed → bench ≡ record closed { history = [] }
-reopened lent version p q n opened closed bench read again first second played =
+pub reopened : (lent : List ℕ) (version : Version) (p q : Plan) (n turns : ℕ) (opened closed bench : State) → scenario lent ≡ Ok p → scenario lent ≡ Ok q → opened ≡ at_power_up version p n → bench ≡ at_power_up version q n
+    → IsPlayed turns opened closed → bench ≡ record closed { history = [] }
+reopened lent version p q n turns opened closed bench read again first second played =
     let same : p ≡ q = cc in
     let kept : record closed { history = [] } ≡ record opened { history = [] } = ap (λ (b : State). record b { history = [] }) played.0.1 in
     second ∙ ap (λ (r : Plan). at_power_up version r n) (sym same) ∙ sym (kept ∙ ap (λ (b : State). record b { history = [] }) first)
@@ -53,44 +54,44 @@ abbrev fine : State → Result State RunFault
 fine b = Ok b
 
 -- what was made once more is what was played
-pub played_again : (version : Version) (p : Plan) (n : ℕ) (opened closed b : State) → opened ≡ at_power_up version p n → IsPlayed opened closed → fine b ≡ fine closed → IsPlayed (at_power_up version p n) b
-played_again version p n opened closed b first played made =
+pub played_again : (version : Version) (p : Plan) (n turns : ℕ) (opened closed b : State) → opened ≡ at_power_up version p n → IsPlayed turns opened closed → fine b ≡ fine closed → IsPlayed turns (at_power_up version p n) b
+played_again version p n turns opened closed b first played made =
     let same : closed ≡ b = cc in
-    subst (λ (o : State). IsPlayed o b) first (subst (λ (c : State). IsPlayed opened c) same played)
+    subst (λ (o : State). IsPlayed turns o b) first (subst (λ (c : State). IsPlayed turns opened c) same played)
 
-module _ (lent : List ℕ) (version : Version) (n : ℕ) (p : Plan) (old : Option (List ℕ)) (short : length lent ≤ scenario_limit) (read : scenario lent ≡ Ok p) where
+module _ (lent : List ℕ) (version : Version) (n turns : ℕ) (p : Plan) (old : Option (List ℕ)) (short : length lent ≤ scenario_limit) (read : scenario lent ≡ Ok p) where
   -- its trace was written
-  pub runs_done : (new : Option (List ℕ)) (b : State) (made : ℕ) (status : Status) → IsPlayed (at_power_up version p n) b → Appends old new (text b.version (in_order b.history)) → made ≡ length b.history
-      → status ≡ (if made == n then Limit else Done) → Runs lent version n old new (Ok status)
+  pub runs_done : (new : Option (List ℕ)) (b : State) (made : ℕ) (status : Status) → IsPlayed turns (at_power_up version p n) b → Appends old new (text b.version (in_order b.history)) → made ≡ length b.history
+      → status ≡ (if made == n then Limit else Done) → Runs lent version n turns old new (Ok status)
   runs_done new b made status played written count is =
-      (p, short, read, (b.history, run_of version p n b played, subst (λ v. Appends old new (text v (in_order b.history))) (version_of version p n b played) written, is ∙ ap (λ m. if m == n then Limit else Done) count))
+      (p, short, read, (b.history, run_of version p n turns b played, subst (λ v. Appends old new (text v (in_order b.history))) (version_of version p n turns b played) written, is ∙ ap (λ m. if m == n then Limit else Done) count))
 
   -- a front of it
-  pub runs_cut : (new : Option (List ℕ)) (b : State) (f : Fault) → IsPlayed (at_power_up version p n) b → f ≡ Write → AppendsFront old new (text b.version (in_order b.history)) → Runs lent version n old new (Err (Engine (fault.Trace f)))
+  pub runs_cut : (new : Option (List ℕ)) (b : State) (f : Fault) → IsPlayed turns (at_power_up version p n) b → f ≡ Write → AppendsFront old new (text b.version (in_order b.history)) → Runs lent version n turns old new (Err (Engine (fault.Trace f)))
   runs_cut new b f played is written =
-      (p, short, read, (b.history, run_of version p n b played, is, subst (λ v. AppendsFront old new (text v (in_order b.history))) (version_of version p n b played) written))
+      (p, short, read, (b.history, run_of version p n turns b played, is, subst (λ v. AppendsFront old new (text v (in_order b.history))) (version_of version p n turns b played) written))
 
   -- nothing, for want of memory
-  pub runs_out : Runs lent version n old old (Err (Engine fault.NoMemory))
+  pub runs_out : Runs lent version n turns old old (Err (Engine fault.NoMemory))
   runs_out = (p, short, read, Keeps-refl _)
 
   -- nothing, where the boards were not played
-  not_played_from : (f : RunFault) → IsNotPlayed (at_power_up version p n) f → Runs lent version n old old (Err f)
+  not_played_from : (f : RunFault) → IsNotPlayed turns (at_power_up version p n) f → Runs lent version n turns old old (Err f)
   not_played_from (Engine fault.NoMemory) none = runs_out
   not_played_from (Engine fault.TooLong) none = absurd none
   not_played_from (Engine (fault.Scenario e)) none = absurd none
   not_played_from (Engine fault.CannotRead) none = absurd none
   not_played_from (Engine (fault.Trace f)) none = absurd none
   not_played_from NotStarted none = (p, short, read, Keeps-refl _)
-  not_played_from (LogDiffers driver at) none = (p, short, read, ((none.0.history, run_of version p n none.0 none.1, none.2, none.3), Keeps-refl _))
+  not_played_from (LogDiffers driver at) none = (p, short, read, ((none.0.history, run_of version p n turns none.0 none.1, none.2, none.3), Keeps-refl _))
   not_played_from (NotReplayed at) none = absurd none
 
-  pub not_played : (opened : State) (f : RunFault) → opened ≡ at_power_up version p n → IsNotPlayed opened f → Runs lent version n old old (Err f)
-  not_played opened f first none = not_played_from f (subst (λ (o : State). IsNotPlayed o f) first none)
+  pub not_played : (opened : State) (f : RunFault) → opened ≡ at_power_up version p n → IsNotPlayed turns opened f → Runs lent version n turns old old (Err f)
+  not_played opened f first none = not_played_from f (subst (λ (o : State). IsNotPlayed turns o f) first none)
 
 -- nothing, where there is no plan
-pub not_read : (lent : List ℕ) (version : Version) (n : ℕ) (old : Option (List ℕ)) (f : RunFault) → IsUnread lent f → Runs lent version n old old (Err f)
-not_read lent version n old (Engine f) none = no_plan lent (Keeps old old) (RunsOn version n old old) f none (Keeps-refl _)
-not_read lent version n old NotStarted none = absurd none
-not_read lent version n old (LogDiffers driver at) none = absurd none
-not_read lent version n old (NotReplayed at) none = absurd none
+pub not_read : (lent : List ℕ) (version : Version) (n turns : ℕ) (old : Option (List ℕ)) (f : RunFault) → IsUnread lent f → Runs lent version n turns old old (Err f)
+not_read lent version n turns old (Engine f) none = no_plan lent (Keeps old old) (RunsOn version n turns old old) f none (Keeps-refl _)
+not_read lent version n turns old NotStarted none = absurd none
+not_read lent version n turns old (LogDiffers driver at) none = absurd none
+not_read lent version n turns old (NotReplayed at) none = absurd none

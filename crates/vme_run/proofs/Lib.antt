@@ -1,2 +1,3 @@
 pub mod Remaking
+pub mod Turning
 pub mod Following

@@ -1,5 +1,5 @@
 -- What a run of the boards writes and answers.
-use Rattle.std.specs.Prelude.{◌≡◌, ◌==◌, ◌≤◌, ℕ, List, length, Option, Result, Ok, Err, if◌then◌else◌}
+use Rattle.std.specs.Prelude.{◌≡◌, ◌==◌, ◌≤◌, ◌+◌, ◌*◌, ℕ, List, length, Option, Result, Ok, Err, if◌then◌else◌}
 use Rattle.std.specs.Io.KnownBytes.{Appends, Keeps}
 use Rattle.vme_model.specs.declared.signals.Version.{Version}
 use Rattle.vme_model.specs.declared.signals.Driver.{Driver}
@@ -22,23 +22,24 @@ use Rattle.vme_lock.specs.Closing.{FirstDiffers}
 use Rattle.vme_run.specs.declared.RunFault.{RunFault}
 use Rattle.vme_run.specs.declared.RunFault.TheVariants.{Engine, NotStarted, LogDiffers, NotReplayed}
 
--- at most n edges, which are legal for the plan, and hence safe; the newest first
-pub record IsRun (version : Version) (n : ℕ) (p : Plan) (h : List Edge) : Type 0 where
+-- at most n edges, and one for each turn of each driver, which are legal for the plan, and hence safe; the newest first
+pub record IsRun (version : Version) (n turns : ℕ) (p : Plan) (h : List Edge) : Type 0 where
   pub legal : IsLegal version p h
   pub safe : IsSafe p h
   pub within : length h ≤ n
+  pub in_turns : length h ≤ turns * length (drivers p)
 
 -- What a run leaves on a plan, by what the writer held and holds: the trace of its edges, at X8 a front of it.
-abbrev pub RunsOn : Version → ℕ → Option (List ℕ) → Option (List ℕ) → Plan → Answer → Type 0
-RunsOn version n old new p (Ok status) =
-    (h : List Edge) × IsRun version n p h × Appends old new (text version (in_order h)) × (status ≡ (if length h == n then Limit else Done))
-RunsOn version n old new p (Err (fault.Trace f)) =
-    (h : List Edge) × IsRun version n p h × (f ≡ Write) × AppendsFront old new (text version (in_order h))
-RunsOn version n old new p (Err _) = ⊥
+abbrev pub RunsOn : Version → ℕ → ℕ → Option (List ℕ) → Option (List ℕ) → Plan → Answer → Type 0
+RunsOn version n turns old new p (Ok status) =
+    (h : List Edge) × IsRun version n turns p h × Appends old new (text version (in_order h)) × (status ≡ (if length h == n then Limit else Done))
+RunsOn version n turns old new p (Err (fault.Trace f)) =
+    (h : List Edge) × IsRun version n turns p h × (f ≡ Write) × AppendsFront old new (text version (in_order h))
+RunsOn version n turns old new p (Err _) = ⊥
 
 -- L4: the drivers of a plan made these edges, and by some logs, this driver is the first whose edges are not its log
-abbrev pub HasOtherLogs : Version → ℕ → Plan → Driver → ℕ → Type 0
-HasOtherLogs version n p driver at = (h : List Edge) × IsRun version n p h × (logs : List (List Edge)) × FirstDiffers h (drivers p) logs driver at
+abbrev pub HasOtherLogs : Version → ℕ → ℕ → Plan → Driver → ℕ → Type 0
+HasOtherLogs version n turns p driver at = (h : List Edge) × IsRun version n turns p h × (logs : List (List Edge)) × FirstDiffers h (drivers p) logs driver at
 
 -- the scenario is read, and this holds of its plan
 abbrev pub OfPlan : List ℕ → (Plan → Type 0) → Type 0
@@ -46,12 +47,12 @@ OfPlan lent P = (p : Plan) × (length lent ≤ scenario_limit) × (scenario lent
 
 -- What a run leaves and answers, where it is lent the text of a scenario: the first fault of the scenario, and nothing; or
 -- it is read, and the drivers of its plan ran, or found no memory (F3, L3).
-abbrev pub Runs : List ℕ → Version → ℕ → Option (List ℕ) → Option (List ℕ) → Result Status RunFault → Type 0
-Runs lent version n old new (Ok status) = Lent lent (Keeps old new) (RunsOn version n old new) (Ok status)
-Runs lent version n old new (Err (Engine f)) = Lent lent (Keeps old new) (RunsOn version n old new) (Err f)
-Runs lent version n old new (Err NotStarted) = OfPlan lent (λ p. Keeps old new)
-Runs lent version n old new (Err (LogDiffers driver at)) = OfPlan lent (λ p. HasOtherLogs version n p driver at × Keeps old new)
-Runs lent version n old new (Err (NotReplayed at)) = ⊥
+abbrev pub Runs : List ℕ → Version → ℕ → ℕ → Option (List ℕ) → Option (List ℕ) → Result Status RunFault → Type 0
+Runs lent version n turns old new (Ok status) = Lent lent (Keeps old new) (RunsOn version n turns old new) (Ok status)
+Runs lent version n turns old new (Err (Engine f)) = Lent lent (Keeps old new) (RunsOn version n turns old new) (Err f)
+Runs lent version n turns old new (Err NotStarted) = OfPlan lent (λ p. Keeps old new)
+Runs lent version n turns old new (Err (LogDiffers driver at)) = OfPlan lent (λ p. HasOtherLogs version n turns p driver at × Keeps old new)
+Runs lent version n turns old new (Err (NotReplayed at)) = ⊥
 
 -- ---- between the functions of a run
 
@@ -60,14 +61,16 @@ abbrev pub IsUnread : List ℕ → RunFault → Type 0
 IsUnread lent (Engine f) = IsNoPlan lent f
 IsUnread lent _ = ⊥
 
--- the drivers of a backplane made edges of its rules, and nothing else changed
-abbrev pub IsPlayed : State → State → Type 0
-IsPlayed opened b = Follows opened b × IsLegal b.version b.plan b.history × IsSafe b.plan b.history × (length b.history ≤ b.max)
+-- the drivers of a backplane made edges of its rules in so many turns each, and nothing else changed
+abbrev pub IsPlayed : ℕ → State → State → Type 0
+IsPlayed turns opened b =
+    Follows opened b × IsLegal b.version b.plan b.history × IsSafe b.plan b.history × (length b.history ≤ b.max)
+    × (length b.history ≤ length opened.history + turns * length (drivers opened.plan))
 
 -- Why a backplane was not played: F3, L3, or L4.
-abbrev pub IsNotPlayed : State → RunFault → Type 0
-IsNotPlayed opened (Engine fault.NoMemory) = Unit {0}
-IsNotPlayed opened (Engine _) = ⊥
-IsNotPlayed opened NotStarted = Unit {0}
-IsNotPlayed opened (LogDiffers driver at) = (b : State) × IsPlayed opened b × (logs : List (List Edge)) × FirstDiffers b.history (drivers opened.plan) logs driver at
-IsNotPlayed opened (NotReplayed at) = ⊥
+abbrev pub IsNotPlayed : ℕ → State → RunFault → Type 0
+IsNotPlayed turns opened (Engine fault.NoMemory) = Unit {0}
+IsNotPlayed turns opened (Engine _) = ⊥
+IsNotPlayed turns opened NotStarted = Unit {0}
+IsNotPlayed turns opened (LogDiffers driver at) = (b : State) × IsPlayed turns opened b × (logs : List (List Edge)) × FirstDiffers b.history (drivers opened.plan) logs driver at
+IsNotPlayed turns opened (NotReplayed at) = ⊥

@@ -1,5 +1,6 @@
 //! Running the boards of a backplane, each in a thread of its own.
-ghost use Rattle.std.specs.Prelude.{◌≡◌, IfOk, MatchResult, vec_len};
+ghost use Rattle.std.specs.Prelude.{◌≡◌, ◌≤◌, IfOk, MatchResult, vec_len};
+ghost use Rattle.vme_model.specs.Report.{trace_limit};
 ghost use Rattle.vme_run.specs.Running.{IsPlayed, IsNotPlayed};
 
 use crate::RunFault;
@@ -9,30 +10,29 @@ use std::sync::Wait;
 use std::sync::ledger::Blank;
 use std::thread::Threads;
 use vme_arena::{Region, Rest};
-use vme_backplane::Backplane;
+use vme_backplane::{Backplane, Trace};
 use vme_engines::EngineFault;
 use vme_lock::{Bounds, Closed, LogMismatch, OpenGate, Rig, Room, Shared, log_bytes, run_boards};
 
 /// The most drivers of a plan, and the parts of a ledger.
 const DRIVERS: u64 = 22;
 
-/// How many bytes a log takes for each of its edges.
-const LOGGED: usize = 4;
-
-/// The bytes of a log of so many edges.
-fn bytes_of(edges: u32) -> usize {
-    (edges as usize * LOGGED).next_multiple_of(16)
-}
-
 /// Memory for so many boards, each of which makes so many edges at most.
-fn region_for(alloc: Global, boards: usize, edges: u32) -> Result<Region, AllocError> {
-    let room = log_bytes(edges).saturating_add(bytes_of(edges));
+fn region_for(alloc: Global, boards: usize, edges: u32) -> Result<Region, AllocError>
+    requires { edges ≤ trace_limit }
+{
+    let room = log_bytes(edges).saturating_add(Trace::bytes(edges));
     Region::new(alloc, room.saturating_mul(boards))
 }
 
 /// A room for so many edges.
-fn room<'r>(rest: &mut Rest<'r>, edges: u32) -> Result<Room<'r>, AllocError> {
-    match (rest.carve(log_bytes(edges)), rest.carve(bytes_of(edges))) {
+fn room<'r>(rest: &mut Rest<'r>, edges: u32) -> Result<Room<'r>, AllocError>
+    requires { edges ≤ trace_limit }
+{
+    match (
+        rest.carve(log_bytes(edges)),
+        rest.carve(Trace::bytes(edges)),
+    ) {
         (Ok(scratch), Ok(log)) => Ok(Room { scratch, log }),
         _ => Err(AllocError),
     }
@@ -45,6 +45,7 @@ fn rooms_for<'r>(
     boards: usize,
     edges: u32,
 ) -> Result<Vec<Room<'r>>, AllocError>
+    requires { edges ≤ trace_limit }
     ensures { IfOk result (λ v. vec_len v ≡ boards) }
 {
     let mut rooms = Vec::new(alloc);
@@ -61,7 +62,8 @@ pub(crate) fn play<'r, R: Threads + Wait + Sync>(
     backplane: Backplane<'r>,
     bounds: Bounds,
 ) -> Result<Backplane<'r>, RunFault>
-    ensures { MatchResult result (IsPlayed backplane.entry) (IsNotPlayed backplane.entry) }
+    requires { bounds.edges ≤ trace_limit }
+    ensures { MatchResult result (IsPlayed bounds.turns backplane.entry) (IsNotPlayed bounds.turns backplane.entry) }
 {
     play_on::<Brand, R>(rt, alloc, Blank::new(DRIVERS), backplane, bounds)
 }
@@ -75,8 +77,10 @@ fn play_on<'r, L: Rig + Send + Sync, R: Threads + Wait + Sync>(
 ) -> Result<Backplane<'r>, RunFault>
     requires blank { (blank.name ≡ L.name) × (blank.parts ≡ L.parts) × (blank.parts ≡ 22) }
     requires opened { L.opened ≡ backplane }
-    ensures { MatchResult result (IsPlayed L.opened) (IsNotPlayed L.opened) }
+    requires limit { bounds.edges ≤ trace_limit }
+    ensures { MatchResult result (IsPlayed bounds.turns L.opened) (IsNotPlayed bounds.turns L.opened) }
 {
+    backplane.laws();
     let Ok((shared, seats)) = Shared::<L>::new(alloc, blank, backplane) else {
         return Err(RunFault::Engine(EngineFault::NoMemory));
     };

@@ -1,8 +1,8 @@
 //! A run from a scenario to a trace.
-ghost use Rattle.std.specs.Prelude.{◌≡◌, ◌==◌, ◌≤◌, [], Ok, IfOk, IfErr, length, if◌then◌else◌};
-ghost use Rattle.vme_model.specs.Report.{at_power_up};
+ghost use Rattle.std.specs.Prelude.{◌≡◌, ◌≤◌, [], Ok, IfOk, IfErr, length};
+ghost use Rattle.vme_model.specs.Report.{at_power_up, trace_limit};
 ghost use Rattle.vme_scenario.specs.Format.{scenario as read_scenario};
-ghost use Rattle.vme_engines.specs.declared.Status.TheVariants.{Done, Limit};
+ghost use Rattle.vme_engines.specs.Outcomes.{scenario_limit};
 ghost use Rattle.vme_run.specs.Running.{IsUnread, Runs};
 
 use crate::RunFault;
@@ -13,14 +13,14 @@ use std::sync::Wait;
 use std::thread::Threads;
 use vme_arena::{Region, Rest};
 use vme_backplane::{Backplane, Trace, TraceError};
-use vme_engines::{EngineFault, Status, plan_of, write_history};
+use vme_engines::{EngineFault, Status, plan_of, status_of, write_history};
 use vme_lock::Bounds;
 use vme_model::Version;
 use vme_slots::Plan;
 
 /// The plan of a scenario's text. Errors: F2, else the first fault of the scenario.
 fn plan_for(alloc: Global, text: &[u8]) -> Result<Plan, RunFault>
-    ensures ok { IfOk result (λ p. (length text.now ≤ 1048576) × (read_scenario text.now ≡ Ok p)) }
+    ensures ok { IfOk result (λ p. (length text.now ≤ scenario_limit) × (read_scenario text.now ≡ Ok p)) }
     ensures fault { IfErr result (IsUnread text.now) }
 {
     match plan_of(alloc, text) {
@@ -57,17 +57,6 @@ fn replay<'r>(closed: &Backplane<'_>, mut bench: Backplane<'r>) -> Result<Backpl
     Ok(bench)
 }
 
-/// The status of a run that made so many edges, of so many that were asked for.
-fn status_of(made: u32, edges: u32) -> Status
-    ensures { result ≡ (if made == edges then Limit else Done) }
-{
-    if made == edges {
-        Status::Limit
-    } else {
-        Status::Done
-    }
-}
-
 /// Runs the boards of a scenario, each in a thread of its own for so many turns, and writes the trace of their edges, at
 /// most `edges`. May wait.
 ///
@@ -86,8 +75,8 @@ pub fn run<R: Threads + Wait + Sync, W: Write>(
     out: &mut W,
     version: Version,
 ) -> Result<Status, RunFault>
-    requires limits { (edges ≤ 1048576) × (turns ≤ 1000000) }
-    ensures { Runs scenario.now version edges (W.contents out.old) (W.contents out.new) result }
+    requires limits { (edges ≤ trace_limit) × (turns ≤ 1000000) }
+    ensures { Runs scenario.now version edges turns (W.contents out.old) (W.contents out.new) result }
 {
     let plan = plan_for(alloc, scenario)?;
     let Ok(mut region) = Region::new(alloc, 2 * Trace::bytes(edges)) else {

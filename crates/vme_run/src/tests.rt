@@ -1,5 +1,6 @@
 //! What no clause says of a run: that the boards come to their edges, and that a run finds its memory.
 ghost use Rattle.std.specs.Prelude.{◌≤◌};
+ghost use Rattle.vme_model.specs.Report.{trace_limit};
 
 use crate::run;
 use std::alloc::Global;
@@ -60,7 +61,7 @@ fn checked_run<R: Threads + Wait + Abort + Sync>(
     turns: u32,
     version: Version,
 ) -> Result<Ran, Fail>
-    requires { (edges ≤ 1048576) × (turns ≤ 1000000) }
+    requires { (edges ≤ trace_limit) × (turns ≤ 1000000) }
 {
     let scenario = text.as_bytes();
     let mut trace = Vec::new(alloc);
