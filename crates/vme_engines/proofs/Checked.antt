@@ -16,6 +16,7 @@ use Rattle.vme_model.proofs.Safety.{legal_is_safe}
 use Rattle.vme_scenario.specs.Format.{scenario}
 use Rattle.vme_model.specs.Deliveries.{answer, with_delivery}
 use Rattle.vme_model.specs.Text.{Reading, read_of}
+use Rattle.vme_model.specs.Report.{trace_limit}
 use Rattle.vme_trace.specs.declared.Fault.{Fault}
 use Rattle.vme_trace.specs.declared.Fault.TheVariants.{Header, Line, TooLong, CutOff, Read, Memory, Failed, Write}
 use Rattle.vme_trace.specs.Reading as trace
@@ -198,7 +199,7 @@ module _ (p : Plan) (v : Version) (from to : Option (List ℕ)) (b next : State)
       let is : next ≡ record (bench p v) { history = reverse r.edges } =
       stepped ∙ sym kept_is ∙ all_kept 1 (bench p v) (es ++ fs) all ∙ ap (λ l. record (bench p v) { history = l }) (append-nil (reverse (es ++ fs)))
       ∙ ap (λ l. record (bench p v) { history = reverse l }) (sym edges) in
-      let few : length (reverse r.edges) ≤ 1048576 = subst (λ (s : State). length s.history ≤ s.max) is fits in
+      let few : length (reverse r.edges) ≤ trace_limit = subst (λ (s : State). length s.history ≤ s.max) is fits in
       record {
         version = v;
         named = named;

@@ -12,22 +12,22 @@ use Rattle.vme_engines.specs.declared.joins.Front.{Front}
 use Rattle.vme_engines.specs.Streams.{streams}
 use Rattle.vme_engines.specs.Outcomes.{Answer}
 use Rattle.vme_engines.specs.Joining.{cut, FindsNoTrace, Joins}
-use Rattle.vme_engines.specs.Front.{behind, IsHeld, IsFront, EndsFront, IsTextOf, Finds, JoinsBehind}
+use Rattle.vme_engines.specs.Front.{behind, held_limit, IsHeld, IsFront, EndsFront, IsTextOf, Finds, JoinsBehind}
 use Rattle.vme_engines.proofs.Cuts.{cut_part, cut_line, cut_here, behind_behind, behind_none, named, unnamed, one_line_more, length_header}
 
 -- ---- what is held
 
-pub held_pushed : (old new bytes : List ℕ) (b : ℕ) → IsHeld old bytes → length old < 1048582 → new ≡ old ++ b ∷ [] → IsHeld new (bytes ++ b ∷ [])
+pub held_pushed : (old new bytes : List ℕ) (b : ℕ) → IsHeld old bytes → length old < held_limit → new ≡ old ++ b ∷ [] → IsHeld new (bytes ++ b ∷ [])
 held_pushed old new bytes b h room is =
-    let count : length old ≡ min (length bytes) 1048582 = h.count in
+    let count : length old ≡ min (length bytes) held_limit = h.count in
     let all : old ≡ bytes = h.all (omega arith) in
     let more = length-append bytes (b ∷ []) in
     let grown : length new ≡ length old + 1 = ap length is ∙ length-append old (b ∷ []) in
     record { count = omega (arith, more); all = λ _. is ∙ ap (λ l. l ++ b ∷ []) all }
 
-pub held_full : (old bytes : List ℕ) (b : ℕ) → IsHeld old bytes → 1048582 ≤ length old → IsHeld old (bytes ++ b ∷ [])
+pub held_full : (old bytes : List ℕ) (b : ℕ) → IsHeld old bytes → held_limit ≤ length old → IsHeld old (bytes ++ b ∷ [])
 held_full old bytes b h full =
-    let count : length old ≡ min (length bytes) 1048582 = h.count in
+    let count : length old ≡ min (length bytes) held_limit = h.count in
     let more = length-append bytes (b ∷ []) in
     record { count = omega (arith, more); all = λ k. absurd (omega (arith, more)) }
 
@@ -111,9 +111,9 @@ short_or (suc n) (suc m) = elim (short_or n m) [ inl h ↦ inl (omega arith) | i
 pub text_of : (held before : List ℕ) (v : Version) (n : ℕ) (text : List ℕ) → IsHeld held (before ++ header v) → n ≡ length held - 5 → text ≡ take n held → IsTextOf before text
 text_of held before v n text h count is =
     let total : length (before ++ header v) ≡ length before + 5 = length-append before (header v) ∙ ap (λ k. length before + k) (length_header v) in
-    let held_count : length held ≡ min (length (before ++ header v)) 1048582 = h.count in
+    let held_count : length held ≡ min (length (before ++ header v)) held_limit = h.count in
     let sized : length text ≡ min n (length held) = ap length is ∙ length-take n held in
-    elim (short_or (length (before ++ header v)) 1048582) [
+    elim (short_or (length (before ++ header v)) held_limit) [
       | inl short ↦ (let all : held ≡ before ++ header v = h.all short in
           let number : n ≡ length before = omega arith in
           inl (is ∙ ap (take n) all ∙ take-append-le n before (header v) (omega arith) ∙ take_all n before (omega arith)))

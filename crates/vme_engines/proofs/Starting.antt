@@ -13,6 +13,7 @@ use Rattle.vme_trace.specs.Reading as trace
 use Rattle.vme_engines.specs.declared.EngineFault.{EngineFault}
 use Rattle.vme_engines.specs.declared.EngineFault.TheVariants as fault
 use Rattle.vme_engines.specs.Streams.{IsInput}
+use Rattle.vme_engines.specs.Outcomes.{scenario_limit}
 use Rattle.vme_engines.specs.Steps.{IsNoPlan, IsBounded, IsCounted, Comes}
 use Rattle.vme_engines.specs.Front.{IsTextOf, Starts}
 use Rattle.vme_engines.proofs.Replaying.{whole_input}
@@ -26,7 +27,7 @@ no_plan_of before text (fault.Trace f) which h = absurd h
 no_plan_of before text fault.CannotRead which h = absurd h
 no_plan_of before text fault.NoMemory which h = absurd h
 
-pub plan_of_text : (before text : List ℕ) (p : Plan) → IsTextOf before text → length text ≤ 1048576 → scenario text ≡ Ok p → (length before ≤ 1048576) × (scenario before ≡ Ok p)
+pub plan_of_text : (before text : List ℕ) (p : Plan) → IsTextOf before text → length text ≤ scenario_limit → scenario text ≡ Ok p → (length before ≤ scenario_limit) × (scenario before ≡ Ok p)
 plan_of_text before text p which short is = elim which [
   | inl same ↦ (rw same at short, rw same at is)
   | inr long ↦ absurd (let wide = long.0 in omega arith)

@@ -1,5 +1,5 @@
 -- The part of an input before its trace, byte by byte: the words of the contracts between the functions of `joined`.
-use Rattle.std.specs.Prelude.{◌≡◌, ◌<◌, ◌≤◌, ◌⊎◌, ◌++◌, ◌∷◌, [], ℕ, min, Bool, true, false, List, length, take, Option, Some, None, option_map, Result, Ok, Err}
+use Rattle.std.specs.Prelude.{◌≡◌, ◌<◌, ◌≤◌, ◌⊎◌, ◌+◌, ◌++◌, ◌∷◌, [], ℕ, min, Bool, true, false, List, length, take, Option, Some, None, option_map, Result, Ok, Err}
 use Rattle.std.specs.Io.KnownBytes.{Consumes}
 use Rattle.std.specs.declared.alloc.AllocError.{AllocError}
 use Rattle.vme_model.specs.declared.signals.Version.{Version}
@@ -20,7 +20,7 @@ behind before parts = option_map (λ p. (before ++ p.0, p.1)) parts
 
 -- how many bytes are held before a trace: those of the greatest scenario, of a header line, and no more
 abbrev pub held_limit : ℕ
-held_limit = 1048582
+held_limit = scenario_limit + 6
 
 -- all bytes are held, up to the limit
 pub record IsHeld (held bytes : List ℕ) : Type 0 where

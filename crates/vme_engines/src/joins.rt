@@ -1,12 +1,11 @@
 //! A scenario and a trace in one input.
 ghost use Rattle.std.specs.Prelude.{◌≡◌, ◌≢◌, ◌+◌, ◌<◌, ◌≤◌, ◌++◌, ◌∷◌, ℕ, List, [], length, take, drop, Some, None, Ok, Err, OnOk, OnErr};
-ghost use Rattle.vme_model.specs.Text.{version_of, header};
+ghost use Rattle.vme_model.specs.Text.{header};
 ghost use Rattle.vme_trace.specs.Reading.{HasRead};
 ghost use Rattle.vme_engines.specs.Streams.{streams};
 ghost use Rattle.vme_engines.specs.Joining.{Joins};
 ghost use Rattle.vme_engines.specs.Front.{IsHeld, IsFront, IsTextOf, Takes, Finds, Starts, JoinsBehind};
 
-use crate::lines::header_line;
 use crate::plans::{history_region, history_room, plan_of};
 use crate::replays::replay_on;
 use crate::{EngineFault, READS, SCENARIO_LIMIT, Status};
@@ -15,7 +14,7 @@ use std::alloc::{AllocError, Global};
 use std::io::{Read, Write};
 use vme_backplane::Backplane;
 use vme_model::{Edge, Version};
-use vme_trace::{Fault, Reader, read_piece};
+use vme_trace::{Fault, Reader, header_line, header_of, read_piece};
 
 /// How many bytes are held before a trace: those of the greatest scenario and a header line.
 const HELD: usize = SCENARIO_LIMIT + 6;
@@ -36,19 +35,6 @@ struct Found {
     version: Version,
     /// How many bytes of the piece were taken, up to its end.
     taken: usize,
-}
-
-/// The version that a header line names.
-fn header_of(line: &[u8]) -> Option<Version>
-    ensures { result ≡ version_of line.now }
-{
-    if line == b"vme 1".as_slice() {
-        Some(Version::One)
-    } else if line == b"vme 2".as_slice() {
-        Some(Version::Two)
-    } else {
-        None
-    }
 }
 
 impl Front {

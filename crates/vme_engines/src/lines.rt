@@ -1,12 +1,11 @@
 //! The lines that engines write.
-ghost use Rattle.std.specs.Prelude.{◌≡◌, ◌+◌, ◌-◌, ◌<◌, ◌≤◌, ◌^◌, ◌++◌, ◌∷◌, [], length, decimal, codes, Err, IfErr, OnOk, OnErr};
+ghost use Rattle.std.specs.Prelude.{◌≡◌, ◌+◌, ◌-◌, ◌<◌, ◌≤◌, ◌^◌, ◌++◌, length, decimal, codes, Err, IfErr, OnOk, OnErr};
 ghost use Rattle.std.specs.Io.KnownBytes.{Appends, Keeps};
 ghost use Rattle.arrayvec.specs.ArrayVec.{array_vec_len};
 ghost use Rattle.vme_model.specs.Verdict.{kept};
 ghost use Rattle.vme_model.specs.Deliveries.{answer};
 ghost use Rattle.vme_model.specs.Report.{delivery_text, verdict_text, verdict_line, verdict_lines, closing_text};
 ghost use Rattle.vme_trace.specs.Writing.{AppendsFront};
-ghost use Rattle.vme_model.specs.Text.{header};
 ghost use Rattle.vme_engines.specs.Checking.{finding_line};
 
 use crate::checks::Finding;
@@ -15,7 +14,7 @@ use arrayvec::ArrayVec;
 use itoa::Buffer;
 use std::io::Write;
 use vme_backplane::Backplane;
-use vme_model::{Delivery, Edge, Refused, Version};
+use vme_model::{Delivery, Edge, Refused};
 use vme_trace::{Fault, put};
 
 /// Room for any line: two numbers of at most 20 digits, or one and a verdict, and a few words.
@@ -144,16 +143,6 @@ fn finding_line(finding: Finding) -> ArrayVec<u8, LINE>
     }
     push(&mut line, b"\n");
     line
-}
-
-/// The header line of a version, with its line feed.
-pub(crate) fn header_line(version: Version) -> &'static [u8]
-    ensures { result.now ≡ header version ++ 10 ∷ [] }
-{
-    match version {
-        Version::One => b"vme 1\n",
-        Version::Two => b"vme 2\n",
-    }
 }
 
 /// Judges the edges behind the first `judged`, and writes the verdict line of each.

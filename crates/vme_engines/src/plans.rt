@@ -4,6 +4,7 @@ ghost use Rattle.vme_arena.specs.Stretch.{rounded};
 ghost use Rattle.vme_arena.specs.Words.{region_size};
 ghost use Rattle.vme_model.specs.Report.{trace_limit};
 ghost use Rattle.vme_scenario.specs.Format.{scenario};
+ghost use Rattle.vme_engines.specs.Outcomes.{scenario_limit};
 ghost use Rattle.vme_engines.specs.Steps.{IsNoPlan};
 
 use crate::{EngineFault, SCENARIO_LIMIT};
@@ -17,7 +18,7 @@ use vme_slots::Plan;
 ///
 /// Errors: F2 where the text has more than 1,048,576 bytes, else the first fault of the scenario.
 pub fn plan_of(alloc: Global, text: &[u8]) -> Result<Plan, EngineFault>
-    ensures ok { IfOk result (λ p. (length text.now ≤ 1048576) × (scenario text.now ≡ Ok p)) }
+    ensures ok { IfOk result (λ p. (length text.now ≤ scenario_limit) × (scenario text.now ≡ Ok p)) }
     ensures fault { IfErr result (IsNoPlan text.now) }
 {
     if text.len() > SCENARIO_LIMIT {

@@ -4,6 +4,7 @@
 #![tactic(auto)]
 
 mod front;
+mod headers;
 mod input;
 pub mod laws;
 mod line;
@@ -12,6 +13,7 @@ mod reader;
 mod tests;
 mod writer;
 
+pub use headers::{header_line, header_of};
 pub use input::{pump, read_piece};
 pub use reader::{Reader, parse};
 use thiserror::Error;

@@ -2,12 +2,13 @@
 ghost use Rattle.std.specs.Prelude.{◌≡◌, ◌≢◌, ◌↔◌, IsTrue, ◌+◌, ◌<◌, ◌≤◌, ◌++◌, ◌∷◌, [], ℕ, List, length, drop, slice_index, None, Some, Err, Ok, OnOk, OnErr, IfOk, IfErr, IsSome, option_map};
 ghost use Rattle.vme_model.specs.declared.signals.Edge.{Edge};
 ghost use Rattle.vme_model.specs.declared.signals.Version.{Version};
-ghost use Rattle.vme_model.specs.Text.{read_of, version_of, next_number};
+ghost use Rattle.vme_model.specs.Text.{read_of, next_number};
 ghost use Rattle.vme_trace.specs.Reading.{HasRead, Fed, answer_of, fault_of};
 ghost use Rattle.vme_trace.specs.Taking.{IsOneLine, IsPart, Leads, Fails, place};
 
 use crate::Fault;
 use crate::front::edge_at;
+use crate::headers::header_of;
 use crate::line::edge_of;
 use arrayvec::ArrayVec;
 use memchr::memchr;
@@ -150,19 +151,6 @@ fn line_end(text: &[u8]) -> usize
     ensures stops { result < length text.now → slice_index text.now result ≡ 10 }
 {
     memchr(b'\n', text).unwrap_or(text.len())
-}
-
-/// The version that a header line names.
-fn header_of(line: &[u8]) -> Option<Version>
-    ensures { result ≡ version_of line.now }
-{
-    if line == b"vme 1".as_slice() {
-        Some(Version::One)
-    } else if line == b"vme 2".as_slice() {
-        Some(Version::Two)
-    } else {
-        None
-    }
 }
 
 /// The number of the next line; it stays at its greatest value.

@@ -1,12 +1,13 @@
 //! Writing a trace.
-ghost use Rattle.std.specs.Prelude.{◌≡◌, ◌+◌, ◌<◌, ◌≤◌, ◌++◌, ◌∷◌, [], length, IsTrue, IfErr, Ok, OnOk, OnErr, All};
+ghost use Rattle.std.specs.Prelude.{◌≡◌, ◌+◌, ◌<◌, ◌≤◌, ◌++◌, [], length, IsTrue, IfErr, Ok, OnOk, OnErr, All};
 ghost use Rattle.std.specs.Io.KnownBytes.{Appends};
 ghost use Rattle.arrayvec.specs.ArrayVec.{array_vec_len};
 ghost use Rattle.vme_model.specs.Signals.{is_well_formed};
-ghost use Rattle.vme_model.specs.Text.{wire_text, number, spelling, text, header, edge_lines};
+ghost use Rattle.vme_model.specs.Text.{wire_text, number, spelling, text, edge_lines};
 ghost use Rattle.vme_trace.specs.Writing.{AppendsFront, HasText, edge_line};
 
 use crate::Fault;
+use crate::headers::header_line;
 use arrayvec::ArrayVec;
 use std::io::Write;
 use vme_model::{Cycle, Driver, Edge, Version, Wire};
@@ -131,16 +132,6 @@ fn write_lines<W: Write>(edges: &[Edge], out: &mut W) -> Result<(), Fault>
         put(out, line.as_slice())?;
     }
     Ok(())
-}
-
-/// The header line of a version, with its line feed.
-fn header_line(version: Version) -> &'static [u8]
-    ensures { result.now ≡ header version ++ 10 ∷ [] }
-{
-    match version {
-        Version::One => b"vme 1\n",
-        Version::Two => b"vme 2\n",
-    }
 }
 
 /// Writes the trace of the edges: the header line and a line for each.
