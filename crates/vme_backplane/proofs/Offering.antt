@@ -1,5 +1,5 @@
 -- The offers, from those but for the end of the trace.
-use Rattle.std.proofs.Common.{◌≡◌, ◌∙◌, refl, ap, ℕ, Bool, true, false, List, [], ◌∷◌, filter, length}
+use Rattle.std.proofs.Common.{◌≡◌, ◌∙◌, refl, ap, Bool, true, false, List, [], ◌∷◌, filter, length}
 use Rattle.std.specs.Prelude.{◌==◌, ◌&&◌, not, Ok, Err, is_ok}
 use Rattle.std.specs.List.{flat_map}
 use Rattle.vme_model.specs.declared.refusals.Refused.{Refused}
@@ -12,7 +12,7 @@ use Rattle.vme_model.specs.History.{drive}
 use Rattle.vme_model.specs.Readings.{readings}
 use Rattle.vme_model.specs.Rules.{rule}
 use Rattle.vme_model.specs.Settling.{settling}
-use Rattle.vme_model.specs.Verdict.{State, Judgement, check, is_other_state, settled, judged, verdict}
+use Rattle.vme_model.specs.Verdict.{State, Judgement, check, is_other_state, settled, judged}
 use Rattle.vme_model.specs.Offers.{considered, wires, offered}
 use Rattle.vme_wiring.specs.Offered.{offered_but_full}
 

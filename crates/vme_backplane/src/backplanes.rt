@@ -9,6 +9,7 @@ ghost use Rattle.vme_model.specs.Views.{pins};
 ghost use Rattle.vme_model.specs.Deliveries.{answer, delivered};
 ghost use Rattle.vme_model.specs.Offers.{offered};
 ghost use Rattle.vme_wiring.specs.Offered.{offered_but_full};
+ghost use Rattle.vme_wiring.specs.Waits.{is_waiting};
 ghost use Rattle.vme_model.specs.Accepted.{IsAccepted};
 ghost use Rattle.vme_model.specs.Report.{at_power_up, trace_limit};
 
@@ -203,9 +204,10 @@ impl<'r> Backplane<'r> {
         self.wiring.offers(driver)
     }
 
-    /// Whether the driver has no offer. Where it answers false, there may be none either.
+    /// Whether the driver waits for an edge of another. It then has no offer; where it answers false, there may be none either.
     fn is_waiting(&self, driver: Driver) -> bool
-        ensures { result ≡ true → offered_but_full self.now.version self.now.plan self.now.history driver ≡ [] }
+        ensures waits { result ≡ is_waiting self.now.version self.now.plan self.now.history driver }
+        ensures none { result ≡ true → offered_but_full self.now.version self.now.plan self.now.history driver ≡ [] }
     {
         self.wiring.is_waiting(driver)
     }

@@ -23,7 +23,6 @@ use Rattle.vme_model.specs.Plan.{Plan, board, active, up_to, requests_on, interr
 use Rattle.vme_model.specs.Accepted.{IsAccepted}
 use Rattle.vme_model.specs.History.{addressing, shown, last_value, line, request_line, interrupt_line}
 use Rattle.vme_model.specs.Views.{pins}
-use Rattle.vme_model.proofs.Ranges.{in_range}
 use Rattle.vme_chain.specs.Segments.{Segments, all_high, segments_of}
 use Rattle.vme_chain.proofs.History.{holds_every_slot}
 

@@ -1,6 +1,6 @@
 -- A board that is quiet, and to which nothing has come, waits; while the bus is busy no grant falls.
 use Rattle.std.proofs.Common.{◌≡◌, ◌∙◌, refl, sym, ap, Bool, true, false, ℕ, List}
-use Rattle.std.specs.Prelude.{◌&&◌, not, Option, Some, None, filter, [], ◌∷◌}
+use Rattle.std.specs.Prelude.{◌&&◌, not, Option, Some, None, filter, [], ◌∷◌, is_some}
 use Rattle.std.specs.Option.{option_map_or}
 use Rattle.std.specs.List.{list_all}
 use Rattle.std.proofs.Math.Path.{fun_ext}
@@ -8,7 +8,8 @@ use Rattle.vme_model.specs.declared.boards.RequesterRow.{RequesterRow}
 use Rattle.vme_model.specs.declared.boards.InterrupterRow.{InterrupterRow}
 use Rattle.vme_model.specs.declared.pins.Pins.{Pins}
 use Rattle.vme_model.specs.declared.signals.Version.{Version}
-use Rattle.vme_model.specs.declared.signals.Driver.TheVariants.{Controller}
+use Rattle.vme_model.specs.declared.signals.Driver.{Driver}
+use Rattle.vme_model.specs.declared.signals.Driver.TheVariants.{Controller, Slot}
 use Rattle.vme_model.specs.declared.signals.Wire.{Wire}
 use Rattle.vme_model.specs.declared.signals.Wire.TheVariants.{Bg, Br, BgOut, Bbsy, Dtack, IackOut}
 use Rattle.vme_model.specs.declared.signals.Edge.{Edge}
@@ -18,16 +19,18 @@ use Rattle.vme_model.specs.History.{drive, line, last_level, request_line}
 use Rattle.vme_model.specs.Rules.{bus_numbers, is_pick}
 use Rattle.vme_model.specs.Offers.{turned}
 use Rattle.vme_chain.specs.Segments.{input}
-use Rattle.vme_wiring.specs.Boards.{low_of, is_quiet, is_requester_quiet, is_master_quiet}
+use Rattle.vme_model.specs.Readings.{readings}
+use Rattle.vme_wiring.specs.Boards.{place, low_of, is_quiet, is_requester_quiet, is_master_quiet}
 use Rattle.vme_wiring.specs.Chained.{chain_at}
-use Rattle.vme_wiring.specs.Considered.{own_by}
-use Rattle.vme_wiring.specs.Offered.{is_open, waits_for_grant, waits_for_bus, waits_for_cycle, is_access_to}
+use Rattle.vme_arbiter.specs.Local.{low}
+use Rattle.vme_wiring.specs.Offered.{is_open}
+use Rattle.vme_wiring.specs.Waits.{waits_for_grant, waits_for_bus, waits_for_cycle, is_access_to, read_by, is_unserved, board_waits, is_waiting}
 use Rattle.vme_wiring.specs.Quiet.{is_ungranted, is_unaddressed, may_grant}
 use Rattle.vme_wiring.specs.Wired.{IsWiringOf}
 use Rattle.vme_wiring.specs.declared.boards.Board.{Board}
 use Rattle.vme_wiring.specs.declared.wirings.Wiring.{Wiring}
-use Rattle.vme_wiring.proofs.Offering.{own}
-use Rattle.vme_wiring.proofs.Waiting.{closed}
+use Rattle.vme_wiring.proofs.Seeing.{own_of_controller}
+use Rattle.vme_wiring.proofs.Waiting.{closed, reads_grant, reads_bus, reads_cycle, waits_here}
 
 same_truth : (a b : Bool) → (a ≡ true → b ≡ true) → (b ≡ true → a ≡ true) → a ≡ b
 same_truth true b there back = sym (there refl)
@@ -63,12 +66,17 @@ module _ (w : Wiring) (b : Board) where
   abbrev ungranted : Option RequesterRow → Bool
   ungranted o = option_map_or (λ (q : RequesterRow). not (is_two w.version) && not (input (chain_at (grant_chain q.level) w.chains) b.row.slot)) o true
 
-  abbrev waits : Option RequesterRow → Bool
-  waits o = option_map_or (λ (q : RequesterRow). not (is_two w.version) && low_of b Br && not (low_of b BgOut) && not (low_of b Bbsy) && not (input (chain_at (grant_chain q.level) w.chains) b.row.slot)) o true
+  abbrev grant : Option RequesterRow → Bool
+  grant o = option_map_or (λ (q : RequesterRow). input (chain_at (grant_chain q.level) w.chains) b.row.slot) o false
 
-  by_requester : (o : Option RequesterRow) → (requests o && ungranted o) ≡ waits o
-  by_requester None = refl
-  by_requester (Some q) = five (low_of b Br) (low_of b BgOut) (low_of b Bbsy) (is_two w.version) (input (chain_at (grant_chain q.level) w.chains) b.row.slot)
+  abbrev waits : Option RequesterRow → Bool
+  waits o = option_map_or (λ (q : RequesterRow). not (is_two w.version) && low_of b Br && not (low_of b BgOut) && not (low_of b Bbsy) && not (grant b.row.requester)) o true
+
+  by_requester : (o : Option RequesterRow) → b.row.requester ≡ o → (requests o && ungranted o) ≡ waits o
+  by_requester None e = refl
+  by_requester (Some q) e =
+      five (low_of b Br) (low_of b BgOut) (low_of b Bbsy) (is_two w.version) (grant (Some q))
+      ∙ ap (λ o. not (is_two w.version) && low_of b Br && not (low_of b BgOut) && not (low_of b Bbsy) && not (grant o)) (sym e)
 
   abbrev passes_none : Option InterrupterRow → Bool
   passes_none o = option_map_or (λ (i : InterrupterRow). not (low_of b IackOut)) o true
@@ -76,25 +84,35 @@ module _ (w : Wiring) (b : Board) where
   abbrev is_unasked : Option InterrupterRow → Bool
   is_unasked o = option_map_or (λ (i : InterrupterRow). not (input w.chains.iack b.row.slot)) o true
 
+  abbrev acknowledge : Option InterrupterRow → Bool
+  acknowledge o = is_some o && input w.chains.iack b.row.slot
+
   abbrev is_idle : Option InterrupterRow → Bool
-  is_idle o = option_map_or (λ (i : InterrupterRow). not (low_of b IackOut) && not (input w.chains.iack b.row.slot)) o true
+  is_idle o = option_map_or (λ (i : InterrupterRow). not (low_of b IackOut) && not (acknowledge b.row.interrupter)) o true
 
-  by_interrupter : (o : Option InterrupterRow) → (passes_none o && is_unasked o) ≡ is_idle o
-  by_interrupter None = refl
-  by_interrupter (Some i) = refl
+  by_interrupter : (o : Option InterrupterRow) → b.row.interrupter ≡ o → (passes_none o && is_unasked o) ≡ is_idle o
+  by_interrupter None e = refl
+  by_interrupter (Some i) e = ap (λ o. not (low_of b IackOut) && not (acknowledge o)) (sym e)
 
-  pub quiet_waits : (is_quiet b && is_ungranted w b && is_unaddressed w b) ≡ (waits_for_grant w b && waits_for_bus b && waits_for_cycle w b)
+  pub quiet_waits : (is_quiet b && is_ungranted w b && is_unaddressed w b) ≡ (waits_for_grant w.version (read_by w b) b.row && waits_for_bus (read_by w b) && waits_for_cycle (read_by w b) b.row)
   quiet_waits =
       let m = is_master_quiet b in
       let d = not (low_of b Dtack) in
       let a = not (is_access_to b.row.slot w.shared.shown) in
       seven (requests b.row.requester) m d (passes_none b.row.interrupter) (ungranted b.row.requester) a (is_unasked b.row.interrupter)
-      ∙ ap (λ x. x && m && (d && a && (passes_none b.row.interrupter && is_unasked b.row.interrupter))) (by_requester b.row.requester)
-      ∙ ap (λ x. waits b.row.requester && m && (d && a && x)) (by_interrupter b.row.interrupter)
+      ∙ ap (λ x. x && m && (d && a && (passes_none b.row.interrupter && is_unasked b.row.interrupter))) (by_requester b.row.requester refl)
+      ∙ ap (λ x. waits b.row.requester && m && (d && a && x)) (by_interrupter b.row.interrupter refl)
 
-pub all_three : (a b c : Bool) → (a && b && c) ≡ true → (a ≡ true) × (b ≡ true) × (c ≡ true)
-all_three true true true holds = (refl, refl, refl)
-all_three a b c holds = absurd (cc)
+-- a fourth test behind three that hold, or do not
+pub fourth_of : (a b c d : Bool) → (a && b && c) ≡ true → (a && b && (c && d)) ≡ d
+fourth_of true true true d holds = refl
+fourth_of a b c d holds = absurd (cc)
+
+pub none_of : (a b c d : Bool) → (a && b && c) ≡ false → (a && b && (c && d)) ≡ false
+none_of true true true d fails = absurd (cc)
+none_of true true false d fails = refl
+none_of true false c d fails = refl
+none_of false b c d fails = refl
 
 and_stops : (a b c : Bool) → (a && b) ≡ false → (a && b && c) ≡ false
 and_stops true true c none = absurd (cc)
@@ -105,14 +123,42 @@ module _ (version : Version) (p : Plan) (h : List Edge) (w : Wiring) (is : IsWir
   abbrev grants_high : (Wire → Bool) → Bool
   grants_high f = list_all (λ n. not (f (Bg n))) bus_numbers
 
+  own_here : (x : Wire) → low w.arbiter.1 x ≡ drive h Controller x
+  own_here x = ap (λ a. low a.1 x) is.arbiter ∙ own_of_controller version p h x is.legal
+
   free : may_grant w ≡ (grants_high (drive h Controller) && not (line p h Bbsy))
   free =
-      ap (λ f. grants_high f && not w.shared.bbsy) (fun_ext (own version p h w is Controller))
+      ap (λ f. grants_high f && not w.shared.bbsy) (fun_ext own_here)
       ∙ ap (λ (x : Pins). grants_high (drive h Controller) && not x.bbsy) is.shared
 
-  pub no_grant : (n : ℕ) → own_by w Controller (Bg n) ≡ false → may_grant w ≡ false → filter (is_open version p h) (turned h Controller (Bg n) ∷ []) ≡ []
+  pub no_grant : (n : ℕ) → low w.arbiter.1 (Bg n) ≡ false → may_grant w ≡ false → filter (is_open version p h) (turned h Controller (Bg n) ∷ []) ≡ []
   no_grant n high busy =
       let shut : is_open version p h (turned h Controller (Bg n)) ≡ false =
-      closed version p h Controller (Bg n) false (sym (own version p h w is Controller (Bg n)) ∙ high)
+      closed version p h Controller (Bg n) false (sym (own_here (Bg n)) ∙ high)
       (and_stops (grants_high (drive h Controller)) (not (line p h Bbsy)) (is_pick p.arbiter (request_line p h) (last_level h) n) (sym free ∙ busy)) in
       rw shut
+
+-- what the stored fields say of a board that stands in its place is what its rules read
+pub three_read : (version : Version) (p : Plan) (h : List Edge) (w : Wiring) (s : ℕ) (b : Board) → IsWiringOf version p h w → Some b ≡ place w.boards s →
+    (is_quiet b && is_ungranted w b && is_unaddressed w b) ≡ (waits_for_grant version (readings p h (Slot s)) b.row && waits_for_bus (readings p h (Slot s)) && waits_for_cycle (readings p h (Slot s)) b.row)
+three_read version p h w s b is here =
+    let seen = readings p h (Slot s) in
+    quiet_waits w b
+    ∙ ap (λ x. x && waits_for_bus (read_by w b) && waits_for_cycle (read_by w b) b.row) (reads_grant version p h w s b is here)
+    ∙ ap (λ x. waits_for_grant version seen b.row && x && waits_for_cycle (read_by w b) b.row) (reads_bus version p h w s b is here)
+    ∙ ap (λ x. waits_for_grant version seen b.row && waits_for_bus seen && x) (reads_cycle version p h w s b is here)
+
+-- so the board waits where its interrupter's request was not served, or moves
+module _ (version : Version) (p : Plan) (h : List Edge) (w : Wiring) (s : ℕ) (b : Board) (is : IsWiringOf version p h w) (here : Some b ≡ place w.boards s) where
+  pub where_quiet : (is_quiet b && is_ungranted w b && is_unaddressed w b) ≡ true → board_waits version (readings p h (Slot s)) b.row ≡ is_unserved (readings p h (Slot s)) b.row
+  where_quiet holds =
+      let seen = readings p h (Slot s) in
+      fourth_of (waits_for_grant version seen b.row) (waits_for_bus seen) (waits_for_cycle seen b.row) (is_unserved seen b.row) (sym (three_read version p h w s b is here) ∙ holds)
+
+  pub where_not_quiet : (is_quiet b && is_ungranted w b && is_unaddressed w b) ≡ false → board_waits version (readings p h (Slot s)) b.row ≡ false
+  where_not_quiet fails =
+      let seen = readings p h (Slot s) in
+      none_of (waits_for_grant version seen b.row) (waits_for_bus seen) (waits_for_cycle seen b.row) (is_unserved seen b.row) (sym (three_read version p h w s b is here) ∙ fails)
+
+  pub waits_at : (d : Driver) → d ≡ Slot s → board_waits version (readings p h (Slot s)) b.row ≡ is_waiting version p h d
+  waits_at d at = sym (waits_here version p h w s b is here) ∙ sym (ap (λ (x : Driver). is_waiting version p h x) at)

@@ -11,29 +11,30 @@ use Rattle.vme_model.specs.declared.boards.InterrupterRow.{InterrupterRow}
 use Rattle.vme_model.specs.declared.pins.Pins.{Pins}
 use Rattle.vme_model.specs.declared.refusals.Refused.{Refused}
 use Rattle.vme_model.specs.declared.refusals.Refused.TheVariants.{NoSuchDriver, AlreadyThere, Rule, NotSettled}
+use Rattle.vme_model.specs.declared.sets.ChainId.TheVariants as chain
 use Rattle.vme_model.specs.declared.signals.Version.{Version}
 use Rattle.vme_model.specs.declared.signals.Driver.{Driver}
-use Rattle.vme_model.specs.declared.signals.Driver.TheVariants.{Slot}
+use Rattle.vme_model.specs.declared.signals.Driver.TheVariants.{Controller, Slot}
 use Rattle.vme_model.specs.declared.signals.Wire.{Wire}
 use Rattle.vme_model.specs.declared.signals.Wire.TheVariants.{Br, BgOut, Bbsy, Addr, AddressStrobe, DataStrobe, Irq, IackOut, Dtack}
 use Rattle.vme_model.specs.declared.signals.Cycle.{Cycle}
 use Rattle.vme_model.specs.declared.signals.Cycle.TheVariants.{Acknowledge, Access}
 use Rattle.vme_model.specs.declared.signals.Edge.{Edge}
 use Rattle.vme_model.specs.Signals.{is_well_formed, is_two}
-use Rattle.vme_model.specs.Plan.{Plan, board, has_driver, drives, grant_chain}
-use Rattle.vme_model.specs.History.{drive, shown, line}
+use Rattle.vme_model.specs.Plan.{Plan, board, has_driver, drives}
+use Rattle.vme_model.specs.History.{drive, shown, line, input as input_after}
 use Rattle.vme_model.specs.Readings.{readings, grant_in, iack_in, is_served, is_pending}
 use Rattle.vme_model.specs.Rules.{rule, may_answer}
 use Rattle.vme_model.specs.Settling.{settling}
-use Rattle.vme_model.specs.Verdict.{Judgement, check, is_other_state, settled}
+use Rattle.vme_model.specs.Verdict.{Judgement, check, is_other_state, settled, IsLegal}
 use Rattle.vme_model.specs.Views.{pins}
 use Rattle.vme_model.specs.Offers.{turned, considered, cycles_of, going_on}
 use Rattle.vme_interrupter.specs.Local.{seen, served, edges, over as interrupter_over, state_of as interrupter_of}
 use Rattle.vme_interrupter.proofs.Seen.{served_seen}
-use Rattle.vme_chain.specs.Segments.{input}
 use Rattle.vme_wiring.specs.Boards.{parts_of, place, low_of}
-use Rattle.vme_wiring.specs.Chained.{chain_at}
-use Rattle.vme_wiring.specs.Offered.{is_open, offered_on, offered_but_full, requester_wires, master_wires, interrupter_wires, waits_for_grant, waits_for_bus, waits_for_cycle, is_access_to}
+use Rattle.vme_wiring.specs.Asked.{seen_by}
+use Rattle.vme_wiring.specs.Offered.{is_open, offered_on, offered_but_full, requester_wires, master_wires, interrupter_wires}
+use Rattle.vme_wiring.specs.Waits.{waits_for_grant, waits_for_bus, waits_for_cycle, is_access_to, is_unserved, board_waits, is_waiting, read_by}
 use Rattle.vme_wiring.specs.Wired.{IsWiringOf}
 use Rattle.vme_wiring.specs.declared.boards.Board.{Board}
 use Rattle.vme_wiring.specs.declared.wirings.Wiring.{Wiring}
@@ -89,6 +90,29 @@ both_high a b holds = absurd (cc)
 low_and_high : (a b : Bool) → (a && not b) ≡ true → (a ≡ true) × (b ≡ false)
 low_and_high true false holds = (refl, refl)
 low_and_high a b holds = absurd (cc)
+
+all_four : (a b c d : Bool) → (a && b && (c && d)) ≡ true → (a ≡ true) × (b ≡ true) × (c ≡ true) × (d ≡ true)
+all_four true true true true holds = (refl, refl, refl, refl)
+all_four a b c d holds = absurd (cc)
+
+same_four : (f : Bool → Bool → Bool → Bool → Bool) (a b c d k l m n : Bool) → a ≡ k → b ≡ l → c ≡ m → d ≡ n → f a b c d ≡ f k l m n
+same_four f a b c d k l m n ak bl cm dn = ap (λ x. f x b c d) ak ∙ ap (λ x. f k x c d) bl ∙ ap (λ x. f k l x d) cm ∙ ap (λ x. f k l m x) dn
+
+same_five : (f : Bool → Bool → Bool → Bool → Bool → Bool) (a b c d e k l m n o : Bool) → a ≡ k → b ≡ l → c ≡ m → d ≡ n → e ≡ o → f a b c d e ≡ f k l m n o
+same_five f a b c d e k l m n o ak bl cm dn eo = ap (λ x. f x b c d e) ak ∙ same_four (f k) b c d e l m n o bl cm dn eo
+
+-- three parts, one after the other
+pub all_wait : (a b c : Bool) → a ≡ true → b ≡ true → c ≡ (a && b && c)
+all_wait true true c ea eb = refl
+all_wait a b c ea eb = absurd (cc)
+
+pub first_moves : (a b c : Bool) → a ≡ false → false ≡ (a && b && c)
+first_moves false b c e = refl
+first_moves true b c e = absurd (cc)
+
+pub second_moves : (a b c : Bool) → a ≡ true → b ≡ false → false ≡ (a && b && c)
+second_moves true false c ea eb = refl
+second_moves a b c ea eb = absurd (cc)
 
 equal_self : (n : ℕ) → (n == n) ≡ true
 equal_self n = grind (arith, nat_tests)
@@ -193,85 +217,6 @@ module _ (version : Version) (p : Plan) (h : List Edge) where
         ap (λ b. filter (is_open version p h) (if b then turned h (Slot s) Addr ∷ [] else going_on p h (Slot s))) addr
         ∙ ap (λ (o : Option Row). filter (is_open version p h) (option_map_or (λ r. map shows (cycles_of p h r)) o [])) none
 
--- the readings of a board that stands in its place
-module _ (version : Version) (p : Plan) (h : List Edge) (w : Wiring) (s : ℕ) (b : Board) (is : IsWiringOf version p h w) (k : IsPlaced version p h s b) where
-  own_is : (x : Wire) (v : Bool) → low_of b x ≡ v → drive h (Slot s) x ≡ v
-  own_is x v e = sym (own_of_board version p h s k.row b x is.legal k.found k.stands.slot k.is) ∙ e
-
-  its_row : board p k.row.slot ≡ Some k.row
-  its_row = ap (board p) k.stands.slot ∙ k.found
-
-  its_pins : record w.shared { grant_in = option_map_or (λ (q : RequesterRow). input (chain_at (grant_chain q.level) w.chains) b.row.slot) b.row.requester false; iack_in = is_some b.row.interrupter && input w.chains.iack b.row.slot } ≡ pins p h (Slot s)
-  its_pins = pins_of_board version p h w b k.row is k.same_row its_row ∙ ap (λ t. pins p h (Slot t)) k.stands.slot
-
-  grant_is : option_map_or (λ (q : RequesterRow). input (chain_at (grant_chain q.level) w.chains) b.row.slot) b.row.requester false ≡ grant_in p h (Slot s)
-  grant_is = ap (λ (x : Pins). x.grant_in) its_pins
-
-  iack_is : (is_some b.row.interrupter && input w.chains.iack b.row.slot) ≡ iack_in p h (Slot s)
-  iack_is = ap (λ (x : Pins). x.iack_in) its_pins
-
-  -- its requester
-  requester_by : (o : Option RequesterRow) → b.row.requester ≡ o →
-      option_map_or (λ (q : RequesterRow). not (is_two w.version) && low_of b Br && not (low_of b BgOut) && not (low_of b Bbsy) && not (input (chain_at (grant_chain q.level) w.chains) b.row.slot)) o true ≡ true →
-      offered_on version p h (Slot s) requester_wires ≡ []
-  requester_by None e waits =
-      requester_lacking version p h s (
-      ap (λ (x : Option Row). is_some (option_and_then (λ r. r.requester) x)) k.found
-      ∙ ap (λ (x : Option RequesterRow). is_some x) (ap (λ (r : Row). r.requester) (sym k.same_row) ∙ e))
-  requester_by (Some q) e waits =
-      let t = five (is_two w.version) (low_of b Br) (low_of b BgOut) (low_of b Bbsy) (input (chain_at (grant_chain q.level) w.chains) b.row.slot) waits in
-      requester_closed version p h s (own_is Br true t.1) (own_is BgOut false t.2) (own_is Bbsy false t.3) (ap is_two (sym is.rules) ∙ t.0)
-      (sym grant_is ∙ ap (λ (o : Option RequesterRow). option_map_or (λ x. input (chain_at (grant_chain x.level) w.chains) b.row.slot) o false) e ∙ t.4)
-
-  -- its master
-  master_by : waits_for_bus b ≡ true → offered_on version p h (Slot s) master_wires ≡ []
-  master_by waits =
-      let t = four (low_of b Bbsy) (low_of b Addr) (low_of b AddressStrobe) (low_of b DataStrobe) waits in
-      master_closed version p h s (own_is Bbsy false t.0) (own_is Addr false t.1) (own_is AddressStrobe false t.2) (own_is DataStrobe false t.3)
-
-  -- its interrupter
-  served_is : b.interrupter.is_served ≡ is_served p h (Slot s)
-  served_is =
-      ap (λ (x : Board). x.interrupter.is_served) k.is
-      ∙ served_seen p h (Slot k.row.slot) k.row its_row
-      ∙ ap (λ t. is_served p h (Slot t)) k.stands.slot
-
-  access_is : is_access_to b.row.slot w.shared.shown ≡ false → is_access_to k.row.slot (shown p h) ≡ false
-  access_is none =
-      ap (λ (x : Option Cycle). is_access_to k.row.slot x) (sym (ap (λ (x : Pins). x.shown) is.shared))
-      ∙ ap (λ (r : Row). is_access_to r.slot w.shared.shown) (sym k.same_row)
-      ∙ none
-
-  interrupter_by : (o : Option InterrupterRow) → b.row.interrupter ≡ o → low_of b Dtack ≡ false → is_access_to b.row.slot w.shared.shown ≡ false →
-      option_map_or (λ (i : InterrupterRow). not (low_of b IackOut) && not (input w.chains.iack b.row.slot)) o true ≡ true →
-      option_map_or (λ (i : InterrupterRow). b.interrupter.irq && not b.interrupter.is_served) o true ≡ true →
-      offered_on version p h (Slot s) interrupter_wires ≡ []
-  interrupter_by None e dtack access quiet unserved =
-      let none : iack_in p h (Slot s) ≡ false = sym iack_is ∙ ap (λ (o : Option InterrupterRow). is_some o && input w.chains.iack b.row.slot) e in
-      interrupter_lacking version p h s k.row k.found (ap (λ (r : Row). r.interrupter) (sym k.same_row) ∙ e)
-      (answer_closed version p h s k.row k.found (own_is Dtack false dtack) (access_is access) none)
-  interrupter_by (Some i) e dtack access quiet unserved =
-      let t = both_high (low_of b IackOut) (input w.chains.iack b.row.slot) quiet in
-      let u = low_and_high b.interrupter.irq b.interrupter.is_served unserved in
-      let none : iack_in p h (Slot s) ≡ false = sym iack_is ∙ ap (λ (o : Option InterrupterRow). is_some o && input w.chains.iack b.row.slot) e ∙ t.1 in
-      interrupter_closed version p h s
-      (answer_closed version p h s k.row k.found (own_is Dtack false dtack) (access_is access) none)
-      (own_is Irq true u.0) (sym served_is ∙ u.1) (own_is IackOut false t.0) none
-
--- a board that stands in a slot
-pub requester_waits : (version : Version) (p : Plan) (h : List Edge) (w : Wiring) (s : ℕ) (b : Board) → IsWiringOf version p h w → Some b ≡ place w.boards s → waits_for_grant w b ≡ true → offered_on version p h (Slot s) requester_wires ≡ []
-requester_waits version p h w s b is here waits = requester_by version p h w s b is (placed_board version p h s b w is here) b.row.requester refl waits
-
-pub master_waits : (version : Version) (p : Plan) (h : List Edge) (w : Wiring) (s : ℕ) (b : Board) → IsWiringOf version p h w → Some b ≡ place w.boards s → waits_for_bus b ≡ true → offered_on version p h (Slot s) master_wires ≡ []
-master_waits version p h w s b is here waits = master_by version p h w s b is (placed_board version p h s b w is here) waits
-
-pub interrupter_waits : (version : Version) (p : Plan) (h : List Edge) (w : Wiring) (s : ℕ) (b : Board) → IsWiringOf version p h w → Some b ≡ place w.boards s → waits_for_cycle w b ≡ true →
-    option_map_or (λ (i : InterrupterRow). b.interrupter.irq && not b.interrupter.is_served) b.row.interrupter true ≡ true → offered_on version p h (Slot s) interrupter_wires ≡ []
-interrupter_waits version p h w s b is here waits unserved =
-    let quiet = option_map_or (λ (i : InterrupterRow). not (low_of b IackOut) && not (input w.chains.iack b.row.slot)) b.row.interrupter true in
-    let t = two_and (low_of b Dtack) (is_access_to b.row.slot w.shared.shown) quiet waits in
-    interrupter_by version p h w s b is (placed_board version p h s b w is here) b.row.interrupter refl t.0 t.1 t.2 unserved
-
 -- a board's three parts are all that it drives
 pub parts_joined : (version : Version) (p : Plan) (h : List Edge) (s : ℕ) →
     offered_on version p h (Slot s) requester_wires ++ offered_on version p h (Slot s) master_wires ++ offered_on version p h (Slot s) interrupter_wires ≡ offered_but_full version p h (Slot s)
@@ -287,17 +232,120 @@ parts_joined version p h s =
 pub none_waits : (version : Version) (p : Plan) (h : List Edge) (s : ℕ) → offered_on version p h (Slot s) requester_wires ≡ [] → offered_on version p h (Slot s) master_wires ≡ [] → offered_on version p h (Slot s) interrupter_wires ≡ [] → offered_but_full version p h (Slot s) ≡ []
 none_waits version p h s a b c = sym (parts_joined version p h s) ∙ rw (a, b, c)
 
-pub nobody : (version : Version) (p : Plan) (h : List Edge) (w : Wiring) (s : ℕ) → IsWiringOf version p h w → place w.boards s ≡ None → offered_but_full version p h (Slot s) ≡ []
-nobody version p h w s is none =
-    let empty = no_board_in version p h w s is none in
+-- a slot without a board
+pub nobody_in : (version : Version) (p : Plan) (h : List Edge) (s : ℕ) → IsLegal version p h → board p s ≡ None → offered_but_full version p h (Slot s) ≡ []
+nobody_in version p h s legal empty =
     let at = λ (x : Wire). none_here version p h s x empty in
     let test = is_open version p h in
     none_waits version p h s
     (three_closed test (turned h (Slot s) Br) (turned h (Slot s) BgOut) (turned h (Slot s) Bbsy) (at Br) (at BgOut) (at Bbsy))
     (none_behind test (considered p h (Slot s) Addr) (turned h (Slot s) AddressStrobe ∷ turned h (Slot s) DataStrobe ∷ [])
-    (address_of_none version p h s empty (sym (own_of_none version p h s Addr is.legal empty)))
+    (address_of_none version p h s empty (sym (own_of_none version p h s Addr legal empty)))
     (two_closed test (turned h (Slot s) AddressStrobe) (turned h (Slot s) DataStrobe) (at AddressStrobe) (at DataStrobe)))
     (three_closed test (turned h (Slot s) Irq) (turned h (Slot s) IackOut) (turned h (Slot s) Dtack) (at Irq) (at IackOut) (at Dtack))
+
+pub nobody : (version : Version) (p : Plan) (h : List Edge) (w : Wiring) (s : ℕ) → IsWiringOf version p h w → place w.boards s ≡ None → offered_but_full version p h (Slot s) ≡ []
+nobody version p h w s is none = nobody_in version p h s is.legal (no_board_in version p h w s is none)
+
+-- a board whose parts wait
+module _ (version : Version) (p : Plan) (h : List Edge) (s : ℕ) (r : Row) (found : board p s ≡ Some r) where
+  pub requester_none : waits_for_grant version (readings p h (Slot s)) r ≡ true → offered_on version p h (Slot s) requester_wires ≡ []
+  requester_none waits = by_part r.requester refl waits
+    where
+      by_part : (o : Option RequesterRow) → r.requester ≡ o →
+          option_map_or (λ (q : RequesterRow). not (is_two version) && drive h (Slot s) Br && not (drive h (Slot s) BgOut) && not (drive h (Slot s) Bbsy) && not (grant_in p h (Slot s))) o true ≡ true →
+          offered_on version p h (Slot s) requester_wires ≡ []
+      by_part None e waits =
+          requester_lacking version p h s (ap (λ (x : Option Row). is_some (option_and_then (λ r. r.requester) x)) found ∙ ap (λ (x : Option RequesterRow). is_some x) e)
+      by_part (Some q) e waits =
+          let t = five (is_two version) (drive h (Slot s) Br) (drive h (Slot s) BgOut) (drive h (Slot s) Bbsy) (grant_in p h (Slot s)) waits in
+          requester_closed version p h s t.1 t.2 t.3 t.0 t.4
+
+  pub master_none : waits_for_bus (readings p h (Slot s)) ≡ true → offered_on version p h (Slot s) master_wires ≡ []
+  master_none waits =
+      let t = four (drive h (Slot s) Bbsy) (drive h (Slot s) Addr) (drive h (Slot s) AddressStrobe) (drive h (Slot s) DataStrobe) waits in
+      master_closed version p h s t.0 t.1 t.2 t.3
+
+  interrupter_by : (o : Option InterrupterRow) → r.interrupter ≡ o → drive h (Slot s) Dtack ≡ false → is_access_to r.slot (shown p h) ≡ false →
+      option_map_or (λ (i : InterrupterRow). not (drive h (Slot s) IackOut) && not (iack_in p h (Slot s))) o true ≡ true →
+      option_map_or (λ (i : InterrupterRow). drive h (Slot s) Irq && not (is_served p h (Slot s))) o true ≡ true →
+      offered_on version p h (Slot s) interrupter_wires ≡ []
+  interrupter_by None e dtack access quiet unserved =
+      let none : iack_in p h (Slot s) ≡ false =
+      ap (λ (o : Option Row). option_map_or (λ x. is_some x.interrupter && input_after p h chain.Iack x.slot) o false) found
+      ∙ ap (λ (o : Option InterrupterRow). is_some o && input_after p h chain.Iack r.slot) e in
+      interrupter_lacking version p h s r found e (answer_closed version p h s r found dtack access none)
+  interrupter_by (Some i) e dtack access quiet unserved =
+      let t = both_high (drive h (Slot s) IackOut) (iack_in p h (Slot s)) quiet in
+      let u = low_and_high (drive h (Slot s) Irq) (is_served p h (Slot s)) unserved in
+      interrupter_closed version p h s (answer_closed version p h s r found dtack access t.1) u.0 u.1 t.0 t.1
+
+  pub interrupter_none : waits_for_cycle (readings p h (Slot s)) r ≡ true → is_unserved (readings p h (Slot s)) r ≡ true → offered_on version p h (Slot s) interrupter_wires ≡ []
+  interrupter_none waits unserved =
+      let quiet = option_map_or (λ (i : InterrupterRow). not (drive h (Slot s) IackOut) && not (iack_in p h (Slot s))) r.interrupter true in
+      let t = two_and (drive h (Slot s) Dtack) (is_access_to r.slot (shown p h)) quiet waits in
+      interrupter_by r.interrupter refl t.0 t.1 t.2 unserved
+
+  board_none : board_waits version (readings p h (Slot s)) r ≡ true → offered_but_full version p h (Slot s) ≡ []
+  board_none waits =
+      let seen = readings p h (Slot s) in
+      let t = all_four (waits_for_grant version seen r) (waits_for_bus seen) (waits_for_cycle seen r) (is_unserved seen r) waits in
+      none_waits version p h s (requester_none t.0) (master_none t.1) (interrupter_none t.2 t.3)
+
+-- who waits has no offer
+pub waiting_none : (version : Version) (p : Plan) (h : List Edge) (d : Driver) → IsLegal version p h → is_waiting version p h d ≡ true → offered_but_full version p h d ≡ []
+waiting_none version p h Controller legal waits = absurd (cc)
+waiting_none version p h (Slot s) legal waits = by_board (board p s) refl waits
+  where
+    by_board : (o : Option Row) → board p s ≡ o → option_map_or (board_waits version (readings p h (Slot s))) o true ≡ true → offered_but_full version p h (Slot s) ≡ []
+    by_board None found waits = nobody_in version p h s legal found
+    by_board (Some r) found waits = board_none version p h s r found waits
+
+-- the stored fields of a board that stands in its place
+module _ (version : Version) (p : Plan) (h : List Edge) (w : Wiring) (s : ℕ) (b : Board) (is : IsWiringOf version p h w) (here : Some b ≡ place w.boards s) where
+  stands_here : IsPlaced version p h s b
+  stands_here = placed_board version p h s b w is here
+
+  pub row_here : board p s ≡ Some b.row
+  row_here = stands_here.found ∙ ap (λ (r : Row). Some r) (sym stands_here.same_row)
+
+  own_is : (x : Wire) → low_of b x ≡ drive h (Slot s) x
+  own_is x = own_of_board version p h s stands_here.row b x is.legal stands_here.found stands_here.stands.slot stands_here.is
+
+  its_row : board p stands_here.row.slot ≡ Some stands_here.row
+  its_row = ap (board p) stands_here.stands.slot ∙ stands_here.found
+
+  its_pins : seen_by w.chains w.shared b.row ≡ pins p h (Slot s)
+  its_pins = pins_of_board version p h w b stands_here.row is stands_here.same_row its_row ∙ ap (λ t. pins p h (Slot t)) stands_here.stands.slot
+
+  served_is : b.interrupter.is_served ≡ is_served p h (Slot s)
+  served_is =
+      ap (λ (x : Board). x.interrupter.is_served) stands_here.is
+      ∙ served_seen p h (Slot stands_here.row.slot) stands_here.row its_row
+      ∙ ap (λ t. is_served p h (Slot t)) stands_here.stands.slot
+
+  pub reads_grant : waits_for_grant w.version (read_by w b) b.row ≡ waits_for_grant version (readings p h (Slot s)) b.row
+  reads_grant =
+      let f : Bool → Bool → Bool → Bool → Bool → Bool = λ two br out bbsy grant. option_map_or (λ (q : RequesterRow). not two && br && not out && not bbsy && not grant) b.row.requester true in
+      same_five f _ _ _ _ _ _ _ _ _ _ (ap is_two is.rules) (own_is Br) (own_is BgOut) (own_is Bbsy) (ap (λ (x : Pins). x.grant_in) its_pins)
+
+  pub reads_bus : waits_for_bus (read_by w b) ≡ waits_for_bus (readings p h (Slot s))
+  reads_bus =
+      let f : Bool → Bool → Bool → Bool → Bool = λ bbsy addr strobe given. not bbsy && not addr && not strobe && not given in
+      same_four f _ _ _ _ _ _ _ _ (own_is Bbsy) (own_is Addr) (own_is AddressStrobe) (own_is DataStrobe)
+
+  pub reads_cycle : waits_for_cycle (read_by w b) b.row ≡ waits_for_cycle (readings p h (Slot s)) b.row
+  reads_cycle =
+      let f : Bool → Bool → Bool → Bool → Bool = λ dtack access out iack. not dtack && not access && option_map_or (λ (i : InterrupterRow). not out && not iack) b.row.interrupter true in
+      same_four f _ _ _ _ _ _ _ _ (own_is Dtack) (ap (λ (x : Pins). is_access_to b.row.slot x.shown) its_pins) (own_is IackOut) (ap (λ (x : Pins). x.iack_in) its_pins)
+
+  pub reads_service : is_unserved (read_by w b) b.row ≡ is_unserved (readings p h (Slot s)) b.row
+  reads_service =
+      ap (λ x. option_map_or (λ (i : InterrupterRow). x && not b.interrupter.is_served) b.row.interrupter true) (own_is Irq)
+      ∙ ap (λ x. option_map_or (λ (i : InterrupterRow). drive h (Slot s) Irq && not x) b.row.interrupter true) served_is
+
+  pub waits_here : is_waiting version p h (Slot s) ≡ board_waits version (readings p h (Slot s)) b.row
+  waits_here = ap (λ (o : Option Row). option_map_or (board_waits version (readings p h (Slot s))) o true) row_here
 
 -- the interrupter's own test
 its_level : (o : Option InterrupterRow) (i : InterrupterRow) (low done : Bool) → o ≡ Some i →

@@ -2,16 +2,15 @@
 use Rattle.std.specs.Prelude.{◌&&◌, not, Bool, true}
 use Rattle.std.specs.Option.{option_map_or}
 use Rattle.std.specs.List.{list_all}
-use Rattle.vme_model.specs.declared.signals.Driver.TheVariants.{Controller}
 use Rattle.vme_model.specs.declared.signals.Wire.TheVariants.{Bg}
 use Rattle.vme_model.specs.Signals.{is_two}
 use Rattle.vme_model.specs.Plan.{grant_chain}
 use Rattle.vme_model.specs.Rules.{bus_numbers}
+use Rattle.vme_arbiter.specs.Local.{low}
 use Rattle.vme_chain.specs.Segments.{input}
 use Rattle.vme_wiring.specs.Boards.{is_quiet}
 use Rattle.vme_wiring.specs.Chained.{chain_at}
-use Rattle.vme_wiring.specs.Considered.{own_by}
-use Rattle.vme_wiring.specs.Offered.{is_access_to}
+use Rattle.vme_wiring.specs.Waits.{is_access_to}
 use Rattle.vme_wiring.specs.declared.boards.Board.{Board}
 use Rattle.vme_wiring.specs.declared.wirings.Wiring.{Wiring}
 
@@ -25,4 +24,4 @@ is_unaddressed w b = not (is_access_to b.row.slot w.shared.shown) && option_map_
 
 -- the grants are high, and the bus is free
 abbrev pub may_grant : Wiring → Bool
-may_grant w = list_all (λ n. not (own_by w Controller (Bg n))) bus_numbers && not w.shared.bbsy
+may_grant w = list_all (λ n. not (low w.arbiter.1 (Bg n))) bus_numbers && not w.shared.bbsy

@@ -1,11 +1,12 @@
 //! What a driver is offered.
-ghost use Rattle.std.specs.Prelude.{◌≡◌, ◌≤◌, ◌<◌, ◌+◌, ◌++◌, ◌&&◌, ◌∷◌, [], List, true, Some, filter, length, nat_lt, is_some};
+ghost use Rattle.std.specs.Prelude.{◌≡◌, ◌≤◌, ◌<◌, ◌+◌, ◌++◌, ◌&&◌, ◌∷◌, [], List, true, Some, filter, find, length, map, nat_lt, is_some, option_map};
+ghost use Rattle.std.specs.Option.{option_to_list};
 ghost use Rattle.vme_model.specs.declared.signals.Driver.TheVariants.{Controller, Slot};
 ghost use Rattle.vme_model.specs.declared.signals.Edge.{Edge as EdgeValue};
 ghost use Rattle.vme_model.specs.declared.signals.Version.{Version as VersionValue};
 ghost use Rattle.vme_model.specs.declared.signals.Wire.TheVariants.{Bg};
-ghost use Rattle.vme_model.specs.Plan.{Plan as PlanValue};
-ghost use Rattle.vme_model.specs.Offers.{considered, turned};
+ghost use Rattle.vme_model.specs.Plan.{Plan as PlanValue, up_to};
+ghost use Rattle.vme_model.specs.Offers.{considered, going_on, next_board, turned, wanted};
 ghost use Rattle.vme_wiring.specs.Boards.{place};
 
 use crate::boards::Board;
@@ -26,9 +27,22 @@ fn showing(slot: u8, cycle: Cycle) -> Edge
     }
 }
 
+/// The slot's address group going on with an acknowledge, and with an access.
+fn showings(slot: u8, level: Option<u8>, target: Option<u8>) -> ArrayVec<Edge, 2>
+    ensures { result.items ≡ map (λ c. record { driver = Driver.Slot slot; wire = Wire.Addr; fall = true; value = Some c }) (option_to_list (option_map (λ v. Cycle.Acknowledge v) level) ++ option_to_list (option_map (λ t. Cycle.Access t) target)) }
+{
+    let mut edges = ArrayVec::new();
+    if let Some(level) = level {
+        edges.push(showing(slot, Cycle::Acknowledge(level)));
+    }
+    if let Some(target) = target {
+        edges.push(showing(slot, Cycle::Access(target)));
+    }
+    edges
+}
+
 impl Wiring {
     ghost use Rattle.vme_wiring.specs.Wired.{IsWiringOf};
-    ghost use Rattle.vme_wiring.specs.Considered.{wanted_by, board_above, next_by, going_on_by, turned_by, considered_by};
     ghost use Rattle.vme_wiring.specs.Quiet.{may_grant};
     ghost use Rattle.vme_wiring.specs.Offered.{is_open, offered_on, offered_but_full, requester_wires, master_wires, interrupter_wires};
 
@@ -42,7 +56,7 @@ impl Wiring {
     /// The least slot with a board above that one.
     #[tactic(auto, using(vme_slots::proofs::Slots::find_up_to_none))]
     fn board_above(&self, slot: u8) -> Option<u8>
-        ensures { result ≡ board_above self.now slot }
+        ensures { result ≡ find (λ t. nat_lt slot t && is_some (place self.now.boards t)) (up_to self.now.slots) }
     {
         for other in 1..=self.slots {
             if self.is_board_above(other, slot) {
@@ -53,44 +67,40 @@ impl Wiring {
     }
 
     /// The next slot with a board, from the least again after the greatest.
-    #[tactic(auto, using(crate::proofs::Offering::find_above_zero))]
     fn next_board(&self, slot: u8) -> Option<u8>
-        ensures { result ≡ next_by self.now slot }
+        ensures { (version : VersionValue) (p : PlanValue) (h : List EdgeValue) → IsWiringOf version p h self.now → result ≡ next_board p slot }
     {
         self.board_above(slot).or(self.board_above(0))
     }
 
     /// The highest low level that the board handles.
     fn wanted(&self, row: &Row) -> Option<u8>
-        ensures { result ≡ wanted_by self.now row.now }
+        ensures { (version : VersionValue) (p : PlanValue) (h : List EdgeValue) → IsWiringOf version p h self.now → result ≡ wanted p h row.now }
     {
         Handler::new(row.handler).wants(self.shared.irq)
     }
 
     /// What the driver's board considers to show: an acknowledge, and an access.
     fn going_on(&self, driver: Driver) -> ArrayVec<Edge, 2>
-        ensures { result.items ≡ going_on_by self.now driver }
+        ensures { (version : VersionValue) (p : PlanValue) (h : List EdgeValue) → IsWiringOf version p h self.now → result.items ≡ going_on p h driver }
     {
-        let mut edges = ArrayVec::new();
         let Driver::Slot(slot) = driver else {
-            return edges;
+            return ArrayVec::new();
         };
-        let Some(board) = self.board(slot) else {
-            return edges;
-        };
-        if let Some(level) = self.wanted(&board.row) {
-            edges.push(showing(slot, Cycle::Acknowledge(level)));
+        match self.board(slot) {
+            Some(board) => showings(
+                slot,
+                self.wanted(&board.row),
+                self.next_board(board.row.slot),
+            ),
+            None => ArrayVec::new(),
         }
-        if let Some(target) = self.next_board(board.row.slot) {
-            edges.push(showing(slot, Cycle::Access(target)));
-        }
-        edges
     }
 
     /// The edge without a value that moves the wire to its other state.
     #[inline(always)]
     fn turned(&self, driver: Driver, wire: Wire) -> Edge
-        ensures { result ≡ turned_by self.now driver wire }
+        ensures { (version : VersionValue) (p : PlanValue) (h : List EdgeValue) → IsWiringOf version p h self.now → result ≡ turned h driver wire }
     {
         Edge {
             driver,
@@ -102,7 +112,7 @@ impl Wiring {
 
     /// That edge alone.
     fn turning(&self, driver: Driver, wire: Wire) -> ArrayVec<Edge, 2>
-        ensures { result.items ≡ turned_by self.now driver wire ∷ [] }
+        ensures { (version : VersionValue) (p : PlanValue) (h : List EdgeValue) → IsWiringOf version p h self.now → result.items ≡ turned h driver wire ∷ [] }
     {
         let mut edges = ArrayVec::new();
         edges.push(self.turned(driver, wire));
@@ -111,7 +121,7 @@ impl Wiring {
 
     /// The edges of the address group that are considered.
     fn considered_address(&self, driver: Driver) -> ArrayVec<Edge, 2>
-        ensures { result.items ≡ considered_by self.now driver Wire.Addr }
+        ensures { (version : VersionValue) (p : PlanValue) (h : List EdgeValue) → IsWiringOf version p h self.now → result.items ≡ considered p h driver Wire.Addr }
     {
         if self.is_low(driver, Wire::Addr) {
             self.turning(driver, Wire::Addr)

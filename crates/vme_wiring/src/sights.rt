@@ -5,6 +5,7 @@ ghost use Rattle.vme_model.specs.declared.boards.Row.{Row as RowValue};
 ghost use Rattle.vme_model.specs.declared.signals.Edge.{Edge as EdgeValue};
 ghost use Rattle.vme_model.specs.declared.signals.Version.{Version as VersionValue};
 ghost use Rattle.vme_model.specs.Plan.{Plan as PlanValue, board_of};
+ghost use Rattle.vme_model.specs.History.{drive};
 ghost use Rattle.vme_model.specs.Views.{pins};
 ghost use Rattle.vme_model.specs.Deliveries.{delivery, delivered_by};
 ghost use Rattle.vme_wiring.specs.Asked.{seen_by};
@@ -45,7 +46,6 @@ fn delivered_by(
 
 impl Wiring {
     ghost use Rattle.vme_wiring.specs.Wired.{IsWiringOf};
-    ghost use Rattle.vme_wiring.specs.Considered.{own_by};
 
     /// What a board reads on its pins.
     pub(crate) fn pins_at(&self, board: &Board) -> Pins
@@ -73,7 +73,7 @@ impl Wiring {
     /// Whether the driver's own wire is low, or its address group on.
     #[inline(always)]
     pub(crate) fn is_low(&self, driver: Driver, wire: Wire) -> bool
-        ensures { result ≡ own_by self.now driver wire }
+        ensures { (version : VersionValue) (p : PlanValue) (h : List EdgeValue) → IsWiringOf version p h self.now → result ≡ drive h driver wire }
     {
         match driver {
             Driver::Controller => self.arbiter.is_low(wire),

@@ -1,13 +1,14 @@
 //! Which drivers wait for an edge of another.
-ghost use Rattle.std.specs.Prelude.{◌≡◌, ◌&&◌, ℕ, not, true, List, [], Some};
-ghost use Rattle.std.specs.Option.{option_map_or};
+ghost use Rattle.std.specs.Prelude.{◌≡◌, ◌&&◌, ℕ, true, List, [], Some};
 ghost use Rattle.vme_model.specs.declared.boards.Row.{Row as RowValue};
 ghost use Rattle.vme_model.specs.declared.signals.Driver.TheVariants.{Slot};
 ghost use Rattle.vme_model.specs.declared.signals.Edge.{Edge as EdgeValue};
 ghost use Rattle.vme_model.specs.declared.signals.Version.{Version as VersionValue};
 ghost use Rattle.vme_model.specs.Plan.{Plan as PlanValue};
+ghost use Rattle.vme_model.specs.Readings.{readings};
 ghost use Rattle.vme_wiring.specs.Boards.{parts_of, place};
-ghost use Rattle.vme_wiring.specs.Offered.{waits_for_bus, is_access_to};
+ghost use Rattle.vme_wiring.specs.Waits.{is_access_to, is_unserved, read_by, waits_for_bus};
+ghost use Rattle.vme_wiring.specs.declared.wirings.Wiring.{Wiring as WiringValue};
 
 use crate::boards::Board;
 use crate::places::{Placed, is_master_quiet};
@@ -26,14 +27,14 @@ fn is_access_to(slot: u8, shown: Option<Cycle>) -> bool
 
 /// Whether the board does not hold the bus, and its address group and strobes are off.
 fn waits_for_bus(board: &Board) -> bool
-    ensures { result ≡ waits_for_bus board.now }
+    ensures { (w : WiringValue) → result ≡ waits_for_bus (read_by w board.now) }
 {
     is_master_quiet(board)
 }
 
 /// Whether the board's interrupter, if it has one, requests and was not served.
 fn is_unserved(board: &Board) -> bool
-    ensures { (version : VersionValue) (p : PlanValue) (h : List EdgeValue) (r : RowValue) → board.now ≡ parts_of version p h r → result ≡ option_map_or (λ i. board.now.interrupter.irq && not board.now.interrupter.is_served) board.now.row.interrupter true }
+    ensures { (version : VersionValue) (p : PlanValue) (h : List EdgeValue) (r : RowValue) → board.now ≡ parts_of version p h r → (w : WiringValue) → result ≡ is_unserved (read_by w board.now) board.now.row }
 {
     match board.row.interrupter {
         Some(interrupter) => board.interrupter.is_pending(interrupter.level),
@@ -45,11 +46,12 @@ impl Wiring {
     ghost use Rattle.vme_wiring.specs.Wired.{IsWiringOf};
     ghost use Rattle.vme_wiring.specs.Boards.{is_quiet};
     ghost use Rattle.vme_wiring.specs.Quiet.{is_ungranted, is_unaddressed};
-    ghost use Rattle.vme_wiring.specs.Offered.{offered_on, offered_but_full, requester_wires, master_wires, interrupter_wires, waits_for_grant, waits_for_cycle};
+    ghost use Rattle.vme_wiring.specs.Offered.{offered_on, offered_but_full, requester_wires, master_wires, interrupter_wires};
+    ghost use Rattle.vme_wiring.specs.Waits.{is_waiting, waits_for_cycle, waits_for_grant};
 
     /// Whether the board's requester, if it has one, requests the bus, may not withdraw, and no grant has reached it.
     fn waits_for_grant(&self, board: &Board) -> bool
-        ensures { result ≡ waits_for_grant self.now board.now }
+        ensures { result ≡ waits_for_grant self.now.version (read_by self.now board.now) board.now.row }
     {
         match board.row.requester {
             Some(requester) => {
@@ -68,7 +70,7 @@ impl Wiring {
     /// Whether the board has nothing to answer: no access to it is shown, and no acknowledge has reached its
     /// interrupter, if it has one.
     fn waits_for_cycle(&self, board: &Board) -> bool
-        ensures { result ≡ waits_for_cycle self.now board.now }
+        ensures { result ≡ waits_for_cycle (read_by self.now board.now) board.now.row }
     {
         !board.is_low(Wire::Dtack)
             && !is_access_to(board.row.slot, self.shared.shown)
@@ -83,21 +85,24 @@ impl Wiring {
 
     /// Whether the requester of a slot's board has no edge to make. Where it answers false, there may be none either.
     pub(crate) fn is_requester_waiting(&self, board: &Board) -> bool
-        ensures { (version : VersionValue) (p : PlanValue) (h : List EdgeValue) (s : ℕ) → IsWiringOf version p h self.now → Some board.now ≡ place self.now.boards s → result ≡ true → offered_on version p h (Slot s) requester_wires ≡ [] }
+        ensures waits { (version : VersionValue) (p : PlanValue) (h : List EdgeValue) (s : ℕ) → IsWiringOf version p h self.now → Some board.now ≡ place self.now.boards s → result ≡ waits_for_grant version (readings p h (Slot s)) board.now.row }
+        ensures none { (version : VersionValue) (p : PlanValue) (h : List EdgeValue) (s : ℕ) → IsWiringOf version p h self.now → Some board.now ≡ place self.now.boards s → result ≡ true → offered_on version p h (Slot s) requester_wires ≡ [] }
     {
         self.waits_for_grant(board)
     }
 
     /// The same of its master.
     pub(crate) fn is_master_waiting(&self, board: &Board) -> bool
-        ensures { (version : VersionValue) (p : PlanValue) (h : List EdgeValue) (s : ℕ) → IsWiringOf version p h self.now → Some board.now ≡ place self.now.boards s → result ≡ true → offered_on version p h (Slot s) master_wires ≡ [] }
+        ensures waits { (version : VersionValue) (p : PlanValue) (h : List EdgeValue) (s : ℕ) → IsWiringOf version p h self.now → Some board.now ≡ place self.now.boards s → result ≡ waits_for_bus (readings p h (Slot s)) }
+        ensures none { (version : VersionValue) (p : PlanValue) (h : List EdgeValue) (s : ℕ) → IsWiringOf version p h self.now → Some board.now ≡ place self.now.boards s → result ≡ true → offered_on version p h (Slot s) master_wires ≡ [] }
     {
         waits_for_bus(board)
     }
 
     /// The same of its interrupter and its answers.
     pub(crate) fn is_interrupter_waiting(&self, board: &Board) -> bool
-        ensures { (version : VersionValue) (p : PlanValue) (h : List EdgeValue) (s : ℕ) → IsWiringOf version p h self.now → Some board.now ≡ place self.now.boards s → result ≡ true → offered_on version p h (Slot s) interrupter_wires ≡ [] }
+        ensures waits { (version : VersionValue) (p : PlanValue) (h : List EdgeValue) (s : ℕ) → IsWiringOf version p h self.now → Some board.now ≡ place self.now.boards s → result ≡ (waits_for_cycle (readings p h (Slot s)) board.now.row && is_unserved (readings p h (Slot s)) board.now.row) }
+        ensures none { (version : VersionValue) (p : PlanValue) (h : List EdgeValue) (s : ℕ) → IsWiringOf version p h self.now → Some board.now ≡ place self.now.boards s → result ≡ true → offered_on version p h (Slot s) interrupter_wires ≡ [] }
     {
         self.waits_for_cycle(board) && is_unserved(board)
     }
@@ -141,11 +146,13 @@ impl Wiring {
             && self.is_unaddressed(placed.board())
     }
 
-    /// Whether the driver waits: the rules allow none of the edges that are considered for it.
+    /// Whether the driver waits for an edge of another: each part of its board waits, the requester for a grant, the
+    /// master for the bus, and the rest for a cycle. The rules then allow none of the edges that are considered for it.
     ///
     /// It looks at a few fields alone. Where it answers false, `offers` may still be empty.
     pub fn is_waiting(&self, driver: Driver) -> bool
-        ensures { (version : VersionValue) (p : PlanValue) (h : List EdgeValue) → IsWiringOf version p h self.now → result ≡ true → offered_but_full version p h driver ≡ [] }
+        ensures waits { (version : VersionValue) (p : PlanValue) (h : List EdgeValue) → IsWiringOf version p h self.now → result ≡ is_waiting version p h driver }
+        ensures none { (version : VersionValue) (p : PlanValue) (h : List EdgeValue) → IsWiringOf version p h self.now → result ≡ true → offered_but_full version p h driver ≡ [] }
     {
         match driver {
             Driver::Controller => false,

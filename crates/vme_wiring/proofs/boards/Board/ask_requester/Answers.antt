@@ -1,5 +1,4 @@
-use Rattle.std.proofs.Common.{◌≡◌, ◌∙◌, refl, sym, ap, Bool}
-use Rattle.std.specs.Prelude.{Some}
+use Rattle.std.proofs.Common.{◌∙◌, refl, sym, ap, Bool}
 use Rattle.vme_model.specs.declared.signals.Wire.TheVariants.{Br, BgOut, Bbsy}
 use Rattle.vme_model.specs.Verdict.{ruling_on}
 use Rattle.vme_requester.specs.Local.{low, readings}

@@ -1,6 +1,12 @@
 use Rattle.std.proofs.Common.{◌∙◌, sym}
-use Rattle.vme_wiring.proofs.Waiting.{requester_waits}
+use Rattle.vme_wiring.proofs.Waiting.{reads_grant, requester_none, row_here}
 use Rattle.vme_wiring.proofs.wirings.Wiring.is_requester_waiting.Goals as goal
 
-pub returns : goal.returns
-returns c version p h s is here waits = requester_waits version p h c.args.self.now s c.args.board.now is here (sym c.waits_for_grant.ensures ∙ waits)
+pub returns-clause-waits : goal.returns-clause-waits
+returns-clause-waits c version p h s is here = c.waits_for_grant.ensures ∙ reads_grant version p h c.args.self.now s c.args.board.now is here
+
+pub returns-clause-none : goal.returns-clause-none
+returns-clause-none c version p h s is here waits =
+    let w = c.args.self.now in
+    let b = c.args.board.now in
+    requester_none version p h s b.row (row_here version p h w s b is here) (sym (c.waits_for_grant.ensures ∙ reads_grant version p h w s b is here) ∙ waits)

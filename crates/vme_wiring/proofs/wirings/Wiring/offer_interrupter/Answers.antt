@@ -8,7 +8,7 @@ use Rattle.vme_wiring.proofs.wirings.Wiring.offer_interrupter.Goals as goal
 pub returns-then-is_interrupter_waiting-clause-offered : goal.returns-then-is_interrupter_waiting-clause-offered
 returns-then-is_interrupter_waiting-clause-offered c version p h is =
     let s = c.args.slot in
-    none_more c.args.offers.now.items (offered_on version p h (Slot s) interrupter_wires) (c.is_interrupter_waiting.ensures version p h s is c.requires.placed c.if-is_interrupter_waiting.true)
+    none_more c.args.offers.now.items (offered_on version p h (Slot s) interrupter_wires) (c.is_interrupter_waiting.ensures.none version p h s is c.requires.placed c.if-is_interrupter_waiting.true)
 
 pub returns-clause-offered : goal.returns-clause-offered
 returns-clause-offered c version p h is =
