@@ -20,7 +20,7 @@ use Rattle.vme_model.specs.Rules.{bus_numbers, is_pick}
 use Rattle.vme_model.specs.Offers.{turned}
 use Rattle.vme_chain.specs.Segments.{input}
 use Rattle.vme_model.specs.Readings.{readings}
-use Rattle.vme_wiring.specs.Boards.{place, low_of, is_quiet, is_requester_quiet, is_master_quiet}
+use Rattle.vme_wiring.specs.Boards.{place, low_of, is_quiet, is_master_quiet}
 use Rattle.vme_wiring.specs.Chained.{chain_at}
 use Rattle.vme_arbiter.specs.Local.{low}
 use Rattle.vme_wiring.specs.Offered.{is_open}

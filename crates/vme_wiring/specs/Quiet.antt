@@ -8,7 +8,6 @@ use Rattle.vme_model.specs.Plan.{grant_chain}
 use Rattle.vme_model.specs.Rules.{bus_numbers}
 use Rattle.vme_arbiter.specs.Local.{low}
 use Rattle.vme_chain.specs.Segments.{input}
-use Rattle.vme_wiring.specs.Boards.{is_quiet}
 use Rattle.vme_wiring.specs.Chained.{chain_at}
 use Rattle.vme_wiring.specs.Waits.{is_access_to}
 use Rattle.vme_wiring.specs.declared.boards.Board.{Board}
