@@ -11,7 +11,7 @@ use Rattle.vme_model.specs.History.{drive}
 use Rattle.vme_model.specs.Readings.{readings}
 use Rattle.vme_model.specs.Rules.{rule}
 use Rattle.vme_model.specs.Settling.{settling}
-use Rattle.vme_model.specs.Verdict.{State, Judgement, check, is_other_state, settled, verdict, verdict_but_full}
+use Rattle.vme_model.specs.Verdict.{State, check, is_other_state, settled, verdict, verdict_but_full}
 use Rattle.vme_model.specs.Offers.{offered, considered, wires}
 use Rattle.std.specs.List.{flat_map}
 
