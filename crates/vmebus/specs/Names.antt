@@ -1,5 +1,11 @@
 -- Which names a fault may tell.
-use Rattle.std.specs.Prelude.{◌≡◌, ◌⊎◌, ℕ, List, codes}
+use Rattle.std.specs.Prelude.{◌≡◌, ◌⊎◌, ℕ, List, codes, Result, Ok, Err}
+use Rattle.std.specs.Borrow.{Bor}
+use Rattle.vme_engines.specs.declared.Status.{Status}
+use Rattle.vme_engines.specs.declared.EngineFault.{EngineFault}
+use Rattle.vme_engines.specs.declared.EngineFault.TheVariants as fault
+use Rattle.vme_run.specs.declared.RunFault.{RunFault}
+use Rattle.vme_run.specs.declared.RunFault.TheVariants as run
 use Rattle.vme_words.specs.declared.Job.{Job}
 use Rattle.vme_words.specs.declared.Job.TheVariants.{Joined, Replay, Check, Drive, Run}
 use Rattle.vmebus.specs.declared.faults.ProgramFault.{ProgramFault}
@@ -27,6 +33,25 @@ NamesOnly name (CannotRead other) = other.now ≡ name
 NamesOnly name (TooLong other) = other.now ≡ name
 NamesOnly name (Engine fault) = Unit {0}
 NamesOnly name (Boards fault) = Unit {0}
+
+-- an engine's fault, where the scenario has this name
+abbrev pub told_fault : Bor (List ℕ) → EngineFault → ProgramFault
+told_fault name fault.CannotRead = CannotRead name
+told_fault name fault.TooLong = TooLong name
+told_fault name (fault.Scenario e) = Engine (fault.Scenario e)
+told_fault name (fault.Trace f) = Engine (fault.Trace f)
+told_fault name fault.NoMemory = Engine fault.NoMemory
+
+abbrev pub told_answer : Bor (List ℕ) → Result Status EngineFault → Result Status ProgramFault
+told_answer name (Ok status) = Ok status
+told_answer name (Err f) = Err (told_fault name f)
+
+abbrev pub told_run_answer : Bor (List ℕ) → Result Status RunFault → Result Status ProgramFault
+told_run_answer name (Ok status) = Ok status
+told_run_answer name (Err (run.Engine f)) = Err (told_fault name f)
+told_run_answer name (Err run.NotStarted) = Err (Boards run.NotStarted)
+told_run_answer name (Err (run.LogDiffers driver at)) = Err (Boards (run.LogDiffers driver at))
+told_run_answer name (Err (run.NotReplayed at)) = Err (Boards (run.NotReplayed at))
 
 -- a fault of a job: what cannot be read is one of its files, and what is too long is its scenario
 abbrev pub IsFaultOf : Job → ProgramFault → Type 0

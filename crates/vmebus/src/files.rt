@@ -1,6 +1,7 @@
 //! What a run reads and writes.
 ghost use Rattle.std.specs.Prelude.{◌≡◌, ◌<◌, ◌≤◌, ◌⊎◌, IfOk, IfErr, IfSome, [], length};
 ghost use Rattle.std.specs.Io.Buffered.{reader_inner, reader_buffer, reader_capacity, writer_buffer, writer_capacity};
+ghost use Rattle.vme_engines.specs.Outcomes.{scenario_limit};
 
 use crate::faults::ProgramFault;
 use std::alloc::Global;
@@ -27,9 +28,9 @@ fn scenario_text<'a, R: Read + Drop>(
     input: R,
 ) -> Result<Vec<u8>, ProgramFault<'a>>
     ensures whole { IfOk result (λ text. IfSome (R.remaining input) (λ bytes. text.items ≡ bytes)) }
-    ensures short { IfOk result (λ text. length text.items ≤ 1048576) }
+    ensures short { IfOk result (λ text. length text.items ≤ scenario_limit) }
     ensures fault { IfErr result (λ fault. (fault ≡ ProgramFault.CannotRead name.entry) ⊎ (fault ≡ ProgramFault.Engine EngineFault.NoMemory)
-        ⊎ ((fault ≡ ProgramFault.TooLong name.entry) × IfSome (R.remaining input) (λ bytes. 1048576 < length bytes))) }
+        ⊎ ((fault ≡ ProgramFault.TooLong name.entry) × IfSome (R.remaining input) (λ bytes. scenario_limit < length bytes))) }
 {
     let mut text = Vec::new(alloc);
     match input.take(SCENARIO_LIMIT as u64 + 1).read_to_end(&mut text) {
@@ -41,7 +42,7 @@ fn scenario_text<'a, R: Read + Drop>(
 
 /// The text of the scenario in the file of this name. Errors: F1, F2 and F3.
 pub fn read_scenario<'a>(rt: &HostRuntime, name: &'a str) -> Result<Vec<u8>, ProgramFault<'a>>
-    ensures short { IfOk result (λ text. length text.items ≤ 1048576) }
+    ensures short { IfOk result (λ text. length text.items ≤ scenario_limit) }
     ensures fault { IfErr result (λ fault. (fault ≡ ProgramFault.CannotRead name.entry) ⊎ (fault ≡ ProgramFault.TooLong name.entry) ⊎ (fault ≡ ProgramFault.Engine EngineFault.NoMemory)) }
 {
     scenario_text(rt.alloc(), name, open(rt, name)?)

@@ -1,117 +1,145 @@
 //! Each job's engine, on the files that the words name.
 ghost use Rattle.std.specs.Prelude.{◌≡◌, ◌≤◌, IfErr};
 ghost use Rattle.std.specs.Process.{exit_status};
-ghost use Rattle.vme_words.specs.Limits.{IsWithin};
-ghost use Rattle.vmebus.specs.Names.{IsFaultOf};
+ghost use Rattle.vme_model.specs.Report.{trace_limit};
+ghost use Rattle.vme_words.specs.Limits.{IsWithin, most_turns};
+ghost use Rattle.vmebus.specs.Done.{IsDone};
+ghost use Rattle.vmebus.specs.Names.{IsFaultOf, told_answer, told_run_answer};
 ghost use Rattle.vmebus.specs.Statuses.{exit_code};
 
 use crate::faults::ProgramFault;
-use crate::files::{buffered, open, output, read_scenario};
+use crate::files::{buffered, open, read_scenario};
+use std::io::Write;
 use std::process::ExitCode;
 use std::sync::Wait;
 use std::thread::Threads;
-use vme_engines::{Status, check, drive, joined, replay};
+use vme_engines::{EngineFault, Status, check, drive, joined, replay};
 use vme_model::Version;
-use vme_run::run as run_boards;
+use vme_run::{RunFault, run as run_boards};
 use vme_words::Job;
 
+/// An engine's answer, where the scenario has this name.
+fn told<'a>(name: &'a str, answer: Result<Status, EngineFault>) -> Result<Status, ProgramFault<'a>>
+    ensures { result ≡ told_answer name.entry answer }
+{
+    match answer {
+        Ok(status) => Ok(status),
+        Err(fault) => Err(ProgramFault::of_engine(name, fault)),
+    }
+}
+
+/// A run's answer, where the scenario has this name.
+fn told_run<'a>(name: &'a str, answer: Result<Status, RunFault>) -> Result<Status, ProgramFault<'a>>
+    ensures { result ≡ told_run_answer name.entry answer }
+{
+    match answer {
+        Ok(status) => Ok(status),
+        Err(RunFault::Engine(fault)) => Err(ProgramFault::of_engine(name, fault)),
+        Err(fault) => Err(ProgramFault::Boards(fault)),
+    }
+}
+
 /// Replays what stands on standard input.
-fn run_joined(rt: &HostRuntime) -> Result<Status, ProgramFault<'static>>
-    ensures { IfErr result (IsFaultOf Job.Joined) }
+fn run_joined<W: Write>(rt: &HostRuntime, out: &mut W) -> Result<Status, ProgramFault<'static>>
+    ensures fault { IfErr result (IsFaultOf Job.Joined) }
+    ensures done { IsDone Job.Joined (W.contents out.old) (W.contents out.new) result }
 {
     let mut input = buffered(rt, rt.stdin())?;
-    let mut out = output(rt)?;
-    let answer = joined(rt.alloc(), &mut input, &mut out);
-    answer.map_err(|fault| ProgramFault::of_engine("-", fault))
+    told("-", joined(rt.alloc(), &mut input, out))
 }
 
 /// Replays a trace.
-fn run_replay<'a>(
+fn run_replay<'a, W: Write>(
     rt: &HostRuntime,
     scenario: &'a str,
     trace: &'a str,
+    out: &mut W,
 ) -> Result<Status, ProgramFault<'a>>
-    ensures { IfErr result (IsFaultOf (Job.Replay scenario.entry trace.entry)) }
+    ensures fault { IfErr result (IsFaultOf (Job.Replay scenario.entry trace.entry)) }
+    ensures done { IsDone (Job.Replay scenario.entry trace.entry) (W.contents out.old) (W.contents out.new) result }
 {
     let text = read_scenario(rt, scenario)?;
     let mut input = buffered(rt, open(rt, trace)?)?;
-    let mut out = output(rt)?;
-    let answer = replay(rt.alloc(), &text, &mut input, &mut out);
-    answer.map_err(|fault| ProgramFault::of_engine(scenario, fault))
+    told(scenario, replay(rt.alloc(), &text, &mut input, out))
 }
 
 /// Checks a trace.
-fn run_check<'a>(
+fn run_check<'a, W: Write>(
     rt: &HostRuntime,
     scenario: &'a str,
     trace: &'a str,
+    out: &mut W,
 ) -> Result<Status, ProgramFault<'a>>
-    ensures { IfErr result (IsFaultOf (Job.Check scenario.entry trace.entry)) }
+    ensures fault { IfErr result (IsFaultOf (Job.Check scenario.entry trace.entry)) }
+    ensures done { IsDone (Job.Check scenario.entry trace.entry) (W.contents out.old) (W.contents out.new) result }
 {
     let text = read_scenario(rt, scenario)?;
     let mut input = buffered(rt, open(rt, trace)?)?;
-    let mut out = output(rt)?;
-    let answer = check(rt.alloc(), &text, &mut input, &mut out);
-    answer.map_err(|fault| ProgramFault::of_engine(scenario, fault))
+    told(scenario, check(rt.alloc(), &text, &mut input, out))
 }
 
 /// Lets the drivers of a scenario make edges in turn.
-fn run_drive<'a>(
+fn run_drive<'a, W: Write>(
     rt: &HostRuntime,
     scenario: &'a str,
     edges: u32,
     version: Version,
+    out: &mut W,
 ) -> Result<Status, ProgramFault<'a>>
-    ensures { IfErr result (IsFaultOf (Job.Drive scenario.entry edges version)) }
+    ensures fault { IfErr result (IsFaultOf (Job.Drive scenario.entry edges version)) }
+    ensures done { IsDone (Job.Drive scenario.entry edges version) (W.contents out.old) (W.contents out.new) result }
 {
     let text = read_scenario(rt, scenario)?;
-    let mut out = output(rt)?;
-    let answer = drive(rt.alloc(), &text, edges, &mut out, version);
-    answer.map_err(|fault| ProgramFault::of_engine(scenario, fault))
+    told(scenario, drive(rt.alloc(), &text, edges, out, version))
 }
 
 /// Lets each driver of a scenario make edges in a thread of its own. May wait.
-fn run_run<'a, R: Threads + Wait + Sync>(
+fn run_run<'a, R: Threads + Wait + Sync, W: Write>(
     rt: &HostRuntime,
     threads: &R,
     scenario: &'a str,
     edges: u32,
     turns: u32,
     version: Version,
+    out: &mut W,
 ) -> Result<Status, ProgramFault<'a>>
-    requires { (edges ≤ 1048576) × (turns ≤ 1000000) }
-    ensures { IfErr result (IsFaultOf (Job.Run scenario.entry edges turns version)) }
+    requires { (edges ≤ trace_limit) × (turns ≤ most_turns) }
+    ensures fault { IfErr result (IsFaultOf (Job.Run scenario.entry edges turns version)) }
+    ensures done { IsDone (Job.Run scenario.entry edges turns version) (W.contents out.old) (W.contents out.new) result }
 {
     let text = read_scenario(rt, scenario)?;
-    let mut out = output(rt)?;
-    let answer = run_boards(threads, rt.alloc(), &text, edges, turns, &mut out, version);
-    answer.map_err(|fault| ProgramFault::of_run(scenario, fault))
+    told_run(
+        scenario,
+        run_boards(threads, rt.alloc(), &text, edges, turns, out, version),
+    )
 }
 
 /// Does a job, with threads from that handle. Errors: those of its files, and then those of its engine.
-pub fn run<'a, R: Threads + Wait + Sync>(
+pub fn run<'a, R: Threads + Wait + Sync, W: Write>(
     rt: &HostRuntime,
     threads: &R,
     job: Job<'a>,
+    out: &mut W,
 ) -> Result<Status, ProgramFault<'a>>
     requires { IsWithin job }
-    ensures { IfErr result (IsFaultOf job.entry) }
+    ensures fault { IfErr result (IsFaultOf job.entry) }
+    ensures done { IsDone job.entry (W.contents out.old) (W.contents out.new) result }
 {
     match job {
-        Job::Joined => run_joined(rt),
-        Job::Replay { scenario, trace } => run_replay(rt, scenario, trace),
-        Job::Check { scenario, trace } => run_check(rt, scenario, trace),
+        Job::Joined => run_joined(rt, out),
+        Job::Replay { scenario, trace } => run_replay(rt, scenario, trace, out),
+        Job::Check { scenario, trace } => run_check(rt, scenario, trace, out),
         Job::Drive {
             scenario,
             edges,
             version,
-        } => run_drive(rt, scenario, edges, version),
+        } => run_drive(rt, scenario, edges, version, out),
         Job::Run {
             scenario,
             edges,
             turns,
             version,
-        } => run_run(rt, threads, scenario, edges, turns, version),
+        } => run_run(rt, threads, scenario, edges, turns, version, out),
     }
 }
 

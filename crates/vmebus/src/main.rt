@@ -4,14 +4,17 @@
 //! was refused. 3: the limit of edges was reached.
 #![tactic(auto)]
 
-ghost use Rattle.std.specs.Prelude.{◌≡◌};
+ghost use Rattle.std.specs.Prelude.{◌≡◌, map};
 ghost use Rattle.std.specs.Process.{exit_status};
+ghost use Rattle.vmebus.specs.Done.{IsObeyed};
 
 mod faults;
 mod files;
 mod jobs;
 
+use files::output;
 use jobs::{code_of, run};
+use std::io::Write;
 use std::process::ExitCode;
 use std::sync::Wait;
 use std::thread::Threads;
@@ -28,9 +31,16 @@ fn tell<D: fmt::Display + Drop>(rt: &HostRuntime, fault: D) -> ExitCode
 }
 
 /// Does what the words behind the program's name ask for.
-fn obey<R: Threads + Wait + Sync>(rt: &HostRuntime, threads: &R, given: &[&str]) -> ExitCode {
+fn obey<R: Threads + Wait + Sync, W: Write>(
+    rt: &HostRuntime,
+    threads: &R,
+    given: &[&str],
+    out: &mut W,
+) -> ExitCode
+    ensures { IsObeyed (map (λ word. word.now) given.now) (W.contents out.old) (W.contents out.new) (exit_status result) }
+{
     match words(rt.alloc(), given) {
-        Ok(job) => match run(rt, threads, job) {
+        Ok(job) => match run(rt, threads, job, out) {
             Ok(status) => code_of(status),
             Err(fault) => tell(rt, fault),
         },
@@ -46,7 +56,10 @@ fn start<R: Threads + Wait + Sync>(rt: &HostRuntime, threads: &R) -> io::Result<
     let alloc = rt.alloc();
     let all: Vec<String> = env::args(rt)?.skip(1).collect(alloc)?;
     let given: Vec<&str> = all.iter().map(String::as_str).collect(alloc)?;
-    Ok(obey(rt, threads, &given))
+    match output(rt) {
+        Ok(mut out) => Ok(obey(rt, threads, &given, &mut out)),
+        Err(fault) => Ok(tell(rt, fault)),
+    }
 }
 
 fn main(rt: HostRuntime) -> ExitCode {

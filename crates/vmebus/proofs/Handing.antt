@@ -1,0 +1,88 @@
+-- The answer of an engine, as a job hands it on.
+use Rattle.std.proofs.Common.{◌≡◌, ◌⊎◌, inl, inr, ℕ, List, Result, Ok, Err, refl, sym, subst}
+use Rattle.std.specs.Io.KnownBytes.{Keeps}
+use Rattle.std.specs.Borrow.{Bor}
+use Rattle.std.proofs.KnownBytes.{Keeps-refl}
+use Rattle.vme_model.specs.declared.signals.Version.{Version}
+use Rattle.vme_engines.specs.declared.Status.{Status}
+use Rattle.vme_engines.specs.declared.EngineFault.TheVariants as fault
+use Rattle.vme_engines.specs.Streams.{ReadNothing, WroteNothing, streams}
+use Rattle.vme_engines.specs.Outcomes.{Answer, Lent, ReplaysInput}
+use Rattle.vme_engines.specs.Checking.{ChecksInput}
+use Rattle.vme_engines.specs.Driving.{Drives}
+use Rattle.vme_engines.specs.Joining.{Joins}
+use Rattle.vme_run.specs.declared.RunFault.{RunFault}
+use Rattle.vme_run.specs.declared.RunFault.TheVariants as run
+use Rattle.vme_run.specs.Running.{Runs}
+use Rattle.vme_words.specs.declared.Job.{Job}
+use Rattle.vme_words.specs.declared.Job.TheVariants.{Joined, Replay, Check, Drive, Run}
+use Rattle.vmebus.specs.declared.faults.ProgramFault.{ProgramFault}
+use Rattle.vmebus.specs.declared.faults.ProgramFault.TheVariants.{CannotRead, TooLong, Engine}
+use Rattle.vmebus.specs.Done.{Alone, Hands, IsDone, Known}
+use Rattle.vmebus.specs.Names.{told_answer, told_run_answer}
+
+handed : (Does : Answer → Type 0) (nothing : Type 0) (name : Bor (List ℕ)) (answer : Answer) → Does answer
+    → (Does (Err fault.CannotRead) → nothing) → (Does (Err fault.TooLong) → nothing) → Hands (Alone Does) nothing (told_answer name answer)
+handed Does nothing name (Ok status) does unread long = does
+handed Does nothing name (Err fault.CannotRead) does unread long = unread does
+handed Does nothing name (Err fault.TooLong) does unread long = long does
+handed Does nothing name (Err (fault.Scenario e)) does unread long = inl does
+handed Does nothing name (Err (fault.Trace f)) does unread long = inl does
+handed Does nothing name (Err fault.NoMemory) does unread long = inl does
+
+pub joined_done : (name : Bor (List ℕ)) (from to old new : Known) (answer : Answer) → Joins (streams from to old new) answer
+    → IsDone Joined old new (told_answer name answer)
+joined_done name from to old new answer does =
+    handed (λ a. (x : Known) × (y : Known) × Joins (streams x y old new) a) (Keeps old new) name answer (from, to, does)
+    (λ h. elim h.2 [ inl found ↦ absurd found.4 | inr none ↦ none.2 ])
+    (λ h. elim h.2 [ inl found ↦ found.4.1 | inr none ↦ absurd none.3 ])
+
+pub replay_done : (scenario trace : Bor (List ℕ)) (text : List ℕ) (from to old new : Known) (answer : Answer)
+    → Lent text (ReadNothing (streams from to old new) × WroteNothing (streams from to old new)) (ReplaysInput (streams from to old new)) answer
+    → IsDone (Replay scenario trace) old new (told_answer scenario answer)
+replay_done scenario trace text from to old new answer does =
+    handed (λ a. (t : List ℕ) × (x : Known) × (y : Known)
+    × Lent t (ReadNothing (streams x y old new) × WroteNothing (streams x y old new)) (ReplaysInput (streams x y old new)) a)
+    (Keeps old new) scenario answer (text, from, to, does) (λ h. absurd h.3) (λ h. h.3.1.1)
+
+pub check_done : (scenario trace : Bor (List ℕ)) (text : List ℕ) (from to old new : Known) (answer : Answer)
+    → Lent text (ReadNothing (streams from to old new) × WroteNothing (streams from to old new)) (ChecksInput (streams from to old new)) answer
+    → IsDone (Check scenario trace) old new (told_answer scenario answer)
+check_done scenario trace text from to old new answer does =
+    handed (λ a. (t : List ℕ) × (x : Known) × (y : Known)
+    × Lent t (ReadNothing (streams x y old new) × WroteNothing (streams x y old new)) (ChecksInput (streams x y old new)) a)
+    (Keeps old new) scenario answer (text, from, to, does) (λ h. absurd h.3) (λ h. h.3.1.1)
+
+pub drive_done : (scenario : Bor (List ℕ)) (text : List ℕ) (edges : ℕ) (version : Version) (old new : Known) (answer : Answer)
+    → Lent text (Keeps old new) (Drives version edges old new) answer → IsDone (Drive scenario edges version) old new (told_answer scenario answer)
+drive_done scenario text edges version old new answer does =
+    handed (λ a. (t : List ℕ) × Lent t (Keeps old new) (Drives version edges old new) a)
+    (Keeps old new) scenario answer (text, does) (λ h. absurd h.1) (λ h. h.1.1)
+
+-- a file that cannot be read, or a scenario that is too long, or no memory, before an engine begins
+pub unread : (job : Job) (name : Bor (List ℕ)) (held : Known) (f : ProgramFault)
+    → (f ≡ CannotRead name) ⊎ (f ≡ TooLong name) ⊎ (f ≡ Engine fault.NoMemory) → IsDone job held held (Err f)
+unread job name held f why = elim why [
+  | inl is ↦ subst (λ (g : ProgramFault). IsDone job held held (Err g)) (sym is) (Keeps-refl held)
+  | inr (inl is) ↦ subst (λ (g : ProgramFault). IsDone job held held (Err g)) (sym is) (Keeps-refl held)
+  | inr (inr is) ↦ subst (λ (g : ProgramFault). IsDone job held held (Err g)) (sym is) (inr (refl, Keeps-refl held))
+]
+
+pub unopened : (job : Job) (name : Bor (List ℕ)) (held : Known) (f : ProgramFault)
+    → (f ≡ CannotRead name) ⊎ (f ≡ Engine fault.NoMemory) → IsDone job held held (Err f)
+unopened job name held f why = unread job name held f (elim why [ inl is ↦ inl is | inr is ↦ inr (inr is) ])
+
+pub unbuffered : (job : Job) (held : Known) (f : ProgramFault) → f ≡ Engine fault.NoMemory → IsDone job held held (Err f)
+unbuffered job held f is = subst (λ (g : ProgramFault). IsDone job held held (Err g)) (sym is) (inr (refl, Keeps-refl held))
+
+pub run_done : (scenario : Bor (List ℕ)) (text : List ℕ) (edges turns : ℕ) (version : Version) (old new : Known) (answer : Result Status RunFault)
+    → Runs text version edges old new answer → IsDone (Run scenario edges turns version) old new (told_run_answer scenario answer)
+run_done scenario text edges turns version old new (Ok status) does = (text, does)
+run_done scenario text edges turns version old new (Err (run.Engine fault.CannotRead)) does = absurd does
+run_done scenario text edges turns version old new (Err (run.Engine fault.TooLong)) does = does.1
+run_done scenario text edges turns version old new (Err (run.Engine (fault.Scenario e))) does = inl (text, does)
+run_done scenario text edges turns version old new (Err (run.Engine (fault.Trace f))) does = inl (text, does)
+run_done scenario text edges turns version old new (Err (run.Engine fault.NoMemory)) does = inl (text, does)
+run_done scenario text edges turns version old new (Err run.NotStarted) does = (text, does)
+run_done scenario text edges turns version old new (Err (run.LogDiffers driver at)) does = (text, does)
+run_done scenario text edges turns version old new (Err (run.NotReplayed at)) does = absurd does

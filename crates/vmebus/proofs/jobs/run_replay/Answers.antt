@@ -1,0 +1,6 @@
+use Rattle.vmebus.proofs.Handing.{replay_done}
+use Rattle.vmebus.proofs.jobs.run_replay.Goals as goal
+
+pub returns-clause-done : goal.returns-clause-done
+returns-clause-done g c =
+    rw c.told.ensures (replay_done c.args.scenario c.args.trace _ _ _ (g.W.Write.contents c.args.out.now) (g.W.Write.contents c.replay.new.out) c.replay.result c.replay.ensures)
