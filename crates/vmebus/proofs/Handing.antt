@@ -76,7 +76,7 @@ pub unbuffered : (job : Job) (held : Known) (f : ProgramFault) → f ≡ Engine 
 unbuffered job held f is = subst (λ (g : ProgramFault). IsDone job held held (Err g)) (sym is) (inr (refl, Keeps-refl held))
 
 pub run_done : (scenario : Bor (List ℕ)) (text : List ℕ) (edges turns : ℕ) (version : Version) (old new : Known) (answer : Result Status RunFault)
-    → Runs text version edges old new answer → IsDone (Run scenario edges turns version) old new (told_run_answer scenario answer)
+    → Runs text version edges turns old new answer → IsDone (Run scenario edges turns version) old new (told_run_answer scenario answer)
 run_done scenario text edges turns version old new (Ok status) does = (text, does)
 run_done scenario text edges turns version old new (Err (run.Engine fault.CannotRead)) does = absurd does
 run_done scenario text edges turns version old new (Err (run.Engine fault.TooLong)) does = does.1

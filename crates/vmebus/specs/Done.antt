@@ -37,7 +37,7 @@ Does (Check scenario trace) old new = Alone (λ answer. (text : List ℕ) × (fr
     × Lent text (ReadNothing (streams from to old new) × WroteNothing (streams from to old new)) (ChecksInput (streams from to old new)) answer)
 Does (Drive scenario edges version) old new =
     Alone (λ answer. (text : List ℕ) × Lent text (Keeps old new) (Drives version edges old new) answer)
-Does (Run scenario edges turns version) old new = λ answer. (text : List ℕ) × Runs text version edges old new answer
+Does (Run scenario edges turns version) old new = λ answer. (text : List ℕ) × Runs text version edges turns old new answer
 
 -- The answer is an engine's; or a file could not be read, or there was no memory for what the engine is handed, and nothing
 -- was written.
