@@ -69,6 +69,7 @@ impl Board {
     }
 
     /// Takes in an edge of the board that was made while that was shown.
+    #[inline(always)]
     pub fn note(&mut self, edge: Edge, shown: Option<Cycle>)
         ensures { (version : VersionValue) (p : Plan) (h : List EdgeValue) (r : RowValue) → self.old ≡ parts_of version p h r → shown ≡ shown_after p h → self.new ≡ parts_of version p (edge ∷ h) r }
     {

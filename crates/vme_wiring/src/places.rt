@@ -14,6 +14,7 @@ use std::marker::Model;
 use vme_model::{Cycle, Edge, Row, Version, Wire};
 
 /// Whether the board's requester, if it has one, requests the bus, and has nothing to undo.
+#[inline(always)]
 fn is_requester_quiet(board: &Board) -> bool
     ensures { result ≡ is_requester_quiet board.now }
 {
@@ -26,6 +27,7 @@ fn is_requester_quiet(board: &Board) -> bool
 }
 
 /// Whether the board does not hold the bus, and its address group and strobes are off.
+#[inline(always)]
 pub fn is_master_quiet(board: &Board) -> bool
     ensures { result ≡ is_master_quiet board.now }
 {
@@ -36,6 +38,7 @@ pub fn is_master_quiet(board: &Board) -> bool
 }
 
 /// Whether the board's interrupter, if it has one, passes no acknowledge on.
+#[inline(always)]
 fn is_interrupter_quiet(board: &Board) -> bool
     ensures { result ≡ option_map_or (λ i. not (low_of board.now WireValue.IackOut)) board.now.row.interrupter true }
 {
@@ -46,6 +49,7 @@ fn is_interrupter_quiet(board: &Board) -> bool
 }
 
 /// Whether none of the board's own wires keeps it from waiting.
+#[inline(always)]
 fn is_quiet(board: &Board) -> bool
     ensures { result ≡ is_quiet board.now }
 {
@@ -108,6 +112,7 @@ impl Placed {
     }
 
     /// Takes in an edge of the board that was made while that was shown.
+    #[inline(always)]
     pub fn note(&mut self, edge: Edge, shown: Option<Cycle>)
         ensures { (version : VersionValue) (p : Plan) (h : List EdgeValue) (r : RowValue) → self.old ≡ parts_of version p h r → shown ≡ shown_after p h → self.new ≡ parts_of version p (edge ∷ h) r }
     {
