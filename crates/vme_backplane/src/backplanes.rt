@@ -215,6 +215,7 @@ impl<'r> Backplane<'r> {
     /// The offer that the driver makes in a round, if it has any: of k offers the one at place `round mod k`.
     ///
     /// It tries no edge of a driver that waits for another's, as most do.
+    #[inline(always)]
     pub fn offer(&self, driver: Driver, round: u32) -> Option<Edge>
         ensures { result ≡ slice_get (offered self.now driver) (round % length (offered self.now driver)) }
     {

@@ -220,6 +220,7 @@ impl Interrupter {
 
     /// Takes in an edge that was made, with what was shown just before it; one of another driver or wire changes
     /// nothing.
+    #[inline(always)]
     pub fn note(&mut self, edge: Edge, shown: Option<Cycle>)
         ensures { (s : ℕ) (row : OptionValue RowValue) (noted : List Noted) → self.old ≡ state_of s row noted → self.new ≡ state_of s row ((edge, shown) ∷ noted) }
     {

@@ -197,6 +197,7 @@ impl Master {
     /// Takes in an edge that was made: its own, or its board's `bbsy-`, which begins a tenure. Any other changes
     /// nothing.
     #[tactic(auto, using(crate::proofs::Counts::one_more))]
+    #[inline(always)]
     pub fn note(&mut self, edge: Edge)
         ensures { (s : ℕ) (row : RowValue) (handler : LevelsValue) (noted : List EdgeValue) → self.old ≡ state_of s row handler noted → self.new ≡ state_of s row handler (edge ∷ noted) }
     {

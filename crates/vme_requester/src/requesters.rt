@@ -173,6 +173,7 @@ impl Requester {
     }
 
     /// Takes in an edge that was made; one of another driver or wire changes nothing.
+    #[inline(always)]
     pub fn note(&mut self, edge: Edge)
         ensures { (s : ℕ) (row : RowValue) (version : VersionValue) (noted : List EdgeValue) → self.old ≡ state_of s row version noted → self.new ≡ state_of s row version (edge ∷ noted) }
     {

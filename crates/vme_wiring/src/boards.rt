@@ -30,6 +30,7 @@ pub struct Board {
 }
 
 /// The requester takes in an edge, if there is one.
+#[inline(always)]
 fn note_requester(requester: &mut Option<Requester>, edge: Edge)
     ensures { (s : ℕ) (row : OptionValue RequesterValue) (version : VersionValue) (h : List EdgeValue) → requester.old ≡ option_map (λ q. requester_of s q version h) row → requester.new ≡ option_map (λ q. requester_of s q version (edge ∷ h)) row }
 {
@@ -40,6 +41,7 @@ fn note_requester(requester: &mut Option<Requester>, edge: Edge)
 }
 
 /// The master takes in an edge, if there is one.
+#[inline(always)]
 fn note_master(master: &mut Option<Master>, edge: Edge)
     ensures { (s : ℕ) (row : OptionValue RequesterValue) (handler : LevelsValue) (h : List EdgeValue) → master.old ≡ option_map (λ q. master_of s q handler h) row → master.new ≡ option_map (λ q. master_of s q handler (edge ∷ h)) row }
 {

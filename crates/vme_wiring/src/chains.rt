@@ -135,6 +135,7 @@ impl Chains {
     }
 
     /// A segment moves.
+    #[inline(always)]
     fn drive(&mut self, chain: ChainId, segment: u8, fall: bool)
         requires other { slice_get (chain_at chain self.old).low segment ≡ Some (not fall) }
         ensures { self.new ≡ with_segment chain segment fall self.old }
@@ -147,6 +148,7 @@ impl Chains {
     }
 
     /// The board passes its grant on, or takes it back.
+    #[inline(always)]
     pub fn pass_grant(&mut self, row: &Row, fall: bool)
         requires other { CanMove row.now Wire.BgOut fall self.old }
         ensures { self.new ≡ after_board row.now Wire.BgOut fall self.old }
@@ -166,6 +168,7 @@ impl Chains {
     }
 
     /// Takes in an edge of the controller's wire.
+    #[inline(always)]
     pub fn note_head(&mut self, edge: Edge)
         requires other { CanMoveHead edge.wire edge.fall self.old }
         ensures { self.new ≡ after_controller edge.wire edge.fall self.old }
@@ -179,6 +182,7 @@ impl Chains {
 }
 
 /// The chains take in an edge of the board's wire.
+#[inline(always)]
 pub fn note_segment(chains: &mut Chains, row: &Row, edge: Edge)
     requires other { CanMove row.now edge.wire edge.fall chains.old }
     ensures { chains.new ≡ after_board row.now edge.wire edge.fall chains.old }

@@ -115,6 +115,7 @@ impl Lines {
 }
 
 /// Takes in an edge of the board's wire: the lines, and what all drivers see alike of them.
+#[inline(always)]
 pub fn note_line(lines: &mut Lines, shared: &mut Pins, row: &Row, edge: Edge)
     requires request_level { request_level row.now < 4 }
     requires interrupt_level { interrupt_level row.now < 8 }
@@ -154,6 +155,7 @@ pub fn note_line(lines: &mut Lines, shared: &mut Pins, row: &Row, edge: Edge)
 }
 
 /// What all drivers see alike takes in an edge of the controller's wire.
+#[inline(always)]
 pub fn note_controllers(shared: &mut Pins, edge: Edge)
     ensures { shared.new ≡ shared_after_controller shared.old edge.wire edge.fall }
 {
@@ -165,6 +167,7 @@ pub fn note_controllers(shared: &mut Pins, edge: Edge)
 }
 
 /// The slot whose address group is on takes in an edge of the slot's.
+#[inline(always)]
 pub fn note_address(addressing: &mut Option<u8>, slot: u8, edge: Edge)
     ensures { addressing.new ≡ addressing_after addressing.old slot edge.wire edge.fall }
 {

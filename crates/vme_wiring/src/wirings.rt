@@ -123,6 +123,7 @@ impl Wiring {
     }
 
     /// Takes in an edge that the rules allow after a history that the wiring is of.
+    #[inline(always)]
     pub fn note(&mut self, edge: Edge)
         requires allowed { CanTake self.old edge }
         ensures { (version : VersionValue) (p : PlanValue) (h : List EdgeValue) → IsWiringOf version p h self.old → verdict_but_full version p h edge ≡ Ok tt → IsWiringOf version p (edge ∷ h) self.new }
@@ -134,6 +135,7 @@ impl Wiring {
     }
 
     /// Takes in an edge of the controller.
+    #[inline(always)]
     fn note_controller(&mut self, edge: Edge)
         requires head { CanMoveHead edge.wire edge.fall self.old.chains }
         ensures version { self.new.version ≡ self.old.version }
@@ -152,6 +154,7 @@ impl Wiring {
     }
 
     /// Takes in an edge of the slot's board.
+    #[inline(always)]
     fn note_board(&mut self, slot: u8, edge: Edge)
         requires slot { slot < 22 }
         requires board { (b : BoardValue) → place self.old.boards slot ≡ Some b → CanNote self.old b.row edge }
