@@ -95,13 +95,14 @@ impl Board {
         ensures { result ≡ low_of self.now wire }
     {
         match wire {
-            Wire::Br | Wire::BgOut | Wire::Bbsy => {
-                self.requester
-                    .is_some_and(|requester| requester.is_low(wire))
-            }
-            Wire::Addr | Wire::AddressStrobe | Wire::DataStrobe => {
-                self.master.is_some_and(|master| master.is_low(wire))
-            }
+            Wire::Br | Wire::BgOut | Wire::Bbsy => match &self.requester {
+                Some(requester) => requester.is_low(wire),
+                None => false,
+            },
+            Wire::Addr | Wire::AddressStrobe | Wire::DataStrobe => match &self.master {
+                Some(master) => master.is_low(wire),
+                None => false,
+            },
             _ => self.interrupter.is_low(wire),
         }
     }
