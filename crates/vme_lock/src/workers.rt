@@ -1,4 +1,4 @@
-//! A worker: one driver's turns, each at one look and one edge at most.
+//! A worker: one driver's turns, in each of which it asks for one offer and makes one edge at most.
 ghost use Rattle.std.specs.Prelude.{◌≡◌, ◌+◌, ◌≤◌, [], length, min, true};
 ghost use Rattle.vme_lock.specs.Seats.{worked};
 ghost use Rattle.vme_lock.specs.Logs.{IsWithin};
