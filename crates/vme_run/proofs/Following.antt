@@ -1,8 +1,9 @@
 -- What a run leaves of the boards' history.
 use Rattle.std.proofs.Common.{◌≡◌, ℕ, ◌+◌, ◌*◌, ◌≤◌, arith, List, [], length, sym, ap, ◌∙◌, subst, Option}
-use Rattle.std.specs.Prelude.{◌==◌, Result, Ok, Err, if◌then◌else◌}
+use Rattle.std.specs.Prelude.{◌==◌, min, Result, Ok, Err, if◌then◌else◌}
 use Rattle.std.specs.Io.KnownBytes.{Appends, Keeps}
 use Rattle.std.proofs.KnownBytes.{Keeps-refl}
+use Rattle.std.proofs.Math.Nat.{min-le_left}
 use Rattle.vme_model.specs.declared.signals.Version.{Version}
 use Rattle.vme_model.specs.declared.signals.Driver.{Driver}
 use Rattle.vme_model.specs.declared.signals.Edge.{Edge}
@@ -25,16 +26,20 @@ use Rattle.vme_run.specs.declared.RunFault.{RunFault}
 use Rattle.vme_run.specs.declared.RunFault.TheVariants.{Engine, NotStarted, LogDiffers, NotReplayed}
 use Rattle.vme_run.specs.Running.{IsRun, RunsOn, HasOtherLogs, Runs, IsUnread, IsPlayed, IsNotPlayed}
 
+-- what can be made is no more than what is asked for
+pub fits : (n others m : ℕ) → m ≡ min n others → m ≤ n
+fits n others m is = subst (λ x. x ≤ n) (sym is) (min-le_left n others)
+
 -- a played backplane has a run's edges
-pub run_of : (version : Version) (p : Plan) (n turns : ℕ) (b : State) → IsPlayed turns (at_power_up version p n) b → IsRun version n turns p b.history
-run_of version p n turns b played =
+pub run_of : (version : Version) (p : Plan) (m n turns : ℕ) (b : State) → m ≤ n → IsPlayed turns (at_power_up version p m) b → IsRun version n turns p b.history
+run_of version p m n turns b fits played =
     let same_plan : b.plan ≡ p = ap (λ x. x.plan) played.0.1 in
     let same_version : b.version ≡ version = ap (λ x. x.version) played.0.1 in
-    let same_max : b.max ≡ n = ap (λ x. x.max) played.0.1 in
+    let same_max : b.max ≡ m = ap (λ x. x.max) played.0.1 in
     record {
       legal = subst (λ q. IsLegal version q b.history) same_plan (subst (λ v. IsLegal v b.plan b.history) same_version played.1);
       safe = subst (λ q. IsSafe q b.history) same_plan played.2;
-      within = subst (λ m. length b.history ≤ m) same_max played.3;
+      within = omega (arith, same_max, played.3, fits);
       in_turns = omega (arith, played.4);
     }
 
@@ -59,34 +64,34 @@ played_again version p n turns opened closed b first played made =
     let same : closed ≡ b = cc in
     subst (λ (o : State). IsPlayed turns o b) first (subst (λ (c : State). IsPlayed turns opened c) same played)
 
-module _ (lent : List ℕ) (version : Version) (n turns : ℕ) (p : Plan) (old : Option (List ℕ)) (short : length lent ≤ scenario_limit) (read : scenario lent ≡ Ok p) where
+-- nothing, for want of memory
+pub runs_out : (lent : List ℕ) (version : Version) (n turns : ℕ) (p : Plan) (old : Option (List ℕ)) → length lent ≤ scenario_limit → scenario lent ≡ Ok p → Runs lent version n turns old old (Err (Engine fault.NoMemory))
+runs_out lent version n turns p old short read = (p, short, read, Keeps-refl _)
+
+module _ (lent : List ℕ) (version : Version) (m n turns : ℕ) (fits : m ≤ n) (p : Plan) (old : Option (List ℕ)) (short : length lent ≤ scenario_limit) (read : scenario lent ≡ Ok p) where
   -- its trace was written
-  pub runs_done : (new : Option (List ℕ)) (b : State) (made : ℕ) (status : Status) → IsPlayed turns (at_power_up version p n) b → Appends old new (text b.version (in_order b.history)) → made ≡ length b.history
+  pub runs_done : (new : Option (List ℕ)) (b : State) (made : ℕ) (status : Status) → IsPlayed turns (at_power_up version p m) b → Appends old new (text b.version (in_order b.history)) → made ≡ length b.history
       → status ≡ (if made == n then Limit else Done) → Runs lent version n turns old new (Ok status)
   runs_done new b made status played written count is =
-      (p, short, read, (b.history, run_of version p n turns b played, subst (λ v. Appends old new (text v (in_order b.history))) (version_of version p n turns b played) written, is ∙ ap (λ m. if m == n then Limit else Done) count))
+      (p, short, read, (b.history, run_of version p m n turns b fits played, subst (λ v. Appends old new (text v (in_order b.history))) (version_of version p m turns b played) written, is ∙ ap (λ m. if m == n then Limit else Done) count))
 
   -- a front of it
-  pub runs_cut : (new : Option (List ℕ)) (b : State) (f : Fault) → IsPlayed turns (at_power_up version p n) b → f ≡ Write → AppendsFront old new (text b.version (in_order b.history)) → Runs lent version n turns old new (Err (Engine (fault.Trace f)))
+  pub runs_cut : (new : Option (List ℕ)) (b : State) (f : Fault) → IsPlayed turns (at_power_up version p m) b → f ≡ Write → AppendsFront old new (text b.version (in_order b.history)) → Runs lent version n turns old new (Err (Engine (fault.Trace f)))
   runs_cut new b f played is written =
-      (p, short, read, (b.history, run_of version p n turns b played, is, subst (λ v. AppendsFront old new (text v (in_order b.history))) (version_of version p n turns b played) written))
-
-  -- nothing, for want of memory
-  pub runs_out : Runs lent version n turns old old (Err (Engine fault.NoMemory))
-  runs_out = (p, short, read, Keeps-refl _)
+      (p, short, read, (b.history, run_of version p m n turns b fits played, is, subst (λ v. AppendsFront old new (text v (in_order b.history))) (version_of version p m turns b played) written))
 
   -- nothing, where the boards were not played
-  not_played_from : (f : RunFault) → IsNotPlayed turns (at_power_up version p n) f → Runs lent version n turns old old (Err f)
-  not_played_from (Engine fault.NoMemory) none = runs_out
+  not_played_from : (f : RunFault) → IsNotPlayed turns (at_power_up version p m) f → Runs lent version n turns old old (Err f)
+  not_played_from (Engine fault.NoMemory) none = (p, short, read, Keeps-refl _)
   not_played_from (Engine fault.TooLong) none = absurd none
   not_played_from (Engine (fault.Scenario e)) none = absurd none
   not_played_from (Engine fault.CannotRead) none = absurd none
   not_played_from (Engine (fault.Trace f)) none = absurd none
   not_played_from NotStarted none = (p, short, read, Keeps-refl _)
-  not_played_from (LogDiffers driver at) none = (p, short, read, ((none.0.history, run_of version p n turns none.0 none.1, none.2, none.3), Keeps-refl _))
+  not_played_from (LogDiffers driver at) none = (p, short, read, ((none.0.history, run_of version p m n turns none.0 fits none.1, none.2, none.3), Keeps-refl _))
   not_played_from (NotReplayed at) none = absurd none
 
-  pub not_played : (opened : State) (f : RunFault) → opened ≡ at_power_up version p n → IsNotPlayed turns opened f → Runs lent version n turns old old (Err f)
+  pub not_played : (opened : State) (f : RunFault) → opened ≡ at_power_up version p m → IsNotPlayed turns opened f → Runs lent version n turns old old (Err f)
   not_played opened f first none = not_played_from f (subst (λ (o : State). IsNotPlayed turns o f) first none)
 
 -- nothing, where there is no plan

@@ -1,5 +1,5 @@
 //! A run from a scenario to a trace.
-ghost use Rattle.std.specs.Prelude.{◌≡◌, ◌≤◌, [], Ok, IfOk, IfErr, length};
+ghost use Rattle.std.specs.Prelude.{◌≡◌, ◌≤◌, ◌+◌, ◌*◌, [], Ok, IfOk, IfErr, length, min};
 ghost use Rattle.vme_model.specs.Report.{at_power_up, trace_limit};
 ghost use Rattle.vme_scenario.specs.Format.{scenario as read_scenario};
 ghost use Rattle.vme_engines.specs.Outcomes.{scenario_limit};
@@ -43,6 +43,13 @@ fn bench_on<'r>(
     Ok(Backplane::new(plan, trace, version))
 }
 
+/// How many edges can be made: one in each turn of each driver, and no more than are asked for.
+fn most_edges(plan: &Plan, edges: u32, turns: u32) -> u32
+    ensures { result ≡ min edges (turns * (plan.now.slots + 1)) }
+{
+    edges.min(turns.saturating_mul(u32::from(plan.slots()) + 1))
+}
+
 /// Makes the edges of a closed history once more. None of them is refused.
 fn replay<'r>(closed: &Backplane<'_>, mut bench: Backplane<'r>) -> Result<Backplane<'r>, RunFault>
     requires { bench ≡ record closed.now { history = [] } }
@@ -79,18 +86,20 @@ pub fn run<R: Threads + Wait + Sync, W: Write>(
     ensures { Runs scenario.now version edges turns (W.contents out.old) (W.contents out.new) result }
 {
     let plan = plan_for(alloc, scenario)?;
-    let Ok(mut region) = Region::new(alloc, 2 * Trace::bytes(edges)) else {
+    let most = most_edges(&plan, edges, turns);
+    let Ok(mut region) = Region::new(alloc, 2 * Trace::bytes(most)) else {
         return Err(RunFault::Engine(EngineFault::NoMemory));
     };
     let mut rest = region.rest();
-    let Ok(opened) = bench_on(alloc, &mut rest, plan, edges, version) else {
+    let Ok(opened) = bench_on(alloc, &mut rest, plan, most, version) else {
         return Err(RunFault::Engine(EngineFault::NoMemory));
     };
     let again = plan_for(alloc, scenario)?;
-    let Ok(bench) = bench_on(alloc, &mut rest, again, edges, version) else {
+    let Ok(bench) = bench_on(alloc, &mut rest, again, most, version) else {
         return Err(RunFault::Engine(EngineFault::NoMemory));
     };
-    let closed = play(rt, alloc, opened, Bounds { turns, edges })?;
+    let bounds = Bounds { turns, edges: most };
+    let closed = play(rt, alloc, opened, bounds)?;
     let replayed = replay(&closed, bench)?;
     match write_history(&replayed, out) {
         Ok(()) => Ok(status_of(replayed.len(), edges)),
