@@ -2,6 +2,7 @@ pub mod Answering
 pub mod Counting
 pub mod Differing
 pub mod Edges
+pub mod Fronts
 pub mod Holding
 pub mod Seating
 pub mod Joining

@@ -1,4 +1,5 @@
 pub mod Seats
 pub mod Holds
 pub mod Closing
+pub mod Following
 pub mod Logs

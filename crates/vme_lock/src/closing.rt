@@ -1,18 +1,18 @@
 //! Taking the backplane from the lock.
-ghost use Rattle.std.specs.Prelude.{◌≡◌, ◌≢◌, ◌+◌, ◌<◌, length, map, sum_by, vec_len, MatchBool, MatchResult, MatchOption, Some, slice_get};
+ghost use Rattle.std.specs.Prelude.{◌≡◌, ◌+◌, ◌<◌, length, map, sum_by, vec_len, MatchResult, MatchOption};
 ghost use Rattle.vme_model.specs.Plan.{drivers};
 ghost use Rattle.vme_model.specs.Counts.{only};
 ghost use Rattle.vme_lock.specs.Seats.{drivers_of};
-ghost use Rattle.vme_lock.specs.Logs.{is_same_edge, is_same_value};
 ghost use Rattle.vme_lock.specs.Closing.{IsClosing, AreLogs, DiffersAt, FirstDiffers};
 
+use crate::following::{are_logs, stands_at};
 use crate::held::Held;
 use crate::logs::Log;
 use crate::seats::{Rig, Seat, Seats};
 use crate::shared::Shared;
 use std::sync::ledger::{Book, Share};
 use vme_backplane::Backplane;
-use vme_model::{Cycle, Driver, Edge};
+use vme_model::Driver;
 
 /// The history that the boards made is their logs.
 #[derive(Drop)]
@@ -52,7 +52,7 @@ impl<'r, L: Rig> Shared<'r, L> {
             spare,
         } = lock.into_inner();
         backplane.laws();
-        let found = first_difference(&backplane, seats.as_slice(), logs);
+        let found = find_difference(&backplane, seats.as_slice(), logs);
         count_all(&mut book, spare, seats);
         match found {
             None => Ok(Closed { backplane }),
@@ -78,7 +78,25 @@ fn count_all<L: Rig>(book: &mut Book<L>, spare: Share<L>, mut seats: Seats<L>)
     book.audit(&mut all);
 }
 
-/// The first driver whose edges in the history are not its log, and where.
+/// The first driver whose edges in the history are not its log, and where. Where there is none, one pass mostly says so.
+fn find_difference<L: Rig>(
+    backplane: &Backplane<'_>,
+    seats: &[Seat<L>],
+    logs: &[Log<'_>],
+) -> Option<(Driver, u32)>
+    requires { length logs.now ≡ length seats.now }
+    ensures { MatchOption result
+        (AreLogs backplane.now.history (drivers_of seats.now) logs.now)
+        (λ d. FirstDiffers backplane.now.history (drivers_of seats.now) logs.now d.0 d.1) }
+{
+    if are_logs(backplane, seats, logs) {
+        None
+    } else {
+        first_difference(backplane, seats, logs)
+    }
+}
+
+/// The same, by a pass for each driver.
 fn first_difference<L: Rig>(
     backplane: &Backplane<'_>,
     seats: &[Seat<L>],
@@ -99,30 +117,6 @@ fn first_difference<L: Rig>(
         }
         _ => None,
     }
-}
-
-/// Whether the two show the same.
-fn is_same_value(value: Option<Cycle>, other: Option<Cycle>) -> bool
-    ensures { result ≡ is_same_value value other }
-{
-    value == other
-}
-
-/// Whether the two are one edge.
-fn is_same(edge: Edge, other: Edge) -> bool
-    ensures { result ≡ is_same_edge edge other }
-{
-    edge.driver.is_same(other.driver)
-        && edge.wire.is_same(other.wire)
-        && edge.fall == other.fall
-        && is_same_value(edge.value, other.value)
-}
-
-/// Whether the log has this edge at the place.
-fn stands_at(log: &Log<'_>, at: u32, edge: Edge) -> bool
-    ensures { MatchBool result (slice_get log.now at ≡ Some edge) (slice_get log.now at ≢ Some edge) }
-{
-    at < log.len() && is_same(log.edge_at(at), edge)
 }
 
 /// Where the driver's edges in the history are not the log.

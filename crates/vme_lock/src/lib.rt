@@ -4,6 +4,7 @@
 #![tactic(auto)]
 
 mod closing;
+mod following;
 mod held;
 pub mod laws;
 mod logs;

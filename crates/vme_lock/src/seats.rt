@@ -68,6 +68,15 @@ impl<L: Rig> Seat<L> {
         self.made
     }
 
+    /// The place of its driver among the counts of all.
+    pub(crate) fn desk(&self) -> usize
+        ensures sits { can_sit self.now.driver ≡ true }
+        ensures place { result ≡ desk self.now.driver }
+        ensures within { result < 22 }
+    {
+        desk(self.driver)
+    }
+
     /// What the ledger has of it.
     pub(crate) fn into_share(self) -> Share<L>
         ensures { (result.amount ≡ self.made) × (result.parts ≡ 1) }
