@@ -5,7 +5,7 @@ use Rattle.std.proofs.lemmas.Option.{none-some}
 use Rattle.vme_model.specs.declared.signals.Driver.{Driver}
 use Rattle.vme_model.specs.declared.signals.Driver.TheVariants.{Controller, Slot}
 use Rattle.vme_model.specs.declared.signals.Wire.{Wire}
-use Rattle.vme_model.specs.declared.signals.Wire.TheVariants.{Bg, Bclr, Iack, Berr, Br, BgOut, Bbsy, Addr, AddressStrobe, DataStrobe, Irq, IackOut, Dtack}
+use Rattle.vme_model.specs.declared.signals.Wire.TheVariants.{Bg, Bclr, Iack, Berr, Addr}
 use Rattle.vme_model.specs.declared.signals.Cycle.{Cycle}
 use Rattle.vme_model.specs.declared.signals.Cycle.TheVariants.{Acknowledge, Access}
 use Rattle.vme_model.specs.declared.signals.Edge.{Edge}
@@ -40,10 +40,49 @@ FindsSlot s = (rest : List ℕ) → first_driver (driver_text (Slot s) ++ 32 ∷
 
 slots_found : AllOf FindsSlot (up_to 21)
 unfolding first_driver
-slots_found =
-    (λ rest. refl, (λ rest. refl, (λ rest. refl, (λ rest. refl, (λ rest. refl, (λ rest. refl, (λ rest. refl,
-    (λ rest. refl, (λ rest. refl, (λ rest. refl, (λ rest. refl, (λ rest. refl, (λ rest. refl, (λ rest. refl,
-    (λ rest. refl, (λ rest. refl, (λ rest. refl, (λ rest. refl, (λ rest. refl, (λ rest. refl, (λ rest. refl, tt)))))))))))))))))))))
+slots_found = (
+  λ rest. refl,
+  (
+    λ rest. refl,
+    (
+      λ rest. refl,
+      (
+        λ rest. refl,
+        (
+          λ rest. refl,
+          (
+            λ rest. refl,
+            (
+              λ rest. refl,
+              (
+                λ rest. refl,
+                (
+                  λ rest. refl,
+                  (
+                    λ rest. refl,
+                    (
+                      λ rest. refl,
+                      (
+                        λ rest. refl,
+                        (
+                          λ rest. refl,
+                          (
+                            λ rest. refl,
+                            (λ rest. refl, (λ rest. refl, (λ rest. refl, (λ rest. refl, (λ rest. refl, (λ rest. refl, (λ rest. refl, tt))))))),
+                          ),
+                        ),
+                      ),
+                    ),
+                  ),
+                ),
+              ),
+            ),
+          ),
+        ),
+      ),
+    ),
+  ),
+)
 
 -- a board with some wire is that of a slot
 is_slot_of : (s : ℕ) (w : Wire) → has_wire (Slot s) w ≡ true → is_slot s ≡ true
@@ -96,10 +135,49 @@ FindsAccess s = (rest : List ℕ) → first_cycle (argument (Some (Access s)) ++
 
 accesses_found : AllOf FindsAccess (up_to 21)
 unfolding first_cycle first_slot
-accesses_found =
-    (λ rest. refl, (λ rest. refl, (λ rest. refl, (λ rest. refl, (λ rest. refl, (λ rest. refl, (λ rest. refl,
-    (λ rest. refl, (λ rest. refl, (λ rest. refl, (λ rest. refl, (λ rest. refl, (λ rest. refl, (λ rest. refl,
-    (λ rest. refl, (λ rest. refl, (λ rest. refl, (λ rest. refl, (λ rest. refl, (λ rest. refl, (λ rest. refl, tt)))))))))))))))))))))
+accesses_found = (
+  λ rest. refl,
+  (
+    λ rest. refl,
+    (
+      λ rest. refl,
+      (
+        λ rest. refl,
+        (
+          λ rest. refl,
+          (
+            λ rest. refl,
+            (
+              λ rest. refl,
+              (
+                λ rest. refl,
+                (
+                  λ rest. refl,
+                  (
+                    λ rest. refl,
+                    (
+                      λ rest. refl,
+                      (
+                        λ rest. refl,
+                        (
+                          λ rest. refl,
+                          (
+                            λ rest. refl,
+                            (λ rest. refl, (λ rest. refl, (λ rest. refl, (λ rest. refl, (λ rest. refl, (λ rest. refl, (λ rest. refl, tt))))))),
+                          ),
+                        ),
+                      ),
+                    ),
+                  ),
+                ),
+              ),
+            ),
+          ),
+        ),
+      ),
+    ),
+  ),
+)
 
 chosen : {A : Type 0} (b : Bool) (x y : A) → b ≡ true → cond b x y ≡ x
 chosen true x y h = refl

@@ -1,5 +1,5 @@
 -- A line spells at most one edge, and it is found in it.
-use Rattle.std.proofs.Common.{◌≡◌, ◌≢◌, ◌<◌, ◌≤◌, ◌⊎◌, ◌&&◌, not, leb, subst, ℕ, Bool, true, false, eqb, cond, List, [], ◌∷◌, ◌++◌, length, get_or, drop, Option, Some, None, IfNone, option_map, refl, sym, ◌∙◌, ap, arith, inl, inr, append-nil, length-append}
+use Rattle.std.proofs.Common.{◌≡◌, ◌≢◌, ◌<◌, ◌≤◌, ◌⊎◌, ◌&&◌, not, leb, subst, ℕ, Bool, true, false, eqb, cond, List, [], ◌∷◌, ◌++◌, length, get_or, drop, Option, Some, None, option_map, refl, sym, ◌∙◌, ap, arith, inl, inr, append-nil, length-append}
 use Rattle.std.proofs.lemmas.Bool.Decides.{nat_tests}
 use Rattle.std.proofs.lemmas.Option.{same_Some}
 use Rattle.std.proofs.lemmas.Slice.Eq.{bytes_eq-Decides}
@@ -135,7 +135,7 @@ module _ (line text : List ℕ) (is : text ≡ with_feed line) where
     whole_front none =
         let empty : rest ≡ [] = no_bytes rest none in
         let same : with_feed line ≡ with_feed (spelling e) =
-            sym is ∙ front.is ∙ ap (λ l. with_feed (spelling e) ++ l) empty ∙ append-nil (with_feed (spelling e)) in
+        sym is ∙ front.is ∙ ap (λ l. with_feed (spelling e) ++ l) empty ∙ append-nil (with_feed (spelling e)) in
         sym (spelled line e (front.formed, without_feed line (spelling e) same))
 
     pub part_front : 0 < length rest → None ≡ edge_of line
