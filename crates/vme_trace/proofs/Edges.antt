@@ -102,13 +102,13 @@ in_up_to (suc n) s low high =
       | inr q ↦ let h : suc n ≡ s = grind (arith, nat_tests) in in_right s (up_to n) (suc n ∷ []) (inl h)
     ]
 
-in_slots : (s : ℕ) → (leb 1 s && leb s 21) ≡ true → In s (up_to 21)
+pub in_slots : (s : ℕ) → (leb 1 s && leb s 21) ≡ true → In s (up_to 21)
 in_slots s h =
     let a : leb 1 s ≡ true = both_left (leb 1 s) (leb s 21) h in
     let b : leb s 21 ≡ true = both_right (leb 1 s) (leb s 21) h in
     in_up_to 21 s (grind (arith, nat_tests)) (grind (arith, nat_tests))
 
-in_levels : (s : ℕ) → (leb 1 s && leb s 7) ≡ true → In s (up_to 7)
+pub in_levels : (s : ℕ) → (leb 1 s && leb s 7) ≡ true → In s (up_to 7)
 in_levels s h =
     let a : leb 1 s ≡ true = both_left (leb 1 s) (leb s 7) h in
     let b : leb s 7 ≡ true = both_right (leb 1 s) (leb s 7) h in

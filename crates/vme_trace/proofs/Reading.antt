@@ -9,7 +9,7 @@ use Rattle.vme_trace.specs.declared.Fault.TheVariants.{Memory}
 use Rattle.vme_trace.specs.Reading.{Place}
 use Rattle.vme_trace.specs.Fronts.{IsFrontLine}
 use Rattle.vme_trace.specs.Taking.{place, Leads, Fails}
-use Rattle.vme_trace.proofs.Guesses.{spelled, spelling_fits}
+use Rattle.vme_trace.proofs.Spelled.{spelled, spelling_fits}
 use Rattle.vme_trace.proofs.Stepping.{Taken, taken_more, taken_fault, fault_before, edge_read, edge_lost}
 
 pub version_known : (o : Option Version) → is_some o ≡ true → (v : Version) × (o ≡ Some v)

@@ -1,5 +1,4 @@
 pub mod Reading
 pub mod Writing
 pub mod Taking
-pub mod Decoding
 pub mod Fronts

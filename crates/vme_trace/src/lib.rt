@@ -7,7 +7,6 @@ mod front;
 mod headers;
 mod input;
 pub mod laws;
-mod line;
 mod reader;
 #[cfg(test)]
 mod tests;

@@ -7,9 +7,8 @@ ghost use Rattle.vme_trace.specs.Reading.{HasRead, Fed, answer_of, fault_of};
 ghost use Rattle.vme_trace.specs.Taking.{IsOneLine, IsPart, Leads, Fails, place};
 
 use crate::Fault;
-use crate::front::edge_at;
+use crate::front::{edge_at, edge_of};
 use crate::headers::header_of;
-use crate::line::edge_of;
 use arrayvec::ArrayVec;
 use memchr::memchr;
 use std::alloc::Allocator;

@@ -13,7 +13,7 @@ use std::io::Write;
 use vme_model::{Cycle, Driver, Edge, Version, Wire};
 
 /// Room for any line of a trace: the longest has 12 bytes and a line feed.
-const LINE: usize = 16;
+pub(crate) const LINE: usize = 16;
 
 /// Writes all the bytes; with none there is no write, and no fault.
 ///
@@ -73,7 +73,7 @@ fn push_number(line: &mut ArrayVec<u8, LINE>, n: u8)
 }
 
 /// Appends a text.
-fn push_text(line: &mut ArrayVec<u8, LINE>, text: &[u8])
+pub(crate) fn push_text(line: &mut ArrayVec<u8, LINE>, text: &[u8])
     requires { array_vec_len line.old + length text.now ≤ 16 }
     ensures { line.new.items ≡ line.old.items ++ text.now }
 {
@@ -83,7 +83,7 @@ fn push_text(line: &mut ArrayVec<u8, LINE>, text: &[u8])
 }
 
 /// The spelling of an edge.
-pub(crate) fn spelling_of(edge: &Edge) -> ArrayVec<u8, LINE>
+fn spelling_of(edge: &Edge) -> ArrayVec<u8, LINE>
     requires { IsTrue (is_well_formed edge.now) }
     ensures text { result.items ≡ spelling edge.now }
     ensures short { array_vec_len result ≤ 12 }
