@@ -1,6 +1,9 @@
 //! The engine `run`: a scenario's boards, each in a thread of its own, make edges, and their trace is written.
 #![tactic(auto)]
 
+ghost use Rattle.std.specs.Prelude.{Some};
+ghost use Rattle.vme_run.specs.Names.{driver_name};
+
 mod boards;
 mod runs;
 
@@ -32,6 +35,8 @@ pub enum RunFault {
 struct Name(Driver);
 
 impl fmt::Display for Name {
+    ghost output = { λ n. Some (driver_name n.0) };
+
     fn fmt<W: fmt::Write>(&self, f: &mut fmt::Formatter<W>) -> fmt::Result {
         match self.0 {
             Driver::Controller => write!(f, "c"),
