@@ -47,7 +47,7 @@ in_filter p x (y ∷ xs) (inr h) t =
       | inr q ↦ rw q (in_filter p x xs h t)
     ]
 
-true_false : true ≡ false → ⊥
+pub true_false : true ≡ false → ⊥
 true_false h = let P : Bool → Type 0 = λ b. cond b (Unit {0}) ⊥ in subst P h tt
 
 pub none_some : {A : Type 0} (x : A) → ◌≡◌ {A = Option A} None (Some x) → ⊥

@@ -13,7 +13,7 @@ use Rattle.vme_model.specs.Signals.{is_slot, has_wire, has_value, is_well_formed
 use Rattle.vme_model.specs.Plan.{up_to}
 use Rattle.vme_model.specs.Text.{driver_text, wire_text, sign, argument, spelling}
 use Rattle.vme_trace.specs.Fronts.{First, IsFrontLine, first_driver, first_control_wire, first_bus_wire, first_transfer_wire, first_interrupt_wire, first_board_wire, first_wire, first_sign, first_level, first_slot, first_cycle, first_end, as_value, first_value}
-use Rattle.vme_trace.proofs.Edges.{In, in_slots, in_levels, edge}
+use Rattle.vme_trace.proofs.Edges.{In, true_false, in_slots, in_levels, edge}
 
 -- P holds of each
 abbrev AllOf : (ℕ → Type 0) → List ℕ → Type 0
@@ -25,10 +25,7 @@ all_in P x [] h k = absurd k
 all_in P x (y ∷ xs) h (inl e) = subst P e h.0
 all_in P x (y ∷ xs) h (inr k) = all_in P x xs h.1 k
 
-true_false : true ≡ false → ⊥
-true_false h = let P : Bool → Type 0 = λ b. cond b (Unit {0}) ⊥ in subst P h tt
-
-both : (a b : Bool) → (a && b) ≡ true → (a ≡ true) × (b ≡ true)
+pub both : (a b : Bool) → (a && b) ≡ true → (a ≡ true) × (b ≡ true)
 both true true h = (refl, refl)
 both true false h = absurd (true_false (sym h))
 both false b h = absurd (true_false (sym h))

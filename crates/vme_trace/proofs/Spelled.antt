@@ -1,5 +1,5 @@
 -- A line spells at most one edge, and it is found in it.
-use Rattle.std.proofs.Common.{◌≡◌, ◌≢◌, ◌<◌, ◌≤◌, ◌⊎◌, ◌&&◌, not, leb, subst, ℕ, Bool, true, false, eqb, cond, List, [], ◌∷◌, ◌++◌, length, get_or, drop, Option, Some, None, option_map, refl, sym, ◌∙◌, ap, arith, inl, inr, append-nil, length-append}
+use Rattle.std.proofs.Common.{◌≡◌, ◌≢◌, ◌<◌, ◌≤◌, ◌⊎◌, ◌&&◌, not, leb, ℕ, Bool, true, false, eqb, List, [], ◌∷◌, ◌++◌, length, get_or, drop, Option, Some, None, option_map, refl, sym, ◌∙◌, ap, arith, inl, inr, append-nil, length-append}
 use Rattle.std.proofs.lemmas.Bool.Decides.{nat_tests}
 use Rattle.std.proofs.lemmas.Option.{same_Some}
 use Rattle.std.proofs.lemmas.Slice.Eq.{bytes_eq-Decides}
@@ -10,17 +10,9 @@ use Rattle.vme_model.specs.Signals.{is_well_formed}
 use Rattle.vme_model.specs.Text.{spelling, Spells, all_edges, edge_of}
 use Rattle.vme_trace.specs.Fronts.{First, IsFrontLine}
 use Rattle.vme_trace.specs.Taking.{IsOneLine}
-use Rattle.vme_trace.proofs.Edges.{in_all, find_in, find_none, every_edge, formed}
+use Rattle.vme_trace.proofs.Edges.{true_false, in_all, find_in, find_none, every_edge, formed}
 use Rattle.vme_trace.proofs.Lines.{no_bytes}
-use Rattle.vme_trace.proofs.Firsts.{first_edge, front_found}
-
-true_false : true ≡ false → ⊥
-true_false h = let P : Bool → Type 0 = λ b. cond b (Unit {0}) ⊥ in subst P h tt
-
-both : (a b : Bool) → (a && b) ≡ true → (a ≡ true) × (b ≡ true)
-both true true h = (refl, refl)
-both true false h = absurd (true_false (sym h))
-both false b h = absurd (true_false (sym h))
+use Rattle.vme_trace.proofs.Firsts.{both, first_edge, front_found}
 
 same_bytes : (xs ys : List ℕ) → bytes_eq xs ys ≡ true → xs ≡ ys
 same_bytes xs ys h = (bytes_eq-Decides xs ys).0 h
