@@ -54,6 +54,7 @@ impl Code {
     }
 }
 
+#[inline(always)]
 fn driver_code(driver: Driver) -> u32
     ensures value { result ≡ driver_code driver }
     ensures bounded { result < 256 }
@@ -64,6 +65,7 @@ fn driver_code(driver: Driver) -> u32
     }
 }
 
+#[inline(always)]
 fn wire_code(wire: Wire) -> u32
     ensures value { result ≡ wire_code wire }
     ensures bounded { result < 256 }
@@ -85,6 +87,7 @@ fn wire_code(wire: Wire) -> u32
     }
 }
 
+#[inline(always)]
 fn value_code(value: Option<Cycle>) -> u32
     ensures value { result ≡ value_code value }
     ensures bounded { result < 512 }
@@ -96,6 +99,7 @@ fn value_code(value: Option<Cycle>) -> u32
     }
 }
 
+#[inline(always)]
 fn fall_code(fall: bool) -> u32
     ensures value { result ≡ fall_code fall }
     ensures bounded { result < 2 }
@@ -104,6 +108,7 @@ fn fall_code(fall: bool) -> u32
 }
 
 /// The code of an edge.
+#[inline(always)]
 pub(crate) fn code_of(edge: Edge) -> u32
     ensures { result ≡ code_of edge }
 {

@@ -35,6 +35,7 @@ impl<'r> Page<'r> {
 
     /// Keeps one more edge.
     #[tactic(auto, using(crate::proofs::RoundTrip::round_trip))]
+    #[inline(always)]
     pub(crate) fn push(&mut self, edge: Edge)
         requires well_formed { is_well_formed edge ≡ true }
         requires room { length self.old.edges < self.old.room }

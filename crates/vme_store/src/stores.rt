@@ -67,6 +67,7 @@ impl<'r> Store<'r> {
     }
 
     /// Keeps one more edge. No memory is asked for.
+    #[inline(always)]
     pub fn push(&mut self, edge: Edge)
         requires well_formed { is_well_formed edge ≡ true }
         requires room { length self.old.history < self.old.max }
