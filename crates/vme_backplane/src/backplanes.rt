@@ -22,17 +22,30 @@ use vme_slots::Plan;
 use vme_store::{Store, Trace};
 use vme_wiring::Wiring;
 
-/// Makes an edge, which is of this wire, where the rules allow it, and answers what it delivers.
-///
-/// It is a macro since the code for a wire that is known is short: the compiler leaves out what the other wires need.
-macro_rules! take {
-    ($backplane:ident, $edge:ident, $wire:expr) => {{
-        let mut edge = $edge;
-        edge.wire = $wire;
-        $backplane.verdict(edge)?;
-        let delivery = $backplane.wiring.delivery(edge);
-        $backplane.make(edge);
-        Ok(delivery)
+/// What is done with an edge, in an arm of its own for each wire. The code for a wire that is known is short: the compiler
+/// leaves out of it what only the others need.
+macro_rules! by_wire {
+    ($edge:ident => $done:expr) => {
+        match $edge.wire {
+            Wire::Bg(level) => by_wire!($edge, Wire::Bg(level), $done),
+            Wire::Bclr => by_wire!($edge, Wire::Bclr, $done),
+            Wire::Iack => by_wire!($edge, Wire::Iack, $done),
+            Wire::Berr => by_wire!($edge, Wire::Berr, $done),
+            Wire::Br => by_wire!($edge, Wire::Br, $done),
+            Wire::BgOut => by_wire!($edge, Wire::BgOut, $done),
+            Wire::Bbsy => by_wire!($edge, Wire::Bbsy, $done),
+            Wire::Addr => by_wire!($edge, Wire::Addr, $done),
+            Wire::AddressStrobe => by_wire!($edge, Wire::AddressStrobe, $done),
+            Wire::DataStrobe => by_wire!($edge, Wire::DataStrobe, $done),
+            Wire::Irq => by_wire!($edge, Wire::Irq, $done),
+            Wire::IackOut => by_wire!($edge, Wire::IackOut, $done),
+            Wire::Dtack => by_wire!($edge, Wire::Dtack, $done),
+        }
+    };
+    ($edge:ident, $wire:expr, $done:expr) => {{
+        let mut $edge = $edge;
+        $edge.wire = $wire;
+        $done
     }};
 }
 
@@ -159,21 +172,12 @@ impl<'r> Backplane<'r> {
         ensures accepted { is_ok result ≡ is_ok (verdict self.old edge) }
         ensures state { self.new ≡ after self.old edge }
     {
-        match edge.wire {
-            Wire::Bg(level) => take!(self, edge, Wire::Bg(level)),
-            Wire::Bclr => take!(self, edge, Wire::Bclr),
-            Wire::Iack => take!(self, edge, Wire::Iack),
-            Wire::Berr => take!(self, edge, Wire::Berr),
-            Wire::Br => take!(self, edge, Wire::Br),
-            Wire::BgOut => take!(self, edge, Wire::BgOut),
-            Wire::Bbsy => take!(self, edge, Wire::Bbsy),
-            Wire::Addr => take!(self, edge, Wire::Addr),
-            Wire::AddressStrobe => take!(self, edge, Wire::AddressStrobe),
-            Wire::DataStrobe => take!(self, edge, Wire::DataStrobe),
-            Wire::Irq => take!(self, edge, Wire::Irq),
-            Wire::IackOut => take!(self, edge, Wire::IackOut),
-            Wire::Dtack => take!(self, edge, Wire::Dtack),
-        }
+        by_wire!(edge => {
+            self.verdict(edge)?;
+            let delivery = self.wiring.delivery(edge);
+            self.make(edge);
+            Ok(delivery)
+        })
     }
 
     /// Makes an edge that would be accepted.
@@ -187,6 +191,17 @@ impl<'r> Backplane<'r> {
         self.laws();
         self.wiring.note(edge);
         self.store.push(edge);
+    }
+
+    /// The same, by code of its own for each wire.
+    #[inline(always)]
+    fn make_by_wire(&mut self, edge: Edge)
+        requires room { (length self.old.history == self.old.max) ≡ false }
+        requires allowed { verdict_but_full self.old.version self.old.plan self.old.history edge ≡ Ok tt }
+        requires well_formed { is_well_formed edge ≡ true }
+        ensures { self.new ≡ made self.old edge }
+    {
+        by_wire!(edge => self.make(edge))
     }
 
     /// Steps through all the edges, past those that are refused.
@@ -272,7 +287,7 @@ impl<'r> Backplane<'r> {
     {
         let offer = self.offer(driver, round);
         match offer {
-            Some(edge) => self.make(edge),
+            Some(edge) => self.make_by_wire(edge),
             None => {}
         }
         self.laws();

@@ -5,20 +5,20 @@ use Rattle.vme_backplane.proofs.Making.{is_allowed, has_room, offer_is_accepted}
 use Rattle.vme_backplane.proofs.WellFormed.{allowed_is_well_formed}
 use Rattle.vme_backplane.proofs.backplanes.Backplane.make_offer.Goals as goal
 
-pub make-requires-clause-room : goal.make-requires-clause-room
-make-requires-clause-room c =
+pub make_by_wire-requires-clause-room : goal.make_by_wire-requires-clause-room
+make_by_wire-requires-clause-room c =
     let b = c.args.self.now in
     let k = c.args.round % length (offered b c.args.driver) in
     has_room b c.in-Some.edge (offer_is_accepted b c.args.driver k c.in-Some.edge (sym c.offer-offer.ensures ∙ c.in-Some.is))
 
-pub make-requires-clause-allowed : goal.make-requires-clause-allowed
-make-requires-clause-allowed c =
+pub make_by_wire-requires-clause-allowed : goal.make_by_wire-requires-clause-allowed
+make_by_wire-requires-clause-allowed c =
     let b = c.args.self.now in
     let k = c.args.round % length (offered b c.args.driver) in
     is_allowed b c.in-Some.edge (offer_is_accepted b c.args.driver k c.in-Some.edge (sym c.offer-offer.ensures ∙ c.in-Some.is))
 
-pub make-requires-clause-well_formed : goal.make-requires-clause-well_formed
-make-requires-clause-well_formed c =
+pub make_by_wire-requires-clause-well_formed : goal.make_by_wire-requires-clause-well_formed
+make_by_wire-requires-clause-well_formed c =
     let b = c.args.self.now in
     let k = c.args.round % length (offered b c.args.driver) in
     allowed_is_well_formed b.version b.plan b.history c.in-Some.edge (is_allowed b c.in-Some.edge (offer_is_accepted b c.args.driver k c.in-Some.edge (sym c.offer-offer.ensures ∙ c.in-Some.is)))
