@@ -22,8 +22,8 @@ use vme_slots::Plan;
 use vme_store::{Store, Trace};
 use vme_wiring::Wiring;
 
-/// What is done with an edge, in an arm of its own for each wire. The code for a wire that is known is short: the compiler
-/// leaves out of it what only the others need.
+/// Does the same with an edge in an arm for each wire. There `$edge` is a copy whose wire is a constant, so that the compiler
+/// leaves out what edges of other wires need. The contracts of the functions that call it refuse a wrong arm.
 macro_rules! by_wire {
     ($edge:ident => $done:expr) => {
         match $edge.wire {
@@ -159,15 +159,15 @@ impl<'r> Backplane<'r> {
         ensures safe { IsSafe self.new.plan self.new.history }
         ensures orderly { IsOrderly self.new.version self.new.plan self.new.history }
     {
-        let answer = self.take(edge);
+        let answer = self.step_by_wire(edge);
         self.laws();
         self.safety();
         answer
     }
 
-    /// The same, by code of its own for each wire, so that the wire is asked for once.
+    /// The same, but for what follows of every history, with an arm for each wire.
     #[inline(always)]
-    fn take(&mut self, edge: Edge) -> Result<Option<Delivery>, Refused>
+    fn step_by_wire(&mut self, edge: Edge) -> Result<Option<Delivery>, Refused>
         ensures answer { result ≡ answer self.old edge }
         ensures accepted { is_ok result ≡ is_ok (verdict self.old edge) }
         ensures state { self.new ≡ after self.old edge }
@@ -193,7 +193,7 @@ impl<'r> Backplane<'r> {
         self.store.push(edge);
     }
 
-    /// The same, by code of its own for each wire.
+    /// The same, with an arm for each wire.
     #[inline(always)]
     fn make_by_wire(&mut self, edge: Edge)
         requires room { (length self.old.history == self.old.max) ≡ false }

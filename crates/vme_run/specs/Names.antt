@@ -4,7 +4,7 @@ use Rattle.std.specs.Fmt.{decimal}
 use Rattle.vme_model.specs.declared.signals.Driver.{Driver}
 use Rattle.vme_model.specs.declared.signals.Driver.TheVariants.{Controller, Slot}
 
--- the controller is c, a board the number of its slot, however great (a trace's spelling is for slots up to 21)
+-- the controller is c, a board its slot in decimal, also beyond 21, where a trace has no spelling
 abbrev pub driver_name : Driver → List ℕ
 driver_name Controller = codes "c"
 driver_name (Slot s) = decimal s

@@ -1,5 +1,5 @@
 -- Every well-formed edge stands in the list of them all.
-use Rattle.std.proofs.Common.{◌≡◌, ◌⊎◌, ◌&&◌, subst, ℕ, suc, zero, ◌≤◌, Bool, true, false, ltb, leb, cond, List, [], ◌∷◌, ◌++◌, map, filter, find, Option, Some, None, refl, sym, ◌∙◌, ap, arith, inl, inr}
+use Rattle.std.proofs.Common.{◌≡◌, ◌⊎◌, ◌&&◌, ℕ, suc, zero, ◌≤◌, Bool, true, false, ltb, leb, List, [], ◌∷◌, ◌++◌, map, filter, find, Option, Some, None, refl, sym, ◌∙◌, ap, arith, inl, inr}
 use Rattle.std.proofs.lemmas.Bool.{cases_Bool}
 use Rattle.std.proofs.lemmas.Bool.Decides.{nat_tests}
 use Rattle.std.proofs.lemmas.Option.{same_Some}
@@ -14,6 +14,7 @@ use Rattle.vme_model.specs.declared.signals.Edge.{Edge}
 use Rattle.vme_model.specs.Signals.{is_well_formed, has_wire, has_value}
 use Rattle.vme_model.specs.Plan.{up_to}
 use Rattle.vme_model.specs.Text.{all_drivers, all_wires, all_values, all_edges}
+use Rattle.vme_trace.proofs.Lines.{true_false}
 
 abbrev pub In : {A : Type 0} → A → List A → Type 0
 In x [] = ⊥
@@ -46,9 +47,6 @@ in_filter p x (y ∷ xs) (inr h) t =
       | inl q ↦ rw q (inr (in_filter p x xs h t))
       | inr q ↦ rw q (in_filter p x xs h t)
     ]
-
-pub true_false : true ≡ false → ⊥
-true_false h = let P : Bool → Type 0 = λ b. cond b (Unit {0}) ⊥ in subst P h tt
 
 pub none_some : {A : Type 0} (x : A) → ◌≡◌ {A = Option A} None (Some x) → ⊥
 none_some x h = absurd (let e : ⊥ = cc in e)

@@ -10,14 +10,11 @@ use Rattle.vme_trace.specs.declared.Fault.{Fault}
 use Rattle.vme_trace.specs.declared.Fault.TheVariants.{Memory}
 use Rattle.vme_trace.specs.Reading.{Place, State, fault_of, answer_of, rest_of, with_edges, HasRead, Stops, Fed, Pumped, ReadsPiece}
 use Rattle.vme_trace.specs.Taking.{IsPart, place, Leads, Fails}
-use Rattle.vme_trace.proofs.Lines.{settled, end_cut, end_absent, end_present, no_bytes}
+use Rattle.vme_trace.proofs.Lines.{true_false, settled, end_cut, end_absent, end_present, no_bytes}
 use Rattle.vme_trace.proofs.Stepping.{behind_fault}
 
 abbrev pub state : Option Version → Option Place → State
 state v p = record { version = v; place = p }
-
-true_false : true ≡ false → ⊥
-true_false h = let P : Bool → Type 0 = λ b. cond b (Unit {0}) ⊥ in subst P h tt
 
 -- what stands behind the bytes is the rest of all
 made : (v : Option Version) (n : ℕ) (part bytes : List ℕ) (es : List Edge) → IsPart part

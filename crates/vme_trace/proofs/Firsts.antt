@@ -1,5 +1,6 @@
 -- What stands at the front of a text is found there, whatever follows.
-use Rattle.std.proofs.Common.{◌≡◌, ◌≢◌, ◌&&◌, subst, ℕ, suc, zero, Bool, true, false, ltb, cond, List, [], ◌∷◌, ◌++◌, Option, Some, None, IfNone, option_and_then, refl, sym, ◌∙◌, ap, arith, inl, inr, append_assoc}
+use Rattle.std.proofs.Common.{◌≡◌, ◌≢◌, subst, ℕ, suc, zero, Bool, true, false, ltb, cond, List, [], ◌∷◌, ◌++◌, Option, Some, None, IfNone, option_and_then, refl, sym, ◌∙◌, ap, arith, inl, inr, append_assoc}
+use Rattle.std.proofs.lemmas.Bool.{and_parts}
 use Rattle.std.proofs.lemmas.Bool.Decides.{nat_tests}
 use Rattle.std.proofs.lemmas.Option.{none-some}
 use Rattle.vme_model.specs.declared.signals.Driver.{Driver}
@@ -13,7 +14,8 @@ use Rattle.vme_model.specs.Signals.{is_slot, has_wire, has_value, is_well_formed
 use Rattle.vme_model.specs.Plan.{up_to}
 use Rattle.vme_model.specs.Text.{driver_text, wire_text, sign, argument, spelling}
 use Rattle.vme_trace.specs.Fronts.{First, IsFrontLine, first_driver, first_control_wire, first_bus_wire, first_transfer_wire, first_interrupt_wire, first_board_wire, first_wire, first_sign, first_level, first_slot, first_cycle, first_end, as_value, first_value}
-use Rattle.vme_trace.proofs.Edges.{In, true_false, in_slots, in_levels, edge}
+use Rattle.vme_trace.proofs.Edges.{In, in_slots, in_levels, edge}
+use Rattle.vme_trace.proofs.Lines.{true_false}
 
 -- P holds of each
 abbrev AllOf : (ℕ → Type 0) → List ℕ → Type 0
@@ -24,11 +26,6 @@ all_in : (P : ℕ → Type 0) (x : ℕ) (xs : List ℕ) → AllOf P xs → In x 
 all_in P x [] h k = absurd k
 all_in P x (y ∷ xs) h (inl e) = subst P e h.0
 all_in P x (y ∷ xs) h (inr k) = all_in P x xs h.1 k
-
-pub both : (a b : Bool) → (a && b) ≡ true → (a ≡ true) × (b ≡ true)
-both true true h = (refl, refl)
-both true false h = absurd (true_false (sym h))
-both false b h = absurd (true_false (sym h))
 
 -- ---- each part
 
@@ -220,7 +217,7 @@ chained d w fall value rest hw hv =
 -- the edge of a front line is found
 pub front_found : (e : Edge) (text rest : List ℕ) → IsFrontLine e text rest → first_edge text ≡ Some (e, rest)
 front_found e text rest front =
-    let k = both (has_wire e.driver e.wire) (has_value e.wire e.fall e.value) front.formed in
+    let k = and_parts (has_wire e.driver e.wire) (has_value e.wire e.fall e.value) front.formed in
     ap first_edge (front.is ∙ laid_out (driver_text e.driver) (wire_text e.wire) (sign e.fall) (argument e.value) rest)
     ∙ chained e.driver e.wire e.fall e.value rest k.0 k.1
 

@@ -111,7 +111,7 @@ end_whole : (v : Version) (n : ℕ) → rest_of (Some v) (place n []) [] ≡ rec
 unfolding split_lines read_lines
 end_whole v n = refl
 
-true_false : true ≡ false → ⊥
+pub true_false : true ≡ false → ⊥
 true_false h = let P : Bool → Type 0 = λ b. cond b (Unit {0}) ⊥ in subst P h tt
 
 pub end_absent : (v : Option Version) (n : ℕ) → is_some v ≡ false → rest_of v (place n []) [] ≡ faulty v no_header

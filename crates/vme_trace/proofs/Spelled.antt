@@ -1,5 +1,6 @@
 -- A line spells at most one edge, and it is found in it.
 use Rattle.std.proofs.Common.{◌≡◌, ◌≢◌, ◌<◌, ◌≤◌, ◌⊎◌, ◌&&◌, not, leb, ℕ, Bool, true, false, eqb, List, [], ◌∷◌, ◌++◌, length, get_or, drop, Option, Some, None, option_map, refl, sym, ◌∙◌, ap, arith, inl, inr, append-nil, length-append}
+use Rattle.std.proofs.lemmas.Bool.{and_parts}
 use Rattle.std.proofs.lemmas.Bool.Decides.{nat_tests}
 use Rattle.std.proofs.lemmas.Option.{same_Some}
 use Rattle.std.proofs.lemmas.Slice.Eq.{bytes_eq-Decides}
@@ -10,9 +11,9 @@ use Rattle.vme_model.specs.Signals.{is_well_formed}
 use Rattle.vme_model.specs.Text.{spelling, Spells, all_edges, edge_of}
 use Rattle.vme_trace.specs.Fronts.{First, IsFrontLine}
 use Rattle.vme_trace.specs.Taking.{IsOneLine}
-use Rattle.vme_trace.proofs.Edges.{true_false, in_all, find_in, find_none, every_edge, formed}
-use Rattle.vme_trace.proofs.Lines.{no_bytes}
-use Rattle.vme_trace.proofs.Firsts.{both, first_edge, front_found}
+use Rattle.vme_trace.proofs.Edges.{in_all, find_in, find_none, every_edge, formed}
+use Rattle.vme_trace.proofs.Lines.{true_false, no_bytes}
+use Rattle.vme_trace.proofs.Firsts.{first_edge, front_found}
 
 same_bytes : (xs ys : List ℕ) → bytes_eq xs ys ≡ true → xs ≡ ys
 same_bytes xs ys h = (bytes_eq-Decides xs ys).0 h
@@ -87,14 +88,14 @@ no_feed b h = grind (arith, nat_tests)
 
 one_line : (line : List ℕ) → is_one_line line ≡ true → IsOneLine line
 one_line [] h = tt
-one_line (b ∷ bs) h = let k = both (not (eqb b 10)) (is_one_line bs) h in (no_feed b k.0, one_line bs k.1)
+one_line (b ∷ bs) h = let k = and_parts (not (eqb b 10)) (is_one_line bs) h in (no_feed b k.0, one_line bs k.1)
 
 at_most : (n : ℕ) → leb n 15 ≡ true → n ≤ 15
 at_most n h = grind (arith, nat_tests)
 
 short : (e : Edge) → is_well_formed e ≡ true → IsOneLine (spelling e) × (length (spelling e) ≤ 15)
 short e h =
-    let k = both (is_one_line (spelling e)) (leb (length (spelling e)) 15) (in_all fits e all_edges all_fit (every_edge e h)) in
+    let k = and_parts (is_one_line (spelling e)) (leb (length (spelling e)) 15) (in_all fits e all_edges all_fit (every_edge e h)) in
     (one_line (spelling e) k.0, at_most (length (spelling e)) k.1)
 
 pub spelling_fits : (e : Edge) → is_well_formed e ≡ true → IsOneLine (spelling e) × (length (spelling e) ≤ 64)
