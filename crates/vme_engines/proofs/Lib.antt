@@ -1,5 +1,6 @@
 pub mod Writing
 pub mod Counting
+pub mod Digits
 pub mod Known
 pub mod Replaying
 pub mod Cuts

@@ -41,14 +41,19 @@ fn push_number(line: &mut ArrayVec<u8, LINE>, n: u64)
     push(line, digits.format(n).as_bytes());
 }
 
-/// Appends a byte's value in decimal.
+/// Appends a byte's value in decimal, digit by digit: the numbers of rules have two at most.
 fn push_byte(line: &mut ArrayVec<u8, LINE>, n: u8)
     requires { array_vec_len line.old + 3 ≤ 80 }
     ensures items { line.new.items ≡ line.old.items ++ decimal n }
     ensures len { array_vec_len line.new ≤ array_vec_len line.old + 3 }
 {
-    let mut digits = Buffer::new();
-    push(line, digits.format(n).as_bytes());
+    if n >= 100 {
+        line.push(b'0' + n / 100);
+    }
+    if n >= 10 {
+        line.push(b'0' + n / 10 % 10);
+    }
+    line.push(b'0' + n % 10);
 }
 
 /// Appends what is written of a delivery.
@@ -101,7 +106,8 @@ fn verdict_line<'a>(
     match answer {
         Ok(None) => count.accepted_line(),
         _ => {
-            line.clear();
+            // A new line costs less than one that is cleared byte by byte.
+            *line = ArrayVec::new();
             push(line, count.digits());
             push(line, b" ");
             push_verdict(line, answer);
