@@ -41,7 +41,7 @@ fn push_number(line: &mut ArrayVec<u8, LINE>, n: u64)
     push(line, digits.format(n).as_bytes());
 }
 
-/// Appends a byte's value in decimal, digit by digit: the numbers of rules have two at most.
+/// Appends a byte's value in decimal, digit by digit: half the lines of a trace may name a rule.
 fn push_byte(line: &mut ArrayVec<u8, LINE>, n: u8)
     requires { array_vec_len line.old + 3 ≤ 80 }
     ensures items { line.new.items ≡ line.old.items ++ decimal n }
@@ -95,7 +95,7 @@ fn push_verdict(line: &mut ArrayVec<u8, LINE>, answer: &Result<Option<Delivery>,
     }
 }
 
-/// The verdict line of the edge with this number; the line is room for one that is not kept with the number.
+/// The verdict line of the edge with this number. One that is not kept with the number is put together in `line`, whatever it held.
 fn verdict_line<'a>(
     count: &'a Count,
     line: &'a mut ArrayVec<u8, LINE>,
@@ -106,7 +106,7 @@ fn verdict_line<'a>(
     match answer {
         Ok(None) => count.accepted_line(),
         _ => {
-            // A new line costs less than one that is cleared byte by byte.
+            // Quicker than `clear`, which writes over each byte.
             *line = ArrayVec::new();
             push(line, count.digits());
             push(line, b" ");
@@ -185,7 +185,7 @@ pub(crate) fn flush<W: Write>(out: &mut W) -> Result<(), Fault>
     }
 }
 
-/// Writes the closing line of a report.
+/// Writes the closing line of a report, and has the writer hand on what it holds back.
 pub(crate) fn close<W: Write>(accepted: u64, refused: u64, out: &mut W) -> Result<(), Fault>
     ensures ok { OnOk result (Appends (W.contents out.old) (W.contents out.new) (closing_text accepted refused)) }
     ensures front { OnErr result (AppendsFront (W.contents out.old) (W.contents out.new) (closing_text accepted refused)) }
@@ -195,7 +195,7 @@ pub(crate) fn close<W: Write>(accepted: u64, refused: u64, out: &mut W) -> Resul
     flush(out)
 }
 
-/// Writes the line of a finding.
+/// Writes the line of a finding, and has the writer hand on what it holds back.
 pub(crate) fn write_finding<W: Write>(finding: Finding, out: &mut W) -> Result<(), Fault>
     ensures ok { OnOk result (Appends (W.contents out.old) (W.contents out.new) (finding_line finding)) }
     ensures front { OnErr result (AppendsFront (W.contents out.old) (W.contents out.new) (finding_line finding)) }
