@@ -1,0 +1,114 @@
+"""Must-fail edits, and the functions that they edit, read from their text.
+
+An edit is a file of crates/NAME/must-fail in the kit's form: lines 'file: src/lib.rt', 'old: TEXT' and 'new: TEXT', each
+TEXT standing in that file exactly once.
+"""
+
+import os
+import re
+from dataclasses import dataclass
+
+import sources
+
+
+class BadEdit(Exception):
+    """An edit that cannot be tried, and why."""
+
+
+@dataclass(frozen=True)
+class Edit:
+    """An edit: its crate, its name, and its replacements as (file, old, new)."""
+
+    crate: str
+    name: str
+    pairs: tuple
+
+    @property
+    def label(self):
+        return f"{self.crate}/{self.name}"
+
+    @property
+    def is_of_code(self):
+        return all(file.startswith("src/") for file, _, _ in self.pairs)
+
+
+@dataclass(frozen=True)
+class Reach:
+    """The functions at one of which an edit has to be refused, and all whose proofs it may change."""
+
+    own: frozenset
+    touched: frozenset
+
+    def is_apart_from(self, other):
+        return not self.touched & other.own and not self.own & other.touched
+
+
+def read(crate, name, text):
+    """Reads an edit's text, or says by BadEdit what is wrong with it."""
+    file, old, pairs = None, None, []
+    for line in text.split("\n"):
+        key, _, rest = line.partition(":")
+        rest = rest[1:] if rest.startswith(" ") else rest
+        if key == "file":
+            file = rest.strip()
+            if os.path.normpath(file) != file or not file.startswith(("src/", "specs/", "proofs/")):
+                raise BadEdit("its 'file:' names no file below src/, specs/ or proofs/")
+        elif key == "old":
+            old = rest
+        elif key == "new":
+            if not file or not old:
+                raise BadEdit("a 'new:' stands before any 'file:' or 'old:'")
+            pairs.append((file, old, rest))
+            old = None
+    if not pairs:
+        raise BadEdit("it has no 'old:' and 'new:'")
+    return Edit(crate, name, tuple(pairs))
+
+
+def replaced(texts, edit):
+    """Returns the texts (by file) with the edit's replacements made, or says by BadEdit why they cannot be."""
+    made = dict(texts)
+    for file, old, new in edit.pairs:
+        if file not in made:
+            raise BadEdit(f"there is no {file}")
+        found = made[file].count(old)
+        if found != 1:
+            raise BadEdit(f"its 'old:' stands in {file} {found} times, and not once")
+        made[file] = made[file].replace(old, new)
+    if made == texts:
+        raise BadEdit("it changes nothing")
+    return made
+
+
+def reach(edit, texts):
+    """The functions that an edit stands in, and those that its text may change beside them.
+
+    What stands in a body changes the proof of its function alone, since a caller's proof rests on the contract. What stands in a
+    contract changes those that name the function too. What stands in another item has to be refused where that item is named.
+    """
+    found = {file: sources.functions(edit.crate, file, text) for file, text in texts.items() if file.startswith("src/")}
+    own, touched = set(), set()
+    for file, old, _ in edit.pairs:
+        line = texts[file].count("\n", 0, texts[file].find(old))
+        inside = [it for it in found.get(file, []) if it.first <= line < it.end]
+        if not inside:
+            users = naming(sources.item_name(texts[file], line), found, texts)
+            own, touched = own | users, touched | users
+            continue
+        function = inside[-1]
+        own.add(function.path)
+        if line < function.body:
+            touched |= naming(function.path.rpartition("::")[2], found, texts)
+    return Reach(frozenset(own), frozenset(own | touched))
+
+
+def naming(name, found, texts):
+    """The functions in which a name stands."""
+    if not name:
+        return set()
+    word = re.compile(rf"\b{name}\b")
+    users = set()
+    for file, functions in found.items():
+        lines = texts[file].split("\n")
+        users |= {it.path for it in functions if any(word.search(line) for line in lines[it.first : it.end])}
+    return users

@@ -1,0 +1,45 @@
+"""Calls of the kit's prover on single functions of a crate, over libraries that are built already.
+
+`rt check` in a copy of the tree would do, but would prove each library once more: what `rt ci` built of them it does not
+take. So the prover is called as `rt ci` calls it for an edit.
+"""
+
+import os
+import shutil
+
+import trees
+
+
+class Prover:
+    """The kit's prover over a tree in which each library was built."""
+
+    def __init__(self, commands, built):
+        found = shutil.which("rt")
+        if not found:
+            raise FileNotFoundError("there is no rt on the PATH")
+        self.commands, self.built = commands, built
+        self.kit = os.path.dirname(os.path.dirname(os.path.realpath(found)))
+        self.uses = trees.read_crates(built)[1]
+
+    def check(self, crate, uses, folder, functions):
+        """Checks these functions of the crate that lies in a folder, over the work that is kept beside it, and returns what it said."""
+        root = "src/main.rt" if os.path.isfile(f"{folder}/src/main.rt") else "src/lib.rt"
+        words = [f"{self.kit}/bin/rattle", "check", "--crate-name", crate, root, *self.libraries(uses)]
+        words += ["--antt-project", f"{self.kit}/rattle/logic/antt-project.json", "--logic-built", f"{self.kit}/logic_built"]
+        words += ["--jobs", "1", "--links", f"{crate}=", "--incremental", f"{folder}/kept"]
+        for it in sorted(functions) or [""]:
+            words += ["--only", it]
+        return self.commands.call(words, folder)[1]
+
+    def libraries(self, uses):
+        """The words that name the libraries that a crate uses, and where those below them lie."""
+        words = ["-L", f"dependency={self.kit}/rlibs"]
+        for it in ["std", *uses]:
+            words += ["--extern", f"{it}={self.rlib(it) if it in self.uses else f'{self.kit}/rlibs/{it}.rlib'}"]
+        own = {it: None for name in uses if name in self.uses for it in [*trees.below(self.uses, name), name]}
+        for it in own:
+            words += ["-L", f"dependency={os.path.dirname(self.rlib(it))}"]
+        return words
+
+    def rlib(self, name):
+        return f"{self.built}/crates/{name}/out/rlib/{name}.rlib"

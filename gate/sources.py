@@ -1,0 +1,106 @@
+"""The functions of a source file, as `rt fmt` lays them out: an item ends at the brace that stands as far in as it begins."""
+
+import re
+from dataclasses import dataclass
+
+FUNCTION = re.compile(r"( *)(?:pub(?:\([a-z: ]+\))? )?(?:const |unsafe )*fn (\w+)")
+IMPL = re.compile(r"(?:unsafe )?impl\b")
+NAMED = re.compile(r"(?:pub(?:\([a-z: ]+\))? )?(?:const|static|macro_rules!) (\w+)")
+
+
+@dataclass(frozen=True)
+class Function:
+    """A function: how the name ends that the prover prints for it, and its lines from 0: the first, that of the body, the one after it."""
+
+    path: str
+    first: int
+    body: int
+    end: int
+
+
+def functions(crate, file, text):
+    """Returns the functions of a source file, in order."""
+    lines = text.split("\n")
+    module = module_of(crate, file)
+    found, owner, owner_end = [], "", -1
+    for at, line in enumerate(lines):
+        if IMPL.match(line):
+            owner, owner_end = owner_of(header(lines, at)), end_of(lines, at, 0)
+        match = FUNCTION.match(line)
+        if match:
+            indent = len(match[1])
+            body = body_of(lines, at, indent)
+            found.append(Function(f"{owner if at < owner_end else module}::{match[2]}", at, body, end_of(lines, body, indent)))
+    return found
+
+
+def item_name(text, line):
+    """The name of the constant or macro that a line stands in, or nothing."""
+    lines = text.split("\n")
+    for it in reversed(lines[: line + 1]):
+        if it and not it.startswith((" ", "}", ")")):
+            match = NAMED.match(it)
+            return match[1] if match else ""
+    return ""
+
+
+def module_of(crate, file):
+    """The path of the module that a source file is."""
+    parts = file.removeprefix("src/").removesuffix(".rt").split("/")
+    return "::".join([crate, *(it for it in parts if it not in ("lib", "main", "mod"))])
+
+
+def header(lines, at):
+    """The text of an item from a line on, up to the brace that opens it."""
+    text = " ".join(it.strip() for it in lines[at : at + 20])
+    return text.partition("{")[0].strip()
+
+
+def owner_of(text):
+    """What the prover calls the type of an impl: the type's name, and after it the trait's with its arguments, but for `Drop`."""
+    text = text.partition(" where ")[0].removeprefix("unsafe ").removeprefix("impl")
+    text = text[closing(text) + 1 :] if text.startswith("<") else text
+    trait, is_of, of_type = text.partition(" for ")
+    if not is_of:
+        return name_of(trait)
+    return name_of(of_type) + ("" if name_of(trait) == "Drop" else name_of(trait) + arguments_of(trait))
+
+
+def closing(text):
+    """The place of the angle bracket that closes the one at the front."""
+    depth = 0
+    for at, letter in enumerate(text):
+        depth += (letter == "<") - (letter == ">" and text[at - 1] != "-")
+        if depth == 0:
+            return at
+    return len(text)
+
+
+def name_of(path):
+    """The last name of a path, without its arguments."""
+    return re.sub(r"[^\w:]", "", path.partition("<")[0]).rpartition("::")[2]
+
+
+def arguments_of(path):
+    """The names of a path's arguments that are types, one after another."""
+    inside = path.partition("<")[2].rpartition(">")[0]
+    return "".join(name_of(it) for it in inside.split(",") if inside and not it.strip().startswith("'"))
+
+
+def body_of(lines, at, indent):
+    """The line on which the body of the function at a line opens, or on which it ends, where it has none."""
+    for number in range(at, len(lines)):
+        line = lines[number]
+        if len(line) - len(line.lstrip()) == indent and line.endswith(("{", "}", ";")):
+            return number
+    return at
+
+
+def end_of(lines, at, indent):
+    """The line after the brace that closes the item whose body opens at a line."""
+    if lines[at].endswith((";", "}")):
+        return at + 1
+    for number in range(at + 1, len(lines)):
+        if lines[number].startswith(" " * indent + "}"):
+            return number + 1
+    return len(lines)

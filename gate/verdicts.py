@@ -1,0 +1,87 @@
+"""What the prover said of each function of an edited crate."""
+
+import re
+from dataclasses import dataclass
+from enum import Enum
+
+FUNCTION = re.compile(r"^fn (\S+): (.*)")
+# what is said of a function because another, which it calls, was refused
+FOR_A_CALLEE = re.compile(r"(?:; )?it calls .*?, which (?:is|are) not proved")
+PLACE = re.compile(r"^(?:note: )?(?:\./)?((?:src|specs|proofs)/\S+?:\d+):\d+: (.*)")
+LAST = re.compile(r"^only=(\d+) proved=(\d+)$")
+COUNTEREXAMPLE = "allow values at which this goal is false"
+
+
+class Kind(Enum):
+    """Why the prover refused a function."""
+
+    COUNTEREXAMPLE = "it found values at which a goal is false"
+    SEARCH = "its search left a goal open"
+    PROOF = "a written proof no longer fits"
+
+
+@dataclass(frozen=True)
+class Refusal:
+    """Where a function was refused, and why."""
+
+    function: str
+    place: str
+    kind: Kind
+
+    def __str__(self):
+        return f"refused at {self.function}, {self.place}: {self.kind.value}"
+
+
+@dataclass(frozen=True)
+class Verdict:
+    """What a check came to: whether the prover judged the functions, those that it refused, and the first error."""
+
+    is_judged: bool
+    refused: dict
+    error: str
+
+    def at(self, function):
+        """The refusal of the function whose name ends so, if it was refused."""
+        found = [it for path, it in self.refused.items() if f"::{path}".endswith(f"::{function}")]
+        return found[0] if found else None
+
+
+def read(said):
+    """Reads what a check printed."""
+    lines = said.rstrip("\n").split("\n")
+    refused, notes = {}, []
+    for line in lines:
+        match = FUNCTION.match(line)
+        if not match:
+            notes.append(line)
+            continue
+        if is_refused_itself(match[2]):
+            path = outer(match[1])
+            refused.setdefault(path, refusal(path, notes, match[2]))
+        notes = []
+    errors = [it for it in lines if it.startswith("error") or ": error" in it]
+    return Verdict(bool(LAST.match(lines[-1])), refused, (errors or lines[-1:])[0])
+
+
+def is_refused_itself(status):
+    """Whether a function's own proof was refused, and not only that of one that it calls."""
+    match = re.match(r"(?:no proof|not proved)\b[:;]?(.*)", status)
+    return bool(match) and (not match[1] or bool(FOR_A_CALLEE.sub("", match[1]).strip(" ;")))
+
+
+def outer(path):
+    """The function in whose body a closure stands, or the function itself."""
+    return re.sub(r"::fn::((?:[A-Z]\w*::)?\w+)::.*", r"::\1", path)
+
+
+def refusal(path, notes, status):
+    """The place and the kind of a function's refusal, of what was said of it."""
+    places = [match.groups() for match in map(PLACE.match, notes) if match]
+    of_source = [place for place, _ in places if place.startswith("src/")]
+    if any(COUNTEREXAMPLE in text for _, text in places):
+        return Refusal(path, next(place for place, text in places if COUNTEREXAMPLE in text), Kind.COUNTEREXAMPLE)
+    if of_source:
+        return Refusal(path, of_source[0], Kind.SEARCH)
+    if "`search` did not prove" in status:
+        return Refusal(path, status.rpartition("`search` did not prove ")[2][:80], Kind.SEARCH)
+    return Refusal(path, places[0][0] if places else status[:80], Kind.PROOF)
