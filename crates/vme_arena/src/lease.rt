@@ -18,8 +18,9 @@ use std::marker::PhantomData;
 /// a `Vec` that is to own it, or a `&Lease` to several.
 ///
 /// Blocks are laid one behind the other, each as long as its size rounded up to 16 bytes. The room
-/// of a block is used again once it and all blocks behind it are given back. An alignment above 16
-/// and a block for which no room is left are an `AllocError`.
+/// of a block is used again once it and all blocks behind it are given back. The last block grows
+/// in place where its size is a multiple of 16, and others move. An alignment above 16 and a block
+/// for which no room is left are an `AllocError`.
 #[derive(Drop)]
 pub struct Lease<'r> {
     start: usize,
@@ -71,7 +72,7 @@ impl<'r> Lease<'r> {
     }
 
     // What a block of `old` bytes lacks to one of `new`, where it is the last and no bytes lie
-    // between its size and its rounding: values that lie in a block hold those back.
+    // between its size and its rounding: those cannot be had while values lie in the block.
     fn take_behind(&self, start: Piece, old: usize, new: usize) -> Option<Piece>
         requires sizes { (old ≤ new) × (new < 2 ^ 63) }
         requires block { (start.block ≡ self.now.slot.block) × (self.now.slot.start ≤ start.at) × (start.at + block_size old ≤ self.now.slot.end) × (start.at % 16 ≡ 0) }
@@ -86,6 +87,8 @@ impl<'r> Lease<'r> {
         behind
     }
 
+    // The block with room for `new_cap` values, in place or moved, or else as it was. `start` is
+    // where it begins.
     fn grown<T>(
         &self,
         block: Block<T>,
@@ -107,6 +110,8 @@ impl<'r> Lease<'r> {
         self.moved(block, len, old_cap, new_cap)
     }
 
+    // The same with room for fewer. A block that is to have fewer granules moves: its rear is none
+    // while values lie before it.
     fn shrunk<T>(
         &self,
         block: Block<T>,
@@ -126,6 +131,7 @@ impl<'r> Lease<'r> {
         self.moved(block, len, old_cap, new_cap)
     }
 
+    // Its values in a block behind all others, if there is room for one.
     fn moved<T>(
         &self,
         block: Block<T>,
