@@ -4,7 +4,7 @@ use seplogic.Ra.Ura.{Ura}
 use mir.Syntax.{Ty, Width, w8, w16, w32, w64, w128}
 use mir.Val.{Val, vcons, vnil, of_list, bytes}
 use base.Logic.{ent, sep}
-use base.Fml.{fex, fwand, froom}
+use base.Fml.{fwand, froom}
 use prog.Memory.{size, align, capped}
 use prog.Align.{Dv, align_w, align-bytes}
 use prog.Capped.{capped_is, capped_small}
@@ -17,7 +17,7 @@ use denote.Shadow.{pure_l}
 use denote.Steps.{only}
 use Rattle.core.specs.contracts.option.Option as option
 use Rattle.vme_arena.specs.Stretch.{Stretch, block_size, LiesIn}
-use Rattle.vme_arena.specs.Ownership.{units_at, block_token}
+use Rattle.vme_arena.specs.Ownership.{units_at, token_at, block_token}
 use Rattle.vme_arena.specs.contracts.piece.Piece as piece
 use Rattle.vme_arena.proofs.Values.{piece_val, piece_own, piece_told}
 use Rattle.vme_arena.proofs.Units.{serves}
@@ -39,18 +39,27 @@ within_16 w128 = tt
 holds : (n : ℕ) → n ≤ block_size n
 holds n = omega arith
 
-pub hands_out : {M : Type 1} {𝓤 : Ura M} (𝓛 : Logic 𝓤) (s : Stretch) (τ : Ty) (at n a : ℕ) → capped (size τ) ≡ n → capped (align τ) ≡ a → LiesIn s at (block_size n) (block_ptr s.block at) → n < 2 ^ 63 → a ≤ 16
-    → ent 𝓤 (sem 𝓛 (units_at (block_ptr s.block at) (block_size n))) (sep 𝓤 (𝓛.H.room τ s.block at) (sem 𝓛 (block_token s τ (block_ptr s.block at))))
-hands_out {𝓤 = 𝓤} 𝓛 s τ at n a sized aligned placed small slim =
+pub slim : (τ : Ty) → Dv (align τ) 16
+slim τ = subst (λ (k : ℕ). Dv k 16) (sym (align-bytes τ)) (within_16 (align_w τ))
+
+pub hands_at : {M : Type 1} {𝓤 : Ura M} (𝓛 : Logic 𝓤) (s : Stretch) (τ : Ty) (at n : ℕ) → capped (size τ) ≡ n → LiesIn s at (block_size n) (block_ptr s.block at) → n < 2 ^ 63
+    → ent 𝓤 (sem 𝓛 (units_at (block_ptr s.block at) (block_size n))) (sep 𝓤 (𝓛.H.room τ s.block at) (sem 𝓛 (token_at s at τ (block_ptr s.block at))))
+hands_at {𝓤 = 𝓤} 𝓛 s τ at n sized placed small =
     let p : Ptr = block_ptr s.block at in
     let short : size τ < 2 ^ 63 = capped_small (size τ) (omega arith) in
     let same : n ≡ size τ = sym sized ∙ capped_is (size τ) (omega arith) in
     let m = block_size (size τ) in
     let lies : LiesIn s at m p = subst (λ (k : ℕ). LiesIn s at (block_size k) p) same placed in
     qed 𝓛 (‵ (units_at p (block_size n)) ∷ []) ∵ rewrite ! 0 (λ (k : ℕ). ‵ (units_at p (block_size k))) same refl $
-    use1 𝓛 (‵ (froom τ s.block at) ⊛ ‵ (fwand (froom τ s.block at) (units_at p m)))
-    (serves 𝓛 s.block τ at m lies.0.2 (holds (size τ)) (subst (λ (k : ℕ). Dv k 16) (sym (align-bytes τ)) (within_16 (align_w τ)))) $ split ! $ frame ! $
-    fpack ! (LiesIn s at m p) (λ _. fwand (froom τ s.block at) (units_at p m)) lies $ fpack ! ℕ (λ j. fex (LiesIn s j m p) (λ _. fwand (froom τ s.block at) (units_at p m))) at $ done !
+    use1 𝓛 (‵ (froom τ s.block at) ⊛ ‵ (fwand (froom τ s.block at) (units_at p m))) (serves 𝓛 s.block τ at m lies.0.2 (holds (size τ)) (slim τ)) $ split ! $ frame ! $
+    fpack ! (LiesIn s at m p) (λ _. fwand (froom τ s.block at) (units_at p m)) lies $ done !
+
+pub hands_out : {M : Type 1} {𝓤 : Ura M} (𝓛 : Logic 𝓤) (s : Stretch) (τ : Ty) (at n : ℕ) → capped (size τ) ≡ n → LiesIn s at (block_size n) (block_ptr s.block at) → n < 2 ^ 63
+    → ent 𝓤 (sem 𝓛 (units_at (block_ptr s.block at) (block_size n))) (sep 𝓤 (𝓛.H.room τ s.block at) (sem 𝓛 (block_token s τ (block_ptr s.block at))))
+hands_out {𝓤 = 𝓤} 𝓛 s τ at n sized placed small =
+    let p : Ptr = block_ptr s.block at in
+    qed 𝓛 (‵ (units_at p (block_size n)) ∷ []) ∵ use1 𝓛 (‵ (froom τ s.block at) ⊛ ‵ (token_at s at τ p)) (hands_at 𝓛 s τ at n sized placed small) $ split ! $ frame ! $
+    fpack ! ℕ (λ j. token_at s j τ p) at $ done !
 
 module _ {M : Type 1} {𝓤 : Ura M} {𝓛 : Logic 𝓤} {K : Type 0} {Γ : List (Item 𝓤)} {G : Goal 𝓤 𝓛.H} where
   pub answered : K → (s : Stretch) (n a : ℕ) (x : Answered.Denot) (v : Val) → Told s n a x

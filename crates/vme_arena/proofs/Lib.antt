@@ -4,6 +4,8 @@ pub mod Cells
 pub mod Homes
 pub mod Lending
 pub mod Parts
+pub mod Resized
+pub mod Resizes
 pub mod Sent
 pub mod Steps
 pub mod Units

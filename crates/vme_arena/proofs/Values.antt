@@ -84,3 +84,16 @@ deed_told vs s = s.1.0 ∙ (λ i. vstruct (of_list (s.1.1.0.1.0 i ++ [])) ∷ []
 
 pub deed_made : {M : Type 1} {𝓤 : Ura M} (𝓛 : Logic 𝓤) → ent 𝓤 (emp 𝓤) (sem 𝓛 (deed_own (deed_val ∷ [])))
 deed_made 𝓛 = makes_shadow 𝓛 (deed_own (deed_val ∷ [])) (λ _. (tt, ((λ _. (tt, tt)), tt))) ((vstruct vnil ∷ [], tt), (refl, ((tt, (refl, tt)), tt)))
+
+-- a block: a pointer and a marker
+abbrev pub block_val : Ptr → Val
+block_val p = vstruct (vcons (ptr_val p) (vcons (vstruct vnil) vnil))
+
+abbrev pub block_own : Ptr → List Val → Fml
+block_own p = (fields_of (RawPtr ∷ fields_of [] ∷ [])).own_val (p, (tt, tt))
+
+pub block_told : (p : Ptr) (vs : List Val) → shadow (block_own p vs) → vs ≡ block_val p ∷ []
+block_told p vs s = s.1.0 ∙ (λ i. vstruct (of_list (s.1.1.0 i ++ (s.1.1.1.0.1.0 i ++ []))) ∷ [])
+
+pub block_made : {M : Type 1} {𝓤 : Ura M} (𝓛 : Logic 𝓤) (p : Ptr) → ent 𝓤 (emp 𝓤) (sem 𝓛 (block_own p (block_val p ∷ [])))
+block_made 𝓛 p = makes_shadow 𝓛 (block_own p (block_val p ∷ [])) (λ _. (tt, (tt, ((λ _. (tt, tt)), tt)))) ((ptr_val p ∷ [], (vstruct vnil ∷ [], tt)), (refl, (refl, ((tt, (refl, tt)), tt))))

@@ -66,9 +66,13 @@ padding_at s k = fsep (room_for (loose (rounded k - k)) (block_ptr s.block (s.ta
 abbrev pub blank_at : Spot → ℕ → ℕ → Fml
 blank_at s n m = fsep (units_at (block_ptr s.block (s.at + n * 16)) (m * 16)) (fsep (room_for (loose m) (block_ptr s.block (s.tag + n))) (padding_at s (n + m)))
 
--- the right to give the block for a τ at p back to a lease of the stretch s
+-- the right to give the block for a τ at p, the place `at`, back to a lease of the stretch s
+abbrev pub token_at : Stretch → ℕ → Ty → Ptr → Fml
+token_at s at τ p = fex (LiesIn s at (block_size (size τ)) p) (λ _. fwand (room_for τ p) (units_at p (block_size (size τ))))
+
+-- the same, wherever it is
 abbrev pub block_token : Stretch → Ty → Ptr → Fml
-block_token s τ p = fex ℕ (λ at. fex (LiesIn s at (block_size (size τ)) p) (λ _. fwand (room_for τ p) (units_at p (block_size (size τ)))))
+block_token s τ p = fex ℕ (λ at. token_at s at τ p)
 
 module _ (F : RattleType) (I : F.Denot → Fml) where
   -- fields of which I holds, in memory

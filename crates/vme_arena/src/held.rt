@@ -117,6 +117,34 @@ impl<'r> Held<'r> {
         (Held { loan, count, next }, None)
     }
 
+    // The `more` bytes behind the block of `given` bytes at `start`, if it is the last.
+    pub(crate) fn take_behind(
+        self,
+        start: Piece,
+        given: usize,
+        more: usize,
+    ) -> (Held<'r>, Option<Piece>)
+        requires sizes { (16 ≤ given) × (given % 16 ≡ 0) × (more % 16 ≡ 0) }
+        requires block { (start.block ≡ (held_stretch self).block) × ((held_stretch self).start ≤ start.at) × (start.at + given ≤ (held_stretch self).end) × (start.at % 16 ≡ 0) }
+        ensures held { held_stretch result.0 ≡ held_stretch self.entry }
+        ensures behind { IfSome result.1 (λ p. (p.block ≡ start.block) × (p.at ≡ start.at + given) × (p.size ≡ more) × (p.at + more ≤ (held_stretch self.entry).end)) }
+    {
+        let Held { loan, count, next } = self;
+        let (place, (loan, _)) = loan.find(count, start);
+        let wanted = more / UNIT;
+        if wanted == 0 || wanted > count - next || place + given / UNIT != next {
+            return (Held { loan, count, next }, None);
+        }
+        let (loan, run) = loan.take_run(next, wanted);
+        match run {
+            Ok(behind) => {
+                let next = next + wanted;
+                (Held { loan, count, next }, Some(behind))
+            }
+            Err(_) => (Held { loan, count, next }, None),
+        }
+    }
+
     // The block comes home, in any order.
     pub(crate) fn give(self, block: Piece, size: usize) -> Held<'r>
         requires size { (16 ≤ size) × (block.size ≡ size) }

@@ -1,8 +1,10 @@
 //! A stretch of a region, as an allocator.
-ghost use Rattle.std.specs.Prelude.{◌≡◌, ◌+◌, ◌-◌, ◌*◌, ◌%◌, ◌^◌, ◌<◌, ◌≤◌, IfSome};
+ghost use Rattle.std.specs.Prelude.{◌≡◌, ◌+◌, ◌-◌, ◌*◌, ◌%◌, ◌^◌, ◌<◌, ◌≤◌, IfSome, MatchResult};
+ghost use Rattle.std.specs.Mem.{type_size};
 ghost use Rattle.vme_arena.specs.Stretch.{block_size, LiesIn};
 ghost use Rattle.vme_arena.specs.Ownership.{block_token};
 
+use crate::block::{Block, size_of_values};
 use crate::held::Held;
 use crate::loan::Loan;
 use crate::memory::UNIT;
@@ -10,13 +12,15 @@ use crate::piece::Piece;
 use crate::slot::Slot;
 use std::alloc::{AllocError, Allocator};
 use std::fmt;
+use std::marker::PhantomData;
 
 /// A stretch of a region, as the allocator of one thread's collections: pass the lease itself to
 /// a `Vec` that is to own it, or a `&Lease` to several.
 ///
 /// Blocks are laid one behind the other, each as long as its size rounded up to 16 bytes. The room
-/// of a block is used again once it and all blocks behind it are given back. An alignment above 16
-/// and a block for which no room is left are an `AllocError`.
+/// of a block is used again once it and all blocks behind it are given back. The last block grows
+/// in place where its size is a multiple of 16, and others move. An alignment above 16 and a block
+/// for which no room is left are an `AllocError`.
 #[derive(Drop)]
 pub struct Lease<'r> {
     start: usize,
@@ -66,6 +70,86 @@ impl<'r> Lease<'r> {
             self.slot.replace(Some(held.give(block, size)));
         }
     }
+
+    // What a block of `old` bytes lacks to one of `new`, where it is the last and no bytes lie
+    // between its size and its rounding: those cannot be had while values lie in the block.
+    fn take_behind(&self, start: Piece, old: usize, new: usize) -> Option<Piece>
+        requires sizes { (old ≤ new) × (new < 2 ^ 63) }
+        requires block { (start.block ≡ self.now.slot.block) × (self.now.slot.start ≤ start.at) × (start.at + block_size old ≤ self.now.slot.end) × (start.at % 16 ≡ 0) }
+        ensures { IfSome result (λ p. (p.block ≡ start.block) × (p.at ≡ start.at + old) × (block_size old ≡ old) × (old + p.size ≡ block_size new) × (p.at + p.size ≤ self.now.slot.end)) }
+    {
+        if old == 0 || old % UNIT != 0 {
+            return None;
+        }
+        let more = size_of_block(new) - old;
+        let (held, behind) = self.slot.replace(None)?.take_behind(start, old, more);
+        self.slot.replace(Some(held));
+        behind
+    }
+
+    // The block with room for `new_cap` values, in place or moved, or else as it was. `start` is
+    // where it begins.
+    fn grown<T>(
+        &self,
+        block: Block<T>,
+        start: Piece,
+        len: usize,
+        old_cap: usize,
+        new_cap: usize,
+    ) -> Result<Block<T>, Block<T>>
+        requires block { (block.stretch ≡ self.now.slot) × (block.len ≡ len) × (block.cap ≡ old_cap) }
+        requires start { LiesIn block.stretch block.at (block_size (old_cap * type_size T.row)) start.ptr × (start.block ≡ block.stretch.block) × (start.at ≡ block.at) }
+        requires sizes { (len ≤ old_cap) × (old_cap ≤ new_cap) × (new_cap * type_size T.row < 2 ^ 63) }
+        ensures { MatchResult result (λ b. (b.stretch ≡ block.stretch) × (b.len ≡ len) × (b.cap ≡ new_cap) × (b.items ≡ block.items)) (λ b. b ≡ block) }
+    {
+        let old_size = size_of_values::<T>(old_cap);
+        let new_size = size_of_values::<T>(new_cap);
+        if let Some(behind) = self.take_behind(start, old_size, new_size) {
+            return Ok(block.extend(behind, new_cap));
+        }
+        self.moved(block, len, old_cap, new_cap)
+    }
+
+    // The same with room for fewer. A block that is to have fewer granules moves: its rear is none
+    // while values lie before it.
+    fn shrunk<T>(
+        &self,
+        block: Block<T>,
+        len: usize,
+        old_cap: usize,
+        new_cap: usize,
+    ) -> Result<Block<T>, Block<T>>
+        requires block { (block.stretch ≡ self.now.slot) × (block.len ≡ len) × (block.cap ≡ old_cap) }
+        requires sizes { (len ≤ new_cap) × (new_cap ≤ old_cap) × (old_cap * type_size T.row < 2 ^ 63) }
+        ensures { MatchResult result (λ b. (b.stretch ≡ block.stretch) × (b.len ≡ len) × (b.cap ≡ new_cap) × (b.items ≡ block.items)) (λ b. b ≡ block) }
+    {
+        let old_size = size_of_values::<T>(old_cap);
+        let new_size = size_of_values::<T>(new_cap);
+        if size_of_block(new_size) == size_of_block(old_size) {
+            return Ok(block.narrow(new_cap));
+        }
+        self.moved(block, len, old_cap, new_cap)
+    }
+
+    // Its values in a block behind all others, if there is room for one.
+    fn moved<T>(
+        &self,
+        block: Block<T>,
+        len: usize,
+        old_cap: usize,
+        new_cap: usize,
+    ) -> Result<Block<T>, Block<T>>
+        requires block { (block.stretch ≡ self.now.slot) × (block.len ≡ len) × (block.cap ≡ old_cap) }
+        requires sizes { (len ≤ old_cap) × (len ≤ new_cap) × (old_cap * type_size T.row < 2 ^ 63) × (new_cap * type_size T.row < 2 ^ 63) }
+        ensures { MatchResult result (λ b. (b.stretch ≡ block.stretch) × (b.len ≡ len) × (b.cap ≡ new_cap) × (b.items ≡ block.items)) (λ b. b ≡ block) }
+    {
+        let Some(room) = self.take(size_of_values::<T>(new_cap), UNIT) else {
+            return Err(block);
+        };
+        let (block, old) = block.move_to(room, len, new_cap);
+        self.give(old, size_of_block(size_of_values::<T>(old_cap)));
+        Ok(block)
+    }
 }
 
 unsafe impl<'r> Allocator for Lease<'r> {
@@ -81,6 +165,37 @@ unsafe impl<'r> Allocator for Lease<'r> {
     unsafe fn deallocate(&self, ptr: *mut u8, size: usize, _align: usize) {
         let size = size_of_block(size);
         self.give(Piece { ptr }, size);
+    }
+
+    unsafe fn grow<T>(
+        &self,
+        ptr: *mut T,
+        len: usize,
+        old_cap: usize,
+        new_cap: usize,
+    ) -> Result<*mut T, AllocError> {
+        let marker = PhantomData;
+        let start = Piece {
+            ptr: ptr as *mut u8,
+        };
+        match self.grown(Block { ptr, marker }, start, len, old_cap, new_cap) {
+            Ok(Block { ptr, marker: _ }) => Ok(ptr),
+            Err(Block { ptr: _, marker: _ }) => Err(AllocError),
+        }
+    }
+
+    unsafe fn shrink<T>(
+        &self,
+        ptr: *mut T,
+        len: usize,
+        old_cap: usize,
+        new_cap: usize,
+    ) -> Result<*mut T, AllocError> {
+        let marker = PhantomData;
+        match self.shrunk(Block { ptr, marker }, len, old_cap, new_cap) {
+            Ok(Block { ptr, marker: _ }) => Ok(ptr),
+            Err(Block { ptr: _, marker: _ }) => Err(AllocError),
+        }
     }
 }
 

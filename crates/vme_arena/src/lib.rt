@@ -4,6 +4,7 @@
 //! a carving is refused only where the region's rest is too short, and then nothing changes.
 #![tactic(auto)]
 
+mod block;
 mod granules;
 mod held;
 pub mod laws;

@@ -48,7 +48,7 @@ allocate_spec 𝓤 𝓛 𝓜 𝓡 wired =
     await ! tt $ pick ! (λ x. split ! $ move ! (1 ∷ []) $ pick ! (λ _. split ! $ drop ! $ heard ! (Told s n al x) (λ said. split ! $ move ! (1 ∷ []) $
     answered ! s n al x v said
     (λ at lies small slim e. let p : Ptr = block_ptr s.block at in
-    use1 𝓛 (‵ (froom τ s.block at) ⊛ ‵ (block_token s τ p)) (hands_out 𝓛 s τ at n al asked.0 asked.1 lies small slim) $ lands_as ! e refl (tt, (record { fits = lit< tt }, ((tt, tt), tt))) $
+    use1 𝓛 (‵ (froom τ s.block at) ⊛ ‵ (block_token s τ p)) (hands_out 𝓛 s τ at n asked.0 lies small) $ lands_as ! e refl (tt, (record { fits = lit< tt }, ((tt, tt), tt))) $
     first ! $ switches_on ! (get_tag ! (vrt ! refl (fld ! refl (stop !))) (whole !)) $ exec ! C Λ En (arm_body 0 (head (after 1 fn.body))) (going_on 𝓛 C Λ En (after 2 fn.body) (at_ret En Post)) $
     sets ! (of_opd ! (get_in ! (vrt ! refl (fld ! refl (fld ! refl (stop !)))) (sub ! 0 refl (in_variant ! 1 0 refl refl (whole !))))) refl (tt, tt) $
     sets_last ! (agg ! (and_then ! (lit ! tt) (and_then ! (get ! refl) (no_more !)))) refl (tt, (record { fits = lit< tt }, (tt, tt))) $
