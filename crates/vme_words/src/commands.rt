@@ -1,9 +1,11 @@
 //! The commands that the program offers, and their help.
-ghost use Rattle.std.specs.Prelude.{◌≡◌, ◌≤◌, [], ◌∷◌, IfOk, codes};
-ghost use Rattle.clap.specs.Words.{app_of, rule_of, shape_of};
+ghost use Rattle.std.specs.Prelude.{◌≡◌, ◌≤◌, [], ◌∷◌, IfOk, codes, pos, true};
+ghost use Rattle.clap.specs.Words.{App, Rule, Shape, app_of, new_app, rule_of, shape_of, with_rule, with_subcommand};
+ghost use Rattle.clap.specs.Simple.{on_top};
 ghost use Rattle.vme_words.specs.Commands as said;
 
 use crate::{MOST_EDGES, MOST_TURNS};
+use clap::builder::ValueParser;
 use clap::{Arg, ArgAction, Command, value_parser};
 use std::alloc::{AllocError, Global};
 
@@ -87,7 +89,14 @@ fn trace_file<'a>(alloc: Global) -> Arg<'a>
     file(alloc, "TRACE", "The edges, one a line")
 }
 
-/// An option with a number from 1 to `most`.
+/// What reads a number from 1 to `most`.
+fn number<'a>(most: u32) -> ValueParser<'a>
+    ensures { result ≡ ValueParser.Signed (pos 1) (pos most) }
+{
+    value_parser!(u32).range(1..=i64::from(most))
+}
+
+/// An option with such a number.
 fn option<'a>(alloc: Global, name: &'a str, value: &'a str, most: u32, help: &'a str) -> Arg<'a>
     ensures { rule_of result ≡ said.option name.entry.now most }
 {
@@ -95,7 +104,7 @@ fn option<'a>(alloc: Global, name: &'a str, value: &'a str, most: u32, help: &'a
         .long(name)
         .value_name(value)
         .action(ArgAction::Set)
-        .value_parser(value_parser!(u32).range(1..=i64::from(most)))
+        .value_parser(number(most))
         .help(help)
 }
 
@@ -137,46 +146,90 @@ fn command<'a>(
         .arg(scenario_file(alloc))
 }
 
+/// The command with one more word, or its error.
+fn taking<'a>(
+    command: Result<Command<'a>, AllocError>,
+    word: Arg<'a>,
+) -> Result<Command<'a>, AllocError>
+    ensures { IfOk result (λ c. (a : App) (r : Rule) → IfOk command.entry (λ before. app_of before ≡ a) → rule_of word.entry ≡ r → r.is_simple ≡ true
+        → app_of c ≡ with_rule a r) }
+{
+    command?.arg(word)
+}
+
+/// A command that takes a scenario and a trace.
+fn command_on_trace<'a>(
+    alloc: Global,
+    name: &'a str,
+    about: &'a str,
+    usage: &'a str,
+    example: &'a str,
+) -> Result<Command<'a>, AllocError>
+    ensures { IfOk result (λ c. app_of c ≡ said.leaf name.entry.now (said.file (codes "TRACE") ∷ [])) }
+{
+    taking(
+        command(alloc, name, about, usage, example),
+        trace_file(alloc),
+    )
+}
+
 fn replay<'a>(alloc: Global) -> Result<Command<'a>, AllocError>
     ensures { IfOk result (λ c. shape_of c ≡ said.replay) }
 {
-    command(alloc, "replay", REPLAY, REPLAY_USAGE, REPLAY_EXAMPLE)?.arg(trace_file(alloc))
+    command_on_trace(alloc, "replay", REPLAY, REPLAY_USAGE, REPLAY_EXAMPLE)
 }
 
 fn check<'a>(alloc: Global) -> Result<Command<'a>, AllocError>
     ensures { IfOk result (λ c. shape_of c ≡ said.check) }
 {
-    command(alloc, "check", CHECK, CHECK_USAGE, CHECK_EXAMPLE)?.arg(trace_file(alloc))
+    command_on_trace(alloc, "check", CHECK, CHECK_USAGE, CHECK_EXAMPLE)
 }
 
 fn drive<'a>(alloc: Global) -> Result<Command<'a>, AllocError>
     ensures { IfOk result (λ c. shape_of c ≡ said.drive) }
 {
-    command(alloc, "drive", DRIVE, DRIVE_USAGE, DRIVE_EXAMPLE)?
-        .arg(edges_option(alloc))?
-        .arg(version_option(alloc))
+    let command = command(alloc, "drive", DRIVE, DRIVE_USAGE, DRIVE_EXAMPLE);
+    let command = taking(command, edges_option(alloc));
+    taking(command, version_option(alloc))
 }
 
 fn run<'a>(alloc: Global) -> Result<Command<'a>, AllocError>
     ensures { IfOk result (λ c. shape_of c ≡ said.run) }
 {
-    command(alloc, "run", RUN, RUN_USAGE, RUN_EXAMPLE)?
-        .arg(edges_option(alloc))?
-        .arg(turns_option(alloc))?
-        .arg(version_option(alloc))
+    let command = command(alloc, "run", RUN, RUN_USAGE, RUN_EXAMPLE);
+    let command = taking(command, edges_option(alloc));
+    let command = taking(command, turns_option(alloc));
+    taking(command, version_option(alloc))
+}
+
+/// The program without its commands.
+fn program<'a>(alloc: Global) -> Result<Command<'a>, AllocError>
+    ensures { IfOk result (λ c. app_of c ≡ on_top (λ s. record s { no_binary_name = true }) (new_app (codes "vmebus"))) }
+{
+    Command::new(alloc, "vmebus")
+        .no_binary_name(true)
+        .about(ABOUT)
+        .after_help(OVERVIEW)
+        .bin_name("vmebus")
+}
+
+/// The program with one more command, or the first error.
+fn offering<'a>(
+    program: Result<Command<'a>, AllocError>,
+    command: Result<Command<'a>, AllocError>,
+) -> Result<Command<'a>, AllocError>
+    ensures { IfOk result (λ c. (a : App) (s : Shape) → IfOk program.entry (λ before. app_of before ≡ a) → IfOk command.entry (λ sub. shape_of sub ≡ s)
+        → s.is_plain ≡ true → app_of c ≡ with_subcommand a s) }
+{
+    program?.subcommand(command?)
 }
 
 /// The program's command line.
 pub(crate) fn commands<'a>(alloc: Global) -> Result<Command<'a>, AllocError>
     ensures { IfOk result (λ c. app_of c ≡ said.commands) }
 {
-    Command::new(alloc, "vmebus")
-        .bin_name("vmebus")?
-        .no_binary_name(true)
-        .about(ABOUT)
-        .after_help(OVERVIEW)
-        .subcommand(replay(alloc)?)?
-        .subcommand(check(alloc)?)?
-        .subcommand(drive(alloc)?)?
-        .subcommand(run(alloc)?)
+    let program = offering(program(alloc), replay(alloc));
+    let program = offering(program, check(alloc));
+    let program = offering(program, drive(alloc));
+    offering(program, run(alloc))
 }

@@ -12,7 +12,7 @@ mod commands;
 use clap::error::ErrorKind;
 use clap::{ArgMatches, Error};
 use commands::commands;
-use std::alloc::Global;
+use std::alloc::{AllocError, Global};
 use vme_model::{TRACE_LIMIT, Version};
 
 /// The most edges that a run makes.
@@ -157,6 +157,22 @@ fn parsed<'a>(alloc: Global, words: &'a [&'a str]) -> Result<ArgMatches<'a>, Err
     commands(alloc)?.try_get_matches_from(words)
 }
 
+/// The job that words ask for, where they name a command.
+fn asked<'a>(alloc: Global, words: &'a [&'a str]) -> Result<Option<Job<'a>>, Error>
+    ensures within { IfOk result (λ job. IfSome job IsWithin) }
+    ensures asked { IfOk result (λ job. IfSome job (λ found. IsSomeAnd (subcommand_of commands_said (map (λ word. word.now) words.entry.now)) (λ met. AsksFor met.0 met.1 found))) }
+    ensures fault { FailsBy (fault_of commands_said (map (λ word. word.now) words.entry.now)) result }
+{
+    Ok(job_in(&parsed(alloc, words)?))
+}
+
+/// The error where no command is given.
+fn missing(alloc: Global) -> Result<Error, AllocError>
+    ensures { IfOk result (λ error. kind_of error ≡ ErrorKind.MissingSubcommand) }
+{
+    commands(alloc)?.error(ErrorKind::MissingSubcommand, "a command is missing")
+}
+
 /// The job that the words behind the program's name ask for.
 ///
 /// No words ask for [`Job::Joined`]. An error's `Display` is the text for the user; a call for help is one too.
@@ -171,9 +187,9 @@ pub fn words<'a>(alloc: Global, words: &'a [&'a str]) -> Result<Job<'a>, Error>
     if words.is_empty() {
         return Ok(Job::Joined);
     }
-    match job_in(&parsed(alloc, words)?) {
+    match asked(alloc, words)? {
         Some(job) => Ok(job),
-        None => Err(commands(alloc)?.error(ErrorKind::MissingSubcommand, "a command is missing")?),
+        None => Err(missing(alloc)?),
     }
 }
 

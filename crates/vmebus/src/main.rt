@@ -1,55 +1,15 @@
-//! The program: reads its words, has an engine do what they ask for, and answers by its exit status.
+//! The program: reads its words, has them obeyed, and answers by its exit status.
 //!
 //! 0: all edges were accepted, or nobody could make a further one. 1: a fault, one line on standard error. 2: some edge
 //! was refused. 3: the limit of edges was reached.
 #![tactic(auto)]
 
-ghost use Rattle.std.specs.Prelude.{◌≡◌, map};
-ghost use Rattle.std.specs.Process.{exit_status};
-ghost use Rattle.vmebus.specs.Done.{IsObeyed};
-
-mod faults;
-mod files;
-mod jobs;
-
-use files::output;
-use jobs::{code_of, run};
-use std::io::Write;
 use std::process::ExitCode;
 use std::sync::Wait;
 use std::thread::Threads;
-use std::{env, fmt, io};
+use std::{env, io};
 use vme_engines::EngineFault;
-use vme_words::words;
-
-/// Writes the one line of a fault.
-fn tell<D: fmt::Display + Drop>(rt: &HostRuntime, fault: D) -> ExitCode
-    ensures { exit_status result ≡ 1 }
-{
-    let _ = eprintln!(rt; "vmebus: {fault}");
-    ExitCode::FAILURE
-}
-
-/// Does what the words behind the program's name ask for.
-fn obey<R: Threads + Wait + Sync, W: Write>(
-    rt: &HostRuntime,
-    threads: &R,
-    given: &[&str],
-    out: &mut W,
-) -> ExitCode
-    ensures { IsObeyed (map (λ word. word.now) given.now) (W.contents out.old) (W.contents out.new) (exit_status result) }
-{
-    match words(rt.alloc(), given) {
-        Ok(job) => match run(rt, threads, job, out) {
-            Ok(status) => code_of(status),
-            Err(fault) => tell(rt, fault),
-        },
-        Err(error) => {
-            let _ = eprint!(rt; "{error}");
-            ExitCode::FAILURE
-        }
-    }
-}
+use vme_jobs::{obey, output, tell};
 
 /// Reads the words and obeys them. Errors: they are not text, or there is no memory for them.
 fn start<R: Threads + Wait + Sync>(rt: &HostRuntime, threads: &R) -> io::Result<ExitCode> {

@@ -1,10 +1,13 @@
 //! What went wrong, as the line on standard error.
 ghost use Rattle.std.specs.Prelude.{◌≡◌, ◌≢◌};
 ghost use Rattle.std.specs.IoError.{error_kind};
+ghost use Rattle.std.specs.Process.{exit_status};
 ghost use Rattle.vme_engines.specs.declared.EngineFault.{EngineFault as EngineFaultValue};
-ghost use Rattle.vmebus.specs.Names.{NamesOnly};
+ghost use Rattle.vme_jobs.specs.Names.{NamesOnly};
 
+use std::fmt;
 use std::io::{self, ErrorKind};
+use std::process::ExitCode;
 use thiserror::Error;
 use vme_engines::EngineFault;
 use vme_run::RunFault;
@@ -64,4 +67,12 @@ impl<'a> ProgramFault<'a> {
             other => ProgramFault::Boards(other),
         }
     }
+}
+
+/// Writes the one line of a fault.
+pub fn tell<D: fmt::Display + Drop>(rt: &HostRuntime, fault: D) -> ExitCode
+    ensures { exit_status result ≡ 1 }
+{
+    let _ = eprintln!(rt; "vmebus: {fault}");
+    ExitCode::FAILURE
 }

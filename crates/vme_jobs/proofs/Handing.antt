@@ -16,10 +16,10 @@ use Rattle.vme_run.specs.declared.RunFault.TheVariants as run
 use Rattle.vme_run.specs.Running.{Runs}
 use Rattle.vme_words.specs.declared.Job.{Job}
 use Rattle.vme_words.specs.declared.Job.TheVariants.{Joined, Replay, Check, Drive, Run}
-use Rattle.vmebus.specs.declared.faults.ProgramFault.{ProgramFault}
-use Rattle.vmebus.specs.declared.faults.ProgramFault.TheVariants.{CannotRead, TooLong, Engine}
-use Rattle.vmebus.specs.Done.{Alone, Hands, IsDone, Known}
-use Rattle.vmebus.specs.Names.{told_answer, told_run_answer}
+use Rattle.vme_jobs.specs.declared.faults.ProgramFault.{ProgramFault}
+use Rattle.vme_jobs.specs.declared.faults.ProgramFault.TheVariants.{CannotRead, TooLong, Engine}
+use Rattle.vme_jobs.specs.Done.{Alone, Hands, IsDone, Known}
+use Rattle.vme_jobs.specs.Names.{told_answer, told_run_answer}
 
 handed : (Does : Answer → Type 0) (nothing : Type 0) (name : Bor (List ℕ)) (answer : Answer) → Does answer
     → (Does (Err fault.CannotRead) → nothing) → (Does (Err fault.TooLong) → nothing) → Hands (Alone Does) nothing (told_answer name answer)

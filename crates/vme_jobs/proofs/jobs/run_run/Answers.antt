@@ -1,5 +1,5 @@
-use Rattle.vmebus.proofs.Handing.{run_done}
-use Rattle.vmebus.proofs.jobs.run_run.Goals as goal
+use Rattle.vme_jobs.proofs.Handing.{run_done}
+use Rattle.vme_jobs.proofs.jobs.run_run.Goals as goal
 
 pub returns-clause-done : goal.returns-clause-done
 returns-clause-done g c =

@@ -14,9 +14,9 @@ use Rattle.vme_run.specs.Running.{Runs}
 use Rattle.vme_words.specs.declared.Job.{Job}
 use Rattle.vme_words.specs.declared.Job.TheVariants.{Joined, Replay, Check, Drive, Run}
 use Rattle.vme_words.specs.Asked.{Ask}
-use Rattle.vmebus.specs.Statuses.{exit_code}
-use Rattle.vmebus.specs.declared.faults.ProgramFault.{ProgramFault}
-use Rattle.vmebus.specs.declared.faults.ProgramFault.TheVariants.{CannotRead, TooLong, Engine, Boards}
+use Rattle.vme_jobs.specs.Statuses.{exit_code}
+use Rattle.vme_jobs.specs.declared.faults.ProgramFault.{ProgramFault}
+use Rattle.vme_jobs.specs.declared.faults.ProgramFault.TheVariants.{CannotRead, TooLong, Engine, Boards}
 
 abbrev pub Known : Type 0
 Known = Option (List ℕ)

@@ -3,9 +3,9 @@ ghost use Rattle.std.specs.Prelude.{◌≡◌, ◌≤◌, IfErr};
 ghost use Rattle.std.specs.Process.{exit_status};
 ghost use Rattle.vme_model.specs.Report.{trace_limit};
 ghost use Rattle.vme_words.specs.Limits.{IsWithin, most_turns};
-ghost use Rattle.vmebus.specs.Done.{IsDone};
-ghost use Rattle.vmebus.specs.Names.{IsFaultOf, told_answer, told_run_answer};
-ghost use Rattle.vmebus.specs.Statuses.{exit_code};
+ghost use Rattle.vme_jobs.specs.Done.{IsDone};
+ghost use Rattle.vme_jobs.specs.Names.{IsFaultOf, told_answer, told_run_answer};
+ghost use Rattle.vme_jobs.specs.Statuses.{exit_code};
 
 use crate::faults::ProgramFault;
 use crate::files::{buffered, open, read_scenario};

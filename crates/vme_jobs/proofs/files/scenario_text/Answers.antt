@@ -1,6 +1,6 @@
 use Rattle.std.proofs.Common.{rules}
-use Rattle.vmebus.proofs.Fronts.{whole_front}
-use Rattle.vmebus.proofs.files.scenario_text.Goals as goal
+use Rattle.vme_jobs.proofs.Fronts.{whole_front}
+use Rattle.vme_jobs.proofs.files.scenario_text.Goals as goal
 
 pub returns-in-Ok-2-clause-whole : goal.returns-in-Ok-2-clause-whole
 returns-in-Ok-2-clause-whole g c =

@@ -8,8 +8,8 @@ use Rattle.vme_run.specs.declared.RunFault.{RunFault}
 use Rattle.vme_run.specs.declared.RunFault.TheVariants as run
 use Rattle.vme_words.specs.declared.Job.{Job}
 use Rattle.vme_words.specs.declared.Job.TheVariants.{Joined, Replay, Check, Drive, Run}
-use Rattle.vmebus.specs.declared.faults.ProgramFault.{ProgramFault}
-use Rattle.vmebus.specs.declared.faults.ProgramFault.TheVariants.{CannotRead, TooLong, Engine, Boards}
+use Rattle.vme_jobs.specs.declared.faults.ProgramFault.{ProgramFault}
+use Rattle.vme_jobs.specs.declared.faults.ProgramFault.TheVariants.{CannotRead, TooLong, Engine, Boards}
 
 -- the name of the scenario of a job: standard input is `-`
 abbrev pub scenario_name : Job → List ℕ

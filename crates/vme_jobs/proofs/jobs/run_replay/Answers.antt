@@ -1,5 +1,5 @@
-use Rattle.vmebus.proofs.Handing.{replay_done}
-use Rattle.vmebus.proofs.jobs.run_replay.Goals as goal
+use Rattle.vme_jobs.proofs.Handing.{replay_done}
+use Rattle.vme_jobs.proofs.jobs.run_replay.Goals as goal
 
 pub returns-clause-done : goal.returns-clause-done
 returns-clause-done g c =

@@ -1,0 +1,41 @@
+//! What the words behind the program's name ask for, done: the files that they name to an engine, its answer to a status, a
+//! fault to a line.
+#![tactic(auto)]
+
+ghost use Rattle.std.specs.Prelude.{map};
+ghost use Rattle.std.specs.Process.{exit_status};
+ghost use Rattle.vme_jobs.specs.Done.{IsObeyed};
+
+mod faults;
+mod files;
+mod jobs;
+
+pub use faults::{ProgramFault, tell};
+pub use files::output;
+use jobs::{code_of, run};
+use std::io::Write;
+use std::process::ExitCode;
+use std::sync::Wait;
+use std::thread::Threads;
+use vme_words::words;
+
+/// Does what the words behind the program's name ask for.
+pub fn obey<R: Threads + Wait + Sync, W: Write>(
+    rt: &HostRuntime,
+    threads: &R,
+    given: &[&str],
+    out: &mut W,
+) -> ExitCode
+    ensures { IsObeyed (map (λ word. word.now) given.now) (W.contents out.old) (W.contents out.new) (exit_status result) }
+{
+    match words(rt.alloc(), given) {
+        Ok(job) => match run(rt, threads, job, out) {
+            Ok(status) => code_of(status),
+            Err(fault) => tell(rt, fault),
+        },
+        Err(error) => {
+            let _ = eprint!(rt; "{error}");
+            ExitCode::FAILURE
+        }
+    }
+}
