@@ -176,6 +176,3 @@ pub fn words<'a>(alloc: Global, words: &'a [&'a str]) -> Result<Job<'a>, Error>
         None => Err(commands(alloc)?.error(ErrorKind::MissingSubcommand, "a command is missing")?),
     }
 }
-
-#[cfg(test)]
-mod tests;
