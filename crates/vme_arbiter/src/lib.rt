@@ -7,6 +7,3 @@ mod policies;
 
 pub use arbiters::Arbiter;
 pub use policies::{AnyPolicy, Policy, Pri, Rrs, Sgl};
-
-#[cfg(test)]
-mod tests;

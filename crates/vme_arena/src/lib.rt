@@ -14,8 +14,6 @@ mod memory;
 mod piece;
 mod region;
 mod slot;
-#[cfg(test)]
-mod tests;
 
 pub use lease::Lease;
 pub use region::{Full, Region, Rest};

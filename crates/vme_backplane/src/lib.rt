@@ -10,6 +10,3 @@ pub mod laws;
 
 pub use backplanes::{Backplane, Counts};
 pub use vme_store::{Trace, TraceError};
-
-#[cfg(test)]
-mod tests;

@@ -5,6 +5,3 @@ mod chains;
 pub mod laws;
 
 pub use chains::Chain;
-
-#[cfg(test)]
-mod tests;

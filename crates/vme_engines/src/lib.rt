@@ -57,6 +57,3 @@ pub enum EngineFault {
     #[error("F3 no memory")]
     NoMemory,
 }
-
-#[cfg(test)]
-mod tests;

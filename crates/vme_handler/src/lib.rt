@@ -5,6 +5,3 @@ mod handlers;
 
 pub use handlers::Handler;
 pub use vme_model::Delivery;
-
-#[cfg(test)]
-mod tests;

@@ -4,6 +4,3 @@
 mod iack_chains;
 
 pub use iack_chains::IackChain;
-
-#[cfg(test)]
-mod tests;

@@ -6,6 +6,3 @@ mod interrupters;
 pub mod laws;
 
 pub use interrupters::Interrupter;
-
-#[cfg(test)]
-mod tests;

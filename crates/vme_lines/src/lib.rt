@@ -4,6 +4,3 @@
 mod lines;
 
 pub use lines::OrLine;
-
-#[cfg(test)]
-mod tests;

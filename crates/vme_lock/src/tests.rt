@@ -1,39 +1,20 @@
-//! What no clause says: that threads run at once, what a worker does in its turns, and how it fares without room.
+//! A seat that made another number of edges than the history has of its driver: no call outside this crate makes one. The
+//! other tests stand in `vme_tests`.
 ghost use Rattle.std.specs.Prelude.{◌≡◌};
-ghost use Rattle.vme_model.specs.Plan.{drivers};
-ghost use Rattle.vme_lock.specs.Seats.{drivers_of};
 
 use super::*;
-use crate::logs::Pages;
-use bitflags::Flags;
-use std::alloc::{AllocError, Global};
-use std::hint::spin_loop;
+use std::alloc::Global;
 use std::marker::Brand;
 use std::process::Abort;
 use std::sync::Wait;
-use std::sync::atomic::{AtomicBool, AtomicU32, Ordering};
 use std::sync::ledger::Blank;
 use std::test::*;
-use std::thread::Threads;
 use vme_arena::{Region, Rest};
 use vme_backplane::{Backplane, Trace};
-use vme_model::{
-    ArbiterKind, Cycle, Driver, Edge, Levels, Refused, Release, RequesterRow, Row, Version, Wire,
-};
+use vme_model::{ArbiterKind, Driver, Edge, Levels, Release, RequesterRow, Row, Version, Wire};
 use vme_slots::Plan;
 
-/// How often a gate looks for a flag before it gives up.
-const LOOKS: u32 = 200_000_000;
-
-/// The bytes of a lease that is long enough for 1,000 edges.
-const AMPLE: usize = 8192;
-
-/// The bytes of a region for a trace and 22 ample rooms.
-const MEMORY: usize = 1_048_576;
-
 const FIRST: Driver = Driver::Slot(1);
-
-const SECOND: Driver = Driver::Slot(2);
 
 fn fall(driver: Driver, wire: Wire) -> Edge {
     Edge {
@@ -44,633 +25,60 @@ fn fall(driver: Driver, wire: Wire) -> Edge {
     }
 }
 
-fn rise(driver: Driver, wire: Wire) -> Edge {
-    Edge {
-        fall: false,
-        ..fall(driver, wire)
-    }
-}
-
-fn access(driver: Driver, slot: u8) -> Edge {
-    Edge {
-        value: Some(Cycle::Access(slot)),
-        ..fall(driver, Wire::Addr)
-    }
-}
-
-/// A board that requests level 3 and gives the bus up when done.
-fn requesting(slot: u8) -> Row {
-    Row {
-        slot,
+/// A backplane whose one board requests and withdraws as often as it likes.
+fn backplane<'r>(alloc: Global, rest: &mut Rest<'r>) -> Result<Backplane<'r>, Fail> {
+    let board = Row {
+        slot: 1,
         requester: Some(RequesterRow {
             level: 3,
-            release: Release::Done { burst: 1 },
+            release: Release::Request,
         }),
         interrupter: None,
-        handler: Levels::empty(),
-    }
-}
-
-/// A backplane with such a board in each slot.
-fn boards<'r>(alloc: Global, rest: &mut Rest<'r>, slots: u8) -> Result<Backplane<'r>, Fail> {
-    let mut rows = Vec::new(alloc);
-    for below in 0..slots.min(21) {
-        rows.push(requesting(below + 1))?;
-    }
-    let plan = Plan::new(alloc, slots, rows.as_slice(), &[], ArbiterKind::Sgl)?;
-    let trace = Trace::on(alloc, rest, 1000)?;
-    Ok(Backplane::new(plan, trace, Version::One))
-}
-
-/// A room with a lease for scratch and one for the log, of these sizes.
-fn room<'r>(rest: &mut Rest<'r>, sizes: (usize, usize)) -> Result<Room<'r>, Fail> {
-    Ok(Room {
-        scratch: rest.carve(sizes.0)?,
-        log: rest.carve(sizes.1)?,
-    })
-}
-
-fn rooms<'r>(
-    alloc: Global,
-    rest: &mut Rest<'r>,
-    sizes: &[(usize, usize)],
-) -> Result<Vec<Room<'r>>, Fail> {
-    let mut rooms = Vec::new(alloc);
-    for sizes in sizes {
-        rooms.push(room(rest, *sizes)?)?;
-    }
-    Ok(rooms)
-}
-
-fn edges_of(alloc: Global, log: &Log<'_>) -> Result<Vec<Edge>, AllocError> {
-    let mut edges = Vec::new(alloc);
-    for place in 0..log.len() {
-        edges.push(log.edge_at(place))?;
-    }
-    Ok(edges)
-}
-
-fn history_of(alloc: Global, backplane: &Backplane<'_>) -> Result<Vec<Edge>, AllocError> {
-    let mut edges = Vec::new(alloc);
-    for place in 0..backplane.len() {
-        edges.push(backplane.edge_at(place))?;
-    }
-    Ok(edges)
-}
-
-/// What the boards did.
-#[derive(Drop)]
-struct Ran {
-    logs: Vec<Vec<Edge>>,
-    made: Vec<u32>,
-    history: Vec<Edge>,
-}
-
-impl Ran {
-    /// Whether the log of the controller, or of a slot, is a front of these edges.
-    fn begins(&self, seat: usize, edges: &[Edge]) -> bool {
-        match self.logs.get(seat) {
-            Some(log) => edges.starts_with(log.as_slice()),
-            None => false,
-        }
-    }
-}
-
-/// L2, where the backplane that was handed back takes an edge as before.
-fn refused_lock(mut backplane: Backplane<'_>) -> Fail {
-    match backplane.step(fall(FIRST, Wire::Br)) {
-        Ok(_) => "L2".into(),
-        Err(_) => "another backplane was handed back".into(),
-    }
-}
-
-/// Runs all boards and closes.
-fn run_and_close<L: Rig + Send + Sync, G: Gate + Sync, R: Threads + Wait + Sync>(
-    rt: &R,
-    alloc: Global,
-    blank: Blank,
-    backplane: Backplane<'_>,
-    gate: &G,
-    bounds: Bounds,
-    rooms: Vec<Room<'_>>,
-) -> Result<Ran, Fail>
-    requires blank { (blank.name ≡ L.name) × (blank.parts ≡ L.parts) × (blank.parts ≡ 22) }
-    requires opened { L.opened ≡ backplane }
-{
-    let (shared, seats) = match Shared::<'_, L>::new(alloc, blank, backplane) {
-        Ok(opened) => opened,
-        Err(same) => return Err(refused_lock(same)),
+        handler: Levels::of_lines([false; 7]),
     };
-    if rooms.len() != seats.len() {
-        return Err("as many rooms as seats".into());
-    }
-    let Ok((seats, logs)) = run_boards(rt, alloc, &shared, seats, gate, bounds, rooms) else {
-        return Err("L3".into());
-    };
-    let mut made = Vec::new(alloc);
-    for seat in &seats {
-        made.push(seat.made())?;
-    }
-    let mut copies = Vec::new(alloc);
-    for log in &logs {
-        copies.push(edges_of(alloc, log)?)?;
-    }
-    match shared.close(seats, logs.as_slice()) {
-        Ok(closed) => Ok(Ran {
-            logs: copies,
-            made,
-            history: history_of(alloc, &closed.backplane)?,
-        }),
-        Err(_) => Err("L4".into()),
-    }
+    let plan = Plan::new(alloc, 1, &[board], &[], ArbiterKind::Sgl)?;
+    let trace = Trace::on(alloc, rest, 8)?;
+    Ok(Backplane::new(plan, trace, Version::Two))
 }
 
-/// Runs boards in rooms of these sizes, one for each driver.
-fn run_in_rooms<G: Gate + Sync, R: Threads + Wait + Sync>(
+/// Works a seat for so many turns, and says how many edges it made and why it ended.
+fn worked<L: Rig, R: Wait>(
     rt: &R,
-    alloc: Global,
-    slots: u8,
-    gate: &G,
-    turns: u32,
-    sizes: &[(usize, usize)],
-) -> Result<Ran, Fail> {
-    let mut region = Region::new(alloc, MEMORY)?;
-    let mut rest = region.rest();
-    let backplane = boards(alloc, &mut rest, slots)?;
-    let rooms = rooms(alloc, &mut rest, sizes)?;
-    let bounds = Bounds { turns, edges: 1000 };
-    let blank = Blank::new(22);
-    run_and_close::<Brand, G, R>(rt, alloc, blank, backplane, gate, bounds, rooms)
-}
-
-/// One board asks. `acceptance/failing-calls` refuses each of this test's calls for memory in turn: it ends by the name of
-/// what was refused, L2 and L3 among them, or as it does else.
-#[test]
-fn refused_memory(rt: HostRuntime) -> Result<(), Fail> {
-    let ran = run_in_rooms(&rt, rt.alloc(), 1, &OpenGate, 1, &[(AMPLE, AMPLE); 2])?;
-    assert!(rt; ran.begins(1, &[fall(FIRST, Wire::Br)]));
-    assert!(rt; ran.made.get(1) == Some(&1));
-    Ok(())
-}
-
-/// Waits for a flag, and says whether it came up.
-fn comes_up(flag: &AtomicBool) -> bool {
-    for _look in 0..LOOKS {
-        if flag.load(Ordering::SeqCst) {
-            return true;
-        }
-        spin_loop();
-    }
-    false
-}
-
-/// A gate at which each driver waits once: slot 1 for an edge of slot 2, the others for both others.
-#[derive(Drop)]
-struct Together {
-    controller: AtomicBool,
-    first: AtomicBool,
-    second: AtomicBool,
-    edge: AtomicBool,
-    ran_out: AtomicBool,
-}
-
-impl Together {
-    fn new() -> Together {
-        Together {
-            controller: AtomicBool::new(false),
-            first: AtomicBool::new(false),
-            second: AtomicBool::new(false),
-            edge: AtomicBool::new(false),
-            ran_out: AtomicBool::new(false),
-        }
-    }
-
-    fn wait_for(&self, flag: &AtomicBool) {
-        if !comes_up(flag) {
-            self.ran_out.store(true, Ordering::SeqCst);
-        }
-    }
-}
-
-impl Gate for Together {
-    fn before(&self, driver: Driver, turn: u32) -> bool {
-        match (driver, turn) {
-            (Driver::Controller, 0) => {
-                self.controller.store(true, Ordering::SeqCst);
-                self.wait_for(&self.first);
-                self.wait_for(&self.second);
-            }
-            (FIRST, 0) => {
-                self.first.store(true, Ordering::SeqCst);
-                self.wait_for(&self.edge);
-            }
-            (_, 0) => {
-                self.second.store(true, Ordering::SeqCst);
-                self.wait_for(&self.controller);
-                self.wait_for(&self.first);
-            }
-            _ => {}
-        }
-        true
-    }
-
-    fn after(&self, driver: Driver, _turn: u32, accepted: bool) {
-        if accepted && driver == SECOND {
-            self.edge.store(true, Ordering::SeqCst);
-        }
-    }
-}
-
-/// Neither threads one after the other nor a lock that is held while the gate is called gets through this.
-#[test]
-fn all_run_at_once(rt: HostRuntime) -> Result<(), Fail> {
-    let gate = Together::new();
-    let ran = run_in_rooms(&rt, rt.alloc(), 2, &gate, 100, &[(AMPLE, AMPLE); 3])?;
-    assert!(rt; !gate.ran_out.load(Ordering::SeqCst));
-    assert!(rt; ran.history.first() == Some(&fall(SECOND, Wire::Br)));
-    Ok(())
-}
-
-/// Without room a board makes no edge, and the others go on.
-#[test]
-fn a_short_room(rt: HostRuntime) -> Result<(), Fail> {
-    for short in [(16, AMPLE), (AMPLE, 0)] {
-        let sizes = [(AMPLE, AMPLE), short, (AMPLE, AMPLE)];
-        let ran = run_in_rooms(&rt, rt.alloc(), 2, &OpenGate, 100, &sizes)?;
-        assert!(rt; ran.begins(1, &[]));
-        assert!(rt; ran.made.get(1) == Some(&0));
-        assert!(rt; !ran.begins(2, &[]));
-    }
-    Ok(())
-}
-
-/// A gate that lets slot 1 take no further turn after so many accepted edges.
-#[derive(Drop)]
-struct Stops {
-    after: u32,
-    accepted: AtomicU32,
-}
-
-impl Stops {
-    fn new(after: u32) -> Stops {
-        Stops {
-            after,
-            accepted: AtomicU32::new(0),
-        }
-    }
-}
-
-impl Gate for Stops {
-    fn before(&self, driver: Driver, _turn: u32) -> bool {
-        driver != FIRST || self.accepted.load(Ordering::SeqCst) < self.after
-    }
-
-    fn after(&self, driver: Driver, _turn: u32, accepted: bool) {
-        if accepted && driver == FIRST {
-            self.accepted.fetch_add(1, Ordering::SeqCst);
-        }
-    }
-}
-
-/// The grant stands at slot 1, which neither takes it nor passes it on.
-#[test]
-fn a_board_that_never_starts(rt: HostRuntime) -> Result<(), Fail> {
-    let gate = Stops::new(0);
-    let ran = run_in_rooms(&rt, rt.alloc(), 2, &gate, 10_000, &[(AMPLE, AMPLE); 3])?;
-    let request = fall(SECOND, Wire::Br);
-    let history = [request, fall(Driver::Controller, Wire::Bg(3))];
-    assert!(rt; ran.history.first() == Some(&request));
-    assert!(rt; history.as_slice().starts_with(ran.history.as_slice()));
-    Ok(())
-}
-
-#[test]
-fn a_board_that_stops_as_owner(rt: HostRuntime) -> Result<(), Fail> {
-    let gate = Stops::new(2);
-    let ran = run_in_rooms(&rt, rt.alloc(), 2, &gate, 10_000, &[(AMPLE, AMPLE); 3])?;
-    let grant = fall(Driver::Controller, Wire::Bg(3));
-    let granted = rise(Driver::Controller, Wire::Bg(3));
-    assert!(rt; ran.begins(0, &[grant, granted]));
-    assert!(rt; ran.begins(1, &[fall(FIRST, Wire::Br), fall(FIRST, Wire::Bbsy)]));
-    assert!(rt; ran.begins(2, &[fall(SECOND, Wire::Br)]));
-    assert!(rt; !ran.begins(1, &[]) && !ran.begins(2, &[]));
-    Ok(())
-}
-
-/// Whether a backplane of its own takes the whole history of 21 boards.
-fn is_legal(alloc: Global, history: &[Edge]) -> Result<bool, Fail> {
-    let mut region = Region::new(alloc, MEMORY)?;
-    let mut again = boards(alloc, &mut region.rest(), 21)?;
-    Ok(again.run(history).refused == 0)
-}
-
-/// 21 boards, a hundred times over: each closed history is legal, and as long as the logs. In its first turn each board asks.
-#[test]
-fn many_boards_many_times(rt: HostRuntime) -> Result<(), Fail> {
-    for _run in 0..100u8 {
-        let ran = run_in_rooms(&rt, rt.alloc(), 21, &OpenGate, 20, &[(AMPLE, AMPLE); 22])?;
-        assert!(rt; is_legal(rt.alloc(), ran.history.as_slice())?);
-        let mut logged = 0;
-        for log in &ran.logs {
-            logged = log.len().saturating_add(logged);
-        }
-        assert_eq!(rt; logged, ran.history.len());
-        assert!(rt; logged > 20);
-    }
-    Ok(())
-}
-
-/// Makes an edge of slot 1, which then stands in no log.
-#[tactic(auto, using(crate::proofs::Joining::drivers_set))]
-fn make_otherwise<L: Rig, R: Wait>(
-    rt: &R,
-    shared: &Shared<'_, L>,
-    seats: &mut Seats<L>,
-    edge: Edge,
-) -> Result<(), Fail>
-    ensures { drivers_of seats.new.items ≡ drivers_of seats.old.items }
-{
-    match seats.get_mut(1) {
-        Some(seat) => shared.edge(rt, seat, edge)?,
-        None => None,
-    };
-    Ok(())
-}
-
-/// When an edge is made that no worker makes.
-#[derive(Clone, Copy)]
-enum Made {
-    Before(Edge),
-    Behind(Edge),
-}
-
-/// Makes an edge before the boards run or behind, and answers which driver's log differs, and where.
-fn mismatch_of<L: Rig + Send + Sync, G: Gate + Sync, R: Threads + Wait + Sync>(
-    rt: &R,
-    alloc: Global,
-    shared: Shared<'_, L>,
-    mut seats: Seats<L>,
-    gate: &G,
-    turns: u32,
-    rooms: Vec<Room<'_>>,
-    made: Made,
-) -> Result<(Driver, u32), Fail>
-    requires parts { L.parts ≡ 22 }
-    requires seats { drivers_of seats.items ≡ drivers L.opened.plan }
-{
-    if let Made::Before(edge) = made {
-        make_otherwise(rt, &shared, &mut seats, edge)?;
-    }
-    if rooms.len() != seats.len() {
-        return Err("as many rooms as seats".into());
-    }
-    let bounds = Bounds { turns, edges: 1000 };
-    let (mut seats, logs) = run_boards(rt, alloc, &shared, seats, gate, bounds, rooms)?;
-    if let Made::Behind(edge) = made {
-        make_otherwise(rt, &shared, &mut seats, edge)?;
-    }
-    if logs.len() != seats.len() {
-        return Err("as many logs as seats".into());
-    }
-    let closed = shared.close(seats, logs.as_slice());
-    match &closed {
-        Ok(_) => Err("an edge is in no log".into()),
-        Err(mismatch) => Ok((mismatch.driver, mismatch.at)),
-    }
-}
-
-/// Opens a backplane, and makes an edge on it that stands in no log.
-fn mismatch<L: Rig + Send + Sync, G: Gate + Sync, R: Threads + Wait + Sync>(
-    rt: &R,
-    alloc: Global,
-    blank: Blank,
-    backplane: Backplane<'_>,
-    gate: &G,
-    turns: u32,
-    rooms: Vec<Room<'_>>,
-    made: Made,
-) -> Result<(Driver, u32), Fail>
-    requires blank { (blank.name ≡ L.name) × (blank.parts ≡ L.parts) × (blank.parts ≡ 22) }
-    requires opened { L.opened ≡ backplane }
-{
-    let Ok((shared, seats)) = Shared::<'_, L>::new(alloc, blank, backplane) else {
-        return Err("L2".into());
-    };
-    mismatch_of(rt, alloc, shared, seats, gate, turns, rooms, made)
-}
-
-#[test]
-fn an_edge_before_the_boards_run(rt: HostRuntime) -> Result<(), Fail> {
-    let alloc = rt.alloc();
-    let mut region = Region::new(alloc, MEMORY)?;
-    let mut rest = region.rest();
-    let backplane = boards(alloc, &mut rest, 2)?;
-    let rooms = rooms(alloc, &mut rest, &[(AMPLE, AMPLE); 3])?;
-    let blank = Blank::new(22);
-    let made = Made::Before(fall(FIRST, Wire::Br));
-    let found = mismatch::<Brand, _, _>(&rt, alloc, blank, backplane, &OpenGate, 100, rooms, made)?;
-    assert_eq!(rt; found, (FIRST, 0));
-    Ok(())
-}
-
-/// A gate at which the controller waits for an edge of a board.
-#[derive(Drop)]
-struct Asked {
-    edge: AtomicBool,
-}
-
-impl Gate for Asked {
-    fn before(&self, driver: Driver, _turn: u32) -> bool {
-        driver != Driver::Controller || comes_up(&self.edge)
-    }
-
-    fn after(&self, _driver: Driver, _turn: u32, accepted: bool) {
-        if accepted {
-            self.edge.store(true, Ordering::SeqCst);
-        }
-    }
-}
-
-/// The request stands in the log of slot 1 and the grant in the controller's, and that the bus was taken in none.
-#[test]
-fn an_edge_behind_the_last_turn(rt: HostRuntime) -> Result<(), Fail> {
-    let alloc = rt.alloc();
-    let mut region = Region::new(alloc, MEMORY)?;
-    let mut rest = region.rest();
-    let backplane = boards(alloc, &mut rest, 1)?;
-    let rooms = rooms(alloc, &mut rest, &[(AMPLE, AMPLE); 2])?;
-    let blank = Blank::new(22);
-    let gate = Asked {
-        edge: AtomicBool::new(false),
-    };
-    let made = Made::Behind(fall(FIRST, Wire::Bbsy));
-    let found = mismatch::<Brand, _, _>(&rt, alloc, blank, backplane, &gate, 1, rooms, made)?;
-    assert_eq!(rt; found, (FIRST, 1));
-    Ok(())
-}
-
-/// A gate that counts the calls behind it.
-#[derive(Drop)]
-struct Counts {
-    open: bool,
-    after: AtomicU32,
-}
-
-impl Counts {
-    fn new(open: bool) -> Counts {
-        Counts {
-            open,
-            after: AtomicU32::new(0),
-        }
-    }
-}
-
-impl Gate for Counts {
-    fn before(&self, _driver: Driver, _turn: u32) -> bool {
-        self.open
-    }
-
-    fn after(&self, _driver: Driver, _turn: u32, _accepted: bool) {
-        self.after.fetch_add(1, Ordering::SeqCst);
-    }
-}
-
-/// Works a seat for so many turns with a gate that counts, in which it makes these edges.
-fn counted<L: Rig, R: Wait + Abort>(
-    rt: &R,
-    alloc: Global,
     shared: &Shared<'_, L>,
     seat: Seat<L>,
     turns: u32,
-    edges: &[Edge],
     rest: &mut Rest<'_>,
-) -> Result<Seat<L>, Fail> {
-    let gate = Counts::new(true);
-    let bounds = Bounds { turns, edges: 1000 };
-    let room = room(rest, (AMPLE, AMPLE))?;
-    let (seat, log, spent) = work_board(rt, shared, seat, &gate, bounds, room);
-    assert!(rt; spent == Spent::Turns);
-    assert_eq!(rt; gate.after.load(Ordering::SeqCst), turns);
-    let made = edges_of(alloc, &log)?;
-    assert!(rt; made.len() == edges.len() && made.starts_with(edges));
-    Ok(seat)
+) -> Result<(Seat<L>, u32, Spent), Fail> {
+    let bounds = Bounds { turns, edges: 8 };
+    let room = Room {
+        scratch: rest.carve(2048)?,
+        log: rest.carve(Trace::bytes(8))?,
+    };
+    let (seat, log, spent) = work_board(rt, shared, seat, &OpenGate, bounds, room);
+    Ok((seat, log.len(), spent))
 }
 
-/// Works a seat for one turn, and says why it ended without an edge.
-fn idle<L: Rig, R: Wait + Abort>(
-    rt: &R,
-    shared: &Shared<'_, L>,
-    seat: Seat<L>,
-    open: bool,
-    rest: &mut Rest<'_>,
-    sizes: (usize, usize),
-) -> Result<(Seat<L>, Spent), Fail> {
-    let bounds = Bounds { turns: 1, edges: 8 };
-    let room = room(rest, sizes)?;
-    let (seat, log, spent) = work_board(rt, shared, seat, &Counts::new(open), bounds, room);
-    assert!(rt; log.is_empty());
-    Ok((seat, spent))
-}
-
-/// What slot 1 sees behind its request, and the edges that it is refused.
-fn refusals<L: Rig, R: Wait + Abort>(
-    rt: &R,
-    shared: &Shared<'_, L>,
-    first: &mut Seat<L>,
-) -> Result<(), Fail> {
-    let view = shared.look(rt, first)?;
-    assert_eq!(rt; (view.own, view.total), (1, 1));
-    assert!(rt; view.pins.requests.has(3));
-    assert!(rt; view.offers.is_empty());
-    for other in [SECOND, Driver::Slot(0), Driver::Controller] {
-        let refused = shared.edge(rt, first, fall(other, Wire::Br));
-        assert!(rt; refused == Err(EdgeRefused::NotYours));
-    }
-    let again = Err(EdgeRefused::Step(Refused::AlreadyThere));
-    assert!(rt; shared.edge(rt, first, fall(FIRST, Wire::Br)) == again);
-    assert_eq!(rt; first.made(), 1);
-    Ok(())
-}
-
-/// A seat that the history has other edges of than it made: it sees nothing, and makes none.
+/// It sees nothing and makes no edge, and its worker ends.
 fn see_nothing<L: Rig, R: Wait + Abort>(
     rt: &R,
     shared: &Shared<'_, L>,
-    mut seat: Seat<L>,
+    seat: Seat<L>,
     own: u32,
-) {
+    rest: &mut Rest<'_>,
+) -> Result<(), Fail> {
+    let (mut seat, made, spent) = worked(rt, shared, seat, 1, rest)?;
+    assert!(rt; made == 0 && spent == Spent::Lost);
     let lost = Lost { own };
     assert!(rt; shared.look(rt, &seat).err() == Some(lost));
     let others = fall(Driver::Controller, Wire::Bclr);
     assert!(rt; shared.edge(rt, &mut seat, others) == Err(EdgeRefused::NotYours));
     let refused = shared.edge(rt, &mut seat, fall(FIRST, Wire::Irq));
     assert!(rt; refused == Err(EdgeRefused::Lost(lost)));
-}
-
-/// Without room for an edge or for its log a worker makes none.
-fn no_room<L: Rig, R: Wait + Abort>(
-    rt: &R,
-    shared: &Shared<'_, L>,
-    seat: Seat<L>,
-    rest: &mut Rest<'_>,
-) -> Result<Seat<L>, Fail> {
-    let (seat, spent) = idle(rt, shared, seat, true, rest, (16, AMPLE))?;
-    assert!(rt; spent == Spent::NoRoom);
-    let (seat, spent) = idle(rt, shared, seat, true, rest, (AMPLE, 0))?;
-    assert!(rt; spent == Spent::NoRoom);
-    Ok(seat)
-}
-
-/// A worker ends at 8 edges in the history, and at a gate that is shut.
-fn no_turn<L: Rig, R: Wait + Abort>(
-    rt: &R,
-    shared: &Shared<'_, L>,
-    seat: Seat<L>,
-    rest: &mut Rest<'_>,
-) -> Result<Seat<L>, Fail> {
-    let (seat, spent) = idle(rt, shared, seat, true, rest, (AMPLE, AMPLE))?;
-    assert!(rt; spent == Spent::Edges);
-    let (seat, spent) = idle(rt, shared, seat, false, rest, (AMPLE, AMPLE))?;
-    assert!(rt; spent == Spent::Gate);
-    Ok(seat)
-}
-
-/// The turns of two workers, one after the other on one thread.
-fn one_thread<L: Rig, R: Wait + Abort>(
-    rt: &R,
-    alloc: Global,
-    shared: &Shared<'_, L>,
-    controller: Seat<L>,
-    first: Seat<L>,
-    rest: &mut Rest<'_>,
-) -> Result<(), Fail> {
-    let first = no_room(rt, shared, first, rest)?;
-    let request = [fall(FIRST, Wire::Br)];
-    let mut first = counted(rt, alloc, shared, first, 1, &request, rest)?;
-    refusals(rt, shared, &mut first)?;
-    let grant = [fall(Driver::Controller, Wire::Bg(3))];
-    let controller = counted(rt, alloc, shared, controller, 1, &grant, rest)?;
-    let tenure = [
-        fall(FIRST, Wire::Bbsy),
-        access(FIRST, 1),
-        rise(FIRST, Wire::Br),
-        fall(FIRST, Wire::AddressStrobe),
-        fall(FIRST, Wire::DataStrobe),
-        fall(FIRST, Wire::Dtack),
-    ];
-    let first = counted(rt, alloc, shared, first, 6, &tenure, rest)?;
-    assert_eq!(rt; first.made(), 7);
-    let controller = no_turn(rt, shared, controller, rest)?;
-    let made = controller.made();
-    let stray = Seat::new(FIRST, made, controller.into_share());
-    let (stray, spent) = idle(rt, shared, stray, true, rest, (AMPLE, AMPLE))?;
-    assert!(rt; spent == Spent::Lost);
-    see_nothing(rt, shared, stray, 7);
     Ok(())
 }
 
-/// Opens a backplane with one board, and works its two seats.
-fn one_board<L: Rig, R: Wait + Abort>(
+/// The board makes seven edges, and then the controller's share is made a seat of its.
+fn lose<L: Rig, R: Wait + Abort>(
     rt: &R,
     alloc: Global,
     blank: Blank,
@@ -680,72 +88,21 @@ fn one_board<L: Rig, R: Wait + Abort>(
     requires blank { (blank.name ≡ L.name) × (blank.parts ≡ L.parts) × (blank.parts ≡ 22) }
     requires opened { L.opened ≡ backplane }
 {
-    let Ok((shared, seats)) = Shared::<'_, L>::new(alloc, blank, backplane) else {
+    let Ok((shared, mut seats)) = Shared::<'_, L>::new(alloc, blank, backplane) else {
         return Err("L2".into());
     };
-    let mut seats = seats;
     let first = seats.pop().ok_or("two seats")?;
     let controller = seats.pop().ok_or("two seats")?;
-    one_thread(rt, alloc, &shared, controller, first, rest)
+    let (_, made, _) = worked(rt, &shared, first, 7, rest)?;
+    assert_eq!(rt; made, 7);
+    let stray = Seat::new(FIRST, controller.made(), controller.into_share());
+    see_nothing(rt, &shared, stray, 7, rest)
 }
 
 #[test]
-fn turns_of_a_worker(rt: HostRuntime) -> Result<(), Fail> {
-    let mut region = Region::new(rt.alloc(), MEMORY)?;
+fn a_seat_that_is_lost(rt: HostRuntime) -> Result<(), Fail> {
+    let mut region = Region::new(rt.alloc(), 8192)?;
     let mut rest = region.rest();
-    let backplane = boards(rt.alloc(), &mut rest, 1)?;
-    one_board::<Brand, _>(&rt, rt.alloc(), Blank::new(22), backplane, &mut rest)
-}
-
-/// Fills a room of these sizes with so many edges, and answers the length of the log.
-fn filled(alloc: Global, edges: u32, sizes: (usize, usize)) -> Result<u32, Fail> {
-    let mut region = Region::new(alloc, MEMORY)?;
-    let Room { scratch, log } = room(&mut region.rest(), sizes)?;
-    let mut log = Vec::new(log);
-    log.reserve_exact(edges as usize)?;
-    let mut pages = Pages::new(&scratch, edges);
-    let request = fall(FIRST, Wire::Br);
-    if !request.is_well_formed() {
-        return Err("a well-formed edge".into());
-    }
-    for _edge in 0..edges {
-        pages.make_room()?;
-        pages.push(request);
-    }
-    pages.copy_to(&mut log);
-    Ok(Log::new(log).len())
-}
-
-#[test]
-fn rooms_of_their_exact_sizes(rt: HostRuntime) -> Result<(), Fail> {
-    for edges in [1, 256, 257, 1000] {
-        let sizes = (log_bytes(edges), Trace::bytes(edges));
-        let filled = filled(rt.alloc(), edges, sizes)?;
-        assert_eq!(rt; filled, edges);
-    }
-    Ok(())
-}
-
-/// The texts of the refusals.
-#[test]
-fn texts(rt: HostRuntime) -> Result<(), Fail> {
-    let lost = Lost { own: 7 };
-    let texts = [
-        (
-            format!(in rt.alloc(); "{}", EdgeRefused::NotYours)?,
-            "L1 the edge is not the seat's",
-        ),
-        (
-            format!(in rt.alloc(); "{NotStarted}")?,
-            "L3 the boards could not be started",
-        ),
-        (
-            format!(in rt.alloc(); "{lost}")?,
-            "L5 the history has 7 edges of the seat's driver",
-        ),
-    ];
-    for (text, want) in &texts {
-        assert_eq!(rt; text.as_str(), *want);
-    }
-    Ok(())
+    let backplane = backplane(rt.alloc(), &mut rest)?;
+    lose::<Brand, _>(&rt, rt.alloc(), Blank::new(22), backplane, &mut rest)
 }

@@ -4,6 +4,3 @@
 mod masters;
 
 pub use masters::Master;
-
-#[cfg(test)]
-mod tests;

@@ -4,6 +4,3 @@
 mod requesters;
 
 pub use requesters::Requester;
-
-#[cfg(test)]
-mod tests;

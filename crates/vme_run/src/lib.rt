@@ -44,6 +44,3 @@ impl fmt::Display for Name {
         }
     }
 }
-
-#[cfg(test)]
-mod tests;

@@ -16,6 +16,3 @@ mod values;
 
 pub use errors::ScenarioError;
 pub use scenario::{Scenario, read};
-
-#[cfg(test)]
-mod tests;

@@ -5,8 +5,6 @@ mod boards;
 mod faults;
 mod plans;
 mod ranges;
-#[cfg(test)]
-mod tests;
 
 pub use plans::Plan;
 pub use vme_model::{Field, PlanError};

@@ -12,6 +12,3 @@ mod traces;
 pub use codes::Code;
 pub use stores::Store;
 pub use traces::{Trace, TraceError};
-
-#[cfg(test)]
-mod tests;

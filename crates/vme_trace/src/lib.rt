@@ -8,8 +8,6 @@ mod headers;
 mod input;
 pub mod laws;
 mod reader;
-#[cfg(test)]
-mod tests;
 mod writer;
 
 pub use headers::{header_line, header_of};

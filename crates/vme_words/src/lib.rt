@@ -192,6 +192,3 @@ pub fn words<'a>(alloc: Global, words: &'a [&'a str]) -> Result<Job<'a>, Error>
         None => Err(missing(alloc)?),
     }
 }
-
-#[cfg(test)]
-mod tests;

@@ -1,81 +1,17 @@
 //! What no clause says: printed texts, outside examples of the format, and that calls succeed.
-use crate::{Fault, Reader, parse, pump, put, write};
-use std::alloc::Global;
-use std::io::{self, ErrorKind, Read, Write};
+use crate::boards::edge;
+use crate::devices::{Narrow, Pieces};
 use vme_model::{Cycle, Driver, Edge, Version, Wire};
+use vme_trace::{Fault, Reader, parse, pump, put, write};
 
 /// Two boards ask for an interrupt at one level; the handler serves both.
 const TWO_SERVED: &[u8] =
     b"vme 1\n2 irq-\n3 irq-\n1 br-\nc bg3-\n1 bbsy-\n1 br+\nc bg3+\n1 addr- i4\n1 as-\n1 ds-\nc iack-\n3 dtack-\n2 dtack-\n1 ds+\n2 dtack+\n2 irq+\n1 addr+\n1 as+\n1 addr- i4\n1 as-\nc iack+\n1 as-\n1 ds-\nc iack-\n2 iackout-\n3 dtack-\n";
 
-/// A reader that gives at most `most` bytes a read, and whose reads number `interrupted` and `failing` fail.
-#[derive(Drop)]
-struct Pieces<'a> {
-    left: &'a [u8],
-    most: usize,
-    read: u32,
-    interrupted: u32,
-    failing: u32,
-}
-
-impl<'a> Pieces<'a> {
-    fn new(left: &'a [u8], most: usize) -> Pieces<'a> {
-        Pieces {
-            left,
-            most,
-            read: 0,
-            interrupted: u32::MAX,
-            failing: u32::MAX,
-        }
-    }
-}
-
-impl<'a> Read for Pieces<'a> {
-    fn read(&mut self, buf: &mut [u8]) -> io::Result<usize> {
-        self.read = self.read.saturating_add(1);
-        if self.read == self.interrupted {
-            return Err(io::Error::from(ErrorKind::Interrupted));
-        }
-        if self.read == self.failing {
-            return Err(io::Error::from(ErrorKind::Other));
-        }
-        let count = self.left.len().min(buf.len()).min(self.most);
-        let (front, rest) = self.left.split_at(count);
-        buf[..count].copy_from_slice(front);
-        self.left = rest;
-        Ok(count)
-    }
-}
-
-/// A writer that takes `room` bytes, at most 5 a write, and then fails.
-#[derive(Drop)]
-struct Narrow {
-    taken: Vec<u8>,
-    room: usize,
-}
-
-impl Write for Narrow {
-    fn write(&mut self, buf: &[u8]) -> io::Result<usize> {
-        let count = buf.len().min(5).min(self.room);
-        if count == 0 {
-            return Err(io::Error::from(ErrorKind::Other));
-        }
-        self.taken.extend_from_slice(&buf[..count])?;
-        self.room -= count;
-        Ok(count)
-    }
-
-    fn flush(&mut self) -> io::Result<()> {
-        Ok(())
-    }
-}
-
 fn board_edge(slot: u8, wire: Wire, fall: bool, value: Option<Cycle>) -> Edge {
     Edge {
-        driver: Driver::Slot(slot),
-        wire,
-        fall,
         value,
+        ..edge(Driver::Slot(slot), wire, fall)
     }
 }
 
@@ -100,7 +36,7 @@ fn reads_a_line_in_two_pieces(rt: HostRuntime) {
         pump(&mut reader, &mut input, &mut edges),
         Err(Fault::Failed)
     );
-    assert_eq!(rt; input.read, 0);
+    assert_eq!(rt; input.reads(), 0);
     assert_eq!(rt; edges.len(), 1);
 }
 
@@ -245,9 +181,9 @@ fn keeps_the_edges_before_a_fault(rt: HostRuntime) {
 fn a_read_that_fails_is_the_last(rt: HostRuntime) {
     let mut edges = Vec::new(rt.alloc());
     let mut reader = Reader::new();
-    let mut input = Pieces::new(b"vme 1\n1 br-\n", 6);
-    input.interrupted = 1;
-    input.failing = 4;
+    let mut input = Pieces::new(b"vme 1\n1 br-\n", 6)
+        .interrupted_at(1)
+        .failing_at(4);
     assert_eq!(rt; pump(&mut reader, &mut input, &mut edges), Ok(true));
     assert_eq!(rt; pump(&mut reader, &mut input, &mut edges), Ok(true));
     assert_eq!(rt; pump(&mut reader, &mut input, &mut edges), Err(Fault::Read));
@@ -260,15 +196,12 @@ fn a_read_that_fails_is_the_last(rt: HostRuntime) {
 
 #[test]
 fn a_write_that_fails_leaves_a_front(rt: HostRuntime) {
-    let mut out = Narrow {
-        taken: Vec::new(rt.alloc()),
-        room: 9,
-    };
+    let mut out = Narrow::new(rt.alloc(), 5, 9);
     let edge = board_edge(1, Wire::Br, true, None);
     if edge.is_well_formed() {
         assert_eq!(rt; write(Version::One, &[edge], &mut out), Err(Fault::Write));
     }
-    assert_eq!(rt; out.taken.as_slice(), b"vme 1\n1 b".as_slice());
+    assert_eq!(rt; out.taken(), b"vme 1\n1 b".as_slice());
     assert_eq!(rt; put(&mut out, b"r-"), Err(Fault::Write));
 }
 

@@ -1,8 +1,8 @@
 //! What the command line means.
-use crate::{Job, words};
 use std::alloc::Global;
 use std::test::Fail;
 use vme_model::Version;
+use vme_words::{Job, words};
 
 #[test]
 fn no_words_are_joined(rt: HostRuntime) -> Result<(), Fail> {

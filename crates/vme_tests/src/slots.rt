@@ -1,41 +1,9 @@
 //! A plan's calls, memory that is refused, and the printed refusals. Which plan is refused, and for what, the clauses say.
-use crate::{Field, Plan, PlanError};
+use crate::boards::{interrupter, requester};
 use bitflags::Flags;
 use std::test::Fail;
-use vme_model::{
-    ArbiterKind, ChainId, Chains, InterrupterRow, IrqKind, Jumper, Levels, Release, RequesterRow,
-    Row,
-};
-
-/// A board with nothing that the tests look at.
-fn board(slot: u8) -> Row {
-    Row {
-        slot,
-        requester: None,
-        interrupter: None,
-        handler: Levels::empty(),
-    }
-}
-
-fn requester(slot: u8, level: u8) -> Row {
-    let release = Release::Done { burst: 1 };
-    Row {
-        requester: Some(RequesterRow { level, release }),
-        ..board(slot)
-    }
-}
-
-fn interrupter(slot: u8, level: u8) -> Row {
-    let kind = IrqKind::Roak;
-    Row {
-        interrupter: Some(InterrupterRow {
-            level,
-            kind,
-            status: 65,
-        }),
-        ..board(slot)
-    }
-}
+use vme_model::{ArbiterKind, ChainId, Chains, Jumper};
+use vme_slots::{Field, Plan, PlanError};
 
 fn jumper(slot: u8, chains: u8) -> Jumper {
     Jumper {
@@ -47,10 +15,10 @@ fn jumper(slot: u8, chains: u8) -> Jumper {
 #[test]
 fn a_plan_tells_its_boards_and_chains(rt: HostRuntime) -> Result<(), Fail> {
     let rows = [
-        requester(4, 1),
-        requester(1, 3),
-        requester(3, 3),
-        interrupter(5, 7),
+        requester(4, 1, 1),
+        requester(1, 3, 1),
+        requester(3, 3, 1),
+        interrupter(5, 7, 65),
     ];
     let jumpers = [jumper(2, 0b1_1010)];
     let plan = Plan::new(rt.alloc(), 6, &rows, &jumpers, ArbiterKind::Pri)?;
@@ -76,7 +44,7 @@ fn a_plan_tells_its_boards_and_chains(rt: HostRuntime) -> Result<(), Fail> {
 /// Holds where an allocation fails too: want of memory is then answered, and no fault of the plan.
 #[test]
 fn answers_the_plan_or_want_of_memory(rt: HostRuntime) {
-    let rows = [requester(1, 3), interrupter(3, 7)];
+    let rows = [requester(1, 3, 1), interrupter(3, 7, 65)];
     let jumpers = [jumper(2, 0b1_0000)];
     let plan = Plan::new(rt.alloc(), 3, &rows, &jumpers, ArbiterKind::Sgl);
     assert!(rt; matches!(plan, Ok(_) | Err(PlanError::Memory)));

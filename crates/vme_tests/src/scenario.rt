@@ -1,8 +1,8 @@
 //! What no clause says: the texts of the errors, and that reading succeeds where memory does not run out.
-use crate::{Scenario, ScenarioError, read};
 use std::process::Abort;
 use std::test::Fail;
 use vme_model::{ArbiterKind, ChainId, IrqKind, PlanError, Release};
+use vme_scenario::{Scenario, ScenarioError, read};
 
 /// Three boards and a jumper, with every key that there is.
 const EVERY_KEY: &str = r#"slots = 4

@@ -2,7 +2,6 @@
 ghost use Rattle.std.specs.Prelude.{◌≤◌};
 ghost use Rattle.vme_model.specs.Report.{trace_limit};
 
-use crate::run;
 use std::alloc::Global;
 use std::process::Abort;
 use std::sync::Wait;
@@ -10,6 +9,7 @@ use std::test::*;
 use std::thread::Threads;
 use vme_engines::{Status, check};
 use vme_model::Version;
+use vme_run::run;
 
 const ONE_BOARD: &str =
     "slots = 1\narbiter = \"sgl\"\n\n[[board]]\nslot = 1\nrequester = { level = 3, release = \"rwd\", burst = 1 }\n";

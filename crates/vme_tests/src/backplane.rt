@@ -1,22 +1,13 @@
 //! What no clause says: worked traces with what they deliver, and the end of a trace.
-use crate::{Backplane, Trace};
-use bitflags::Flags;
+use crate::boards::{FIRST, SECOND, THIRD, interrupter, requester};
 use std::process::Abort;
 use std::test::*;
 use vme_arena::Region;
-use vme_model::{
-    ArbiterKind, Cycle, Delivery, Driver, Edge, InterrupterRow, IrqKind, Levels, Refused, Release,
-    RequesterRow, Row, Version, Wire,
-};
+use vme_backplane::{Backplane, Trace};
+use vme_model::{ArbiterKind, Cycle, Delivery, Driver, Edge, Levels, Refused, Row, Version, Wire};
 use vme_slots::Plan;
 
 const CONTROLLER: Driver = Driver::Controller;
-
-const FIRST: Driver = Driver::Slot(1);
-
-const SECOND: Driver = Driver::Slot(2);
-
-const THIRD: Driver = Driver::Slot(3);
 
 macro_rules! fall {
     ($driver:expr, $wire:expr) => {
@@ -161,40 +152,11 @@ const IN_ROUNDS: [Edge; 3] = [
     fall!(THIRD, Wire::Bbsy),
 ];
 
-fn board(slot: u8) -> Row {
-    Row {
-        slot,
-        requester: None,
-        interrupter: None,
-        handler: Levels::empty(),
-    }
-}
-
-fn requester(slot: u8, level: u8) -> Row {
-    let release = Release::Done { burst: 2 };
-    Row {
-        requester: Some(RequesterRow { level, release }),
-        ..board(slot)
-    }
-}
-
-fn interrupter(slot: u8, status: u8) -> Row {
-    let kind = IrqKind::Roak;
-    Row {
-        interrupter: Some(InterrupterRow {
-            level: 4,
-            kind,
-            status,
-        }),
-        ..board(slot)
-    }
-}
-
 /// A master that handles level 4.
 fn handler() -> Row {
     Row {
         handler: Levels::IRQ4,
-        ..requester(1, 3)
+        ..requester(1, 3, 2)
     }
 }
 
@@ -267,7 +229,7 @@ fn assert_filled<R: AllocGlobal + Abort>(
     refused: &[(Edge, Refused)],
 ) -> Result<(), Fail> {
     let mut region = Region::new(rt.alloc(), Trace::bytes(100))?;
-    let mut backplane = backplane(rt, &mut region, &[requester(1, 3)], max)?;
+    let mut backplane = backplane(rt, &mut region, &[requester(1, 3, 2)], max)?;
     assert!(rt; run(&mut backplane, edges).1 == 0);
     assert!(rt; backplane.len() == backplane.max());
     assert_refused(rt, &mut backplane, refused);
@@ -293,7 +255,7 @@ fn a_trace_of_no_edge_is_full(rt: HostRuntime) -> Result<(), Fail> {
 #[test]
 fn an_acknowledge_is_answered(rt: HostRuntime) -> Result<(), Fail> {
     let mut region = Region::new(rt.alloc(), Trace::bytes(100))?;
-    let rows = [handler(), interrupter(2, 65)];
+    let rows = [handler(), interrupter(2, 4, 65)];
     let mut backplane = backplane(&rt, &mut region, &rows, 100)?;
     assert!(rt; is_new(&backplane));
     assert!(rt; run(&mut backplane, &ANSWERED_ONCE[..10]) == (10, 0));
@@ -321,13 +283,13 @@ fn assert_delivered<R: AllocGlobal + Abort>(
 
 #[test]
 fn a_status_is_delivered_once(rt: HostRuntime) -> Result<(), Fail> {
-    let rows = [handler(), interrupter(2, 65)];
+    let rows = [handler(), interrupter(2, 4, 65)];
     assert_delivered(&rt, &rows, &ANSWERED_ONCE, &[FROM_THE_SECOND])
 }
 
 #[test]
 fn two_statuses_are_delivered_in_turn(rt: HostRuntime) -> Result<(), Fail> {
-    let rows = [handler(), interrupter(2, 65), interrupter(3, 66)];
+    let rows = [handler(), interrupter(2, 4, 65), interrupter(3, 4, 66)];
     let deliveries = [FROM_THE_SECOND, FROM_THE_THIRD];
     assert_delivered(&rt, &rows, &ANSWERED_IN_TURN, &deliveries)
 }
@@ -340,7 +302,7 @@ fn full_backplane<'r>(
 ) -> Result<Backplane<'r>, Fail> {
     let mut rows = Vec::new(rt.alloc());
     for slot in 1..22 {
-        rows.push(requester(slot, slot % 4))?;
+        rows.push(requester(slot, slot % 4, 2))?;
     }
     let plan = Plan::new(rt.alloc(), 21, &rows, &[], ArbiterKind::Pri)?;
     let trace = Trace::on(rt.alloc(), &mut region.rest(), max)?;

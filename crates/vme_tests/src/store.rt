@@ -1,10 +1,11 @@
-use crate::{Store, Trace, TraceError};
+//! Traces on their leases: pages and bytes, refusals, and stores that are filled.
 use std::alloc::Global;
 use std::sync::Wait;
 use std::test::Fail;
 use std::thread::{self, Threads};
 use vme_arena::{Lease, Region};
 use vme_model::{Cycle, Driver, Edge, Wire};
+use vme_store::{Store, Trace, TraceError};
 
 /// A trace of so many edges on leases of these sizes.
 fn trace_on<'r>(

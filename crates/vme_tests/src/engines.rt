@@ -1,58 +1,9 @@
 //! What no clause says: the happy path of each engine, and devices that fail.
-use crate::{EngineFault, SCENARIO_LIMIT, Status, check, drive, joined, replay};
-use std::io;
-use std::io::{Read, Write};
+use crate::devices::{Narrow, Pieces};
 use std::test::Fail;
+use vme_engines::{EngineFault, SCENARIO_LIMIT, Status, check, drive, joined, replay};
 use vme_model::Version;
 use vme_trace::Fault;
-
-/// Gives a byte per read, and fails at a read.
-#[derive(Drop)]
-struct Drip<'a> {
-    rest: &'a [u8],
-    reads: u32,
-    fails_at: u32,
-}
-
-impl Read for Drip<'_> {
-    fn read(&mut self, buf: &mut [u8]) -> io::Result<usize> {
-        self.reads = self.reads.saturating_add(1);
-        if self.reads == self.fails_at {
-            return Err(io::Error::from(io::ErrorKind::Other));
-        }
-        match self.rest.split_first() {
-            Some((first, rest)) if !buf.is_empty() => {
-                buf[0] = *first;
-                self.rest = rest;
-                Ok(1)
-            }
-            _ => Ok(0),
-        }
-    }
-}
-
-/// Takes some bytes, and then fails.
-#[derive(Drop)]
-struct Tight {
-    taken: Vec<u8>,
-    room: usize,
-}
-
-impl Write for Tight {
-    fn write(&mut self, buf: &[u8]) -> io::Result<usize> {
-        if self.room == 0 {
-            return Err(io::Error::from(io::ErrorKind::Other));
-        }
-        let count = buf.len().min(self.room);
-        self.taken.extend_from_slice(&buf[..count])?;
-        self.room -= count;
-        Ok(count)
-    }
-
-    fn flush(&mut self) -> io::Result<()> {
-        Ok(())
-    }
-}
 
 /// One board that requests the bus at level 3.
 const ONE_BOARD: &[u8] = b"slots = 1
@@ -110,11 +61,7 @@ fn joins_a_tenure(rt: HostRuntime) -> Result<(), Fail> {
 #[test]
 fn joins_byte_by_byte(rt: HostRuntime) -> Result<(), Fail> {
     let mut out = Vec::new(rt.alloc());
-    let mut input = Drip {
-        rest: BOTH,
-        reads: 0,
-        fails_at: 0,
-    };
+    let mut input = Pieces::new(BOTH, 1);
     assert!(rt; joined(rt.alloc(), &mut input, &mut out) == Ok(Status::Done));
     assert!(rt; out.as_slice() == REPORT);
     Ok(())
@@ -123,11 +70,7 @@ fn joins_byte_by_byte(rt: HostRuntime) -> Result<(), Fail> {
 #[test]
 fn a_failing_read_before_the_trace_is_no_scenario(rt: HostRuntime) -> Result<(), Fail> {
     let mut out = Vec::new(rt.alloc());
-    let mut input = Drip {
-        rest: BOTH,
-        reads: 0,
-        fails_at: 13,
-    };
+    let mut input = Pieces::new(BOTH, 1).failing_at(13);
     assert!(rt; joined(rt.alloc(), &mut input, &mut out) == Err(EngineFault::CannotRead));
     assert!(rt; out.is_empty());
     Ok(())
@@ -159,12 +102,9 @@ fn no_header_line_is_no_trace(rt: HostRuntime) -> Result<(), Fail> {
 #[test]
 fn a_full_device_cuts_the_report(rt: HostRuntime) -> Result<(), Fail> {
     let mut input = BOTH;
-    let mut out = Tight {
-        taken: Vec::new(rt.alloc()),
-        room: 7,
-    };
+    let mut out = Narrow::new(rt.alloc(), usize::MAX, 7);
     assert!(rt; joined(rt.alloc(), &mut input, &mut out) == Err(EngineFault::Trace(Fault::Write)));
-    assert!(rt; out.taken.as_slice() == b"1 ok\n2 ".as_slice());
+    assert!(rt; out.taken() == b"1 ok\n2 ".as_slice());
     Ok(())
 }
 
@@ -212,11 +152,7 @@ fn goes_on_behind_a_refused_edge(rt: HostRuntime) -> Result<(), Fail> {
 #[test]
 fn a_failing_read_leaves_the_verdicts_before_it(rt: HostRuntime) -> Result<(), Fail> {
     let mut out = Vec::new(rt.alloc());
-    let mut trace = Drip {
-        rest: TENURE,
-        reads: 0,
-        fails_at: 13,
-    };
+    let mut trace = Pieces::new(TENURE, 1).failing_at(13);
     let answer = replay(rt.alloc(), ONE_BOARD, &mut trace, &mut out);
     assert!(rt; answer == Err(EngineFault::Trace(Fault::Read)));
     assert!(rt; out.as_slice() == b"1 ok\n".as_slice());
@@ -300,11 +236,7 @@ fn a_check_says_nothing_at_a_fault(rt: HostRuntime) -> Result<(), Fail> {
     let mut cut: &[u8] = b"vme 1\n1 br-\nc bg";
     let answer = check(rt.alloc(), ONE_BOARD, &mut cut, &mut out);
     assert!(rt; answer == Err(EngineFault::Trace(Fault::CutOff)));
-    let mut drip = Drip {
-        rest: TENURE,
-        reads: 0,
-        fails_at: 13,
-    };
+    let mut drip = Pieces::new(TENURE, 1).failing_at(13);
     let answer = check(rt.alloc(), ONE_BOARD, &mut drip, &mut out);
     assert!(rt; answer == Err(EngineFault::Trace(Fault::Read)));
     assert!(rt; out.is_empty());
@@ -314,13 +246,10 @@ fn a_check_says_nothing_at_a_fault(rt: HostRuntime) -> Result<(), Fail> {
 #[test]
 fn a_full_device_cuts_a_finding(rt: HostRuntime) -> Result<(), Fail> {
     let mut trace = TENURE;
-    let mut out = Tight {
-        taken: Vec::new(rt.alloc()),
-        room: 5,
-    };
+    let mut out = Narrow::new(rt.alloc(), usize::MAX, 5);
     let answer = check(rt.alloc(), ONE_BOARD, &mut trace, &mut out);
     assert!(rt; answer == Err(EngineFault::Trace(Fault::Write)));
-    assert!(rt; out.taken.as_slice() == b"legal".as_slice());
+    assert!(rt; out.taken() == b"legal".as_slice());
     Ok(())
 }
 
@@ -346,12 +275,9 @@ fn a_board_without_parts_makes_no_edge(rt: HostRuntime) -> Result<(), Fail> {
 
 #[test]
 fn a_full_device_cuts_a_trace(rt: HostRuntime) -> Result<(), Fail> {
-    let mut out = Tight {
-        taken: Vec::new(rt.alloc()),
-        room: 7,
-    };
+    let mut out = Narrow::new(rt.alloc(), usize::MAX, 7);
     let answer = drive(rt.alloc(), ONE_BOARD, 8, &mut out, Version::One);
     assert!(rt; answer == Err(EngineFault::Trace(Fault::Write)));
-    assert!(rt; out.taken.as_slice() == b"vme 1\n1".as_slice());
+    assert!(rt; out.taken() == b"vme 1\n1".as_slice());
     Ok(())
 }

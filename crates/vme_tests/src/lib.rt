@@ -1,0 +1,34 @@
+//! The tests of all libraries, over their public calls alone: worked examples, printed texts, devices and memory that
+//! fail, threads. They stand in one crate, since a crate with tests is proved twice.
+#![tactic(auto)]
+
+#[cfg(test)]
+mod arena;
+#[cfg(test)]
+mod backplane;
+#[cfg(test)]
+mod boards;
+#[cfg(test)]
+mod chains;
+#[cfg(test)]
+mod devices;
+#[cfg(test)]
+mod engines;
+#[cfg(test)]
+mod gates;
+#[cfg(test)]
+mod lock;
+#[cfg(test)]
+mod parts;
+#[cfg(test)]
+mod run;
+#[cfg(test)]
+mod scenario;
+#[cfg(test)]
+mod slots;
+#[cfg(test)]
+mod store;
+#[cfg(test)]
+mod trace;
+#[cfg(test)]
+mod words;
