@@ -1,12 +1,12 @@
 //! A backplane, which takes edges one by one.
-ghost use Rattle.std.specs.Prelude.{◌≡◌, ◌==◌, ◌+◌, ◌%◌, ◌<◌, ◌≤◌, ◌↔◌, [], IfOk, IsTrue, Ok, OnOk, Some, false, true, is_ok, length, slice_get};
+ghost use Rattle.std.specs.Prelude.{◌≡◌, ◌==◌, ◌+◌, ◌%◌, ◌<◌, ◌≤◌, ◌↔◌, [], IfOk, IsTrue, Ok, Some, false, true, is_ok, length, slice_get};
 ghost use Rattle.std.specs.Option.{option_map_or};
 ghost use Rattle.vme_model.specs.History.{in_order};
 ghost use Rattle.vme_model.specs.Signals.{is_well_formed};
 ghost use Rattle.vme_model.specs.Verdict.{verdict, verdict_but_full, made, after, kept, IsLegal};
 ghost use Rattle.vme_model.specs.Safe.{IsSafe, IsOrderly};
 ghost use Rattle.vme_model.specs.Views.{pins};
-ghost use Rattle.vme_model.specs.Deliveries.{answer, delivered};
+ghost use Rattle.vme_model.specs.Deliveries.{answer, delivered, delivery};
 ghost use Rattle.vme_model.specs.Offers.{offered};
 ghost use Rattle.vme_wiring.specs.Offered.{offered_but_full};
 ghost use Rattle.vme_wiring.specs.Waits.{is_waiting};
@@ -128,13 +128,10 @@ impl<'r> Backplane<'r> {
     }
 
     /// The answer to an edge, but for what it delivers.
-    #[tactic(auto, using(crate::proofs::Judged::refused, crate::proofs::Judged::passed, crate::proofs::WellFormed::allowed_is_well_formed))]
+    #[tactic(auto, using(crate::proofs::Judged::refused, crate::proofs::Judged::passed))]
     #[inline(always)]
     fn verdict(&self, edge: Edge) -> Result<(), Refused>
-        ensures value { result ≡ verdict self.now edge }
-        ensures room { OnOk result ((length self.now.history == self.now.max) ≡ false) }
-        ensures allowed { OnOk result (verdict_but_full self.now.version self.now.plan self.now.history edge ≡ Ok tt) }
-        ensures well_formed { OnOk result (is_well_formed edge ≡ true) }
+        ensures { result ≡ verdict self.now edge }
     {
         match self.judge(edge) {
             Ok(()) => {
@@ -169,26 +166,45 @@ impl<'r> Backplane<'r> {
     #[inline(always)]
     fn step_by_wire(&mut self, edge: Edge) -> Result<Option<Delivery>, Refused>
         ensures answer { result ≡ answer self.old edge }
-        ensures accepted { is_ok result ≡ is_ok (verdict self.old edge) }
         ensures state { self.new ≡ after self.old edge }
     {
-        by_wire!(edge => {
-            self.verdict(edge)?;
-            let delivery = self.wiring.delivery(edge);
-            self.make(edge);
-            Ok(delivery)
+        by_wire!(edge => match self.verdict(edge) {
+            Ok(()) => Ok(self.take(edge)),
+            Err(refused) => Err(refused),
         })
+    }
+
+    /// Makes an edge that would be accepted, and answers what it delivers.
+    #[inline(always)]
+    fn take(&mut self, edge: Edge) -> Option<Delivery>
+        requires { verdict self.old edge ≡ Ok tt }
+        ensures delivery { result ≡ delivery self.old.plan self.old.history edge }
+        ensures state { self.new ≡ made self.old edge }
+    {
+        let delivery = self.wiring.delivery(edge);
+        self.make(edge);
+        delivery
+    }
+
+    /// What holds of an edge that would be accepted.
+    #[inline(always)]
+    fn accepted(&self, edge: Edge)
+        requires { verdict self.now edge ≡ Ok tt }
+        ensures room { (length self.now.history == self.now.max) ≡ false }
+        ensures allowed { verdict_but_full self.now.version self.now.plan self.now.history edge ≡ Ok tt }
+        ensures well_formed { is_well_formed edge ≡ true }
+    {
+        let _edge = edge;
     }
 
     /// Makes an edge that would be accepted.
     #[inline(always)]
     fn make(&mut self, edge: Edge)
-        requires room { (length self.old.history == self.old.max) ≡ false }
-        requires allowed { verdict_but_full self.old.version self.old.plan self.old.history edge ≡ Ok tt }
-        requires well_formed { is_well_formed edge ≡ true }
+        requires { verdict self.old edge ≡ Ok tt }
         ensures { self.new ≡ made self.old edge }
     {
         self.laws();
+        self.accepted(edge);
         self.wiring.note(edge);
         self.store.push(edge);
     }
@@ -196,9 +212,7 @@ impl<'r> Backplane<'r> {
     /// The same, with an arm for each wire.
     #[inline(always)]
     fn make_by_wire(&mut self, edge: Edge)
-        requires room { (length self.old.history == self.old.max) ≡ false }
-        requires allowed { verdict_but_full self.old.version self.old.plan self.old.history edge ≡ Ok tt }
-        requires well_formed { is_well_formed edge ≡ true }
+        requires { verdict self.old edge ≡ Ok tt }
         ensures { self.new ≡ made self.old edge }
     {
         by_wire!(edge => self.make(edge))

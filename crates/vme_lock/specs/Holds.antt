@@ -1,5 +1,5 @@
 -- What one hold of the lock answers.
-use Rattle.std.specs.Prelude.{◌==◌, ◌%◌, ℕ, Bool, not, if◌then◌else◌, length, slice_get, Option, Result, Ok, Err}
+use Rattle.std.specs.Prelude.{◌≡◌, ◌==◌, ◌%◌, ℕ, Bool, true, not, if◌then◌else◌, length, slice_get, Option, Result, Ok, Err}
 use Rattle.vme_model.specs.declared.signals.Driver.{Driver}
 use Rattle.vme_model.specs.declared.signals.Edge.{Edge}
 use Rattle.vme_model.specs.declared.deliveries.Delivery.{Delivery}
@@ -45,6 +45,11 @@ turn_answer b s t = if is_lost b s then Err (lost b s) else Ok (turn_of b s.driv
 abbrev pub by_step : Result (Option Delivery) Refused → Result (Option Delivery) EdgeRefused
 by_step (Ok delivered) = Ok delivered
 by_step (Err r) = Err (refused.Step r)
+
+-- the edge is the seat's, which made all edges of its driver
+pub record IsOwn (b : State) (s : Place) (e : Edge) : Type 0 where
+  pub driver : is_same_driver e.driver s.driver ≡ true
+  pub made : count b.history s.driver ≡ s.made
 
 -- the answer to an edge: L1, L5, or what the backplane answers
 abbrev pub edge_answer : State → Place → Edge → Result (Option Delivery) EdgeRefused

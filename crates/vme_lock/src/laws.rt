@@ -1,15 +1,16 @@
 //! The work of each hold of the lock, on the locked value that it is lent, and what holds of that value.
-ghost use Rattle.std.specs.Prelude.{◌≡◌, MatchResult, OnOk, true};
+ghost use Rattle.std.specs.Prelude.{◌≡◌, Err, MatchResult, OnOk, true};
+ghost use Rattle.vme_model.specs.Deliveries.{answer};
 ghost use Rattle.vme_model.specs.Signals.{is_well_formed};
 ghost use Rattle.vme_model.specs.Verdict.{IsLegal};
 ghost use Rattle.vme_model.specs.Safe.{IsSafe, IsOrderly};
 ghost use Rattle.vme_lock.specs.Seats.{IsHeld, Follows, kept_more, one_more};
-ghost use Rattle.vme_lock.specs.Holds.{look_answer, turn_answer, edge_answer};
+ghost use Rattle.vme_lock.specs.Holds.{IsOwn, look_answer, turn_answer, edge_answer};
 
 use crate::held::Held;
 use crate::seats::{Rig, Seat, desk};
 use crate::views::{EdgeRefused, Lost, Turn, View};
-use vme_model::{Delivery, Edge};
+use vme_model::{Delivery, Edge, Refused};
 
 /// What holds of the locked value whenever the lock is free.
 pub fn whenever_free<L: Rig>(held: &Held<'_, L>)
@@ -58,18 +59,30 @@ pub fn turn_in<L: Rig>(held: &Held<'_, L>, seat: &Seat<L>, turn: u32) -> Result<
     Ok(Turn { offer, total })
 }
 
-/// A hold that makes the edge, where it is the seat's and the rules allow it.
-pub fn edge_in<L: Rig>(
+/// The tests before an edge: that it is the seat's, and that the seat made all edges of its driver.
+fn is_own<L: Rig>(held: &Held<'_, L>, seat: &Seat<L>, edge: Edge) -> Result<(), EdgeRefused>
+    ensures { MatchResult result (λ _. IsOwn held.now.board seat.now edge) (λ refused. Err refused ≡ edge_answer held.now.board seat.now edge) }
+{
+    if !edge.driver.is_same(seat.driver) {
+        return Err(EdgeRefused::NotYours);
+    }
+    let count = held.counts[desk(seat.driver)];
+    if count != seat.made {
+        return Err(EdgeRefused::Lost(Lost { own: count }));
+    }
+    Ok(())
+}
+
+/// Makes an edge of the seat's driver, where the rules allow it, and counts it.
+fn step_in<L: Rig>(
     held: &mut Held<'_, L>,
     seat: &mut Seat<L>,
     edge: Edge,
-) -> Result<Option<Delivery>, EdgeRefused>
-    ensures answer { result ≡ edge_answer held.old.board seat.old edge }
+) -> Result<Option<Delivery>, Refused>
+    requires { IsOwn held.old.board seat.old edge }
+    ensures answer { result ≡ answer held.old.board edge }
     ensures held { MatchResult result (λ _. held.new ≡ kept_more held.old edge seat.old.driver) (λ _. held.new ≡ held.old) }
     ensures seat { MatchResult result (λ _. seat.new ≡ one_more seat.old) (λ _. seat.new ≡ seat.old) }
-    ensures well_formed { OnOk result (is_well_formed edge ≡ true) }
-    ensures before { IsHeld L.opened held.old }
-    ensures legal { IsLegal held.old.board.version held.old.board.plan held.old.board.history }
 {
     let Held {
         backplane,
@@ -83,21 +96,37 @@ pub fn edge_in<L: Rig>(
         share,
     } = seat;
     backplane.laws();
-    if !edge.driver.is_same(*driver) {
-        return Err(EdgeRefused::NotYours);
-    }
-    let desk = desk(*driver);
-    let own = counts[desk];
-    if own != *made {
-        return Err(EdgeRefused::Lost(Lost { own }));
-    }
     match backplane.step(edge) {
-        Err(refused) => Err(EdgeRefused::Step(refused)),
+        Err(refused) => Err(refused),
         Ok(delivery) => {
+            let desk = desk(*driver);
             counts[desk] += 1;
             *made += 1;
             book.add(share, 1);
             Ok(delivery)
         }
+    }
+}
+
+/// A hold that makes the edge, where it is the seat's and the rules allow it.
+pub fn edge_in<L: Rig>(
+    held: &mut Held<'_, L>,
+    seat: &mut Seat<L>,
+    edge: Edge,
+) -> Result<Option<Delivery>, EdgeRefused>
+    ensures answer { result ≡ edge_answer held.old.board seat.old edge }
+    ensures held { MatchResult result (λ _. held.new ≡ kept_more held.old edge seat.old.driver) (λ _. held.new ≡ held.old) }
+    ensures seat { MatchResult result (λ _. seat.new ≡ one_more seat.old) (λ _. seat.new ≡ seat.old) }
+    ensures well_formed { OnOk result (is_well_formed edge ≡ true) }
+    ensures before { IsHeld L.opened held.old }
+    ensures legal { IsLegal held.old.board.version held.old.board.plan held.old.board.history }
+{
+    whenever_free(held);
+    match is_own(held, seat, edge) {
+        Err(refused) => Err(refused),
+        Ok(()) => match step_in(held, seat, edge) {
+            Err(refused) => Err(EdgeRefused::Step(refused)),
+            Ok(delivery) => Ok(delivery),
+        },
     }
 }

@@ -24,7 +24,7 @@ use Rattle.vme_engines.specs.Outcomes.{Answer, Lent, scenario_limit}
 use Rattle.vme_engines.proofs.Opening.{no_plan}
 use Rattle.vme_run.specs.declared.RunFault.{RunFault}
 use Rattle.vme_run.specs.declared.RunFault.TheVariants.{Engine, NotStarted, LogDiffers, NotReplayed}
-use Rattle.vme_run.specs.Running.{IsRun, RunsOn, HasOtherLogs, Runs, IsUnread, IsPlayed, IsNotPlayed}
+use Rattle.vme_run.specs.Running.{IsRun, RunsOn, HasOtherLogs, Runs, IsRead, IsUnread, IsPlayed, IsNotPlayed, EndsRun, IsWritten}
 
 -- what can be made is no more than what is asked for
 pub fits : (n others m : ℕ) → m ≡ min n others → m ≤ n
@@ -47,13 +47,15 @@ run_of version p m n turns b fits played =
 version_of : (version : Version) (p : Plan) (n turns : ℕ) (b : State) → IsPlayed turns (at_power_up version p n) b → b.version ≡ version
 version_of version p n turns b played = ap (λ x. x.version) played.0.1
 
--- a second backplane of the scenario is the played one without its edges
-pub reopened : (lent : List ℕ) (version : Version) (p q : Plan) (n turns : ℕ) (opened closed bench : State) → scenario lent ≡ Ok p → scenario lent ≡ Ok q → opened ≡ at_power_up version p n → bench ≡ at_power_up version q n
-    → IsPlayed turns opened closed → bench ≡ record closed { history = [] }
-reopened lent version p q n turns opened closed bench read again first second played =
-    let same : p ≡ q = cc in
+-- a scenario is read as one plan
+pub read_again : (lent : List ℕ) (p q : Plan) → IsRead lent p → IsRead lent q → q ≡ p
+read_again lent p q one two = let a = one.read in let b = two.read in cc
+
+-- a second backplane of the plan is the played one without its edges
+pub reopened : (version : Version) (p : Plan) (n turns : ℕ) (opened closed bench : State) → opened ≡ at_power_up version p n → bench ≡ at_power_up version p n → IsPlayed turns opened closed → bench ≡ record closed { history = [] }
+reopened version p n turns opened closed bench first second played =
     let kept : record closed { history = [] } ≡ record opened { history = [] } = ap (λ (b : State). record b { history = [] }) played.0.1 in
-    second ∙ ap (λ (r : Plan). at_power_up version r n) (sym same) ∙ sym (kept ∙ ap (λ (b : State). record b { history = [] }) first)
+    second ∙ sym (kept ∙ ap (λ (b : State). record b { history = [] }) first)
 
 abbrev fine : State → Result State RunFault
 fine b = Ok b
@@ -64,39 +66,49 @@ played_again version p n turns opened closed b first played made =
     let same : closed ≡ b = cc in
     subst (λ (o : State). IsPlayed turns o b) first (subst (λ (c : State). IsPlayed turns opened c) same played)
 
--- nothing, for want of memory
-pub runs_out : (lent : List ℕ) (version : Version) (n turns : ℕ) (p : Plan) (old : Option (List ℕ)) → length lent ≤ scenario_limit → scenario lent ≡ Ok p → Runs lent version n turns old old (Err (Engine fault.NoMemory))
-runs_out lent version n turns p old short read = (p, short, read, Keeps-refl _)
-
-module _ (lent : List ℕ) (version : Version) (m n turns : ℕ) (fits : m ≤ n) (p : Plan) (old : Option (List ℕ)) (short : length lent ≤ scenario_limit) (read : scenario lent ≡ Ok p) where
-  -- its trace was written
-  pub runs_done : (new : Option (List ℕ)) (b : State) (made : ℕ) (status : Status) → IsPlayed turns (at_power_up version p m) b → Appends old new (text b.version (in_order b.history)) → made ≡ length b.history
-      → status ≡ (if made == n then Limit else Done) → Runs lent version n turns old new (Ok status)
-  runs_done new b made status played written count is =
-      (p, short, read, (b.history, run_of version p m n turns b fits played, subst (λ v. Appends old new (text v (in_order b.history))) (version_of version p m turns b played) written, is ∙ ap (λ m. if m == n then Limit else Done) count))
-
-  -- a front of it
-  pub runs_cut : (new : Option (List ℕ)) (b : State) (f : Fault) → IsPlayed turns (at_power_up version p m) b → f ≡ Write → AppendsFront old new (text b.version (in_order b.history)) → Runs lent version n turns old new (Err (Engine (fault.Trace f)))
-  runs_cut new b f played is written =
-      (p, short, read, (b.history, run_of version p m n turns b fits played, is, subst (λ v. AppendsFront old new (text v (in_order b.history))) (version_of version p m turns b played) written))
-
-  -- nothing, where the boards were not played
-  not_played_from : (f : RunFault) → IsNotPlayed turns (at_power_up version p m) f → Runs lent version n turns old old (Err f)
-  not_played_from (Engine fault.NoMemory) none = (p, short, read, Keeps-refl _)
-  not_played_from (Engine fault.TooLong) none = absurd none
-  not_played_from (Engine (fault.Scenario e)) none = absurd none
-  not_played_from (Engine fault.CannotRead) none = absurd none
-  not_played_from (Engine (fault.Trace f)) none = absurd none
-  not_played_from NotStarted none = (p, short, read, Keeps-refl _)
-  not_played_from (LogDiffers driver at) none = (p, short, read, ((none.0.history, run_of version p m n turns none.0 fits none.1, none.2, none.3), Keeps-refl _))
-  not_played_from (NotReplayed at) none = absurd none
-
-  pub not_played : (opened : State) (f : RunFault) → opened ≡ at_power_up version p m → IsNotPlayed turns opened f → Runs lent version n turns old old (Err f)
-  not_played opened f first none = not_played_from f (subst (λ (o : State). IsNotPlayed turns o f) first none)
-
 -- nothing, where there is no plan
 pub not_read : (lent : List ℕ) (version : Version) (n turns : ℕ) (old : Option (List ℕ)) (f : RunFault) → IsUnread lent f → Runs lent version n turns old old (Err f)
 not_read lent version n turns old (Engine f) none = no_plan lent (Keeps old old) (RunsOn version n turns old old) f none (Keeps-refl _)
 not_read lent version n turns old NotStarted none = absurd none
 not_read lent version n turns old (LogDiffers driver at) none = absurd none
 not_read lent version n turns old (NotReplayed at) none = absurd none
+
+pub ends_unread : (lent : List ℕ) (version : Version) (most turns : ℕ) (f : RunFault) → IsUnread lent f → EndsRun lent version most turns f
+ends_unread lent version most turns f none n old fits = not_read lent version n turns old f none
+
+-- nothing, for want of memory
+pub runs_out : (lent : List ℕ) (version : Version) (n turns : ℕ) (p : Plan) (old : Option (List ℕ)) → IsRead lent p → Runs lent version n turns old old (Err (Engine fault.NoMemory))
+runs_out lent version n turns p old is = (p, is.short, is.read, Keeps-refl _)
+
+module _ (lent : List ℕ) (version : Version) (m n turns : ℕ) (fits : m ≤ n) (p : Plan) (old : Option (List ℕ)) (is : IsRead lent p) where
+  -- nothing, where the boards were not played
+  not_played_from : (f : RunFault) → IsNotPlayed turns (at_power_up version p m) f → Runs lent version n turns old old (Err f)
+  not_played_from (Engine fault.NoMemory) none = (p, is.short, is.read, Keeps-refl _)
+  not_played_from (Engine fault.TooLong) none = absurd none
+  not_played_from (Engine (fault.Scenario e)) none = absurd none
+  not_played_from (Engine fault.CannotRead) none = absurd none
+  not_played_from (Engine (fault.Trace f)) none = absurd none
+  not_played_from NotStarted none = (p, is.short, is.read, Keeps-refl _)
+  not_played_from (LogDiffers driver at) none = (p, is.short, is.read, ((none.0.history, run_of version p m n turns none.0 fits none.1, none.2, none.3), Keeps-refl _))
+  not_played_from (NotReplayed at) none = absurd none
+
+  -- its trace was written, or a front of it
+  pub written : (new : Option (List ℕ)) (b : State) (r : Result Status RunFault) → IsPlayed turns (at_power_up version p m) b → IsWritten b n old new r → Runs lent version n turns old new r
+  written new b (Ok status) played done =
+      (p, is.short, is.read, (b.history, run_of version p m n turns b fits played, subst (λ v. Appends old new (text v (in_order b.history))) (version_of version p m turns b played) done.0, done.1))
+  written new b (Err (Engine (fault.Trace f))) played cut =
+      (p, is.short, is.read, (b.history, run_of version p m n turns b fits played, cut.0, subst (λ v. AppendsFront old new (text v (in_order b.history))) (version_of version p m turns b played) cut.1))
+  written new b (Err (Engine fault.NoMemory)) played none = absurd none
+  written new b (Err (Engine fault.TooLong)) played none = absurd none
+  written new b (Err (Engine (fault.Scenario e))) played none = absurd none
+  written new b (Err (Engine fault.CannotRead)) played none = absurd none
+  written new b (Err NotStarted) played none = absurd none
+  written new b (Err (LogDiffers driver at)) played none = absurd none
+  written new b (Err (NotReplayed at)) played none = absurd none
+
+pub ends_out : (lent : List ℕ) (version : Version) (most turns : ℕ) (p : Plan) → IsRead lent p → EndsRun lent version most turns (Engine fault.NoMemory)
+ends_out lent version most turns p is n old fits = runs_out lent version n turns p old is
+
+pub ends_unplayed : (lent : List ℕ) (version : Version) (most turns : ℕ) (p : Plan) (opened : State) (f : RunFault) → IsRead lent p → opened ≡ at_power_up version p most → IsNotPlayed turns opened f → EndsRun lent version most turns f
+ends_unplayed lent version most turns p opened f is first none n old fits =
+    not_played_from lent version most n turns fits p old is f (subst (λ (o : State). IsNotPlayed turns o f) first none)

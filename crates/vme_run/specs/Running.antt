@@ -56,6 +56,11 @@ Runs lent version n turns old new (Err (NotReplayed at)) = ⊥
 
 -- ---- between the functions of a run
 
+-- the scenario is read as this plan
+pub record IsRead (lent : List ℕ) (p : Plan) : Type 0 where
+  pub short : length lent ≤ scenario_limit
+  pub read : scenario lent ≡ Ok p
+
 -- why there is no plan
 abbrev pub IsUnread : List ℕ → RunFault → Type 0
 IsUnread lent (Engine f) = IsNoPlan lent f
@@ -74,3 +79,13 @@ IsNotPlayed turns opened (Engine _) = ⊥
 IsNotPlayed turns opened NotStarted = Unit {0}
 IsNotPlayed turns opened (LogDiffers driver at) = (b : State) × IsPlayed turns opened b × (logs : List (List Edge)) × FirstDiffers b.history (drivers opened.plan) logs driver at
 IsNotPlayed turns opened (NotReplayed at) = ⊥
+
+-- the fault ends a run of so many edges at most, with nothing written
+abbrev pub EndsRun : List ℕ → Version → ℕ → ℕ → RunFault → Type 0
+EndsRun lent version most turns f = (n : ℕ) (old : Option (List ℕ)) → most ≤ n → Runs lent version n turns old old (Err f)
+
+-- what is left of the trace of a backplane, and the answer
+abbrev pub IsWritten : State → ℕ → Option (List ℕ) → Option (List ℕ) → Result Status RunFault → Type 0
+IsWritten b n old new (Ok status) = Appends old new (text b.version (in_order b.history)) × (status ≡ (if length b.history == n then Limit else Done))
+IsWritten b n old new (Err (Engine (fault.Trace f))) = (f ≡ Write) × AppendsFront old new (text b.version (in_order b.history))
+IsWritten b n old new (Err _) = ⊥

@@ -1,9 +1,7 @@
 //! A run from a scenario to a trace.
 ghost use Rattle.std.specs.Prelude.{◌≡◌, ◌≤◌, ◌+◌, ◌*◌, [], Ok, IfOk, IfErr, length, min};
 ghost use Rattle.vme_model.specs.Report.{at_power_up, trace_limit};
-ghost use Rattle.vme_scenario.specs.Format.{scenario as read_scenario};
-ghost use Rattle.vme_engines.specs.Outcomes.{scenario_limit};
-ghost use Rattle.vme_run.specs.Running.{IsUnread, Runs};
+ghost use Rattle.vme_run.specs.Running.{EndsRun, IsPlayed, IsRead, IsUnread, IsWritten, Runs};
 
 use crate::RunFault;
 use crate::boards::play;
@@ -20,7 +18,7 @@ use vme_slots::Plan;
 
 /// The plan of a scenario's text. Errors: F2, else the first fault of the scenario.
 fn plan_for(alloc: Global, text: &[u8]) -> Result<Plan, RunFault>
-    ensures ok { IfOk result (λ p. (length text.now ≤ scenario_limit) × (read_scenario text.now ≡ Ok p)) }
+    ensures ok { IfOk result (IsRead text.now) }
     ensures fault { IfErr result (IsUnread text.now) }
 {
     match plan_of(alloc, text) {
@@ -64,6 +62,66 @@ fn replay<'r>(closed: &Backplane<'_>, mut bench: Backplane<'r>) -> Result<Backpl
     Ok(bench)
 }
 
+/// Two backplanes of a scenario at power-up, the first of the plan that was read.
+fn benches_on<'r>(
+    alloc: Global,
+    rest: &mut Rest<'r>,
+    scenario: &[u8],
+    plan: Plan,
+    bounds: Bounds,
+    version: Version,
+) -> Result<(Backplane<'r>, Backplane<'r>), RunFault>
+    requires read { IsRead scenario.now plan }
+    ensures two { IfOk result (λ two. (two.0 ≡ at_power_up version plan bounds.edges) × (two.1 ≡ at_power_up version plan bounds.edges)) }
+    ensures fault { IfErr result (EndsRun scenario.now version bounds.edges bounds.turns) }
+{
+    let Ok(opened) = bench_on(alloc, rest, plan, bounds.edges, version) else {
+        return Err(RunFault::Engine(EngineFault::NoMemory));
+    };
+    let again = match plan_for(alloc, scenario) {
+        Ok(again) => again,
+        Err(fault) => return Err(fault),
+    };
+    let Ok(bench) = bench_on(alloc, rest, again, bounds.edges, version) else {
+        return Err(RunFault::Engine(EngineFault::NoMemory));
+    };
+    Ok((opened, bench))
+}
+
+/// What the boards of a plan made, made once more.
+fn made_twice<'r, R: Threads + Wait + Sync>(
+    rt: &R,
+    alloc: Global,
+    rest: &mut Rest<'r>,
+    scenario: &[u8],
+    plan: Plan,
+    bounds: Bounds,
+    version: Version,
+) -> Result<Backplane<'r>, RunFault>
+    requires limit { bounds.edges ≤ trace_limit }
+    requires read { IsRead scenario.now plan }
+    ensures made { IfOk result (IsPlayed bounds.turns (at_power_up version plan bounds.edges)) }
+    ensures fault { IfErr result (EndsRun scenario.now version bounds.edges bounds.turns) }
+{
+    match benches_on(alloc, rest, scenario, plan, bounds, version) {
+        Err(fault) => Err(fault),
+        Ok((opened, bench)) => match play(rt, alloc, opened, bounds) {
+            Err(fault) => Err(fault),
+            Ok(closed) => replay(&closed, bench),
+        },
+    }
+}
+
+/// Writes what was made.
+fn write_made<W: Write>(made: &Backplane<'_>, edges: u32, out: &mut W) -> Result<Status, RunFault>
+    ensures { IsWritten made.now edges (W.contents out.old) (W.contents out.new) result }
+{
+    match write_history(made, out) {
+        Ok(()) => Ok(status_of(made.len(), edges)),
+        Err(fault) => Err(RunFault::Engine(EngineFault::Trace(fault))),
+    }
+}
+
 /// Runs the boards of a scenario, each in a thread of its own for so many turns, and writes the trace of their edges, at
 /// most `edges`. May wait.
 ///
@@ -90,19 +148,17 @@ pub fn run<R: Threads + Wait + Sync, W: Write>(
     let Ok(mut region) = Region::new(alloc, 2 * Trace::bytes(most)) else {
         return Err(RunFault::Engine(EngineFault::NoMemory));
     };
-    let mut rest = region.rest();
-    let Ok(opened) = bench_on(alloc, &mut rest, plan, most, version) else {
-        return Err(RunFault::Engine(EngineFault::NoMemory));
-    };
-    let again = plan_for(alloc, scenario)?;
-    let Ok(bench) = bench_on(alloc, &mut rest, again, most, version) else {
-        return Err(RunFault::Engine(EngineFault::NoMemory));
-    };
     let bounds = Bounds { turns, edges: most };
-    let closed = play(rt, alloc, opened, bounds)?;
-    let replayed = replay(&closed, bench)?;
-    match write_history(&replayed, out) {
-        Ok(()) => Ok(status_of(replayed.len(), edges)),
-        Err(fault) => Err(RunFault::Engine(EngineFault::Trace(fault))),
+    match made_twice(
+        rt,
+        alloc,
+        &mut region.rest(),
+        scenario,
+        plan,
+        bounds,
+        version,
+    ) {
+        Ok(made) => write_made(&made, edges, out),
+        Err(fault) => Err(fault),
     }
 }

@@ -5,7 +5,7 @@ use Rattle.vme_model.specs.Verdict.{check}
 use Rattle.vme_backplane.proofs.Judged.{refused}
 use Rattle.vme_backplane.proofs.backplanes.Backplane.verdict.Goals as goal
 
-pub returns-in-Err-clause-value : goal.returns-in-Err-clause-value
-returns-in-Err-clause-value c =
+pub returns-in-Err : goal.returns-in-Err
+returns-in-Err c =
     let b = c.args.self.now in
     sym (refused b.version b.plan b.history c.args.edge c.in-Err.refused (check (not (length b.history == b.max)) TraceFull (Ok tt)) (sym c.judge.ensures ∙ c.in-Err.is))
