@@ -1,9 +1,10 @@
 //! Why an edge or a plan is refused.
 use crate::sets::ChainId;
-use thiserror::Error;
+use std::error::Error;
+use std::fmt;
 
 /// Why a backplane refuses an edge, in the order of the tests.
-#[derive(Clone, Copy, PartialEq, Eq, Debug, Error)]
+#[derive(Clone, Copy, PartialEq, Eq, Debug, thiserror::Error)]
 pub enum Refused {
     /// The edge is not well formed, or the plan has no such board or part.
     #[error("E1")]
@@ -23,28 +24,37 @@ pub enum Refused {
 }
 
 /// What is out of range in a plan.
-#[derive(Clone, Copy, PartialEq, Eq, Debug, Error)]
+#[derive(Clone, Copy, PartialEq, Eq, Debug)]
 pub enum Field {
-    #[error("slots")]
     Slots,
-    #[error("slot")]
     Slot,
-    #[error("requester.level")]
     RequesterLevel,
-    #[error("requester.burst")]
     RequesterBurst,
-    #[error("interrupter.level")]
     InterrupterLevel,
-    #[error("handler")]
     Handler,
-    #[error("jumper.slot")]
     JumperSlot,
-    #[error("jumper.chains")]
     JumperChains,
 }
 
+impl fmt::Display for Field {
+    fn fmt<W: fmt::Write>(&self, f: &mut fmt::Formatter<W>) -> fmt::Result {
+        f.write_str(match self {
+            Field::Slots => "slots",
+            Field::Slot => "slot",
+            Field::RequesterLevel => "requester.level",
+            Field::RequesterBurst => "requester.burst",
+            Field::InterrupterLevel => "interrupter.level",
+            Field::Handler => "handler",
+            Field::JumperSlot => "jumper.slot",
+            Field::JumperChains => "jumper.chains",
+        })
+    }
+}
+
+impl Error for Field {}
+
 /// Why a plan is refused, by the numbers that users see.
-#[derive(Clone, Copy, PartialEq, Eq, Debug, Error)]
+#[derive(Clone, Copy, PartialEq, Eq, Debug, thiserror::Error)]
 pub enum PlanError {
     /// Slot 1 has no board, so there is no controller.
     #[error("P1 slot 1 is empty")]
