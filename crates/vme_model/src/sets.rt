@@ -1,5 +1,5 @@
 //! Daisy chains, and sets of levels and chains with one bit each.
-ghost use Rattle.std.specs.Prelude.{◌≡◌, ◌-◌, ◌^◌, ◌≤◌, ⊤, [], ◌∷◌, false, codes, slice_index_or, Some};
+ghost use Rattle.std.specs.Prelude.{◌≡◌, ◌-◌, ◌^◌, ◌≤◌, ⊤, [], ◌∷◌, false, codes, slice_index_or, if◌then◌else◌, Some};
 ghost use Rattle.vme_model.specs.Plan.{grant_chain, head_wire, out_wire};
 ghost use Rattle.vme_model.specs.Sets.{has_level, has_bus_level, has_chain, with_level, with_chain, irq_levels, bus_levels, chain_bit, chain_name};
 
@@ -68,6 +68,14 @@ impl ChainId {
     }
 }
 
+/// What a line adds to a set: its bit's value while it is low.
+fn bit(low: bool, value: u8) -> u8
+    ensures value { result ≡ (if low then value else 0) }
+    ensures small { result ≤ value }
+{
+    if low { value } else { 0 }
+}
+
 /// A set of interrupt levels: level n, 1 to 7, is bit n - 1.
 #[derive(Clone, Copy, PartialEq, Eq, Debug)]
 pub struct Levels(u8);
@@ -120,8 +128,16 @@ impl Levels {
     pub fn of_lines(low: [bool; 7]) -> Levels
         ensures { result ≡ irq_levels (λ n. slice_index_or low (n - 1) false) }
     {
-        let [one, two, three, four, five, six, seven] = low.map(u8::from);
-        Levels(one + 2 * two + 4 * three + 8 * four + 16 * five + 32 * six + 64 * seven)
+        let [one, two, three, four, five, six, seven] = low;
+        Levels(
+            bit(one, 1)
+                + bit(two, 2)
+                + bit(three, 4)
+                + bit(four, 8)
+                + bit(five, 16)
+                + bit(six, 32)
+                + bit(seven, 64),
+        )
     }
 
     /// Whether the level is in the set; no level beyond 1 to 7 is.
@@ -183,8 +199,8 @@ impl BusLevels {
     pub fn of_lines(low: [bool; 4]) -> BusLevels
         ensures { result ≡ bus_levels (λ n. slice_index_or low n false) }
     {
-        let [zero, one, two, three] = low.map(u8::from);
-        BusLevels(zero + 2 * one + 4 * two + 8 * three)
+        let [zero, one, two, three] = low;
+        BusLevels(bit(zero, 1) + bit(one, 2) + bit(two, 4) + bit(three, 8))
     }
 
     /// Whether the level is in the set; no level beyond 0 to 3 is.
