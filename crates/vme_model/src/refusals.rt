@@ -1,27 +1,41 @@
 //! Why an edge or a plan is refused.
+ghost use Rattle.std.specs.Prelude.{Some, Err};
+ghost use Rattle.vme_model.specs.Report.{verdict_text};
+
 use crate::sets::ChainId;
 use std::error::Error;
 use std::fmt;
 
 /// Why a backplane refuses an edge, in the order of the tests.
-#[derive(Clone, Copy, PartialEq, Eq, Debug, thiserror::Error)]
+#[derive(Clone, Copy, PartialEq, Eq, Debug)]
 pub enum Refused {
     /// The edge is not well formed, or the plan has no such board or part.
-    #[error("E1")]
     NoSuchDriver,
     /// The driver is in that state.
-    #[error("E2")]
     AlreadyThere,
     /// The guard of this rule, G1 to G26, fails.
-    #[error("E3 G{0}")]
     Rule(u8),
     /// This settling rule, S1 to S4, fails.
-    #[error("E4 S{0}")]
     NotSettled(u8),
     /// The trace holds no further edge.
-    #[error("E5")]
     TraceFull,
 }
+
+impl fmt::Display for Refused {
+    ghost output = { λ r. Some (verdict_text (Err r)) };
+
+    fn fmt<W: fmt::Write>(&self, f: &mut fmt::Formatter<W>) -> fmt::Result {
+        match self {
+            Refused::NoSuchDriver => f.write_str("E1"),
+            Refused::AlreadyThere => f.write_str("E2"),
+            Refused::Rule(rule) => write!(f, "E3 G{rule}"),
+            Refused::NotSettled(rule) => write!(f, "E4 S{rule}"),
+            Refused::TraceFull => f.write_str("E5"),
+        }
+    }
+}
+
+impl Error for Refused {}
 
 /// What is out of range in a plan.
 #[derive(Clone, Copy, PartialEq, Eq, Debug)]
