@@ -78,6 +78,7 @@ macro_rules! flag_table {
 }
 
 /// What a line adds to a set: its bit's value while it is low.
+#[inline(always)]
 fn bit(low: bool, value: u8) -> u8
     ensures value { result ≡ (if low then value else 0) }
     ensures small { result ≤ value }
