@@ -75,16 +75,14 @@ impl Row {
     pub fn requests_on(&self, level: u8) -> bool
         ensures { result ≡ requests_on level self.now }
     {
-        self.requester
-            .is_some_and(|requester| requester.level == level)
+        matches!(self.requester, Some(requester) if requester.level == level)
     }
 
     /// Whether the board has an interrupter on that level.
     pub fn interrupts_on(&self, level: u8) -> bool
         ensures { result ≡ interrupts_on level self.now }
     {
-        self.interrupter
-            .is_some_and(|interrupter| interrupter.level == level)
+        matches!(self.interrupter, Some(interrupter) if interrupter.level == level)
     }
 
     /// Whether the board works the chain: it passes it on by an edge of its own.

@@ -1,50 +1,74 @@
 //! Why an edge or a plan is refused.
+ghost use Rattle.std.specs.Prelude.{Some, Err};
+ghost use Rattle.vme_model.specs.Report.{verdict_text};
+
 use crate::sets::ChainId;
-use thiserror::Error;
+use std::error::Error;
+use std::fmt;
 
 /// Why a backplane refuses an edge, in the order of the tests.
-#[derive(Clone, Copy, PartialEq, Eq, Debug, Error)]
+#[derive(Clone, Copy, PartialEq, Eq, Debug)]
 pub enum Refused {
     /// The edge is not well formed, or the plan has no such board or part.
-    #[error("E1")]
     NoSuchDriver,
     /// The driver is in that state.
-    #[error("E2")]
     AlreadyThere,
     /// The guard of this rule, G1 to G26, fails.
-    #[error("E3 G{0}")]
     Rule(u8),
     /// This settling rule, S1 to S4, fails.
-    #[error("E4 S{0}")]
     NotSettled(u8),
     /// The trace holds no further edge.
-    #[error("E5")]
     TraceFull,
 }
 
+impl fmt::Display for Refused {
+    ghost output = { λ r. Some (verdict_text (Err r)) };
+
+    fn fmt<W: fmt::Write>(&self, f: &mut fmt::Formatter<W>) -> fmt::Result {
+        match self {
+            Refused::NoSuchDriver => f.write_str("E1"),
+            Refused::AlreadyThere => f.write_str("E2"),
+            Refused::Rule(rule) => write!(f, "E3 G{rule}"),
+            Refused::NotSettled(rule) => write!(f, "E4 S{rule}"),
+            Refused::TraceFull => f.write_str("E5"),
+        }
+    }
+}
+
+impl Error for Refused {}
+
 /// What is out of range in a plan.
-#[derive(Clone, Copy, PartialEq, Eq, Debug, Error)]
+#[derive(Clone, Copy, PartialEq, Eq, Debug)]
 pub enum Field {
-    #[error("slots")]
     Slots,
-    #[error("slot")]
     Slot,
-    #[error("requester.level")]
     RequesterLevel,
-    #[error("requester.burst")]
     RequesterBurst,
-    #[error("interrupter.level")]
     InterrupterLevel,
-    #[error("handler")]
     Handler,
-    #[error("jumper.slot")]
     JumperSlot,
-    #[error("jumper.chains")]
     JumperChains,
 }
 
+impl fmt::Display for Field {
+    fn fmt<W: fmt::Write>(&self, f: &mut fmt::Formatter<W>) -> fmt::Result {
+        f.write_str(match self {
+            Field::Slots => "slots",
+            Field::Slot => "slot",
+            Field::RequesterLevel => "requester.level",
+            Field::RequesterBurst => "requester.burst",
+            Field::InterrupterLevel => "interrupter.level",
+            Field::Handler => "handler",
+            Field::JumperSlot => "jumper.slot",
+            Field::JumperChains => "jumper.chains",
+        })
+    }
+}
+
+impl Error for Field {}
+
 /// Why a plan is refused, by the numbers that users see.
-#[derive(Clone, Copy, PartialEq, Eq, Debug, Error)]
+#[derive(Clone, Copy, PartialEq, Eq, Debug, thiserror::Error)]
 pub enum PlanError {
     /// Slot 1 has no board, so there is no controller.
     #[error("P1 slot 1 is empty")]

@@ -1,10 +1,10 @@
 //! Daisy chains, and sets of levels and chains with one bit each.
-ghost use Rattle.std.specs.Prelude.{◌≡◌, ◌-◌, ◌^◌, ◌≤◌, ⊤, [], ◌∷◌, false, codes, slice_index_or, Some};
+ghost use Rattle.std.specs.Prelude.{◌≡◌, ◌-◌, ◌^◌, ◌≤◌, ⊤, [], ◌∷◌, false, codes, slice_index_or, if◌then◌else◌, Some};
 ghost use Rattle.vme_model.specs.Plan.{grant_chain, head_wire, out_wire};
 ghost use Rattle.vme_model.specs.Sets.{has_level, has_bus_level, has_chain, with_level, with_chain, irq_levels, bus_levels, chain_bit, chain_name};
 
 use crate::signals::Wire;
-use bitflags::{Flag, Flags, bitflag_items};
+use bitflags::{Flag, Flags};
 use std::fmt;
 
 /// A daisy chain.
@@ -68,20 +68,45 @@ impl ChainId {
     }
 }
 
+/// The table of a set's flags, each under the name of its constant.
+///
+/// `bitflag_items!` would write it, and with it operators and number formats that have no contract and that nobody calls.
+macro_rules! flag_table {
+    ($set:ident: $($flag:ident),*) => {
+        &[$(Flag { name: stringify!($flag), value: $set::$flag }),*]
+    };
+}
+
+/// What a line adds to a set: its bit's value while it is low.
+#[inline(always)]
+fn bit(low: bool, value: u8) -> u8
+    ensures value { result ≡ (if low then value else 0) }
+    ensures small { result ≤ value }
+{
+    if low { value } else { 0 }
+}
+
 /// A set of interrupt levels: level n, 1 to 7, is bit n - 1.
 #[derive(Clone, Copy, PartialEq, Eq, Debug)]
 pub struct Levels(u8);
 
-bitflag_items! {
-    impl Levels: u8 {
-        const IRQ1 = 1;
-        const IRQ2 = 2;
-        const IRQ3 = 4;
-        const IRQ4 = 8;
-        const IRQ5 = 16;
-        const IRQ6 = 32;
-        const IRQ7 = 64;
-    }
+impl Levels {
+    pub const IRQ1: Levels = Levels(1);
+
+    pub const IRQ2: Levels = Levels(2);
+
+    pub const IRQ3: Levels = Levels(4);
+
+    pub const IRQ4: Levels = Levels(8);
+
+    pub const IRQ5: Levels = Levels(16);
+
+    pub const IRQ6: Levels = Levels(32);
+
+    pub const IRQ7: Levels = Levels(64);
+
+    pub const FLAGS: &'static [Flag<Levels>] =
+        flag_table!(Levels: IRQ1, IRQ2, IRQ3, IRQ4, IRQ5, IRQ6, IRQ7);
 }
 
 impl Flags for Levels {
@@ -120,8 +145,16 @@ impl Levels {
     pub fn of_lines(low: [bool; 7]) -> Levels
         ensures { result ≡ irq_levels (λ n. slice_index_or low (n - 1) false) }
     {
-        let [one, two, three, four, five, six, seven] = low.map(u8::from);
-        Levels(one + 2 * two + 4 * three + 8 * four + 16 * five + 32 * six + 64 * seven)
+        let [one, two, three, four, five, six, seven] = low;
+        Levels(
+            bit(one, 1)
+                + bit(two, 2)
+                + bit(three, 4)
+                + bit(four, 8)
+                + bit(five, 16)
+                + bit(six, 32)
+                + bit(seven, 64),
+        )
     }
 
     /// Whether the level is in the set; no level beyond 1 to 7 is.
@@ -147,13 +180,16 @@ impl Levels {
 #[derive(Clone, Copy, PartialEq, Eq, Debug)]
 pub struct BusLevels(u8);
 
-bitflag_items! {
-    impl BusLevels: u8 {
-        const BR0 = 1;
-        const BR1 = 2;
-        const BR2 = 4;
-        const BR3 = 8;
-    }
+impl BusLevels {
+    pub const BR0: BusLevels = BusLevels(1);
+
+    pub const BR1: BusLevels = BusLevels(2);
+
+    pub const BR2: BusLevels = BusLevels(4);
+
+    pub const BR3: BusLevels = BusLevels(8);
+
+    pub const FLAGS: &'static [Flag<BusLevels>] = flag_table!(BusLevels: BR0, BR1, BR2, BR3);
 }
 
 impl Flags for BusLevels {
@@ -183,8 +219,8 @@ impl BusLevels {
     pub fn of_lines(low: [bool; 4]) -> BusLevels
         ensures { result ≡ bus_levels (λ n. slice_index_or low n false) }
     {
-        let [zero, one, two, three] = low.map(u8::from);
-        BusLevels(zero + 2 * one + 4 * two + 8 * three)
+        let [zero, one, two, three] = low;
+        BusLevels(bit(zero, 1) + bit(one, 2) + bit(two, 4) + bit(three, 8))
     }
 
     /// Whether the level is in the set; no level beyond 0 to 3 is.
@@ -199,14 +235,18 @@ impl BusLevels {
 #[derive(Clone, Copy, PartialEq, Eq, Debug)]
 pub struct Chains(u8);
 
-bitflag_items! {
-    impl Chains: u8 {
-        const BG0 = 1;
-        const BG1 = 2;
-        const BG2 = 4;
-        const BG3 = 8;
-        const IACK = 16;
-    }
+impl Chains {
+    pub const BG0: Chains = Chains(1);
+
+    pub const BG1: Chains = Chains(2);
+
+    pub const BG2: Chains = Chains(4);
+
+    pub const BG3: Chains = Chains(8);
+
+    pub const IACK: Chains = Chains(16);
+
+    pub const FLAGS: &'static [Flag<Chains>] = flag_table!(Chains: BG0, BG1, BG2, BG3, IACK);
 }
 
 impl Flags for Chains {

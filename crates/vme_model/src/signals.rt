@@ -203,7 +203,8 @@ impl Edge {
         ensures { result ≡ is_well_formed self.now }
     {
         let has_value = match (self.wire, self.fall, self.value) {
-            (Wire::Addr, true, value) => value.is_some_and(|cycle| cycle.is_in_range()),
+            (Wire::Addr, true, Some(cycle)) => cycle.is_in_range(),
+            (Wire::Addr, true, None) => false,
             (_, _, value) => value.is_none(),
         };
         self.driver.has_wire(self.wire) && has_value

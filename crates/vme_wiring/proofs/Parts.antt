@@ -1,7 +1,8 @@
 -- A part that there is.
-use Rattle.std.proofs.Common.{◌≡◌, refl, ap, ◌∙◌}
-use Rattle.std.specs.Prelude.{◌||◌, not, ℕ, Bool, true, false, List, Option, Some, None, option_map, is_some}
-use Rattle.std.specs.Option.{option_map_or}
+use Rattle.std.proofs.Common.{◌≡◌, ◌<◌, sym, refl, ap, ◌∙◌, length}
+use Rattle.std.specs.Prelude.{◌||◌, not, ℕ, Bool, true, false, List, Option, Some, None, option_map, is_some, slice_index_or}
+use Rattle.std.specs.Option.{option_map_or, option_and_then}
+use Rattle.std.proofs.lemmas.Option.{slice_get-get_or}
 use Rattle.vme_model.specs.declared.boards.Row.{Row}
 use Rattle.vme_model.specs.declared.signals.Version.{Version}
 use Rattle.vme_model.specs.declared.signals.Driver.TheVariants.{Slot}
@@ -14,7 +15,7 @@ use Rattle.vme_requester.specs.Local.{state_of as requester_of}
 use Rattle.vme_master.specs.Local.{state_of as master_of}
 use Rattle.vme_interrupter.specs.Local.{seen, edges}
 use Rattle.vme_interrupter.proofs.Seen.{edges_seen}
-use Rattle.vme_wiring.specs.Boards.{parts_of, low_of}
+use Rattle.vme_wiring.specs.Boards.{parts_of, low_of, place}
 use Rattle.vme_wiring.specs.declared.boards.Board.{Board}
 
 -- what holds of each part, holds of the part that there is
@@ -59,3 +60,7 @@ pub free_at : (version : Version) (p : Plan) (h : List Edge) (r : Row) (b : Boar
 free_at version p h r b same has =
     ap (λ t. not t || low_of b AddressStrobe) (low_at version p h r b Addr same has)
     ∙ ap (λ t. not (drive h (Slot r.slot) Addr) || t) (low_at version p h r b AddressStrobe same has)
+
+-- what is read at a slot stands in its place
+pub read_place : (boards : List (Option Board)) (s : ℕ) (other : Option Board) → s < length boards → slice_index_or boards s other ≡ place boards s
+read_place boards s other l = sym (ap (option_and_then (λ (b : Option Board). b)) (slice_get-get_or boards s other l))

@@ -155,6 +155,7 @@ impl Wiring {
 
     /// Takes in an edge of the slot's board.
     #[inline(always)]
+    #[tactic(auto, using(crate::proofs::Parts::read_place))]
     fn note_board(&mut self, slot: u8, edge: Edge)
         requires slot { slot < 22 }
         requires board { (b : BoardValue) → place self.old.boards slot ≡ Some b → CanNote self.old b.row edge }
