@@ -15,6 +15,8 @@ use Rattle.vme_lock.specs.declared.views.Turn.{Turn}
 use Rattle.vme_lock.specs.declared.views.Lost.{Lost}
 use Rattle.vme_lock.specs.declared.views.EdgeRefused.{EdgeRefused}
 use Rattle.vme_lock.specs.declared.views.EdgeRefused.TheVariants as refused
+use Rattle.vme_lock.specs.declared.workers.Spent.{Spent}
+use Rattle.vme_lock.specs.declared.workers.Spent.TheVariants as spent
 use Rattle.vme_lock.specs.Seats.{Place, Follows}
 
 -- what a look at the backplane shows a driver
@@ -45,6 +47,11 @@ turn_answer b s t = if is_lost b s then Err (lost b s) else Ok (turn_of b s.driv
 abbrev pub by_step : Result (Option Delivery) Refused → Result (Option Delivery) EdgeRefused
 by_step (Ok delivered) = Ok delivered
 by_step (Err r) = Err (refused.Step r)
+
+-- what a worker makes of the answer to a turn: it ends as lost
+abbrev pub ending : Result Turn Lost → Result Turn Spent
+ending (Ok t) = Ok t
+ending (Err _) = Err spent.Lost
 
 -- the answer to an edge: L1, L5, or what the backplane answers
 abbrev pub edge_answer : State → Place → Edge → Result (Option Delivery) EdgeRefused
