@@ -15,6 +15,8 @@ use Rattle.vme_lock.specs.declared.views.Turn.{Turn}
 use Rattle.vme_lock.specs.declared.views.Lost.{Lost}
 use Rattle.vme_lock.specs.declared.views.EdgeRefused.{EdgeRefused}
 use Rattle.vme_lock.specs.declared.views.EdgeRefused.TheVariants as refused
+use Rattle.vme_lock.specs.declared.workers.Spent.{Spent}
+use Rattle.vme_lock.specs.declared.workers.Spent.TheVariants as spent
 use Rattle.vme_lock.specs.Seats.{Place, Follows}
 
 -- what a look at the backplane shows a driver
@@ -50,6 +52,11 @@ by_step (Err r) = Err (refused.Step r)
 pub record IsOwn (b : State) (s : Place) (e : Edge) : Type 0 where
   pub driver : is_same_driver e.driver s.driver ≡ true
   pub made : count b.history s.driver ≡ s.made
+
+-- what a worker makes of the answer to a turn: it ends as lost
+abbrev pub ending : Result Turn Lost → Result Turn Spent
+ending (Ok t) = Ok t
+ending (Err _) = Err spent.Lost
 
 -- the answer to an edge: L1, L5, or what the backplane answers
 abbrev pub edge_answer : State → Place → Edge → Result (Option Delivery) EdgeRefused

@@ -1,12 +1,13 @@
 //! A worker: one driver's turns, in each of which it asks for one offer and makes one edge at most.
-ghost use Rattle.std.specs.Prelude.{◌≡◌, ◌+◌, ◌≤◌, [], length, min, true};
+ghost use Rattle.std.specs.Prelude.{◌≡◌, ◌+◌, ◌≤◌, [], IfOk, length, min, true};
 ghost use Rattle.vme_lock.specs.Seats.{worked};
 ghost use Rattle.vme_lock.specs.Logs.{IsWithin};
+ghost use Rattle.vme_lock.specs.Holds.{OfSome, ending, turn_answer};
 
 use crate::logs::{Log, Pages, Room};
 use crate::seats::{Rig, Seat};
 use crate::shared::Shared;
-use crate::views::EdgeRefused;
+use crate::views::{EdgeRefused, Turn};
 use std::sync::Wait;
 use vme_model::{Driver, Edge};
 
@@ -89,6 +90,22 @@ fn make_edge<L: Rig, R: Wait>(
     }
 }
 
+/// What a turn shows the seat's driver. `Lost` where the history is not the seat's.
+fn see_turn<L: Rig, R: Wait>(
+    rt: &R,
+    shared: &Shared<'_, L>,
+    seat: &Seat<L>,
+    turn: u32,
+) -> Result<Turn, Spent>
+    ensures answer { OfSome L.opened (λ b. result ≡ ending (turn_answer b seat.now turn)) }
+    ensures own { IfOk result (λ t. seat.now.made ≤ t.total) }
+{
+    match shared.turn(rt, seat, turn) {
+        Ok(seen) => Ok(seen),
+        Err(_) => Err(Spent::Lost),
+    }
+}
+
 /// Takes one turn. `Err` where the worker ends.
 fn take_turn<L: Rig, G: Gate, R: Wait>(
     rt: &R,
@@ -110,9 +127,7 @@ fn take_turn<L: Rig, G: Gate, R: Wait>(
     if !gate.before(driver, turn) {
         return Err(Spent::Gate);
     }
-    let Ok(seen) = shared.turn(rt, seat, turn) else {
-        return Err(Spent::Lost);
-    };
+    let seen = see_turn(rt, shared, seat, turn)?;
     if seen.total >= bounds.edges {
         return Err(Spent::Edges);
     }
