@@ -43,15 +43,15 @@ turn_of b d t = record { offer = slice_get (offered b d) (t % length (offered b 
 abbrev pub turn_answer : State → Place → ℕ → Result Turn Lost
 turn_answer b s t = if is_lost b s then Err (lost b s) else Ok (turn_of b s.driver t)
 
--- what the backplane answers, its refusal as one of an edge
-abbrev pub by_step : Result (Option Delivery) Refused → Result (Option Delivery) EdgeRefused
-by_step (Ok delivered) = Ok delivered
-by_step (Err r) = Err (refused.Step r)
-
 -- what a worker makes of the answer to a turn: it ends as lost
 abbrev pub ending : Result Turn Lost → Result Turn Spent
 ending (Ok t) = Ok t
 ending (Err _) = Err spent.Lost
+
+-- what the backplane answers, its refusal as one of an edge
+abbrev pub by_step : Result (Option Delivery) Refused → Result (Option Delivery) EdgeRefused
+by_step (Ok delivered) = Ok delivered
+by_step (Err r) = Err (refused.Step r)
 
 -- the answer to an edge: L1, L5, or what the backplane answers
 abbrev pub edge_answer : State → Place → Edge → Result (Option Delivery) EdgeRefused
