@@ -43,6 +43,11 @@ turn_of b d t = record { offer = slice_get (offered b d) (t % length (offered b 
 abbrev pub turn_answer : State → Place → ℕ → Result Turn Lost
 turn_answer b s t = if is_lost b s then Err (lost b s) else Ok (turn_of b s.driver t)
 
+-- what a worker makes of the answer to a turn: it ends as lost
+abbrev pub ending : Result Turn Lost → Result Turn Spent
+ending (Ok t) = Ok t
+ending (Err _) = Err spent.Lost
+
 -- what the backplane answers, its refusal as one of an edge
 abbrev pub by_step : Result (Option Delivery) Refused → Result (Option Delivery) EdgeRefused
 by_step (Ok delivered) = Ok delivered
@@ -52,11 +57,6 @@ by_step (Err r) = Err (refused.Step r)
 pub record IsOwn (b : State) (s : Place) (e : Edge) : Type 0 where
   pub driver : is_same_driver e.driver s.driver ≡ true
   pub made : count b.history s.driver ≡ s.made
-
--- what a worker makes of the answer to a turn: it ends as lost
-abbrev pub ending : Result Turn Lost → Result Turn Spent
-ending (Ok t) = Ok t
-ending (Err _) = Err spent.Lost
 
 -- the answer to an edge: L1, L5, or what the backplane answers
 abbrev pub edge_answer : State → Place → Edge → Result (Option Delivery) EdgeRefused

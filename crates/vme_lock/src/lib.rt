@@ -23,6 +23,3 @@ pub use shared::Shared;
 pub use threads::{NotStarted, run_boards};
 pub use views::{EdgeRefused, Lost, Turn, View};
 pub use workers::{Bounds, Gate, OpenGate, Spent, work_board};
-
-#[cfg(test)]
-mod tests;
