@@ -1,30 +1,23 @@
 -- What a run leaves of the boards' history.
-use Rattle.std.proofs.Common.{◌≡◌, ℕ, ◌+◌, ◌*◌, ◌≤◌, arith, List, [], length, sym, ap, ◌∙◌, subst, Option}
-use Rattle.std.specs.Prelude.{◌==◌, min, Result, Ok, Err, if◌then◌else◌}
+use Rattle.std.proofs.Common.{◌≡◌, ℕ, ◌≤◌, arith, List, [], sym, ap, ◌∙◌, subst, Option}
+use Rattle.std.specs.Prelude.{min, Result, Ok, Err}
 use Rattle.std.specs.Io.KnownBytes.{Appends, Keeps}
 use Rattle.std.proofs.KnownBytes.{Keeps-refl}
 use Rattle.std.proofs.Math.Nat.{min-le_left}
 use Rattle.vme_model.specs.declared.signals.Version.{Version}
-use Rattle.vme_model.specs.declared.signals.Driver.{Driver}
-use Rattle.vme_model.specs.declared.signals.Edge.{Edge}
-use Rattle.vme_model.specs.Plan.{Plan, drivers}
+use Rattle.vme_model.specs.Plan.{Plan}
 use Rattle.vme_model.specs.History.{in_order}
 use Rattle.vme_model.specs.Verdict.{State, IsLegal}
 use Rattle.vme_model.specs.Safe.{IsSafe}
 use Rattle.vme_model.specs.Text.{text}
 use Rattle.vme_model.specs.Report.{at_power_up}
-use Rattle.vme_scenario.specs.Format.{scenario}
-use Rattle.vme_trace.specs.declared.Fault.{Fault}
-use Rattle.vme_trace.specs.declared.Fault.TheVariants.{Write}
 use Rattle.vme_trace.specs.Writing.{AppendsFront}
 use Rattle.vme_engines.specs.declared.Status.{Status}
-use Rattle.vme_engines.specs.declared.Status.TheVariants.{Done, Limit}
 use Rattle.vme_engines.specs.declared.EngineFault.TheVariants as fault
-use Rattle.vme_engines.specs.Outcomes.{Answer, Lent, scenario_limit}
 use Rattle.vme_engines.proofs.Opening.{no_plan}
 use Rattle.vme_run.specs.declared.RunFault.{RunFault}
 use Rattle.vme_run.specs.declared.RunFault.TheVariants.{Engine, NotStarted, LogDiffers, NotReplayed}
-use Rattle.vme_run.specs.Running.{IsRun, RunsOn, HasOtherLogs, Runs, IsRead, IsUnread, IsPlayed, IsNotPlayed, EndsRun, IsWritten}
+use Rattle.vme_run.specs.Running.{IsRun, RunsOn, Runs, IsRead, IsUnread, IsPlayed, IsNotPlayed, EndsRun, IsWritten}
 
 -- what can be made is no more than what is asked for
 pub fits : (n others m : ℕ) → m ≡ min n others → m ≤ n

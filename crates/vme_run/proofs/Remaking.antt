@@ -1,5 +1,5 @@
 -- A legal history that is made once more on a backplane of its own plan.
-use Rattle.std.proofs.Common.{◌≡◌, ℕ, ◌+◌, ◌<◌, ◌≤◌, List, [], ◌∷◌, length, reverse, take, Bool, true, false, refl, sym, ap, ◌∙◌, arith}
+use Rattle.std.proofs.Common.{◌≡◌, ℕ, ◌+◌, ◌<◌, ◌≤◌, List, length, reverse, take, Bool, true, false, sym, ap, ◌∙◌, arith}
 use Rattle.std.specs.Prelude.{◌==◌, not, Option, Some, Result, Ok, Err, is_ok, is_err, slice_get, if◌then◌else◌}
 use Rattle.std.proofs.lemmas.List.{length-reverse, length-take-le}
 use Rattle.std.proofs.lemmas.Bool.Decides.{nat_tests}

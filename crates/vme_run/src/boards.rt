@@ -1,6 +1,10 @@
 //! Running the boards of a backplane, each in a thread of its own.
 ghost use Rattle.std.specs.Prelude.{◌≡◌, ◌≤◌, IfOk, MatchResult, vec_len};
+ghost use Rattle.vme_lock.specs.Seats.{drivers_of, seats_of};
+ghost use Rattle.vme_model.specs.Accepted.{IsAccepted};
+ghost use Rattle.vme_model.specs.Plan.{drivers};
 ghost use Rattle.vme_model.specs.Report.{trace_limit};
+ghost use Rattle.vme_model.specs.Verdict.{IsLegal};
 ghost use Rattle.vme_run.specs.Running.{IsPlayed, IsNotPlayed};
 
 use crate::RunFault;
@@ -12,7 +16,9 @@ use std::thread::Threads;
 use vme_arena::{Region, Rest};
 use vme_backplane::{Backplane, Trace};
 use vme_engines::EngineFault;
-use vme_lock::{Bounds, Closed, LogMismatch, OpenGate, Rig, Room, Shared, log_bytes, run_boards};
+use vme_lock::{
+    Bounds, Closed, LogMismatch, OpenGate, Rig, Room, Seats, Shared, log_bytes, run_boards,
+};
 
 /// The most drivers of a plan, and the parts of a ledger.
 const DRIVERS: u64 = 22;
@@ -91,6 +97,26 @@ fn play_on<'r, L: Rig + Send + Sync, R: Threads + Wait + Sync>(
     let Ok(rooms) = rooms_for(alloc, &mut region.rest(), seats.len(), edges) else {
         return Err(RunFault::Engine(EngineFault::NoMemory));
     };
+    play_in(rt, alloc, shared, seats, bounds, rooms)
+}
+
+/// Runs the boards of a lock, each in its room, and closes it.
+fn play_in<'r, L: Rig + Send + Sync, R: Threads + Wait + Sync>(
+    rt: &R,
+    alloc: Global,
+    shared: Shared<'r, L>,
+    seats: Seats<L>,
+    bounds: Bounds,
+    rooms: Vec<Room<'_>>,
+) -> Result<Backplane<'r>, RunFault>
+    requires parts { L.parts ≡ 22 }
+    requires accepted { IsAccepted L.opened.plan }
+    requires legal { IsLegal L.opened.version L.opened.plan L.opened.history }
+    requires seats { seats.items ≡ seats_of L.opened }
+    requires drivers { drivers_of seats.items ≡ drivers L.opened.plan }
+    requires rooms { vec_len rooms ≡ vec_len seats }
+    ensures { MatchResult result (IsPlayed bounds.turns L.opened) (IsNotPlayed bounds.turns L.opened) }
+{
     let Ok((seats, logs)) = run_boards(rt, alloc, &shared, seats, &OpenGate, bounds, rooms) else {
         return Err(RunFault::NotStarted);
     };
