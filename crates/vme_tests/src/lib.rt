@@ -5,6 +5,8 @@
 #[cfg(test)]
 mod arena;
 #[cfg(test)]
+mod asserts;
+#[cfg(test)]
 mod backplane;
 #[cfg(test)]
 mod boards;
