@@ -64,18 +64,19 @@ impl Ran {
     }
 }
 
+/// What `check` says of a trace.
+fn verdict(rt: &impl Abort, alloc: Global, text: &str, trace: &[u8]) -> Vec<u8> {
+    let mut verdict = Vec::new(alloc);
+    match check(alloc, text.as_bytes(), &mut { trace }, &mut verdict) {
+        Ok(_) => verdict,
+        Err(fault) => panic!(rt; "{fault}"),
+    }
+}
+
 /// Asserts that `check` calls the trace of a run legal.
 fn assert_legal(rt: &impl Abort, alloc: Global, text: &str, ran: &Ran) {
-    let mut verdict = Vec::new(alloc);
-    let status = check(
-        alloc,
-        text.as_bytes(),
-        &mut ran.trace.as_slice(),
-        &mut verdict,
-    );
-    assert!(rt; status.is_ok());
     let legal = format!(in alloc; "legal {}\n", ran.edges()).expect(rt, "the text");
-    assert!(rt; verdict.as_slice() == legal.as_bytes());
+    assert!(rt; verdict(rt, alloc, text, &ran.trace).as_slice() == legal.as_bytes());
 }
 
 /// Asserts that the status is `Limit` exactly where the trace has as many edges as were asked for.
