@@ -1,6 +1,8 @@
 //! What no clause says: the happy path of each engine, and devices that fail.
 use crate::devices::{Narrow, Pieces};
-use std::test::Fail;
+use std::alloc::AllocError;
+use std::io::Read;
+use std::process::Abort;
 use vme_engines::{EngineFault, SCENARIO_LIMIT, Status, check, drive, joined, replay};
 use vme_model::Version;
 use vme_trace::Fault;
@@ -49,63 +51,81 @@ c bg3+
 1 bbsy+
 ";
 
-#[test]
-fn joins_a_tenure(rt: HostRuntime) -> Result<(), Fail> {
+/// Asserts how an engine ended, with a status or at a fault of the trace, and what it wrote.
+fn assert_ended(
+    rt: &impl Abort,
+    answer: Result<Status, EngineFault>,
+    out: &[u8],
+    wanted: Result<Status, EngineFault>,
+    written: &[u8],
+) {
+    assert!(rt; answer == wanted);
+    assert!(rt; out == written);
+}
+
+/// Asserts how `joined` ends, and what it writes.
+fn assert_joined<R: Read>(
+    rt: &(impl Abort + AllocGlobal),
+    input: &mut R,
+    wanted: Result<Status, EngineFault>,
+    written: &[u8],
+) {
     let mut out = Vec::new(rt.alloc());
-    let mut input = BOTH;
-    assert!(rt; joined(rt.alloc(), &mut input, &mut out) == Ok(Status::Done));
-    assert!(rt; out.as_slice() == REPORT);
-    Ok(())
+    let answer = joined(rt.alloc(), input, &mut out);
+    assert_ended(rt, answer, &out, wanted, written);
 }
 
 #[test]
-fn joins_byte_by_byte(rt: HostRuntime) -> Result<(), Fail> {
-    let mut out = Vec::new(rt.alloc());
-    let mut input = Pieces::new(BOTH, 1);
-    assert!(rt; joined(rt.alloc(), &mut input, &mut out) == Ok(Status::Done));
-    assert!(rt; out.as_slice() == REPORT);
-    Ok(())
+fn joins_a_tenure(rt: HostRuntime) {
+    assert_joined(&rt, &mut { BOTH }, Ok(Status::Done), REPORT);
 }
 
 #[test]
-fn a_failing_read_before_the_trace_is_no_scenario(rt: HostRuntime) -> Result<(), Fail> {
-    let mut out = Vec::new(rt.alloc());
+fn joins_byte_by_byte(rt: HostRuntime) {
+    assert_joined(&rt, &mut Pieces::new(BOTH, 1), Ok(Status::Done), REPORT);
+}
+
+#[test]
+fn a_failing_read_before_the_trace_is_no_scenario(rt: HostRuntime) {
     let mut input = Pieces::new(BOTH, 1).failing_at(13);
-    assert!(rt; joined(rt.alloc(), &mut input, &mut out) == Err(EngineFault::CannotRead));
-    assert!(rt; out.is_empty());
-    Ok(())
+    assert_joined(&rt, &mut input, Err(EngineFault::CannotRead), b"");
+}
+
+/// Inputs without a header line.
+const NO_TRACES: [&[u8]; 6] = [
+    b"",
+    b"slots = 1\n",
+    b"vme 1",
+    b"vme 1\r\n",
+    b" vme 1\n",
+    b"vme 3\n",
+];
+
+/// Whether `joined` finds no trace in an input, and writes nothing.
+fn finds_no_trace(rt: &impl AllocGlobal, input: &[u8]) -> bool {
+    let mut out = Vec::new(rt.alloc());
+    let answer = joined(rt.alloc(), &mut { input }, &mut out);
+    matches!(answer, Err(EngineFault::Trace(Fault::Header))) && out.is_empty()
 }
 
 #[test]
-fn no_header_line_is_no_trace(rt: HostRuntime) -> Result<(), Fail> {
-    let cases: [&[u8]; 6] = [
-        b"",
-        b"slots = 1\n",
-        b"vme 1",
-        b"vme 1\r\n",
-        b" vme 1\n",
-        b"vme 3\n",
-    ];
-    for case in cases {
-        let mut out = Vec::new(rt.alloc());
-        let mut input = case;
-        let answer = joined(rt.alloc(), &mut input, &mut out);
-        assert!(rt;
-            answer == Err(EngineFault::Trace(Fault::Header)),
-            "{case:?}"
-        );
-        assert!(rt; out.is_empty());
+fn no_header_line_is_no_trace(rt: HostRuntime) {
+    for case in &NO_TRACES {
+        assert!(rt; finds_no_trace(&rt, case), "{case:?}");
     }
-    Ok(())
 }
 
 #[test]
-fn a_full_device_cuts_the_report(rt: HostRuntime) -> Result<(), Fail> {
-    let mut input = BOTH;
+fn a_full_device_cuts_the_report(rt: HostRuntime) {
     let mut out = Narrow::new(rt.alloc(), usize::MAX, 7);
-    assert!(rt; joined(rt.alloc(), &mut input, &mut out) == Err(EngineFault::Trace(Fault::Write)));
-    assert!(rt; out.taken() == b"1 ok\n2 ".as_slice());
-    Ok(())
+    let answer = joined(rt.alloc(), &mut { BOTH }, &mut out);
+    assert_ended(
+        &rt,
+        answer,
+        out.taken(),
+        Err(EngineFault::Trace(Fault::Write)),
+        b"1 ok\n2 ",
+    );
 }
 
 /// Three boards, of which the first has no parts.
@@ -118,166 +138,217 @@ board = [
 ]
 ";
 
-#[test]
-fn replays_a_tenure(rt: HostRuntime) -> Result<(), Fail> {
+/// Asserts how `replay` ends, and what it writes.
+fn assert_replayed<R: Read>(
+    rt: &(impl Abort + AllocGlobal),
+    scenario: &[u8],
+    trace: &mut R,
+    wanted: Result<Status, EngineFault>,
+    written: &[u8],
+) {
     let mut out = Vec::new(rt.alloc());
-    let mut trace = TENURE;
-    assert!(rt; replay(rt.alloc(), ONE_BOARD, &mut trace, &mut out) == Ok(Status::Done));
-    assert!(rt; out.as_slice() == REPORT);
-    Ok(())
+    let answer = replay(rt.alloc(), scenario, trace, &mut out);
+    assert_ended(rt, answer, &out, wanted, written);
 }
 
 #[test]
-fn replays_no_edge(rt: HostRuntime) -> Result<(), Fail> {
-    let mut out = Vec::new(rt.alloc());
+fn replays_a_tenure(rt: HostRuntime) {
+    assert_replayed(&rt, ONE_BOARD, &mut { TENURE }, Ok(Status::Done), REPORT);
+}
+
+#[test]
+fn replays_no_edge(rt: HostRuntime) {
     let mut trace: &[u8] = b"vme 1\n";
-    assert!(rt; replay(rt.alloc(), ONE_BOARD, &mut trace, &mut out) == Ok(Status::Done));
-    assert!(rt; out.as_slice() == b"accepted 0 refused 0\n".as_slice());
-    Ok(())
+    let written = b"accepted 0 refused 0\n";
+    assert_replayed(&rt, ONE_BOARD, &mut trace, Ok(Status::Done), written);
 }
 
 // A request that comes behind the grant is too late for it.
 #[test]
-fn goes_on_behind_a_refused_edge(rt: HostRuntime) -> Result<(), Fail> {
-    let mut out = Vec::new(rt.alloc());
+fn goes_on_behind_a_refused_edge(rt: HostRuntime) {
     let mut trace: &[u8] = b"vme 1\n3 br-\nc bg3-\n2 bgout-\n2 br-\n2 bbsy-\n3 bbsy-\n";
-    let answer = replay(rt.alloc(), THREE_BOARDS, &mut trace, &mut out);
-    assert!(rt; answer == Ok(Status::SomeRefused));
-    let wanted: &[u8] = b"1 ok\n2 ok\n3 ok\n4 ok\n5 E3 G13\n6 ok\naccepted 5 refused 1\n";
-    assert!(rt; out.as_slice() == wanted);
-    Ok(())
+    let written = b"1 ok\n2 ok\n3 ok\n4 ok\n5 E3 G13\n6 ok\naccepted 5 refused 1\n";
+    assert_replayed(
+        &rt,
+        THREE_BOARDS,
+        &mut trace,
+        Ok(Status::SomeRefused),
+        written,
+    );
 }
 
 // The thirteenth read is behind the header line's six bytes and the first edge's six.
 #[test]
-fn a_failing_read_leaves_the_verdicts_before_it(rt: HostRuntime) -> Result<(), Fail> {
-    let mut out = Vec::new(rt.alloc());
+fn a_failing_read_leaves_the_verdicts_before_it(rt: HostRuntime) {
     let mut trace = Pieces::new(TENURE, 1).failing_at(13);
-    let answer = replay(rt.alloc(), ONE_BOARD, &mut trace, &mut out);
-    assert!(rt; answer == Err(EngineFault::Trace(Fault::Read)));
-    assert!(rt; out.as_slice() == b"1 ok\n".as_slice());
-    Ok(())
+    assert_replayed(
+        &rt,
+        ONE_BOARD,
+        &mut trace,
+        Err(EngineFault::Trace(Fault::Read)),
+        b"1 ok\n",
+    );
 }
 
-#[test]
-fn a_replay_ends_at_a_fault_of_the_trace(rt: HostRuntime) -> Result<(), Fail> {
-    let cases: [(&[u8], Fault, &[u8]); 7] = [
-        (b"", Fault::Header, b""),
-        (b"vme 3\n", Fault::Header, b""),
-        (b"vme 1", Fault::CutOff, b""),
-        (b"vme 1\n1 br-\nc bg", Fault::CutOff, b"1 ok\n"),
-        (b"vme 1\n1 br-\n1 bg3-\n", Fault::Line { n: 3 }, b"1 ok\n"),
-        (b"vme 1\n1 br-\n\n", Fault::Line { n: 3 }, b"1 ok\n"),
-        (
-            b"vme 1\naaaaaaaaaaaaaaaaaaaaaaaaaaaaaaaaaaaaaaaaaaaaaaaaaaaaaaaaaaaaaaaaa",
-            Fault::TooLong { n: 2 },
-            b"",
-        ),
-    ];
-    for (text, fault, written) in cases {
-        let mut out = Vec::new(rt.alloc());
-        let mut trace = text;
-        let answer = replay(rt.alloc(), ONE_BOARD, &mut trace, &mut out);
-        assert!(rt; answer == Err(EngineFault::Trace(fault)), "{text:?}");
-        assert!(rt; out.as_slice() == written, "{text:?}");
-    }
-    Ok(())
-}
+/// Traces, their faults, and what is written before.
+const FAULTY: [(&[u8], Fault, &[u8]); 7] = [
+    (b"", Fault::Header, b""),
+    (b"vme 3\n", Fault::Header, b""),
+    (b"vme 1", Fault::CutOff, b""),
+    (b"vme 1\n1 br-\nc bg", Fault::CutOff, b"1 ok\n"),
+    (b"vme 1\n1 br-\n1 bg3-\n", Fault::Line { n: 3 }, b"1 ok\n"),
+    (b"vme 1\n1 br-\n\n", Fault::Line { n: 3 }, b"1 ok\n"),
+    (
+        b"vme 1\naaaaaaaaaaaaaaaaaaaaaaaaaaaaaaaaaaaaaaaaaaaaaaaaaaaaaaaaaaaaaaaaa",
+        Fault::TooLong { n: 2 },
+        b"",
+    ),
+];
 
-#[test]
-fn a_long_scenario_is_not_read(rt: HostRuntime) -> Result<(), Fail> {
-    let scenario = vec![in rt.alloc(); b' '; SCENARIO_LIMIT + 1]?;
+/// Whether a replay ends at a fault, behind these verdicts.
+fn ends_at(rt: &impl AllocGlobal, trace: &[u8], fault: Fault, written: &[u8]) -> bool {
     let mut out = Vec::new(rt.alloc());
+    let answer = replay(rt.alloc(), ONE_BOARD, &mut { trace }, &mut out);
+    matches!(answer, Err(EngineFault::Trace(found)) if found == fault) && out.as_slice() == written
+}
+
+#[test]
+fn a_replay_ends_at_a_fault_of_the_trace(rt: HostRuntime) {
+    for (text, fault, written) in &FAULTY {
+        assert!(rt; ends_at(&rt, text, *fault, written), "{text:?}");
+    }
+}
+
+#[test]
+fn a_long_scenario_is_not_read(rt: HostRuntime) -> Result<(), AllocError> {
+    let scenario = vec![in rt.alloc(); b' '; SCENARIO_LIMIT + 1]?;
     let mut trace = TENURE;
-    let answer = replay(rt.alloc(), &scenario, &mut trace, &mut out);
-    assert!(rt; answer == Err(EngineFault::TooLong));
-    assert!(rt; out.is_empty());
+    assert_replayed(&rt, &scenario, &mut trace, Err(EngineFault::TooLong), b"");
     assert!(rt; trace.len() == TENURE.len());
     Ok(())
 }
 
-#[test]
-fn faults_have_their_texts(rt: HostRuntime) -> Result<(), Fail> {
-    let cases: [(EngineFault, &str); 4] = [
-        (EngineFault::CannotRead, "F1 cannot read the scenario"),
-        (EngineFault::TooLong, "F2 the scenario is too long"),
-        (EngineFault::NoMemory, "F3 no memory"),
-        (EngineFault::Trace(Fault::CutOff), "X4 the trace is cut off"),
-    ];
-    for (fault, text) in cases {
-        let written = format!(in rt.alloc(); "{fault}")?;
-        assert!(rt; written.as_str() == text);
-    }
-    Ok(())
+/// Asserts the text of a fault.
+fn assert_text(rt: &(impl Abort + AllocGlobal), fault: &EngineFault, wanted: &str) {
+    assert!(rt; matches!(fault.to_string(rt.alloc()), Ok(text) if text.as_str() == wanted));
 }
 
 #[test]
-fn a_tenure_is_legal(rt: HostRuntime) -> Result<(), Fail> {
+fn faults_have_their_texts(rt: HostRuntime) {
+    assert_text(&rt, &EngineFault::CannotRead, "F1 cannot read the scenario");
+    assert_text(&rt, &EngineFault::TooLong, "F2 the scenario is too long");
+    assert_text(&rt, &EngineFault::NoMemory, "F3 no memory");
+    assert_text(
+        &rt,
+        &EngineFault::Trace(Fault::CutOff),
+        "X4 the trace is cut off",
+    );
+}
+
+/// Asserts how `check` ends, and what it writes.
+fn assert_checked<R: Read>(
+    rt: &(impl Abort + AllocGlobal),
+    scenario: &[u8],
+    trace: &mut R,
+    wanted: Result<Status, EngineFault>,
+    written: &[u8],
+) {
     let mut out = Vec::new(rt.alloc());
-    let mut trace = TENURE;
-    assert!(rt; check(rt.alloc(), ONE_BOARD, &mut trace, &mut out) == Ok(Status::Done));
-    assert!(rt; out.as_slice() == b"legal 6\n".as_slice());
-    Ok(())
+    let answer = check(rt.alloc(), scenario, trace, &mut out);
+    assert_ended(rt, answer, &out, wanted, written);
 }
 
 #[test]
-fn a_check_ends_at_a_refused_edge(rt: HostRuntime) -> Result<(), Fail> {
-    let mut out = Vec::new(rt.alloc());
+fn a_tenure_is_legal(rt: HostRuntime) {
+    assert_checked(
+        &rt,
+        ONE_BOARD,
+        &mut { TENURE },
+        Ok(Status::Done),
+        b"legal 6\n",
+    );
+}
+
+#[test]
+fn a_check_ends_at_a_refused_edge(rt: HostRuntime) {
     let mut trace: &[u8] = b"vme 1\n3 br-\nc bg3-\n2 bgout-\n2 br-\n2 bbsy-\n3 bbsy-\n4 br-";
-    let answer = check(rt.alloc(), THREE_BOARDS, &mut trace, &mut out);
-    assert!(rt; answer == Ok(Status::SomeRefused));
-    assert!(rt; out.as_slice() == b"illegal 5 E3 G13\n".as_slice());
-    Ok(())
+    let written = b"illegal 5 E3 G13\n";
+    assert_checked(
+        &rt,
+        THREE_BOARDS,
+        &mut trace,
+        Ok(Status::SomeRefused),
+        written,
+    );
 }
 
 #[test]
-fn a_check_says_nothing_at_a_fault(rt: HostRuntime) -> Result<(), Fail> {
-    let mut out = Vec::new(rt.alloc());
+fn a_check_says_nothing_at_a_fault(rt: HostRuntime) {
     let mut cut: &[u8] = b"vme 1\n1 br-\nc bg";
-    let answer = check(rt.alloc(), ONE_BOARD, &mut cut, &mut out);
-    assert!(rt; answer == Err(EngineFault::Trace(Fault::CutOff)));
+    assert_checked(
+        &rt,
+        ONE_BOARD,
+        &mut cut,
+        Err(EngineFault::Trace(Fault::CutOff)),
+        b"",
+    );
     let mut drip = Pieces::new(TENURE, 1).failing_at(13);
-    let answer = check(rt.alloc(), ONE_BOARD, &mut drip, &mut out);
-    assert!(rt; answer == Err(EngineFault::Trace(Fault::Read)));
-    assert!(rt; out.is_empty());
-    Ok(())
+    assert_checked(
+        &rt,
+        ONE_BOARD,
+        &mut drip,
+        Err(EngineFault::Trace(Fault::Read)),
+        b"",
+    );
 }
 
 #[test]
-fn a_full_device_cuts_a_finding(rt: HostRuntime) -> Result<(), Fail> {
-    let mut trace = TENURE;
+fn a_full_device_cuts_a_finding(rt: HostRuntime) {
     let mut out = Narrow::new(rt.alloc(), usize::MAX, 5);
-    let answer = check(rt.alloc(), ONE_BOARD, &mut trace, &mut out);
-    assert!(rt; answer == Err(EngineFault::Trace(Fault::Write)));
-    assert!(rt; out.taken() == b"legal".as_slice());
-    Ok(())
+    let answer = check(rt.alloc(), ONE_BOARD, &mut { TENURE }, &mut out);
+    assert_ended(
+        &rt,
+        answer,
+        out.taken(),
+        Err(EngineFault::Trace(Fault::Write)),
+        b"legal",
+    );
 }
 
-#[test]
-fn drives_a_board_to_the_limit(rt: HostRuntime) -> Result<(), Fail> {
+/// Asserts how `drive` ends after at most eight edges, and what it writes.
+fn assert_driven(
+    rt: &(impl Abort + AllocGlobal),
+    scenario: &[u8],
+    version: Version,
+    wanted: Status,
+    written: &[u8],
+) {
     let mut out = Vec::new(rt.alloc());
-    let answer = drive(rt.alloc(), ONE_BOARD, 8, &mut out, Version::One);
-    assert!(rt; answer == Ok(Status::Limit));
-    let wanted: &[u8] = b"vme 1\n1 br-\nc bg3-\n1 bbsy-\nc bg3+\n1 br+\n1 addr- r1\n1 as-\n1 ds-\n";
-    assert!(rt; out.as_slice() == wanted);
-    Ok(())
+    let answer = drive(rt.alloc(), scenario, 8, &mut out, version);
+    assert_ended(rt, answer, &out, Ok(wanted), written);
 }
 
 #[test]
-fn a_board_without_parts_makes_no_edge(rt: HostRuntime) -> Result<(), Fail> {
-    let scenario: &[u8] = b"slots = 1\narbiter = \"sgl\"\nboard = [{ slot = 1 }]\n";
-    let mut out = Vec::new(rt.alloc());
-    let answer = drive(rt.alloc(), scenario, 8, &mut out, Version::Two);
-    assert!(rt; answer == Ok(Status::Done));
-    assert!(rt; out.as_slice() == b"vme 2\n".as_slice());
-    Ok(())
+fn drives_a_board_to_the_limit(rt: HostRuntime) {
+    let written = b"vme 1\n1 br-\nc bg3-\n1 bbsy-\nc bg3+\n1 br+\n1 addr- r1\n1 as-\n1 ds-\n";
+    assert_driven(&rt, ONE_BOARD, Version::One, Status::Limit, written);
 }
 
 #[test]
-fn a_full_device_cuts_a_trace(rt: HostRuntime) -> Result<(), Fail> {
+fn a_board_without_parts_makes_no_edge(rt: HostRuntime) {
+    let scenario = b"slots = 1\narbiter = \"sgl\"\nboard = [{ slot = 1 }]\n";
+    assert_driven(&rt, scenario, Version::Two, Status::Done, b"vme 2\n");
+}
+
+#[test]
+fn a_full_device_cuts_a_trace(rt: HostRuntime) {
     let mut out = Narrow::new(rt.alloc(), usize::MAX, 7);
     let answer = drive(rt.alloc(), ONE_BOARD, 8, &mut out, Version::One);
-    assert!(rt; answer == Err(EngineFault::Trace(Fault::Write)));
-    assert!(rt; out.taken() == b"vme 1\n1".as_slice());
-    Ok(())
+    assert_ended(
+        &rt,
+        answer,
+        out.taken(),
+        Err(EngineFault::Trace(Fault::Write)),
+        b"vme 1\n1",
+    );
 }

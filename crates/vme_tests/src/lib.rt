@@ -1,9 +1,14 @@
 //! The tests of all libraries, over their public calls alone: worked examples, printed texts, devices and memory that
 //! fail, threads. They stand in one crate, since a crate with tests is proved twice.
+//!
+//! The proof of a body grows with the square of what lives in it. So cases stand in tables, and what is asserted of a case
+//! stands in a small function.
 #![tactic(auto)]
 
 #[cfg(test)]
 mod arena;
+#[cfg(test)]
+mod asserts;
 #[cfg(test)]
 mod backplane;
 #[cfg(test)]

@@ -1,8 +1,9 @@
 //! What no clause says: the texts of the errors, and that reading succeeds where memory does not run out.
+use crate::asserts::assert_same;
 use std::process::Abort;
-use std::test::Fail;
 use vme_model::{ArbiterKind, ChainId, IrqKind, PlanError, Release};
-use vme_scenario::{Scenario, ScenarioError, read};
+use vme_scenario::{ScenarioError, read};
+use vme_slots::Plan;
 
 /// Three boards and a jumper, with every key that there is.
 const EVERY_KEY: &str = r#"slots = 4
@@ -43,59 +44,80 @@ const REFUSED: [(&str, &str); 6] = [
     ),
 ];
 
-/// The scenario, or the fault that a test fails with.
-fn scenario(rt: &impl AllocGlobal, text: &str) -> Result<Scenario, Fail> {
-    Ok(read(rt.alloc(), text.as_bytes())?)
-}
-
-/// The text of the error that a scenario is refused with.
-fn refusal(rt: &impl AllocGlobal, text: &[u8]) -> Result<String, Fail> {
-    match read(rt.alloc(), text) {
-        Ok(_) => Err("the scenario is read".into()),
-        Err(error) => Ok(error.to_string(rt.alloc())?),
+/// The plan of a scenario that can be read.
+fn plan_of(rt: &(impl Abort + AllocGlobal), text: &str) -> Plan {
+    match read(rt.alloc(), text.as_bytes()) {
+        Ok(scenario) => scenario.plan,
+        Err(error) => panic!(rt; "{error}"),
     }
 }
 
-#[test]
-fn reads_every_key(rt: HostRuntime) -> Result<(), Fail> {
-    let plan = scenario(&rt, EVERY_KEY)?.plan;
-    assert_eq!(rt; plan.slots(), 4);
-    assert_eq!(rt; plan.arbiter(), ArbiterKind::Pri);
-    let first = plan.row(1).ok_or("slot 1")?;
+/// Asserts that slot 1 has a handler of levels 1 and 7, and no interrupter.
+fn assert_first_board(rt: &impl Abort, plan: &Plan) {
+    let first = plan.row(1).expect(rt, "slot 1");
     assert!(rt; first.handler.has(1) && first.handler.has(7) && !first.handler.has(4));
     assert!(rt; first.interrupter.is_none());
-    let second = plan
-        .row(2)
-        .ok_or("slot 2")?
-        .interrupter
-        .ok_or("interrupter")?;
-    assert_eq!(rt; second.level, 7);
-    assert_eq!(rt; second.kind, IrqKind::Roak);
-    assert_eq!(rt; second.status, 66);
-    let fourth = plan.row(4).ok_or("slot 4")?.requester.ok_or("requester")?;
-    assert_eq!(rt; fourth.release, Release::Request);
-    let jumper = plan.jumpers().first().ok_or("jumper")?;
+}
+
+/// Asserts that slot 2 has an interrupter.
+fn assert_second_board(rt: &impl Abort, plan: &Plan) {
+    let second = plan.row(2).expect(rt, "slot 2");
+    let interrupter = second.interrupter.expect(rt, "interrupter");
+    let found = (interrupter.level, interrupter.kind, interrupter.status);
+    assert_same(rt, found, (7, IrqKind::Roak, 66));
+}
+
+/// Asserts that the board in slot 4 gives the bus up where another requests it.
+fn assert_fourth_board(rt: &impl Abort, plan: &Plan) {
+    let fourth = plan.row(4).expect(rt, "slot 4");
+    let requester = fourth.requester.expect(rt, "requester");
+    assert_same(rt, requester.release, Release::Request);
+}
+
+/// Asserts which chains pass slot 3.
+fn assert_jumper(rt: &impl Abort, plan: &Plan) {
+    let jumper = plan.jumpers().first().expect(rt, "jumper");
     assert!(rt; jumper.chains.has(ChainId::Bg0) && jumper.chains.has(ChainId::Iack));
     assert!(rt; !jumper.chains.has(ChainId::Bg1));
-    Ok(())
 }
 
 #[test]
-fn prints_the_first_fault(rt: HostRuntime) -> Result<(), Fail> {
-    for (text, wanted) in REFUSED {
-        let found = refusal(&rt, text.as_bytes())?;
-        assert!(rt; found.as_str() == wanted, "{text:?}: {found}");
+fn reads_every_key(rt: HostRuntime) {
+    let plan = plan_of(&rt, EVERY_KEY);
+    let found = (plan.slots(), plan.arbiter());
+    assert_same(&rt, found, (4, ArbiterKind::Pri));
+    assert_first_board(&rt, &plan);
+    assert_second_board(&rt, &plan);
+    assert_fourth_board(&rt, &plan);
+    assert_jumper(&rt, &plan);
+}
+
+/// Asserts the text of an error.
+fn assert_text(rt: &(impl Abort + AllocGlobal), error: &ScenarioError, wanted: &str) {
+    let found = error.to_string(rt.alloc()).expect(rt, "the text");
+    assert!(rt; found.as_str() == wanted, "{found}");
+}
+
+/// Asserts the text of the error that a scenario is refused with.
+fn assert_refused(rt: &(impl Abort + AllocGlobal), text: &str, wanted: &str) {
+    match read(rt.alloc(), text.as_bytes()) {
+        Ok(_) => panic!(rt; "{text:?} is read"),
+        Err(error) => assert_text(rt, &error, wanted),
     }
-    Ok(())
 }
 
 #[test]
-fn prints_want_of_memory(rt: HostRuntime) -> Result<(), Fail> {
-    let of_reading = ScenarioError::Memory.to_string(rt.alloc())?;
-    assert_eq!(rt; of_reading.as_str(), "Q6 no memory");
-    let of_the_plan = ScenarioError::Plan(PlanError::Memory).to_string(rt.alloc())?;
-    assert_eq!(rt; of_the_plan.as_str(), "P9 no memory");
-    Ok(())
+fn prints_the_first_fault(rt: HostRuntime) {
+    for (text, wanted) in &REFUSED {
+        assert_refused(&rt, text, wanted);
+    }
+}
+
+#[test]
+fn prints_want_of_memory(rt: HostRuntime) {
+    assert_text(&rt, &ScenarioError::Memory, "Q6 no memory");
+    let of_the_plan = ScenarioError::Plan(PlanError::Memory);
+    assert_text(&rt, &of_the_plan, "P9 no memory");
 }
 
 /// Holds where an allocation fails too: want of memory is then answered, and no fault of the text.

@@ -1,56 +1,67 @@
 //! What the command line means.
-use std::alloc::Global;
-use std::test::Fail;
+use std::process::Abort;
 use vme_model::Version;
 use vme_words::{Job, words};
 
-#[test]
-fn no_words_are_joined(rt: HostRuntime) -> Result<(), Fail> {
-    assert!(rt; words(rt.alloc(), &[])? == Job::Joined);
-    Ok(())
-}
-
-#[test]
-fn reads_two_files(rt: HostRuntime) -> Result<(), Fail> {
-    let alloc = rt.alloc();
-    let (scenario, trace) = ("board.toml", "tenure.vme");
-    assert!(rt; words(alloc, &["replay", scenario, trace])? == Job::Replay { scenario, trace });
-    assert!(rt; words(alloc, &["check", scenario, trace])? == Job::Check { scenario, trace });
-    Ok(())
-}
-
-#[test]
-fn reads_what_to_drive(rt: HostRuntime) -> Result<(), Fail> {
-    let alloc = rt.alloc();
-    let cases: [(&[&str], u32, Version); 5] = [
-        (&["drive", "S", "--edges", "8"], 8, Version::One),
-        (&["drive", "--edges=1", "S"], 1, Version::One),
-        (&["drive", "S", "--edges", "1048576"], 1048576, Version::One),
-        (
-            &["drive", "S", "--edges", "8", "--version", "1"],
-            8,
-            Version::One,
-        ),
-        (
-            &["drive", "S", "--version=2", "--edges", "8"],
-            8,
-            Version::Two,
-        ),
-    ];
-    for (given, edges, version) in cases {
-        let scenario = "S";
-        let wanted = Job::Drive {
-            scenario,
-            edges,
-            version,
-        };
-        assert!(rt; words(alloc, given)? == wanted);
+/// Asserts which job words mean.
+fn assert_job(rt: &(impl Abort + AllocGlobal), given: &[&str], wanted: Job) {
+    match words(rt.alloc(), given) {
+        Ok(job) => assert!(rt; job == wanted),
+        Err(error) => panic!(rt; "{error}"),
     }
-    Ok(())
 }
 
 #[test]
-fn reads_what_to_run(rt: HostRuntime) -> Result<(), Fail> {
+fn no_words_are_joined(rt: HostRuntime) {
+    assert_job(&rt, &[], Job::Joined);
+}
+
+#[test]
+fn reads_two_files(rt: HostRuntime) {
+    let (scenario, trace) = ("board.toml", "tenure.vme");
+    assert_job(
+        &rt,
+        &["replay", scenario, trace],
+        Job::Replay { scenario, trace },
+    );
+    assert_job(
+        &rt,
+        &["check", scenario, trace],
+        Job::Check { scenario, trace },
+    );
+}
+
+/// What to drive with scenario `S`: the words, the edges and the version.
+const DRIVES: [(&[&str], u32, Version); 5] = [
+    (&["drive", "S", "--edges", "8"], 8, Version::One),
+    (&["drive", "--edges=1", "S"], 1, Version::One),
+    (&["drive", "S", "--edges", "1048576"], 1048576, Version::One),
+    (
+        &["drive", "S", "--edges", "8", "--version", "1"],
+        8,
+        Version::One,
+    ),
+    (
+        &["drive", "S", "--version=2", "--edges", "8"],
+        8,
+        Version::Two,
+    ),
+];
+
+#[test]
+fn reads_what_to_drive(rt: HostRuntime) {
+    for (given, edges, version) in &DRIVES {
+        let wanted = Job::Drive {
+            scenario: "S",
+            edges: *edges,
+            version: *version,
+        };
+        assert_job(&rt, given, wanted);
+    }
+}
+
+#[test]
+fn reads_what_to_run(rt: HostRuntime) {
     let given = [
         "run",
         "S",
@@ -66,125 +77,140 @@ fn reads_what_to_run(rt: HostRuntime) -> Result<(), Fail> {
         turns: 1000000,
         version: Version::Two,
     };
-    assert!(rt; words(rt.alloc(), &given)? == wanted);
-    Ok(())
+    assert_job(&rt, &given, wanted);
+}
+
+/// Words that mean no job.
+const REFUSED: [&[&str]; 19] = [
+    &["run", "S", "--edges", "8"],
+    &["run", "S", "--edges", "8", "--turns", "0"],
+    &["run", "S", "--edges", "8", "--turns", "1000001"],
+    &["drive", "S", "--edges", "0"],
+    &["drive", "S", "--edges", "1048577"],
+    &["drive", "S", "--edges", "x"],
+    &["drive", "S", "--edges"],
+    &["drive", "S"],
+    &["drive", "--edges", "8"],
+    &["drive", "S", "--edges", "8", "--version", "3"],
+    &["drive", "S", "--edges", "8", "--version", "0"],
+    &["replay", "S"],
+    &["replay"],
+    &["check", "S", "T", "U"],
+    &["walk", "S"],
+    &[""],
+    &["replay", "S", "T", "--edges", "8"],
+    &["--help"],
+    &["drive", "--help"],
+];
+
+/// Whether words mean no job.
+fn are_refused(rt: &impl AllocGlobal, given: &[&str]) -> bool {
+    words(rt.alloc(), given).is_err()
 }
 
 #[test]
-fn refuses_other_words(rt: HostRuntime) -> Result<(), Fail> {
-    let cases: [&[&str]; 19] = [
-        &["run", "S", "--edges", "8"],
-        &["run", "S", "--edges", "8", "--turns", "0"],
-        &["run", "S", "--edges", "8", "--turns", "1000001"],
-        &["drive", "S", "--edges", "0"],
-        &["drive", "S", "--edges", "1048577"],
-        &["drive", "S", "--edges", "x"],
-        &["drive", "S", "--edges"],
-        &["drive", "S"],
-        &["drive", "--edges", "8"],
-        &["drive", "S", "--edges", "8", "--version", "3"],
-        &["drive", "S", "--edges", "8", "--version", "0"],
-        &["replay", "S"],
-        &["replay"],
-        &["check", "S", "T", "U"],
-        &["walk", "S"],
-        &[""],
-        &["replay", "S", "T", "--edges", "8"],
-        &["--help"],
-        &["drive", "--help"],
-    ];
-    for case in cases {
-        assert!(rt; words(rt.alloc(), case).is_err(), "{case:?}");
+fn refuses_other_words(rt: HostRuntime) {
+    for given in &REFUSED {
+        assert!(rt; are_refused(&rt, given), "{given:?}");
     }
-    Ok(())
 }
 
 /// The text that the user gets in place of a job, empty where there is a job.
-fn told(alloc: Global, given: &[&str]) -> Result<String, Fail> {
-    match words(alloc, given) {
-        Ok(_) => Ok(String::new(alloc)),
-        Err(error) => Ok(format!(in alloc; "{error}")?),
+fn told(rt: &(impl Abort + AllocGlobal), given: &[&str]) -> String {
+    match words(rt.alloc(), given) {
+        Ok(_) => String::new(rt.alloc()),
+        Err(error) => format!(in rt.alloc(); "{error}").expect(rt, "the text"),
     }
 }
 
-#[test]
-fn help_tells_what_each_command_is(rt: HostRuntime) -> Result<(), Fail> {
-    let overview: [&str; 8] = [
-        "Usage: vmebus [COMMAND]",
-        "replay  Writes the verdict on each edge",
-        "check   Writes whether every edge",
-        "drive   Writes a trace",
-        "cat board.toml tenure.vme | vmebus",
-        "`vme 1`",
-        "2 some edge was refused",
-        "3 the limit of edges was reached",
-    ];
-    let replay: [&str; 4] = [
-        "Usage: vmebus replay <SCENARIO> <TRACE>",
-        "<SCENARIO>  The boards, a TOML file",
-        "<TRACE>     The edges, one a line",
-        "  vmebus replay board.toml tenure.vme\n",
-    ];
-    let check: [&str; 3] = [
-        "Usage: vmebus check <SCENARIO> <TRACE>",
-        "`illegal N VERDICT`",
-        "  vmebus check board.toml tenure.vme\n",
-    ];
-    let drive: [&str; 5] = [
-        "Usage: vmebus drive <SCENARIO> --edges <N> [--version <V>]",
-        "--edges <N>",
-        "1 to 1048576",
-        "--version <V>  The version of the rules, 1 or 2 [default: 1]",
-        "  vmebus drive board.toml --edges 1000 > tenure.vme\n",
-    ];
-    let run: [&str; 3] = [
-        "Usage: vmebus run <SCENARIO> --edges <N> --turns <T> [--version <V>]",
-        "1 to 1000000",
-        "  vmebus run board.toml --edges 1000 --turns 100000 > tenure.vme\n",
-    ];
-    let cases: [(&[&str], &[&str]); 8] = [
-        (&["--help"], &overview),
-        (&["-h"], &overview),
-        (&["help"], &overview),
-        (&["replay", "--help"], &replay),
-        (&["help", "check"], &check),
-        (&["drive", "-h"], &drive),
-        (&["drive", "S", "--edges", "8", "--help"], &drive),
-        (&["run", "--help"], &run),
-    ];
-    for (given, parts) in cases {
-        let text = told(rt.alloc(), given)?;
-        for part in parts {
-            assert!(rt; text.as_str().contains(*part), "{part} in {text}");
-        }
+/// Asserts that the text that the user gets has these parts.
+fn assert_told(rt: &(impl Abort + AllocGlobal), given: &[&str], parts: &[&str]) {
+    let text = told(rt, given);
+    for part in parts {
+        assert!(rt; text.as_str().contains(*part), "{part} in {text}");
     }
-    Ok(())
 }
 
+const OVERVIEW: [&str; 8] = [
+    "Usage: vmebus [COMMAND]",
+    "replay  Writes the verdict on each edge",
+    "check   Writes whether every edge",
+    "drive   Writes a trace",
+    "cat board.toml tenure.vme | vmebus",
+    "`vme 1`",
+    "2 some edge was refused",
+    "3 the limit of edges was reached",
+];
+
+const REPLAY: [&str; 4] = [
+    "Usage: vmebus replay <SCENARIO> <TRACE>",
+    "<SCENARIO>  The boards, a TOML file",
+    "<TRACE>     The edges, one a line",
+    "  vmebus replay board.toml tenure.vme\n",
+];
+
+const CHECK: [&str; 3] = [
+    "Usage: vmebus check <SCENARIO> <TRACE>",
+    "`illegal N VERDICT`",
+    "  vmebus check board.toml tenure.vme\n",
+];
+
+const DRIVE: [&str; 5] = [
+    "Usage: vmebus drive <SCENARIO> --edges <N> [--version <V>]",
+    "--edges <N>",
+    "1 to 1048576",
+    "--version <V>  The version of the rules, 1 or 2 [default: 1]",
+    "  vmebus drive board.toml --edges 1000 > tenure.vme\n",
+];
+
+const RUN: [&str; 3] = [
+    "Usage: vmebus run <SCENARIO> --edges <N> --turns <T> [--version <V>]",
+    "1 to 1000000",
+    "  vmebus run board.toml --edges 1000 --turns 100000 > tenure.vme\n",
+];
+
+/// Words that ask for help, and parts of what they get.
+const HELP: [(&[&str], &[&str]); 8] = [
+    (&["--help"], &OVERVIEW),
+    (&["-h"], &OVERVIEW),
+    (&["help"], &OVERVIEW),
+    (&["replay", "--help"], &REPLAY),
+    (&["help", "check"], &CHECK),
+    (&["drive", "-h"], &DRIVE),
+    (&["drive", "S", "--edges", "8", "--help"], &DRIVE),
+    (&["run", "--help"], &RUN),
+];
+
 #[test]
-fn errors_name_what_is_wrong(rt: HostRuntime) -> Result<(), Fail> {
-    let cases: [(&[&str], &str); 10] = [
-        (&["drive", "S", "--edges", "0"], "0 is not in 1..=1048576"),
-        (
-            &["drive", "S", "--edges", "1048577"],
-            "1048577 is not in 1..=1048576",
-        ),
-        (&["drive", "S", "--edges", "x"], "'x'"),
-        (&["drive", "S"], "--edges <N>"),
-        (&["drive", "--edges", "8"], "<SCENARIO>"),
-        (
-            &["drive", "S", "--edges", "8", "--version", "3"],
-            "3 is not in 1..=2",
-        ),
-        (&["check", "S"], "<TRACE>"),
-        (&["check", "S", "T", "U"], "'U'"),
-        (&["walk", "S"], "'walk'"),
-        (&["--"], "a command is missing"),
-    ];
-    for (given, part) in cases {
-        let text = told(rt.alloc(), given)?;
-        assert!(rt; text.as_str().contains(part), "{part} in {text}");
-        assert!(rt; text.as_str().contains("--help"), "{text}");
+fn help_tells_what_each_command_is(rt: HostRuntime) {
+    for (given, parts) in &HELP {
+        assert_told(&rt, given, parts);
     }
-    Ok(())
+}
+
+/// Words that mean no job, and the part of the text that says why.
+const ERRORS: [(&[&str], &str); 10] = [
+    (&["drive", "S", "--edges", "0"], "0 is not in 1..=1048576"),
+    (
+        &["drive", "S", "--edges", "1048577"],
+        "1048577 is not in 1..=1048576",
+    ),
+    (&["drive", "S", "--edges", "x"], "'x'"),
+    (&["drive", "S"], "--edges <N>"),
+    (&["drive", "--edges", "8"], "<SCENARIO>"),
+    (
+        &["drive", "S", "--edges", "8", "--version", "3"],
+        "3 is not in 1..=2",
+    ),
+    (&["check", "S"], "<TRACE>"),
+    (&["check", "S", "T", "U"], "'U'"),
+    (&["walk", "S"], "'walk'"),
+    (&["--"], "a command is missing"),
+];
+
+#[test]
+fn errors_name_what_is_wrong(rt: HostRuntime) {
+    for (given, part) in &ERRORS {
+        assert_told(&rt, given, &[part, "--help"]);
+    }
 }
