@@ -1,6 +1,6 @@
 //! What no clause says: worked traces with what they deliver, and the end of a trace.
 use crate::boards::{FIRST, SECOND, THIRD, interrupter, requester};
-use std::alloc::{AllocError, Global};
+use std::alloc::Global;
 use std::process::Abort;
 use std::test::*;
 use vme_arena::Region;
@@ -272,12 +272,14 @@ fn a_trace_of_no_edge_is_full(rt: HostRuntime) -> Result<(), Fail> {
     assert_filled(&rt, &[], 0, &[(TENURE[0], Refused::TraceFull)])
 }
 
-/// The answer is offered, delivers a status and stands in the history.
-fn assert_answered(rt: &impl Abort, backplane: &mut Backplane<'_>, place: u32, answer: Edge) {
+/// The edges before the answer are accepted. The answer is then offered, delivers a status and stands in the history.
+fn assert_answered(rt: &impl Abort, backplane: &mut Backplane<'_>, before: &[Edge], answer: Edge) {
+    assert!(rt; is_new(backplane));
+    assert!(rt; run(backplane, before) == (10, 0));
     assert!(rt; backplane.pins(SECOND).iack_in);
     assert!(rt; first_offer(backplane, SECOND) == Some(answer));
     assert!(rt; delivered_by(backplane, answer) == Some(FROM_THE_SECOND));
-    assert!(rt; made_at(backplane, place) == Some(answer));
+    assert!(rt; made_at(backplane, 10) == Some(answer));
 }
 
 #[test]
@@ -285,22 +287,24 @@ fn an_acknowledge_is_answered(rt: HostRuntime) -> Result<(), Fail> {
     let mut region = Region::new(rt.alloc(), Trace::bytes(100))?;
     let rows = [handler(), interrupter(2, 4, 65)];
     let mut backplane = backplane(rt.alloc(), &mut region, &rows, 100)?;
-    assert!(rt; is_new(&backplane));
-    assert!(rt; run(&mut backplane, &ANSWERED_ONCE[..10]) == (10, 0));
-    assert_answered(&rt, &mut backplane, 10, ANSWERED_ONCE[10]);
+    let (before, answer) = (&ANSWERED_ONCE[..10], ANSWERED_ONCE[10]);
+    assert_answered(&rt, &mut backplane, before, answer);
     Ok(())
 }
 
-/// Whether a backplane delivers this.
-fn delivers(
-    alloc: Global,
-    backplane: &Backplane<'_>,
+/// All but two of the edges are accepted, and deliver this.
+fn assert_delivers<R: AllocGlobal + Abort>(
+    rt: &R,
+    backplane: &mut Backplane<'_>,
+    edges: &[Edge],
     deliveries: &[Delivery],
-) -> Result<bool, AllocError> {
-    Ok(backplane.deliveries(alloc)?.as_slice() == deliveries)
+) -> Result<(), Fail> {
+    assert!(rt; run(backplane, edges) == (24, 2));
+    assert!(rt; backplane.deliveries(rt.alloc())?.as_slice() == deliveries);
+    Ok(())
 }
 
-/// All but two of the edges are accepted, and deliver this.
+/// The same on a backplane with these boards.
 fn assert_delivered<R: AllocGlobal + Abort>(
     rt: &R,
     rows: &[Row],
@@ -309,9 +313,7 @@ fn assert_delivered<R: AllocGlobal + Abort>(
 ) -> Result<(), Fail> {
     let mut region = Region::new(rt.alloc(), Trace::bytes(100))?;
     let mut backplane = backplane(rt.alloc(), &mut region, rows, 100)?;
-    assert!(rt; run(&mut backplane, edges) == (24, 2));
-    assert!(rt; delivers(rt.alloc(), &backplane, deliveries)?);
-    Ok(())
+    assert_delivers(rt, &mut backplane, edges, deliveries)
 }
 
 #[test]
