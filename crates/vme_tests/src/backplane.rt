@@ -273,9 +273,10 @@ fn a_trace_of_no_edge_is_full(rt: HostRuntime) -> Result<(), Fail> {
 }
 
 /// The edges before the answer are accepted. The answer is then offered, delivers a status and stands in the history.
-fn assert_answered(rt: &impl Abort, backplane: &mut Backplane<'_>, before: &[Edge], answer: Edge) {
+fn assert_answered(rt: &impl Abort, backplane: &mut Backplane<'_>, edges: &[Edge; 26]) {
+    let answer = edges[10];
     assert!(rt; is_new(backplane));
-    assert!(rt; run(backplane, before) == (10, 0));
+    assert!(rt; run(backplane, &edges[..10]) == (10, 0));
     assert!(rt; backplane.pins(SECOND).iack_in);
     assert!(rt; first_offer(backplane, SECOND) == Some(answer));
     assert!(rt; delivered_by(backplane, answer) == Some(FROM_THE_SECOND));
@@ -287,8 +288,7 @@ fn an_acknowledge_is_answered(rt: HostRuntime) -> Result<(), Fail> {
     let mut region = Region::new(rt.alloc(), Trace::bytes(100))?;
     let rows = [handler(), interrupter(2, 4, 65)];
     let mut backplane = backplane(rt.alloc(), &mut region, &rows, 100)?;
-    let (before, answer) = (&ANSWERED_ONCE[..10], ANSWERED_ONCE[10]);
-    assert_answered(&rt, &mut backplane, before, answer);
+    assert_answered(&rt, &mut backplane, &ANSWERED_ONCE);
     Ok(())
 }
 

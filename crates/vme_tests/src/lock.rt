@@ -15,8 +15,8 @@ use std::thread::Threads;
 use vme_arena::{Region, Rest};
 use vme_backplane::{Backplane, Trace};
 use vme_lock::{
-    Bounds, EdgeRefused, Gate, Log, Lost, NotStarted, OpenGate, Rig, Room, Seat, Seats, Shared,
-    Spent, log_bytes, run_boards, work_board,
+    Bounds, Closed, EdgeRefused, Gate, Log, LogMismatch, Lost, NotStarted, OpenGate, Rig, Room,
+    Seat, Seats, Shared, Spent, log_bytes, run_boards, work_board,
 };
 use vme_model::{ArbiterKind, Cycle, Driver, Edge, Refused, Row, Version, Wire};
 use vme_slots::Plan;
@@ -166,6 +166,17 @@ fn work_of<L: Rig>(alloc: Global, seats: &Seats<L>, logs: &[Log<'_>]) -> Result<
     })
 }
 
+/// Copies the history of what was closed.
+fn history_in(
+    alloc: Global,
+    closed: &Result<Closed<'_>, LogMismatch<'_>>,
+) -> Result<Vec<Edge>, Fail> {
+    match closed {
+        Ok(closed) => Ok(history_of(alloc, &closed.backplane)?),
+        Err(_) => Err("L4".into()),
+    }
+}
+
 /// Closes, and copies the history.
 fn closed<L: Rig>(
     alloc: Global,
@@ -177,10 +188,8 @@ fn closed<L: Rig>(
     requires seats { drivers_of seats.items ≡ drivers L.opened.plan }
     requires logs { length logs.now ≡ vec_len seats }
 {
-    match shared.close(seats, logs) {
-        Ok(closed) => Ok(history_of(alloc, &closed.backplane)?),
-        Err(_) => Err("L4".into()),
-    }
+    let closed = shared.close(seats, logs);
+    history_in(alloc, &closed)
 }
 
 /// Runs all boards and closes.
@@ -365,8 +374,25 @@ enum Made {
     Behind(Edge),
 }
 
-/// Makes an edge behind the last turn, closes, and answers which driver's log differs, and where.
-fn differing<L: Rig, R: Wait>(
+/// Closes, and answers which driver's log differs, and where.
+fn differing<L: Rig>(
+    shared: Shared<'_, L>,
+    seats: Seats<L>,
+    logs: &[Log<'_>],
+) -> Option<(Driver, u32)>
+    requires parts { L.parts ≡ 22 }
+    requires seats { drivers_of seats.items ≡ drivers L.opened.plan }
+    requires logs { length logs.now ≡ vec_len seats }
+{
+    let closed = shared.close(seats, logs);
+    match &closed {
+        Ok(_) => None,
+        Err(mismatch) => Some((mismatch.driver, mismatch.at)),
+    }
+}
+
+/// Makes an edge behind the last turn, and then the same.
+fn differing_behind<L: Rig, R: Wait>(
     rt: &R,
     shared: Shared<'_, L>,
     mut seats: Seats<L>,
@@ -382,10 +408,9 @@ fn differing<L: Rig, R: Wait>(
     if logs.len() != seats.len() {
         return Err("as many logs as seats".into());
     }
-    let closed = shared.close(seats, logs);
-    match &closed {
-        Ok(_) => Err("an edge is in no log".into()),
-        Err(mismatch) => Ok((mismatch.driver, mismatch.at)),
+    match differing(shared, seats, logs) {
+        Some(found) => Ok(found),
+        None => Err("an edge is in no log".into()),
     }
 }
 
@@ -410,7 +435,7 @@ fn mismatch_of<L: Rig + Send + Sync, G: Gate + Sync, R: Threads + Wait + Sync>(
         return Err("as many rooms as seats".into());
     }
     let (seats, logs) = run_boards(rt, alloc, &shared, seats, gate, bounds, rooms)?;
-    differing(rt, shared, seats, logs.as_slice(), made)
+    differing_behind(rt, shared, seats, logs.as_slice(), made)
 }
 
 /// Opens a backplane, and makes an edge on it that stands in no log.
@@ -513,6 +538,13 @@ fn is_log_of(log: &Log<'_>, edges: &[Edge]) -> bool {
     log.len() as usize == edges.len()
 }
 
+/// What a worker did, and how often its gate was called behind a turn.
+fn assert_worked(rt: &impl Abort, task: Task<'_>, log: &Log<'_>, spent: Spent, calls: u32) {
+    assert!(rt; spent == task.spent);
+    assert!(rt; spent != Spent::Turns || calls == task.bounds.turns);
+    assert!(rt; is_log_of(log, task.edges));
+}
+
 /// Works a seat with a gate that counts.
 fn work<L: Rig, R: Wait + Abort>(
     rt: &R,
@@ -524,9 +556,7 @@ fn work<L: Rig, R: Wait + Abort>(
     let gate = Counts::new(task.open);
     let room = room(rest, task.sizes)?;
     let (seat, log, spent) = work_board(rt, shared, seat, &gate, task.bounds, room);
-    assert!(rt; spent == task.spent);
-    assert!(rt; spent != Spent::Turns || gate.calls() == task.bounds.turns);
-    assert!(rt; is_log_of(&log, task.edges));
+    assert_worked(rt, task, &log, spent, gate.calls());
     Ok(seat)
 }
 
