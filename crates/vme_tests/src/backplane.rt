@@ -1,9 +1,10 @@
 //! What no clause says: worked traces with what they deliver, and the end of a trace.
 use crate::boards::{FIRST, SECOND, THIRD, interrupter, requester};
+use std::alloc::Global;
 use std::process::Abort;
 use std::test::*;
 use vme_arena::Region;
-use vme_backplane::{Backplane, Trace};
+use vme_backplane::{Backplane, Trace, TraceError};
 use vme_model::{ArbiterKind, Cycle, Delivery, Driver, Edge, Levels, Refused, Row, Version, Wire};
 use vme_slots::Plan;
 
@@ -160,16 +161,26 @@ fn handler() -> Row {
     }
 }
 
-/// A backplane of a master and the boards behind it, at the front of a region.
+/// A backplane at the front of a region.
+fn opened<'r>(
+    alloc: Global,
+    region: &'r mut Region,
+    plan: Plan,
+    max: u32,
+) -> Result<Backplane<'r>, TraceError> {
+    let trace = Trace::on(alloc, &mut region.rest(), max)?;
+    Ok(Backplane::new(plan, trace, Version::One))
+}
+
+/// A backplane of a master and the boards behind it.
 fn backplane<'r>(
-    rt: &impl AllocGlobal,
+    alloc: Global,
     region: &'r mut Region,
     rows: &[Row],
     max: u32,
 ) -> Result<Backplane<'r>, Fail> {
-    let plan = Plan::new(rt.alloc(), 3, rows, &[], ArbiterKind::Sgl)?;
-    let trace = Trace::on(rt.alloc(), &mut region.rest(), max)?;
-    Ok(Backplane::new(plan, trace, Version::One))
+    let plan = Plan::new(alloc, 3, rows, &[], ArbiterKind::Sgl)?;
+    Ok(opened(alloc, region, plan, max)?)
 }
 
 /// Makes the edges, and tells how many were accepted and refused.
@@ -221,6 +232,18 @@ fn offers_nothing(backplane: &Backplane<'_>) -> bool {
     true
 }
 
+fn assert_full(
+    rt: &impl Abort,
+    backplane: &mut Backplane<'_>,
+    edges: &[Edge],
+    refused: &[(Edge, Refused)],
+) {
+    assert!(rt; run(backplane, edges).1 == 0);
+    assert!(rt; backplane.len() == backplane.max());
+    assert_refused(rt, backplane, refused);
+    assert!(rt; offers_nothing(backplane));
+}
+
 /// The edges fill a trace, and then each of the others is refused.
 fn assert_filled<R: AllocGlobal + Abort>(
     rt: &R,
@@ -229,11 +252,8 @@ fn assert_filled<R: AllocGlobal + Abort>(
     refused: &[(Edge, Refused)],
 ) -> Result<(), Fail> {
     let mut region = Region::new(rt.alloc(), Trace::bytes(100))?;
-    let mut backplane = backplane(rt, &mut region, &[requester(1, 3, 2)], max)?;
-    assert!(rt; run(&mut backplane, edges).1 == 0);
-    assert!(rt; backplane.len() == backplane.max());
-    assert_refused(rt, &mut backplane, refused);
-    assert!(rt; offers_nothing(&backplane));
+    let mut backplane = backplane(rt.alloc(), &mut region, &[requester(1, 3, 2)], max)?;
+    assert_full(rt, &mut backplane, edges, refused);
     Ok(())
 }
 
@@ -252,22 +272,39 @@ fn a_trace_of_no_edge_is_full(rt: HostRuntime) -> Result<(), Fail> {
     assert_filled(&rt, &[], 0, &[(TENURE[0], Refused::TraceFull)])
 }
 
+/// The edges before the answer are accepted. The answer is then offered, delivers a status and stands in the history.
+fn assert_answered(rt: &impl Abort, backplane: &mut Backplane<'_>, edges: &[Edge; 26]) {
+    let answer = edges[10];
+    assert!(rt; is_new(backplane));
+    assert!(rt; run(backplane, &edges[..10]) == (10, 0));
+    assert!(rt; backplane.pins(SECOND).iack_in);
+    assert!(rt; first_offer(backplane, SECOND) == Some(answer));
+    assert!(rt; delivered_by(backplane, answer) == Some(FROM_THE_SECOND));
+    assert!(rt; made_at(backplane, 10) == Some(answer));
+}
+
 #[test]
 fn an_acknowledge_is_answered(rt: HostRuntime) -> Result<(), Fail> {
     let mut region = Region::new(rt.alloc(), Trace::bytes(100))?;
     let rows = [handler(), interrupter(2, 4, 65)];
-    let mut backplane = backplane(&rt, &mut region, &rows, 100)?;
-    assert!(rt; is_new(&backplane));
-    assert!(rt; run(&mut backplane, &ANSWERED_ONCE[..10]) == (10, 0));
-    assert!(rt; backplane.pins(SECOND).iack_in);
-    let answer = ANSWERED_ONCE[10];
-    assert!(rt; first_offer(&backplane, SECOND) == Some(answer));
-    assert!(rt; delivered_by(&mut backplane, answer) == Some(FROM_THE_SECOND));
-    assert!(rt; made_at(&backplane, 10) == Some(answer));
+    let mut backplane = backplane(rt.alloc(), &mut region, &rows, 100)?;
+    assert_answered(&rt, &mut backplane, &ANSWERED_ONCE);
     Ok(())
 }
 
 /// All but two of the edges are accepted, and deliver this.
+fn assert_delivers<R: AllocGlobal + Abort>(
+    rt: &R,
+    backplane: &mut Backplane<'_>,
+    edges: &[Edge],
+    deliveries: &[Delivery],
+) -> Result<(), Fail> {
+    assert!(rt; run(backplane, edges) == (24, 2));
+    assert!(rt; backplane.deliveries(rt.alloc())?.as_slice() == deliveries);
+    Ok(())
+}
+
+/// The same on a backplane with these boards.
 fn assert_delivered<R: AllocGlobal + Abort>(
     rt: &R,
     rows: &[Row],
@@ -275,10 +312,8 @@ fn assert_delivered<R: AllocGlobal + Abort>(
     deliveries: &[Delivery],
 ) -> Result<(), Fail> {
     let mut region = Region::new(rt.alloc(), Trace::bytes(100))?;
-    let mut backplane = backplane(rt, &mut region, rows, 100)?;
-    assert!(rt; run(&mut backplane, edges) == (24, 2));
-    assert!(rt; backplane.deliveries(rt.alloc())?.as_slice() == deliveries);
-    Ok(())
+    let mut backplane = backplane(rt.alloc(), &mut region, rows, 100)?;
+    assert_delivers(rt, &mut backplane, edges, deliveries)
 }
 
 #[test]
@@ -294,19 +329,13 @@ fn two_statuses_are_delivered_in_turn(rt: HostRuntime) -> Result<(), Fail> {
     assert_delivered(&rt, &rows, &ANSWERED_IN_TURN, &deliveries)
 }
 
-/// 21 boards that request on four levels.
-fn full_backplane<'r>(
-    rt: &impl AllocGlobal,
-    region: &'r mut Region,
-    max: u32,
-) -> Result<Backplane<'r>, Fail> {
-    let mut rows = Vec::new(rt.alloc());
+/// A plan of 21 boards that request on four levels.
+fn full_plan(alloc: Global) -> Result<Plan, Fail> {
+    let mut rows = Vec::new(alloc);
     for slot in 1..22 {
         rows.push(requester(slot, slot % 4, 2))?;
     }
-    let plan = Plan::new(rt.alloc(), 21, &rows, &[], ArbiterKind::Pri)?;
-    let trace = Trace::on(rt.alloc(), &mut region.rest(), max)?;
-    Ok(Backplane::new(plan, trace, Version::One))
+    Ok(Plan::new(alloc, 21, &rows, &[], ArbiterKind::Pri)?)
 }
 
 /// Of k offers the one at place `round mod k`.
@@ -341,7 +370,16 @@ fn take_rounds(backplane: &mut Backplane<'_>) {
     }
 }
 
-/// Rounds on a trace of so many edges, on so many bytes, make these edges at their places; the next is refused.
+/// Rounds make these edges at their places; the next is refused.
+fn assert_made(rt: &impl Abort, backplane: &mut Backplane<'_>, made: &[(u32, Edge)], next: Edge) {
+    take_rounds(backplane);
+    for (place, edge) in made {
+        assert!(rt; made_at(backplane, *place) == Some(*edge));
+    }
+    assert_refused(rt, backplane, &[(next, Refused::TraceFull)]);
+}
+
+/// The same for rounds of 21 boards on a trace of so many edges, on so many bytes.
 fn assert_rounds<R: AllocGlobal + Abort>(
     rt: &R,
     bytes: usize,
@@ -350,12 +388,8 @@ fn assert_rounds<R: AllocGlobal + Abort>(
     next: Edge,
 ) -> Result<(), Fail> {
     let mut region = Region::new(rt.alloc(), bytes)?;
-    let mut backplane = full_backplane(rt, &mut region, max)?;
-    take_rounds(&mut backplane);
-    for (place, edge) in made {
-        assert!(rt; made_at(&backplane, *place) == Some(*edge));
-    }
-    assert_refused(rt, &mut backplane, &[(next, Refused::TraceFull)]);
+    let mut backplane = opened(rt.alloc(), &mut region, full_plan(rt.alloc())?, max)?;
+    assert_made(rt, &mut backplane, made, next);
     Ok(())
 }
 

@@ -1,5 +1,5 @@
 //! The lock: that threads run at once, what a worker does in its turns, and how it fares without room.
-ghost use Rattle.std.specs.Prelude.{◌≡◌};
+ghost use Rattle.std.specs.Prelude.{◌≡◌, IfOk, length, vec_len};
 ghost use Rattle.vme_model.specs.Plan.{drivers};
 ghost use Rattle.vme_lock.specs.Seats.{drivers_of};
 
@@ -15,10 +15,10 @@ use std::thread::Threads;
 use vme_arena::{Region, Rest};
 use vme_backplane::{Backplane, Trace};
 use vme_lock::{
-    Bounds, EdgeRefused, Gate, Log, Lost, NotStarted, OpenGate, Rig, Room, Seat, Seats, Shared,
-    Spent, log_bytes, run_boards, work_board,
+    Bounds, Closed, EdgeRefused, Gate, Log, LogMismatch, Lost, NotStarted, OpenGate, Rig, Room,
+    Seat, Seats, Shared, Spent, log_bytes, run_boards, work_board,
 };
-use vme_model::{ArbiterKind, Cycle, Driver, Edge, Refused, Version, Wire};
+use vme_model::{ArbiterKind, Cycle, Driver, Edge, Refused, Row, Version, Wire};
 use vme_slots::Plan;
 
 /// The bytes of a lease that is long enough for 1,000 edges.
@@ -34,18 +34,29 @@ fn access(driver: Driver, slot: u8) -> Edge {
     }
 }
 
-/// A backplane with a board in each slot, which requests level 3 and gives the bus up when done.
+/// A board in each slot, which requests level 3 and gives the bus up when done.
+fn rows(alloc: Global, slots: u8) -> Result<Vec<Row>, AllocError> {
+    let mut rows = Vec::new(alloc);
+    for below in 0..slots.min(21) {
+        rows.push(requester(below + 1, 3, 1))?;
+    }
+    Ok(rows)
+}
+
+/// A plan of these boards.
+fn plan(alloc: Global, slots: u8) -> Result<Plan, Fail> {
+    let rows = rows(alloc, slots)?;
+    Ok(Plan::new(alloc, slots, rows.as_slice(), &[], ArbiterKind::Sgl)?)
+}
+
+/// A backplane with these boards.
 fn boards<'r>(
     alloc: Global,
     rest: &mut Rest<'r>,
     slots: u8,
     version: Version,
 ) -> Result<Backplane<'r>, Fail> {
-    let mut rows = Vec::new(alloc);
-    for below in 0..slots.min(21) {
-        rows.push(requester(below + 1, 3, 1))?;
-    }
-    let plan = Plan::new(alloc, slots, rows.as_slice(), &[], ArbiterKind::Sgl)?;
+    let plan = plan(alloc, slots)?;
     let trace = Trace::on(alloc, rest, 1000)?;
     Ok(Backplane::new(plan, trace, version))
 }
@@ -112,7 +123,100 @@ fn refused_lock(mut backplane: Backplane<'_>) -> Fail {
     }
 }
 
+/// Opens a backplane: the lock, and a seat for each driver.
+fn open<'r, L: Rig>(
+    alloc: Global,
+    blank: Blank,
+    backplane: Backplane<'r>,
+) -> Result<(Shared<'r, L>, Seats<L>), Fail>
+    requires blank { (blank.name ≡ L.name) × (blank.parts ≡ L.parts) × (blank.parts ≡ 22) }
+    requires opened { L.opened ≡ backplane }
+    ensures seats { IfOk result (λ r. drivers_of r.1.items ≡ drivers L.opened.plan) }
+{
+    match Shared::<'r, L>::new(alloc, blank, backplane) {
+        Ok(opened) => Ok(opened),
+        Err(same) => Err(refused_lock(same)),
+    }
+}
+
+/// How many edges each driver made.
+fn made_by<L: Rig>(alloc: Global, seats: &Seats<L>) -> Result<Vec<u32>, AllocError> {
+    let mut made = Vec::new(alloc);
+    for seat in seats {
+        made.push(seat.made())?;
+    }
+    Ok(made)
+}
+
+fn copies_of(alloc: Global, logs: &[Log<'_>]) -> Result<Vec<Vec<Edge>>, AllocError> {
+    let mut copies = Vec::new(alloc);
+    for log in logs {
+        copies.push(edges_of(alloc, log)?)?;
+    }
+    Ok(copies)
+}
+
+/// What the boards did, but for their history.
+fn work_of<L: Rig>(alloc: Global, seats: &Seats<L>, logs: &[Log<'_>]) -> Result<Ran, AllocError> {
+    let made = made_by(alloc, seats)?;
+    Ok(Ran {
+        logs: copies_of(alloc, logs)?,
+        made,
+        history: Vec::new(alloc),
+    })
+}
+
+/// Copies the history of what was closed.
+fn history_in(
+    alloc: Global,
+    closed: &Result<Closed<'_>, LogMismatch<'_>>,
+) -> Result<Vec<Edge>, Fail> {
+    match closed {
+        Ok(closed) => Ok(history_of(alloc, &closed.backplane)?),
+        Err(_) => Err("L4".into()),
+    }
+}
+
+/// Closes, and copies the history.
+fn closed<L: Rig>(
+    alloc: Global,
+    shared: Shared<'_, L>,
+    seats: Seats<L>,
+    logs: &[Log<'_>],
+) -> Result<Vec<Edge>, Fail>
+    requires parts { L.parts ≡ 22 }
+    requires seats { drivers_of seats.items ≡ drivers L.opened.plan }
+    requires logs { length logs.now ≡ vec_len seats }
+{
+    let closed = shared.close(seats, logs);
+    history_in(alloc, &closed)
+}
+
 /// Runs all boards and closes.
+fn run_opened<L: Rig + Send + Sync, G: Gate + Sync, R: Threads + Wait + Sync>(
+    rt: &R,
+    alloc: Global,
+    shared: Shared<'_, L>,
+    seats: Seats<L>,
+    gate: &G,
+    bounds: Bounds,
+    rooms: Vec<Room<'_>>,
+) -> Result<Ran, Fail>
+    requires parts { L.parts ≡ 22 }
+    requires seats { drivers_of seats.items ≡ drivers L.opened.plan }
+{
+    if rooms.len() != seats.len() {
+        return Err("as many rooms as seats".into());
+    }
+    let Ok((seats, logs)) = run_boards(rt, alloc, &shared, seats, gate, bounds, rooms) else {
+        return Err("L3".into());
+    };
+    let mut ran = work_of(alloc, &seats, logs.as_slice())?;
+    ran.history = closed(alloc, shared, seats, logs.as_slice())?;
+    Ok(ran)
+}
+
+/// Opens a backplane, runs all its boards and closes.
 fn run_and_close<L: Rig + Send + Sync, G: Gate + Sync, R: Threads + Wait + Sync>(
     rt: &R,
     alloc: Global,
@@ -125,32 +229,20 @@ fn run_and_close<L: Rig + Send + Sync, G: Gate + Sync, R: Threads + Wait + Sync>
     requires blank { (blank.name ≡ L.name) × (blank.parts ≡ L.parts) × (blank.parts ≡ 22) }
     requires opened { L.opened ≡ backplane }
 {
-    let (shared, seats) = match Shared::<'_, L>::new(alloc, blank, backplane) {
-        Ok(opened) => opened,
-        Err(same) => return Err(refused_lock(same)),
-    };
-    if rooms.len() != seats.len() {
-        return Err("as many rooms as seats".into());
-    }
-    let Ok((seats, logs)) = run_boards(rt, alloc, &shared, seats, gate, bounds, rooms) else {
-        return Err("L3".into());
-    };
-    let mut made = Vec::new(alloc);
-    for seat in &seats {
-        made.push(seat.made())?;
-    }
-    let mut copies = Vec::new(alloc);
-    for log in &logs {
-        copies.push(edges_of(alloc, log)?)?;
-    }
-    match shared.close(seats, logs.as_slice()) {
-        Ok(closed) => Ok(Ran {
-            logs: copies,
-            made,
-            history: history_of(alloc, &closed.backplane)?,
-        }),
-        Err(_) => Err("L4".into()),
-    }
+    let (shared, seats) = open::<L>(alloc, blank, backplane)?;
+    run_opened(rt, alloc, shared, seats, gate, bounds, rooms)
+}
+
+/// A backplane with boards in so many slots, and rooms of these sizes.
+fn benches<'r>(
+    alloc: Global,
+    rest: &mut Rest<'r>,
+    slots: u8,
+    version: Version,
+    sizes: &[(usize, usize)],
+) -> Result<(Backplane<'r>, Vec<Room<'r>>), Fail> {
+    let backplane = boards(alloc, rest, slots, version)?;
+    Ok((backplane, rooms(alloc, rest, sizes)?))
 }
 
 /// Runs boards in rooms of these sizes, one for each driver.
@@ -163,9 +255,7 @@ fn run_in_rooms<G: Gate + Sync, R: Threads + Wait + Sync>(
     sizes: &[(usize, usize)],
 ) -> Result<Ran, Fail> {
     let mut region = Region::new(alloc, MEMORY)?;
-    let mut rest = region.rest();
-    let backplane = boards(alloc, &mut rest, slots, Version::One)?;
-    let rooms = rooms(alloc, &mut rest, sizes)?;
+    let (backplane, rooms) = benches(alloc, &mut region.rest(), slots, Version::One, sizes)?;
     let bounds = Bounds { turns, edges: 1000 };
     let blank = Blank::new(22);
     run_and_close::<Brand, G, R>(rt, alloc, blank, backplane, gate, bounds, rooms)
@@ -191,14 +281,18 @@ fn all_run_at_once(rt: HostRuntime) -> Result<(), Fail> {
     Ok(())
 }
 
+/// The sizes of the rooms of three drivers, where that of slot 1 is short.
+const SHORT: [[(usize, usize); 3]; 2] = [
+    [(AMPLE, AMPLE), (16, AMPLE), (AMPLE, AMPLE)],
+    [(AMPLE, AMPLE), (AMPLE, 0), (AMPLE, AMPLE)],
+];
+
 /// Without room a board makes no edge, and the others go on.
 #[test]
 fn a_short_room(rt: HostRuntime) -> Result<(), Fail> {
-    for short in [(16, AMPLE), (AMPLE, 0)] {
-        let sizes = [(AMPLE, AMPLE), short, (AMPLE, AMPLE)];
-        let ran = run_in_rooms(&rt, rt.alloc(), 2, &OpenGate, 100, &sizes)?;
-        assert!(rt; ran.begins(1, &[]));
-        assert!(rt; ran.made.get(1) == Some(&0));
+    for sizes in &SHORT {
+        let ran = run_in_rooms(&rt, rt.alloc(), 2, &OpenGate, 100, sizes)?;
+        assert!(rt; ran.begins(1, &[]) && ran.made.get(1) == Some(&0));
         assert!(rt; !ran.begins(2, &[]));
     }
     Ok(())
@@ -236,18 +330,22 @@ fn is_legal(alloc: Global, history: &[Edge]) -> Result<bool, Fail> {
     Ok(again.run(history).refused == 0)
 }
 
+/// How many edges stand in the logs.
+fn logged(ran: &Ran) -> usize {
+    let mut logged = 0;
+    for log in &ran.logs {
+        logged = log.len().saturating_add(logged);
+    }
+    logged
+}
+
 /// 21 boards, a hundred times over: each closed history is legal, and as long as the logs. In its first turn each board asks.
 #[test]
 fn many_boards_many_times(rt: HostRuntime) -> Result<(), Fail> {
     for _run in 0..100u8 {
         let ran = run_in_rooms(&rt, rt.alloc(), 21, &OpenGate, 20, &[(AMPLE, AMPLE); 22])?;
         assert!(rt; is_legal(rt.alloc(), ran.history.as_slice())?);
-        let mut logged = 0;
-        for log in &ran.logs {
-            logged = log.len().saturating_add(logged);
-        }
-        assert_eq!(rt; logged, ran.history.len());
-        assert!(rt; logged > 20);
+        assert!(rt; logged(&ran) == ran.history.len() && logged(&ran) > 20);
     }
     Ok(())
 }
@@ -276,6 +374,46 @@ enum Made {
     Behind(Edge),
 }
 
+/// Closes, and answers which driver's log differs, and where.
+fn differing<L: Rig>(
+    shared: Shared<'_, L>,
+    seats: Seats<L>,
+    logs: &[Log<'_>],
+) -> Option<(Driver, u32)>
+    requires parts { L.parts ≡ 22 }
+    requires seats { drivers_of seats.items ≡ drivers L.opened.plan }
+    requires logs { length logs.now ≡ vec_len seats }
+{
+    let closed = shared.close(seats, logs);
+    match &closed {
+        Ok(_) => None,
+        Err(mismatch) => Some((mismatch.driver, mismatch.at)),
+    }
+}
+
+/// Makes an edge behind the last turn, and then the same.
+fn differing_behind<L: Rig, R: Wait>(
+    rt: &R,
+    shared: Shared<'_, L>,
+    mut seats: Seats<L>,
+    logs: &[Log<'_>],
+    made: Made,
+) -> Result<(Driver, u32), Fail>
+    requires parts { L.parts ≡ 22 }
+    requires seats { drivers_of seats.items ≡ drivers L.opened.plan }
+{
+    if let Made::Behind(edge) = made {
+        make_otherwise(rt, &shared, &mut seats, edge)?;
+    }
+    if logs.len() != seats.len() {
+        return Err("as many logs as seats".into());
+    }
+    match differing(shared, seats, logs) {
+        Some(found) => Ok(found),
+        None => Err("an edge is in no log".into()),
+    }
+}
+
 /// Makes an edge before the boards run or behind, and answers which driver's log differs, and where.
 fn mismatch_of<L: Rig + Send + Sync, G: Gate + Sync, R: Threads + Wait + Sync>(
     rt: &R,
@@ -283,7 +421,7 @@ fn mismatch_of<L: Rig + Send + Sync, G: Gate + Sync, R: Threads + Wait + Sync>(
     shared: Shared<'_, L>,
     mut seats: Seats<L>,
     gate: &G,
-    turns: u32,
+    bounds: Bounds,
     rooms: Vec<Room<'_>>,
     made: Made,
 ) -> Result<(Driver, u32), Fail>
@@ -296,19 +434,8 @@ fn mismatch_of<L: Rig + Send + Sync, G: Gate + Sync, R: Threads + Wait + Sync>(
     if rooms.len() != seats.len() {
         return Err("as many rooms as seats".into());
     }
-    let bounds = Bounds { turns, edges: 1000 };
-    let (mut seats, logs) = run_boards(rt, alloc, &shared, seats, gate, bounds, rooms)?;
-    if let Made::Behind(edge) = made {
-        make_otherwise(rt, &shared, &mut seats, edge)?;
-    }
-    if logs.len() != seats.len() {
-        return Err("as many logs as seats".into());
-    }
-    let closed = shared.close(seats, logs.as_slice());
-    match &closed {
-        Ok(_) => Err("an edge is in no log".into()),
-        Err(mismatch) => Ok((mismatch.driver, mismatch.at)),
-    }
+    let (seats, logs) = run_boards(rt, alloc, &shared, seats, gate, bounds, rooms)?;
+    differing_behind(rt, shared, seats, logs.as_slice(), made)
 }
 
 /// Opens a backplane, and makes an edge on it that stands in no log.
@@ -318,118 +445,176 @@ fn mismatch<L: Rig + Send + Sync, G: Gate + Sync, R: Threads + Wait + Sync>(
     blank: Blank,
     backplane: Backplane<'_>,
     gate: &G,
-    turns: u32,
+    bounds: Bounds,
     rooms: Vec<Room<'_>>,
     made: Made,
 ) -> Result<(Driver, u32), Fail>
     requires blank { (blank.name ≡ L.name) × (blank.parts ≡ L.parts) × (blank.parts ≡ 22) }
     requires opened { L.opened ≡ backplane }
 {
-    let Ok((shared, seats)) = Shared::<'_, L>::new(alloc, blank, backplane) else {
-        return Err("L2".into());
-    };
-    mismatch_of(rt, alloc, shared, seats, gate, turns, rooms, made)
+    let (shared, seats) = open::<L>(alloc, blank, backplane)?;
+    mismatch_of(rt, alloc, shared, seats, gate, bounds, rooms, made)
+}
+
+/// The same in rooms of these sizes, one for each driver.
+fn mismatch_in_rooms<G: Gate + Sync, R: Threads + Wait + Sync>(
+    rt: &R,
+    alloc: Global,
+    slots: u8,
+    gate: &G,
+    turns: u32,
+    sizes: &[(usize, usize)],
+    made: Made,
+) -> Result<(Driver, u32), Fail> {
+    let mut region = Region::new(alloc, MEMORY)?;
+    let (backplane, rooms) = benches(alloc, &mut region.rest(), slots, Version::One, sizes)?;
+    let bounds = Bounds { turns, edges: 1000 };
+    let blank = Blank::new(22);
+    mismatch::<Brand, G, R>(rt, alloc, blank, backplane, gate, bounds, rooms, made)
 }
 
 #[test]
 fn an_edge_before_the_boards_run(rt: HostRuntime) -> Result<(), Fail> {
-    let alloc = rt.alloc();
-    let mut region = Region::new(alloc, MEMORY)?;
-    let mut rest = region.rest();
-    let backplane = boards(alloc, &mut rest, 2, Version::One)?;
-    let rooms = rooms(alloc, &mut rest, &[(AMPLE, AMPLE); 3])?;
-    let blank = Blank::new(22);
     let made = Made::Before(fall(FIRST, Wire::Br));
-    let found = mismatch::<Brand, _, _>(&rt, alloc, blank, backplane, &OpenGate, 100, rooms, made)?;
-    assert_eq!(rt; found, (FIRST, 0));
+    let sizes = [(AMPLE, AMPLE); 3];
+    let found = mismatch_in_rooms(&rt, rt.alloc(), 2, &OpenGate, 100, &sizes, made)?;
+    assert!(rt; found == (FIRST, 0));
     Ok(())
 }
 
 /// The request stands in the log of slot 1 and the grant in the controller's, and that the bus was taken in none.
 #[test]
 fn an_edge_behind_the_last_turn(rt: HostRuntime) -> Result<(), Fail> {
-    let alloc = rt.alloc();
-    let mut region = Region::new(alloc, MEMORY)?;
-    let mut rest = region.rest();
-    let backplane = boards(alloc, &mut rest, 1, Version::One)?;
-    let rooms = rooms(alloc, &mut rest, &[(AMPLE, AMPLE); 2])?;
-    let blank = Blank::new(22);
-    let gate = Asked::new();
     let made = Made::Behind(fall(FIRST, Wire::Bbsy));
-    let found = mismatch::<Brand, _, _>(&rt, alloc, blank, backplane, &gate, 1, rooms, made)?;
-    assert_eq!(rt; found, (FIRST, 1));
+    let sizes = [(AMPLE, AMPLE); 2];
+    let found = mismatch_in_rooms(&rt, rt.alloc(), 1, &Asked::new(), 1, &sizes, made)?;
+    assert!(rt; found == (FIRST, 1));
     Ok(())
 }
 
-/// Works a seat for so many turns with a gate that counts, in which it makes these edges.
-fn counted<L: Rig, R: Wait + Abort>(
+/// What a worker is given, and what it does with it.
+#[derive(Clone, Copy)]
+struct Task<'e> {
+    /// Whether the gate is open.
+    open: bool,
+    bounds: Bounds,
+    /// The bytes for scratch and for the log.
+    sizes: (usize, usize),
+    /// Why it ends.
+    spent: Spent,
+    /// The edges in its log.
+    edges: &'e [Edge],
+}
+
+/// A worker that makes an edge in each of its turns.
+fn makes(edges: &[Edge], turns: u32) -> Task<'_> {
+    Task {
+        open: true,
+        bounds: Bounds { turns, edges: 1000 },
+        sizes: (AMPLE, AMPLE),
+        spent: Spent::Turns,
+        edges,
+    }
+}
+
+/// A worker that has one turn, and ends without an edge.
+fn idles(open: bool, sizes: (usize, usize), spent: Spent) -> Task<'static> {
+    Task {
+        open,
+        bounds: Bounds { turns: 1, edges: 8 },
+        sizes,
+        spent,
+        edges: &[],
+    }
+}
+
+/// Whether these edges stand in a log, and no others.
+fn is_log_of(log: &Log<'_>, edges: &[Edge]) -> bool {
+    for place in 0..log.len() {
+        if edges.get(place as usize).copied() != Some(log.edge_at(place)) {
+            return false;
+        }
+    }
+    log.len() as usize == edges.len()
+}
+
+/// What a worker did, and how often its gate was called behind a turn.
+fn assert_worked(rt: &impl Abort, task: Task<'_>, log: &Log<'_>, spent: Spent, calls: u32) {
+    assert!(rt; spent == task.spent);
+    assert!(rt; spent != Spent::Turns || calls == task.bounds.turns);
+    assert!(rt; is_log_of(log, task.edges));
+}
+
+/// Works a seat with a gate that counts.
+fn work<L: Rig, R: Wait + Abort>(
     rt: &R,
-    alloc: Global,
     shared: &Shared<'_, L>,
     seat: Seat<L>,
-    turns: u32,
-    edges: &[Edge],
+    task: Task<'_>,
     rest: &mut Rest<'_>,
 ) -> Result<Seat<L>, Fail> {
-    let gate = Counts::new(true);
-    let bounds = Bounds { turns, edges: 1000 };
-    let room = room(rest, (AMPLE, AMPLE))?;
-    let (seat, log, spent) = work_board(rt, shared, seat, &gate, bounds, room);
-    assert!(rt; spent == Spent::Turns);
-    assert_eq!(rt; gate.calls(), turns);
-    let made = edges_of(alloc, &log)?;
-    assert!(rt; made.len() == edges.len() && made.starts_with(edges));
+    let gate = Counts::new(task.open);
+    let room = room(rest, task.sizes)?;
+    let (seat, log, spent) = work_board(rt, shared, seat, &gate, task.bounds, room);
+    assert_worked(rt, task, &log, spent, gate.calls());
     Ok(seat)
 }
 
-/// Works a seat for one turn, and says why it ended without an edge.
-fn idle<L: Rig, R: Wait + Abort>(
+/// What slot 1 sees behind its request.
+fn assert_seen<L: Rig, R: Wait + Abort>(
     rt: &R,
     shared: &Shared<'_, L>,
-    seat: Seat<L>,
-    open: bool,
-    rest: &mut Rest<'_>,
-    sizes: (usize, usize),
-) -> Result<(Seat<L>, Spent), Fail> {
-    let bounds = Bounds { turns: 1, edges: 8 };
-    let room = room(rest, sizes)?;
-    let (seat, log, spent) = work_board(rt, shared, seat, &Counts::new(open), bounds, room);
-    assert!(rt; log.is_empty());
-    Ok((seat, spent))
-}
-
-/// What slot 1 sees behind its request, and the edges that it is refused.
-fn refusals<L: Rig, R: Wait + Abort>(
-    rt: &R,
-    shared: &Shared<'_, L>,
-    first: &mut Seat<L>,
+    first: &Seat<L>,
 ) -> Result<(), Fail> {
     let view = shared.look(rt, first)?;
-    assert_eq!(rt; (view.own, view.total), (1, 1));
-    assert!(rt; view.pins.requests.has(3));
-    assert!(rt; view.offers.is_empty());
+    assert!(rt; view.own == 1 && view.total == 1);
+    assert!(rt; view.pins.requests.has(3) && view.offers.is_empty());
+    Ok(())
+}
+
+/// The edges that slot 1 is refused behind its request.
+fn assert_refused<L: Rig, R: Wait + Abort>(rt: &R, shared: &Shared<'_, L>, first: &mut Seat<L>) {
     for other in [SECOND, Driver::Slot(0), Driver::Controller] {
         let refused = shared.edge(rt, first, fall(other, Wire::Br));
         assert!(rt; refused == Err(EdgeRefused::NotYours));
     }
     let again = Err(EdgeRefused::Step(Refused::AlreadyThere));
     assert!(rt; shared.edge(rt, first, fall(FIRST, Wire::Br)) == again);
-    assert_eq!(rt; first.made(), 1);
-    Ok(())
+    assert!(rt; first.made() == 1);
 }
 
-/// Without room for an edge or for its log a worker makes none.
-fn no_room<L: Rig, R: Wait + Abort>(
+/// Without room for an edge or for its log a worker makes none, and then it requests.
+fn request<L: Rig, R: Wait + Abort>(
     rt: &R,
     shared: &Shared<'_, L>,
-    seat: Seat<L>,
+    first: Seat<L>,
     rest: &mut Rest<'_>,
 ) -> Result<Seat<L>, Fail> {
-    let (seat, spent) = idle(rt, shared, seat, true, rest, (16, AMPLE))?;
-    assert!(rt; spent == Spent::NoRoom);
-    let (seat, spent) = idle(rt, shared, seat, true, rest, (AMPLE, 0))?;
-    assert!(rt; spent == Spent::NoRoom);
-    Ok(seat)
+    let no_room = idles(true, (16, AMPLE), Spent::NoRoom);
+    let first = work(rt, shared, first, no_room, rest)?;
+    let no_log = idles(true, (AMPLE, 0), Spent::NoRoom);
+    let first = work(rt, shared, first, no_log, rest)?;
+    work(rt, shared, first, makes(&[fall(FIRST, Wire::Br)], 1), rest)
+}
+
+/// The turns of the bus's owner.
+fn tenure<L: Rig, R: Wait + Abort>(
+    rt: &R,
+    shared: &Shared<'_, L>,
+    first: Seat<L>,
+    rest: &mut Rest<'_>,
+) -> Result<(), Fail> {
+    let edges = [
+        fall(FIRST, Wire::Bbsy),
+        access(FIRST, 1),
+        rise(FIRST, Wire::Br),
+        fall(FIRST, Wire::AddressStrobe),
+        fall(FIRST, Wire::DataStrobe),
+        fall(FIRST, Wire::Dtack),
+    ];
+    let first = work(rt, shared, first, makes(&edges, 6), rest)?;
+    assert!(rt; first.made() == 7);
+    Ok(())
 }
 
 /// A worker ends at 8 edges in the history, and at a gate that is shut.
@@ -439,38 +624,27 @@ fn no_turn<L: Rig, R: Wait + Abort>(
     seat: Seat<L>,
     rest: &mut Rest<'_>,
 ) -> Result<(), Fail> {
-    let (seat, spent) = idle(rt, shared, seat, true, rest, (AMPLE, AMPLE))?;
-    assert!(rt; spent == Spent::Edges);
-    let (_, spent) = idle(rt, shared, seat, false, rest, (AMPLE, AMPLE))?;
-    assert!(rt; spent == Spent::Gate);
+    let full = idles(true, (AMPLE, AMPLE), Spent::Edges);
+    let seat = work(rt, shared, seat, full, rest)?;
+    let shut = idles(false, (AMPLE, AMPLE), Spent::Gate);
+    work(rt, shared, seat, shut, rest)?;
     Ok(())
 }
 
 /// The turns of two workers, one after the other on one thread.
 fn one_thread<L: Rig, R: Wait + Abort>(
     rt: &R,
-    alloc: Global,
     shared: &Shared<'_, L>,
     controller: Seat<L>,
     first: Seat<L>,
     rest: &mut Rest<'_>,
 ) -> Result<(), Fail> {
-    let first = no_room(rt, shared, first, rest)?;
-    let request = [fall(FIRST, Wire::Br)];
-    let mut first = counted(rt, alloc, shared, first, 1, &request, rest)?;
-    refusals(rt, shared, &mut first)?;
+    let mut first = request(rt, shared, first, rest)?;
+    assert_seen(rt, shared, &first)?;
+    assert_refused(rt, shared, &mut first);
     let grant = [fall(Driver::Controller, Wire::Bg(3))];
-    let controller = counted(rt, alloc, shared, controller, 1, &grant, rest)?;
-    let tenure = [
-        fall(FIRST, Wire::Bbsy),
-        access(FIRST, 1),
-        rise(FIRST, Wire::Br),
-        fall(FIRST, Wire::AddressStrobe),
-        fall(FIRST, Wire::DataStrobe),
-        fall(FIRST, Wire::Dtack),
-    ];
-    let first = counted(rt, alloc, shared, first, 6, &tenure, rest)?;
-    assert_eq!(rt; first.made(), 7);
+    let controller = work(rt, shared, controller, makes(&grant, 1), rest)?;
+    tenure(rt, shared, first, rest)?;
     no_turn(rt, shared, controller, rest)
 }
 
@@ -483,10 +657,7 @@ fn open_one<'r, L: Rig>(
     requires blank { (blank.name ≡ L.name) × (blank.parts ≡ L.parts) × (blank.parts ≡ 22) }
     requires opened { L.opened ≡ backplane }
 {
-    let Ok((shared, seats)) = Shared::<'r, L>::new(alloc, blank, backplane) else {
-        return Err("L2".into());
-    };
-    let mut seats = seats;
+    let (shared, mut seats) = open::<L>(alloc, blank, backplane)?;
     let first = seats.pop().ok_or("two seats")?;
     let controller = seats.pop().ok_or("two seats")?;
     Ok((shared, controller, first))
@@ -504,7 +675,7 @@ fn one_board<L: Rig, R: Wait + Abort>(
     requires opened { L.opened ≡ backplane }
 {
     let (shared, controller, first) = open_one::<L>(alloc, blank, backplane)?;
-    one_thread(rt, alloc, &shared, controller, first, rest)
+    one_thread(rt, &shared, controller, first, rest)
 }
 
 #[test]
@@ -556,8 +727,7 @@ fn filled_in<R: Wait + Abort>(
 fn rooms_of_their_exact_sizes(rt: HostRuntime) -> Result<(), Fail> {
     for edges in [1, 256, 257, 1000] {
         let sizes = (log_bytes(edges), Trace::bytes(edges));
-        let filled = filled_in(&rt, rt.alloc(), edges, sizes)?;
-        assert_eq!(rt; filled, edges);
+        assert!(rt; filled_in(&rt, rt.alloc(), edges, sizes)? == edges);
     }
     Ok(())
 }
@@ -565,23 +735,11 @@ fn rooms_of_their_exact_sizes(rt: HostRuntime) -> Result<(), Fail> {
 /// The texts of the refusals.
 #[test]
 fn texts(rt: HostRuntime) -> Result<(), Fail> {
-    let lost = Lost { own: 7 };
-    let texts = [
-        (
-            format!(in rt.alloc(); "{}", EdgeRefused::NotYours)?,
-            "L1 the edge is not the seat's",
-        ),
-        (
-            format!(in rt.alloc(); "{NotStarted}")?,
-            "L3 the boards could not be started",
-        ),
-        (
-            format!(in rt.alloc(); "{lost}")?,
-            "L5 the history has 7 edges of the seat's driver",
-        ),
-    ];
-    for (text, want) in &texts {
-        assert_eq!(rt; text.as_str(), *want);
-    }
+    let not_yours = format!(in rt.alloc(); "{}", EdgeRefused::NotYours)?;
+    assert!(rt; not_yours.as_str() == "L1 the edge is not the seat's");
+    let not_started = format!(in rt.alloc(); "{NotStarted}")?;
+    assert!(rt; not_started.as_str() == "L3 the boards could not be started");
+    let lost = format!(in rt.alloc(); "{}", Lost { own: 7 })?;
+    assert!(rt; lost.as_str() == "L5 the history has 7 edges of the seat's driver");
     Ok(())
 }

@@ -1,8 +1,0 @@
-use Rattle.vme_tests.proofs.lock.an_edge_before_the_boards_run.Given as goal
-
--- the ledger of the blank, and the backplane that is opened
-abbrev pub ghosts-mismatch-L-Ledger : goal.ghosts-mismatch-L-Ledger
-ghosts-mismatch-L-Ledger g a = record { name = a.blank.name; parts = a.blank.parts }
-
-abbrev pub ghosts-mismatch-L-Rig : goal.ghosts-mismatch-L-Rig
-ghosts-mismatch-L-Rig g a = record { opened = a.backplane }
