@@ -26,6 +26,9 @@ class Commands:
             self.running.add(made)
         try:
             said, _ = made.communicate()
+        except BaseException:
+            end(made)
+            raise
         finally:
             with self.lock:
                 self.running.discard(made)
@@ -38,7 +41,12 @@ class Commands:
         with self.lock:
             self.is_stopped = True
             for it in self.running:
-                try:
-                    os.killpg(it.pid, signal.SIGKILL)
-                except ProcessLookupError:
-                    pass
+                end(it)
+
+
+def end(command):
+    """Ends a command, with what it started."""
+    try:
+        os.killpg(command.pid, signal.SIGKILL)
+    except ProcessLookupError:
+        pass

@@ -73,7 +73,7 @@ def replaced(texts, edit):
             raise BadEdit(f"there is no {file}")
         found = made[file].count(old)
         if found != 1:
-            raise BadEdit(f"its 'old:' stands in {file} {found} times, and not once")
+            raise BadEdit(f"its 'old:' stands in {file} {found} times, where once is wanted")
         made[file] = made[file].replace(old, new)
     if made == texts:
         raise BadEdit("it changes nothing")
