@@ -98,38 +98,58 @@ may_answer r None = false
 
 -- The number of the rule that names a wire and a direction, and whether its guard holds.
 -- `true` is a fall, and for the address group going on; `v` is what it then shows.
--- G1 to G8 are the controller's. Each guard is this project's form of what the standard says in times. What it renders:
--- chapter 2: G7, G8, G16, G17's DTACK* and BERR*, G18, G26 and an access in G25;
--- chapter 3: the policy's pick in G1, G3, G4, G11, that the bus is taken at one's own grant in G13, that it is given up during
--- the last transfer, and by ROR once another asks, in G14, and that the next master waits for AS* to be high in G15;
--- chapter 4: G5, G6, the handled level in G15, G21 to G24 and an acknowledge in G25.
--- Profile alone: G2, G9, G10, G12, G19, G20; that the grants and BBSY* are high in G1, and the grants in G3; own `bgout` and own
--- `br` in G13; own `br` and grant-in in G14; the burst and the low IRQ line in G15; one strobe a cycle in G17; and that every
--- board has a register in G25.
+-- Above each line: whose guard it is, and why. A chapter is the standard's, whose sentence the guard renders; it speaks in
+-- times, and the guard does not. What is the profile's is this project's own. G1 to G8 are the controller's.
 abbrev pub rule : Version → Readings → Wire → Bool → Option Cycle → ℕ × Bool
+-- G1, the pick: chapter 3; grants and BBSY* high, one grant at a time and none to a bus that has an owner: profile
 rule version r (Bg n) true v = (1, are_grants_high r && not r.bbsy && is_pick r.arbiter r.request r.last_level n)
+-- G2, profile: a grant stands until somebody has taken it, but in version 2 it may time out
 rule version r (Bg n) false v = (2, is_two version || r.bbsy)
+-- G3, chapter 3: the owner is asked to make room for a higher level; once the grants are high again: profile
 rule version r Bclr true v = (3, is_bus_clear_due r)
+-- G4, profile: the wish stands as long as its reason
 rule version r Bclr false v = (4, not (is_bus_clear_due r))
+-- G5, chapter 4: it starts the daisy chain of the acknowledge that is shown
 rule version r Iack true v = (5, r.address_strobe && r.data_strobe && is_acknowledge r.shown)
+-- G6, chapter 4: the chain stays low as long as the cycle
 rule version r Iack false v = (6, not r.address_strobe)
+-- G7, chapter 2: it ends a cycle that nobody answers
 rule version r Berr true v = (7, r.data_strobe && not r.dtack)
+-- G8, chapter 2: the error stands until the master has seen it
 rule version r Berr false v = (8, not r.data_strobe)
+-- G9, profile: the owner asks for nothing that it has
 rule version r Br true v = (9, not (r.own Bbsy))
+-- G10, profile: a request stays until it is met, but in version 2 it may be withdrawn
 rule version r Br false v = (10, is_two version || r.own Bbsy)
+-- G11, chapter 3: a board that does not want the grant hands it on
 rule version r BgOut true v = (11, r.grant_in && not (r.own Br) && not (r.own Bbsy))
+-- G12, profile: the chain rises from its beginning on
 rule version r BgOut false v = (12, not r.grant_in)
+-- G13, chapter 3: who asks takes the grant that reaches it; own request and own output, since what was passed on is lost: profile
 rule version r Bbsy true v = (13, r.grant_in && not (r.own BgOut) && r.own Br)
+-- G14, chapter 3: given up during the last transfer, and by ROR once another asks; own request and input high, so that no old grant is left: profile
 rule version r Bbsy false v = (14, not (r.own Br) && not r.grant_in && (not (r.own Addr) || r.own AddressStrobe) && may_release r)
+-- G15, chapter 2: a new owner waits for the end of the last cycle; chapter 4: the level is its own; burst and a low IRQ line: profile
 rule version r Addr true v = (15, r.own Bbsy && not r.address_strobe && is_within_burst r && may_show r v)
+-- G16, chapter 2: the strobe says that the address is good
 rule version r AddressStrobe true v = (16, r.own Addr && not r.address_strobe)
+-- G17, chapter 2: not while the last answer is still there; one strobe a cycle: profile
 rule version r DataStrobe true v = (17, r.own AddressStrobe && r.own Addr && not r.dtack && not r.berr && not r.has_strobed)
+-- G18, chapter 2: the strobe stands until it is answered
 rule version r DataStrobe false v = (18, r.dtack || r.berr)
+-- G19, profile: the address leaves once its one transfer is over
 rule version r Addr false v = (19, r.own AddressStrobe && not (r.own DataStrobe) && r.has_strobed)
+-- G20, profile: the next owner drives the address as soon as AS* is high, so this one is gone by then
 rule version r AddressStrobe false v = (20, not (r.own Addr))
+-- G21, chapter 4: an interrupt may come at any time
 rule version r Irq true v = (21, true)
+-- G22, chapter 4: the request stands until it was served in its own way
 rule version r Irq false v = (22, r.served_since_request)
+-- G23, chapter 4: a board with nothing to say at this level hands the acknowledge on
 rule version r IackOut true v = (23, r.iack_in && not (r.own Dtack) && r.data_strobe && is_passed_by r r.shown)
+-- G24, chapter 4: the chain stays low as long as the cycle
 rule version r IackOut false v = (24, not r.address_strobe)
+-- G25, chapter 4: the first pending board that is reached answers; chapter 2: a register answers for its slot; that each board has one: profile
 rule version r Dtack true v = (25, r.data_strobe && r.address_strobe && may_answer r r.shown)
+-- G26, chapter 2: the answer stands until the master has seen it
 rule version r Dtack false v = (26, not r.data_strobe)

@@ -13,22 +13,31 @@ const ABOUT: &str =
     "Simulates and checks the arbitration bus and the interrupt bus of a VMEbus backplane, edge by edge.";
 
 const OVERVIEW: &str =
-    "Without a command, a scenario and behind it a trace are read from standard input, and the trace is replayed:
+    "Without a command, a scenario and after it a trace are read from standard input, and the trace is
+replayed:
   cat board.toml tenure.vme | vmebus
 
-A scenario is a TOML file that says which boards stand in which slots. A trace is the line `vme 1` or `vme 2`, and then
-one edge a line, as `1 br-` or `c bg3-`.
+A scenario is a TOML file that says which boards stand in which slots. A trace is the line `vme 1`
+or `vme 2`, and then one edge a line, as `1 br-` or `c bg3-`. docs/RULES.md has the rules,
+docs/FORMATS.md has scenarios, traces, reports and faults to the byte, and examples/ has some of each.
 
-Exit status: 0 done, 1 a fault (one line on standard error), 2 some edge was refused, 3 the limit of edges was reached.";
+Exit status: 0 done, 1 a fault (one line on standard error) or a text as this one, 2 some edge was
+refused, 3 the limit of edges was reached (so mind `set -e` in a script).";
 
 const REPLAY: &str =
     "Writes the verdict on each edge of a trace, and how many were accepted and refused";
 
 const REPLAY_USAGE: &str = "vmebus replay <SCENARIO> <TRACE>";
 
-const REPLAY_EXAMPLE: &str =
-    "Each edge has a line with its number and `ok`, or why it is refused, as `5 E3 G13`. A refused edge changes nothing,
-and the replay goes on behind it. The exit status is 2 where an edge was refused.
+const REPLAY_EXAMPLE: &str = "Each edge has a line with its number and its verdict, as `5 E3 G13`:
+  ok      accepted; `ok irq ..` says which status byte it delivers
+  E1      no such driver on this backplane
+  E2      the driver is in that state already
+  E3 Gk   the guard of rule Gk does not hold
+  E4 Sk   settling rule Sk does not hold
+  E5      the trace is full
+The rules G1 to G26 and S1 to S4 stand in docs/RULES.md. A refused edge changes nothing, and the
+replay goes on after it. The exit status is 2 where an edge was refused.
 
 Example:
   vmebus replay board.toml tenure.vme";
@@ -39,8 +48,9 @@ const CHECK: &str =
 const CHECK_USAGE: &str = "vmebus check <SCENARIO> <TRACE>";
 
 const CHECK_EXAMPLE: &str =
-    "It writes `legal N`, with the number of edges, or `illegal N VERDICT` at the first refused edge, and reads no
-further. The exit status is 2 where an edge was refused.
+    "It writes `legal N`, with the number of edges, or `illegal N VERDICT` at the first refused edge, and
+reads no further. `vmebus replay --help` tells the verdicts, and docs/RULES.md the rules that they
+name. The exit status is 2 where an edge was refused.
 
 Example:
   vmebus check board.toml tenure.vme";
@@ -50,8 +60,9 @@ const DRIVE: &str = "Writes a trace that the drivers of a scenario make in turn"
 const DRIVE_USAGE: &str = "vmebus drive <SCENARIO> --edges <N> [--version <V>]";
 
 const DRIVE_EXAMPLE: &str =
-    "In each round the controller and then each board makes one of the edges that are open to it. It ends with the given
-number of edges, and then the exit status is 3, or after a round in which nobody could make one.
+    "In each round the controller and then each board makes one of the edges that are open to it. It ends
+with the given number of edges, and then the exit status is 3, or after a round in which nobody
+could make one, and then it is 0.
 
 Example:
   vmebus drive board.toml --edges 1000 > tenure.vme";
