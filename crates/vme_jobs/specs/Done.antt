@@ -52,8 +52,12 @@ Hands Ends nothing (Err (Boards f)) = Ends (Err f)
 abbrev pub IsDone : Job → Known → Known → Result Status ProgramFault → Type 0
 IsDone job old new result = Hands (Does job old new) (Keeps old new) result
 
+-- What the output is at a fault: nothing was written, or a job that the words ask for ended with it.
+abbrev pub HasFailed : List (List ℕ) → Known → Known → Type 0
+HasFailed words old new = Keeps old new ⊎ ((job : Job) × (f : ProgramFault) × Ask words job × IsDone job old new (Err f))
+
 -- What the program comes to, by the words, its output and its exit status: a job that the words ask for is done without a
 -- fault, and the status is the engine's; or there was a fault, and it is 1.
 abbrev pub IsObeyed : List (List ℕ) → Known → Known → ℕ → Type 0
 IsObeyed words old new code =
-    ((job : Job) × (status : Status) × Ask words job × Does job old new (Ok status) × (code ≡ exit_code status)) ⊎ (code ≡ 1)
+    ((job : Job) × (status : Status) × Ask words job × Does job old new (Ok status) × (code ≡ exit_code status)) ⊎ (HasFailed words old new × (code ≡ 1))

@@ -1,5 +1,5 @@
 //! A worker: one driver's turns, in each of which it asks for one offer and makes one edge at most.
-ghost use Rattle.std.specs.Prelude.{◌≡◌, ◌+◌, ◌≤◌, [], IfOk, length, min, true};
+ghost use Rattle.std.specs.Prelude.{◌≡◌, ◌≢◌, ◌+◌, ◌<◌, ◌≤◌, [], IfErr, IfOk, OnOk, length, min, true};
 ghost use Rattle.vme_lock.specs.Seats.{worked};
 ghost use Rattle.vme_lock.specs.Logs.{IsWithin};
 ghost use Rattle.vme_lock.specs.Holds.{OfSome, ending, turn_answer};
@@ -9,6 +9,7 @@ use crate::seats::{Rig, Seat};
 use crate::shared::Shared;
 use crate::views::{EdgeRefused, Turn};
 use std::sync::Wait;
+use std::thread::yield_now;
 use vme_model::{Driver, Edge};
 
 /// Who lets a worker begin and end its turns. No lock is held while it is asked.
@@ -20,7 +21,7 @@ pub trait Gate {
     fn after(&self, driver: Driver, turn: u32, accepted: bool);
 }
 
-/// A gate that is always open.
+/// A gate that is always open. Where no edge was made in a turn, the other threads go first.
 #[derive(Clone, Copy, Drop)]
 pub struct OpenGate;
 
@@ -31,7 +32,12 @@ impl Gate for OpenGate {
         true
     }
 
-    fn after(&self, _driver: Driver, _turn: u32, _accepted: bool) {}
+    fn after(&self, _driver: Driver, _turn: u32, accepted: bool) {
+        if !accepted {
+            // What the driver waits for is another's edge, and on a busy machine the others may not have begun.
+            yield_now();
+        }
+    }
 }
 
 /// How many turns a worker has, and at how many edges in the history it ends.
@@ -76,6 +82,7 @@ fn make_edge<L: Rig, R: Wait>(
     ensures driver { seat.new.driver ≡ seat.old.driver }
     ensures made { seat.new.made + length pages.old.edges ≡ seat.old.made + length pages.new.edges }
     ensures one { length pages.new.edges ≤ length pages.old.edges + 1 }
+    ensures early { IfErr result (λ spent. spent ≢ Spent.Turns) }
 {
     if pages.make_room().is_err() {
         return Err(Spent::NoRoom);
@@ -99,6 +106,7 @@ fn see_turn<L: Rig, R: Wait>(
 ) -> Result<Turn, Spent>
     ensures answer { OfSome L.opened (λ b. result ≡ ending (turn_answer b seat.now turn)) }
     ensures own { IfOk result (λ t. seat.now.made ≤ t.total) }
+    ensures early { IfErr result (λ spent. spent ≢ Spent.Turns) }
 {
     match shared.turn(rt, seat, turn) {
         Ok(seen) => Ok(seen),
@@ -106,23 +114,35 @@ fn see_turn<L: Rig, R: Wait>(
     }
 }
 
-/// Takes one turn. `Err` where the worker ends.
+/// What a worker did so far.
+#[derive(Drop)]
+struct Work<'s, 'r> {
+    /// How many turns it took to their end.
+    turns: u32,
+    pages: Pages<'s, 'r>,
+}
+
+/// Takes the next turn. `Err` where the worker ends.
 fn take_turn<L: Rig, G: Gate, R: Wait>(
     rt: &R,
     shared: &Shared<'_, L>,
     seat: &mut Seat<L>,
     gate: &G,
     bounds: Bounds,
-    turn: u32,
-    pages: &mut Pages<'_, '_>,
+    work: &mut Work<'_, '_>,
 ) -> Result<(), Spent>
-    requires logged { length pages.old.edges ≤ seat.old.made }
-    requires most { length pages.old.edges ≤ bounds.edges }
+    requires turns { work.old.turns < bounds.turns }
+    requires logged { length work.old.pages.edges ≤ seat.old.made }
+    requires most { length work.old.pages.edges ≤ bounds.edges }
     ensures driver { seat.new.driver ≡ seat.old.driver }
-    ensures made { seat.new.made + length pages.old.edges ≡ seat.old.made + length pages.new.edges }
-    ensures one { length pages.new.edges ≤ length pages.old.edges + 1 }
-    ensures most { length pages.new.edges ≤ bounds.edges }
+    ensures turns { OnOk result (work.new.turns ≡ work.old.turns + 1) }
+    ensures made { seat.new.made + length work.old.pages.edges ≡ seat.old.made + length work.new.pages.edges }
+    ensures one { length work.new.pages.edges ≤ length work.old.pages.edges + 1 }
+    ensures most { length work.new.pages.edges ≤ bounds.edges }
+    ensures early { IfErr result (λ spent. spent ≢ Spent.Turns) }
 {
+    let Work { turns, pages } = work;
+    let turn = *turns;
     let driver = seat.driver();
     if !gate.before(driver, turn) {
         return Err(Spent::Gate);
@@ -136,25 +156,27 @@ fn take_turn<L: Rig, G: Gate, R: Wait>(
         None => false,
     };
     gate.after(driver, turn, accepted);
+    *turns += 1;
     Ok(())
 }
 
-/// Takes the turns of a worker, and answers why it ended.
+/// Takes the turns of a worker that took none, and answers why it ended.
 fn take_turns<L: Rig, G: Gate, R: Wait>(
     rt: &R,
     shared: &Shared<'_, L>,
     seat: &mut Seat<L>,
     gate: &G,
     bounds: Bounds,
-    pages: &mut Pages<'_, '_>,
+    work: &mut Work<'_, '_>,
 ) -> Spent
-    requires { pages.old.edges ≡ [] }
+    requires { (work.old.turns ≡ 0) × (work.old.pages.edges ≡ []) }
     ensures driver { seat.new.driver ≡ seat.old.driver }
-    ensures made { seat.new.made ≡ seat.old.made + length pages.new.edges }
-    ensures most { (length pages.new.edges ≤ bounds.turns) × (length pages.new.edges ≤ bounds.edges) }
+    ensures turns { result ≡ Spent.Turns → work.new.turns ≡ bounds.turns }
+    ensures made { seat.new.made ≡ seat.old.made + length work.new.pages.edges }
+    ensures most { (length work.new.pages.edges ≤ bounds.turns) × (length work.new.pages.edges ≤ bounds.edges) }
 {
-    for turn in 0..bounds.turns {
-        if let Err(spent) = take_turn(rt, shared, seat, gate, bounds, turn, pages) {
+    for _turn in 0..bounds.turns {
+        if let Err(spent) = take_turn(rt, shared, seat, gate, bounds, work) {
             return spent;
         }
     }
@@ -183,8 +205,11 @@ pub fn work_board<'r, L: Rig, G: Gate, R: Wait>(
     if log.reserve_exact(most as usize).is_err() {
         return (seat, Log::new(log), Spent::NoRoom);
     }
-    let mut pages = Pages::new(&scratch, most);
-    let spent = take_turns(rt, shared, &mut seat, gate, bounds, &mut pages);
-    pages.copy_to(&mut log);
+    let mut work = Work {
+        turns: 0,
+        pages: Pages::new(&scratch, most),
+    };
+    let spent = take_turns(rt, shared, &mut seat, gate, bounds, &mut work);
+    work.pages.copy_to(&mut log);
     (seat, Log::new(log), spent)
 }

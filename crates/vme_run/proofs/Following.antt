@@ -1,10 +1,11 @@
 -- What a run leaves of the boards' history.
-use Rattle.std.proofs.Common.{◌≡◌, ℕ, ◌≤◌, arith, List, [], sym, ap, ◌∙◌, subst, Option}
+use Rattle.std.proofs.Common.{◌≡◌, ℕ, ◌≤◌, arith, List, [], length, sym, ap, ◌∙◌, subst, Option}
 use Rattle.std.specs.Prelude.{min, Result, Ok, Err}
 use Rattle.std.specs.Io.KnownBytes.{Appends, Keeps}
 use Rattle.std.proofs.KnownBytes.{Keeps-refl}
 use Rattle.std.proofs.Math.Nat.{min-le_left}
 use Rattle.vme_model.specs.declared.signals.Version.{Version}
+use Rattle.vme_model.specs.declared.signals.Driver.{Driver}
 use Rattle.vme_model.specs.Plan.{Plan}
 use Rattle.vme_model.specs.History.{in_order}
 use Rattle.vme_model.specs.Verdict.{State, IsLegal}
@@ -17,28 +18,38 @@ use Rattle.vme_engines.specs.declared.EngineFault.TheVariants as fault
 use Rattle.vme_engines.proofs.Opening.{no_plan}
 use Rattle.vme_run.specs.declared.RunFault.{RunFault}
 use Rattle.vme_run.specs.declared.RunFault.TheVariants.{Engine, NotStarted, LogDiffers, NotReplayed}
-use Rattle.vme_run.specs.Running.{IsRun, RunsOn, Runs, IsRead, IsUnread, IsPlayed, IsNotPlayed, EndsRun, IsWritten}
+use Rattle.vme_run.specs.Running.{IsMade, IsRun, HasOtherLogs, RunsOn, Runs, IsRead, IsUnread, IsGrown, IsPlayed, HasGrownApart, IsNotPlayed, EndsRun, IsWritten}
 
 -- what can be made is no more than what is asked for
 pub fits : (n others m : ℕ) → m ≡ min n others → m ≤ n
 fits n others m is = subst (λ x. x ≤ n) (sym is) (min-le_left n others)
 
--- a played backplane has a run's edges
-pub run_of : (version : Version) (p : Plan) (m n turns : ℕ) (b : State) → m ≤ n → IsPlayed turns (at_power_up version p m) b → IsRun version n turns p b.history
-run_of version p m n turns b fits played =
-    let same_plan : b.plan ≡ p = ap (λ x. x.plan) played.0.1 in
-    let same_version : b.version ≡ version = ap (λ x. x.version) played.0.1 in
-    let same_max : b.max ≡ m = ap (λ x. x.max) played.0.1 in
+-- a backplane that grew has a run's edges
+made_of : (version : Version) (p : Plan) (m n turns : ℕ) (b : State) → m ≤ n → IsGrown turns (at_power_up version p m) b → IsMade version n turns p b.history
+made_of version p m n turns b fits grown =
+    let same_plan : b.plan ≡ p = ap (λ x. x.plan) grown.0.1 in
+    let same_version : b.version ≡ version = ap (λ x. x.version) grown.0.1 in
+    let same_max : b.max ≡ m = ap (λ x. x.max) grown.0.1 in
     record {
-      legal = subst (λ q. IsLegal version q b.history) same_plan (subst (λ v. IsLegal v b.plan b.history) same_version played.1);
-      safe = subst (λ q. IsSafe q b.history) same_plan played.2;
-      within = omega (arith, same_max, played.3, fits);
-      in_turns = omega (arith, played.4);
+      legal = subst (λ q. IsLegal version q b.history) same_plan (subst (λ v. IsLegal v b.plan b.history) same_version grown.1);
+      safe = subst (λ q. IsSafe q b.history) same_plan grown.2;
+      within = omega (arith, same_max, grown.3, fits);
+      in_turns = omega (arith, grown.4);
     }
+
+pub run_of : (version : Version) (p : Plan) (m n turns : ℕ) (b : State) → m ≤ n → IsPlayed turns (at_power_up version p m) b → IsRun version n turns p b.history
+run_of version p m n turns b fits played = (made_of version p m n turns b fits played.0, played.1)
+
+-- and other logs than its drivers' edges, where they are
+other_logs : (version : Version) (p : Plan) (m n turns : ℕ) (b : State) (driver : Driver) (at : ℕ) → m ≤ n → IsGrown turns (at_power_up version p m) b → HasGrownApart turns (at_power_up version p m) b driver at
+    → HasOtherLogs version n turns p driver at
+other_logs version p m n turns b driver at fits grown apart =
+    let many : length b.history ≡ apart.1 = omega (arith, apart.3) in
+    (b.history, made_of version p m n turns b fits grown, apart.0, (apart.2.0, apart.2.1 ∙ sym many), apart.4)
 
 -- in the version handed in
 version_of : (version : Version) (p : Plan) (n turns : ℕ) (b : State) → IsPlayed turns (at_power_up version p n) b → b.version ≡ version
-version_of version p n turns b played = ap (λ x. x.version) played.0.1
+version_of version p n turns b played = ap (λ x. x.version) played.0.0.1
 
 -- a scenario is read as one plan
 pub read_again : (lent : List ℕ) (p q : Plan) → IsRead lent p → IsRead lent q → q ≡ p
@@ -47,7 +58,7 @@ read_again lent p q one two = let a = one.read in let b = two.read in cc
 -- a second backplane of the plan is the played one without its edges
 pub reopened : (version : Version) (p : Plan) (n turns : ℕ) (opened closed bench : State) → opened ≡ at_power_up version p n → bench ≡ at_power_up version p n → IsPlayed turns opened closed → bench ≡ record closed { history = [] }
 reopened version p n turns opened closed bench first second played =
-    let kept : record closed { history = [] } ≡ record opened { history = [] } = ap (λ (b : State). record b { history = [] }) played.0.1 in
+    let kept : record closed { history = [] } ≡ record opened { history = [] } = ap (λ (b : State). record b { history = [] }) played.0.0.1 in
     second ∙ sym (kept ∙ ap (λ (b : State). record b { history = [] }) first)
 
 abbrev fine : State → Result State RunFault
@@ -82,7 +93,7 @@ module _ (lent : List ℕ) (version : Version) (m n turns : ℕ) (fits : m ≤ n
   not_played_from (Engine fault.CannotRead) none = absurd none
   not_played_from (Engine (fault.Trace f)) none = absurd none
   not_played_from NotStarted none = (p, is.short, is.read, Keeps-refl _)
-  not_played_from (LogDiffers driver at) none = (p, is.short, is.read, ((none.0.history, run_of version p m n turns none.0 fits none.1, none.2, none.3), Keeps-refl _))
+  not_played_from (LogDiffers driver at) none = (p, is.short, is.read, (other_logs version p m n turns none.0 driver at fits none.1 none.2, Keeps-refl _))
   not_played_from (NotReplayed at) none = absurd none
 
   -- its trace was written, or a front of it

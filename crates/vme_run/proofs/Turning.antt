@@ -2,18 +2,22 @@
 use Rattle.std.proofs.Common.{◌≡◌, ℕ, ◌+◌, ◌*◌, ◌≤◌, List, [], ◌∷◌, length, map, refl, sym, ap, ◌∙◌, arith, All, mul-suc}
 use Rattle.std.specs.Prelude.{sum_by}
 use Rattle.std.proofs.lemmas.List.{length-map}
-use Rattle.std.proofs.lemmas.List.Elements.{All-head, All-tail}
-use Rattle.std.proofs.lemmas.List.Sums.{sum_by-cons}
+use Rattle.std.proofs.lemmas.List.Elements.{All-head, All-tail, All-nil, All-cons}
+use Rattle.std.proofs.lemmas.List.Sums.{sum_by-cons, length-filter}
 use Rattle.vme_model.specs.declared.signals.Driver.{Driver}
 use Rattle.vme_model.specs.declared.signals.Edge.{Edge}
 use Rattle.vme_model.specs.Plan.{drivers}
 use Rattle.vme_model.specs.Accepted.{IsAccepted}
 use Rattle.vme_model.specs.Verdict.{State, IsLegal}
-use Rattle.vme_model.specs.Counts.{count}
+use Rattle.vme_model.specs.History.{in_order}
+use Rattle.vme_model.specs.Signals.{is_same_driver}
+use Rattle.vme_model.specs.Counts.{count, only}
 use Rattle.vme_lock.specs.Seats.{Place, AllWorked, seat_of, seats_of}
-use Rattle.vme_lock.specs.Closing.{IsClosing}
+use Rattle.vme_lock.specs.Closing.{IsClosing, AreLogs}
 use Rattle.vme_lock.specs.Logs.{IsWithin}
+use Rattle.vme_lock.proofs.Counting.{count-in_order}
 use Rattle.vme_lock.proofs.Seating.{all_counted}
+use Rattle.vme_run.specs.Running.{AreInTurns, AreHandedBack}
 
 -- what all seats made
 abbrev all_made : List Place → ℕ
@@ -39,11 +43,50 @@ opened_with b (d ∷ ds) =
     sum_by-cons (λ s. s.made) (seat_of b d) (map (seat_of b) ds)
     ∙ (ap (λ (n : ℕ). count b.history d + n) (opened_with b ds) ∙ sym (sum_by-cons (λ d. count b.history d) d ds))
 
+-- what all seats made before the boards ran
+made_before : (opened : State) (seats : List Place) → IsAccepted opened.plan → IsLegal opened.version opened.plan opened.history → seats ≡ seats_of opened → all_made seats ≡ length opened.history
+made_before opened seats accepted legal is = ap all_made is ∙ (opened_with opened (drivers opened.plan) ∙ all_counted opened.version opened.plan opened.history accepted legal)
+
 pub played_within : (opened b : State) (seats after : List Place) (logs : List (List Edge)) (turns edges : ℕ) → IsAccepted opened.plan → IsLegal opened.version opened.plan opened.history
     → seats ≡ seats_of opened → AllWorked seats after logs → All (IsWithin turns edges) logs → IsClosing opened after b
     → length b.history ≤ length opened.history + turns * length (drivers opened.plan)
 played_within opened b seats after logs turns edges accepted legal is worked short closing =
-    let all : all_made seats ≡ length opened.history = ap all_made is ∙ (opened_with opened (drivers opened.plan) ∙ all_counted opened.version opened.plan opened.history accepted legal) in
+    let all = made_before opened seats accepted legal is in
     let many : length seats ≡ length (drivers opened.plan) = ap length is ∙ length-map (drivers opened.plan) (seat_of opened) in
     let bound = worked_within seats after logs turns edges worked short in
     omega (arith, all, ap (λ n. turns * n) many, bound, closing.made)
+
+-- the edges of all logs
+abbrev pub logged : List (List Edge) → ℕ
+logged logs = sum_by (λ log. length log) logs
+
+-- the seats made what their logs have
+worked_so_much : (seats after : List Place) (logs : List (List Edge)) → AllWorked seats after logs → all_made after ≡ all_made seats + logged logs
+worked_so_much [] [] [] worked = refl
+worked_so_much (s ∷ seats) (t ∷ after) (log ∷ logs) worked =
+    let here : t.made ≡ s.made + length log = ap (λ x. x.made) worked.0 in
+    let rest = worked_so_much seats after logs worked.1 in
+    omega (arith, here, rest, sum_by-cons (λ s. s.made) t after, sum_by-cons (λ s. s.made) s seats, sum_by-cons (λ (l : List Edge). length l) log logs)
+worked_so_much [] [] (z ∷ logs) worked = absurd worked
+worked_so_much [] (y ∷ after) logs worked = absurd worked
+worked_so_much (x ∷ seats) [] logs worked = absurd worked
+worked_so_much (x ∷ seats) (y ∷ after) [] worked = absurd worked
+
+pub grown_by_logs : (opened b : State) (seats after : List Place) (logs : List (List Edge)) → IsAccepted opened.plan → IsLegal opened.version opened.plan opened.history
+    → seats ≡ seats_of opened → AllWorked seats after logs → IsClosing opened after b → length b.history ≡ length opened.history + logged logs
+grown_by_logs opened b seats after logs accepted legal is worked closing =
+    omega (arith, made_before opened seats accepted legal is, worked_so_much seats after logs worked, closing.made)
+
+pub handed_back : (turns edges : ℕ) (logs : List (List Edge)) → All (IsWithin turns edges) logs → AreHandedBack turns (logged logs) logs
+handed_back turns edges logs short = (λ k d lt. (short k d lt).0, refl)
+
+-- each driver's edges are its log
+pub in_turns : (h : List Edge) (ds : List Driver) (logs : List (List Edge)) (turns edges : ℕ) → AreLogs h ds logs → All (IsWithin turns edges) logs → AreInTurns turns ds h
+in_turns h [] [] turns edges are short = All-nil (λ d. count h d ≤ turns)
+in_turns h (d ∷ ds) (log ∷ logs) turns edges are short =
+    let many : length (only h d) ≡ count h d = length-filter (λ e. is_same_driver e.driver d) (in_order h) ∙ count-in_order h d in
+    let one = All-head (IsWithin turns edges) log logs short in
+    let here : count h d ≤ turns = omega (arith, many, ap length are.0, one.0) in
+    All-cons (λ d. count h d ≤ turns) d ds here (in_turns h ds logs turns edges are.1 (All-tail (IsWithin turns edges) log logs short))
+in_turns h [] (z ∷ logs) turns edges are short = absurd are
+in_turns h (x ∷ ds) [] turns edges are short = absurd are

@@ -1,11 +1,12 @@
 -- What a run of the boards writes and answers.
-use Rattle.std.specs.Prelude.{◌≡◌, ◌==◌, ◌≤◌, ◌+◌, ◌*◌, ℕ, List, length, Option, Result, Ok, Err, if◌then◌else◌}
+use Rattle.std.specs.Prelude.{◌≡◌, ◌==◌, ◌≤◌, ◌+◌, ◌*◌, ℕ, List, length, All, sum_by, Option, Result, Ok, Err, if◌then◌else◌}
 use Rattle.std.specs.Io.KnownBytes.{Appends, Keeps}
 use Rattle.vme_model.specs.declared.signals.Version.{Version}
 use Rattle.vme_model.specs.declared.signals.Driver.{Driver}
 use Rattle.vme_model.specs.declared.signals.Edge.{Edge}
 use Rattle.vme_model.specs.Plan.{Plan, drivers}
 use Rattle.vme_model.specs.History.{in_order}
+use Rattle.vme_model.specs.Counts.{count}
 use Rattle.vme_model.specs.Verdict.{State, IsLegal}
 use Rattle.vme_model.specs.Safe.{IsSafe}
 use Rattle.vme_model.specs.Text.{text}
@@ -23,11 +24,19 @@ use Rattle.vme_run.specs.declared.RunFault.{RunFault}
 use Rattle.vme_run.specs.declared.RunFault.TheVariants.{Engine, NotStarted, LogDiffers, NotReplayed}
 
 -- at most n edges, and one for each turn of each driver, which are legal for the plan, and hence safe; the newest first
-pub record IsRun (version : Version) (n turns : ℕ) (p : Plan) (h : List Edge) : Type 0 where
+pub record IsMade (version : Version) (n turns : ℕ) (p : Plan) (h : List Edge) : Type 0 where
   pub legal : IsLegal version p h
   pub safe : IsSafe p h
   pub within : length h ≤ n
   pub in_turns : length h ≤ turns * length (drivers p)
+
+-- no driver has more of the edges than it had turns
+abbrev pub AreInTurns : ℕ → List Driver → List Edge → Type 0
+AreInTurns turns ds h = All (λ d. count h d ≤ turns) ds
+
+-- such edges, and no driver has more of them than turns
+abbrev pub IsRun : Version → ℕ → ℕ → Plan → List Edge → Type 0
+IsRun version n turns p h = IsMade version n turns p h × AreInTurns turns (drivers p) h
 
 -- What a run leaves on a plan, by what the writer held and holds: the trace of its edges, at X8 a front of it.
 abbrev pub RunsOn : Version → ℕ → ℕ → Option (List ℕ) → Option (List ℕ) → Plan → Answer → Type 0
@@ -37,9 +46,15 @@ RunsOn version n turns old new p (Err (fault.Trace f)) =
     (h : List Edge) × IsRun version n turns p h × (f ≡ Write) × AppendsFront old new (text version (in_order h))
 RunsOn version n turns old new p (Err _) = ⊥
 
--- L4: the drivers of a plan made these edges, and by some logs, this driver is the first whose edges are not its log
+-- what workers may hand back of so many edges: no log is longer than the turns, and all together they have as many
+abbrev pub AreHandedBack : ℕ → ℕ → List (List Edge) → Type 0
+AreHandedBack turns edges logs = All (λ log. length log ≤ turns) logs × (sum_by (λ log. length log) logs ≡ edges)
+
+-- L4: the drivers of a plan made these edges, their workers handed back these logs, and this driver is the first whose edges
+-- are not its log
 abbrev pub HasOtherLogs : Version → ℕ → ℕ → Plan → Driver → ℕ → Type 0
-HasOtherLogs version n turns p driver at = (h : List Edge) × IsRun version n turns p h × (logs : List (List Edge)) × FirstDiffers h (drivers p) logs driver at
+HasOtherLogs version n turns p driver at =
+    (h : List Edge) × IsMade version n turns p h × (logs : List (List Edge)) × AreHandedBack turns (length h) logs × FirstDiffers h (drivers p) logs driver at
 
 -- the scenario is read, and this holds of its plan
 abbrev pub OfPlan : List ℕ → (Plan → Type 0) → Type 0
@@ -66,18 +81,27 @@ abbrev pub IsUnread : List ℕ → RunFault → Type 0
 IsUnread lent (Engine f) = IsNoPlan lent f
 IsUnread lent _ = ⊥
 
--- the drivers of a backplane made edges of its rules in so many turns each, and nothing else changed
-abbrev pub IsPlayed : ℕ → State → State → Type 0
-IsPlayed turns opened b =
+-- the drivers of a backplane made edges of its rules, in all at most one for each turn of each, and nothing else changed
+abbrev pub IsGrown : ℕ → State → State → Type 0
+IsGrown turns opened b =
     Follows opened b × IsLegal b.version b.plan b.history × IsSafe b.plan b.history × (length b.history ≤ b.max)
     × (length b.history ≤ length opened.history + turns * length (drivers opened.plan))
+
+-- and no driver has more of them than turns
+abbrev pub IsPlayed : ℕ → State → State → Type 0
+IsPlayed turns opened b = IsGrown turns opened b × AreInTurns turns (drivers opened.plan) b.history
+
+-- the logs of the workers of a backplane that grew are not its drivers' edges
+abbrev pub HasGrownApart : ℕ → State → State → Driver → ℕ → Type 0
+HasGrownApart turns opened b driver at = (logs : List (List Edge)) × (made : ℕ) × AreHandedBack turns made logs
+    × (length b.history ≡ length opened.history + made) × FirstDiffers b.history (drivers opened.plan) logs driver at
 
 -- Why a backplane was not played: F3, L3, or L4.
 abbrev pub IsNotPlayed : ℕ → State → RunFault → Type 0
 IsNotPlayed turns opened (Engine fault.NoMemory) = Unit {0}
 IsNotPlayed turns opened (Engine _) = ⊥
 IsNotPlayed turns opened NotStarted = Unit {0}
-IsNotPlayed turns opened (LogDiffers driver at) = (b : State) × IsPlayed turns opened b × (logs : List (List Edge)) × FirstDiffers b.history (drivers opened.plan) logs driver at
+IsNotPlayed turns opened (LogDiffers driver at) = (b : State) × IsGrown turns opened b × HasGrownApart turns opened b driver at
 IsNotPlayed turns opened (NotReplayed at) = ⊥
 
 -- the fault ends a run of so many edges at most, with nothing written

@@ -1,10 +1,12 @@
 //! Running the boards of a backplane, each in a thread of its own.
-ghost use Rattle.std.specs.Prelude.{◌≡◌, ◌≤◌, IfOk, MatchResult, vec_len};
+ghost use Rattle.std.specs.Prelude.{◌≡◌, ◌≤◌, All, IfOk, MatchResult, min, vec_len};
+ghost use Rattle.vme_arena.specs.Words.{region_size};
 ghost use Rattle.vme_lock.specs.Seats.{drivers_of, seats_of};
 ghost use Rattle.vme_model.specs.Accepted.{IsAccepted};
 ghost use Rattle.vme_model.specs.Plan.{drivers};
 ghost use Rattle.vme_model.specs.Report.{trace_limit};
 ghost use Rattle.vme_model.specs.Verdict.{IsLegal};
+ghost use Rattle.vme_run.specs.Rooms.{IsRoomFor, rooms_bytes};
 ghost use Rattle.vme_run.specs.Running.{IsPlayed, IsNotPlayed};
 
 use crate::RunFault;
@@ -25,15 +27,18 @@ const DRIVERS: u64 = 22;
 
 /// Memory for so many boards, each of which makes so many edges at most.
 fn region_for(alloc: Global, boards: usize, edges: u32) -> Result<Region, AllocError>
-    requires { edges ≤ trace_limit }
+    requires edges { edges ≤ trace_limit }
+    requires boards { boards ≤ 22 }
+    ensures { IfOk result (λ r. region_size r ≡ rooms_bytes boards edges) }
 {
-    let room = log_bytes(edges).saturating_add(Trace::bytes(edges));
-    Region::new(alloc, room.saturating_mul(boards))
+    let room = log_bytes(edges) + Trace::bytes(edges);
+    Region::new(alloc, room * boards)
 }
 
 /// A room for so many edges.
 fn room<'r>(rest: &mut Rest<'r>, edges: u32) -> Result<Room<'r>, AllocError>
     requires { edges ≤ trace_limit }
+    ensures { IfOk result (IsRoomFor edges) }
 {
     match (
         rest.carve(log_bytes(edges)),
@@ -52,7 +57,8 @@ fn rooms_for<'r>(
     edges: u32,
 ) -> Result<Vec<Room<'r>>, AllocError>
     requires { edges ≤ trace_limit }
-    ensures { IfOk result (λ v. vec_len v ≡ boards) }
+    ensures many { IfOk result (λ v. vec_len v ≡ boards) }
+    ensures rooms { IfOk result (λ v. All (IsRoomFor edges) v.items) }
 {
     let mut rooms = Vec::new(alloc);
     for _board in 0..boards {
@@ -115,6 +121,7 @@ fn play_in<'r, L: Rig + Send + Sync, R: Threads + Wait + Sync>(
     requires seats { seats.items ≡ seats_of L.opened }
     requires drivers { drivers_of seats.items ≡ drivers L.opened.plan }
     requires rooms { vec_len rooms ≡ vec_len seats }
+    requires bytes { All (IsRoomFor (min bounds.turns bounds.edges)) rooms.items }
     ensures { MatchResult result (IsPlayed bounds.turns L.opened) (IsNotPlayed bounds.turns L.opened) }
 {
     let Ok((seats, logs)) = run_boards(rt, alloc, &shared, seats, &OpenGate, bounds, rooms) else {

@@ -73,7 +73,8 @@ const RUN_USAGE: &str = "vmebus run <SCENARIO> --edges <N> --turns <T> [--versio
 
 const RUN_EXAMPLE: &str =
     "Each driver gets the given number of turns, and in a turn it tries one of the edges that are open to it. The exit status
-is 3 where as many edges were made as were asked for. Two runs may differ; what each writes is legal.
+is 3 where as many edges were made as were asked for, and 0 where all turns were spent before: then the run is done, too.
+Two runs may differ; what each writes is legal.
 
 Example:
   vmebus run board.toml --edges 1000 --turns 100000 > tenure.vme";
