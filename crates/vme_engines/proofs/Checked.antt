@@ -11,9 +11,7 @@ use Rattle.vme_model.specs.declared.deliveries.Delivery.{Delivery}
 use Rattle.vme_model.specs.declared.refusals.Refused.{Refused}
 use Rattle.vme_model.specs.Plan.{Plan}
 use Rattle.vme_model.specs.Verdict.{State, Judgement, verdict, after, made, kept, IsLegal}
-use Rattle.vme_model.specs.Accepted.{IsAccepted}
-use Rattle.vme_model.proofs.Safety.{legal_is_safe}
-use Rattle.vme_scenario.specs.Format.{scenario}
+use Rattle.vme_model.specs.Safe.{IsSafe}
 use Rattle.vme_model.specs.Deliveries.{answer, with_delivery}
 use Rattle.vme_model.specs.Text.{Reading, read_of}
 use Rattle.vme_model.specs.Report.{trace_limit}
@@ -22,13 +20,13 @@ use Rattle.vme_trace.specs.declared.Fault.TheVariants.{Header, Line, TooLong, Cu
 use Rattle.vme_trace.specs.Reading as trace
 use Rattle.vme_engines.specs.declared.checks.Finding.{Finding}
 use Rattle.vme_engines.specs.declared.checks.Finding.TheVariants.{Legal, Illegal}
-use Rattle.vme_engines.specs.declared.Status.TheVariants.{Done}
-use Rattle.vme_engines.specs.Streams.{Streams, streams, IsInput}
-use Rattle.vme_engines.specs.Outcomes.{bench, HasFault}
-use Rattle.vme_engines.specs.Checking.{or_refusal, first_refusal, refusal_of, IsUnrefused, IsLegalTrace, IsFound, FindsNothing, finding_status, IsSafeInput}
+use Rattle.vme_engines.specs.Streams.{streams, IsInput}
+use Rattle.vme_engines.specs.Outcomes.{bench, HasFault, CanGoOn}
+use Rattle.vme_engines.specs.Checking.{or_refusal, first_refusal, refusal_of, IsUnrefused, IsLegalTrace, FindsNothing}
 use Rattle.vme_engines.specs.Steps.{Begins, Faults, Comes, Opens, ChecksPiece, FindsInput}
 use Rattle.vme_engines.proofs.Writing.{kept_append}
 use Rattle.vme_engines.proofs.Replaying.{IsReading, reading_of, begins_more, whole_input, read_out, no_such}
+use Rattle.vme_engines.proofs.Going.{can_go_on}
 
 -- ---- the first refusal
 
@@ -130,13 +128,13 @@ module _ (p : Plan) (all : List ℕ) (from to : Option (List ℕ)) (es : List Ed
   stops Write h = absurd (no_such (read_of all).fault Write (h.fault_is (λ e. cc)) (inr (inr (inr refl))))
 
   -- a read failed behind such edges
-  pub read_failed : (bytes : List ℕ) → Consumes from to bytes → version ≡ (read_of bytes).version → (read_of bytes).edges ≡ es → FindsNothing p all (streams from to None None) Read
-  read_failed bytes taken known edges = (bytes, taken, ap (λ w. refusal_of p w (read_of bytes).edges) (sym known) ∙ ap (refusal_of p version) edges ∙ none)
+  pub read_failed : (bytes : List ℕ) → Consumes from to bytes → CanGoOn bytes → version ≡ (read_of bytes).version → (read_of bytes).edges ≡ es → FindsNothing p all (streams from to None None) Read
+  read_failed bytes taken on known edges = (bytes, taken, on, ap (λ w. refusal_of p w (read_of bytes).edges) (sym known) ∙ ap (refusal_of p version) edges ∙ none)
 
   pub faulted : (f : Fault) (later : List ℕ) (reader : trace.State) → reader.version ≡ version → Consumes from to later → all ≡ later ++ unwrap_or to [] → Faults to later reader es f
       → FindsNothing p all (streams from to None None) f
   faulted f later reader known taken is which = elim which [
-    | inl failed ↦ subst (FindsNothing p all (streams from to None None)) (sym failed.0) (read_failed later taken (sym known ∙ failed.1.version) failed.1.edges)
+    | inl failed ↦ subst (FindsNothing p all (streams from to None None)) (sym failed.0) (read_failed later taken failed.1.goes_on (sym known ∙ failed.1.version) failed.1.edges)
     | inr stopped ↦ stops f (subst (λ (w : Option Version). trace.HasFault (read_of all) w es f) known (subst (λ (l : List ℕ). trace.HasFault (read_of l) reader.version es f) (sym is) stopped))
   ]
 
@@ -193,8 +191,8 @@ module _ (p : Plan) (v : Version) (from to : Option (List ℕ)) (b next : State)
 
   -- all edges are legal
   legal_trace : (r : Reading) → r.version ≡ Some v → r.edges ≡ es ++ fs → r.fault ≡ None → first_refusal (judged + 1) b fs ≡ None → next ≡ kept b fs
-      → IsLegal next.version next.plan next.history → length next.history ≤ next.max → IsLegalTrace p r
-  legal_trace r named edges whole none stepped legal fits =
+      → IsLegal next.version next.plan next.history → IsSafe next.plan next.history → length next.history ≤ next.max → IsLegalTrace p r
+  legal_trace r named edges whole none stepped legal safe fits =
       let all : first_refusal 1 (bench p v) (es ++ fs) ≡ None = refusal_is ∙ none in
       let is : next ≡ record (bench p v) { history = reverse r.edges } =
       stepped ∙ sym kept_is ∙ all_kept 1 (bench p v) (es ++ fs) all ∙ ap (λ l. record (bench p v) { history = l }) (append-nil (reverse (es ++ fs)))
@@ -206,6 +204,7 @@ module _ (p : Plan) (v : Version) (from to : Option (List ℕ)) (b next : State)
         whole = whole;
         unrefused = refusal_known p v r.edges r.version named ∙ ap (first_refusal 1 (bench p v)) edges ∙ all;
         legal = subst (λ (s : State). IsLegal s.version s.plan s.history) is legal;
+        safe = subst (λ (s : State). IsSafe s.plan s.history) is safe;
         fits = rw (length-reverse r.edges) at few;
       }
 
@@ -225,7 +224,7 @@ module _ (p : Plan) (v : Version) (from to : Option (List ℕ)) (b next : State)
         end.0,
         read_out from to end.0 end.1 end.2,
         (
-          legal_trace (read_of end.0) named end.4 end.5 h.1 h.2 h.4 h.5,
+          legal_trace (read_of end.0) named end.4 end.5 h.1 h.2 h.4 h.5 h.6,
           h.3 ∙ count_is ∙ ap length (sym end.4),
           end.2,
         ),
@@ -253,7 +252,7 @@ pub too_many : (p : Plan) (v : Version) (from to : Option (List ℕ)) (b : State
 too_many p v from to b reader judged left r = (
   r.reading.later ++ unwrap_or to [],
   whole_input from to [] r.reading.later r.reading.taken,
-  read_failed p (r.reading.later ++ unwrap_or to []) from to r.es (Some v) r.unrefused r.reading.later r.reading.taken (sym r.known ∙ sym r.reading.read.version) r.reading.read.edges,
+  read_failed p (r.reading.later ++ unwrap_or to []) from to r.es (Some v) r.unrefused r.reading.later r.reading.taken (can_go_on reader r.reading.later r.es r.reading.read) (sym r.known ∙ sym r.reading.read.version) r.reading.read.edges,
 )
 
 -- ---- without a header line
@@ -277,9 +276,3 @@ nothing_found p all from to old new Read h = h
 nothing_found p all from to old new Memory h = h
 nothing_found p all from to old new Failed h = h
 nothing_found p all from to old new Write h = h
-
--- what is called legal is safe
-pub found_safe : (text : List ℕ) (p : Plan) (all : List ℕ) (s : Streams) (found : Finding) → scenario text ≡ Ok p → IsAccepted p → IsInput s.from all → IsFound p (read_of all) s found
-    → finding_status found ≡ Done → IsSafeInput text s.from
-found_safe text p all s (Legal edges) read accepted input h done = (p, all, read, input, legal_is_safe h.0.version p (reverse (read_of all).edges) accepted h.0.legal)
-found_safe text p all s (Illegal n refused) read accepted input h done = absurd cc

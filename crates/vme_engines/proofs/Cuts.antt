@@ -7,7 +7,7 @@ use Rattle.std.specs.Str.{bytes_eq}
 use Rattle.vme_model.specs.declared.signals.Version.{Version}
 use Rattle.vme_model.specs.declared.signals.Version.TheVariants.{One, Two}
 use Rattle.vme_model.specs.Text.{version_of, header}
-use Rattle.vme_trace.specs.Taking.{IsOneLine}
+use Rattle.vme_trace.specs.Reading.{IsOneLine}
 use Rattle.vme_engines.specs.Joining.{cut, begins_trace}
 use Rattle.vme_engines.specs.Front.{behind}
 

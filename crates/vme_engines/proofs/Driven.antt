@@ -1,27 +1,26 @@
 -- The rounds of a drive, and the lines of what it made.
-use Rattle.std.proofs.Common.{◌≡◌, ◌≢◌, ◌⊎◌, inl, inr, ℕ, zero, suc, ◌+◌, ◌<◌, ◌≤◌, ◌%◌, List, [], ◌∷◌, ◌++◌, length, map, is_some, Ok, Err, Bool, true, false, drop, filter, Option, Some, None, refl, sym, ◌∙◌, ap, append_assoc, append-nil, subst, arith, reverse, IsTrue, All, is_ok, slice_get, ◌==◌, if◌then◌else◌, eq-eqb, ne_eqb, add-one}
-use mathlib.Core.List.{reverse-cons}
-use Rattle.std.specs.List.{flat_map}
+use Rattle.std.proofs.Common.{◌≡◌, ◌≢◌, ◌⊎◌, inl, inr, ℕ, zero, suc, ◌+◌, ◌<◌, ◌≤◌, ◌%◌, List, [], ◌∷◌, ◌++◌, length, map, is_some, Ok, Err, Bool, true, false, drop, filter, Option, Some, None, refl, sym, ◌∙◌, ap, append_assoc, append-nil, subst, arith, reverse, IsTrue, slice_get, ◌==◌, if◌then◌else◌, eq-eqb, ne_eqb, add-one}
 use Rattle.std.specs.Option.{option_map_or}
 use Rattle.std.proofs.lemmas.List.{map-append, length-append}
 use Rattle.std.proofs.lemmas.List.Elements.{filter-append}
 use Rattle.std.proofs.lemmas.Option.{get_or_from_slice_get, slice_get_within}
-use Rattle.std.proofs.lemmas.List.Elements.{All-get_or, All-nil, All-push}
+use Rattle.std.proofs.lemmas.List.Elements.{All-get_or}
 use Rattle.std.proofs.Math.Seq.{drop-length}
 use Rattle.std.proofs.lemmas.List.{drop_more}
 use Rattle.std.specs.Io.KnownBytes.{Appends}
 use Rattle.std.proofs.KnownBytes.{Appends-trans, Appends-nil}
-use Rattle.vme_model.specs.declared.refusals.Refused.TheVariants.{NoSuchDriver}
 use Rattle.vme_model.specs.declared.signals.Version.{Version}
 use Rattle.vme_model.specs.declared.signals.Driver.{Driver}
 use Rattle.vme_model.specs.declared.signals.Driver.TheVariants.{Controller, Slot}
 use Rattle.vme_model.specs.declared.signals.Edge.{Edge}
-use Rattle.vme_model.specs.Plan.{Plan, board, up_to, drivers, has_driver}
+use Rattle.vme_model.specs.Plan.{Plan, board, up_to, drivers}
+use Rattle.vme_model.specs.Accepted.{IsAccepted}
 use Rattle.vme_model.specs.History.{in_order}
 use Rattle.vme_model.specs.Safe.{IsSafe}
 use Rattle.vme_model.specs.Signals.{is_well_formed}
-use Rattle.vme_model.specs.Verdict.{State, verdict, after, made, IsLegal}
-use Rattle.vme_model.specs.Offers.{wires, considered, offered, turn, turns, rounds_from, rounds}
+use Rattle.vme_model.specs.Verdict.{State, made, IsLegal}
+use Rattle.vme_model.specs.Offers.{offered, turn, turns, rounds_from, rounds}
+use Rattle.vme_model.specs.Report.{trace_limit}
 use Rattle.vme_model.specs.Text.{edge_lines, text}
 use Rattle.vme_trace.specs.declared.Fault.{Fault}
 use Rattle.vme_trace.specs.declared.Fault.TheVariants.{Write}
@@ -32,8 +31,7 @@ use Rattle.vme_engines.specs.declared.EngineFault.TheVariants as fault
 use Rattle.vme_scenario.specs.Format.{scenario}
 use Rattle.vme_engines.specs.Outcomes.{bench}
 use Rattle.vme_engines.specs.Driving.{driven, driven_text, Drives, DrivesSafely}
-use Rattle.vme_model.proofs.Bools.{and_left}
-use Rattle.vme_model.proofs.Passed.{checked}
+use Rattle.vme_engines.proofs.Legal.{all_well_formed, legal_trace}
 use Rattle.vme_engines.proofs.Writing.{front_of_more, front_behind}
 
 -- ---- a turn
@@ -158,13 +156,17 @@ module _ (p : Plan) (version : Version) (n : ℕ) (b : State) (is : b ≡ rounds
   text_is : text b.version (in_order b.history) ≡ driven_text p version n
   text_is = ap (λ v. text v (in_order b.history)) grew.version ∙ ap (λ h. text version (in_order h)) history_is
 
-  pub drives_done : (old new : Option (List ℕ)) (status : Status) → Appends old new (text b.version (in_order b.history)) → IsLegal b.version b.plan b.history
-      → status ≡ (if length b.history == n then Limit else Done) → Drives version n old new p (Ok status)
-  drives_done old new status w legal ends = (
-    subst (Appends old new) text_is w,
-    subst (IsLegal version p) history_is (subst (λ (q : Plan). IsLegal version q b.history) grew.plan (subst (λ (v : Version). IsLegal v b.plan b.history) grew.version legal)),
-    ends ∙ ap (λ h. if length h == n then Limit else Done) history_is,
-  )
+  pub drives_done : (old new : Option (List ℕ)) (status : Status) → Appends old new (text b.version (in_order b.history)) → IsLegal b.version b.plan b.history → IsAccepted b.plan
+      → length b.history ≤ trace_limit → status ≡ (if length b.history == n then Limit else Done) → Drives version n old new p (Ok status)
+  drives_done old new status w legal accepted fits ends =
+      let is_legal : IsLegal version p (driven p version n) =
+      subst (IsLegal version p) history_is (subst (λ (q : Plan). IsLegal version q b.history) grew.plan (subst (λ (v : Version). IsLegal v b.plan b.history) grew.version legal)) in
+      let few : length (driven p version n) ≤ trace_limit = subst (λ (h : List Edge). length h ≤ trace_limit) history_is fits in (
+        subst (Appends old new) text_is w,
+        is_legal,
+        legal_trace p version (driven p version n) (subst IsAccepted grew.plan accepted) is_legal few,
+        ends ∙ ap (λ h. if length h == n then Limit else Done) history_is,
+      )
 
   pub drives_cut : (old new : Option (List ℕ)) (f : Fault) → f ≡ Write → AppendsFront old new (text b.version (in_order b.history)) → Drives version n old new p (Err (fault.Trace f))
   drives_cut old new f e w = (e, subst (AppendsFront old new) text_is w)
@@ -173,13 +175,6 @@ module _ (p : Plan) (version : Version) (n : ℕ) (b : State) (is : b ≡ rounds
   drives_safely old read safe = (p, read, subst (IsSafe p) history_is (subst (λ (q : Plan). IsSafe q b.history) grew.plan safe))
 
 -- ---- the lines of a legal list
-
--- each edge of a legal list is well formed
-all_well_formed : (version : Version) (p : Plan) (h : List Edge) → IsLegal version p h → All (λ e. IsTrue (is_well_formed e)) (reverse h)
-all_well_formed version p [] l = All-nil (λ e. IsTrue (is_well_formed e))
-all_well_formed version p (e ∷ h) l =
-    let one : is_well_formed e ≡ true = and_left (is_well_formed e) (has_driver p e.driver e.wire) (checked _ NoSuchDriver _ l.0).0 in
-    subst (All (λ e. IsTrue (is_well_formed e))) (sym (reverse-cons e h)) (All-push (λ e. IsTrue (is_well_formed e)) (reverse h) e (all_well_formed version p h l.1) one)
 
 pub well_formed_at : (version : Version) (p : Plan) (h : List Edge) (i : ℕ) (e : Edge) → IsLegal version p h → slice_get (reverse h) i ≡ Some e → IsTrue (is_well_formed e)
 well_formed_at version p h i e l at =

@@ -2,10 +2,12 @@ pub mod Writing
 pub mod Counting
 pub mod Digits
 pub mod Known
+pub mod Going
 pub mod Replaying
 pub mod Cuts
 pub mod Fronts
 pub mod Opening
 pub mod Starting
 pub mod Checked
+pub mod Legal
 pub mod Driven

@@ -59,7 +59,7 @@ module _ (p : Plan) (all : List ℕ) (from to old : Option (List ℕ)) (reader :
 failed_unknown : (p : Plan) (all bytes : List ℕ) (from to old : Option (List ℕ)) (reader : trace.State) (es : List Edge) → Consumes from to bytes → reader.version ≡ None → Fails to bytes reader es
     → ReplayStops p [] all (streams from to old old) Read
 failed_unknown p all bytes from to old reader es taken unknown h =
-    (bytes, taken, rw (lines_unknown p (read_of bytes).edges (read_of bytes).version (sym h.version ∙ unknown)) (Appends-nil old))
+    (bytes, taken, h.goes_on, rw (lines_unknown p (read_of bytes).edges (read_of bytes).version (sym h.version ∙ unknown)) (Appends-nil old))
 
 module _ (p : Plan) (from to old : Option (List ℕ)) (reader : trace.State) (es : List Edge) (left : ℕ) (unknown : reader.version ≡ None) where
   pub unopened : (f : Fault) → Opens from to reader es (Err f, left) → ReplaysInput (streams from to old old) p (Err (fault.Trace f))

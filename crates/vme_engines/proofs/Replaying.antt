@@ -15,10 +15,11 @@ use Rattle.vme_trace.specs.Reading as trace
 use Rattle.vme_trace.specs.Writing.{AppendsFront}
 use Rattle.vme_engines.specs.declared.Status.{Status}
 use Rattle.vme_engines.specs.Streams.{Streams, streams, IsInput, Wrote}
-use Rattle.vme_engines.specs.Outcomes.{bench, lines_of, refused_count, status_with, HasFault, ReplayStops, Replays}
+use Rattle.vme_engines.specs.Outcomes.{bench, lines_of, refused_count, status_with, HasFault, CanGoOn, ReplayStops, Replays}
 use Rattle.vme_engines.specs.Steps.{IsBounded, IsCounted, Begins, Faults, Comes, ending, piece_text, TakesPiece, traced}
 use Rattle.vme_engines.proofs.Writing.{front_of_all, front_of_more, front_behind, lines_append, kept_append}
 use Rattle.vme_engines.proofs.Known.{reads_on, few_edges, unknown_version}
+use Rattle.vme_engines.proofs.Going.{can_go_on}
 
 -- ---- reading
 
@@ -81,6 +82,7 @@ module _ (text head : List ℕ) (from at to : Option (List ℕ)) (reader next : 
           record {
             version = h.4;
             edges = r.read.edges ∙ sym same;
+            goes_on = can_go_on reader (head ++ r.later) es r.read;
             begins = λ w e. rw same (begins_more w reader (head ++ r.later) es r.read (sym stays ∙ e) (unwrap_or to []));
           },
         ),
@@ -213,9 +215,9 @@ module _ (p : Plan) (v : Version) (text all : List ℕ) (s : Streams) (es : List
 
 -- all lines of what was read were written, and a read failed
 pub read_failed : (p : Plan) (v : Version) (text bytes all : List ℕ) (from to old new : Option (List ℕ)) (es : List Edge) → Consumes from to (text ++ bytes)
-    → (read_of bytes).version ≡ Some v → (read_of bytes).edges ≡ es → Appends old new (verdict_lines (bench p v) 1 es) → ReplayStops p text all (streams from to old new) Read
-read_failed p v text bytes all from to old new es taken known edges w =
-    (bytes, taken, rw (lines_known p v (read_of bytes).edges (read_of bytes).version known) (rw edges w))
+    → CanGoOn bytes → (read_of bytes).version ≡ Some v → (read_of bytes).edges ≡ es → Appends old new (verdict_lines (bench p v) 1 es) → ReplayStops p text all (streams from to old new) Read
+read_failed p v text bytes all from to old new es taken on known edges w =
+    (bytes, taken, on, rw (lines_known p v (read_of bytes).edges (read_of bytes).version known) (rw edges w))
 
 -- ---- one piece of a replay
 
@@ -340,7 +342,7 @@ module _ (p : Plan) (v : Version) (text head : List ℕ) (from to old mid new : 
       is_input,
       elim which [
         | inl failed ↦ subst (ReplayStops p text (head ++ (later ++ unwrap_or to [])) (streams from to old new)) (sym failed.0)
-            (read_failed p v text (head ++ later) (head ++ (later ++ unwrap_or to [])) from to old new (es ++ fs) taken (sym failed.1.version ∙ known) failed.1.edges w)
+            (read_failed p v text (head ++ later) (head ++ (later ++ unwrap_or to [])) from to old new (es ++ fs) taken failed.1.goes_on (sym failed.1.version ∙ known) failed.1.edges w)
         | inr stopped ↦ stops p v text (head ++ (later ++ unwrap_or to [])) (streams from to old new) (es ++ fs) w reader.version known f
             (subst (λ (l : List ℕ). trace.HasFault (read_of l) reader.version (es ++ fs) f) all_is stopped)
       ],
@@ -407,7 +409,7 @@ module _ (p : Plan) (v : Version) (text head : List ℕ) (from to old new : Opti
   too_many = (
     r.reading.later ++ unwrap_or to [],
     here,
-    read_failed p v text (head ++ r.reading.later) (head ++ (r.reading.later ++ unwrap_or to [])) from to old new r.es taken named r.reading.read.edges r.wrote,
+    read_failed p v text (head ++ r.reading.later) (head ++ (r.reading.later ++ unwrap_or to [])) from to old new r.es taken (can_go_on reader (head ++ r.reading.later) r.es r.reading.read) named r.reading.read.edges r.wrote,
   )
 
   pub unflushed : Ended p text head from to old new (Err Write)

@@ -8,7 +8,6 @@ use Rattle.vme_model.specs.Verdict.{State, Judgement, verdict, after, IsLegal}
 use Rattle.vme_model.specs.Safe.{IsSafe}
 use Rattle.vme_model.specs.Text.{Reading, read_of}
 use Rattle.vme_model.specs.Report.{verdict_text, trace_limit}
-use Rattle.vme_scenario.specs.Format.{scenario}
 use Rattle.vme_trace.specs.declared.Fault.{Fault}
 use Rattle.vme_trace.specs.declared.Fault.TheVariants.{Header, Line, TooLong, CutOff, Read, Memory, Failed, Write}
 use Rattle.vme_engines.specs.declared.Status.{Status}
@@ -17,7 +16,7 @@ use Rattle.vme_engines.specs.declared.EngineFault.TheVariants as fault
 use Rattle.vme_engines.specs.declared.checks.Finding.{Finding}
 use Rattle.vme_engines.specs.declared.checks.Finding.TheVariants.{Legal, Illegal}
 use Rattle.vme_engines.specs.Streams.{Streams, IsInput, HasRead, IsReadOut, Wrote, WroteFront, WroteNothing}
-use Rattle.vme_engines.specs.Outcomes.{Answer, bench, HasFault}
+use Rattle.vme_engines.specs.Outcomes.{Answer, bench, HasFault, CanGoOn}
 
 -- ---- the first refusal
 
@@ -40,13 +39,15 @@ IsUnrefused p r = refusal_of p r.version r.edges ≡ None
 
 -- ---- findings
 
--- A whole trace of which no edge is refused: its edges are a legal list of its version, and are few enough to be kept.
+-- A whole trace of which no edge is refused: its edges are a legal list of its version, and so a safe one, and are few
+-- enough to be kept.
 pub record IsLegalTrace (p : Plan) (r : Reading) : Type 0 where
   pub version : Version
   pub named : r.version ≡ Some version
   pub whole : r.fault ≡ None
   pub unrefused : IsUnrefused p r
   pub legal : IsLegal version p (reverse r.edges)
+  pub safe : IsSafe p (reverse r.edges)
   pub fits : length r.edges ≤ trace_limit
 
 -- What a check finds in a trace.
@@ -63,14 +64,14 @@ abbrev pub finding_status : Finding → Status
 finding_status (Legal edges) = Done
 finding_status (Illegal n refused) = SomeRefused
 
--- Why nothing is found: no edge before the fault is refused. X1 to X4: of the trace. X5: of what was read. X6: of the
--- edges that found room.
+-- Why nothing is found: no edge before the fault is refused. X1 to X4: of the trace. X5: of what was read, which can go
+-- on. X6: of the edges that found room.
 abbrev pub FindsNothing : Plan → List ℕ → Streams → Fault → Type 0
 FindsNothing p trace s Header = HasFault trace Header × IsUnrefused p (read_of trace)
 FindsNothing p trace s (Line n) = HasFault trace (Line n) × IsUnrefused p (read_of trace)
 FindsNothing p trace s (TooLong n) = HasFault trace (TooLong n) × IsUnrefused p (read_of trace)
 FindsNothing p trace s CutOff = HasFault trace CutOff × IsUnrefused p (read_of trace)
-FindsNothing p trace s Read = (bytes : List ℕ) × HasRead s bytes × IsUnrefused p (read_of bytes)
+FindsNothing p trace s Read = (bytes : List ℕ) × HasRead s bytes × CanGoOn bytes × IsUnrefused p (read_of bytes)
 FindsNothing p trace s Memory = (es : List Edge) × (others : List Edge) × ((read_of trace).edges ≡ es ++ others) × (refusal_of p (read_of trace).version es ≡ None)
 FindsNothing p trace s Failed = ⊥
 FindsNothing p trace s Write = ⊥
@@ -85,7 +86,3 @@ Checks p trace s (Err _) = ⊥
 -- a check of the whole input
 abbrev pub ChecksInput : Streams → Plan → Answer → Type 0
 ChecksInput s p answer = (trace : List ℕ) × IsInput s.from trace × Checks p trace s answer
-
--- The edges of the whole input are a safe list.
-abbrev pub IsSafeInput : List ℕ → Option (List ℕ) → Type 0
-IsSafeInput text from = (p : Plan) × (trace : List ℕ) × (scenario text ≡ Ok p) × IsInput from trace × IsSafe p (reverse (read_of trace).edges)

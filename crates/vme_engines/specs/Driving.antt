@@ -8,13 +8,14 @@ use Rattle.vme_model.specs.History.{in_order}
 use Rattle.vme_model.specs.Verdict.{IsLegal}
 use Rattle.vme_model.specs.Safe.{IsSafe}
 use Rattle.vme_model.specs.Offers.{rounds}
-use Rattle.vme_model.specs.Text.{text}
+use Rattle.vme_model.specs.Text.{text, read_of}
 use Rattle.vme_scenario.specs.Format.{scenario}
 use Rattle.vme_trace.specs.declared.Fault.TheVariants.{Write}
 use Rattle.vme_trace.specs.Writing.{AppendsFront}
 use Rattle.vme_engines.specs.declared.Status.TheVariants.{Done, Limit}
 use Rattle.vme_engines.specs.declared.EngineFault.TheVariants as fault
 use Rattle.vme_engines.specs.Outcomes.{Answer, bench}
+use Rattle.vme_engines.specs.Checking.{IsLegalTrace}
 
 -- the edges that the drivers of a plan make in turn, at most n of them, the newest first
 abbrev pub driven : Plan → Version → ℕ → List Edge
@@ -24,10 +25,11 @@ driven p version n = (rounds (bench p version) n).history
 abbrev pub driven_text : Plan → Version → ℕ → List ℕ
 driven_text p version n = text version (in_order (driven p version n))
 
--- What a drive leaves, by what the writer held and holds: the trace of a legal list, at X8 a front of it.
+-- What a drive leaves, by what the writer held and holds: the trace of a legal list, which `check` calls legal; at X8 a
+-- front of it.
 abbrev pub Drives : Version → ℕ → Option (List ℕ) → Option (List ℕ) → Plan → Answer → Type 0
 Drives version n old new p (Ok status) =
-    Appends old new (driven_text p version n) × IsLegal version p (driven p version n)
+    Appends old new (driven_text p version n) × IsLegal version p (driven p version n) × IsLegalTrace p (read_of (driven_text p version n))
     × (status ≡ (if length (driven p version n) == n then Limit else Done))
 Drives version n old new p (Err (fault.Trace f)) = (f ≡ Write) × AppendsFront old new (driven_text p version n)
 Drives version n old new p (Err _) = ⊥

@@ -7,7 +7,7 @@ use Rattle.vme_model.specs.declared.signals.Edge.{Edge}
 use Rattle.vme_model.specs.Text.{header, read_of}
 use Rattle.vme_trace.specs.declared.Fault.{Fault}
 use Rattle.vme_trace.specs.Reading as trace
-use Rattle.vme_trace.specs.Taking.{IsOneLine}
+use Rattle.vme_trace.specs.Reading.{IsOneLine}
 use Rattle.vme_engines.specs.declared.joins.Found.{Found}
 use Rattle.vme_engines.specs.declared.joins.Front.{Front}
 use Rattle.vme_engines.specs.Streams.{streams, IsInput, WroteNothing}

@@ -1,10 +1,10 @@
 -- What an engine writes and answers.
-use Rattle.std.specs.Prelude.{◌≡◌, ◌==◌, ◌<◌, ◌≤◌, ◌-◌, ◌++◌, [], ℕ, List, length, Option, Some, None, option_map, Result, Ok, Err, if◌then◌else◌}
+use Rattle.std.specs.Prelude.{◌≡◌, ◌⊎◌, ◌==◌, ◌<◌, ◌≤◌, ◌-◌, ◌++◌, [], ℕ, List, length, Option, Some, None, option_map, Result, Ok, Err, if◌then◌else◌}
 use Rattle.vme_model.specs.declared.signals.Version.{Version}
 use Rattle.vme_model.specs.declared.signals.Edge.{Edge}
 use Rattle.vme_model.specs.Plan.{Plan}
 use Rattle.vme_model.specs.Verdict.{State}
-use Rattle.vme_model.specs.Text.{Reading, read_of}
+use Rattle.vme_model.specs.Text.{Reading, cut_off, read_of}
 use Rattle.vme_model.specs.Report.{report, verdict_lines, accepted_count, at_power_up, trace_limit}
 use Rattle.vme_trace.specs.declared.Fault.{Fault}
 use Rattle.vme_trace.specs.declared.Fault.TheVariants.{Header, Line, TooLong, CutOff, Read, Memory, Failed, Write}
@@ -57,14 +57,20 @@ status_of p r = status_with (refused_count p r.version r.edges)
 abbrev pub HasFault : List ℕ → Fault → Type 0
 HasFault trace f = option_map fault_of (read_of trace).fault ≡ Some f
 
+-- A trace that begins with these bytes can go on, so that none of X1 to X3 stands in them: they are a whole trace, one
+-- that is cut off, or nothing.
+abbrev pub CanGoOn : List ℕ → Type 0
+CanGoOn bytes = ((read_of bytes).fault ≡ None) ⊎ ((read_of bytes).fault ≡ Some cut_off) ⊎ (bytes ≡ [])
+
 -- What a replay of a trace leaves at a fault, where the trace stands in the input behind a text. X1 to X4: the verdicts
--- on the edges before it. X5: on the edges of what was read. X6: on the edges that found room. X8: a front of the report.
+-- on the edges before it. X5: on the edges of what was read, which can go on. X6: on the edges that found room. X8: a
+-- front of the report.
 abbrev pub ReplayStops : Plan → List ℕ → List ℕ → Streams → Fault → Type 0
 ReplayStops p text trace s Header = HasFault trace Header × Wrote s (report p trace)
 ReplayStops p text trace s (Line n) = HasFault trace (Line n) × Wrote s (report p trace)
 ReplayStops p text trace s (TooLong n) = HasFault trace (TooLong n) × Wrote s (report p trace)
 ReplayStops p text trace s CutOff = HasFault trace CutOff × Wrote s (report p trace)
-ReplayStops p text trace s Read = (bytes : List ℕ) × HasRead s (text ++ bytes) × Wrote s (lines_of p (read_of bytes).version (read_of bytes).edges)
+ReplayStops p text trace s Read = (bytes : List ℕ) × HasRead s (text ++ bytes) × CanGoOn bytes × Wrote s (lines_of p (read_of bytes).version (read_of bytes).edges)
 ReplayStops p text trace s Memory = (es : List Edge) × (others : List Edge) × ((read_of trace).edges ≡ es ++ others) × Wrote s (lines_of p (read_of trace).version es)
 ReplayStops p text trace s Failed = ⊥
 ReplayStops p text trace s Write = WroteFront s (report p trace)

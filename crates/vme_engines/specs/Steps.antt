@@ -5,6 +5,7 @@ use Rattle.vme_model.specs.declared.signals.Version.{Version}
 use Rattle.vme_model.specs.declared.signals.Edge.{Edge}
 use Rattle.vme_model.specs.Plan.{Plan}
 use Rattle.vme_model.specs.Verdict.{State, kept, IsLegal}
+use Rattle.vme_model.specs.Safe.{IsSafe}
 use Rattle.vme_model.specs.Text.{Reading, read_of}
 use Rattle.vme_model.specs.Report.{verdict_lines, closing_text}
 use Rattle.vme_scenario.specs.Format.{scenario}
@@ -19,7 +20,7 @@ use Rattle.vme_engines.specs.declared.EngineFault.TheVariants as fault
 use Rattle.vme_engines.specs.Streams.{streams, IsInput}
 use Rattle.vme_engines.specs.declared.checks.Finding.{Finding}
 use Rattle.vme_engines.specs.declared.checks.Finding.TheVariants.{Legal, Illegal}
-use Rattle.vme_engines.specs.Outcomes.{Answer, scenario_limit, bench, status_with, Replays}
+use Rattle.vme_engines.specs.Outcomes.{Answer, scenario_limit, bench, status_with, CanGoOn, Replays}
 use Rattle.vme_engines.specs.Checking.{first_refusal, IsFound, FindsNothing}
 
 -- why there is no plan
@@ -40,10 +41,11 @@ pub record Begins (r : Reading) (v : Version) (es : List Edge) : Type 0 where
   pub others : List Edge
   pub edges : r.edges ≡ es ++ others
 
--- A read failed behind these bytes of a trace and these edges of it.
+-- A read failed behind these bytes of a trace, which can go on, and these edges of it.
 pub record Fails (to : Option (List ℕ)) (bytes : List ℕ) (reader : trace.State) (es : List Edge) : Type 0 where
   pub version : reader.version ≡ (read_of bytes).version
   pub edges : (read_of bytes).edges ≡ es
+  pub goes_on : CanGoOn bytes
   pub begins : (v : Version) → reader.version ≡ Some v → Begins (read_of (bytes ++ unwrap_or to [])) v es
 
 -- A fault came from the input: a read failed, or the trace has a fault.
@@ -116,7 +118,7 @@ ChecksPiece b judged es more b' judged' (Ok None) =
 ChecksPiece b judged es more b' judged' (Ok (Some (Illegal n refused))) = first_refusal (judged + 1) b es ≡ Some (n, refused)
 ChecksPiece b judged es more b' judged' (Ok (Some (Legal edges))) =
     (more ≡ Ok false) × (first_refusal (judged + 1) b es ≡ None) × (b' ≡ kept b es) × (edges ≡ judged + length es)
-    × IsLegal b'.version b'.plan b'.history × (length b'.history ≤ b'.max)
+    × IsLegal b'.version b'.plan b'.history × IsSafe b'.plan b'.history × (length b'.history ≤ b'.max)
 ChecksPiece b judged es more b' judged' (Err f) = (more ≡ Err f) × (first_refusal (judged + 1) b es ≡ None)
 
 -- What a check finds in a trace, or why nothing.

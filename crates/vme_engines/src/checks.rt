@@ -2,10 +2,9 @@
 ghost use Rattle.std.specs.Prelude.{◌≡◌, ◌+◌, ◌<◌, ◌^◌, [], Ok, None, true, length};
 ghost use Rattle.vme_model.specs.Verdict.{kept};
 ghost use Rattle.vme_model.specs.Report.{trace_limit};
-ghost use Rattle.vme_engines.specs.declared.Status.TheVariants.{Done};
 ghost use Rattle.vme_engines.specs.Streams.{streams, ReadNothing, WroteNothing};
 ghost use Rattle.vme_engines.specs.Outcomes.{Lent};
-ghost use Rattle.vme_engines.specs.Checking.{ChecksInput, IsSafeInput, first_refusal, finding_status};
+ghost use Rattle.vme_engines.specs.Checking.{ChecksInput, first_refusal, finding_status};
 ghost use Rattle.vme_engines.specs.Steps.{IsCounted, ChecksPiece, FindsOn, FindsInput};
 
 use crate::lines::write_finding;
@@ -78,6 +77,7 @@ fn check_piece(
         Ok(true) => Ok(None),
         Ok(false) => {
             backplane.laws();
+            backplane.safety();
             Ok(Some(Finding::Legal { edges: *judged }))
         }
         Err(fault) => Err(fault),
@@ -145,12 +145,10 @@ pub fn check<R: Read, W: Write>(
     trace: &mut R,
     out: &mut W,
 ) -> Result<Status, EngineFault>
-    ensures outcome { let s = streams (R.remaining trace.old) (R.remaining trace.new) (W.contents out.old) (W.contents out.new) in
+    ensures { let s = streams (R.remaining trace.old) (R.remaining trace.new) (W.contents out.old) (W.contents out.new) in
         Lent scenario.now (ReadNothing s × WroteNothing s) (ChecksInput s) result }
-    ensures safe { result ≡ Ok Done → IsSafeInput scenario.now (R.remaining trace.old) }
 {
     let plan = plan_of(alloc, scenario)?;
-    plan.accepted();
     let mut region = history_region(alloc)?;
     let room = history_room(alloc, &mut region)?;
     let finding = match find(alloc, plan, room, trace) {

@@ -7,6 +7,7 @@ mod checks;
 mod counts;
 mod drives;
 mod joins;
+pub mod laws;
 mod lines;
 mod plans;
 mod replays;

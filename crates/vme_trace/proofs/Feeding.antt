@@ -8,8 +8,8 @@ use Rattle.vme_model.specs.declared.signals.Edge.{Edge}
 use Rattle.vme_model.specs.Text.{TextFault, no_header, cut_off, read_of}
 use Rattle.vme_trace.specs.declared.Fault.{Fault}
 use Rattle.vme_trace.specs.declared.Fault.TheVariants.{Memory}
-use Rattle.vme_trace.specs.Reading.{Place, State, fault_of, answer_of, rest_of, with_edges, HasRead, Stops, Fed, Pumped, ReadsPiece}
-use Rattle.vme_trace.specs.Taking.{IsPart, place, Leads, Fails}
+use Rattle.vme_trace.specs.Reading.{IsPart, Place, State, fault_of, answer_of, rest_of, with_edges, HasRead, Stops, Fed, Pumped, ReadsPiece}
+use Rattle.vme_trace.specs.Taking.{place, Leads, Fails}
 use Rattle.vme_trace.proofs.Lines.{true_false, settled, end_cut, end_absent, end_present, no_bytes}
 use Rattle.vme_trace.proofs.Stepping.{behind_fault}
 
@@ -26,6 +26,7 @@ made v n part bytes es h others =
     record {
       place = place n part;
       stands = refl;
+      part = h;
       version = ap (λ r. r.version) whole ∙ now.0;
       edges = ap (λ r. r.edges) whole ∙ ap (λ l. es ++ l) now.1 ∙ append-nil es;
       others = others;

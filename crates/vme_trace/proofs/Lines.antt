@@ -3,8 +3,8 @@ use Rattle.std.proofs.Common.{◌≡◌, ◌≢◌, subst, ℕ, suc, zero, ◌+�
 use Rattle.std.proofs.lemmas.Bool.Decides.{nat_tests}
 use Rattle.vme_model.specs.declared.signals.Version.{Version}
 use Rattle.vme_model.specs.Text.{TextFault, no_header, too_long, cut_off, Reading, begin_line, split_lines, is_too_long, next_number, before_others, read_lines, behind_header, read_from_header, version_of, edge_of}
-use Rattle.vme_trace.specs.Reading.{rest_of}
-use Rattle.vme_trace.specs.Taking.{IsOneLine, IsPart, place}
+use Rattle.vme_trace.specs.Reading.{IsOneLine, IsPart, rest_of}
+use Rattle.vme_trace.specs.Taking.{place}
 
 pub IsOneLine-append : (a b : List ℕ) → IsOneLine a → IsOneLine b → IsOneLine (a ++ b)
 IsOneLine-append [] b p q = q
@@ -107,7 +107,7 @@ end_none : (n : ℕ) → rest_of None (place n []) [] ≡ faulty None no_header
 unfolding split_lines
 end_none n = refl
 
-end_whole : (v : Version) (n : ℕ) → rest_of (Some v) (place n []) [] ≡ record { version = Some v; edges = []; fault = None }
+pub end_whole : (v : Version) (n : ℕ) → rest_of (Some v) (place n []) [] ≡ record { version = Some v; edges = []; fault = None }
 unfolding split_lines read_lines
 end_whole v n = refl
 

@@ -10,7 +10,7 @@ use Rattle.vme_model.specs.declared.signals.Edge.{Edge}
 use Rattle.vme_model.specs.Signals.{is_well_formed}
 use Rattle.vme_model.specs.Text.{spelling, Spells, all_edges, edge_of}
 use Rattle.vme_trace.specs.Fronts.{First, IsFrontLine}
-use Rattle.vme_trace.specs.Taking.{IsOneLine}
+use Rattle.vme_trace.specs.Reading.{IsOneLine}
 use Rattle.vme_trace.proofs.Edges.{in_all, find_in, find_none, every_edge, formed}
 use Rattle.vme_trace.proofs.Lines.{true_false, no_bytes}
 use Rattle.vme_trace.proofs.Firsts.{first_edge, front_found}

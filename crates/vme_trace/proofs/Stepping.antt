@@ -5,8 +5,8 @@ use Rattle.vme_model.specs.declared.signals.Edge.{Edge}
 use Rattle.vme_model.specs.Text.{TextFault, no_header, no_edge, too_long, Reading, split_lines, next_number, read_lines, version_of, edge_of}
 use Rattle.vme_trace.specs.declared.Fault.{Fault}
 use Rattle.vme_trace.specs.declared.Fault.TheVariants.{Header, Line, TooLong, Memory}
-use Rattle.vme_trace.specs.Reading.{Place, fault_of, rest_of, with_edges, HasFault}
-use Rattle.vme_trace.specs.Taking.{IsOneLine, place, Leads, Fails}
+use Rattle.vme_trace.specs.Reading.{IsOneLine, Place, fault_of, rest_of, with_edges, HasFault}
+use Rattle.vme_trace.specs.Taking.{place, Leads, Fails}
 use Rattle.vme_trace.proofs.Lines.{faulty, whole_line, long_front, rest_part}
 
 pub on_ok_map : {A E : Type 0} (r : Result A E) (P Q : Type 0) → (P → Q) → OnOk r P → OnOk r Q

@@ -1,5 +1,5 @@
 -- Reading a trace in pieces.
-use Rattle.std.specs.Prelude.{◌≡◌, ◌≢◌, ◌⊎◌, ◌<◌, ◌≤◌, ℕ, Bool, true, false, List, [], ◌++◌, length, take, Option, Some, None, option_map, unwrap_or, Result, Ok, Err}
+use Rattle.std.specs.Prelude.{◌≡◌, ◌≢◌, ◌⊎◌, ◌<◌, ◌≤◌, ℕ, Bool, true, false, List, [], ◌∷◌, ◌++◌, length, take, Option, Some, None, option_map, unwrap_or, Result, Ok, Err}
 use Rattle.std.specs.Io.KnownBytes.{Consumes, IsAtEnd, Keeps}
 use Rattle.vme_model.specs.declared.signals.Version.{Version}
 use Rattle.vme_model.specs.declared.signals.Edge.{Edge}
@@ -12,6 +12,16 @@ fault_of no_header = Header
 fault_of (no_edge n) = Line n
 fault_of (too_long n) = TooLong n
 fault_of cut_off = CutOff
+
+-- no byte is a line feed
+abbrev pub IsOneLine : List ℕ → Type 0
+IsOneLine [] = Unit {0}
+IsOneLine (b ∷ bs) = (b ≢ 10) × IsOneLine bs
+
+-- the bytes of a line that is not complete, and not too long so far
+pub record IsPart (part : List ℕ) : Type 0 where
+  pub one_line : IsOneLine part
+  pub short : length part ≤ 64
 
 -- the number of the line that is not complete yet, and its bytes so far
 pub record Place : Type 0 where
@@ -34,10 +44,11 @@ abbrev pub with_edges : List Edge → Reading → Reading
 with_edges es r = record { version = r.version; edges = es ++ r.edges; fault = r.fault }
 
 -- The reader has read these bytes, and its version and these edges are theirs: whatever bytes follow, from where it
--- stands they say what is left of the whole.
+-- stands they say what is left of the whole. It keeps no more than a part of one line, so that no fault stands in the bytes.
 pub record HasRead (reader : State) (bytes : List ℕ) (es : List Edge) : Type 0 where
   pub place : Place
   pub stands : reader.place ≡ Some place
+  pub part : IsPart place.part
   pub version : (read_of bytes).version ≡ reader.version
   pub edges : (read_of bytes).edges ≡ es
   pub others : (more : List ℕ) → read_of (bytes ++ more) ≡ with_edges es (rest_of reader.version place more)

@@ -1,19 +1,9 @@
 -- What a step of a reader does, between two places in a trace.
-use Rattle.std.specs.Prelude.{◌≡◌, ◌≢◌, ◌≤◌, ℕ, List, [], ◌∷◌, ◌++◌, length, Option}
+use Rattle.std.specs.Prelude.{◌≡◌, ℕ, List, ◌++◌, Option}
 use Rattle.vme_model.specs.declared.signals.Version.{Version}
 use Rattle.vme_model.specs.declared.signals.Edge.{Edge}
 use Rattle.vme_trace.specs.declared.Fault.{Fault}
 use Rattle.vme_trace.specs.Reading.{Place, rest_of, with_edges, HasFault}
-
--- no byte is a line feed
-abbrev pub IsOneLine : List ℕ → Type 0
-IsOneLine [] = Unit {0}
-IsOneLine (b ∷ bs) = (b ≢ 10) × IsOneLine bs
-
--- the bytes of a line that is not complete
-pub record IsPart (part : List ℕ) : Type 0 where
-  pub one_line : IsOneLine part
-  pub short : length part ≤ 64
 
 abbrev pub place : ℕ → List ℕ → Place
 place n part = record { line = n; part = part }

@@ -1,7 +1,10 @@
 //! What the definitions of a trace's text say together.
-ghost use Rattle.std.specs.Prelude.{◌≡◌, ◌↔◌, ℕ, List, Some};
+ghost use Rattle.std.specs.Prelude.{◌≡◌, ◌↔◌, ℕ, List, Some, All, IsTrue};
+ghost use Rattle.vme_model.specs.declared.signals.Version.{Version};
 ghost use Rattle.vme_model.specs.declared.signals.Edge.{Edge};
-ghost use Rattle.vme_model.specs.Text.{edge_of, Spells};
+ghost use Rattle.vme_model.specs.Signals.{is_well_formed};
+ghost use Rattle.vme_model.specs.Text.{edge_of, Spells, text, read_of};
+ghost use Rattle.vme_trace.specs.Texts.{whole};
 
 /// A line is read as an edge exactly where it spells that edge.
 pub fn line_reads_as_spelled()
@@ -16,4 +19,9 @@ pub fn line_spells_one_edge()
 /// Each edge has one spelling.
 pub fn edge_has_one_spelling()
     ensures { (a b : List ℕ) (e : Edge) → Spells a e → Spells b e → a ≡ b }
+{}
+
+/// The text of edges, as `write` writes it, reads as those edges in that version, without a fault.
+pub fn text_reads_as_written()
+    ensures { (version : Version) (es : List Edge) → All (λ e. IsTrue (is_well_formed e)) es → read_of (text version es) ≡ whole version es }
 {}

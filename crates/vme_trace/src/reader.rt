@@ -3,8 +3,8 @@ ghost use Rattle.std.specs.Prelude.{◌≡◌, ◌≢◌, ◌↔◌, IsTrue, ◌
 ghost use Rattle.vme_model.specs.declared.signals.Edge.{Edge};
 ghost use Rattle.vme_model.specs.declared.signals.Version.{Version};
 ghost use Rattle.vme_model.specs.Text.{read_of, next_number};
-ghost use Rattle.vme_trace.specs.Reading.{HasRead, Fed, answer_of, fault_of};
-ghost use Rattle.vme_trace.specs.Taking.{IsOneLine, IsPart, Leads, Fails, place};
+ghost use Rattle.vme_trace.specs.Reading.{IsOneLine, IsPart, HasRead, Fed, answer_of, fault_of};
+ghost use Rattle.vme_trace.specs.Taking.{Leads, Fails, place};
 
 use crate::Fault;
 use crate::front::{edge_at, edge_of};
@@ -15,6 +15,9 @@ use std::alloc::Allocator;
 use std::marker::Model;
 use vme_model::{Edge, Version};
 
+/// Room for a part of a line: as many bytes as a line may have.
+const PART: usize = 64;
+
 /// Reads a trace that comes in pieces, cut anywhere.
 ///
 /// It keeps at most one unfinished line. After a fault or the end it is used up: each call answers `Fault::Failed`.
@@ -22,14 +25,14 @@ use vme_model::{Edge, Version};
 pub struct Reader {
     version: Option<Version>,
     line: u64,
-    part: ArrayVec<u8, 64>,
+    part: ArrayVec<u8, PART>,
     used_up: bool,
 }
 
 impl Model for Reader {
     ghost use Rattle.std.specs.Prelude.{Some, None, if◌then◌else◌};
-    ghost use Rattle.vme_trace.specs.Reading.{State};
-    ghost use Rattle.vme_trace.specs.Taking.{IsPart, place};
+    ghost use Rattle.vme_trace.specs.Reading.{IsPart, State};
+    ghost use Rattle.vme_trace.specs.Taking.{place};
 
     ghost Value = { State };
 
@@ -197,7 +200,7 @@ fn take_line<A: Allocator>(
 fn take_joined<A: Allocator>(
     version: &mut Option<Version>,
     n: &mut u64,
-    part: &mut ArrayVec<u8, 64>,
+    part: &mut ArrayVec<u8, PART>,
     tail: &[u8],
     edges: &mut Vec<Edge, A>,
 ) -> Result<(), Fault>
@@ -222,7 +225,7 @@ fn take_joined<A: Allocator>(
 fn take_front<'a, A: Allocator>(
     version: &mut Option<Version>,
     n: &mut u64,
-    part: &mut ArrayVec<u8, 64>,
+    part: &mut ArrayVec<u8, PART>,
     piece: &'a [u8],
     edges: &mut Vec<Edge, A>,
 ) -> Result<&'a [u8], Fault>
@@ -273,7 +276,7 @@ fn take_edges<'a, A: Allocator>(
 fn take<A: Allocator>(
     version: &mut Option<Version>,
     n: &mut u64,
-    part: &mut ArrayVec<u8, 64>,
+    part: &mut ArrayVec<u8, PART>,
     piece: &[u8],
     edges: &mut Vec<Edge, A>,
 ) -> Result<(), Fault>

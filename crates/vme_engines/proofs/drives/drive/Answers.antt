@@ -1,4 +1,4 @@
-use Rattle.std.proofs.Common.{◌==◌, ◌∙◌, ap, if◌then◌else◌}
+use Rattle.std.proofs.Common.{◌==◌, ◌∙◌, ap, arith, if◌then◌else◌}
 use Rattle.vme_model.specs.Verdict.{State}
 use Rattle.vme_model.specs.Offers.{rounds}
 use Rattle.vme_engines.specs.declared.Status.TheVariants.{Done, Limit}
@@ -11,7 +11,8 @@ returns-in-Ok-clause-outcome g c = (
   c.in_ok-plan.ensures.ok.0,
   c.in_ok-plan.ensures.ok.1,
   drives_done c.in_ok-plan.plan c.args.version c.args.edges c.take_rounds.new.backplane
-      (c.take_rounds.ensures ∙ ap (λ (b : State). rounds b c.args.edges) (rw c.in_ok-room.ensures.ok at c.new-backplane.ensures)) _ _ _ c.in-Ok.ensures.ok c.laws.ensures.legal
+      (c.take_rounds.ensures ∙ ap (λ (b : State). rounds b c.args.edges) (rw c.in_ok-room.ensures.ok at c.new-backplane.ensures)) _ _ _ c.in-Ok.ensures.ok c.laws.ensures.legal c.laws.ensures.accepted
+      (omega (arith, c.laws.ensures.fits, c.laws.ensures.bounded))
       (c.status_of.ensures ∙ ap (λ n. if n == c.args.edges then Limit else Done) c.len.ensures),
 )
 

@@ -1,7 +1,8 @@
-use Rattle.std.proofs.Common.{◌≡◌, ◌-◌, ◌+◌, ℕ, [], arith, subst}
+use Rattle.std.proofs.Common.{◌≡◌, ◌-◌, ◌+◌, ℕ, [], None, Some, inl, refl, sym, ◌∙◌, arith, subst}
 use Rattle.vme_engines.proofs.Replaying.{IsReading, came, opens_more}
 use Rattle.std.proofs.KnownBytes.{Consumes-nil}
 use Rattle.vme_engines.proofs.Known.{none_known}
+use Rattle.vme_engines.proofs.Going.{can_go_on}
 use Rattle.vme_engines.proofs.traces.open.Goals as goal
 
 pub returns-then-is_settled : goal.returns-then-is_settled
@@ -24,6 +25,26 @@ reads-preserved g c =
       version = goes.1;
       empty = on.1;
     }
+
+pub returns : goal.returns
+returns g c =
+    let r = c.reads.invariant.reading in
+    let unknown = c.reads.invariant.version in (
+      (
+        r.later,
+        r.taken,
+        inl (
+          refl,
+          record {
+            version = sym r.read.version;
+            edges = r.read.edges ∙ sym c.reads.invariant.empty;
+            goes_on = can_go_on _ r.later [] r.read;
+            begins = λ v known. absurd (let no : None ≡ Some v = sym unknown ∙ known in cc);
+          },
+        ),
+      ),
+      λ e. cc,
+    )
 
 pub reads-init : goal.reads-init
 reads-init g c = record {

@@ -3,4 +3,4 @@ use Rattle.vme_jobs.proofs.jobs.run_check.Goals as goal
 
 pub returns-clause-done : goal.returns-clause-done
 returns-clause-done g c =
-    rw c.told.ensures (check_done c.args.scenario c.args.trace _ _ _ (g.W.Write.contents c.args.out.now) (g.W.Write.contents c.check.new.out) c.check.result c.check.ensures.outcome)
+    rw c.told.ensures (check_done c.args.scenario c.args.trace _ _ _ (g.W.Write.contents c.args.out.now) (g.W.Write.contents c.check.new.out) c.check.result c.check.ensures)

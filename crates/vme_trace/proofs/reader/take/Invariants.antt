@@ -1,5 +1,6 @@
 use Rattle.std.proofs.Common.{length}
-use Rattle.vme_trace.specs.Taking.{IsPart, place}
+use Rattle.vme_trace.specs.Reading.{IsPart}
+use Rattle.vme_trace.specs.Taking.{place}
 use Rattle.vme_trace.proofs.Stepping.{Taken}
 use Rattle.vme_trace.proofs.reader.take.Given as goal
 
