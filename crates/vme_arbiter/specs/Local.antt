@@ -1,6 +1,8 @@
 -- A controller's local state, and what its rules read. A list of noted edges has its newest edge first.
-use Rattle.std.specs.Prelude.{◌==◌, if◌then◌else◌, ℕ, Bool, false, List}
+use Rattle.std.specs.Prelude.{◌≡◌, ◌==◌, if◌then◌else◌, ℕ, Bool, true, false, Option, List}
+use Rattle.std.specs.Option.{option_map_or}
 use Rattle.vme_model.specs.declared.boards.ArbiterKind.{ArbiterKind}
+use Rattle.vme_model.specs.declared.boards.ArbiterKind.TheVariants.{Pri}
 use Rattle.vme_model.specs.declared.pins.Pins.{Pins}
 use Rattle.vme_model.specs.declared.signals.Version.{Version}
 use Rattle.vme_model.specs.declared.signals.Driver.TheVariants.{Controller}
@@ -8,6 +10,7 @@ use Rattle.vme_model.specs.declared.signals.Wire.{Wire}
 use Rattle.vme_model.specs.declared.signals.Wire.TheVariants.{Bg, Bclr, Iack, Berr}
 use Rattle.vme_model.specs.declared.signals.Edge.{Edge}
 use Rattle.vme_model.specs.Signals.{has_wire}
+use Rattle.vme_model.specs.Sets.{has_bus_level}
 use Rattle.vme_model.specs.History.{drive, last_level}
 use Rattle.vme_model.specs.Readings.{Readings, readings_of_pins}
 
@@ -66,3 +69,19 @@ local c pins = readings c.kind (low c) c.last_level pins
 -- what its rules read, over the edges that were noted
 abbrev pub over : ArbiterKind → List Edge → Pins → Readings
 over kind noted pins = readings kind (drive noted Controller) (last_level noted) pins
+
+-- the same with a policy's own pick in the place of its kind's: priority picks it where nothing else is requested
+abbrev pub over_pick : Option ℕ → List Edge → Pins → Readings
+over_pick picked noted pins = record (over Pri noted pins) { request = λ n. option_map_or (λ m. m == n) picked false }
+
+-- readings that say what a controller is told, whatever they say of all else
+pub record SayWhatIsTold (kind : ArbiterKind) (own : Wire → Bool) (last_level : ℕ) (pins : Pins) (r : Readings) : Type 0 where
+  pub own_wires : (w : Wire) → is_own w ≡ true → r.own w ≡ own w
+  pub arbiter : r.arbiter ≡ kind
+  pub last : r.last_level ≡ last_level
+  pub requests : (n : ℕ) → r.request n ≡ has_bus_level pins.requests n
+  pub bbsy : r.bbsy ≡ pins.bbsy
+  pub address_strobe : r.address_strobe ≡ pins.address_strobe
+  pub data_strobe : r.data_strobe ≡ pins.data_strobe
+  pub dtack : r.dtack ≡ pins.dtack
+  pub shown : r.shown ≡ pins.shown

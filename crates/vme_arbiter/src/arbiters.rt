@@ -1,5 +1,5 @@
 //! The controller of slot 1: arbiter, daisy-chain driver and bus timer.
-ghost use Rattle.std.specs.Prelude.{◌≡◌, ◌==◌, ◌&&◌, ℕ, true, false, Some, is_ok, nat_lt, [], ◌∷◌, List};
+ghost use Rattle.std.specs.Prelude.{◌≡◌, ◌==◌, ◌&&◌, ℕ, Bool, true, false, Some, is_ok, nat_lt, [], ◌∷◌, List};
 ghost use Rattle.std.specs.List.{list_any};
 ghost use Rattle.std.specs.Option.{option_map_or};
 ghost use Rattle.vme_model.specs.declared.boards.ArbiterKind.{ArbiterKind as KindValue};
@@ -12,7 +12,7 @@ ghost use Rattle.vme_model.specs.Sets.{has_bus_level};
 ghost use Rattle.vme_model.specs.History.{last_level};
 ghost use Rattle.vme_model.specs.Rules.{bus_numbers, pick, is_pick, are_grants_high, is_bus_clear_due, rule};
 ghost use Rattle.vme_model.specs.Verdict.{ruling};
-ghost use Rattle.vme_arbiter.specs.Local.{state_of, is_own, low, local, over};
+ghost use Rattle.vme_arbiter.specs.Local.{state_of, is_own, low, local, over, over_pick};
 
 use crate::policies::Policy;
 use std::marker::Model;
@@ -112,6 +112,7 @@ impl Controller {
     fn rule(&self, edge: Edge, pins: Pins, is_picked: bool) -> (u8, bool)
         ensures picked { is_grant edge ≡ true → result.1 ≡ true → is_picked ≡ true }
         ensures rows { is_own edge.wire ≡ true → (is_grant edge ≡ true → is_picked ≡ is_pick self.now.kind (has_bus_level pins.requests) self.now.last_level (grant_level edge.wire)) → result ≡ rule self.now.version (local self.now pins) edge.wire edge.fall edge.value }
+        ensures grants { (kind : KindValue) (request : ℕ → Bool) → is_own edge.wire ≡ true → is_grant edge ≡ true → is_picked ≡ is_pick kind request self.now.last_level (grant_level edge.wire) → result ≡ rule self.now.version (record (local self.now pins) { request = request; arbiter = kind }) edge.wire edge.fall edge.value }
     {
         match (edge.wire, edge.fall) {
             (Wire::Bg(_), true) => (1, self.are_grants_high(pins) && !pins.bbsy && is_picked),
@@ -135,6 +136,7 @@ impl Controller {
     fn judge(&self, edge: Edge, pins: Pins, is_picked: bool) -> Result<(), Refused>
         ensures picked { is_grant edge ≡ true → is_ok result ≡ true → is_picked ≡ true }
         ensures rows { is_own edge.wire ≡ true → (is_grant edge ≡ true → is_picked ≡ is_pick self.now.kind (has_bus_level pins.requests) self.now.last_level (grant_level edge.wire)) → result ≡ ruling self.now.version (local self.now pins) edge }
+        ensures grants { (kind : KindValue) (request : ℕ → Bool) → is_own edge.wire ≡ true → is_grant edge ≡ true → is_picked ≡ is_pick kind request self.now.last_level (grant_level edge.wire) → result ≡ ruling self.now.version (record (local self.now pins) { request = request; arbiter = kind }) edge }
     {
         if self.is_low(edge.wire) == edge.fall {
             return Err(Refused::AlreadyThere);
@@ -233,8 +235,8 @@ impl<P: Policy> Arbiter<P> {
     /// Whether the rules G1 to G8 allow an edge of the controller's wires. The settling rules S2 to S4, which look at
     /// boards, are not its to see. It is told its pins.
     ///
-    /// Whatever the policy, a grant is of the level that it picks. Where its pick is that of the arbiter's kind, the
-    /// answer is the table's.
+    /// Whatever the policy, a grant is of the level that it picks, and the answer to a grant is the table's with the
+    /// policy's pick in the place of its kind's. Where the two picks are the same, each answer is the table's.
     ///
     /// # Errors
     /// E2 where the wire is in that state, else E3 where the rule's guard fails.
@@ -242,6 +244,7 @@ impl<P: Policy> Arbiter<P> {
     pub fn may(&self, edge: Edge, pins: Pins) -> Result<(), Refused>
         ensures picked { is_grant edge ≡ true → is_ok result ≡ true → P.picked self.now.0 pins.requests self.now.1.last_level ≡ Some (grant_level edge.wire) }
         ensures rows { (kind : KindValue) (version : VersionValue) (noted : List EdgeValue) → self.now.1 ≡ state_of kind version noted → is_own edge.wire ≡ true → (is_grant edge ≡ true → P.picked self.now.0 pins.requests (last_level noted) ≡ pick kind (has_bus_level pins.requests) (last_level noted)) → result ≡ ruling version (over kind noted pins) edge }
+        ensures grants { (kind : KindValue) (version : VersionValue) (noted : List EdgeValue) → self.now.1 ≡ state_of kind version noted → is_own edge.wire ≡ true → is_grant edge ≡ true → result ≡ ruling version (over_pick (P.picked self.now.0 pins.requests (last_level noted)) noted pins) edge }
     {
         let is_picked = self.picks(edge, pins.requests);
         self.controller.judge(edge, pins, is_picked)

@@ -33,7 +33,7 @@ pub struct Region {
     granules: Granules,
     deed: Deed<Global>,
     alloc: Global,
-    ghost counted: { (granules.count ≡ count) × (granules.blank ≡ 0) × (0 < count) × (size ≤ count * 16) },
+    ghost counted: { (granules.count ≡ count) × (granules.blank ≡ 0) × (0 < count) × (size ≤ count * 16) × (count * 16 ≤ size + 16) },
     ghost roomy: { (room ≡ count * 16 + rounded count) × (room < 2 ^ 63) },
     ghost placed: { (granules.spot.at ≡ 0) × (granules.spot.tag ≡ count * 16) },
     ghost owned: { (deed.alloc ≡ alloc) × (deed.ptr ≡ block_ptr granules.spot.block 0) × (deed.size ≡ room) },

@@ -1,6 +1,6 @@
 -- An interrupter's local state, and what its rules read. A list of noted edges has its newest edge first.
-use Rattle.std.specs.Prelude.{◌&&◌, ◌||◌, if◌then◌else◌, ℕ, Bool, true, false, Option, Some, None, List, [], ◌∷◌, map}
-use Rattle.std.specs.Option.{option_map_or}
+use Rattle.std.specs.Prelude.{◌≡◌, ◌==◌, ◌&&◌, ◌||◌, if◌then◌else◌, ℕ, Bool, true, false, Option, Some, None, List, [], ◌∷◌, map}
+use Rattle.std.specs.Option.{option_map_or, option_and_then}
 use Rattle.vme_model.specs.declared.boards.InterrupterRow.{InterrupterRow}
 use Rattle.vme_model.specs.declared.pins.Pins.{Pins}
 use Rattle.vme_model.specs.declared.signals.Driver.{Driver}
@@ -82,6 +82,17 @@ local i pins = readings i.slot i.row (low i) i.is_served pins
 -- what its rules read, over the edges that were noted
 abbrev pub over : ℕ → Option InterrupterRow → List Noted → Pins → Readings
 over s row noted pins = readings s row (drive (edges noted) (Slot s)) (served noted (Slot s) row) pins
+
+-- readings that say what an interrupter is told, whatever they say of all else
+pub record SayWhatIsTold (s : ℕ) (row : Option InterrupterRow) (own : Wire → Bool) (is_served : Bool) (pins : Pins) (r : Readings) : Type 0 where
+  pub own_wires : (w : Wire) → is_own w ≡ true → r.own w ≡ own w
+  pub served : r.served_since_request ≡ is_served
+  pub address_strobe : r.address_strobe ≡ pins.address_strobe
+  pub data_strobe : r.data_strobe ≡ pins.data_strobe
+  pub shown : r.shown ≡ pins.shown
+  pub iack_in : r.iack_in ≡ pins.iack_in
+  pub slot : (t : ℕ) → option_map_or (λ b. b.slot == t) r.board false ≡ (s == t)
+  pub interrupter : option_and_then (λ b. b.interrupter) r.board ≡ row
 
 -- a history as an interrupter notes it that is handed each edge
 abbrev pub seen : Plan → List Edge → List Noted

@@ -1,17 +1,21 @@
-//! What an interrupter notes, beside the history of its backplane.
-ghost use Rattle.std.specs.Prelude.{◌≡◌, ℕ, true, false, Option, List, ◌∷◌};
+//! What an interrupter notes, beside the history of its backplane, and what its rules read.
+ghost use Rattle.std.specs.Prelude.{◌≡◌, ℕ, Bool, true, false, Option, List, ◌∷◌};
 ghost use Rattle.vme_model.specs.declared.boards.InterrupterRow.{InterrupterRow};
 ghost use Rattle.vme_model.specs.declared.boards.Row.{Row};
+ghost use Rattle.vme_model.specs.declared.pins.Pins.{Pins};
 ghost use Rattle.vme_model.specs.declared.signals.Cycle.{Cycle};
+ghost use Rattle.vme_model.specs.declared.signals.Version.{Version};
+ghost use Rattle.vme_model.specs.declared.signals.Wire.{Wire};
 ghost use Rattle.vme_model.specs.declared.signals.Driver.{Driver};
 ghost use Rattle.vme_model.specs.declared.signals.Driver.TheVariants.{Slot};
 ghost use Rattle.vme_model.specs.declared.signals.Wire.TheVariants.{Dtack};
 ghost use Rattle.vme_model.specs.declared.signals.Edge.{Edge};
 ghost use Rattle.vme_model.specs.Signals.{is_fall_of};
 ghost use Rattle.vme_model.specs.Plan.{Plan, board_of};
-ghost use Rattle.vme_model.specs.Readings.{is_served};
+ghost use Rattle.vme_model.specs.Readings.{Readings, is_served};
+ghost use Rattle.vme_model.specs.Verdict.{ruling_on};
 ghost use Rattle.std.specs.Prelude.{Some};
-ghost use Rattle.vme_interrupter.specs.Local.{Noted, edges, served, state_of, seen};
+ghost use Rattle.vme_interrupter.specs.Local.{Noted, edges, served, state_of, seen, is_own, readings, SayWhatIsTold};
 
 /// Noted as they are made, the edges are the history.
 pub fn notes_history()
@@ -26,4 +30,10 @@ pub fn notes_service()
 /// What is shown counts at the board's own `dtack-` alone.
 pub fn reads_shown_at_answers()
     ensures { (s : ℕ) (row : Option InterrupterRow) (e : Edge) (one other : Option Cycle) (noted : List Noted) → is_fall_of (Slot s) Dtack e ≡ false → state_of s row ((e, one) ∷ noted) ≡ state_of s row ((e, other) ∷ noted) }
+{}
+
+/// Whatever readings say what an interrupter is told have the same answer: its rules read its own wires, whether it was
+/// served, AS*, DS0*, what is shown, its iackin, its slot and its row, and nothing else.
+pub fn reads_what_it_is_told()
+    ensures { (version : Version) (s : ℕ) (row : Option InterrupterRow) (own : Wire → Bool) (is_served : Bool) (pins : Pins) (r : Readings) (w : Wire) (fall : Bool) (value : Option Cycle) → SayWhatIsTold s row own is_served pins r → is_own w ≡ true → ruling_on version (readings s row own is_served pins) w fall value ≡ ruling_on version r w fall value }
 {}

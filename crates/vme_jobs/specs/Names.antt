@@ -27,13 +27,6 @@ IsFileOf (Check scenario trace) name = (name ≡ scenario.now) ⊎ (name ≡ tra
 IsFileOf (Drive scenario edges version) name = name ≡ scenario.now
 IsFileOf (Run scenario edges turns version) name = name ≡ scenario.now
 
--- a fault that names no file but one of this name
-abbrev pub NamesOnly : List ℕ → ProgramFault → Type 0
-NamesOnly name (CannotRead other) = other.now ≡ name
-NamesOnly name (TooLong other) = other.now ≡ name
-NamesOnly name (Engine fault) = Unit {0}
-NamesOnly name (Boards fault) = Unit {0}
-
 -- an engine's fault, where the scenario has this name
 abbrev pub told_fault : Bor (List ℕ) → EngineFault → ProgramFault
 told_fault name fault.CannotRead = CannotRead name

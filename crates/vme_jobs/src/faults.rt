@@ -2,8 +2,6 @@
 ghost use Rattle.std.specs.Prelude.{◌≡◌, ◌≢◌};
 ghost use Rattle.std.specs.IoError.{error_kind};
 ghost use Rattle.std.specs.Process.{exit_status};
-ghost use Rattle.vme_engines.specs.declared.EngineFault.{EngineFault as EngineFaultValue};
-ghost use Rattle.vme_jobs.specs.Names.{NamesOnly};
 
 use std::fmt;
 use std::io::{self, ErrorKind};
@@ -51,20 +49,6 @@ impl<'a> ProgramFault<'a> {
             EngineFault::CannotRead => ProgramFault::CannotRead(name),
             EngineFault::TooLong => ProgramFault::TooLong(name),
             other => ProgramFault::Engine(other),
-        }
-    }
-
-    /// A fault of a run, where the scenario has this name.
-    pub fn of_run(name: &'a str, fault: RunFault) -> Self
-        ensures unreadable { fault ≡ RunFault.Engine EngineFault.CannotRead → result ≡ ProgramFault.CannotRead name.entry }
-        ensures long { fault ≡ RunFault.Engine EngineFault.TooLong → result ≡ ProgramFault.TooLong name.entry }
-        ensures engine { (f : EngineFaultValue) → fault ≡ RunFault.Engine f → f ≢ EngineFault.CannotRead → f ≢ EngineFault.TooLong → result ≡ ProgramFault.Engine f }
-        ensures boards { ((f : EngineFaultValue) → fault ≢ RunFault.Engine f) → result ≡ ProgramFault.Boards fault }
-        ensures names { NamesOnly name.entry.now result }
-    {
-        match fault {
-            RunFault::Engine(fault) => ProgramFault::of_engine(name, fault),
-            other => ProgramFault::Boards(other),
         }
     }
 }

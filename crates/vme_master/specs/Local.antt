@@ -1,5 +1,6 @@
 -- A master's local state, and what its rules read. A list of noted edges has its newest edge first.
-use Rattle.std.specs.Prelude.{ℕ, Bool, true, false, Some, None, List, min}
+use Rattle.std.specs.Prelude.{◌≡◌, ℕ, Bool, true, false, Some, None, List, min}
+use Rattle.std.specs.Option.{option_map_or, option_and_then}
 use Rattle.vme_model.specs.declared.boards.RequesterRow.{RequesterRow}
 use Rattle.vme_model.specs.declared.boards.Release.{Release}
 use Rattle.vme_model.specs.declared.boards.Release.TheVariants.{Done, Request}
@@ -8,8 +9,8 @@ use Rattle.vme_model.specs.declared.sets.Levels.{Levels}
 use Rattle.vme_model.specs.declared.signals.Driver.TheVariants.{Slot}
 use Rattle.vme_model.specs.declared.signals.Wire.{Wire}
 use Rattle.vme_model.specs.declared.signals.Wire.TheVariants.{Bbsy, Addr, AddressStrobe, DataStrobe}
-use Rattle.vme_model.specs.declared.signals.Cycle.{Cycle}
 use Rattle.vme_model.specs.declared.signals.Edge.{Edge}
+use Rattle.vme_model.specs.Sets.{has_level}
 use Rattle.vme_model.specs.History.{drive, cycles, has_strobed}
 use Rattle.vme_model.specs.Readings.{Readings, readings_of_pins}
 
@@ -80,3 +81,16 @@ local m pins holds_bus = readings m.slot m.row m.handler (low m) m.cycles m.has_
 abbrev pub over : ℕ → RequesterRow → Levels → List Edge → Pins → Bool → Readings
 over s row handler noted pins holds_bus =
     readings s row handler (drive noted (Slot s)) (cycles noted (Slot s)) (has_strobed noted (Slot s)) pins holds_bus
+
+-- readings that say what a master is told, whatever they say of all else
+pub record SayWhatIsTold (row : RequesterRow) (handler : Levels) (own : Wire → Bool) (cycles : ℕ) (has_strobed : Bool) (pins : Pins) (holds_bus : Bool) (r : Readings) : Type 0 where
+  pub own_wires : (w : Wire) → is_own w ≡ true → r.own w ≡ own w
+  pub bbsy : r.own Bbsy ≡ holds_bus
+  pub tenure : r.cycles ≡ cycles
+  pub strobed : r.has_strobed ≡ has_strobed
+  pub irq : (level : ℕ) → r.irq level ≡ has_level pins.irq level
+  pub address_strobe : r.address_strobe ≡ pins.address_strobe
+  pub dtack : r.dtack ≡ pins.dtack
+  pub berr : r.berr ≡ pins.berr
+  pub requester : option_and_then (λ b. b.requester) r.board ≡ Some row
+  pub handles : (level : ℕ) → option_map_or (λ b. has_level b.handler level) r.board false ≡ has_level handler level

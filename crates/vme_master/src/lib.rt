@@ -1,6 +1,7 @@
 //! A board's bus master: it shows an address, strobes it and the data, and ends its cycle.
 #![tactic(auto)]
 
+pub mod laws;
 mod masters;
 
 pub use masters::Master;

@@ -1,6 +1,6 @@
 //! What stands in the slots of a backplane.
 ghost use Rattle.std.specs.Prelude.{◌≡◌};
-ghost use Rattle.vme_model.specs.Plan.{requests_on, interrupts_on, works, drives};
+ghost use Rattle.vme_model.specs.Plan.{requests_on, works, drives};
 
 use crate::sets::{ChainId, Chains, Levels};
 use crate::signals::Wire;
@@ -76,13 +76,6 @@ impl Row {
         ensures { result ≡ requests_on level self.now }
     {
         matches!(self.requester, Some(requester) if requester.level == level)
-    }
-
-    /// Whether the board has an interrupter on that level.
-    pub fn interrupts_on(&self, level: u8) -> bool
-        ensures { result ≡ interrupts_on level self.now }
-    {
-        matches!(self.interrupter, Some(interrupter) if interrupter.level == level)
     }
 
     /// Whether the board works the chain: it passes it on by an edge of its own.

@@ -1,9 +1,8 @@
 //! Daisy chains, and sets of levels and chains with one bit each.
 ghost use Rattle.std.specs.Prelude.{◌≡◌, ◌-◌, ◌^◌, ◌≤◌, ⊤, [], ◌∷◌, false, codes, slice_index_or, if◌then◌else◌, Some};
-ghost use Rattle.vme_model.specs.Plan.{grant_chain, head_wire, out_wire};
+ghost use Rattle.vme_model.specs.Plan.{grant_chain};
 ghost use Rattle.vme_model.specs.Sets.{has_level, has_bus_level, has_chain, with_level, with_chain, irq_levels, bus_levels, chain_bit, chain_name};
 
-use crate::signals::Wire;
 use bitflags::{Flag, Flags};
 use std::fmt;
 
@@ -41,29 +40,6 @@ impl ChainId {
             1 => ChainId::Bg1,
             2 => ChainId::Bg2,
             _ => ChainId::Bg3,
-        }
-    }
-
-    /// The controller's wire at the head of the chain.
-    pub fn head_wire(self) -> Wire
-        ensures { result ≡ head_wire self }
-    {
-        match self {
-            ChainId::Bg0 => Wire::Bg(0),
-            ChainId::Bg1 => Wire::Bg(1),
-            ChainId::Bg2 => Wire::Bg(2),
-            ChainId::Bg3 => Wire::Bg(3),
-            ChainId::Iack => Wire::Iack,
-        }
-    }
-
-    /// The wire by which a board passes the chain on.
-    pub fn out_wire(self) -> Wire
-        ensures { result ≡ out_wire self }
-    {
-        match self {
-            ChainId::Iack => Wire::IackOut,
-            _ => Wire::BgOut,
         }
     }
 }

@@ -1,6 +1,6 @@
 //! Drivers, wires and edges.
 ghost use Rattle.std.specs.Prelude.{◌≡◌, Some};
-ghost use Rattle.vme_model.specs.Signals.{is_two, is_same_driver, is_same_wire, is_edge_of, is_fall_of, is_grant, is_grant_wire, grant_level, has_wire, is_slot, is_level, is_acknowledge, is_in_range, is_well_formed};
+ghost use Rattle.vme_model.specs.Signals.{is_two, is_same_driver, is_same_wire, is_grant, is_grant_wire, grant_level, has_wire, is_slot, is_level, is_acknowledge, is_in_range, is_well_formed};
 
 /// Which version of the rules a backplane keeps.
 ///
@@ -175,20 +175,6 @@ impl Cycle {
 }
 
 impl Edge {
-    /// Whether this is an edge of that driver's wire.
-    pub fn is_of(&self, driver: Driver, wire: Wire) -> bool
-        ensures { result ≡ is_edge_of driver wire self.now }
-    {
-        self.wire.is_same(wire) && self.driver.is_same(driver)
-    }
-
-    /// Whether this is a fall of that driver's wire.
-    pub fn is_fall_of(&self, driver: Driver, wire: Wire) -> bool
-        ensures { result ≡ is_fall_of driver wire self.now }
-    {
-        self.fall && self.is_of(driver, wire)
-    }
-
     /// Whether this is a fall of one of the controller's grants.
     pub fn is_grant(&self) -> bool
         ensures { result ≡ is_grant self.now }

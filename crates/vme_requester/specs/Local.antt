@@ -1,7 +1,8 @@
 -- A requester's local state, and what its rules read. A list of noted edges has its newest edge first.
-use Rattle.std.specs.Prelude.{ℕ, Bool, true, false, not, Some, None, List}
+use Rattle.std.specs.Prelude.{◌≡◌, ◌||◌, ℕ, Bool, true, false, not, Some, None, List}
 use Rattle.vme_model.specs.declared.boards.RequesterRow.{RequesterRow}
 use Rattle.std.specs.List.{list_any}
+use Rattle.std.specs.Option.{option_and_then}
 use Rattle.vme_model.specs.declared.boards.Release.{Release}
 use Rattle.vme_model.specs.declared.boards.Release.TheVariants.{Done, Request}
 use Rattle.vme_model.specs.declared.sets.BusLevels.{BusLevels}
@@ -10,7 +11,6 @@ use Rattle.vme_model.specs.declared.signals.Version.{Version}
 use Rattle.vme_model.specs.declared.signals.Driver.TheVariants.{Slot}
 use Rattle.vme_model.specs.declared.signals.Wire.{Wire}
 use Rattle.vme_model.specs.declared.signals.Wire.TheVariants.{Br, BgOut, Bbsy, Addr, AddressStrobe}
-use Rattle.vme_model.specs.declared.signals.Cycle.{Cycle}
 use Rattle.vme_model.specs.declared.signals.Edge.{Edge}
 use Rattle.vme_model.specs.Sets.{no_levels, has_bus_level}
 use Rattle.vme_model.specs.History.{drive}
@@ -64,6 +64,14 @@ readings s row own pins is_address_free = record (readings_of_pins pins) {
   own = told own is_address_free;
   board = Some (record { slot = s; requester = Some row; interrupter = None; handler = no_levels });
 }
+
+-- readings that say what a requester is told, whatever they say of all else
+pub record SayWhatIsTold (row : RequesterRow) (own : Wire → Bool) (pins : Pins) (is_address_free : Bool) (r : Readings) : Type 0 where
+  pub own_wires : (w : Wire) → is_own w ≡ true → r.own w ≡ own w
+  pub address_free : (not (r.own Addr) || r.own AddressStrobe) ≡ is_address_free
+  pub requests : (n : ℕ) → r.request n ≡ has_bus_level pins.requests n
+  pub grant_in : r.grant_in ≡ pins.grant_in
+  pub requester : option_and_then (λ b. b.requester) r.board ≡ Some row
 
 -- it waits for a request, where it releases on one
 abbrev pub lets_go : Release → BusLevels → Bool

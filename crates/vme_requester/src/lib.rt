@@ -1,6 +1,7 @@
 //! A board's bus requester: it asks for the bus, takes a grant or passes it on, and gives the bus up.
 #![tactic(auto)]
 
+pub mod laws;
 mod requesters;
 
 pub use requesters::Requester;

@@ -1,8 +1,10 @@
-use Rattle.std.proofs.Common.{◌≡◌, ◌∙◌, ap, sym}
+use Rattle.std.proofs.Common.{◌≡◌, ◌∙◌, ap, sym, ℕ}
+use Rattle.std.specs.Prelude.{Option}
 use Rattle.vme_model.specs.Signals.{grant_level}
 use Rattle.vme_model.specs.Sets.{has_bus_level}
 use Rattle.vme_model.specs.Rules.{is_pick}
-use Rattle.vme_arbiter.proofs.Local.{answers_over, pick_alike, pick_of, picked_level}
+use Rattle.vme_model.specs.declared.boards.ArbiterKind.TheVariants.{Pri}
+use Rattle.vme_arbiter.proofs.Local.{answers_over, grants_over, pick_alike, pick_alone, pick_of, picked_level, alone}
 use Rattle.vme_arbiter.proofs.arbiters.Arbiter.may.Goals as goal
 
 pub returns-clause-rows : goal.returns-clause-rows
@@ -19,3 +21,11 @@ pub returns-clause-picked : goal.returns-clause-picked
 returns-clause-picked g c = λ grant is.
     picked_level (g.P.Policy.picked c.args.self.now.0 c.args.pins.requests c.args.self.now.1.last_level) c.args.edge
     (c.judge.ensures.picked grant is) c.picks-is_picked.ensures grant
+
+pub returns-clause-grants : goal.returns-clause-grants
+returns-clause-grants g c = λ kind version noted same own grant.
+    let inside : c.args.self.now.1 ≡ c.self.inside.controller = cc (ap (λ v. v.1) c.self.view_is) in
+    let picked : ℕ → Option ℕ = g.P.Policy.picked c.args.self.now.0 c.args.pins.requests in
+    c.judge.ensures.grants Pri (alone (picked c.self.inside.controller.last_level)) own grant
+    (rw (← inside) (pick_alone c.args.self.now.1.last_level c.args.edge (picked c.args.self.now.1.last_level) c.picks-is_picked.ensures grant))
+    ∙ grants_over kind version noted c.self.inside.controller c.args.pins c.args.edge picked (sym inside ∙ same) own

@@ -1,0 +1,46 @@
+-- Of all that rules may read, a requester's read what it is told.
+use Rattle.std.proofs.Common.{◌≡◌, refl, sym, ap, ◌∙◌, Bool, true, false, ℕ}
+use Rattle.std.specs.Prelude.{◌||◌, not, Option, Ok}
+use Rattle.std.specs.Option.{option_map_or}
+use Rattle.vme_model.specs.declared.boards.Release.{Release}
+use Rattle.vme_model.specs.declared.boards.Release.TheVariants.{Done, Request}
+use Rattle.vme_model.specs.declared.boards.RequesterRow.{RequesterRow}
+use Rattle.vme_model.specs.declared.pins.Pins.{Pins}
+use Rattle.vme_model.specs.declared.refusals.Refused.TheVariants.{AlreadyThere, Rule}
+use Rattle.vme_model.specs.declared.signals.Version.{Version}
+use Rattle.vme_model.specs.declared.signals.Wire.{Wire}
+use Rattle.vme_model.specs.declared.signals.Wire.TheVariants.{Br, BgOut, Bbsy}
+use Rattle.vme_model.specs.declared.signals.Cycle.{Cycle}
+use Rattle.vme_model.specs.Readings.{Readings}
+use Rattle.vme_model.specs.Rules.{is_asked, may_release}
+use Rattle.vme_model.specs.Verdict.{check, is_other_state, ruling_on}
+use Rattle.vme_requester.specs.Local.{is_own, readings, SayWhatIsTold}
+
+asked_alike : (r t : Readings) (release : Release) → ((n : ℕ) → r.request n ≡ t.request n) → is_asked r release ≡ is_asked t release
+asked_alike r t (Done burst) same = refl
+asked_alike r t Request same = cc (same 0, same 1, same 2, same 3)
+
+free_again : (free : Bool) → (not (not free) || free) ≡ free
+free_again true = refl
+free_again false = refl
+
+alike : (o p b c fall : Bool) (n : ℕ) → o ≡ p → b ≡ c → check (is_other_state o fall) AlreadyThere (check b (Rule n) (Ok tt)) ≡ check (is_other_state p fall) AlreadyThere (check c (Rule n) (Ok tt))
+alike o p b c fall n e f = cc
+
+module _ (version : Version) (s : ℕ) (row : RequesterRow) (own : Wire → Bool) (pins : Pins) (free : Bool) (r : Readings) (says : SayWhatIsTold row own pins free r) where
+  abbrev t : Readings
+  t = readings s row own pins free
+
+  release_alike : may_release t ≡ may_release r
+  release_alike =
+      sym (asked_alike r t row.release says.requests)
+      ∙ ap (λ q. option_map_or (λ a. is_asked r a.release) q true) (sym says.requester)
+
+  pub reads_told : (w : Wire) (fall : Bool) (value : Option Cycle) → is_own w ≡ true → ruling_on version t w fall value ≡ ruling_on version r w fall value
+  reads_told Br true v own = alike _ _ _ _ true 9 (sym (says.own_wires Br refl)) (cc (says.own_wires Bbsy refl))
+  reads_told Br false v own = alike _ _ _ _ false 10 (sym (says.own_wires Br refl)) (cc (says.own_wires Bbsy refl))
+  reads_told BgOut true v own = alike _ _ _ _ true 11 (sym (says.own_wires BgOut refl)) (cc (says.own_wires Br refl, says.own_wires Bbsy refl, says.grant_in))
+  reads_told BgOut false v own = alike _ _ _ _ false 12 (sym (says.own_wires BgOut refl)) (cc says.grant_in)
+  reads_told Bbsy true v own = alike _ _ _ _ true 13 (sym (says.own_wires Bbsy refl)) (cc (says.own_wires BgOut refl, says.own_wires Br refl, says.grant_in))
+  reads_told Bbsy false v own = alike _ _ _ _ false 14 (sym (says.own_wires Bbsy refl)) (cc (says.own_wires Br refl, says.grant_in, free_again free, says.address_free, release_alike))
+  reads_told w fall v own = absurd (cc)
