@@ -5,6 +5,7 @@ ghost use Rattle.std.specs.Process.{exit_status};
 ghost use Rattle.vme_engines.specs.declared.EngineFault.{EngineFault as EngineFaultValue};
 ghost use Rattle.vme_jobs.specs.Names.{NamesOnly};
 
+use crate::lines::OneLine;
 use std::fmt;
 use std::io::{self, ErrorKind};
 use std::process::ExitCode;
@@ -69,10 +70,11 @@ impl<'a> ProgramFault<'a> {
     }
 }
 
-/// Writes the one line of a fault.
+/// Writes the one line of a fault: control characters in it stand as a string of TOML has them.
 pub fn tell<D: fmt::Display + Drop>(rt: &HostRuntime, fault: D) -> ExitCode
     ensures { exit_status result ≡ 1 }
 {
-    let _ = eprintln!(rt; "vmebus: {fault}");
+    let line = OneLine(fault);
+    let _ = eprintln!(rt; "vmebus: {line}");
     ExitCode::FAILURE
 }
