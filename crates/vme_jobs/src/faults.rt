@@ -3,6 +3,7 @@ ghost use Rattle.std.specs.Prelude.{◌≡◌, ◌≢◌};
 ghost use Rattle.std.specs.IoError.{error_kind};
 ghost use Rattle.std.specs.Process.{exit_status};
 
+use crate::lines::OneLine;
 use std::fmt;
 use std::io::{self, ErrorKind};
 use std::process::ExitCode;
@@ -53,10 +54,11 @@ impl<'a> ProgramFault<'a> {
     }
 }
 
-/// Writes the one line of a fault.
+/// Writes the one line of a fault: control characters in it stand as a string of TOML has them.
 pub fn tell<D: fmt::Display + Drop>(rt: &HostRuntime, fault: D) -> ExitCode
     ensures { exit_status result ≡ 1 }
 {
-    let _ = eprintln!(rt; "vmebus: {fault}");
+    let line = OneLine(fault);
+    let _ = eprintln!(rt; "vmebus: {line}");
     ExitCode::FAILURE
 }

@@ -40,6 +40,7 @@ fn told_run<'a>(name: &'a str, answer: Result<Status, RunFault>) -> Result<Statu
 }
 
 /// Replays what stands on standard input.
+#[inline(never)]
 fn run_joined<W: Write>(rt: &HostRuntime, out: &mut W) -> Result<Status, ProgramFault<'static>>
     ensures fault { IfErr result (IsFaultOf Job.Joined) }
     ensures done { IsDone Job.Joined (W.contents out.old) (W.contents out.new) result }
@@ -49,6 +50,7 @@ fn run_joined<W: Write>(rt: &HostRuntime, out: &mut W) -> Result<Status, Program
 }
 
 /// Replays a trace.
+#[inline(never)]
 fn run_replay<'a, W: Write>(
     rt: &HostRuntime,
     scenario: &'a str,
@@ -64,6 +66,7 @@ fn run_replay<'a, W: Write>(
 }
 
 /// Checks a trace.
+#[inline(never)]
 fn run_check<'a, W: Write>(
     rt: &HostRuntime,
     scenario: &'a str,
@@ -79,6 +82,7 @@ fn run_check<'a, W: Write>(
 }
 
 /// Lets the drivers of a scenario make edges in turn.
+#[inline(never)]
 fn run_drive<'a, W: Write>(
     rt: &HostRuntime,
     scenario: &'a str,
@@ -94,6 +98,7 @@ fn run_drive<'a, W: Write>(
 }
 
 /// Lets each driver of a scenario make edges in a thread of its own. May wait.
+#[inline(never)]
 fn run_run<'a, R: Threads + Wait + Sync, W: Write>(
     rt: &HostRuntime,
     threads: &R,

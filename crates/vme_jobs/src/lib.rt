@@ -6,10 +6,14 @@ ghost use Rattle.std.specs.Prelude.{map};
 ghost use Rattle.std.specs.Process.{exit_status};
 ghost use Rattle.vme_jobs.specs.Done.{IsObeyed};
 
+mod arguments;
 mod faults;
 mod files;
 mod jobs;
+mod lines;
 
+use arguments::tell_words;
+pub use arguments::{WordsFault, given};
 pub use faults::{ProgramFault, tell};
 pub use files::output;
 use jobs::{code_of, run};
@@ -33,9 +37,6 @@ pub fn obey<R: Threads + Wait + Sync, W: Write>(
             Ok(status) => code_of(status),
             Err(fault) => tell(rt, fault),
         },
-        Err(error) => {
-            let _ = eprint!(rt; "{error}");
-            ExitCode::FAILURE
-        }
+        Err(error) => tell_words(rt, given, error),
     }
 }

@@ -8,6 +8,8 @@ use Rattle.vme_scenario.specs.declared.faults.BoardFault.TheVariants as board_fa
 use Rattle.vme_scenario.specs.declared.faults.TextFault.{TextFault}
 use Rattle.vme_scenario.specs.declared.faults.TextFault.TheVariants as text_fault
 use Rattle.vme_scenario.specs.declared.scenario.Draft.{Draft}
+use Rattle.vme_scenario.specs.declared.depth.Place.{Place}
+use Rattle.vme_scenario.specs.Depth as depth
 use Rattle.vme_scenario.specs.Faults.{Fault, unknown, missing, bad, path, below}
 
 -- the fault at a key of one table
@@ -53,3 +55,7 @@ IsFaultOf r text_fault.Memory = ⊤
 -- the plan that is to be judged
 abbrev pub drafted : Draft → Plan
 drafted d = record { slots = d.slots; rows = d.rows.items; jumpers = d.jumpers.items; arbiter = d.arbiter }
+
+-- a place of a text
+abbrev pub placed : Place → depth.Place
+placed p = record { mode = p.mode; keyed = p.keyed; here = p.here; held = p.held; outer = p.outer.items }

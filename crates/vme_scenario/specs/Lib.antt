@@ -1,4 +1,5 @@
 pub mod Faults
+pub mod Depth
 pub mod Values
 pub mod Format
 pub mod Errors

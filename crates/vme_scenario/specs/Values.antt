@@ -12,11 +12,12 @@ use Rattle.vme_model.specs.declared.sets.ChainId.{ChainId}
 use Rattle.vme_model.specs.declared.sets.ChainId.TheVariants.{Bg0, Bg1, Bg2, Bg3, Iack}
 use Rattle.vme_model.specs.declared.sets.Levels.{Levels}
 use Rattle.vme_model.specs.declared.sets.Chains.{Chains}
+use Rattle.vme_scenario.specs.Depth.{is_shallow}
 use Rattle.vme_model.specs.Sets.{no_levels, no_chains, with_level, with_chain}
 
--- the top table of a text, where it is UTF-8 and TOML
+-- the top table of a text, where no table or array in it is too deep, and it is UTF-8 and TOML
 abbrev pub document : List ℕ → Option Members
-document text = if is_utf8 text then parse_document text else None
+document text = if is_shallow text && is_utf8 text then parse_document text else None
 
 -- a number within two bounds
 abbrev pub between : ℕ → ℕ → ℤ → Option ℕ

@@ -5,6 +5,7 @@
 
 mod arrays;
 mod boards;
+mod depth;
 mod errors;
 mod faults;
 mod interrupters;

@@ -7,6 +7,7 @@ ghost use Rattle.vme_scenario.specs.Format as format;
 ghost use Rattle.vme_scenario.specs.Values as values;
 
 use crate::arrays::{board_tables, boards, jumper_tables, jumpers};
+use crate::depth::is_shallow;
 use crate::errors::{ScenarioError, error_of};
 use crate::faults::{KeyFault, TextFault};
 use crate::tables::{needed_byte, needed_value, only};
@@ -36,6 +37,9 @@ fn document(alloc: Global, text: &[u8]) -> Result<Table, ScenarioError>
     ensures ok { IfOk result (λ t. values.document text.now ≡ Some (table_view t)) }
     ensures fault { IfErr result (IsErrorOf (format.read_as (values.document text.now))) }
 {
+    if !is_shallow(text) {
+        return Err(ScenarioError::NotToml);
+    }
     let Ok(text) = str::from_utf8(text) else {
         return Err(ScenarioError::NotToml);
     };

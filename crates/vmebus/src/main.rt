@@ -7,17 +7,14 @@
 use std::process::ExitCode;
 use std::sync::Wait;
 use std::thread::Threads;
-use std::{env, io};
-use vme_engines::EngineFault;
-use vme_jobs::{obey, output, tell};
+use vme_jobs::{WordsFault, given, obey, output, tell};
 
 /// Reads the words and obeys them. Errors: they are not text, or there is no memory for them.
-fn start<R: Threads + Wait + Sync>(rt: &HostRuntime, threads: &R) -> io::Result<ExitCode> {
-    let alloc = rt.alloc();
-    let all: Vec<String> = env::args(rt)?.skip(1).collect(alloc)?;
-    let given: Vec<&str> = all.iter().map(String::as_str).collect(alloc)?;
+fn start<R: Threads + Wait + Sync>(rt: &HostRuntime, threads: &R) -> Result<ExitCode, WordsFault> {
+    let all = given(rt)?;
+    let words: Vec<&str> = all.iter().map(String::as_str).collect(rt.alloc())?;
     match output(rt) {
-        Ok(mut out) => Ok(obey(rt, threads, &given, &mut out)),
+        Ok(mut out) => Ok(obey(rt, threads, &words, &mut out)),
         Err(fault) => Ok(tell(rt, fault)),
     }
 }
@@ -25,9 +22,6 @@ fn start<R: Threads + Wait + Sync>(rt: &HostRuntime, threads: &R) -> io::Result<
 fn main(rt: HostRuntime) -> ExitCode {
     match start(&rt, &rt) {
         Ok(code) => code,
-        Err(error) if error.kind() == io::ErrorKind::OutOfMemory => {
-            tell(&rt, EngineFault::NoMemory)
-        }
-        Err(error) => tell(&rt, error),
+        Err(fault) => tell(&rt, fault),
     }
 }

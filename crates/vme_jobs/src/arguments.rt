@@ -1,0 +1,103 @@
+//! The words behind the program's name, as the system gives them.
+ghost use Rattle.std.specs.Prelude.{◌≡◌, IfErr};
+ghost use Rattle.std.specs.Process.{exit_status};
+ghost use Rattle.vme_jobs.specs.Words.{IsPlaced};
+ghost use Rattle.vme_jobs.specs.declared.arguments.WordsFault.TheVariants.{NoMemory};
+
+use crate::faults::tell;
+use crate::lines::Lines;
+use std::alloc::{AllocError, AllocFailed};
+use std::env::{Env, FillError};
+use std::fmt;
+use std::process::ExitCode;
+use thiserror::Error;
+
+/// How many bytes of a word are asked for at first.
+const ROOM: usize = 256;
+
+/// Why the words are not read.
+#[derive(Debug, Drop, Error)]
+pub enum WordsFault {
+    /// The word at this place, counted from 1, is no text.
+    #[error("F4 word {0} is not UTF-8")]
+    NotText(usize),
+    #[error("F3 no memory")]
+    NoMemory,
+}
+
+impl From<AllocError> for WordsFault {
+    ghost from_gives = { λ _ f. f ≡ NoMemory };
+
+    fn from(_: AllocError) -> Self {
+        WordsFault::NoMemory
+    }
+}
+
+impl<T: Drop> From<AllocFailed<T>> for WordsFault {
+    ghost from_gives = { λ _ f. f ≡ NoMemory };
+
+    fn from(_: AllocFailed<T>) -> Self {
+        WordsFault::NoMemory
+    }
+}
+
+/// The bytes of the word at this place; none behind the last word.
+fn bytes_at(rt: &HostRuntime, place: usize) -> Result<Option<Vec<u8>>, AllocError> {
+    let mut room = ROOM;
+    for _ in 0..usize::BITS {
+        let mut bytes = Vec::new(rt.alloc());
+        bytes.resize(room, 0u8)?;
+        match rt.arg(place, bytes.as_mut_slice()) {
+            Ok(count) => {
+                bytes.truncate(count);
+                return Ok(Some(bytes));
+            }
+            Err(FillError::NotPresent) => return Ok(None),
+            Err(FillError::TooLong) => room = room.saturating_add(room),
+        }
+    }
+    Err(AllocError)
+}
+
+/// The words behind the program's name. Errors: F4 at the first that is not UTF-8, and F3.
+pub fn given(rt: &HostRuntime) -> Result<Vec<String>, WordsFault>
+    ensures { IfErr result IsPlaced }
+{
+    let mut words = Vec::new(rt.alloc());
+    for place in 1..usize::MAX {
+        let Some(bytes) = bytes_at(rt, place)? else {
+            break;
+        };
+        match String::from_utf8(bytes) {
+            Ok(word) => words.push(word)?,
+            Err(_) => return Err(WordsFault::NotText(place)),
+        }
+    }
+    Ok(words)
+}
+
+/// Whether a word goes over several lines.
+fn has_line_feed(words: &[&str]) -> bool {
+    for word in words {
+        if word.as_bytes().contains(&b'\n') {
+            return true;
+        }
+    }
+    false
+}
+
+/// Writes what is wrong with the words, or how they are used. It is one line where a word has several.
+pub(crate) fn tell_words<D: fmt::Display + Drop>(
+    rt: &HostRuntime,
+    words: &[&str],
+    error: D,
+) -> ExitCode
+    ensures { exit_status result ≡ 1 }
+{
+    if has_line_feed(words) {
+        return tell(rt, error);
+    }
+    let text = Lines(error);
+    let _ = eprint!(rt; "{text}");
+    ExitCode::FAILURE
+}

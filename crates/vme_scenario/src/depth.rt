@@ -1,0 +1,206 @@
+//! How deep the tables and arrays of a text go, told before it is parsed: what the parser makes is dropped by recursion.
+ghost use Rattle.std.specs.Prelude.{◌≡◌, ◌<◌, ◌≤◌, Bool, true, false, if◌then◌else◌};
+ghost use Rattle.arrayvec.specs.ArrayVec.{array_vec_len};
+ghost use Rattle.vme_scenario.specs.Depth as spec;
+ghost use Rattle.vme_scenario.specs.Borrowed.{placed};
+
+use arrayvec::ArrayVec;
+
+/// The most tables and arrays in one another, with the dots of keys.
+const MOST_DEEP: usize = 80;
+
+/// Whether a byte stands in a string or a comment, and how its string ends.
+#[derive(Clone, Copy, PartialEq, Eq, Debug)]
+enum Mode {
+    Plain,
+    Comment,
+    /// Behind the first delimiter of a string.
+    Opened(u8),
+    /// Behind the second: the string is empty, or goes over several lines.
+    Doubled(u8),
+    /// In a string on one line, with its delimiter.
+    Short(u8),
+    ShortEscape,
+    /// In a string over several lines, with its delimiter, behind so many of them.
+    Long(u8, u8),
+    LongEscape,
+}
+
+/// Where the next byte stands.
+#[derive(Drop)]
+struct Place {
+    mode: Mode,
+    /// Whether its line has a `=` yet: else a bracket begins a header.
+    keyed: bool,
+    here: usize,
+    /// The depth of the table or array that it stands in.
+    held: usize,
+    /// The depths of those around that one, from the inside out.
+    outer: ArrayVec<usize, 81>,
+}
+
+/// The mode behind a byte outside of strings and comments.
+fn mode_behind(byte: u8) -> Mode
+    ensures { result ≡ spec.mode_behind byte }
+{
+    match byte {
+        b'"' | b'\'' => Mode::Opened(byte),
+        b'#' => Mode::Comment,
+        _ => Mode::Plain,
+    }
+}
+
+/// The mode behind a byte in a string on one line.
+fn in_short(delimiter: u8, byte: u8) -> Mode
+    ensures { result ≡ spec.in_short delimiter byte }
+{
+    if byte == delimiter {
+        Mode::Plain
+    } else if byte == b'\\' && delimiter == b'"' {
+        Mode::ShortEscape
+    } else {
+        Mode::Short(delimiter)
+    }
+}
+
+/// The mode behind a byte in a string over several lines that is no delimiter.
+fn in_long(delimiter: u8, byte: u8) -> Mode
+    ensures { result ≡ spec.in_long delimiter byte }
+{
+    if byte == b'\\' && delimiter == b'"' {
+        Mode::LongEscape
+    } else {
+        Mode::Long(delimiter, 0)
+    }
+}
+
+impl Place {
+    /// Before the first byte.
+    fn front() -> Place
+        ensures { placed result ≡ spec.front }
+    {
+        Place {
+            mode: Mode::Plain,
+            keyed: false,
+            here: 0,
+            held: 0,
+            outer: ArrayVec::new(),
+        }
+    }
+
+    fn is_within(&self) -> bool
+        ensures within { result ≡ spec.is_within (placed self.now) }
+        ensures room { result ≡ true → (self.now.here ≤ 80) × (array_vec_len self.now.outer ≤ 80) }
+    {
+        self.here <= MOST_DEEP && self.outer.len() <= MOST_DEEP
+    }
+
+    fn open(&mut self)
+        requires { (self.old.here ≤ 80) × (array_vec_len self.old.outer ≤ 80) }
+        ensures { placed self.new ≡ spec.opened (placed self.old) }
+    {
+        self.outer.insert(0, self.held);
+        self.here += 1;
+        self.held = self.here;
+    }
+
+    fn close(&mut self)
+        ensures { placed self.new ≡ spec.closed (placed self.old) }
+    {
+        if !self.outer.is_empty() {
+            self.held = self.outer.remove(0);
+            self.here = self.held;
+        }
+    }
+
+    fn end_line(&mut self)
+        ensures { placed self.new ≡ spec.broken_in (placed self.old) (placed self.old).outer }
+    {
+        if !self.outer.is_empty() {
+            self.here = self.held;
+        } else if self.keyed {
+            self.keyed = false;
+            self.here = self.held;
+        } else {
+            self.held = self.here;
+        }
+    }
+
+    fn bracket(&mut self)
+        requires { (self.old.here ≤ 80) × (array_vec_len self.old.outer ≤ 80) }
+        ensures { placed self.new ≡ spec.bracketed (placed self.old) self.old.keyed }
+    {
+        if self.keyed {
+            self.open();
+        } else {
+            self.here = 0;
+            self.held = 0;
+        }
+    }
+
+    /// Takes a byte outside of strings and comments.
+    fn take_outside(&mut self, byte: u8)
+        requires { (self.old.here ≤ 80) × (array_vec_len self.old.outer ≤ 80) }
+        ensures { placed self.new ≡ spec.outside (placed self.old) byte }
+    {
+        self.mode = mode_behind(byte);
+        match byte {
+            b'.' => self.here += 1,
+            b'=' => self.keyed = true,
+            b'[' => self.bracket(),
+            b'{' => self.open(),
+            b']' | b'}' => self.close(),
+            b',' => self.here = self.held,
+            b'\n' => self.end_line(),
+            _ => {}
+        }
+    }
+
+    /// Takes a byte of a string over several lines, behind so many of its delimiters.
+    fn take_long(&mut self, delimiter: u8, run: u8, byte: u8)
+        requires { (self.old.here ≤ 80) × (array_vec_len self.old.outer ≤ 80) }
+        ensures { placed self.new ≡ spec.in_run (placed self.old) delimiter run byte }
+    {
+        if byte == delimiter {
+            self.mode = Mode::Long(delimiter, if 3 <= run { 3 } else { run + 1 });
+        } else if 3 <= run {
+            self.take_outside(byte);
+        } else {
+            self.mode = in_long(delimiter, byte);
+        }
+    }
+
+    /// Takes the next byte.
+    fn take(&mut self, byte: u8)
+        requires { (self.old.here ≤ 80) × (array_vec_len self.old.outer ≤ 80) }
+        ensures { placed self.new ≡ spec.behind (placed self.old) byte }
+    {
+        match self.mode {
+            Mode::Plain => self.take_outside(byte),
+            Mode::Comment if byte == b'\n' => self.take_outside(byte),
+            Mode::Comment => {}
+            Mode::Opened(delimiter) if byte == delimiter => self.mode = Mode::Doubled(delimiter),
+            Mode::Opened(delimiter) => self.mode = in_short(delimiter, byte),
+            Mode::Doubled(delimiter) if byte == delimiter => self.mode = Mode::Long(delimiter, 0),
+            Mode::Doubled(_) => self.take_outside(byte),
+            Mode::Short(delimiter) => self.mode = in_short(delimiter, byte),
+            Mode::ShortEscape => self.mode = Mode::Short(b'"'),
+            Mode::Long(delimiter, run) => self.take_long(delimiter, run, byte),
+            Mode::LongEscape => self.mode = Mode::Long(b'"', 0),
+        }
+    }
+}
+
+/// Whether no table or array of a text is too deep.
+pub(crate) fn is_shallow(text: &[u8]) -> bool
+    ensures { result ≡ spec.is_shallow text.now }
+{
+    let mut place = Place::front();
+    for byte in text {
+        place.take(*byte);
+        if !place.is_within() {
+            return false;
+        }
+    }
+    true
+}
