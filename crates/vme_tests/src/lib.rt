@@ -28,6 +28,10 @@ mod parts;
 #[cfg(test)]
 mod run;
 #[cfg(test)]
+mod reads;
+#[cfg(test)]
+mod running;
+#[cfg(test)]
 mod scenario;
 #[cfg(test)]
 mod slots;

@@ -1,0 +1,181 @@
+//! How often an input is read, and how often an interrupted call is tried: no clause counts them.
+use crate::asserts::assert_same;
+use std::io::{self, ErrorKind, Read, Write};
+use std::process::Abort;
+use vme_engines::{EngineFault, Status, check, joined, replay};
+use vme_model::Edge;
+use vme_trace::{Fault, Reader, pump, read_piece};
+
+/// The most reads of one input.
+const MOST: u32 = 16_777_216;
+
+/// The most tries of a read that is interrupted.
+const TRIES: u32 = 65_536;
+
+/// A reader that gives a byte a read: a head, and behind it some lines again and again, so many bytes in all.
+#[derive(Drop)]
+struct Drops<'a> {
+    /// What comes again and again.
+    lines: &'a [u8],
+    /// What comes before.
+    next: &'a [u8],
+    most: u32,
+    reads: u32,
+}
+
+impl<'a> Drops<'a> {
+    fn new(head: &'a [u8], lines: &'a [u8], most: u32) -> Drops<'a> {
+        Drops {
+            lines,
+            next: head,
+            most,
+            reads: 0,
+        }
+    }
+}
+
+impl<'a> Read for Drops<'a> {
+    fn read(&mut self, buf: &mut [u8]) -> io::Result<usize> {
+        if self.reads >= self.most {
+            return Ok(0);
+        }
+        self.reads += 1;
+        if self.next.is_empty() {
+            self.next = self.lines;
+        }
+        match (self.next, buf) {
+            ([byte, rest @ ..], [first, ..]) => {
+                *first = *byte;
+                self.next = rest;
+                Ok(1)
+            }
+            _ => Ok(0),
+        }
+    }
+}
+
+/// A writer that counts what it takes.
+#[derive(Drop)]
+struct Counting {
+    bytes: u64,
+}
+
+impl Write for Counting {
+    fn write(&mut self, buf: &[u8]) -> io::Result<usize> {
+        self.bytes = self.bytes.saturating_add(buf.len() as u64);
+        Ok(buf.len())
+    }
+
+    fn flush(&mut self) -> io::Result<()> {
+        Ok(())
+    }
+}
+
+/// A backplane without boards.
+const EMPTY: &[u8] = b"slots = 1\narbiter = \"sgl\"\n";
+
+/// One board that requests the bus at level 3.
+const ONE_BOARD: &[u8] = b"slots = 1
+arbiter = \"sgl\"
+
+[[board]]
+slot = 1
+requester = { level = 3, release = \"rwd\", burst = 1 }
+";
+
+/// The lines of one tenure of the bus: 42 bytes.
+const TENURE: &[u8] = b"1 br-\nc bg3-\n1 bbsy-\n1 br+\nc bg3+\n1 bbsy+\n";
+
+/// Whether an engine gave up reading.
+fn is_unread(answer: &Result<Status, EngineFault>) -> bool {
+    matches!(answer, Err(EngineFault::Trace(Fault::Read)))
+}
+
+#[test]
+fn a_scenario_without_end_is_read_so_often(rt: HostRuntime) {
+    let mut input = Drops::new(b"", b"#\n", u32::MAX);
+    let mut out = Counting { bytes: 0 };
+    let answer = joined(rt.alloc(), &mut input, &mut out);
+    assert!(&rt; is_unread(&answer));
+    assert_same(&rt, (input.reads, out.bytes), (MOST, 0));
+}
+
+// Behind the header line stand 1,290,554 whole lines of 13 bytes, and a part of a further one.
+#[test]
+fn a_trace_without_end_is_read_so_often(rt: HostRuntime) {
+    let mut trace = Drops::new(b"vme 1\n", b"21 addr- r21\n", u32::MAX);
+    let mut out = Counting { bytes: 0 };
+    let answer = replay(rt.alloc(), EMPTY, &mut trace, &mut out);
+    assert!(&rt; is_unread(&answer));
+    assert_same(&rt, (trace.reads, out.bytes), (MOST, 13_084_990));
+}
+
+// Ten thousand tenures of six edges each.
+#[test]
+fn a_long_trace_is_read_to_its_end(rt: HostRuntime) {
+    let mut trace = Drops::new(b"vme 1\n", TENURE, 420_006);
+    let mut out = Vec::new(rt.alloc());
+    let answer = check(rt.alloc(), ONE_BOARD, &mut trace, &mut out);
+    assert!(&rt; matches!(answer, Ok(Status::Done)));
+    assert_same(&rt, out.as_slice(), b"legal 60000\n".as_slice());
+}
+
+/// A reader whose first reads are interrupted, so many of them, before the end of the input.
+#[derive(Drop)]
+struct Interrupted {
+    left: u32,
+}
+
+impl Read for Interrupted {
+    fn read(&mut self, _buf: &mut [u8]) -> io::Result<usize> {
+        if self.left > 0 {
+            self.left -= 1;
+            return Err(io::Error::from(ErrorKind::Interrupted));
+        }
+        Ok(0)
+    }
+}
+
+/// How often a read is interrupted, what it answers, and how many interruptions are left.
+const INTERRUPTED: [(u32, Result<usize, Fault>, u32); 4] = [
+    (0, Ok(0), 0),
+    (TRIES - 1, Ok(0), 0),
+    (TRIES, Err(Fault::Read), 0),
+    (u32::MAX, Err(Fault::Read), u32::MAX - TRIES),
+];
+
+#[test]
+fn an_interrupted_read_is_tried_so_often(rt: HostRuntime) {
+    for (times, want, left) in INTERRUPTED {
+        let mut input = Interrupted { left: times };
+        let answer = read_piece(&mut input, &mut [0; 512]);
+        assert_same(&rt, (answer, input.left), (want, left));
+    }
+}
+
+/// What a read of a trace answers that is interrupted so often: it has no header line.
+fn pumped(rt: &impl AllocGlobal, times: u32) -> Result<bool, Fault> {
+    let mut edges: Vec<Edge> = Vec::new(rt.alloc());
+    pump(
+        &mut Reader::new(),
+        &mut Interrupted { left: times },
+        &mut edges,
+    )
+}
+
+#[test]
+fn an_interrupted_trace_is_tried_so_often(rt: HostRuntime) {
+    assert_same(&rt, pumped(&rt, TRIES - 1), Err(Fault::Header));
+    assert_same(&rt, pumped(&rt, TRIES), Err(Fault::Read));
+}
+
+#[test]
+fn a_line_is_too_long_at_its_65th_byte(rt: HostRuntime) {
+    let mut edges: Vec<Edge> = Vec::new(rt.alloc());
+    let mut reader = Reader::new();
+    let header = reader.feed(b"vme 1\n", &mut edges);
+    let most = reader.feed(&[b'a'; 64], &mut edges);
+    let more = reader.feed(b"a", &mut edges);
+    let wanted = (Ok(()), Ok(()), Err(Fault::TooLong { n: 2 }));
+    assert_same(&rt, (header, most, more), wanted);
+}
