@@ -71,9 +71,6 @@ impl Write for Counting {
     }
 }
 
-/// A backplane without boards.
-const EMPTY: &[u8] = b"slots = 1\narbiter = \"sgl\"\n";
-
 /// One board that requests the bus at level 3.
 const ONE_BOARD: &[u8] = b"slots = 1
 arbiter = \"sgl\"
@@ -105,7 +102,7 @@ fn a_scenario_without_end_is_read_so_often(rt: HostRuntime) {
 fn a_trace_without_end_is_read_so_often(rt: HostRuntime) {
     let mut trace = Drops::new(b"vme 1\n", b"21 addr- r21\n", u32::MAX);
     let mut out = Counting { bytes: 0 };
-    let answer = replay(rt.alloc(), EMPTY, &mut trace, &mut out);
+    let answer = replay(rt.alloc(), ONE_BOARD, &mut trace, &mut out);
     assert!(&rt; is_unread(&answer));
     assert_same(&rt, (trace.reads, out.bytes), (MOST, 13_084_990));
 }
