@@ -26,9 +26,9 @@ mod lock;
 #[cfg(test)]
 mod parts;
 #[cfg(test)]
-mod run;
-#[cfg(test)]
 mod reads;
+#[cfg(test)]
+mod run;
 #[cfg(test)]
 mod running;
 #[cfg(test)]
