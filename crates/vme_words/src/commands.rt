@@ -21,8 +21,8 @@ A scenario is a TOML file that says which boards stand in which slots. A trace i
 or `vme 2`, and then one edge a line, as `1 br-` or `c bg3-`. docs/RULES.md has the rules,
 docs/FORMATS.md has scenarios, traces, reports and faults to the byte, and examples/ has some of each.
 
-Exit status: 0 done, 1 a fault (one line on standard error) or a text as this one, 2 some edge was
-refused, 3 the limit of edges was reached (so mind `set -e` in a script).";
+Exit status: 0 done, 1 a fault (one line on standard error) or a text as this one,
+2 some edge was refused, 3 the limit of edges was reached (so mind `set -e` in a script).";
 
 const REPLAY: &str =
     "Writes the verdict on each edge of a trace, and how many were accepted and refused";
