@@ -50,8 +50,8 @@ RunsOn version n turns old new p (Err _) = ⊥
 abbrev pub AreHandedBack : ℕ → ℕ → List (List Edge) → Type 0
 AreHandedBack turns edges logs = All (λ log. length log ≤ turns) logs × (sum_by (λ log. length log) logs ≡ edges)
 
--- L4: the drivers of a plan made these edges, their workers handed back these logs, and this driver is the first whose edges
--- are not its log
+-- L4: the drivers of a plan made these edges, and by some logs that workers may hand back of so many, this driver is the first
+-- whose edges are not its log
 abbrev pub HasOtherLogs : Version → ℕ → ℕ → Plan → Driver → ℕ → Type 0
 HasOtherLogs version n turns p driver at =
     (h : List Edge) × IsMade version n turns p h × (logs : List (List Edge)) × AreHandedBack turns (length h) logs × FirstDiffers h (drivers p) logs driver at
