@@ -41,3 +41,5 @@ mod store;
 mod trace;
 #[cfg(test)]
 mod words;
+#[cfg(test)]
+mod worked;

@@ -1,9 +1,10 @@
 //! A plan's calls, memory that is refused, and the printed refusals. Which plan is refused, and for what, the clauses say.
-use crate::boards::{interrupter, requester};
+use crate::asserts::assert_same;
+use crate::boards::{board, interrupter, requester};
 use bitflags::Flags;
 use std::process::Abort;
 use std::test::Fail;
-use vme_model::{ArbiterKind, ChainId, Chains, Jumper, Row};
+use vme_model::{ArbiterKind, ChainId, Chains, Jumper, Levels, Row};
 use vme_slots::{Field, Plan, PlanError};
 
 fn jumper(slot: u8, chains: u8) -> Jumper {
@@ -60,6 +61,49 @@ fn a_plan_tells_its_boards_and_chains(rt: HostRuntime) -> Result<(), Fail> {
     assert_active(&rt, &plan);
     assert_upstream(&rt, &plan);
     Ok(())
+}
+
+/// Asserts what a plan under SGL is refused for.
+fn assert_refused(
+    rt: &(impl Abort + AllocGlobal),
+    slots: u8,
+    rows: &[Row],
+    jumpers: &[Jumper],
+    wanted: PlanError,
+) {
+    let refused = Plan::new(rt.alloc(), slots, rows, jumpers, ArbiterKind::Sgl).err();
+    assert_same(rt, refused, Some(wanted));
+}
+
+/// Each of these plans has two faults.
+#[test]
+fn the_first_fault_of_slots_is_told(rt: HostRuntime) {
+    assert_refused(&rt, 22, &[], &[], PlanError::TooManySlots { slots: 22 });
+    let field = Field::RequesterBurst;
+    assert_refused(&rt, 3, &[requester(2, 3, 0)], &[], PlanError::OutOfRange { field });
+    let twice = [board(1), board(1), requester(3, 3, 1)];
+    assert_refused(&rt, 3, &twice, &[], PlanError::SlotTwice { slot: 1 });
+    let joined = [board(1), requester(2, 0, 1)];
+    let jumpers = [jumper(2, 0b0_1000)];
+    assert_refused(&rt, 2, &joined, &jumpers, PlanError::SlotTwice { slot: 2 });
+}
+
+/// The same row, with a handler of level 4.
+fn handling(row: Row) -> Row {
+    Row {
+        handler: Levels::IRQ4,
+        ..row
+    }
+}
+
+/// Each of these plans has two faults, of which a second handler of level 4 is one.
+#[test]
+fn the_first_fault_of_levels_is_told(rt: HostRuntime) {
+    let second = handling(requester(2, 3, 1));
+    let unserved = [handling(requester(1, 2, 1)), second];
+    assert_refused(&rt, 2, &unserved, &[], PlanError::LevelNotServed { slot: 1 });
+    let bare = [handling(board(1)), second];
+    assert_refused(&rt, 2, &bare, &[], PlanError::HandlerTwice { level: 4 });
 }
 
 /// Holds where an allocation fails too: want of memory is then answered, and no fault of the plan.

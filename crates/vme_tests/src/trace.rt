@@ -123,18 +123,48 @@ fn any_cut_reads_the_same(rt: HostRuntime) {
     assert_byte_by_byte(&rt, &whole);
 }
 
-/// Asserts that `TWO_SERVED` is what is written of its edges.
-fn assert_written(rt: &(impl Abort + AllocGlobal), edges: &[Edge]) {
-    if edges.iter().all(|edge| edge.is_well_formed()) {
-        let mut text = Vec::new(rt.alloc());
-        assert_same(rt, write(Version::One, edges, &mut text), Ok(()));
-        assert_same(rt, text.as_slice(), TWO_SERVED);
-    }
+/// Every wire falls and rises.
+const EVERY_WIRE: &[u8] = b"vme 2\nc bg0-\nc bg0+\nc bg1-\nc bg1+\nc bg2-\nc bg2+\nc bg3-\nc bg3+\nc bclr-\n\
+    c bclr+\nc iack-\nc iack+\nc berr-\nc berr+\n1 br-\n21 br+\n1 bgout-\n21 bgout+\n\
+    1 bbsy-\n21 bbsy+\n1 as-\n21 as+\n1 ds-\n21 ds+\n1 irq-\n21 irq+\n1 iackout-\n\
+    21 iackout+\n1 dtack-\n21 dtack+\n10 addr- i7\n9 addr+\n";
+
+/// Every slot, every access and every acknowledge.
+const EVERY_VALUE: &[u8] = b"vme 1\n1 addr- r21\n2 addr- r20\n3 addr- r19\n4 addr- r18\n5 addr- r17\n6 addr- r16\n\
+    7 addr- r15\n8 addr- r14\n9 addr- r13\n10 addr- r12\n11 addr- r11\n12 addr- r10\n\
+    13 addr- r9\n14 addr- r8\n15 addr- r7\n16 addr- r6\n17 addr- r5\n18 addr- r4\n\
+    19 addr- r3\n20 addr- r2\n21 addr- r1\n20 addr- i1\n20 addr- i2\n20 addr- i3\n\
+    20 addr- i4\n20 addr- i5\n20 addr- i6\n20 addr- i7\n";
+
+/// Traces, their versions, and the numbers of their edges.
+const TRACES: [(&[u8], Version, usize); 5] = [
+    (TWO_SERVED, Version::One, 26),
+    (EVERY_WIRE, Version::Two, 32),
+    (EVERY_VALUE, Version::One, 28),
+    (b"vme 1\n", Version::One, 0),
+    (b"vme 2\n", Version::Two, 0),
+];
+
+/// Asserts that this text is what is written of these edges.
+fn assert_written(
+    rt: &(impl Abort + AllocGlobal),
+    version: Version,
+    edges: &[Edge],
+    want: &[u8],
+) {
+    assert!(rt; edges.iter().all(|edge| edge.is_well_formed()));
+    let mut text = Vec::new(rt.alloc());
+    assert_same(rt, write(version, edges, &mut text), Ok(()));
+    assert_same(rt, text.as_slice(), want);
 }
 
 #[test]
 fn writes_what_was_read(rt: HostRuntime) {
-    assert_written(&rt, &assert_parsed(&rt, TWO_SERVED, Ok(Version::One)));
+    for (text, version, count) in &TRACES {
+        let edges = assert_parsed(&rt, text, Ok(*version));
+        assert_same(&rt, edges.len(), *count);
+        assert_written(&rt, *version, &edges, text);
+    }
 }
 
 /// What is no trace, and its fault.
