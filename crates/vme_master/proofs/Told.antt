@@ -12,7 +12,8 @@ use Rattle.vme_model.specs.declared.signals.Wire.TheVariants.{Addr, AddressStrob
 use Rattle.vme_model.specs.declared.signals.Cycle.{Cycle}
 use Rattle.vme_model.specs.declared.signals.Cycle.TheVariants.{Acknowledge, Access}
 use Rattle.vme_model.specs.Readings.{Readings}
-use Rattle.vme_model.specs.Rules.{is_below_burst, is_within_burst, may_show}
+use Rattle.vme_model.specs.Guards.{free as no_condition, holds}
+use Rattle.vme_model.specs.Rules.{below_burst, is_below_burst, is_within_burst, may_show}
 use Rattle.vme_model.specs.Verdict.{check, is_other_state, ruling_on}
 use Rattle.vme_master.specs.Local.{is_own, readings, SayWhatIsTold}
 
@@ -26,7 +27,7 @@ module _ (version : Version) (s : ℕ) (row : RequesterRow) (handler : Levels) (
   burst_alike : is_within_burst t ≡ is_within_burst r
   burst_alike =
       ap (λ n. is_below_burst n row.release) (sym says.tenure)
-      ∙ ap (λ q. option_map_or (λ a. is_below_burst r.cycles a.release) q true) (sym says.requester)
+      ∙ ap (λ q. holds (option_map_or (λ a. below_burst r.cycles a.release) q no_condition)) (sym says.requester)
 
   show_alike : (value : Option Cycle) → may_show t value ≡ may_show r value
   show_alike None = refl

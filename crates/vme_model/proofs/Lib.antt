@@ -1,4 +1,5 @@
 pub mod Bools
+pub mod Guards
 pub mod Below
 pub mod Ranges
 pub mod GrantPhases

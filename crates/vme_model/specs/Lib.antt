@@ -4,6 +4,7 @@ pub mod Plan
 pub mod Accepted
 pub mod History
 pub mod Readings
+pub mod Guards
 pub mod Rules
 pub mod Settling
 pub mod Verdict

@@ -1,5 +1,6 @@
 -- The answer to an edge, legal histories, and the edges that are kept. (The order of refusals is this project's profile.)
 use Rattle.std.specs.Prelude.{◌==◌, ◌≡◌, ◌&&◌, ◌∷◌, ℕ, Bool, true, false, not, if◌then◌else◌, Option, Result, Ok, Err, List, [], length, is_ok}
+use Rattle.vme_model.specs.declared.conditions.Condition.TheVariants.{HasDriver, OtherState, HasRoom}
 use Rattle.vme_model.specs.declared.refusals.Refused.{Refused}
 use Rattle.vme_model.specs.declared.refusals.Refused.TheVariants.{NoSuchDriver, AlreadyThere, Rule, NotSettled, TraceFull}
 use Rattle.vme_model.specs.declared.signals.Version.{Version}
@@ -9,6 +10,7 @@ use Rattle.vme_model.specs.declared.signals.Wire.{Wire}
 use Rattle.vme_model.specs.Signals.{is_well_formed}
 use Rattle.vme_model.specs.Plan.{Plan, has_driver}
 use Rattle.vme_model.specs.Readings.{Readings, readings}
+use Rattle.vme_model.specs.Guards.{Guard, asks, holds}
 use Rattle.vme_model.specs.Rules.{rule}
 use Rattle.vme_model.specs.Settling.{settling}
 
@@ -32,10 +34,20 @@ check false refusal rest = Err refusal
 abbrev pub is_other_state : Bool → Bool → Bool
 is_other_state low fall = if fall then not low else low
 
+-- what E1, E2 and E5 ask for, of an edge
+abbrev pub driver_guard : Plan → Edge → Guard
+driver_guard p e = asks HasDriver (is_well_formed e && has_driver p e.driver e.wire)
+
+abbrev pub state_guard : Bool → Bool → Guard
+state_guard low fall = asks OtherState (is_other_state low fall)
+
+abbrev pub room_guard : State → Guard
+room_guard b = asks HasRoom (not (length b.history == b.max))
+
 -- E2 and E3 by what the driver's rules read, or what comes after
 abbrev pub ruled : Version → Readings → Wire → Bool → Option Cycle → Judgement → Judgement
 ruled version r w fall v rest =
-    check (is_other_state (r.own w) fall) AlreadyThere
+    check (holds (state_guard (r.own w) fall)) AlreadyThere
     (check (rule version r w fall v).1 (Rule (rule version r w fall v).0)
     rest)
 
@@ -54,14 +66,14 @@ settled version p h e = (settling version p h e.wire e.fall).1
 -- E1 to E4, or what comes after
 abbrev pub judged : Version → Plan → List Edge → Edge → Judgement → Judgement
 judged version p h e rest =
-    check (is_well_formed e && has_driver p e.driver e.wire) NoSuchDriver
+    check (holds (driver_guard p e)) NoSuchDriver
     (ruled version (readings p h e.driver) e.wire e.fall e.value
     (check (settled version p h e) (NotSettled (settling version p h e.wire e.fall).0)
     rest))
 
 -- the first of E1 to E5 that applies
 abbrev pub verdict : State → Edge → Judgement
-verdict b e = judged b.version b.plan b.history e (check (not (length b.history == b.max)) TraceFull (Ok tt))
+verdict b e = judged b.version b.plan b.history e (check (holds (room_guard b)) TraceFull (Ok tt))
 
 -- the same but for E5
 abbrev pub verdict_but_full : Version → Plan → List Edge → Edge → Judgement

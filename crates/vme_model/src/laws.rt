@@ -1,15 +1,22 @@
-//! What holds of every legal list of edges of every accepted plan.
+//! What holds of every legal list of edges of every accepted plan, and of every guard.
 //!
 //! The functions do nothing: each is a theorem over the definitions, stated by its contract.
-ghost use Rattle.std.specs.Prelude.{List};
+ghost use Rattle.std.specs.Prelude.{◌≡◌, ◌↔◌, true, not, Bool, List, [], Option, map, filter};
+ghost use Rattle.std.specs.List.{list_all};
 ghost use Rattle.vme_model.specs.Accepted.{IsAccepted};
+ghost use Rattle.vme_model.specs.Guards.{Guard, holds, conditions, failed};
 ghost use Rattle.vme_model.specs.Locality.{AreWellFormed, IsLocal};
 ghost use Rattle.vme_model.specs.Plan.{Plan};
+ghost use Rattle.vme_model.specs.Readings.{Readings};
+ghost use Rattle.vme_model.specs.Rules.{failing, rule};
 ghost use Rattle.vme_model.specs.Safe.{IsOrderly, IsSafe};
+ghost use Rattle.vme_model.specs.Settling.{settling, unsettled};
 ghost use Rattle.vme_model.specs.Verdict.{IsLegal};
+ghost use Rattle.vme_model.specs.declared.signals.Cycle.{Cycle};
 ghost use Rattle.vme_model.specs.declared.signals.Edge.{Edge};
 ghost use Rattle.vme_model.specs.declared.signals.Version.TheVariants.{One, Two};
 ghost use Rattle.vme_model.specs.declared.signals.Version.{Version};
+ghost use Rattle.vme_model.specs.declared.signals.Wire.{Wire};
 
 /// Every legal list is safe: after each edge at most one grant travels, none while BBSY* is low, at most one board
 /// holds the bus and at most one drives the address lines; each board took the bus and answered an acknowledge by
@@ -35,4 +42,18 @@ pub fn first_version_is_within_second()
 pub fn verdict_is_local()
     ensures well_formed { (version : Version) (p : Plan) (h k : List Edge) (e : Edge) → IsAccepted p → AreWellFormed h → AreWellFormed k → IsLocal version p h k e }
     ensures legal { (version : Version) (p : Plan) (h k : List Edge) (e : Edge) → IsAccepted p → IsLegal version p h → IsLegal version p k → IsLocal version p h k e }
+{}
+
+/// A guard holds exactly where all its conditions do, and exactly where none fails; those that fail are, in the
+/// guard's order, those of its conditions that do not hold.
+pub fn guard_fails_by_its_conditions()
+    ensures all { (g : Guard) → holds g ≡ list_all (λ c. c.1) (conditions g) }
+    ensures none { (g : Guard) → (failed g ≡ []) ↔ (holds g ≡ true) }
+    ensures names { (g : Guard) → failed g ≡ map (λ c. c.0) (filter (λ c. not c.1) (conditions g)) }
+{}
+
+/// No condition of the rule that names an edge fails exactly where the rule's guard holds; and so of the settling rule.
+pub fn rule_fails_by_its_conditions()
+    ensures rule { (version : Version) (r : Readings) (w : Wire) (fall : Bool) (v : Option Cycle) → (failing version r w fall v ≡ []) ↔ ((rule version r w fall v).1 ≡ true) }
+    ensures settling { (version : Version) (p : Plan) (h : List Edge) (w : Wire) (fall : Bool) → (unsettled version p h w fall ≡ []) ↔ ((settling version p h w fall).1 ≡ true) }
 {}

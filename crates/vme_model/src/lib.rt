@@ -4,6 +4,7 @@
 #![tactic(auto)]
 
 mod boards;
+mod conditions;
 mod deliveries;
 pub mod laws;
 mod pins;
@@ -12,6 +13,7 @@ mod sets;
 mod signals;
 
 pub use boards::{ArbiterKind, InterrupterRow, IrqKind, Jumper, Release, RequesterRow, Row};
+pub use conditions::Condition;
 pub use deliveries::Delivery;
 pub use pins::Pins;
 pub use refusals::{Field, PlanError, Refused};

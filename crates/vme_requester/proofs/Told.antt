@@ -1,6 +1,7 @@
 -- Of all that rules may read, a requester's read what it is told.
 use Rattle.std.proofs.Common.{◌≡◌, refl, sym, ap, ◌∙◌, Bool, true, false, ℕ}
 use Rattle.std.specs.Prelude.{◌||◌, not, Option, Ok}
+use Rattle.std.specs.List.{list_any}
 use Rattle.std.specs.Option.{option_map_or}
 use Rattle.vme_model.specs.declared.boards.Release.{Release}
 use Rattle.vme_model.specs.declared.boards.Release.TheVariants.{Done, Request}
@@ -12,7 +13,8 @@ use Rattle.vme_model.specs.declared.signals.Wire.{Wire}
 use Rattle.vme_model.specs.declared.signals.Wire.TheVariants.{Br, BgOut, Bbsy}
 use Rattle.vme_model.specs.declared.signals.Cycle.{Cycle}
 use Rattle.vme_model.specs.Readings.{Readings}
-use Rattle.vme_model.specs.Rules.{is_asked, may_release}
+use Rattle.vme_model.specs.Guards.{free as no_condition, holds}
+use Rattle.vme_model.specs.Rules.{released, bus_numbers, is_asked, may_release}
 use Rattle.vme_model.specs.Verdict.{check, is_other_state, ruling_on}
 use Rattle.vme_requester.specs.Local.{is_own, readings, SayWhatIsTold}
 
@@ -34,7 +36,7 @@ module _ (version : Version) (s : ℕ) (row : RequesterRow) (own : Wire → Bool
   release_alike : may_release t ≡ may_release r
   release_alike =
       sym (asked_alike r t row.release says.requests)
-      ∙ ap (λ q. option_map_or (λ a. is_asked r a.release) q true) (sym says.requester)
+      ∙ ap (λ q. holds (option_map_or (λ a. released (list_any r.request bus_numbers) a.release) q no_condition)) (sym says.requester)
 
   pub reads_told : (w : Wire) (fall : Bool) (value : Option Cycle) → is_own w ≡ true → ruling_on version t w fall value ≡ ruling_on version r w fall value
   reads_told Br true v own = alike _ _ _ _ true 9 (sym (says.own_wires Br refl)) (cc (says.own_wires Bbsy refl))

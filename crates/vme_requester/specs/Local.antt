@@ -1,11 +1,7 @@
 -- A requester's local state, and what its rules read. A list of noted edges has its newest edge first.
 use Rattle.std.specs.Prelude.{◌≡◌, ◌||◌, ℕ, Bool, true, false, not, Some, None, List}
 use Rattle.vme_model.specs.declared.boards.RequesterRow.{RequesterRow}
-use Rattle.std.specs.List.{list_any}
 use Rattle.std.specs.Option.{option_and_then}
-use Rattle.vme_model.specs.declared.boards.Release.{Release}
-use Rattle.vme_model.specs.declared.boards.Release.TheVariants.{Done, Request}
-use Rattle.vme_model.specs.declared.sets.BusLevels.{BusLevels}
 use Rattle.vme_model.specs.declared.pins.Pins.{Pins}
 use Rattle.vme_model.specs.declared.signals.Version.{Version}
 use Rattle.vme_model.specs.declared.signals.Driver.TheVariants.{Slot}
@@ -15,7 +11,6 @@ use Rattle.vme_model.specs.declared.signals.Edge.{Edge}
 use Rattle.vme_model.specs.Sets.{no_levels, has_bus_level}
 use Rattle.vme_model.specs.History.{drive}
 use Rattle.vme_model.specs.Readings.{Readings, readings_of_pins}
-use Rattle.vme_model.specs.Rules.{bus_numbers}
 use Rattle.vme_model.specs.Verdict.{Judgement, ruling}
 
 -- what a requester keeps: where it stands, the version of its rules, and which of its wires are low
@@ -72,11 +67,6 @@ pub record SayWhatIsTold (row : RequesterRow) (own : Wire → Bool) (pins : Pins
   pub requests : (n : ℕ) → r.request n ≡ has_bus_level pins.requests n
   pub grant_in : r.grant_in ≡ pins.grant_in
   pub requester : option_and_then (λ b. b.requester) r.board ≡ Some row
-
--- it waits for a request, where it releases on one
-abbrev pub lets_go : Release → BusLevels → Bool
-lets_go (Done burst) requests = true
-lets_go Request requests = list_any (has_bus_level requests) bus_numbers
 
 -- the answer to an edge of its own by its rows of the table, read over the edges that were noted
 abbrev pub answer_over : ℕ → RequesterRow → Version → List Edge → Pins → Bool → Edge → Judgement

@@ -8,9 +8,10 @@ ghost use Rattle.vme_model.specs.declared.signals.Version.{Version as VersionVal
 ghost use Rattle.vme_model.specs.declared.signals.Edge.{Edge as EdgeValue};
 ghost use Rattle.vme_model.specs.Signals.{is_two};
 ghost use Rattle.vme_model.specs.Sets.{has_bus_level};
-ghost use Rattle.vme_model.specs.Rules.{bus_numbers, rule};
+ghost use Rattle.vme_model.specs.Guards.{holds};
+ghost use Rattle.vme_model.specs.Rules.{bus_numbers, released, rule};
 ghost use Rattle.vme_model.specs.Verdict.{check, ruling_on};
-ghost use Rattle.vme_requester.specs.Local.{state_of, is_own, low, readings, lets_go, answer_over};
+ghost use Rattle.vme_requester.specs.Local.{state_of, is_own, low, readings, answer_over};
 
 use std::marker::Model;
 use vme_model::{BusLevels, Driver, Edge, Pins, Refused, Release, RequesterRow, Version, Wire};
@@ -86,7 +87,7 @@ impl Requester {
     /// Whether it may let go now, or waits for a request.
     #[inline(always)]
     fn may_release(&self, requests: BusLevels) -> bool
-        ensures { result ≡ lets_go self.now.row.release requests }
+        ensures { result ≡ holds (released (list_any (has_bus_level requests) bus_numbers) self.now.row.release) }
     {
         match self.row.release {
             Release::Done { .. } => true,

@@ -25,7 +25,8 @@ use Rattle.vme_model.specs.Sets.{has_level, has_bus_level, bus_levels}
 use Rattle.vme_model.specs.Plan.{Plan, board}
 use Rattle.vme_model.specs.History.{drive, request_line, interrupt_line, cycles, last_level, shown, line}
 use Rattle.vme_model.specs.Readings.{Readings, readings, is_served, grant_in, iack_in}
-use Rattle.vme_model.specs.Rules.{rule, bus_numbers, is_pick, may_release, is_asked, is_within_burst, is_below_burst, may_show, is_passed_by, may_answer, is_bus_clear_due, are_grants_high, is_pri}
+use Rattle.vme_model.specs.Guards.{free as no_condition, holds}
+use Rattle.vme_model.specs.Rules.{rule, bus_numbers, is_pick, may_release, released as released_where, is_asked, is_within_burst, below_burst, is_below_burst, may_show, is_passed_by, may_answer, is_bus_clear_due, are_grants_high, is_pri}
 use Rattle.vme_model.specs.Verdict.{Judgement, check, is_other_state, ruling}
 use Rattle.vme_model.specs.Views.{pins}
 use Rattle.vme_model.proofs.PinSets.{has_bus, has_irq}
@@ -102,7 +103,7 @@ released : (p : Plan) (h : List Edge) (s : ℕ) (q : RequesterRow) → option_an
     is_asked (requester_sees p h s q) q.release ≡ may_release (readings p h (Slot s))
 released p h s q e =
     asked_alike (requester_sees p h s q) (readings p h (Slot s)) q.release (any_low (request_line p h))
-    ∙ sym (ap (λ o. option_map_or (λ x. is_asked (readings p h (Slot s)) x.release) o true) e)
+    ∙ sym (ap (λ o. holds (option_map_or (λ x. released_where (list_any (request_line p h) bus_numbers) x.release) o no_condition)) e)
 
 requester_row : (version : Version) (p : Plan) (h : List Edge) (s : ℕ) (q : RequesterRow) (w : Wire) (f : Bool) (v : Option Cycle) → option_and_then (λ b. b.requester) (board p s) ≡ Some q → is_requesters w ≡ true →
     rule version (requester_sees p h s q) w f v ≡ rule version (readings p h (Slot s)) w f v
@@ -139,7 +140,7 @@ master_sees p h r q = master_over r.slot q r.handler h (pins p h (Slot r.slot)) 
 
 within : (p : Plan) (h : List Edge) (r : Row) (q : RequesterRow) → option_and_then (λ b. b.requester) (board p r.slot) ≡ Some q →
     is_below_burst (cycles h (Slot r.slot)) q.release ≡ is_within_burst (readings p h (Slot r.slot))
-within p h r q e = sym (ap (λ o. option_map_or (λ x. is_below_burst (cycles h (Slot r.slot)) x.release) o true) e)
+within p h r q e = sym (ap (λ o. holds (option_map_or (λ x. below_burst (cycles h (Slot r.slot)) x.release) o no_condition)) e)
 
 level_from : (n : ℕ) → is_level n ≡ true → 1 ≤ n
 level_from n e = grind (arith, nat_tests, e)
