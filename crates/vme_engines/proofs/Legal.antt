@@ -21,7 +21,7 @@ use Rattle.vme_trace.specs.Texts.{whole}
 use Rattle.vme_trace.proofs.Texts.{text_read}
 use Rattle.vme_engines.specs.Outcomes.{bench}
 use Rattle.vme_engines.specs.Checking.{or_refusal, first_refusal, IsLegalTrace}
-use Rattle.vme_engines.proofs.Checked.{refusal_behind, all_kept}
+use Rattle.vme_engines.proofs.CheckPieces.{refusal_behind, all_kept}
 
 -- each edge of a legal list is well formed
 pub all_well_formed : (version : Version) (p : Plan) (h : List Edge) → IsLegal version p h → All (λ e. IsTrue (is_well_formed e)) (reverse h)

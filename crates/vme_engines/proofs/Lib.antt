@@ -3,11 +3,13 @@ pub mod Counting
 pub mod Digits
 pub mod Known
 pub mod Going
-pub mod Replaying
+pub mod TraceReads
+pub mod ReadingOn
+pub mod ReplayPieces
 pub mod Cuts
 pub mod Fronts
 pub mod Opening
 pub mod Starting
-pub mod Checked
+pub mod CheckPieces
 pub mod Legal
 pub mod Driven

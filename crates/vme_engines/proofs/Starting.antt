@@ -16,7 +16,7 @@ use Rattle.vme_engines.specs.Streams.{IsInput}
 use Rattle.vme_engines.specs.Outcomes.{scenario_limit}
 use Rattle.vme_engines.specs.Steps.{IsNoPlan, IsBounded, IsCounted, Comes}
 use Rattle.vme_engines.specs.Front.{IsTextOf, Starts}
-use Rattle.vme_engines.proofs.Replaying.{whole_input}
+use Rattle.vme_engines.proofs.TraceReads.{whole_input}
 
 -- ---- the scenario as it was held
 

@@ -4,5 +4,6 @@ pub mod Joining
 pub mod Checking
 pub mod Driving
 pub mod Steps
+pub mod Pieces
 pub mod Front
 pub mod Counting

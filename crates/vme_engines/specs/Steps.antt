@@ -102,13 +102,6 @@ abbrev pub traced : Result Status Fault → Answer
 traced (Ok status) = Ok status
 traced (Err f) = Err (fault.Trace f)
 
--- A replay that goes on behind a first read leaves that of the whole trace.
-abbrev pub ReplaysOn : State → trace.State → List Edge → Result Bool Fault → ℕ → Option (List ℕ) → Option (List ℕ) → Option (List ℕ) → Option (List ℕ) → Result Status Fault → Type 0
-ReplaysOn b reader es first left at to old new result =
-    (p : Plan) (version : Version) (from : Option (List ℕ)) (text head : List ℕ) → b ≡ bench p version → reader.version ≡ Some version
-    → Comes from at text head left reader es first
-    → (rest : List ℕ) × IsInput from (text ++ (head ++ rest)) × Replays p text (head ++ rest) (streams from to old new) (traced result)
-
 -- ---- check
 
 -- What the edges of a piece do to a check: `more` is what the read answered.
@@ -125,12 +118,6 @@ ChecksPiece b judged es more b' judged' (Err f) = (more ≡ Err f) × (first_ref
 abbrev pub Finds : Plan → List ℕ → Option (List ℕ) → Option (List ℕ) → Result Finding Fault → Type 0
 Finds p trace from to (Ok found) = IsFound p (read_of trace) (streams from to None None) found
 Finds p trace from to (Err f) = FindsNothing p trace (streams from to None None) f
-
--- A check that goes on behind a first read finds what is to be found in the whole trace.
-abbrev pub FindsOn : State → trace.State → List Edge → Result Bool Fault → ℕ → Option (List ℕ) → Option (List ℕ) → Result Finding Fault → Type 0
-FindsOn b reader es first left at to result =
-    (p : Plan) (version : Version) (from : Option (List ℕ)) → b ≡ bench p version → reader.version ≡ Some version
-    → Comes from at [] [] left reader es first → (trace : List ℕ) × IsInput from trace × Finds p trace from to result
 
 -- a check of the whole input
 abbrev pub FindsInput : Plan → Option (List ℕ) → Option (List ℕ) → Result Finding Fault → Type 0

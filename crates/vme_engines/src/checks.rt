@@ -1,13 +1,17 @@
 //! Checking a trace: the first edge that is refused, or that all of them are legal.
-ghost use Rattle.std.specs.Prelude.{◌≡◌, ◌+◌, ◌<◌, ◌^◌, [], Ok, None, true, length};
+ghost use Rattle.std.specs.Prelude.{◌≡◌, ◌+◌, ◌<◌, ◌^◌, None, length, refl};
+ghost use Rattle.std.proofs.Common.{arith};
+ghost use Rattle.std.specs.Io.KnownBytes.{Keeps};
+ghost use Rattle.std.proofs.KnownBytes.{Keeps-refl};
 ghost use Rattle.vme_model.specs.Verdict.{kept};
 ghost use Rattle.vme_model.specs.Report.{trace_limit};
 ghost use Rattle.vme_engines.specs.Streams.{streams, ReadNothing, WroteNothing};
 ghost use Rattle.vme_engines.specs.Outcomes.{Lent};
 ghost use Rattle.vme_engines.specs.Checking.{ChecksInput, first_refusal, finding_status};
-ghost use Rattle.vme_engines.specs.Steps.{IsCounted, ChecksPiece, FindsOn, FindsInput};
+ghost use Rattle.vme_engines.specs.Steps.{ChecksPiece, FindsInput};
 
 use crate::lines::write_finding;
+use crate::pieces::{Judge, read_on};
 use crate::plans::{history_region, history_room, plan_of};
 use crate::traces::open;
 use crate::{EngineFault, Status};
@@ -16,7 +20,7 @@ use std::io::{Read, Write};
 use vme_backplane::{Backplane, Trace};
 use vme_model::{Edge, Refused};
 use vme_slots::Plan;
-use vme_trace::{Fault, Reader, pump};
+use vme_trace::{Fault, Reader};
 
 /// What a check finds in a trace.
 #[derive(Clone, Copy, PartialEq, Eq, Debug)]
@@ -84,46 +88,75 @@ fn check_piece(
     }
 }
 
-/// Checks a trace whose first piece was read, with at most so many further reads.
-fn find_on<R: Read>(
-    mut backplane: Backplane,
-    mut reader: Reader,
-    mut edges: Vec<Edge>,
-    first: Result<bool, Fault>,
-    reads: u32,
-    input: &mut R,
-) -> Result<Finding, Fault>
-    requires { first ≡ Ok true → IsCounted reader reads (length edges.items) }
-    ensures { FindsOn backplane.entry reader edges.items first reads (R.remaining input.old) (R.remaining input.new) result }
-{
-    let mut judged = 0;
-    match check_piece(&mut backplane, &mut judged, &edges, first)? {
-        Some(finding) => return Ok(finding),
-        None => {}
-    }
-    'reads: for _ in 0..reads {
-        edges.clear();
-        let more = pump(&mut reader, input, &mut edges);
-        match check_piece(&mut backplane, &mut judged, &edges, more)? {
-            Some(finding) => return Ok(finding),
-            None => {}
+/// A check under way.
+#[derive(Drop)]
+pub(crate) struct Checking<'r> {
+    backplane: Backplane<'r>,
+    /// How many edges were judged.
+    judged: u64,
+}
+
+impl<'r> Checking<'r> {
+    /// Before the first edge.
+    fn new(backplane: Backplane<'r>) -> Checking<'r>
+        ensures backplane { result.backplane ≡ backplane.entry }
+        ensures judged { result.judged ≡ 0 }
+    {
+        Checking {
+            backplane,
+            judged: 0,
         }
     }
-    Err(Fault::Read)
+}
+
+impl Judge for Checking<'_> {
+    type Answer = Finding;
+
+    ghost count = { λ now. now.judged };
+
+    ghost takes = { λ first es more old new now answer. Keeps old new × ChecksPiece first.backplane first.judged es more now.backplane now.judged answer };
+
+    fn take<W: Write>(
+        &mut self,
+        edges: &[Edge],
+        more: Result<bool, Fault>,
+        _out: &mut W,
+    ) -> Result<Option<Finding>, Fault> {
+        check_piece(&mut self.backplane, &mut self.judged, edges, more)
+    }
+
+    ghost begins = { λ first old. (Keeps-refl old, (refl, refl, refl, omega arith)) };
+
+    ghost goes_on = { λ first es more old new now h. (h.1.0, h.1.3) };
 }
 
 /// Checks a trace that stands alone, on a plan.
-fn find<R: Read>(alloc: Global, plan: Plan, room: Trace, trace: &mut R) -> Result<Finding, Fault>
+fn find<R: Read, W: Write>(
+    alloc: Global,
+    plan: Plan,
+    room: Trace,
+    trace: &mut R,
+    out: &mut W,
+) -> Result<Finding, Fault>
     requires { room ≡ trace_limit }
-    ensures { FindsInput plan (R.remaining trace.old) (R.remaining trace.new) result }
+    ensures finds { FindsInput plan (R.remaining trace.old) (R.remaining trace.new) result }
+    ensures kept { Keeps (W.contents out.old) (W.contents out.new) }
 {
     let mut reader = Reader::new();
     let mut edges = Vec::new(alloc);
     let (first, reads) = open(&mut reader, trace, &mut edges);
     match reader.version() {
         Some(version) => {
-            let backplane = Backplane::new(plan, room, version);
-            find_on(backplane, reader, edges, first, reads, trace)
+            let mut check = Checking::new(Backplane::new(plan, room, version));
+            read_on(
+                &mut check,
+                &mut reader,
+                &mut edges,
+                first,
+                reads,
+                trace,
+                out,
+            )
         }
         None => match first {
             Ok(_) => Err(Fault::Read),
@@ -151,7 +184,7 @@ pub fn check<R: Read, W: Write>(
     let plan = plan_of(alloc, scenario)?;
     let mut region = history_region(alloc)?;
     let room = history_room(alloc, &mut region)?;
-    let finding = match find(alloc, plan, room, trace) {
+    let finding = match find(alloc, plan, room, trace, out) {
         Ok(finding) => finding,
         Err(fault) => return Err(EngineFault::Trace(fault)),
     };

@@ -6,8 +6,9 @@ ghost use Rattle.vme_engines.specs.Streams.{streams};
 ghost use Rattle.vme_engines.specs.Joining.{Joins};
 ghost use Rattle.vme_engines.specs.Front.{IsHeld, IsFront, IsTextOf, Takes, Finds, Starts, JoinsBehind};
 
+use crate::pieces::read_on;
 use crate::plans::{history_region, history_room, plan_of};
-use crate::replays::replay_on;
+use crate::replays::Replaying;
 use crate::{EngineFault, READS, SCENARIO_LIMIT, Status};
 use arrayvec::ArrayVec;
 use std::alloc::{AllocError, Global};
@@ -160,8 +161,16 @@ fn replay_behind<R: Read, W: Write>(
     let mut reader = Reader::new();
     let mut edges = Vec::new(alloc);
     let first = start(&mut reader, version, rest, &mut edges);
-    let backplane = Backplane::new(plan, room, version);
-    match replay_on(backplane, reader, edges, first, reads, input, out) {
+    let mut replay = Replaying::new(Backplane::new(plan, room, version));
+    match read_on(
+        &mut replay,
+        &mut reader,
+        &mut edges,
+        first,
+        reads,
+        input,
+        out,
+    ) {
         Ok(status) => Ok(status),
         Err(fault) => Err(EngineFault::Trace(fault)),
     }

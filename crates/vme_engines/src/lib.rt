@@ -9,6 +9,7 @@ mod drives;
 mod joins;
 pub mod laws;
 mod lines;
+mod pieces;
 mod plans;
 mod replays;
 mod traces;

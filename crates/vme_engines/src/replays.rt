@@ -1,11 +1,14 @@
 //! Replaying a trace: a verdict on each edge, and the closing line.
-ghost use Rattle.std.specs.Prelude.{◌≡◌, ◌+◌, ◌<◌, ◌^◌, [], Ok, true, length};
+ghost use Rattle.std.specs.Prelude.{◌≡◌, ◌+◌, ◌<◌, ◌^◌, length, refl};
+ghost use Rattle.std.proofs.Common.{arith};
+ghost use Rattle.std.proofs.KnownBytes.{Appends-nil};
 ghost use Rattle.vme_model.specs.Report.{trace_limit};
 ghost use Rattle.vme_engines.specs.Streams.{streams, ReadNothing, WroteNothing};
 ghost use Rattle.vme_engines.specs.Outcomes.{Lent, ReplaysInput, status_with};
-ghost use Rattle.vme_engines.specs.Steps.{IsCounted, TakesPiece, ReplaysOn, traced};
+ghost use Rattle.vme_engines.specs.Steps.{TakesPiece, traced};
 
 use crate::lines::{close, flush, write_verdicts};
+use crate::pieces::{Judge, read_on};
 use crate::plans::{history_region, history_room, plan_of};
 use crate::traces::open;
 use crate::{EngineFault, Status};
@@ -14,7 +17,7 @@ use std::io::{Read, Write};
 use vme_backplane::{Backplane, Trace};
 use vme_model::Edge;
 use vme_slots::Plan;
-use vme_trace::{Fault, Reader, pump};
+use vme_trace::{Fault, Reader};
 
 /// The status of a replay with so many refused edges.
 fn status_of(refused: u64) -> Status
@@ -57,34 +60,46 @@ fn take_piece<W: Write>(
     }
 }
 
-/// Replays a trace whose first piece was read, with at most so many further reads.
-pub(crate) fn replay_on<R: Read, W: Write>(
-    mut backplane: Backplane,
-    mut reader: Reader,
-    mut edges: Vec<Edge>,
-    first: Result<bool, Fault>,
-    reads: u32,
-    input: &mut R,
-    out: &mut W,
-) -> Result<Status, Fault>
-    requires { first ≡ Ok true → IsCounted reader reads (length edges.items) }
-    ensures { ReplaysOn backplane.entry reader edges.items first reads (R.remaining input.old) (R.remaining input.new) (W.contents out.old) (W.contents out.new) result }
-{
-    let mut judged = 0;
-    match take_piece(&mut backplane, &mut judged, &edges, first, out)? {
-        Some(status) => return Ok(status),
-        None => {}
-    }
-    'reads: for _ in 0..reads {
-        edges.clear();
-        let more = pump(&mut reader, input, &mut edges);
-        match take_piece(&mut backplane, &mut judged, &edges, more, out)? {
-            Some(status) => return Ok(status),
-            None => {}
+/// A replay under way.
+#[derive(Drop)]
+pub(crate) struct Replaying<'r> {
+    backplane: Backplane<'r>,
+    /// How many edges were judged.
+    judged: u64,
+}
+
+impl<'r> Replaying<'r> {
+    /// Before the first edge.
+    pub(crate) fn new(backplane: Backplane<'r>) -> Replaying<'r>
+        ensures backplane { result.backplane ≡ backplane.entry }
+        ensures judged { result.judged ≡ 0 }
+    {
+        Replaying {
+            backplane,
+            judged: 0,
         }
     }
-    flush(out)?;
-    Err(Fault::Read)
+}
+
+impl Judge for Replaying<'_> {
+    type Answer = Status;
+
+    ghost count = { λ now. now.judged };
+
+    ghost takes = { λ first es more old new now answer. TakesPiece first.backplane first.judged es more old new now.backplane now.judged answer };
+
+    fn take<W: Write>(
+        &mut self,
+        edges: &[Edge],
+        more: Result<bool, Fault>,
+        out: &mut W,
+    ) -> Result<Option<Status>, Fault> {
+        take_piece(&mut self.backplane, &mut self.judged, edges, more, out)
+    }
+
+    ghost begins = { λ first old. (refl, Appends-nil old, refl, omega arith) };
+
+    ghost goes_on = { λ first es more old new now h. (h.0, h.3) };
 }
 
 /// Replays a trace that stands alone, on a plan.
@@ -103,8 +118,16 @@ fn replay_trace<R: Read, W: Write>(
     let (first, reads) = open(&mut reader, trace, &mut edges);
     match reader.version() {
         Some(version) => {
-            let backplane = Backplane::new(plan, room, version);
-            replay_on(backplane, reader, edges, first, reads, trace, out)
+            let mut replay = Replaying::new(Backplane::new(plan, room, version));
+            read_on(
+                &mut replay,
+                &mut reader,
+                &mut edges,
+                first,
+                reads,
+                trace,
+                out,
+            )
         }
         None => match first {
             Ok(_) => Err(Fault::Read),

@@ -1,5 +1,5 @@
 use Rattle.std.proofs.Common.{arith}
-use Rattle.vme_engines.proofs.Checked.{passed_refused, passed_more}
+use Rattle.vme_engines.proofs.CheckPieces.{passed_refused, passed_more}
 use Rattle.vme_engines.proofs.checks.first_refused.Goals as goal
 
 pub returns-in-Err-clause-found : goal.returns-in-Err-clause-found

@@ -1,5 +1,5 @@
 use Rattle.std.proofs.Common.{◌≡◌, ◌+◌, drop}
-use Rattle.vme_engines.proofs.Checked.{HasPassed}
+use Rattle.vme_engines.proofs.CheckPieces.{HasPassed}
 use Rattle.vme_engines.proofs.checks.first_refused.Given as goal
 
 abbrev pub invariant-loop-edge : goal.invariant-loop-edge

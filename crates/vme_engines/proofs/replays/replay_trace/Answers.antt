@@ -1,20 +1,15 @@
 use Rattle.std.proofs.Common.{[], Bool, Result, sym, ◌∙◌, subst}
 use Rattle.vme_trace.specs.declared.Fault.{Fault}
 use Rattle.vme_engines.specs.Steps.{Opens}
-use Rattle.vme_engines.proofs.Opening.{counted_first, unopened, never_unopened}
+use Rattle.vme_engines.proofs.Opening.{unopened, never_unopened}
+use Rattle.vme_engines.proofs.ReplayPieces.{replays_all}
 use Rattle.vme_engines.proofs.replays.replay_trace.Goals as goal
-
-pub replay_on-requires : goal.replay_on-requires
-replay_on-requires g c = λ first. counted_first _ _ [] [] _ _ _ _ c.open-first.ensures.0 first
 
 pub returns-in-Some : goal.returns-in-Some
 returns-in-Some g c =
-    c.replay_on.ensures c.args.plan c.in-Some.version (g.R.Read.remaining c.args.trace.now) [] [] (rw c.requires at c.new-backplane.ensures) (sym c.version.ensures ∙ c.in-Some.is) c.open-first.ensures.0
-
-pub returns : goal.returns
-returns g c =
-    let opens = subst (λ (a : Result Bool Fault). Opens (g.R.Read.remaining c.args.trace.now) (g.R.Read.remaining c.open-first.new.input) c.open-first.new.reader c.open-first.new.edges.items (a, c.open-first.result.1)) c.in-Err.is c.open-first.ensures in
-    unopened c.args.plan _ _ _ _ _ c.open-first.result.1 (sym c.version.ensures ∙ c.in-None.is) c.in-Err.fault opens
+    let ran = c.read_on.ensures c.in-Some.version (g.R.Read.remaining c.args.trace.now) [] [] (sym c.version.ensures ∙ c.in-Some.is) c.open-first.ensures.0 in
+    let is = c.new-replay.ensures.backplane ∙ rw c.requires at c.new.ensures in
+    (ran.0, ran.1, replays_all (λ s. s.backplane) (λ s. s.judged) c.args.plan c.in-Some.version [] ran.0 _ c.new-replay.result.backplane c.new-replay.result.judged c.read_on.result is c.new-replay.ensures.judged ran.2)
 
 pub returns-in-Ok : goal.returns-in-Ok
 returns-in-Ok g c =
@@ -22,3 +17,8 @@ returns-in-Ok g c =
     absurd
     (never_unopened c.args.plan (g.R.Read.remaining c.args.trace.now) (g.R.Read.remaining c.open-first.new.input) (g.W.Write.contents c.args.out.now) c.open-first.new.reader c.open-first.new.edges.items c.open-first.result.1
     (sym c.version.ensures ∙ c.in-None.is) c.in-Ok.field-0 opens)
+
+pub returns : goal.returns
+returns g c =
+    let opens = subst (λ (a : Result Bool Fault). Opens (g.R.Read.remaining c.args.trace.now) (g.R.Read.remaining c.open-first.new.input) c.open-first.new.reader c.open-first.new.edges.items (a, c.open-first.result.1)) c.in-Err.is c.open-first.ensures in
+    unopened c.args.plan _ _ _ _ _ c.open-first.result.1 (sym c.version.ensures ∙ c.in-None.is) c.in-Err.fault opens

@@ -1,5 +1,5 @@
 use Rattle.std.proofs.Common.{◌≡◌, ◌-◌, ◌+◌, ℕ, [], None, Some, inl, refl, sym, ◌∙◌, arith, subst}
-use Rattle.vme_engines.proofs.Replaying.{IsReading, came, opens_more}
+use Rattle.vme_engines.proofs.TraceReads.{IsReading, came, opens_more}
 use Rattle.std.proofs.KnownBytes.{Consumes-nil}
 use Rattle.vme_engines.proofs.Known.{none_known}
 use Rattle.vme_engines.proofs.Going.{can_go_on}

@@ -1,5 +1,5 @@
 use Rattle.std.proofs.Common.{◌≡◌, ◌-◌, [], None}
-use Rattle.vme_engines.proofs.Replaying.{IsReading}
+use Rattle.vme_engines.proofs.TraceReads.{IsReading}
 use Rattle.vme_engines.proofs.traces.open.Given as goal
 
 abbrev pub invariant-reads : goal.invariant-reads

@@ -4,7 +4,7 @@ use Rattle.std.proofs.Math.ListN.{length-append}
 use Rattle.std.proofs.Math.Seq.{drop-length}
 use mathlib.Core.List.{reverse-cons}
 use Rattle.std.proofs.lemmas.List.{drop_more, length-reverse}
-use Rattle.std.specs.Io.KnownBytes.{Consumes}
+use Rattle.std.specs.Io.KnownBytes.{Consumes, Keeps}
 use Rattle.vme_model.specs.declared.signals.Version.{Version}
 use Rattle.vme_model.specs.declared.signals.Edge.{Edge}
 use Rattle.vme_model.specs.declared.deliveries.Delivery.{Delivery}
@@ -20,13 +20,14 @@ use Rattle.vme_trace.specs.declared.Fault.TheVariants.{Header, Line, TooLong, Cu
 use Rattle.vme_trace.specs.Reading as trace
 use Rattle.vme_engines.specs.declared.checks.Finding.{Finding}
 use Rattle.vme_engines.specs.declared.checks.Finding.TheVariants.{Legal, Illegal}
-use Rattle.vme_engines.specs.Streams.{streams, IsInput}
+use Rattle.vme_engines.specs.Streams.{Streams, streams, WroteNothing}
 use Rattle.vme_engines.specs.Outcomes.{bench, HasFault, CanGoOn}
 use Rattle.vme_engines.specs.Checking.{or_refusal, first_refusal, refusal_of, IsUnrefused, IsLegalTrace, FindsNothing}
-use Rattle.vme_engines.specs.Steps.{Begins, Faults, Comes, Opens, ChecksPiece, FindsInput}
+use Rattle.vme_engines.specs.Steps.{Begins, Faults, Opens, ChecksPiece, Finds, FindsInput}
 use Rattle.vme_engines.proofs.Writing.{kept_append}
-use Rattle.vme_engines.proofs.Replaying.{IsReading, reading_of, begins_more, whole_input, read_out, no_such}
-use Rattle.vme_engines.proofs.Going.{can_go_on}
+use Rattle.vme_engines.specs.Pieces.{IsFaulty, Stopped, Came, Answers, answered}
+use Rattle.vme_engines.proofs.TraceReads.{whole_input, no_such}
+use Rattle.vme_engines.proofs.ReadingOn.{came_begins}
 
 -- ---- the first refusal
 
@@ -104,7 +105,29 @@ passed_all first now n m es run =
     let none : drop (length es) es ≡ [] = drop-length es in
     (sym (run.refusals ∙ ap (first_refusal m now) none), sym (run.state ∙ ap (kept now) none))
 
--- ---- one piece of a check
+-- ---- pieces
+
+-- two pieces, one behind the other
+module _ (b mid_b next : State) (judged mid_n now : ℕ) (es fs : List Edge) (more : Result Bool Fault) (first : ChecksPiece b judged es (Ok true) mid_b mid_n (Ok None)) where
+  count : judged + length (es ++ fs) ≡ mid_n + length fs
+  count = let is = length-append es fs in let here : mid_n ≡ judged + length es = first.3 in omega (arith, is)
+
+  state : kept b (es ++ fs) ≡ kept mid_b fs
+  state = kept_append b es fs ∙ ap (λ s. kept s fs) (sym first.2)
+
+  -- the first refusal in the second is that of both
+  refusal_is : first_refusal (judged + 1) b (es ++ fs) ≡ first_refusal (mid_n + 1) mid_b fs
+  refusal_is =
+      let from_here : (judged + 1) + length es ≡ mid_n + 1 = let here : mid_n ≡ judged + length es = first.3 in omega arith in
+      refusal_behind (judged + 1) b es fs first.1 ∙ ap (λ s. first_refusal ((judged + 1) + length es) s fs) (sym first.2) ∙ ap (λ n. first_refusal n mid_b fs) from_here
+
+  pub checks_more : (answer : Result (Option Finding) Fault) → ChecksPiece mid_b mid_n fs more next now answer → ChecksPiece b judged (es ++ fs) more next now answer
+  checks_more (Ok None) h = (h.0, refusal_is ∙ h.1, h.2 ∙ sym state, h.3 ∙ sym count)
+  checks_more (Ok (Some (Illegal n refused))) h = refusal_is ∙ h
+  checks_more (Ok (Some (Legal edges))) h = (h.0, refusal_is ∙ h.1, h.2 ∙ sym state, h.3 ∙ sym count, h.4, h.5, h.6)
+  checks_more (Err f) h = (h.0, refusal_is ∙ h.1)
+
+-- ---- a whole check
 
 refusal_known : (p : Plan) (v : Version) (es : List Edge) (w : Option Version) → w ≡ Some v → refusal_of p w es ≡ first_refusal 1 (bench p v) es
 refusal_known p v es w e = rw e refl
@@ -117,7 +140,7 @@ module _ (p : Plan) (all : List ℕ) (from to : Option (List ℕ)) (es : List Ed
   at_fault : (f : Fault) → f ≢ Memory → trace.HasFault (read_of all) version es f → HasFault all f × IsUnrefused p (read_of all)
   at_fault f ne h = (h.fault_is ne, ap (λ w. refusal_of p w (read_of all).edges) h.version_is ∙ ap (refusal_of p version) (h.edges_are ne) ∙ none)
 
-  pub stops : (f : Fault) → trace.HasFault (read_of all) version es f → FindsNothing p all (streams from to None None) f
+  stops : (f : Fault) → trace.HasFault (read_of all) version es f → FindsNothing p all (streams from to None None) f
   stops Header h = at_fault Header (λ e. cc) h
   stops (Line n) h = at_fault (Line n) (λ e. cc) h
   stops (TooLong n) h = at_fault (TooLong n) (λ e. cc) h
@@ -138,122 +161,56 @@ module _ (p : Plan) (all : List ℕ) (from to : Option (List ℕ)) (es : List Ed
     | inr stopped ↦ stops f (subst (λ (w : Option Version). trace.HasFault (read_of all) w es f) known (subst (λ (l : List ℕ). trace.HasFault (read_of l) reader.version es f) (sym is) stopped))
   ]
 
--- A check under way: no edge so far is refused.
-pub record IsChecking (p : Plan) (v : Version) (from at : Option (List ℕ)) (b : State) (reader : trace.State) (judged left : ℕ) : Type 0 where
-  pub es : List Edge
-  pub reading : IsReading [] [] from at reader left es
-  pub known : reader.version ≡ Some v
-  pub unrefused : first_refusal 1 (bench p v) es ≡ None
-  pub state : b ≡ kept (bench p v) es
-  pub count : judged ≡ length es
-
--- the trace as far as it is known begins with the edges that came
-begins_of : (from to : Option (List ℕ)) (v : Version) (left : ℕ) (reader : trace.State) (es : List Edge) (answer : Result Bool Fault) → Comes from to [] [] left reader es answer → reader.version ≡ Some v
-    → (all : List ℕ) × IsInput from all × Begins (read_of all) v es
-begins_of from to v left reader es (Ok true) h known = (h.0 ++ unwrap_or to [], whole_input from to [] h.0 h.1, begins_more v reader h.0 es h.3 known (unwrap_or to []))
-begins_of from to v left reader es (Ok false) h known =
-    (h.0, read_out from to h.0 h.1 h.2, record { version = sym h.3 ∙ known; others = []; edges = h.4 ∙ sym (append-nil es) })
-begins_of from to v left reader es (Err f) h known = (
-  h.0 ++ unwrap_or to [],
-  whole_input from to [] h.0 h.1,
-  elim h.2 [
-    | inl failed ↦ failed.1.begins v known
-    | inr stopped ↦ record { version = stopped.version_is ∙ known; others = stopped.front.0; edges = stopped.front.1 }
-  ],
-)
-
-module _ (p : Plan) (v : Version) (from to : Option (List ℕ)) (b next : State) (reader : trace.State) (judged now left : ℕ) (es fs : List Edge)
-    (unrefused : first_refusal 1 (bench p v) es ≡ None) (state : b ≡ kept (bench p v) es) (count : judged ≡ length es) where
-  -- the first refusal in this piece is that of all edges so far
-  refusal_is : first_refusal 1 (bench p v) (es ++ fs) ≡ first_refusal (judged + 1) b fs
-  refusal_is =
-      refusal_behind 1 (bench p v) es fs unrefused ∙ ap (λ s. first_refusal (1 + length es) s fs) (sym state) ∙ ap (λ n. first_refusal n b fs) (omega arith)
-
-  kept_is : kept (bench p v) (es ++ fs) ≡ kept b fs
-  kept_is = kept_append (bench p v) es fs ∙ ap (λ s. kept s fs) (sym state)
-
-  count_is : judged + length fs ≡ length (es ++ fs)
-  count_is = let is = length-append es fs in omega (arith, is)
-
-  -- the trace goes on
-  pub goes_on : (answer : Result Bool Fault) → Comes from to [] [] left reader (es ++ fs) answer → reader.version ≡ Some v
-      → ChecksPiece b judged fs answer next now (Ok None) → IsChecking p v from to next reader now left
-  goes_on answer came known h =
-      let going : Comes from to [] [] left reader (es ++ fs) (Ok true) = subst (λ (a : Result Bool Fault). Comes from to [] [] left reader (es ++ fs) a) h.0 came in
-      record {
-        es = es ++ fs;
-        reading = reading_of [] [] from to reader left (es ++ fs) going;
-        known = known;
-        unrefused = refusal_is ∙ h.1;
-        state = h.2 ∙ sym kept_is;
-        count = h.3 ∙ count_is;
-      }
-
+-- what is found in a whole trace
+module _ (p : Plan) (v : Version) (trace : List ℕ) (from to : Option (List ℕ)) (es : List Edge) (next : State) where
   -- all edges are legal
-  legal_trace : (r : Reading) → r.version ≡ Some v → r.edges ≡ es ++ fs → r.fault ≡ None → first_refusal (judged + 1) b fs ≡ None → next ≡ kept b fs
+  legal_trace : (r : Reading) → r.version ≡ Some v → r.edges ≡ es → r.fault ≡ None → first_refusal 1 (bench p v) es ≡ None → next ≡ kept (bench p v) es
       → IsLegal next.version next.plan next.history → IsSafe next.plan next.history → length next.history ≤ next.max → IsLegalTrace p r
   legal_trace r named edges whole none stepped legal safe fits =
-      let all : first_refusal 1 (bench p v) (es ++ fs) ≡ None = refusal_is ∙ none in
       let is : next ≡ record (bench p v) { history = reverse r.edges } =
-      stepped ∙ sym kept_is ∙ all_kept 1 (bench p v) (es ++ fs) all ∙ ap (λ l. record (bench p v) { history = l }) (append-nil (reverse (es ++ fs)))
+      stepped ∙ all_kept 1 (bench p v) es none ∙ ap (λ l. record (bench p v) { history = l }) (append-nil (reverse es))
       ∙ ap (λ l. record (bench p v) { history = reverse l }) (sym edges) in
       let few : length (reverse r.edges) ≤ trace_limit = subst (λ (s : State). length s.history ≤ s.max) is fits in
       record {
         version = v;
         named = named;
         whole = whole;
-        unrefused = refusal_known p v r.edges r.version named ∙ ap (first_refusal 1 (bench p v)) edges ∙ all;
+        unrefused = refusal_known p v r.edges r.version named ∙ ap (first_refusal 1 (bench p v)) edges ∙ none;
         legal = subst (λ (s : State). IsLegal s.version s.plan s.history) is legal;
         safe = subst (λ (s : State). IsSafe s.plan s.history) is safe;
         fits = rw (length-reverse r.edges) at few;
       }
 
-  -- something is found
-  pub found : (answer : Result Bool Fault) (finding : Finding) → Comes from to [] [] left reader (es ++ fs) answer → reader.version ≡ Some v
-      → ChecksPiece b judged fs answer next now (Ok (Some finding)) → FindsInput p from to (Ok finding)
-  found answer (Illegal n refused) came known h =
-      let all = begins_of from to v left reader (es ++ fs) answer came known in (
-        all.0,
-        all.1,
-        refusal_known p v (read_of all.0).edges (read_of all.0).version all.2.version ∙ ap (first_refusal 1 (bench p v)) all.2.edges
-            ∙ refusal_stays 1 (bench p v) (es ++ fs) all.2.others (n, refused) (refusal_is ∙ h),
-      )
-  found answer (Legal edges) came known h =
-      let end : Comes from to [] [] left reader (es ++ fs) (Ok false) = subst (λ (a : Result Bool Fault). Comes from to [] [] left reader (es ++ fs) a) h.0 came in
-      let named : (read_of end.0).version ≡ Some v = sym end.3 ∙ known in (
-        end.0,
-        read_out from to end.0 end.1 end.2,
-        (
-          legal_trace (read_of end.0) named end.4 end.5 h.1 h.2 h.4 h.5 h.6,
-          h.3 ∙ count_is ∙ ap length (sym end.4),
-          end.2,
-        ),
-      )
+  unrefused_at : Begins (read_of trace) v es → (f : Fault) → IsFaulty trace es f → first_refusal 1 (bench p v) es ≡ None → HasFault trace f × IsUnrefused p (read_of trace)
+  unrefused_at begins f h none = (h.0, refusal_known p v (read_of trace).edges (read_of trace).version begins.version ∙ ap (first_refusal 1 (bench p v)) h.1 ∙ none)
 
-  -- the trace cannot be read on
-  pub stopped : (answer : Result Bool Fault) (f : Fault) → Comes from to [] [] left reader (es ++ fs) answer → reader.version ≡ Some v
-      → ChecksPiece b judged fs answer next now (Err f) → FindsInput p from to (Err f)
-  stopped answer f came known h =
-      let here : Comes from to [] [] left reader (es ++ fs) (Err f) = subst (λ (a : Result Bool Fault). Comes from to [] [] left reader (es ++ fs) a) h.0 came in
-      let none : refusal_of p (Some v) (es ++ fs) ≡ None = refusal_is ∙ h.1 in (
-        here.0 ++ unwrap_or to [],
-        whole_input from to [] here.0 here.1,
-        faulted p (here.0 ++ unwrap_or to []) from to (es ++ fs) (Some v) none f here.0 reader known here.1 refl here.2,
-      )
+  none_found : Begins (read_of trace) v es → (f : Fault) → Stopped v [] trace from to es f → first_refusal 1 (bench p v) es ≡ None → FindsNothing p trace (streams from to None None) f
+  none_found begins Header h none = unrefused_at begins Header h none
+  none_found begins (Line n) h none = unrefused_at begins (Line n) h none
+  none_found begins (TooLong n) h none = unrefused_at begins (TooLong n) h none
+  none_found begins CutOff h none = unrefused_at begins CutOff h none
+  none_found begins Read h none = (h.0, h.1, h.2, refusal_known p v (read_of h.0).edges (read_of h.0).version h.3 ∙ ap (first_refusal 1 (bench p v)) h.4 ∙ none)
+  none_found begins Memory h none = (es, begins.others, begins.edges, refusal_known p v es (read_of trace).version begins.version ∙ none)
+  none_found begins Failed h none = absurd h
+  none_found begins Write h none = absurd h
 
--- what a piece did, by what is known of its edges and its answer
-pub checks_is : (b : State) (judged : ℕ) (es : List Edge) (more : Result Bool Fault) (next : State) (now : ℕ) (o : Option Finding) (fs : List Edge) (q : Option Finding)
-    → ChecksPiece b judged es more next now (Ok o) → es ≡ fs → o ≡ q → ChecksPiece b judged fs more next now (Ok q)
-checks_is b judged es more next now o fs q h same is =
-    subst (λ (a : Option Finding). ChecksPiece b judged fs more next now (Ok a)) is (subst (λ (gs : List Edge). ChecksPiece b judged gs more next now (Ok o)) same h)
+  -- What the loop leaves is what is to be found in the whole trace.
+  pub finds_it : (more : Result Bool Fault) (now : ℕ) (answer : Result Finding Fault) → Came v [] trace from to es more → ChecksPiece (bench p v) 0 es more next now (answered answer) → Finds p trace from to answer
+  finds_it more now (Ok (Illegal n refused)) came h =
+      let begins = came_begins v [] trace from to es more came in
+      refusal_known p v (read_of trace).edges (read_of trace).version begins.version ∙ ap (first_refusal 1 (bench p v)) begins.edges ∙ refusal_stays 1 (bench p v) es begins.others (n, refused) h
+  finds_it more now (Ok (Legal edges)) came h =
+      let end : Came v [] trace from to es (Ok false) = subst (Came v [] trace from to es) h.0 came in
+      let count : edges ≡ length es = let is : edges ≡ 0 + length es = h.3 in omega arith in
+      (legal_trace (read_of trace) end.0.version end.1 end.2 h.1 h.2 h.4 h.5 h.6, count ∙ ap length (sym end.1), end.3)
+  finds_it more now (Err f) came h =
+      let end : Came v [] trace from to es (Err f) = subst (Came v [] trace from to es) h.0 came in none_found end.0 f end.1 h.1
 
--- no read is left
-pub too_many : (p : Plan) (v : Version) (from to : Option (List ℕ)) (b : State) (reader : trace.State) (judged left : ℕ) → IsChecking p v from to b reader judged left → FindsInput p from to (Err Read)
-too_many p v from to b reader judged left r = (
-  r.reading.later ++ unwrap_or to [],
-  whole_input from to [] r.reading.later r.reading.taken,
-  read_failed p (r.reading.later ++ unwrap_or to []) from to r.es (Some v) r.unrefused r.reading.later r.reading.taken (can_go_on reader r.reading.later r.es r.reading.read) (sym r.known ∙ sym r.reading.read.version) r.reading.read.edges,
-)
+pub finds_all : {S : Type 0} (state : S → State) (count : S → ℕ) (p : Plan) (v : Version) (trace : List ℕ) (s : Streams) (b : State) (judged : ℕ) (answer : Result Finding Fault) → b ≡ bench p v → judged ≡ 0
+    → Answers (λ es more old new (now : S) a. Keeps old new × ChecksPiece b judged es more (state now) (count now) a) v [] trace s answer → Finds p trace s.from s.to answer × WroteNothing s
+finds_all state count p v trace s b judged answer is none h =
+    let took : ChecksPiece (bench p v) 0 h.0 h.1 (state h.2) (count h.2) (answered answer) = rw (is, none) at h.4.1 in
+    (finds_it p v trace s.from s.to h.0 (state h.2) h.1 (count h.2) answer h.3 took, h.4.0)
 
 -- ---- without a header line
 

@@ -1,0 +1,75 @@
+//! The one loop over a trace: an engine takes its edges piece by piece, until it has an answer.
+ghost use Rattle.std.specs.Prelude.{◌≡◌, ◌+◌, ◌<◌, ◌^◌, ◌++◌, ℕ, List, [], Option, None, Bool, Result, Ok, true, length};
+ghost use Rattle.vme_model.specs.declared.signals.Edge.{Edge};
+ghost use Rattle.vme_trace.specs.declared.Fault.{Fault};
+ghost use Rattle.vme_engines.specs.Steps.{IsCounted};
+ghost use Rattle.vme_engines.specs.Pieces.{ReadsOn};
+
+use std::io::{Read, Write};
+use vme_model::Edge;
+use vme_trace::{Fault, Reader, pump};
+
+/// What an engine does with the edges of a trace, in the order in which they come.
+pub(crate) trait Judge {
+    /// What it answers.
+    type Answer;
+
+    /// How many edges it took.
+    ghost count: { Self → ℕ };
+
+    /// What it did with the edges since it began, where the last read answered so: what the writer held and holds, what
+    /// became of it, and its answer.
+    ghost takes: { Self → List Edge → Result Bool Fault → Option (List ℕ) → Option (List ℕ) → Self → Result (Option Self.Answer) Fault → Type 0 };
+
+    /// Takes the edges of a piece. None where it has no answer yet, and the trace goes on.
+    ///
+    /// `more` is what the read of the piece answered.
+    fn take<W: Write>(
+        &mut self,
+        edges: &[Edge],
+        more: Result<bool, Fault>,
+        out: &mut W,
+    ) -> Result<Option<Self::Answer>, Fault>
+        requires { count self.old + length edges.now < 2 ^ 64 }
+        ensures { (first : Self) (es : List Edge) (old : Option (List ℕ)) → takes first es (Ok true) old (W.contents out.old) self.old (Ok None)
+            → takes first (es ++ edges.now) more old (W.contents out.new) self.new result };
+
+    /// At its beginning it has taken nothing and written nothing.
+    ghost begins: { (first : Self) (old : Option (List ℕ)) → takes first [] (Ok true) old old first (Ok None) };
+
+    /// It has no answer only where the trace goes on, and then it has counted all edges.
+    ghost goes_on: { (first : Self) (es : List Edge) (more : Result Bool Fault) (old new : Option (List ℕ)) (now : Self) → takes first es more old new now (Ok None)
+        → (more ≡ Ok true) × (count now ≡ count first + length es) };
+}
+
+/// Reads a trace on whose first piece was read, with at most so many further reads, and gives what the engine answers.
+pub(crate) fn read_on<J: Judge, R: Read, W: Write>(
+    judge: &mut J,
+    reader: &mut Reader,
+    edges: &mut Vec<Edge>,
+    first: Result<bool, Fault>,
+    reads: u32,
+    input: &mut R,
+    out: &mut W,
+) -> Result<J::Answer, Fault>
+    requires counted { first ≡ Ok true → IsCounted reader.old reads (length edges.old.items) }
+    requires begun { J.count judge.old ≡ 0 }
+    ensures { ReadsOn (J.takes judge.old) reader.old edges.old.items first reads (R.remaining input.old) (R.remaining input.new) (W.contents out.old) (W.contents out.new) result }
+{
+    match judge.take(edges, first, out)? {
+        Some(answer) => return Ok(answer),
+        None => {}
+    }
+    'reads: for _ in 0..reads {
+        edges.clear();
+        let more = pump(reader, input, edges);
+        match judge.take(edges, more, out)? {
+            Some(answer) => return Ok(answer),
+            None => {}
+        }
+    }
+    match judge.take(&[], Err(Fault::Read), out)? {
+        Some(answer) => Ok(answer),
+        None => Err(Fault::Read),
+    }
+}
