@@ -80,7 +80,13 @@ fn assert_refused(
 fn the_first_fault_of_slots_is_told(rt: HostRuntime) {
     assert_refused(&rt, 22, &[], &[], PlanError::TooManySlots { slots: 22 });
     let field = Field::RequesterBurst;
-    assert_refused(&rt, 3, &[requester(2, 3, 0)], &[], PlanError::OutOfRange { field });
+    assert_refused(
+        &rt,
+        3,
+        &[requester(2, 3, 0)],
+        &[],
+        PlanError::OutOfRange { field },
+    );
     let twice = [board(1), board(1), requester(3, 3, 1)];
     assert_refused(&rt, 3, &twice, &[], PlanError::SlotTwice { slot: 1 });
     let joined = [board(1), requester(2, 0, 1)];
@@ -101,7 +107,13 @@ fn handling(row: Row) -> Row {
 fn the_first_fault_of_levels_is_told(rt: HostRuntime) {
     let second = handling(requester(2, 3, 1));
     let unserved = [handling(requester(1, 2, 1)), second];
-    assert_refused(&rt, 2, &unserved, &[], PlanError::LevelNotServed { slot: 1 });
+    assert_refused(
+        &rt,
+        2,
+        &unserved,
+        &[],
+        PlanError::LevelNotServed { slot: 1 },
+    );
     let bare = [handling(board(1)), second];
     assert_refused(&rt, 2, &bare, &[], PlanError::HandlerTwice { level: 4 });
 }

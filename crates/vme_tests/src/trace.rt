@@ -124,13 +124,15 @@ fn any_cut_reads_the_same(rt: HostRuntime) {
 }
 
 /// Every wire falls and rises.
-const EVERY_WIRE: &[u8] = b"vme 2\nc bg0-\nc bg0+\nc bg1-\nc bg1+\nc bg2-\nc bg2+\nc bg3-\nc bg3+\nc bclr-\n\
+const EVERY_WIRE: &[u8] =
+    b"vme 2\nc bg0-\nc bg0+\nc bg1-\nc bg1+\nc bg2-\nc bg2+\nc bg3-\nc bg3+\nc bclr-\n\
     c bclr+\nc iack-\nc iack+\nc berr-\nc berr+\n1 br-\n21 br+\n1 bgout-\n21 bgout+\n\
     1 bbsy-\n21 bbsy+\n1 as-\n21 as+\n1 ds-\n21 ds+\n1 irq-\n21 irq+\n1 iackout-\n\
     21 iackout+\n1 dtack-\n21 dtack+\n10 addr- i7\n9 addr+\n";
 
 /// Every slot, every access and every acknowledge.
-const EVERY_VALUE: &[u8] = b"vme 1\n1 addr- r21\n2 addr- r20\n3 addr- r19\n4 addr- r18\n5 addr- r17\n6 addr- r16\n\
+const EVERY_VALUE: &[u8] =
+    b"vme 1\n1 addr- r21\n2 addr- r20\n3 addr- r19\n4 addr- r18\n5 addr- r17\n6 addr- r16\n\
     7 addr- r15\n8 addr- r14\n9 addr- r13\n10 addr- r12\n11 addr- r11\n12 addr- r10\n\
     13 addr- r9\n14 addr- r8\n15 addr- r7\n16 addr- r6\n17 addr- r5\n18 addr- r4\n\
     19 addr- r3\n20 addr- r2\n21 addr- r1\n20 addr- i1\n20 addr- i2\n20 addr- i3\n\
@@ -146,12 +148,7 @@ const TRACES: [(&[u8], Version, usize); 5] = [
 ];
 
 /// Asserts that this text is what is written of these edges.
-fn assert_written(
-    rt: &(impl Abort + AllocGlobal),
-    version: Version,
-    edges: &[Edge],
-    want: &[u8],
-) {
+fn assert_written(rt: &(impl Abort + AllocGlobal), version: Version, edges: &[Edge], want: &[u8]) {
     assert!(rt; edges.iter().all(|edge| edge.is_well_formed()));
     let mut text = Vec::new(rt.alloc());
     assert_same(rt, write(version, edges, &mut text), Ok(()));
