@@ -58,11 +58,11 @@ module _ (b : ℕ) where
 abbrev pub homes_at : Spot → ℕ → Fml
 homes_at s n = homes s.block s.at s.tag n
 
--- the bytes behind k tags up to a multiple of 16, and the way back from all these bytes to units
+-- the bytes after k tags up to a multiple of 16, and the way back from all these bytes to units
 abbrev pub padding_at : Spot → ℕ → Fml
 padding_at s k = fsep (room_for (loose (rounded k - k)) (block_ptr s.block (s.tag + k))) (fwand (room_for (loose (rounded k)) (block_ptr s.block s.tag)) (units_at (block_ptr s.block s.tag) (rounded k)))
 
--- room for m granules and their tags, behind n of them, with the padding of all tags
+-- room for m granules and their tags, after n of them, with the padding of all tags
 abbrev pub blank_at : Spot → ℕ → ℕ → Fml
 blank_at s n m = fsep (units_at (block_ptr s.block (s.at + n * 16)) (m * 16)) (fsep (room_for (loose m) (block_ptr s.block (s.tag + n))) (padding_at s (n + m)))
 

@@ -15,7 +15,7 @@ use std::marker::{Model, PhantomData};
 pub(crate) struct Granules {
     bytes: *mut u8,
     tags: *mut u8,
-    // Those whose tag is written. The `blank` granules behind them have none yet.
+    // Those whose tag is written. The `blank` granules after them have none yet.
     ghost count: { ℕ },
     ghost blank: { ℕ },
     ghost spot: { Spot },
@@ -30,7 +30,7 @@ impl Granules {
     ghost use Rattle.std.specs.Borrow.{sem, follows};
     ghost use Rattle.vme_arena.specs.contracts.granules.Granules.{the_row};
 
-    // The granules of the memory, all of them blank, with their tags behind them.
+    // The granules of the memory, all of them blank, with their tags after them.
     pub(crate) fn new(memory: Memory, deed: Deed<Global>, count: usize) -> (Granules, Deed<Global>)
         requires size { memory.size ≡ count * 16 + rounded count }
         requires deed { deed.ptr ≡ memory.ptr }

@@ -5,7 +5,7 @@ use crate::loan::Loan;
 use crate::memory::UNIT;
 use crate::piece::Piece;
 
-// Blocks are laid one behind the other: none stands at the granule `next` or behind it.
+// Blocks are laid one after the other: none stands at the granule `next` or after it.
 #[derive(Drop)]
 pub(crate) struct Held<'r> {
     loan: Loan<'r>,
@@ -93,7 +93,7 @@ impl<'r> Held<'r> {
         }
     }
 
-    // A block of `size` bytes behind the others. Granules that never came home are passed over.
+    // A block of `size` bytes after the others. Granules that never came home are passed over.
     pub(crate) fn take(self, size: usize) -> (Held<'r>, Option<Piece>)
         requires { (16 ≤ size) × (size % 16 ≡ 0) }
         ensures held { held_stretch result.0 ≡ held_stretch self.entry }
@@ -117,7 +117,7 @@ impl<'r> Held<'r> {
         (Held { loan, count, next }, None)
     }
 
-    // The `more` bytes behind the block of `given` bytes at `start`, if it is the last.
+    // The `more` bytes after the block of `given` bytes at `start`, if it is the last.
     pub(crate) fn take_behind(
         self,
         start: Piece,

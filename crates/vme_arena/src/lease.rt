@@ -17,8 +17,8 @@ use std::marker::PhantomData;
 /// A stretch of a region, as the allocator of one thread's collections: pass the lease itself to
 /// a `Vec` that is to own it, or a `&Lease` to several.
 ///
-/// Blocks are laid one behind the other, each as long as its size rounded up to 16 bytes. The room
-/// of a block is used again once it and all blocks behind it are given back. The last block grows
+/// Blocks are laid one after the other, each as long as its size rounded up to 16 bytes. The room
+/// of a block is used again once it and all blocks after it are given back. The last block grows
 /// in place where its size is a multiple of 16, and others move. An alignment above 16 and a block
 /// for which no room is left are an `AllocError`.
 #[derive(Drop)]
@@ -131,7 +131,7 @@ impl<'r> Lease<'r> {
         self.moved(block, len, old_cap, new_cap)
     }
 
-    // Its values in a block behind all others, if there is room for one.
+    // Its values in a block after all others, if there is room for one.
     fn moved<T>(
         &self,
         block: Block<T>,

@@ -39,7 +39,7 @@ pub struct Region {
     ghost owned: { (deed.alloc ≡ alloc) × (deed.ptr ≡ block_ptr granules.spot.block 0) × (deed.size ≡ room) },
 }
 
-/// What has not been carved yet. It ends where the region does, and begins behind what was carved.
+/// What has not been carved yet. It ends where the region does, and begins after what was carved.
 #[derive(Drop)]
 pub struct Rest<'r> {
     start: usize,

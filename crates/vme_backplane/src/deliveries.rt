@@ -9,7 +9,7 @@ use vme_slots::Plan;
 use vme_store::Store;
 use vme_wiring::Wiring;
 
-/// Puts a delivery behind the others, if there is one.
+/// Puts a delivery after the others, if there is one.
 fn append(given: &mut Vec<Delivery>, delivery: Option<Delivery>) -> Result<(), AllocError>
     ensures { IfOk result (λ _. given.new.items ≡ followed_by given.old.items delivery) }
 {

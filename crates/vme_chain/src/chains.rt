@@ -54,7 +54,7 @@ fn input_numbers(active: &[u8]) -> [u8; 22]
     numbers
 }
 
-/// These slots, and zeros behind them.
+/// These slots, and zeros after them.
 fn padded(active: &[u8]) -> [u8; 21]
     requires { length active.now ≤ 21 }
     ensures { take (length active.now) result ≡ active.now }

@@ -76,7 +76,7 @@ FindsNothing p trace s Memory = (es : List Edge) × (others : List Edge) × ((re
 FindsNothing p trace s Failed = ⊥
 FindsNothing p trace s Write = ⊥
 
--- What a check of a trace on a plan leaves: the line of what it found, at X8 a front of it; where it finds nothing, nothing.
+-- What a check of a trace on a plan leaves: the line of what it found, at X8 a prefix of it; where it finds nothing, nothing.
 abbrev pub Checks : Plan → List ℕ → Streams → Answer → Type 0
 Checks p trace s (Ok status) = (found : Finding) × IsFound p (read_of trace) s found × (status ≡ finding_status found) × Wrote s (finding_line found)
 Checks p trace s (Err (fault.Trace f)) =

@@ -1,7 +1,7 @@
 -- A number whose digits stand in a row of bytes, before the rest of a verdict line.
 use Rattle.std.specs.Prelude.{◌≡◌, ◌+◌, ℕ, List, ◌++◌, length, drop, codes, decimal}
 
--- what stands behind the number in the verdict line of an accepted edge
+-- what stands after the number in the verdict line of an accepted edge
 abbrev pub accepted : List ℕ
 accepted = codes " ok\n"
 

@@ -26,7 +26,7 @@ abbrev pub driven_text : Plan → Version → ℕ → List ℕ
 driven_text p version n = text version (in_order (driven p version n))
 
 -- What a drive leaves, by what the writer held and holds: the trace of a legal list, which `check` calls legal; at X8 a
--- front of it.
+-- prefix of it.
 abbrev pub Drives : Version → ℕ → Option (List ℕ) → Option (List ℕ) → Plan → Answer → Type 0
 Drives version n old new p (Ok status) =
     Appends old new (driven_text p version n) × IsLegal version p (driven p version n) × IsLegalTrace p (read_of (driven_text p version n))

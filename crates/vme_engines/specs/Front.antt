@@ -14,7 +14,7 @@ use Rattle.vme_engines.specs.Streams.{streams, IsInput, WroteNothing}
 use Rattle.vme_engines.specs.Outcomes.{Answer, scenario_limit, Lent, Replays}
 use Rattle.vme_engines.specs.Joining.{cut}
 
--- a cut of what stands behind these bytes
+-- a cut of what stands after these bytes
 abbrev pub behind : List ℕ → Option (List ℕ × List ℕ) → Option (List ℕ × List ℕ)
 behind before parts = option_map (λ p. (before ++ p.0, p.1)) parts
 
@@ -60,13 +60,13 @@ Finds bytes piece f (Err e) = Unit {0}
 abbrev pub IsTextOf : List ℕ → List ℕ → Type 0
 IsTextOf before text = (text ≡ before) ⊎ ((scenario_limit < length text) × (scenario_limit < length before))
 
--- A reader took in the header line and the rest of the piece behind it.
+-- A reader took in the header line and the rest of the piece after it.
 abbrev pub Starts : List ℕ → trace.State → List Edge → Result Bool Fault → Type 0
 Starts bytes reader es (Ok true) = trace.HasRead reader bytes es
 Starts bytes reader es (Ok false) = ⊥
 Starts bytes reader es (Err f) = (more : List ℕ) → trace.HasFault (read_of (bytes ++ more)) reader.version es f
 
--- What stands behind the text of a scenario was replayed: its header line, what was read behind it, and the rest.
+-- What stands after the text of a scenario was replayed: its header line, what was read after it, and the rest.
 abbrev pub JoinsBehind : Front → Version → List ℕ → Option (List ℕ) → Option (List ℕ) → Option (List ℕ) → Option (List ℕ) → Answer → Type 0
 JoinsBehind f version rest at to old new answer =
     (from : Option (List ℕ)) (before : List ℕ) → IsHeld f.held.items (before ++ header version) → Consumes from at (before ++ ((header version ++ 10 ∷ []) ++ rest))

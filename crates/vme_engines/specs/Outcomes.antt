@@ -62,9 +62,9 @@ HasFault trace f = option_map fault_of (read_of trace).fault ≡ Some f
 abbrev pub CanGoOn : List ℕ → Type 0
 CanGoOn bytes = ((read_of bytes).fault ≡ None) ⊎ ((read_of bytes).fault ≡ Some cut_off) ⊎ (bytes ≡ [])
 
--- What a replay of a trace leaves at a fault, where the trace stands in the input behind a text. X1 to X4: the verdicts
+-- What a replay of a trace leaves at a fault, where the trace stands in the input after a text. X1 to X4: the verdicts
 -- on the edges before it. X5: on the edges of what was read, which can go on. X6: on the edges that found room. X8: a
--- front of the report.
+-- prefix of the report.
 abbrev pub ReplayStops : Plan → List ℕ → List ℕ → Streams → Fault → Type 0
 ReplayStops p text trace s Header = HasFault trace Header × Wrote s (report p trace)
 ReplayStops p text trace s (Line n) = HasFault trace (Line n) × Wrote s (report p trace)

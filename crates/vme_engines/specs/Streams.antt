@@ -33,7 +33,7 @@ ReadNothing s = Keeps s.from s.to
 abbrev pub Wrote : Streams → List ℕ → Type 0
 Wrote s bytes = Appends s.old s.new bytes
 
--- a front of these bytes was written
+-- a prefix of these bytes was written
 abbrev pub WroteFront : Streams → List ℕ → Type 0
 WroteFront s bytes = AppendsFront s.old s.new bytes
 

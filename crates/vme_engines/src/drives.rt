@@ -89,7 +89,7 @@ fn write_lines<W: Write>(backplane: &Backplane, out: &mut W) -> Result<(), Fault
 
 /// Writes the trace of the edges that were made on a backplane: the header line of its version and a line for each edge.
 ///
-/// Errors: X8 where the output cannot be written; a front of the trace was then written.
+/// Errors: X8 where the output cannot be written; a prefix of the trace was then written.
 pub fn write_history<W: Write>(backplane: &Backplane, out: &mut W) -> Result<(), Fault>
     ensures ok { OnOk result (Appends (W.contents out.old) (W.contents out.new) (text backplane.now.version (in_order backplane.now.history))) }
     ensures front { OnErr result (AppendsFront (W.contents out.old) (W.contents out.new) (text backplane.now.version (in_order backplane.now.history))) }

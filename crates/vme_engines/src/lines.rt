@@ -151,7 +151,7 @@ fn finding_line(finding: Finding) -> ArrayVec<u8, LINE>
     line
 }
 
-/// Judges the edges behind the first `judged`, and writes the verdict line of each.
+/// Judges the edges after the first `judged`, and writes the verdict line of each.
 pub(crate) fn write_verdicts<W: Write>(
     backplane: &mut Backplane,
     judged: u64,

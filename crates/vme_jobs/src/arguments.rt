@@ -1,4 +1,4 @@
-//! The words behind the program's name, as the system gives them.
+//! The words after the program's name, as the system gives them.
 ghost use Rattle.std.specs.Prelude.{◌≡◌, IfErr};
 ghost use Rattle.std.specs.Process.{exit_status};
 ghost use Rattle.vme_jobs.specs.Words.{IsPlaced};
@@ -41,7 +41,7 @@ impl<T: Drop> From<AllocFailed<T>> for WordsFault {
     }
 }
 
-/// The bytes of the word at this place; none behind the last word.
+/// The bytes of the word at this place; none after the last word.
 fn bytes_at(rt: &HostRuntime, place: usize) -> Result<Option<Vec<u8>>, AllocError> {
     let mut room = ROOM;
     for _ in 0..usize::BITS {
@@ -59,7 +59,7 @@ fn bytes_at(rt: &HostRuntime, place: usize) -> Result<Option<Vec<u8>>, AllocErro
     Err(AllocError)
 }
 
-/// The words behind the program's name. Errors: F4 at the first that is not UTF-8, and F3.
+/// The words after the program's name. Errors: F4 at the first that is not UTF-8, and F3.
 pub fn given(rt: &HostRuntime) -> Result<Vec<String>, WordsFault>
     ensures { IfErr result IsPlaced }
 {

@@ -1,5 +1,5 @@
-//! What the words behind the program's name ask for, done: the files that they name to an engine, its answer to a status, a
-//! fault to a line.
+//! What the words after the program's name ask for, done: the files that they name to an engine, its answer to a status,
+//! a fault to a line.
 #![tactic(auto)]
 
 ghost use Rattle.std.specs.Prelude.{map};
@@ -23,7 +23,7 @@ use std::sync::Wait;
 use std::thread::Threads;
 use vme_words::words;
 
-/// Does what the words behind the program's name ask for.
+/// Does what the words after the program's name ask for.
 pub fn obey<R: Threads + Wait + Sync, W: Write>(
     rt: &HostRuntime,
     threads: &R,

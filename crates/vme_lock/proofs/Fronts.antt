@@ -54,7 +54,7 @@ pub driver_at : (seats : List Place) (n : ℕ) (s : Place) → n < length seats 
 driver_at seats n s less is =
     slice_get-map (λ (x : Place). x.driver) seats n ∙ ap (option_map (λ (x : Place). x.driver)) (slice_get_read seats (length seats) n s refl less is)
 
--- behind the last seat
+-- after the last seat
 pub all_numbered : (numbers : List ℕ) (seats : List Place) (n : ℕ) → length seats ≤ n → AreNumberedBelow numbers (drivers_of seats) n → AreNumbered numbers (drivers_of seats)
 all_numbered numbers seats n all below k d is =
     below k d (omega (arith, slice_get_within (drivers_of seats) k d is, as_many seats, all)) is

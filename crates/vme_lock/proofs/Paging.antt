@@ -24,7 +24,7 @@ joined-set (x ∷ y ∷ pages) zero page e last is = absurd (omega arith)
 joined-set (x ∷ pages) (suc n) page e last is =
     ap (λ (l : List Edge). x ++ l) (joined-set pages n page e (omega arith) is) ∙ sym (append_assoc x (joined pages) (e ∷ []))
 
--- the room of an empty page behind the others
+-- the room of an empty page after the others
 pub room_page : (pages : List (List Edge)) → room_of (pages ++ [] ∷ []) ≡ 256
 room_page pages =
     let len : length (pages ++ [] ∷ []) - 1 ≡ length pages = omega (arith, length-append pages ([] ∷ [])) in

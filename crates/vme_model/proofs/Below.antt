@@ -49,7 +49,7 @@ more_part test hi s (suc n) e from to above gap = ⊎_elim (λ (l : s < suc n). 
         let rest = same_part test (suc s) hi n (λ t f l'. less t (suc s) (omega arith) ∙ sym (less t hi (gap t f (omega arith)))) in
         cc (same, e, rest, less (suc n) (suc s) (omega arith), not_less (suc n) hi (omega arith))
 
--- a front of the numbers 1 to n, turned round
+-- a prefix of the numbers 1 to n, turned round
 pub part_of : (test : ℕ → Bool) (k n : ℕ) → reverse (filter (λ t. nat_lt t k) (filter test (up_to n))) ≡ low_part test k n
 part_of test k zero = refl
 part_of test k (suc n) =

@@ -395,7 +395,7 @@ module _ (on : ℕ → ℕ → Bool) (slots : ℕ) (two : Bool) where
       let e = held_front one v c k lo m s g found b low high i in absurd (cc (i.holds, e))
   passes_on one within v out' passers' m s found b u tr low high asks free (Expired c lo, i) = absurd (expired_front one v c lo m s found b low high i)
 
-  -- and its segment rises behind the grant
+  -- and its segment rises after the grant
   rises_held : OneChain → (v : GrantWires) (out' : ℕ → Bool) (c k lo m s : ℕ) (g : Bool) (found : Option ℕ) → IsAt m s found → Sets out' v.out s false → segment_of v m found ≡ false → v.out s ≡ true → IsHeld v c k lo g → IsHeld (record v { out = out' }) c k (suc s) false
   rises_held one v out' c k lo m s g found b u high low i = go (one m c s b.member (i.out_on s low))
     where

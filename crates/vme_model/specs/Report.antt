@@ -55,7 +55,7 @@ closing_text accepted refused = ((codes "accepted " ++ decimal accepted) ++ code
 abbrev pub closing_line : State → List Edge → List ℕ
 closing_line b es = closing_text (accepted_count b es) (length es - accepted_count b es)
 
--- the closing line stands only behind a whole trace
+-- the closing line stands only after a whole trace
 abbrev pub closing : Option TextFault → State → List Edge → List ℕ
 closing (Some fault) b es = []
 closing None b es = closing_line b es

@@ -44,7 +44,7 @@ abbrev pub sign : Bool → List ℕ
 sign true = codes "-"
 sign false = codes "+"
 
--- what an edge shows, behind a blank
+-- what an edge shows, after a blank
 abbrev pub argument : Option Cycle → List ℕ
 argument None = []
 argument (Some (Acknowledge v)) = codes " i" ++ number v
@@ -117,7 +117,7 @@ abbrev pub begin_line : ℕ → List (List ℕ) × List ℕ → List (List ℕ) 
 begin_line b ([], rest) = ([], b ∷ rest)
 begin_line b (l ∷ ls, rest) = ((b ∷ l) ∷ ls, rest)
 
--- bytes as lines: the complete ones, each without its line feed, and what stands behind the last line feed
+-- bytes as lines: the complete ones, each without its line feed, and what stands after the last line feed
 unfoldable pub split_lines : List ℕ → List (List ℕ) × List ℕ
 split_lines [] = ([], [])
 split_lines (b ∷ bs) = if b == 10 then ([] ∷ (split_lines bs).0, (split_lines bs).1) else begin_line b (split_lines bs)
@@ -130,7 +130,7 @@ is_too_long line = nat_lt 64 (length line)
 abbrev pub next_number : ℕ → ℕ
 next_number n = min (n + 1) (2 ^ 64 - 1)
 
--- what stands behind the last line feed says at the end of the input, where lines were complete before it
+-- what stands after the last line feed says at the end of the input, where lines were complete before it
 abbrev pub end_fault : ℕ → List ℕ → Option TextFault
 end_fault n rest =
     if is_too_long rest then Some (too_long n) else (if nat_lt 0 (length rest) then Some cut_off else None)
@@ -140,7 +140,7 @@ abbrev pub before_others : ℕ → Option Edge → List Edge × Option TextFault
 before_others n None others = ([], Some (no_edge n))
 before_others n (Some e) others = (e ∷ others.0, others.1)
 
--- the lines from the n-th on, behind the header line, and the rest behind them
+-- the lines from the n-th on, after the header line, and the rest after them
 unfoldable pub read_lines : ℕ → List (List ℕ) → List ℕ → List Edge × Option TextFault
 read_lines n [] rest = ([], end_fault n rest)
 read_lines n (line ∷ lines) rest =
@@ -151,7 +151,7 @@ read_lines n (line ∷ lines) rest =
 abbrev pub unread : TextFault → Reading
 unread fault = record { version = None; edges = []; fault = Some fault }
 
--- what a trace says, by its header line and by the lines behind it
+-- what a trace says, by its header line and by the lines after it
 abbrev pub behind_header : Option Version → List Edge × Option TextFault → Reading
 behind_header None others = unread no_header
 behind_header (Some version) others = record { version = Some version; edges = others.0; fault = others.1 }

@@ -96,7 +96,7 @@ module _ (lent : List ℕ) (version : Version) (m n turns : ℕ) (fits : m ≤ n
   not_played_from (LogDiffers driver at) none = (p, is.short, is.read, (other_logs version p m n turns none.0 driver at fits none.1 none.2, Keeps-refl _))
   not_played_from (NotReplayed at) none = absurd none
 
-  -- its trace was written, or a front of it
+  -- its trace was written, or a prefix of it
   pub written : (new : Option (List ℕ)) (b : State) (r : Result Status RunFault) → IsPlayed turns (at_power_up version p m) b → IsWritten b n old new r → Runs lent version n turns old new r
   written new b (Ok status) played done =
       (p, is.short, is.read, (b.history, run_of version p m n turns b fits played, subst (λ v. Appends old new (text v (in_order b.history))) (version_of version p m turns b played) done.0, done.1))

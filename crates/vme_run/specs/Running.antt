@@ -38,7 +38,7 @@ AreInTurns turns ds h = All (λ d. count h d ≤ turns) ds
 abbrev pub IsRun : Version → ℕ → ℕ → Plan → List Edge → Type 0
 IsRun version n turns p h = IsMade version n turns p h × AreInTurns turns (drivers p) h
 
--- What a run leaves on a plan, by what the writer held and holds: the trace of its edges, at X8 a front of it.
+-- What a run leaves on a plan, by what the writer held and holds: the trace of its edges, at X8 a prefix of it.
 abbrev pub RunsOn : Version → ℕ → ℕ → Option (List ℕ) → Option (List ℕ) → Plan → Answer → Type 0
 RunsOn version n turns old new p (Ok status) =
     (h : List Edge) × IsRun version n turns p h × Appends old new (text version (in_order h)) × (status ≡ (if length h == n then Limit else Done))

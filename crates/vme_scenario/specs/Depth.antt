@@ -53,11 +53,11 @@ pub record Place : Type 0 where
 abbrev pub front : Place
 front = record { mode = Plain; keyed = false; here = 0; held = 0; outer = [] }
 
--- behind an opening bracket or brace
+-- after an opening bracket or brace
 abbrev pub opened : Place → Place
 opened p = record p { here = p.here + 1; held = p.here + 1; outer = p.held ∷ p.outer }
 
--- behind a closing one, which ends the innermost table or array, if there is one
+-- after a closing one, which ends the innermost table or array, if there is one
 abbrev pub closed_to : Place → List ℕ → Place
 closed_to p [] = p
 closed_to p (depth ∷ outer) = record p { here = depth; held = depth; outer = outer }
@@ -65,26 +65,26 @@ closed_to p (depth ∷ outer) = record p { here = depth; held = depth; outer = o
 abbrev pub closed : Place → Place
 closed p = closed_to p p.outer
 
--- behind a comma: the key that was before it has ended
+-- after a comma: the key that was before it has ended
 abbrev pub ended : Place → Place
 ended p = record p { here = p.held }
 
--- behind a line, whose pair has ended; the key of a header stays
+-- after a line, whose pair has ended; the key of a header stays
 abbrev pub line_ended : Place → Bool → Place
 line_ended p true = record p { keyed = false; here = p.held }
 line_ended p false = record p { held = p.here }
 
--- behind a line feed
+-- after a line feed
 abbrev pub broken_in : Place → List ℕ → Place
 broken_in p [] = line_ended p p.keyed
 broken_in p (_ ∷ _) = ended p
 
--- behind a bracket: a header begins anew
+-- after a bracket: a header begins anew
 abbrev pub bracketed : Place → Bool → Place
 bracketed p true = opened p
 bracketed p false = record p { here = 0; held = 0 }
 
--- behind a byte of a key, of punctuation or of a value
+-- after a byte of a key, of punctuation or of a value
 abbrev pub structured : Place → ℕ → Place
 structured p c =
     if c == dot then record p { here = p.here + 1 }
@@ -96,24 +96,24 @@ structured p c =
     else if c == line_feed then broken_in p p.outer
     else p
 
--- the mode behind a byte outside of strings and comments
+-- the mode after a byte outside of strings and comments
 abbrev pub mode_behind : ℕ → Mode
 mode_behind c =
     if c == quote || c == apostrophe then Opened c else if c == hash then Comment else Plain
 
--- behind a byte outside of strings and comments
+-- after a byte outside of strings and comments
 abbrev pub outside : Place → ℕ → Place
 outside p c = structured (record p { mode = mode_behind c }) c
 
--- behind a byte in a string between such delimiters, on one line
+-- after a byte in a string between such delimiters, on one line
 abbrev pub in_short : ℕ → ℕ → Mode
 in_short d c = if c == d then Plain else if c == backslash && d == quote then ShortEscape else Short d
 
--- behind a byte in a string over several lines that is no delimiter
+-- after a byte in a string over several lines that is no delimiter
 abbrev pub in_long : ℕ → ℕ → Mode
 in_long d c = if c == backslash && d == quote then LongEscape else Long d 0
 
--- three delimiters end such a string, and behind them up to two more belong to it
+-- three delimiters end such a string, and after them up to two more belong to it
 abbrev pub in_run : Place → ℕ → ℕ → ℕ → Place
 in_run p d n c =
     if c == d then record p { mode = Long d (if nat_le 3 n then 3 else n + 1) }
@@ -130,7 +130,7 @@ behind_in ShortEscape p c = record p { mode = Short quote }
 behind_in (Long d n) p c = in_run p d n c
 behind_in LongEscape p c = record p { mode = Long quote 0 }
 
--- the place behind one more byte
+-- the place after one more byte
 abbrev pub behind : Place → ℕ → Place
 behind p c = behind_in p.mode p c
 

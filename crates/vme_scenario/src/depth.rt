@@ -21,7 +21,7 @@ enum Mode {
     /// In a string on one line, with its delimiter.
     Short(u8),
     ShortEscape,
-    /// In a string over several lines, with its delimiter, behind so many of them.
+    /// In a string over several lines, with its delimiter, after so many of them.
     Long(u8, u8),
     LongEscape,
 }
@@ -39,7 +39,7 @@ struct Place {
     outer: ArrayVec<usize, 81>,
 }
 
-/// The mode behind a byte outside of strings and comments.
+/// The mode after a byte outside of strings and comments.
 fn mode_behind(byte: u8) -> Mode
     ensures { result ≡ spec.mode_behind byte }
 {
@@ -50,7 +50,7 @@ fn mode_behind(byte: u8) -> Mode
     }
 }
 
-/// The mode behind a byte in a string on one line.
+/// The mode after a byte in a string on one line.
 fn in_short(delimiter: u8, byte: u8) -> Mode
     ensures { result ≡ spec.in_short delimiter byte }
 {
@@ -63,7 +63,7 @@ fn in_short(delimiter: u8, byte: u8) -> Mode
     }
 }
 
-/// The mode behind a byte in a string over several lines that is no delimiter.
+/// The mode after a byte in a string over several lines that is no delimiter.
 fn in_long(delimiter: u8, byte: u8) -> Mode
     ensures { result ≡ spec.in_long delimiter byte }
 {
@@ -156,7 +156,7 @@ impl Place {
         }
     }
 
-    /// Takes a byte of a string over several lines, behind so many of its delimiters.
+    /// Takes a byte of a string over several lines, after so many of its delimiters.
     fn take_long(&mut self, delimiter: u8, run: u8, byte: u8)
         requires { (self.old.here ≤ 80) × (array_vec_len self.old.outer ≤ 80) }
         ensures { placed self.new ≡ spec.in_run (placed self.old) delimiter run byte }

@@ -92,7 +92,7 @@ stands_at max n (suc k) r (p ∷ ps) d x a l m o =
     let g = stands_at (max - 65536) (n - 65536) k r ps d x a.2 l (omega arith) (omega arith) in
     j ∙ ap (λ y. get_or (stored ps) y x) i ∙ g
 
--- one more page behind full ones
+-- one more page after full ones
 pub another_page : (r : ℕ) (ps : List Page) → ArePages (length ps * 65536) 0 ps → r ≤ 65536 → ArePages (length ps * 65536 + r) 0 (ps ++ record { edges = []; room = r } ∷ [])
 another_page r [] a l = (omega arith, omega arith, omega arith)
 another_page r (p ∷ ps) a l =

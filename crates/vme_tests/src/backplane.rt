@@ -172,7 +172,7 @@ fn opened<'r>(
     Ok(Backplane::new(plan, trace, Version::One))
 }
 
-/// A backplane of a master and the boards behind it.
+/// A backplane of a master and the boards after it.
 fn backplane<'r>(
     alloc: Global,
     region: &'r mut Region,

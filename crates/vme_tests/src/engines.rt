@@ -163,7 +163,7 @@ fn replays_no_edge(rt: HostRuntime) {
     assert_replayed(&rt, ONE_BOARD, &mut trace, Ok(Status::Done), written);
 }
 
-// A request that comes behind the grant is too late for it.
+// A request that comes after the grant is too late for it.
 #[test]
 fn goes_on_behind_a_refused_edge(rt: HostRuntime) {
     let mut trace: &[u8] = b"vme 1\n3 br-\nc bg3-\n2 bgout-\n2 br-\n2 bbsy-\n3 bbsy-\n";
@@ -177,7 +177,7 @@ fn goes_on_behind_a_refused_edge(rt: HostRuntime) {
     );
 }
 
-// The thirteenth read is behind the header line's six bytes and the first edge's six.
+// The thirteenth read is after the header line's six bytes and the first edge's six.
 #[test]
 fn a_failing_read_leaves_the_verdicts_before_it(rt: HostRuntime) {
     let mut trace = Pieces::new(TENURE, 1).failing_at(13);
@@ -205,7 +205,7 @@ const FAULTY: [(&[u8], Fault, &[u8]); 7] = [
     ),
 ];
 
-/// Whether a replay ends at a fault, behind these verdicts.
+/// Whether a replay ends at a fault, after these verdicts.
 fn ends_at(rt: &impl AllocGlobal, trace: &[u8], fault: Fault, written: &[u8]) -> bool {
     let mut out = Vec::new(rt.alloc());
     let answer = replay(rt.alloc(), ONE_BOARD, &mut { trace }, &mut out);

@@ -135,7 +135,7 @@ impl Gate for Asked {
     }
 }
 
-/// A gate that counts the calls behind it.
+/// A gate that counts the calls after it.
 #[derive(Drop)]
 pub struct Counts {
     open: bool,
@@ -150,7 +150,7 @@ impl Counts {
         }
     }
 
-    /// How often it was called behind a turn.
+    /// How often it was called after a turn.
     pub fn calls(&self) -> u32 {
         self.after.load(Ordering::SeqCst)
     }

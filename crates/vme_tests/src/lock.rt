@@ -106,7 +106,7 @@ struct Ran {
 }
 
 impl Ran {
-    /// Whether the log of the controller, or of a slot, is a front of these edges.
+    /// Whether the log of the controller, or of a slot, is a prefix of these edges.
     fn begins(&self, seat: usize, edges: &[Edge]) -> bool {
         match self.logs.get(seat) {
             Some(log) => edges.starts_with(log.as_slice()),
@@ -391,7 +391,7 @@ fn differing<L: Rig>(
     }
 }
 
-/// Makes an edge behind the last turn, and then the same.
+/// Makes an edge after the last turn, and then the same.
 fn differing_behind<L: Rig, R: Wait>(
     rt: &R,
     shared: Shared<'_, L>,
@@ -414,7 +414,7 @@ fn differing_behind<L: Rig, R: Wait>(
     }
 }
 
-/// Makes an edge before the boards run or behind, and answers which driver's log differs, and where.
+/// Makes an edge before the boards run or after, and answers which driver's log differs, and where.
 fn mismatch_of<L: Rig + Send + Sync, G: Gate + Sync, R: Threads + Wait + Sync>(
     rt: &R,
     alloc: Global,
@@ -538,7 +538,7 @@ fn is_log_of(log: &Log<'_>, edges: &[Edge]) -> bool {
     log.len() as usize == edges.len()
 }
 
-/// What a worker did, and how often its gate was called behind a turn.
+/// What a worker did, and how often its gate was called after a turn.
 fn assert_worked(rt: &impl Abort, task: Task<'_>, log: &Log<'_>, spent: Spent, calls: u32) {
     assert!(rt; spent == task.spent);
     assert!(rt; spent != Spent::Turns || calls == task.bounds.turns);
@@ -560,7 +560,7 @@ fn work<L: Rig, R: Wait + Abort>(
     Ok(seat)
 }
 
-/// What slot 1 sees behind its request.
+/// What slot 1 sees after its request.
 fn assert_seen<L: Rig, R: Wait + Abort>(
     rt: &R,
     shared: &Shared<'_, L>,
@@ -572,7 +572,7 @@ fn assert_seen<L: Rig, R: Wait + Abort>(
     Ok(())
 }
 
-/// The edges that slot 1 is refused behind its request.
+/// The edges that slot 1 is refused after its request.
 fn assert_refused<L: Rig, R: Wait + Abort>(rt: &R, shared: &Shared<'_, L>, first: &mut Seat<L>) {
     for other in [SECOND, Driver::Slot(0), Driver::Controller] {
         let refused = shared.edge(rt, first, fall(other, Wire::Br));

@@ -12,7 +12,7 @@ const MOST: u32 = 16_777_216;
 /// The most tries of a read that is interrupted.
 const TRIES: u32 = 65_536;
 
-/// A reader that gives a byte a read: a head, and behind it some lines again and again, so many bytes in all.
+/// A reader that gives a byte a read: a head, and after it some lines again and again, so many bytes in all.
 #[derive(Drop)]
 struct Drops<'a> {
     /// What comes again and again.

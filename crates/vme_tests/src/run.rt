@@ -136,7 +136,7 @@ fn one_edge(rt: HostRuntime) {
     assert!(rt; ran.status == Status::Limit);
 }
 
-/// Asserts that a run is done behind the request, or behind its grant.
+/// Asserts that a run is done after the request, or after its grant.
 fn assert_one_turn(rt: &impl Abort, ran: &Ran) {
     let trace = ran.trace.as_slice();
     assert!(rt;

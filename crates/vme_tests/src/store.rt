@@ -80,7 +80,7 @@ fn keeps(store: &Store<'_>, places: &[u32]) -> bool {
     true
 }
 
-/// Fills a trace of so many edges, and looks at these places, and at the one behind the last.
+/// Fills a trace of so many edges, and looks at these places, and at the one after the last.
 fn assert_filled<R: Abort>(rt: &R, trace: Trace<'_>, max: u32, places: &[u32]) {
     let mut store = Store::new(trace);
     assert!(rt; store.len() == 0 && store.max() == max);
@@ -172,7 +172,7 @@ const IN_THEIR_ORDER: [Case; 8] = [
     (&[], 0, Ok(0)),
 ];
 
-/// On a region of so many bytes each case has its answer: the region is whole again behind each.
+/// On a region of so many bytes each case has its answer: the region is whole again after each.
 fn assert_answers<R: AllocGlobal + Abort>(
     rt: &R,
     bytes: usize,

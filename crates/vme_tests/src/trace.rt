@@ -188,7 +188,7 @@ const LINE: Result<(), Fault> = Err(Fault::Line { n: 2 });
 
 const LONG: Result<(), Fault> = Err(Fault::TooLong { n: 2 });
 
-/// What stands behind the header line, and what the reader answers.
+/// What stands after the header line, and what the reader answers.
 const SECOND_LINES: [(&[u8], Result<(), Fault>); 26] = [
     (b"\n", LINE),
     (b"01 br-\n", LINE),
@@ -227,7 +227,7 @@ const SECOND_LINES: [(&[u8], Result<(), Fault>); 26] = [
     (b"c bclr+\n", Ok(())),
 ];
 
-/// Asserts what the reader answers where this stands behind the header line.
+/// Asserts what the reader answers where this stands after the header line.
 fn assert_second_line(rt: &(impl Abort + AllocGlobal), text: &[u8], want: Result<(), Fault>) {
     let mut edges = Vec::new(rt.alloc());
     let mut reader = Reader::new();

@@ -16,7 +16,7 @@ use Rattle.vme_trace.proofs.Stepping.{behind_fault}
 abbrev pub state : Option Version → Option Place → State
 state v p = record { version = v; place = p }
 
--- what stands behind the bytes is the rest of all
+-- what stands after the bytes is the rest of all
 made : (v : Option Version) (n : ℕ) (part bytes : List ℕ) (es : List Edge) → IsPart part
     → ((more : List ℕ) → read_of (bytes ++ more) ≡ with_edges es (rest_of v (place n part) more))
     → HasRead (state v (Some (place n part))) bytes es
@@ -114,7 +114,7 @@ module _ (bytes : List ℕ) (old new : List Edge) (reader : State) (fed : Fed by
   pub read_front : (front : List Edge) × (others : List Edge) × ((read_of bytes).edges ≡ front ++ others) × (new ≡ old ++ front)
   read_front = ((read_of bytes).edges, [], sym (append-nil (read_of bytes).edges), read_edges)
 
--- the version behind the end
+-- the version after the end
 pub named_version : (v w : Option Version) (r : Result Version Fault) (f : Fault) → w ≡ v → r ≡ ok_or v f → IfOk r (λ x. w ≡ Some x)
 named_version None w r f same is = rw is tt
 named_version (Some x) w r f same is = rw is same

@@ -189,7 +189,7 @@ value_found Addr true (Some (Acknowledge v)) h rest = ap as_value (all_in FindsL
 value_found Addr true (Some (Access s)) h rest = ap as_value (all_in FindsAccess s (up_to 21) accesses_found (in_slots s h) rest)
 value_found w fall (Some c) h rest = absurd (true_false (sym h))
 
--- ---- the parts of a line, one behind the other
+-- ---- the parts of a line, one after the other
 
 infixl 10 ◌>>=◌
 abbrev ◌>>=◌ : {A B : Type 0} → Option A → (A → Option B) → Option B

@@ -122,7 +122,7 @@ pub end_present : (v : Option Version) (n : ℕ) → is_some v ≡ true → (res
 end_present None n h = absurd (true_false (sym h))
 end_present (Some v) n h = ap (λ r. r.fault) (end_whole v n)
 
--- with nothing behind it, a place has its version and no edge
+-- with nothing after it, a place has its version and no edge
 pub settled : (v : Option Version) (n : ℕ) (part : List ℕ) → IsPart part → ((rest_of v (place n part) []).version ≡ v) × ((rest_of v (place n part) []).edges ≡ [])
 settled None n [] h = let e = end_none n in (ap (λ r. r.version) e, ap (λ r. r.edges) e)
 settled (Some v) n [] h = let e = end_whole v n in (ap (λ r. r.version) e, ap (λ r. r.edges) e)
@@ -147,7 +147,7 @@ cut_behind (x ∷ xs) (suc e) h is = ap (λ l. x ∷ l) (cut_behind xs e (omega 
 pub cut : (xs : List ℕ) (e : ℕ) → e < length xs → get_or xs e 0 ≡ 10 → xs ≡ (take e xs ++ 10 ∷ []) ++ drop (e + 1) xs
 cut xs e h is = rw (add-one e) (cut_behind xs e h is)
 
--- nothing stands behind the end
+-- nothing stands after the end
 pub nothing_behind : (xs : List ℕ) (e : ℕ) → length xs ≤ e → xs ≡ xs ++ take (length xs - e) (drop e xs)
 nothing_behind xs e h = let none : length xs - e ≡ 0 = omega arith in rw none (sym (append-nil xs))
 

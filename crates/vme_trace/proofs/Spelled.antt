@@ -34,7 +34,7 @@ reads line e h =
 abbrev with_feed : List ℕ → List ℕ
 with_feed line = line ++ 10 ∷ []
 
--- a line that spells an edge is the front line of that edge, with nothing behind it
+-- a line that spells an edge is the front line of that edge, with nothing after it
 front_line : (line : List ℕ) (e : Edge) → Spells line e → IsFrontLine e (with_feed line) []
 front_line line e h = record { formed = h.0; is = ap with_feed h.1 ∙ sym (append-nil (with_feed (spelling e))) }
 
@@ -116,7 +116,7 @@ without_feed (x ∷ xs) (y ∷ ys) h =
     rw (first, rest) refl
 
 module _ (line text : List ℕ) (is : text ≡ with_feed line) where
-  -- a line that spells an edge has this edge at its front, and nothing behind it
+  -- a line that spells an edge has this edge at its front, and nothing after it
   spelled_front : (e : Edge) → Spells line e → first_edge text ≡ Some (e, [])
   spelled_front e h = ap first_edge is ∙ front_found e (with_feed line) [] (front_line line e h)
 

@@ -21,7 +21,7 @@ if_err_map (Err e) P Q f h = f e h
 pub has_fault : (r : Reading) (v : Option Version) (t : TextFault) → r ≡ faulty v t → HasFault r v [] (fault_of t)
 has_fault r v t h = rw h (record { version_is = refl; front = ([], refl); edges_are = λ _. refl; fault_is = λ _. refl })
 
--- the same behind other edges
+-- the same after other edges
 pub behind_fault : (r : Reading) (v : Option Version) (es fs : List Edge) (f : Fault) → HasFault r v fs f → HasFault (with_edges es r) v (es ++ fs) f
 behind_fault r v es fs f h = record {
   version_is = h.version_is;
@@ -94,7 +94,7 @@ from_part_fault v w n part tail line old new f is h = record {
   has_fault = λ more. rw (part_line v n part tail line more is) (h.has_fault more);
 }
 
--- a fault in a front of the bytes
+-- a fault in a prefix of the bytes
 pub fault_within : (v w : Option Version) (p : Place) (a b : List ℕ) (old new : List Edge) (f : Fault) → Fails v p a old new w f → Fails v p (a ++ b) old new w f
 fault_within v w p a b old new f h = record {
   es = h.es;

@@ -1,4 +1,4 @@
--- Writing a front of some bytes, and more of them.
+-- Writing a prefix of some bytes, and more of them.
 use Rattle.std.proofs.Common.{◌≡◌, ℕ, ◌-◌, ◌+◌, ◌<◌, get_or, List, [], ◌∷◌, ◌++◌, length, take, drop, Option, Result, Ok, Err, OnErr, refl, sym, ◌∙◌, ap, append_assoc, append-nil, take-append-drop, length-drop}
 use Rattle.std.specs.Io.KnownBytes.{Appends}
 use Rattle.std.proofs.KnownBytes.{Appends-trans, Appends-nil}
@@ -58,7 +58,7 @@ pub line_front : (a b c : Option (List ℕ)) (es : List Edge) (i : ℕ) (d : Edg
 line_front a b c es i d x h is w more =
     wrote_front a b c (edge_lines es) x (edge_lines (drop (i + 1) es)) (rw is (rw (lines_drop es i d h) at w)) more
 
--- two texts, one behind the other
+-- two texts, one after the other
 pub first_front : (a b : Option (List ℕ)) (x y : List ℕ) → AppendsFront a b x → AppendsFront a b (x ++ y)
 first_front a b x y more = wrote_front a a b (x ++ y) x y ([], refl, Appends-nil a) more
 

@@ -113,7 +113,7 @@ first_slot text =
     then Some (20 + (slice_index text 1 - 48), drop 3 text)
     else None
 
--- what is shown, behind a blank, and a line feed
+-- what is shown, after a blank, and a line feed
 unfoldable pub first_cycle : List ℕ → First Cycle
 first_cycle text =
     if stands (codes " i") 0 text then option_map (λ p. (Acknowledge p.0, p.1)) (first_level (drop 2 text))

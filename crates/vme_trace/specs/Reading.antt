@@ -33,7 +33,7 @@ pub record State : Type 0 where
   pub version : Option Version
   pub place : Option Place
 
--- what the bytes behind a place say
+-- what the bytes after a place say
 abbrev pub rest_of : Option Version → Place → List ℕ → Reading
 rest_of None p bytes = read_from_header p.line (split_lines (p.part ++ bytes)).0 (split_lines (p.part ++ bytes)).1
 rest_of (Some version) p bytes =
@@ -53,7 +53,7 @@ pub record HasRead (reader : State) (bytes : List ℕ) (es : List Edge) : Type 0
   pub edges : (read_of bytes).edges ≡ es
   pub others : (more : List ℕ) → read_of (bytes ++ more) ≡ with_edges es (rest_of reader.version place more)
 
--- A trace of this version has a fault behind these edges. Where memory was refused they are the first ones, else all
+-- A trace of this version has a fault after these edges. Where memory was refused they are the first ones, else all
 -- up to the fault.
 pub record HasFault (trace : Reading) (version : Option Version) (es : List Edge) (fault : Fault) : Type 0 where
   pub version_is : trace.version ≡ version
@@ -61,11 +61,11 @@ pub record HasFault (trace : Reading) (version : Option Version) (es : List Edge
   pub edges_are : fault ≢ Memory → trace.edges ≡ es
   pub fault_is : fault ≢ Memory → option_map fault_of trace.fault ≡ Some fault
 
--- The reader is used up by a fault of the trace behind these edges.
+-- The reader is used up by a fault of the trace after these edges.
 abbrev pub Stops : State → Reading → List Edge → Fault → Type 0
 Stops reader trace es fault = (reader.place ≡ None) × HasFault trace reader.version es fault
 
--- A reader took in the last piece of these bytes, behind these edges: the list grew by those of its lines.
+-- A reader took in the last piece of these bytes, after these edges: the list grew by those of its lines.
 abbrev pub Fed : List ℕ → List Edge → List Edge → List Edge → State → Result (Unit {0}) Fault → Type 0
 Fed bytes es old new reader (Ok _) = (fs : List Edge) × (new ≡ old ++ fs) × HasRead reader bytes (es ++ fs)
 Fed bytes es old new reader (Err fault) =
@@ -87,7 +87,7 @@ StopsWithin from to bytes es old new reader fault =
     (piece : List ℕ) × (fs : List Edge) × (length piece ≤ 512) × Consumes from to piece × (new ≡ old ++ fs)
     × Stops reader (read_of ((bytes ++ piece) ++ unwrap_or to [])) (es ++ fs) fault
 
--- A reader took in one read of the input, behind these bytes and edges: a piece, or the end.
+-- A reader took in one read of the input, after these bytes and edges: a piece, or the end.
 abbrev pub Pumped : Option (List ℕ) → Option (List ℕ) → List ℕ → List Edge → List Edge → List Edge → State → Result Bool Fault → Type 0
 Pumped from to bytes es old new reader (Ok true) =
     (piece : List ℕ) × (0 < length piece) × (length piece ≤ 512) × Consumes from to piece × Fed (bytes ++ piece) es old new reader (Ok tt)

@@ -10,7 +10,7 @@ use Rattle.vme_model.specs.Text.{spelling}
 abbrev pub edge_line : Edge → List ℕ
 edge_line e = spelling e ++ 10 ∷ []
 
--- a front of the bytes went to a writer
+-- a prefix of the bytes went to a writer
 abbrev pub AppendsFront : Option (List ℕ) → Option (List ℕ) → List ℕ → Type 0
 AppendsFront old new bytes = (front : List ℕ) × (others : List ℕ) × (bytes ≡ front ++ others) × Appends old new front
 

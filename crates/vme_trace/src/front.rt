@@ -139,7 +139,7 @@ fn sign_at(text: &[u8]) -> Option<(bool, &[u8])>
     }
 }
 
-/// The level at the front of a text, and the rest of the text behind a line feed.
+/// The level at the front of a text, and the rest of the text after a line feed.
 #[inline(always)]
 #[tactic(auto, unfolding(crate::specs::Fronts::first_level))]
 fn level_at(text: &[u8]) -> Option<(u8, &[u8])>
@@ -153,7 +153,7 @@ fn level_at(text: &[u8]) -> Option<(u8, &[u8])>
     }
 }
 
-/// The slot at the front of a text, and the rest of the text behind a line feed.
+/// The slot at the front of a text, and the rest of the text after a line feed.
 #[inline(always)]
 #[tactic(auto, unfolding(crate::specs::Fronts::first_slot))]
 fn slot_at(text: &[u8]) -> Option<(u8, &[u8])>
@@ -169,7 +169,7 @@ fn slot_at(text: &[u8]) -> Option<(u8, &[u8])>
     }
 }
 
-/// What is shown at the front of a text, behind a blank, and the rest of the text behind a line feed.
+/// What is shown at the front of a text, after a blank, and the rest of the text after a line feed.
 #[inline(always)]
 #[tactic(auto, unfolding(crate::specs::Fronts::first_cycle))]
 fn cycle_at(text: &[u8]) -> Option<(Cycle, &[u8])>
@@ -204,7 +204,7 @@ fn end_at(text: &[u8]) -> Option<(Option<Cycle>, &[u8])>
     }
 }
 
-/// What an edge of a wire shows, at the front of a text, and the rest of the text behind a line feed.
+/// What an edge of a wire shows, at the front of a text, and the rest of the text after a line feed.
 #[inline(always)]
 #[tactic(auto, unfolding(crate::specs::Fronts::first_value))]
 fn value_at(wire: Wire, fall: bool, text: &[u8]) -> Option<(Option<Cycle>, &[u8])>

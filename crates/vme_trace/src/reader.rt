@@ -63,7 +63,7 @@ impl Reader {
 
     /// Reads the next piece of the trace, and appends the edges of the lines that it completes.
     ///
-    /// Errors: the first fault of the trace (X1 to X3) as soon as it stands in the bytes read, behind the edges of the
+    /// Errors: the first fault of the trace (X1 to X3) as soon as it stands in the bytes read, after the edges of the
     /// lines before it; X6 where the list could not grow; X7 after a fault or the end.
     pub fn feed<A: Allocator>(
         &mut self,
@@ -196,7 +196,7 @@ fn take_line<A: Allocator>(
     Ok(())
 }
 
-/// Reads the n-th line, whose front is the part and whose rest is the tail.
+/// Reads the n-th line, which begins with the part and ends with the tail.
 fn take_joined<A: Allocator>(
     version: &mut Option<Version>,
     n: &mut u64,
@@ -221,7 +221,7 @@ fn take_joined<A: Allocator>(
     result
 }
 
-/// Reads a front of the piece, a line or all of it, and gives the rest.
+/// Reads the beginning of the piece, a line or all of it, and gives the rest.
 fn take_front<'a, A: Allocator>(
     version: &mut Option<Version>,
     n: &mut u64,

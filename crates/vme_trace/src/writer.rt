@@ -17,7 +17,7 @@ pub(crate) const LINE: usize = 16;
 
 /// Writes all the bytes; with none there is no write, and no fault.
 ///
-/// Errors: X8 where a write failed or took no byte; a front of the bytes was then written.
+/// Errors: X8 where a write failed or took no byte; a prefix of the bytes was then written.
 pub fn put<W: Write>(out: &mut W, bytes: &[u8]) -> Result<(), Fault>
     ensures ok { OnOk result (Appends (W.contents out.old) (W.contents out.new) bytes.now) }
     ensures front { OnErr result (AppendsFront (W.contents out.old) (W.contents out.new) bytes.now) }
@@ -136,7 +136,7 @@ fn write_lines<W: Write>(edges: &[Edge], out: &mut W) -> Result<(), Fault>
 
 /// Writes the trace of the edges: the header line and a line for each.
 ///
-/// Errors: X8 where a write failed or took no byte; a front of the trace was then written.
+/// Errors: X8 where a write failed or took no byte; a prefix of the trace was then written.
 pub fn write<W: Write>(version: Version, edges: &[Edge], out: &mut W) -> Result<(), Fault>
     requires { All (λ e. IsTrue (is_well_formed e)) edges.now }
     ensures ok { OnOk result (Appends (W.contents out.old) (W.contents out.new) (text version edges.now)) }

@@ -130,7 +130,7 @@ impl Wiring {
         }
     }
 
-    /// Puts the edge behind the others where the rules allow it.
+    /// Puts the edge after the others where the rules allow it.
     #[inline(always)]
     fn offer(&self, edge: Edge, offers: &mut ArrayVec<Edge, 16>)
         requires { length offers.old.items < 16 }
@@ -142,7 +142,7 @@ impl Wiring {
         }
     }
 
-    /// Puts the edge of a wire behind the others where the rules allow it.
+    /// Puts the edge of a wire after the others where the rules allow it.
     #[inline(always)]
     fn offer_turned(&self, driver: Driver, wire: Wire, offers: &mut ArrayVec<Edge, 16>)
         requires { length offers.old.items < 16 }
@@ -152,7 +152,7 @@ impl Wiring {
         self.offer(self.turned(driver, wire), offers);
     }
 
-    /// Puts the edges of the address group behind the others that the rules allow.
+    /// Puts the edges of the address group after the others that the rules allow.
     #[inline(always)]
     fn offer_address(&self, driver: Driver, offers: &mut ArrayVec<Edge, 16>)
         requires { length offers.old.items ≤ 14 }
@@ -164,7 +164,7 @@ impl Wiring {
         }
     }
 
-    /// Puts what a slot's requester may do behind the others.
+    /// Puts what a slot's requester may do after the others.
     fn offer_requester(&self, slot: u8, board: &Board, offers: &mut ArrayVec<Edge, 16>)
         requires placed { Some board.now ≡ place self.now.boards slot }
         requires room { length offers.old.items ≤ 12 }
@@ -179,7 +179,7 @@ impl Wiring {
         self.offer_turned(Driver::Slot(slot), Wire::Bbsy, offers);
     }
 
-    /// Puts what a slot's master may do behind the others.
+    /// Puts what a slot's master may do after the others.
     fn offer_master(&self, slot: u8, board: &Board, offers: &mut ArrayVec<Edge, 16>)
         requires placed { Some board.now ≡ place self.now.boards slot }
         requires room { length offers.old.items ≤ 12 }
@@ -194,7 +194,7 @@ impl Wiring {
         self.offer_turned(Driver::Slot(slot), Wire::DataStrobe, offers);
     }
 
-    /// Puts what a slot's interrupter may do, and its answer, behind the others.
+    /// Puts what a slot's interrupter may do, and its answer, after the others.
     fn offer_interrupter(&self, slot: u8, board: &Board, offers: &mut ArrayVec<Edge, 16>)
         requires placed { Some board.now ≡ place self.now.boards slot }
         requires room { length offers.old.items ≤ 12 }
@@ -232,7 +232,7 @@ impl Wiring {
             && !self.shared.bbsy
     }
 
-    /// Puts the edge of a level's grant behind the others where the rules allow it: none falls but where it may.
+    /// Puts the edge of a level's grant after the others where the rules allow it: none falls but where it may.
     #[inline(always)]
     fn offer_grant(&self, level: u8, is_free: bool, offers: &mut ArrayVec<Edge, 16>)
         requires room { length offers.old.items < 16 }

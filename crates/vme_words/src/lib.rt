@@ -1,4 +1,4 @@
-//! The words behind the name of the program `vmebus`, and what they ask for.
+//! The words after the name of the program `vmebus`, and what they ask for.
 #![tactic(auto)]
 
 ghost use Rattle.std.specs.Prelude.{◌≡◌, ◌≤◌, ◌↔◌, ◌⊎◌, [], ◌∷◌, IfErr, IfOk, IfSome, IsSomeAnd, Ok, Some, codes, length, map};
@@ -24,7 +24,7 @@ pub const MOST_TURNS: u32 = 1_000_000;
 /// What the program is to do. Files have the names that the user gave.
 #[derive(Clone, Copy, PartialEq, Eq, Debug)]
 pub enum Job<'a> {
-    /// Replay what stands on standard input: a scenario, and a trace behind it.
+    /// Replay what stands on standard input: a scenario, and a trace after it.
     Joined,
     /// Replay a trace.
     Replay {
@@ -173,7 +173,7 @@ fn missing(alloc: Global) -> Result<Error, AllocError>
     commands(alloc)?.error(ErrorKind::MissingSubcommand, "a command is missing")
 }
 
-/// The job that the words behind the program's name ask for.
+/// The job that the words after the program's name ask for.
 ///
 /// No words ask for [`Job::Joined`]. An error's `Display` is the text for the user; a call for help is one too.
 pub fn words<'a>(alloc: Global, words: &'a [&'a str]) -> Result<Job<'a>, Error>

@@ -71,7 +71,7 @@ move_to_spec 𝓤 𝓛 𝓜 𝓡 wired T L =
     rewrite ! 0 (λ (j : ℕ). ‵ (block_with_items (token_at t x.at) R x.ptr j old xs)) (sym counts.0) refl $
     fsplit3 ! $ move ! (2 ∷ []) $ token_tells ! t x.at τ₀ x.ptr (λ lies. move ! (1 ∷ 2 ∷ 0 ∷ []) $ fjoin3 ! $
     rewrite ! 0 (λ (p : Ptr). ‵ (block_with_items (token_at t x.at) R p len old xs)) lies.0.0 refl $ fsplit3 ! $ move ! (3 ∷ []) $
-    -- [the new bytes; the values; the room behind them; the token; the lifetime]
+    -- [the new bytes; the values; the room after them; the token; the lifetime]
     regoal ! (λ (us : List Val). prop (WpFn 𝓤 𝓛.H 𝓣.C 𝓣.Λ fn us Post)) (λ i. (block_told x.ptr vss.0 are.0.0 ∙ ap (λ (p : Ptr). block_val p ∷ []) lies.0.0) i ++ ((piece_told y.ptr vss.1.0 are.1.0.0 ∙ ap (λ (p : Ptr). piece_val p ∷ []) next) i ++ (are.1.1.0.0 i ++ (are.1.1.1.0.0 i ++ [])))) refl $
     enter ! 𝓣.C 𝓣.Λ fn (block_val from ∷ piece_val to ∷ vint w64 len ∷ vint w64 new ∷ []) Post $
     alloc_all ! (λ l. pass_all ! refl ((tt, (tt, (tt, tt))), ((tt, (tt, tt)), ((tt, record { fits = are.1.1.0.1 }), ((tt, record { fits = are.1.1.1.0.1 }), tt)))) $ let here : Env 𝓤 𝓛.H = env fn.locals l in

@@ -54,7 +54,7 @@ new_spec 𝓤 𝓛 𝓜 𝓡 wired =
     use1 𝓛 (‵ (units_at here T) ⊛ ‵ (units_at (block_ptr b (0 + T)) m)) (cuts 𝓛 b 0 T m (omega arith)) $ split ! $ rewrite ! 1 (λ (d : ℕ). ‵ (units_at (block_ptr b d) m)) e₀ refl $ move ! (1 ∷ []) $
     use1 𝓛 (‵ (room_for (loose m) tags) ⊛ ‵ (fwand (room_for (loose m) tags) (units_at tags m))) (loosens 𝓛 b T m (omega arith)) $ split ! $
     rewrite ! 0 (λ (k : ℕ). ‵ (room_for (loose k) tags)) (omega (arith, less)) refl $ use1 𝓛 (‵ (room_for (loose n) tags) ⊛ ‵ (room_for (loose pad) (block_ptr b (T + n)))) (loose_cuts 𝓛 b T n pad) $ split ! $
-    -- [the tags; the bytes behind them; the way back; the granules; the token; nothing; alive]
+    -- [the tags; the bytes after them; the way back; the granules; the token; nothing; alive]
     move ! (1 ∷ 2 ∷ []) $ fjoin ! $ rewrite ! 0 (λ (k : ℕ). ‵ (padding_at s k)) (omega arith) refl $
     move ! (1 ∷ 0 ∷ []) $ rewrite ! 0 (λ (d : ℕ). ‵ (room_for (loose n) (block_ptr b d))) (sym e₁) refl $ fjoin ! $
     move ! (1 ∷ 0 ∷ []) $ rewrite ! 0 (λ (d : ℕ). ‵ (units_at (block_ptr b d) T)) (omega arith) refl $ fjoin ! $
