@@ -237,9 +237,10 @@ module _ (h : List Edge) (d : Driver) where
 open_is_accepted : (b : State) (d : Driver) (e : Edge) → Contains (open_edges b d) e → (e.driver ≡ d) × (verdict b e ≡ Ok tt)
 open_is_accepted b d e c =
     let es = flat_map (moves b.history d) (wires d) in
-    let test = λ (x : Edge). is_ok (verdict b x) in
-    (All-contains (λ x. x.driver ≡ d) (filter test es) e (All-filter test (λ x. x.driver ≡ d) es (all_moved_by b.history d (wires d))) c,
-     accepted_of (verdict b e) (All-contains (λ x. test x ≡ true) (filter test es) e (filter_passes test es) c))
+    let test = λ (x : Edge). is_ok (verdict b x) in (
+      All-contains (λ x. x.driver ≡ d) (filter test es) e (All-filter test (λ x. x.driver ≡ d) es (all_moved_by b.history d (wires d))) c,
+      accepted_of (verdict b e) (All-contains (λ x. test x ≡ true) (filter test es) e (filter_passes test es) c),
+    )
 
 pub open_are_all : (b : State) (d : Driver) → IsAllThatIsAllowed b d (open_edges b d)
 open_are_all b d e = (λ a. subst (λ x. Contains (open_edges b x) e) a.0 (accepted_is_open b e.driver e.wire e.fall e.value a.1), open_is_accepted b d e)
