@@ -15,5 +15,6 @@ pub mod Safety
 pub mod Bits
 pub mod Local
 pub mod Examples
+pub mod OpenEdges
 pub mod Picks
 pub mod PinSets

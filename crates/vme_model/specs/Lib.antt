@@ -16,5 +16,6 @@ pub mod CycleSafety
 pub mod Safe
 pub mod Locality
 pub mod Offers
+pub mod Open
 pub mod Text
 pub mod Report

@@ -6,13 +6,15 @@ ghost use Rattle.std.specs.List.{list_all};
 ghost use Rattle.vme_model.specs.Accepted.{IsAccepted};
 ghost use Rattle.vme_model.specs.Guards.{Guard, holds, conditions, failed};
 ghost use Rattle.vme_model.specs.Locality.{AreWellFormed, IsLocal};
+ghost use Rattle.vme_model.specs.Open.{open_edges, IsAllThatIsAllowed};
 ghost use Rattle.vme_model.specs.Plan.{Plan};
 ghost use Rattle.vme_model.specs.Readings.{Readings};
 ghost use Rattle.vme_model.specs.Rules.{failing, rule};
 ghost use Rattle.vme_model.specs.Safe.{IsOrderly, IsSafe};
 ghost use Rattle.vme_model.specs.Settling.{settling, unsettled};
-ghost use Rattle.vme_model.specs.Verdict.{IsLegal};
+ghost use Rattle.vme_model.specs.Verdict.{IsLegal, State};
 ghost use Rattle.vme_model.specs.declared.signals.Cycle.{Cycle};
+ghost use Rattle.vme_model.specs.declared.signals.Driver.{Driver};
 ghost use Rattle.vme_model.specs.declared.signals.Edge.{Edge};
 ghost use Rattle.vme_model.specs.declared.signals.Version.TheVariants.{One, Two};
 ghost use Rattle.vme_model.specs.declared.signals.Version.{Version};
@@ -56,4 +58,9 @@ pub fn guard_fails_by_its_conditions()
 pub fn rule_fails_by_its_conditions()
     ensures rule { (version : Version) (r : Readings) (w : Wire) (fall : Bool) (v : Option Cycle) → (failing version r w fall v ≡ []) ↔ ((rule version r w fall v).1 ≡ true) }
     ensures settling { (version : Version) (p : Plan) (h : List Edge) (w : Wire) (fall : Bool) → (unsettled version p h w fall ≡ []) ↔ ((settling version p h w fall).1 ≡ true) }
+{}
+
+/// The open edges of a driver are all edges of it that would be accepted after the history, and no others.
+pub fn open_edges_are_all_that_is_allowed()
+    ensures { (b : State) (d : Driver) → IsAllThatIsAllowed b d (open_edges b d) }
 {}
