@@ -1,6 +1,6 @@
 -- The open edges of a driver are all edges that it can make.
-use Rattle.std.proofs.Common.{◌≡◌, ◌∙◌, ◌≤◌, ◌⊎◌, ⊎_elim, ℕ, zero, suc, Bool, true, false, Option, Some, None, List, [], ◌∷◌, ◌++◌, Ok, Err, refl, sym, ap, subst, arith}
-use Rattle.std.specs.Prelude.{◌&&◌, ◌↔◌, not, if◌then◌else◌, map, filter, nat_le, nat_lt, is_none, is_ok, Result}
+use Rattle.std.proofs.Common.{◌≡◌, ◌≤◌, ◌⊎◌, ⊎_elim, ℕ, zero, suc, Bool, true, false, Option, Some, None, List, [], ◌∷◌, ◌++◌, Ok, Err, refl, sym, ap, subst, arith}
+use Rattle.std.specs.Prelude.{◌&&◌, not, if◌then◌else◌, map, filter, nat_le, nat_lt, is_none, is_ok, Result}
 use Rattle.std.specs.List.{flat_map, All, Contains}
 use Rattle.std.proofs.lemmas.Bool.Decides.{nat_tests}
 use Rattle.std.proofs.lemmas.List.Elements.{All-contains, All-append, All-cons, All-nil, All-filter, Contains-append_left, Contains-append_right, Contains-push, filter_passes}

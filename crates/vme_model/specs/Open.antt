@@ -1,5 +1,5 @@
 -- All edges that a driver can make, with every value. (Profile: their order.)
-use Rattle.std.specs.Prelude.{◌≡◌, ◌↔◌, ◌++◌, ℕ, if◌then◌else◌, true, Some, List, [], ◌∷◌, map, filter, is_ok, Ok}
+use Rattle.std.specs.Prelude.{◌≡◌, ◌↔◌, ◌++◌, if◌then◌else◌, true, Some, List, [], ◌∷◌, map, filter, is_ok, Ok}
 use Rattle.std.specs.List.{flat_map, Contains}
 use Rattle.vme_model.specs.declared.signals.Driver.{Driver}
 use Rattle.vme_model.specs.declared.signals.Wire.{Wire}
