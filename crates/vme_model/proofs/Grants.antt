@@ -25,7 +25,7 @@ use Rattle.vme_model.proofs.Ranges.{IsRowInRange, IsInRange}
 use Rattle.vme_model.proofs.Members.{on, some_row, one_chain, within, line_low, found_row, has_board, is_at, active_is, HasLevel, level_of}
 use Rattle.vme_model.proofs.GrantPhases.{GrantWires, Phased, Idle, segment_of, IsAt, HasPassed, grant_falls, grant_rises, asks, asks_no_more, passes_on, rises, takes, releases}
 use Rattle.vme_model.proofs.Picks.{laws_of, at_four}
-use Rattle.vme_model.proofs.Passed.{Passed, all_passed, sets_slot, sets_level}
+use Rattle.vme_model.proofs.AllowedEdges.{Passed, all_passed, sets_slot, sets_level}
 
 -- what the lemmas on phases read of a history
 abbrev pub grant_wires : Plan → List Edge → GrantWires

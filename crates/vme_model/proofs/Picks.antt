@@ -1,4 +1,5 @@
--- Which level a policy picks, by the four request lines: the laws that each policy gives, and what follows of every one.
+-- Which level a policy picks, by the four request lines: the laws that each policy gives, and what
+-- follows of every one.
 use Rattle.std.proofs.Common.{◌≡◌, refl, sym, ap, subst, ℕ, zero, suc, ◌%◌, ◌<◌, ◌==◌, Bool, true, false, List, [], ◌∷◌, arith}
 use Rattle.std.specs.Prelude.{Option, Some, None, find, ◌&&◌, ◌||◌, not, nat_le, nat_lt, if◌then◌else◌}
 use Rattle.std.specs.List.{list_all}
@@ -60,7 +61,8 @@ settles test served low =
     list_all (agrees test (find test bus_numbers)) bus_numbers
     && option_map_or (λ _. true) (find test bus_numbers) (list_all (λ n. not (served n && low n)) bus_numbers)
 
--- The laws of a policy's kind: a level that is picked is low; the lines settle which; no other line is looked at.
+-- The laws of a policy's kind: a level that is picked is low; the lines settle which; no other line
+-- is looked at.
 pub record Laws (kind : ArbiterKind) : Type 0 where
   pub is_low : (low : ℕ → Bool) (last n : ℕ) → is_pick kind low last n ≡ true → low n ≡ true
   pub settled : (low : ℕ → Bool) (last : ℕ) → settles (is_pick kind low last) (serves kind) low ≡ true
@@ -97,7 +99,8 @@ pub highest : (low : ℕ → Bool) (last : ℕ) → find low (3 ∷ 2 ∷ 1 ∷ 
 highest low last =
     same _ _ (at_lines (finds (3 ∷ 2 ∷ 1 ∷ 0 ∷ []) Pri last) refl (low 0) (low 1) (low 2) (low 3))
 
--- Round robin, whose order is by the level last granted: four orders, in each of which the levels have their places.
+-- Round robin, whose order is by the level last granted: four orders, in each of which the levels
+-- have their places.
 
 abbrev places : ℕ → ℕ → ℕ → ℕ → ℕ → ℕ
 places k l m n zero = k
