@@ -20,7 +20,7 @@ use Rattle.vme_model.specs.Verdict.{State, IsLegal}
 use Rattle.vme_model.specs.Counts.{count}
 use Rattle.vme_model.proofs.Bools.{and_right}
 use Rattle.vme_model.proofs.Members.{found_row}
-use Rattle.vme_model.proofs.Passed.{checked}
+use Rattle.vme_model.proofs.AllowedEdges.{checked}
 use Rattle.vme_model.proofs.Ranges.{IsInRange, IsRowInRange, in_range}
 use Rattle.vme_lock.specs.Seats.{Place, can_sit, seat_of, drivers_of}
 use Rattle.vme_lock.proofs.Counting.{one_if, count-made}

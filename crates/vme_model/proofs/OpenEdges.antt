@@ -20,7 +20,7 @@ use Rattle.vme_model.specs.Offers.{turned, wires}
 use Rattle.vme_model.specs.Open.{showing, acknowledges, accesses, moves, open_edges, IsAllThatIsAllowed}
 use Rattle.vme_model.specs.Verdict.{State, verdict}
 use Rattle.vme_model.proofs.Bools.{and_left, and_right, not_true}
-use Rattle.vme_model.proofs.Passed.{checked}
+use Rattle.vme_model.proofs.AllowedEdges.{checked}
 
 other : (a fall : Bool) → (if fall then not a else a) ≡ true → a ≡ not fall
 other a true e = not_true a e

@@ -9,7 +9,6 @@ use Rattle.vme_model.specs.declared.boards.RequesterRow.{RequesterRow}
 use Rattle.vme_model.specs.declared.boards.Release.{Release}
 use Rattle.vme_model.specs.declared.boards.Release.TheVariants.{Done, Request}
 use Rattle.vme_model.specs.declared.boards.ArbiterKind.{ArbiterKind}
-use Rattle.vme_model.specs.declared.boards.ArbiterKind.TheVariants.{Sgl, Pri, Rrs}
 use Rattle.vme_model.specs.declared.pins.Pins.{Pins}
 use Rattle.vme_model.specs.declared.refusals.Refused.TheVariants.{AlreadyThere, Rule}
 use Rattle.vme_model.specs.declared.signals.Version.{Version}
@@ -29,6 +28,7 @@ use Rattle.vme_model.specs.Guards.{free as no_condition, holds}
 use Rattle.vme_model.specs.Rules.{rule, bus_numbers, is_pick, may_release, released as released_where, is_asked, is_within_burst, below_burst, is_below_burst, may_show, is_passed_by, may_answer, is_bus_clear_due, are_grants_high, is_pri}
 use Rattle.vme_model.specs.Verdict.{Judgement, check, is_other_state, ruling}
 use Rattle.vme_model.specs.Views.{pins}
+use Rattle.vme_model.proofs.Picks.{laws_of}
 use Rattle.vme_model.proofs.PinSets.{has_bus, has_irq}
 use Rattle.vme_model.proofs.Bools.{and_left, and_right}
 use Rattle.vme_requester.specs.Local.{is_own as is_requesters, told as requester_told, readings as requester_readings, answer_over}
@@ -60,13 +60,8 @@ above_alike s t last a b c d = cc
 any_above : (low : ℕ → Bool) (last : ℕ) → list_any (λ m. nat_lt last m && has_bus_level (bus_levels low) m) bus_numbers ≡ list_any (λ m. nat_lt last m && low m) bus_numbers
 any_above low last = let a = lines_agree low in above_alike (has_bus_level (bus_levels low)) low last a.zero a.one a.two a.three
 
-pick_alike : (kind : ArbiterKind) (s t : ℕ → Bool) (last n : ℕ) → s 0 ≡ t 0 → s 1 ≡ t 1 → s 2 ≡ t 2 → s 3 ≡ t 3 → s n ≡ t n → is_pick kind s last n ≡ is_pick kind t last n
-pick_alike Sgl s t last n a b c d e = cc
-pick_alike Pri s t last n a b c d e = cc
-pick_alike Rrs s t last n a b c d e = cc
-
 pick_low : (kind : ArbiterKind) (low : ℕ → Bool) (last n : ℕ) → n < 4 → is_pick kind (has_bus_level (bus_levels low)) last n ≡ is_pick kind low last n
-pick_low kind low last n l = let a = lines_agree low in pick_alike kind (has_bus_level (bus_levels low)) low last n a.zero a.one a.two a.three (has_bus low n l)
+pick_low kind low last n l = let a = lines_agree low in (laws_of kind).by_lines (has_bus_level (bus_levels low)) low last n a.zero a.one a.two a.three (has_bus low n l)
 
 -- an answer by the state of the wire, and the row of the table
 abbrev by_row : Bool → Bool → ℕ × Bool → Judgement

@@ -20,7 +20,7 @@ use Rattle.vme_model.specs.Plan.{Plan, board, has_driver, drives}
 use Rattle.vme_model.specs.Accepted.{IsAccepted}
 use Rattle.vme_model.specs.History.{drive, addressing}
 use Rattle.vme_model.specs.Verdict.{verdict_but_full}
-use Rattle.vme_model.proofs.Passed.{all_passed}
+use Rattle.vme_model.proofs.AllowedEdges.{all_passed}
 use Rattle.vme_arbiter.specs.declared.policies.AnyPolicy.{AnyPolicy}
 use Rattle.vme_arbiter.specs.Local.{State as ControllerState, state_of as controller_of}
 use Rattle.vme_wiring.specs.Boards.{parts_of, place}

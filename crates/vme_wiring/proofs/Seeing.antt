@@ -20,7 +20,7 @@ use Rattle.vme_model.specs.History.{drive, input as input_after, is_past_end as 
 use Rattle.vme_model.specs.Verdict.{IsLegal}
 use Rattle.vme_model.specs.Views.{pins}
 use Rattle.vme_model.proofs.Bools.{same_number}
-use Rattle.vme_model.proofs.Passed.{all_passed}
+use Rattle.vme_model.proofs.AllowedEdges.{all_passed}
 use Rattle.vme_model.specs.Signals.{is_two}
 use Rattle.vme_model.specs.Settling.{are_grants_through, is_chain_clear, settling}
 use Rattle.vme_chain.specs.Segments.{segments_of, input, is_past_end, is_clear}

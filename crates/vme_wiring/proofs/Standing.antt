@@ -20,7 +20,7 @@ use Rattle.vme_model.specs.Verdict.{verdict_but_full}
 use Rattle.vme_model.proofs.Bools.{and_left, and_right}
 use Rattle.vme_model.proofs.Ranges.{IsRowInRange, in_range}
 use Rattle.vme_model.proofs.Members.{found_row}
-use Rattle.vme_model.proofs.Passed.{checked, all_passed}
+use Rattle.vme_model.proofs.AllowedEdges.{checked, all_passed}
 use Rattle.vme_model.specs.declared.refusals.Refused.TheVariants.{NoSuchDriver}
 use Rattle.vme_wiring.specs.Counts.{request_level, interrupt_level}
 
