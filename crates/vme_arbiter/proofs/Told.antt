@@ -55,16 +55,9 @@ module _ (version : Version) (kind : ArbiterKind) (own : Wire → Bool) (last_le
   acknowledge_alike = ap is_acknowledge (sym says.shown)
 
   pub reads_told : (w : Wire) (fall : Bool) (value : Option Cycle) → is_own w ≡ true → ruling_on version t w fall value ≡ ruling_on version r w fall value
-  reads_told (Bg zero) true v own = alike _ _ _ _ true 1 (sym (says.own_wires (Bg 0) refl)) (cc (grants_alike, says.bbsy, pick_so 0))
-  reads_told (Bg zero) false v own = alike _ _ _ _ false 2 (sym (says.own_wires (Bg 0) refl)) (cc says.bbsy)
-  reads_told (Bg (suc zero)) true v own = alike _ _ _ _ true 1 (sym (says.own_wires (Bg 1) refl)) (cc (grants_alike, says.bbsy, pick_so 1))
-  reads_told (Bg (suc zero)) false v own = alike _ _ _ _ false 2 (sym (says.own_wires (Bg 1) refl)) (cc says.bbsy)
-  reads_told (Bg (suc (suc zero))) true v own = alike _ _ _ _ true 1 (sym (says.own_wires (Bg 2) refl)) (cc (grants_alike, says.bbsy, pick_so 2))
-  reads_told (Bg (suc (suc zero))) false v own = alike _ _ _ _ false 2 (sym (says.own_wires (Bg 2) refl)) (cc says.bbsy)
-  reads_told (Bg (suc (suc (suc zero)))) true v own = alike _ _ _ _ true 1 (sym (says.own_wires (Bg 3) refl)) (cc (grants_alike, says.bbsy, pick_so 3))
-  reads_told (Bg (suc (suc (suc zero)))) false v own = alike _ _ _ _ false 2 (sym (says.own_wires (Bg 3) refl)) (cc says.bbsy)
-  reads_told (Bg (suc (suc (suc (suc n))))) fall v own =
-      absurd (let small = ltb-true (suc (suc (suc (suc n)))) 4 own in omega (arith, small))
+  reads_told (Bg n) true v own =
+      alike _ _ _ _ true 1 (sym (says.own_wires (Bg n) own)) (cc (grants_alike, says.bbsy, pick_so n))
+  reads_told (Bg n) false v own = alike _ _ _ _ false 2 (sym (says.own_wires (Bg n) own)) (cc says.bbsy)
   reads_told Bclr true v own = alike _ _ _ _ true 3 (sym (says.own_wires Bclr refl)) clear_alike
   reads_told Bclr false v own = alike _ _ _ _ false 4 (sym (says.own_wires Bclr refl)) (ap not clear_alike)
   reads_told Iack true v own = alike _ _ _ _ true 5 (sym (says.own_wires Iack refl)) (cc (says.address_strobe, says.data_strobe, acknowledge_alike))

@@ -59,29 +59,36 @@ agrees test found n = if option_map_or (λ m. m == n) found false then test n el
 abbrev pub settles : (ℕ → Bool) → (ℕ → Bool) → (ℕ → Bool) → Bool
 settles test served low =
     list_all (agrees test (find test bus_numbers)) bus_numbers
-    && option_map_or (λ _. true) (find test bus_numbers) (list_all (λ n. not (served n && low n)) bus_numbers)
+    && option_map_or (λ _. true) (find test bus_numbers)
+    (list_all (λ n. not (served n && low n)) bus_numbers)
 
 -- The laws of a policy's kind: a level that is picked is low; the lines settle which; no other line
 -- is looked at.
 pub record Laws (kind : ArbiterKind) : Type 0 where
   pub is_low : (low : ℕ → Bool) (last n : ℕ) → is_pick kind low last n ≡ true → low n ≡ true
-  pub settled : (low : ℕ → Bool) (last : ℕ) → settles (is_pick kind low last) (serves kind) low ≡ true
-  pub by_lines : (low high : ℕ → Bool) (last n : ℕ) → low 0 ≡ high 0 → low 1 ≡ high 1 → low 2 ≡ high 2 → low 3 ≡ high 3 →
+  pub settled : (low : ℕ → Bool) (last : ℕ) →
+      settles (is_pick kind low last) (serves kind) low ≡ true
+  pub by_lines : (low high : ℕ → Bool) (last n : ℕ) →
+      low 0 ≡ high 0 → low 1 ≡ high 1 → low 2 ≡ high 2 → low 3 ≡ high 3 →
       low n ≡ high n → is_pick kind low last n ≡ is_pick kind high last n
 
 -- whether a search in that order finds the pick
 abbrev finds : List ℕ → ArbiterKind → ℕ → Test
-finds order kind last a b c d = is_same (find (lines a b c d) order) (pick kind (lines a b c d) last)
+finds order kind last a b c d =
+    is_same (find (lines a b c d) order) (pick kind (lines a b c d) last)
 
 -- whether the lines settle the pick
 abbrev are_enough : ArbiterKind → ℕ → Test
-are_enough kind last a b c d = settles (is_pick kind (lines a b c d) last) (serves kind) (lines a b c d)
+are_enough kind last a b c d =
+    settles (is_pick kind (lines a b c d) last) (serves kind) (lines a b c d)
 
 -- Single level.
 
 sgl_laws : Laws Sgl
 sgl_laws = record {
-  is_low = λ low last n e. subst (λ x. low x ≡ true) (sym (same_number n 3 (and_left _ _ e))) (and_right (n == 3) (low 3) e);
+  is_low = λ low last n e.
+      let at_three = same_number n 3 (and_left _ _ e) in
+      subst (λ x. low x ≡ true) (sym at_three) (and_right (n == 3) (low 3) e);
   settled = λ low last. at_lines (are_enough Sgl last) refl (low 0) (low 1) (low 2) (low 3);
   by_lines = λ low high last n a b c d e. cc;
 }
@@ -110,12 +117,14 @@ places k l m n (suc (suc (suc _))) = n
 
 -- no low line has a place before it
 abbrev is_first : (ℕ → ℕ) → (ℕ → Bool) → ℕ → Bool
-is_first place low n = low n && list_all (λ m. not (low m) || nat_le (place n) (place m)) bus_numbers
+is_first place low n =
+    low n && list_all (λ m. not (low m) || nat_le (place n) (place m)) bus_numbers
 
 -- a search in that order finds the first by those places, and the lines settle it
 abbrev is_order : List ℕ → (ℕ → ℕ) → (ℕ → Bool) → Bool
 is_order order place low =
-    is_same (find low order) (find (is_first place low) bus_numbers) && settles (is_first place low) (λ _. true) low
+    is_same (find low order) (find (is_first place low) bus_numbers)
+    && settles (is_first place low) (λ _. true) low
 
 -- the round that begins at a level, and goes down
 abbrev round_from : ℕ → List ℕ
@@ -124,20 +133,36 @@ round_from (suc zero) = 0 ∷ 3 ∷ 2 ∷ 1 ∷ []
 round_from (suc (suc zero)) = 1 ∷ 0 ∷ 3 ∷ 2 ∷ []
 round_from (suc (suc (suc _))) = 2 ∷ 1 ∷ 0 ∷ 3 ∷ []
 
-by_places : (low : ℕ → Bool) (order : List ℕ) (k l m n : ℕ) →
-    always (λ a b c d. is_order order (places k l m n) (lines a b c d)) ≡ true → (last : ℕ) →
-    round_place last 0 ≡ k → round_place last 1 ≡ l → round_place last 2 ≡ m → round_place last 3 ≡ n →
-    is_order order (places (round_place last 0) (round_place last 1) (round_place last 2) (round_place last 3)) (lines (low 0) (low 1) (low 2) (low 3)) ≡ true
-by_places low order k l m n e last p q s t =
-    let here : is_order order (places k l m n) (lines (low 0) (low 1) (low 2) (low 3)) ≡ true =
-    at_lines (λ a b c d. is_order order (places k l m n) (lines a b c d)) e (low 0) (low 1) (low 2) (low 3) in
-    rw (p, q, s, t) here
+-- the places by the level last granted are these
+abbrev AreAt : ℕ → ℕ → ℕ → ℕ → ℕ → Type 0
+AreAt last k l m n =
+    (round_place last 0 ≡ k) × (round_place last 1 ≡ l) × (round_place last 2 ≡ m)
+    × (round_place last 3 ≡ n)
 
-in_round : (low : ℕ → Bool) (last r : ℕ) → last % 4 ≡ r → is_order (round_from r) (round_place last) low ≡ true
-in_round low last zero e = by_places low (round_from 0) 3 2 1 0 refl last (omega arith) (omega arith) (omega arith) (omega arith)
-in_round low last (suc zero) e = by_places low (round_from 1) 0 3 2 1 refl last (omega arith) (omega arith) (omega arith) (omega arith)
-in_round low last (suc (suc zero)) e = by_places low (round_from 2) 1 0 3 2 refl last (omega arith) (omega arith) (omega arith) (omega arith)
-in_round low last (suc (suc (suc zero))) e = by_places low (round_from 3) 2 1 0 3 refl last (omega arith) (omega arith) (omega arith) (omega arith)
+by_places : (low : ℕ → Bool) (order : List ℕ) (k l m n : ℕ) →
+    always (λ a b c d. is_order order (places k l m n) (lines a b c d)) ≡ true →
+    (last : ℕ) → AreAt last k l m n →
+    is_order order
+    (places (round_place last 0) (round_place last 1) (round_place last 2) (round_place last 3))
+    (lines (low 0) (low 1) (low 2) (low 3)) ≡ true
+by_places low order k l m n e last at =
+    let test : Test = λ a b c d. is_order order (places k l m n) (lines a b c d) in
+    rw (at.0, at.1, at.2, at.3) (at_lines test e (low 0) (low 1) (low 2) (low 3))
+
+in_round : (low : ℕ → Bool) (last r : ℕ) → last % 4 ≡ r →
+    is_order (round_from r) (round_place last) low ≡ true
+in_round low last zero e =
+    by_places low (round_from 0) 3 2 1 0 refl last
+    (omega arith, omega arith, omega arith, omega arith)
+in_round low last (suc zero) e =
+    by_places low (round_from 1) 0 3 2 1 refl last
+    (omega arith, omega arith, omega arith, omega arith)
+in_round low last (suc (suc zero)) e =
+    by_places low (round_from 2) 1 0 3 2 refl last
+    (omega arith, omega arith, omega arith, omega arith)
+in_round low last (suc (suc (suc zero))) e =
+    by_places low (round_from 3) 2 1 0 3 refl last
+    (omega arith, omega arith, omega arith, omega arith)
 in_round low last (suc (suc (suc (suc r)))) e = absurd (omega arith)
 
 rrs_laws : Laws Rrs
@@ -147,16 +172,20 @@ rrs_laws = record {
   by_lines = λ low high last n a b c d e. cc;
 }
 
-pub next_0 : (low : ℕ → Bool) (last : ℕ) → last % 4 ≡ 0 → find low (3 ∷ 2 ∷ 1 ∷ 0 ∷ []) ≡ pick Rrs low last
+pub next_0 : (low : ℕ → Bool) (last : ℕ) → last % 4 ≡ 0 →
+    find low (3 ∷ 2 ∷ 1 ∷ 0 ∷ []) ≡ pick Rrs low last
 next_0 low last e = same _ _ (and_left _ _ (in_round low last 0 e))
 
-pub next_1 : (low : ℕ → Bool) (last : ℕ) → last % 4 ≡ 1 → find low (0 ∷ 3 ∷ 2 ∷ 1 ∷ []) ≡ pick Rrs low last
+pub next_1 : (low : ℕ → Bool) (last : ℕ) → last % 4 ≡ 1 →
+    find low (0 ∷ 3 ∷ 2 ∷ 1 ∷ []) ≡ pick Rrs low last
 next_1 low last e = same _ _ (and_left _ _ (in_round low last 1 e))
 
-pub next_2 : (low : ℕ → Bool) (last : ℕ) → last % 4 ≡ 2 → find low (1 ∷ 0 ∷ 3 ∷ 2 ∷ []) ≡ pick Rrs low last
+pub next_2 : (low : ℕ → Bool) (last : ℕ) → last % 4 ≡ 2 →
+    find low (1 ∷ 0 ∷ 3 ∷ 2 ∷ []) ≡ pick Rrs low last
 next_2 low last e = same _ _ (and_left _ _ (in_round low last 2 e))
 
-pub next_3 : (low : ℕ → Bool) (last : ℕ) → last % 4 ≡ 3 → find low (2 ∷ 1 ∷ 0 ∷ 3 ∷ []) ≡ pick Rrs low last
+pub next_3 : (low : ℕ → Bool) (last : ℕ) → last % 4 ≡ 3 →
+    find low (2 ∷ 1 ∷ 0 ∷ 3 ∷ []) ≡ pick Rrs low last
 next_3 low last e = same _ _ (and_left _ _ (in_round low last 3 e))
 
 -- Every policy.
@@ -176,15 +205,18 @@ found test (x ∷ xs) n e = at_head test x n (find test xs) (found test xs n) (t
     at_head test x n later below false h e = below e
 
 -- a level that is picked is low
-pub pick_is_low : (kind : ArbiterKind) (low : ℕ → Bool) (last n : ℕ) → pick kind low last ≡ Some n → low n ≡ true
-pick_is_low kind low last n e = (laws_of kind).is_low low last n (found (is_pick kind low last) bus_numbers n e)
+pub pick_is_low : (kind : ArbiterKind) (low : ℕ → Bool) (last n : ℕ) →
+    pick kind low last ≡ Some n → low n ≡ true
+pick_is_low kind low last n e =
+    (laws_of kind).is_low low last n (found (is_pick kind low last) bus_numbers n e)
 
 -- what holds of the four holds of each
 pub at_four : (t : ℕ → Bool) (n : ℕ) → n < 4 → list_all t bus_numbers ≡ true → t n ≡ true
 at_four t zero l e = and_left _ _ e
 at_four t (suc zero) l e = and_left _ _ (and_right (t 0) _ e)
 at_four t (suc (suc zero)) l e = and_left _ _ (and_right (t 1) _ (and_right (t 0) _ e))
-at_four t (suc (suc (suc zero))) l e = and_left _ _ (and_right (t 2) _ (and_right (t 1) _ (and_right (t 0) _ e)))
+at_four t (suc (suc (suc zero))) l e =
+    and_left _ _ (and_right (t 2) _ (and_right (t 1) _ (and_right (t 0) _ e)))
 at_four t (suc (suc (suc (suc n)))) l e = absurd (omega arith)
 
 pub agreed : (b c : Bool) → (if c then b else not b) ≡ true → b ≡ c
@@ -197,17 +229,21 @@ agreed false true e = cc
 pub one_pick : (kind : ArbiterKind) (low : ℕ → Bool) (last n : ℕ) → n < 4 →
     is_pick kind low last n ≡ option_map_or (λ m. m == n) (pick kind low last) false
 one_pick kind low last n l =
-    agreed _ _ (at_four (agrees (is_pick kind low last) (pick kind low last)) n l (and_left _ _ ((laws_of kind).settled low last)))
+    let settled = (laws_of kind).settled low last in
+    let agree : ℕ → Bool = agrees (is_pick kind low last) (pick kind low last) in
+    agreed _ _ (at_four agree n l (and_left _ _ settled))
 
 -- the same lines, the same pick
 pub pick_by_lines : (kind : ArbiterKind) (low high : ℕ → Bool) (last : ℕ) →
-    low 0 ≡ high 0 → low 1 ≡ high 1 → low 2 ≡ high 2 → low 3 ≡ high 3 → pick kind low last ≡ pick kind high last
+    low 0 ≡ high 0 → low 1 ≡ high 1 → low 2 ≡ high 2 → low 3 ≡ high 3 →
+    pick kind low last ≡ pick kind high last
 pick_by_lines kind low high last a b c d =
     let at : (n : ℕ) → low n ≡ high n → is_pick kind low last n ≡ is_pick kind high last n =
     λ n e. (laws_of kind).by_lines low high last n a b c d e in
     cc (at 0 a, at 1 b, at 2 c, at 3 d)
 
-within_four : (low : BusLevels) (n : ℕ) → (n < 4 → has_bus_level low n ≡ false) → has_bus_level low n ≡ false
+within_four : (low : BusLevels) (n : ℕ) → (n < 4 → has_bus_level low n ≡ false) →
+    has_bus_level low n ≡ false
 within_four low n f = by_test (nat_lt n 4) refl
   where
     in_range : (b c : Bool) → b ≡ false → (b && c) ≡ false
@@ -224,10 +260,11 @@ not_both true false e s = refl
 not_both false c e s = cc
 
 -- where none is picked, no level that the policy serves is low
-pub none_low : (kind : ArbiterKind) (low : BusLevels) (last n : ℕ) → pick kind (has_bus_level low) last ≡ None →
-    serves kind n ≡ true → has_bus_level low n ≡ false
+pub none_low : (kind : ArbiterKind) (low : BusLevels) (last n : ℕ) →
+    pick kind (has_bus_level low) last ≡ None → serves kind n ≡ true → has_bus_level low n ≡ false
 none_low kind low last n e s =
-    let all_high : Bool = list_all (λ m. not (serves kind m && has_bus_level low m)) bus_numbers in
-    let none : all_high ≡ true =
-    subst (λ o. option_map_or (λ _. true) o all_high ≡ true) e (and_right _ _ ((laws_of kind).settled (has_bus_level low) last)) in
-    within_four low n (λ l. not_both _ _ (at_four (λ m. not (serves kind m && has_bus_level low m)) n l none) s)
+    let is_high : ℕ → Bool = λ m. not (serves kind m && has_bus_level low m) in
+    let settled = and_right _ _ ((laws_of kind).settled (has_bus_level low) last) in
+    let all_high : list_all is_high bus_numbers ≡ true =
+    subst (λ o. option_map_or (λ _. true) o (list_all is_high bus_numbers) ≡ true) e settled in
+    within_four low n (λ l. not_both _ _ (at_four is_high n l all_high) s)
