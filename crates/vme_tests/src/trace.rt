@@ -388,6 +388,21 @@ fn a_write_that_fails_leaves_a_front(rt: HostRuntime) {
     assert_same(&rt, put(&mut out, b"r-"), Err(Fault::Write));
 }
 
+/// Each way to read asks for memory for a list of edges, which `acceptance/failing-calls` refuses in turn.
+#[test]
+fn each_reading_finds_memory(rt: HostRuntime) -> Result<(), Fault> {
+    let text: &[u8] = b"vme 1\n1 br-\n";
+    let mut parsed = Vec::new(rt.alloc());
+    parse(text, &mut parsed)?;
+    let mut fed = Vec::new(rt.alloc());
+    Reader::new().feed(text, &mut fed)?;
+    let mut pumped = Vec::new(rt.alloc());
+    pump(&mut Reader::new(), &mut { text }, &mut pumped)?;
+    assert_edges(&rt, &fed, &parsed);
+    assert_edges(&rt, &pumped, &parsed);
+    Ok(())
+}
+
 /// The faults and their texts.
 const TEXTS: [(Fault, &str); 8] = [
     (
