@@ -4,6 +4,7 @@ use crate::boards::edge;
 use crate::devices::{Narrow, Pieces};
 use std::alloc::{AllocError, Global};
 use std::process::Abort;
+use std::test::Fail;
 use vme_model::{Cycle, Driver, Edge, Version, Wire};
 use vme_trace::{Fault, Reader, parse, pump, put, write};
 
@@ -390,7 +391,7 @@ fn a_write_that_fails_leaves_a_front(rt: HostRuntime) {
 
 /// Each way to read asks for memory for a list of edges, which `acceptance/failing-calls` refuses in turn.
 #[test]
-fn each_reading_finds_memory(rt: HostRuntime) -> Result<(), Fault> {
+fn each_reading_finds_memory(rt: HostRuntime) -> Result<(), Fail> {
     let text: &[u8] = b"vme 1\n1 br-\n";
     let mut parsed = Vec::new(rt.alloc());
     parse(text, &mut parsed)?;
