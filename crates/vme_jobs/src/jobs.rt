@@ -15,7 +15,7 @@ use std::sync::Wait;
 use std::thread::Threads;
 use vme_engines::{EngineFault, Status, check, drive, joined, replay};
 use vme_model::Version;
-use vme_run::{RunFault, run as run_boards};
+use vme_run::{RunFault, run as run_scenario};
 use vme_words::Job;
 
 /// An engine's answer, where the scenario has this name.
@@ -115,7 +115,7 @@ fn run_run<'a, R: Threads + Wait + Sync, W: Write>(
     let text = read_scenario(rt, scenario)?;
     told_run(
         scenario,
-        run_boards(threads, rt.alloc(), &text, edges, turns, out, version),
+        run_scenario(threads, rt.alloc(), &text, edges, turns, out, version),
     )
 }
 

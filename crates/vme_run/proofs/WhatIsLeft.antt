@@ -6,7 +6,7 @@ use Rattle.std.proofs.KnownBytes.{Keeps-refl}
 use Rattle.std.proofs.Math.Nat.{min-le_left}
 use Rattle.vme_model.specs.declared.signals.Version.{Version}
 use Rattle.vme_model.specs.declared.signals.Driver.{Driver}
-use Rattle.vme_model.specs.Plan.{Plan}
+use Rattle.vme_model.specs.Plan.{Plan, drivers}
 use Rattle.vme_model.specs.History.{in_order}
 use Rattle.vme_model.specs.Verdict.{State, IsLegal}
 use Rattle.vme_model.specs.Safe.{IsSafe}
@@ -18,7 +18,8 @@ use Rattle.vme_engines.specs.declared.EngineFault.TheVariants as fault
 use Rattle.vme_engines.proofs.Opening.{no_plan}
 use Rattle.vme_run.specs.declared.RunFault.{RunFault}
 use Rattle.vme_run.specs.declared.RunFault.TheVariants.{Engine, NotStarted, LogDiffers, NotReplayed}
-use Rattle.vme_run.specs.Running.{IsMade, IsRun, HasOtherLogs, RunsOn, Runs, IsRead, IsUnread, IsGrown, IsPlayed, HasGrownApart, IsNotPlayed, EndsRun, IsWritten}
+use Rattle.vme_run.specs.Running.{IsMade, IsRun, AreHandedBack, HasOtherLogs, RunsOn, Runs}
+use Rattle.vme_run.specs.Between.{IsRead, IsUnread, IsGrown, IsPlayed, HasGrownApart, IsNotPlayed, EndsRun, IsWritten}
 
 -- what can be made is no more than what is asked for
 pub fits : (n others m : ℕ) → m ≡ min n others → m ≤ n
@@ -45,7 +46,8 @@ other_logs : (version : Version) (p : Plan) (m n turns : ℕ) (b : State) (drive
     → HasOtherLogs version n turns p driver at
 other_logs version p m n turns b driver at fits grown apart =
     let many : length b.history ≡ apart.1 = omega (arith, apart.3) in
-    (b.history, made_of version p m n turns b fits grown, apart.0, (apart.2.0, apart.2.1 ∙ sym many), apart.4)
+    let back : AreHandedBack turns (length (drivers p)) (length b.history) apart.0 = record { each = apart.2.each; short = apart.2.short; all = apart.2.all ∙ sym many } in
+    (b.history, apart.0, made_of version p m n turns b fits grown, back, apart.4)
 
 -- in the version handed in
 version_of : (version : Version) (p : Plan) (n turns : ℕ) (b : State) → IsPlayed turns (at_power_up version p n) b → b.version ≡ version
@@ -56,8 +58,8 @@ pub read_again : (lent : List ℕ) (p q : Plan) → IsRead lent p → IsRead len
 read_again lent p q one two = let a = one.read in let b = two.read in cc
 
 -- a second backplane of the plan is the played one without its edges
-pub reopened : (version : Version) (p : Plan) (n turns : ℕ) (opened closed bench : State) → opened ≡ at_power_up version p n → bench ≡ at_power_up version p n → IsPlayed turns opened closed → bench ≡ record closed { history = [] }
-reopened version p n turns opened closed bench first second played =
+pub reopened : (version : Version) (p : Plan) (n turns : ℕ) (opened closed again : State) → opened ≡ at_power_up version p n → again ≡ at_power_up version p n → IsPlayed turns opened closed → again ≡ record closed { history = [] }
+reopened version p n turns opened closed again first second played =
     let kept : record closed { history = [] } ≡ record opened { history = [] } = ap (λ (b : State). record b { history = [] }) played.0.0.1 in
     second ∙ sym (kept ∙ ap (λ (b : State). record b { history = [] }) first)
 

@@ -15,10 +15,10 @@ use Rattle.vme_model.specs.Counts.{only}
 use Rattle.vme_lock.specs.Seats.{Place, can_sit, desk, drivers_of}
 use Rattle.vme_lock.specs.Closing.{AreLogs}
 use Rattle.vme_lock.specs.Following.{HasNumber, AreNumbered, IsFront, AreFronts, AreWhole}
-use Rattle.vme_lock.proofs.Counting.{same_desk, desk_within}
-use Rattle.vme_lock.proofs.Differing.{own, went_on, passed}
-use Rattle.vme_lock.proofs.Edges.{one_driver}
-use Rattle.vme_lock.proofs.Joining.{as_many}
+use Rattle.vme_lock.proofs.DeskCounts.{same_desk, desk_within}
+use Rattle.vme_lock.proofs.LogDifference.{own, went_on, passed}
+use Rattle.vme_lock.proofs.OneEdge.{one_driver}
+use Rattle.vme_lock.proofs.SeatsAndLogs.{as_many}
 
 -- the drivers below a place have their numbers
 abbrev pub AreNumberedBelow : List ℕ → List Driver → ℕ → Type 0

@@ -12,7 +12,7 @@ use Rattle.vme_model.specs.declared.signals.Wire.TheVariants.{Bclr}
 use Rattle.vme_model.specs.Signals.{is_same_driver}
 use Rattle.vme_lock.specs.Logs.{is_same_edge}
 use Rattle.vme_lock.specs.Closing.{DiffersAt}
-use Rattle.vme_lock.proofs.Edges.{one_edge, own_edge, never}
+use Rattle.vme_lock.proofs.OneEdge.{one_edge, own_edge, never}
 
 -- a driver's edges in a list
 abbrev pub own : Driver → List Edge → List Edge

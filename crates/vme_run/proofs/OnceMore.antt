@@ -32,19 +32,19 @@ accepted b i e legal fits within is =
     ∙ ap (λ (full : Bool). check (not full) TraceFull (Ok tt)) room
 
 -- and then it stands there
-pub goes_on : (b bench new : State) (i : ℕ) (e : Edge) → IsLegal b.version b.plan b.history → length b.history ≤ b.max → i < length b.history → slice_get (in_order b.history) i ≡ Some e
-    → bench ≡ front b i → new ≡ after bench e → new ≡ front b (i + 1)
-goes_on b bench new i e legal fits within is so_far state =
+pub goes_on : (b again new : State) (i : ℕ) (e : Edge) → IsLegal b.version b.plan b.history → length b.history ≤ b.max → i < length b.history → slice_get (in_order b.history) i ≡ Some e
+    → again ≡ front b i → new ≡ after again e → new ≡ front b (i + 1)
+goes_on b again new i e legal fits within is so_far state =
     state ∙ ap (λ (x : State). after x e) so_far
     ∙ ap (λ j. if is_ok j then made (front b i) e else front b i) (accepted b i e legal fits within is)
     ∙ ap (λ (h : List Edge). record b { history = h }) (sym (next_edge (in_order b.history) i e is))
 
 -- so it is not refused
-pub never_refused : (b bench : State) (i : ℕ) (e : Edge) (r : Result (Option Delivery) Refused) → IsLegal b.version b.plan b.history → length b.history ≤ b.max → i < length b.history → slice_get (in_order b.history) i ≡ Some e
-    → bench ≡ front b i → is_ok r ≡ is_ok (verdict bench e) → is_err r ≡ true → ⊥
-never_refused b bench i e (Ok d) legal fits within is so_far same refused = cc
-never_refused b bench i e (Err f) legal fits within is so_far same refused =
-    let fine : is_ok (verdict bench e) ≡ true = ap (λ (x : State). is_ok (verdict x e)) so_far ∙ ap is_ok (accepted b i e legal fits within is) in
+pub never_refused : (b again : State) (i : ℕ) (e : Edge) (r : Result (Option Delivery) Refused) → IsLegal b.version b.plan b.history → length b.history ≤ b.max → i < length b.history → slice_get (in_order b.history) i ≡ Some e
+    → again ≡ front b i → is_ok r ≡ is_ok (verdict again e) → is_err r ≡ true → ⊥
+never_refused b again i e (Ok d) legal fits within is so_far same refused = cc
+never_refused b again i e (Err f) legal fits within is so_far same refused =
+    let fine : is_ok (verdict again e) ≡ true = ap (λ (x : State). is_ok (verdict x e)) so_far ∙ ap is_ok (accepted b i e legal fits within is) in
     cc
 
 -- the whole history

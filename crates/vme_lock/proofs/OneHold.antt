@@ -9,8 +9,8 @@ use Rattle.vme_model.specs.Signals.{is_same_driver}
 use Rattle.vme_model.specs.Verdict.{State, verdict, made, after}
 use Rattle.vme_model.specs.Counts.{count}
 use Rattle.vme_lock.specs.Seats.{Keeping, IsHeld, can_sit, desk, kept_more}
-use Rattle.vme_lock.proofs.Edges.{one_driver}
-use Rattle.vme_lock.proofs.Counting.{one_if, AreCounts-more, count-made}
+use Rattle.vme_lock.proofs.OneEdge.{one_driver}
+use Rattle.vme_lock.proofs.DeskCounts.{one_if, AreCounts-more, count-made}
 
 -- an accepted edge is made
 pub stepped : (b new : State) (e : Edge) (r : Result (Option Delivery) Refused) (d : Option Delivery) → r ≡ Ok d → is_ok r ≡ is_ok (verdict b e) → new ≡ after b e → new ≡ made b e

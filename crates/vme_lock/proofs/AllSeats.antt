@@ -23,7 +23,7 @@ use Rattle.vme_model.proofs.Members.{found_row}
 use Rattle.vme_model.proofs.AllowedEdges.{checked}
 use Rattle.vme_model.proofs.Ranges.{IsInRange, IsRowInRange, in_range}
 use Rattle.vme_lock.specs.Seats.{Place, can_sit, seat_of, drivers_of}
-use Rattle.vme_lock.proofs.Counting.{one_if, count-made}
+use Rattle.vme_lock.proofs.DeskCounts.{one_if, count-made}
 
 -- the controller, and each board up to a slot
 abbrev pub drivers_below : Plan → ℕ → List Driver
