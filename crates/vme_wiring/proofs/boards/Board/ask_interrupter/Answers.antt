@@ -4,7 +4,7 @@ use Rattle.vme_model.specs.declared.signals.Wire.TheVariants.{Irq, IackOut, Dtac
 use Rattle.vme_model.specs.Verdict.{ruling_on}
 use Rattle.vme_interrupter.specs.Local.{local}
 use Rattle.vme_wiring.specs.Asked.{seen_by}
-use Rattle.vme_wiring.proofs.Ruling.{interrupter_ruled, blind_to_pass, blind_to_answer, with_inputs}
+use Rattle.vme_wiring.proofs.PartAnswers.{interrupter_ruled, blind_to_pass, blind_to_answer, with_inputs}
 use Rattle.vme_wiring.proofs.boards.Board.ask_interrupter.Goals as goal
 
 pub returns-in-Irq : goal.returns-in-Irq

@@ -5,7 +5,7 @@ use Rattle.vme_model.specs.Verdict.{ruling_on}
 use Rattle.vme_master.specs.Local.{local}
 use Rattle.vme_wiring.specs.Asked.{seen_by}
 use Rattle.vme_wiring.specs.Boards.{low_of}
-use Rattle.vme_wiring.proofs.Ruling.{master_ruled, blind_to_inputs}
+use Rattle.vme_wiring.proofs.PartAnswers.{master_ruled, blind_to_inputs}
 use Rattle.vme_wiring.proofs.boards.Board.ask_master.Goals as goal
 
 pub returns-in-Addr : goal.returns-in-Addr

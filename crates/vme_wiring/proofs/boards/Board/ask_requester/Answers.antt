@@ -3,7 +3,7 @@ use Rattle.vme_model.specs.declared.signals.Wire.TheVariants.{Br, BgOut, Bbsy}
 use Rattle.vme_model.specs.Verdict.{ruling_on}
 use Rattle.vme_requester.specs.Local.{low, readings}
 use Rattle.vme_wiring.specs.Asked.{seen_by}
-use Rattle.vme_wiring.proofs.Ruling.{requester_ruled, blind_to_acknowledge, is_free, with_inputs}
+use Rattle.vme_wiring.proofs.PartAnswers.{requester_ruled, blind_to_acknowledge, is_free, with_inputs}
 use Rattle.vme_wiring.proofs.boards.Board.ask_requester.Goals as goal
 
 pub returns-in-Br : goal.returns-in-Br
