@@ -20,8 +20,8 @@ use Rattle.vme_wiring.specs.Boards.{parts_of, place, low_of}
 use Rattle.vme_wiring.specs.Wired.{IsWiringOf}
 use Rattle.vme_wiring.specs.declared.boards.Board.{Board}
 use Rattle.vme_wiring.specs.declared.wirings.Wiring.{Wiring}
-use Rattle.vme_wiring.proofs.Noting.{placed_board}
-use Rattle.vme_wiring.proofs.Seeing.{own_of_board}
+use Rattle.vme_wiring.proofs.LongerHistory.{placed_board}
+use Rattle.vme_wiring.proofs.FieldReads.{own_of_board}
 
 -- each slot is above 0
 pub find_above_zero : (test : ℕ → Bool) (n : ℕ) → find (λ t. nat_lt 0 t && test t) (up_to n) ≡ find test (up_to n)

@@ -25,7 +25,7 @@ use Rattle.vme_wiring.specs.Asked.{asked, IsAsked}
 use Rattle.vme_wiring.specs.Boards.{parts_of, low_of}
 use Rattle.vme_wiring.specs.declared.boards.Board.{Board}
 use Rattle.vme_wiring.proofs.Parts.{part, free_at, low_at}
-use Rattle.vme_wiring.proofs.Asking.{requester_asked, master_asked, interrupter_asked}
+use Rattle.vme_wiring.proofs.RuleRows.{requester_asked, master_asked, interrupter_asked}
 
 abbrev pub is_free : Board → Bool
 is_free b = not (low_of b Addr) || low_of b AddressStrobe

@@ -38,8 +38,8 @@ use Rattle.vme_wiring.specs.Waits.{waits_for_grant, waits_for_bus, waits_for_cyc
 use Rattle.vme_wiring.specs.Wired.{IsWiringOf}
 use Rattle.vme_wiring.specs.declared.boards.Board.{Board}
 use Rattle.vme_wiring.specs.declared.wirings.Wiring.{Wiring}
-use Rattle.vme_wiring.proofs.Noting.{IsPlaced, placed_board}
-use Rattle.vme_wiring.proofs.Seeing.{pins_of_board, own_of_board, own_of_none, no_board_in}
+use Rattle.vme_wiring.proofs.LongerHistory.{IsPlaced, placed_board}
+use Rattle.vme_wiring.proofs.FieldReads.{pins_of_board, own_of_board, own_of_none, no_board_in}
 
 -- a test that fails on the way to Ok
 stops_third : (a b c : Bool) (x y z : Refused) (rest : Judgement) → c ≡ false → is_ok (check a x (check b y (check c z rest))) ≡ false

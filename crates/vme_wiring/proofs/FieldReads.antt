@@ -26,7 +26,7 @@ use Rattle.vme_model.specs.Settling.{are_grants_through, is_chain_clear, settlin
 use Rattle.vme_chain.specs.Segments.{segments_of, input, is_past_end, is_clear}
 use Rattle.vme_chain.proofs.History.{reads_inputs, reads_the_end, reads_clearness}
 use Rattle.vme_wiring.specs.Counts.{passes_grant}
-use Rattle.vme_wiring.proofs.Counting.{no_pulls_left}
+use Rattle.vme_wiring.proofs.PullCounts.{no_pulls_left}
 use Rattle.vme_arbiter.specs.Local.{State as ControllerState, state_of as controller_of, low}
 use Rattle.vme_arbiter.specs.declared.policies.AnyPolicy.{AnyPolicy}
 use Rattle.vme_model.specs.declared.boards.ArbiterKind.{ArbiterKind}
@@ -42,7 +42,7 @@ use Rattle.vme_wiring.specs.declared.chains.Chains.{Chains}
 use Rattle.vme_wiring.specs.declared.wirings.Wiring.{Wiring}
 use Rattle.vme_wiring.proofs.Others.{same_wire}
 use Rattle.vme_wiring.proofs.Parts.{low_driven}
-use Rattle.vme_wiring.proofs.Noting.{none_placed}
+use Rattle.vme_wiring.proofs.LongerHistory.{none_placed}
 
 pub chain_is : (p : Plan) (h : List Edge) (c : ChainId) → chain_at c (chains_of p h) ≡ segments_of p h c
 chain_is p h chain.Bg0 = refl

@@ -31,10 +31,10 @@ use Rattle.vme_wiring.specs.declared.boards.Board.{Board}
 use Rattle.vme_wiring.specs.declared.wirings.Wiring.{Wiring}
 use Rattle.vme_wiring.proofs.Parts.{part}
 use Rattle.vme_wiring.proofs.Others.{parts_same}
-use Rattle.vme_wiring.proofs.Standing.{Stands, stands, driven, at, at_head, flipped}
+use Rattle.vme_wiring.proofs.AllowedBoards.{Stands, stands, driven, at, at_head, flipped}
 use Rattle.vme_wiring.proofs.LineNotes.{counted, uncounted, shared_by_board, shared_by_controller}
 use Rattle.vme_wiring.proofs.ChainNotes.{chained, can_move, chained_head, can_move_head}
-use Rattle.vme_wiring.proofs.Showing.{IsShownAt, shown_at}
+use Rattle.vme_wiring.proofs.AddressNotes.{IsShownAt, shown_at}
 
 -- one place of the boards is written
 set_here : {A : Type 0} (xs : List A) (s : ℕ) (x : A) → s < length xs → slice_get (set xs s x) s ≡ Some x

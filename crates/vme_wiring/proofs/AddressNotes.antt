@@ -22,7 +22,7 @@ use Rattle.vme_model.proofs.Safety.{legal_is_safe}
 use Rattle.vme_slots.proofs.Slots.{find_up_to_none, find_up_to_first}
 use Rattle.vme_wiring.specs.Counts.{addressing_after}
 use Rattle.vme_wiring.proofs.Others.{drive_same}
-use Rattle.vme_wiring.proofs.Standing.{Stands, IsDriven, at, own_edge, own_after}
+use Rattle.vme_wiring.proofs.AllowedBoards.{Stands, IsDriven, at, own_edge, own_after}
 
 whole : (P : List Edge → Type 0) (h : List Edge) → OnEachPrefix P h → P h
 whole P [] each = each
