@@ -10,4 +10,4 @@ mod outcomes;
 pub mod requesters;
 pub mod settlings;
 
-pub use outcomes::Outcome;
+pub use outcomes::{Outcome, allowed};

@@ -1,10 +1,11 @@
 //! What a guard answers.
-ghost use Rattle.std.specs.Prelude.{◌≡◌, ◌≤◌};
+ghost use Rattle.std.specs.Prelude.{◌≡◌, ◌≤◌, Ok};
 ghost use Rattle.vme_model.specs.Guards.{Guard, free, asks, ◌⊓◌, unless, holds, failed};
+ghost use Rattle.vme_model.specs.Verdict.{check};
 ghost use Rattle.vme_rules.specs.Room.{most};
 
 use arrayvec::ArrayVec;
-use vme_model::Condition;
+use vme_model::{Condition, Refused};
 
 /// What is asked of a guard: whether it holds, or which of its conditions fail.
 ///
@@ -78,5 +79,21 @@ impl Outcome for ArrayVec<Condition, 5> {
 
     fn unless(self, is_free: bool) -> ArrayVec<Condition, 5> {
         if is_free { ArrayVec::new() } else { self }
+    }
+}
+
+/// The answer to an edge that moves its wire, by the rule that names it and whether its guard holds.
+///
+/// # Errors
+/// E3 where it does not.
+#[inline(always)]
+pub fn allowed(rule: (u8, bool)) -> Result<(), Refused>
+    ensures { result ≡ check rule.1 (Refused.Rule rule.0) (Ok tt) }
+{
+    let (number, holds) = rule;
+    if holds {
+        Ok(())
+    } else {
+        Err(Refused::Rule(number))
     }
 }
