@@ -81,6 +81,8 @@ answer_over s row version noted pins is_address_free e =
     ruling version (readings s row (drive noted (Slot s)) pins is_address_free) e
 
 -- the conditions that fail of the rule that names an edge of its own, read so
-abbrev pub failing_over : ℕ → RequesterRow → Version → List Edge → Pins → Bool → Edge → List Condition
+abbrev pub failing_over : ℕ → RequesterRow → Version → List Edge → Pins → Bool → Edge →
+    List Condition
 failing_over s row version noted pins is_address_free e =
-    failing version (readings s row (drive noted (Slot s)) pins is_address_free) e.wire e.fall e.value
+    failing version (readings s row (drive noted (Slot s)) pins is_address_free)
+    e.wire e.fall e.value

@@ -79,10 +79,12 @@ impl Requester {
     /// The rule that names an edge of its bus request, and what its guard answers (G9, G10).
     #[inline(always)]
     fn request_rule<A: Outcome>(&self, fall: bool) -> (u8, A)
-        ensures number { (pins : PinsValue) (is_address_free : Bool) (value : OptionValue CycleValue) →
+        ensures number { (pins : PinsValue) (is_address_free : Bool)
+            (value : OptionValue CycleValue) →
             result.0 ≡ (guard self.now.version
             (local self.now pins is_address_free) Wire.Br fall value).0 }
-        ensures answer { (pins : PinsValue) (is_address_free : Bool) (value : OptionValue CycleValue) →
+        ensures answer { (pins : PinsValue) (is_address_free : Bool)
+            (value : OptionValue CycleValue) →
             A.tells result.1 (guard self.now.version
             (local self.now pins is_address_free) Wire.Br fall value).1 }
     {
@@ -96,10 +98,12 @@ impl Requester {
     /// The rule that names an edge of its bus grant out, and what its guard answers (G11, G12).
     #[inline(always)]
     fn pass_rule<A: Outcome>(&self, fall: bool, grant_in: bool) -> (u8, A)
-        ensures number { (pins : PinsValue) (is_address_free : Bool) (value : OptionValue CycleValue) →
+        ensures number { (pins : PinsValue) (is_address_free : Bool)
+            (value : OptionValue CycleValue) →
             result.0 ≡ (guard self.now.version
             (local self.now pins is_address_free) Wire.BgOut fall value).0 }
-        ensures answer { (pins : PinsValue) (is_address_free : Bool) (value : OptionValue CycleValue) →
+        ensures answer { (pins : PinsValue) (is_address_free : Bool)
+            (value : OptionValue CycleValue) →
             pins.grant_in ≡ grant_in →
             A.tells result.1 (guard self.now.version
             (local self.now pins is_address_free) Wire.BgOut fall value).1 }
