@@ -83,8 +83,10 @@ impl Master {
         pins: &Pins,
         holds_bus: bool,
     ) -> (u8, A)
-        ensures number { result.0 ≡ (guard One (local self.now pins.now holds_bus) Wire.Addr fall value).0 }
-        ensures answer { A.tells result.1 (guard One (local self.now pins.now holds_bus) Wire.Addr fall value).1 }
+        ensures number { result.0 ≡
+            (guard One (local self.now pins.now holds_bus) Wire.Addr fall value).0 }
+        ensures answer { A.tells result.1
+            (guard One (local self.now pins.now holds_bus) Wire.Addr fall value).1 }
     {
         if !fall {
             let guard = addr_goes_off(self.address_strobe, self.data_strobe, self.has_strobed);
@@ -100,9 +102,11 @@ impl Master {
     #[inline(always)]
     fn address_strobe_rule<A: Outcome>(&self, fall: bool, pins: &Pins) -> (u8, A)
         ensures number { (holds_bus : Bool) (value : OptionValue CycleValue) →
-            result.0 ≡ (guard One (local self.now pins.now holds_bus) Wire.AddressStrobe fall value).0 }
+            result.0 ≡
+            (guard One (local self.now pins.now holds_bus) Wire.AddressStrobe fall value).0 }
         ensures answer { (holds_bus : Bool) (value : OptionValue CycleValue) →
-            A.tells result.1 (guard One (local self.now pins.now holds_bus) Wire.AddressStrobe fall value).1 }
+            A.tells result.1
+            (guard One (local self.now pins.now holds_bus) Wire.AddressStrobe fall value).1 }
     {
         if fall {
             (16, as_falls(self.addr, pins.address_strobe))
@@ -115,9 +119,11 @@ impl Master {
     #[inline(always)]
     fn data_strobe_rule<A: Outcome>(&self, fall: bool, pins: &Pins) -> (u8, A)
         ensures number { (holds_bus : Bool) (value : OptionValue CycleValue) →
-            result.0 ≡ (guard One (local self.now pins.now holds_bus) Wire.DataStrobe fall value).0 }
+            result.0 ≡
+            (guard One (local self.now pins.now holds_bus) Wire.DataStrobe fall value).0 }
         ensures answer { (holds_bus : Bool) (value : OptionValue CycleValue) →
-            A.tells result.1 (guard One (local self.now pins.now holds_bus) Wire.DataStrobe fall value).1 }
+            A.tells result.1
+            (guard One (local self.now pins.now holds_bus) Wire.DataStrobe fall value).1 }
     {
         if !fall {
             return (18, ds_rises(pins.dtack, pins.berr));
@@ -161,7 +167,8 @@ impl Master {
     #[inline(always)]
     pub fn may_strobe_address(&self, fall: bool, pins: &Pins) -> Result<(), Refused>
         ensures { (holds_bus : Bool) (value : OptionValue CycleValue) →
-            result ≡ ruling_on One (local self.now pins.now holds_bus) Wire.AddressStrobe fall value }
+            result ≡
+            ruling_on One (local self.now pins.now holds_bus) Wire.AddressStrobe fall value }
     {
         if self.address_strobe == fall {
             return Err(Refused::AlreadyThere);
@@ -231,7 +238,9 @@ impl Master {
     #[tactic(auto, using(crate::proofs::Counts::one_more))]
     #[inline(always)]
     pub fn note(&mut self, edge: Edge)
-        ensures { (s : ℕ) (row : RowValue) (handler : LevelsValue) (noted : List EdgeValue) → self.old ≡ state_of s row handler noted → self.new ≡ state_of s row handler (edge ∷ noted) }
+        ensures { (s : ℕ) (row : RowValue) (handler : LevelsValue) (noted : List EdgeValue) →
+            self.old ≡ state_of s row handler noted →
+            self.new ≡ state_of s row handler (edge ∷ noted) }
     {
         if edge.driver.is_same(Driver::Slot(self.slot)) {
             match (edge.wire, edge.fall) {
@@ -257,7 +266,12 @@ impl Master {
 
     /// Its address strobe falls.
     fn begin_cycle(&mut self)
-        ensures { self.new ≡ record self.old { address_strobe = true; cycles = if nat_lt self.old.cycles (most_cycles self.old.row.release) then self.old.cycles + 1 else self.old.cycles; has_strobed = false } }
+        ensures { self.new ≡ record self.old {
+          address_strobe = true;
+          cycles = if nat_lt self.old.cycles (most_cycles self.old.row.release)
+              then self.old.cycles + 1 else self.old.cycles;
+          has_strobed = false;
+        } }
     {
         if self.cycles < self.most_cycles() {
             self.cycles += 1;
@@ -268,7 +282,10 @@ impl Master {
 
     /// Its data strobe falls or rises.
     fn strobe(&mut self, fall: bool)
-        ensures { self.new ≡ record self.old { data_strobe = fall; has_strobed = fall || self.old.has_strobed } }
+        ensures { self.new ≡ record self.old {
+          data_strobe = fall;
+          has_strobed = fall || self.old.has_strobed;
+        } }
     {
         self.data_strobe = fall;
         self.has_strobed = fall || self.has_strobed;
