@@ -1,5 +1,5 @@
 -- An interrupter's local state, and what its rules read. A list of noted edges has its newest edge first.
-use Rattle.std.specs.Prelude.{◌≡◌, ◌==◌, ◌&&◌, ◌||◌, not, if◌then◌else◌, ℕ, Bool, true, false, Option, Some, None, List, [], ◌∷◌, map}
+use Rattle.std.specs.Prelude.{◌≡◌, ◌==◌, ◌&&◌, ◌||◌, if◌then◌else◌, ℕ, Bool, true, false, Option, Some, None, List, [], ◌∷◌, map}
 use Rattle.std.specs.Option.{option_map_or, option_and_then}
 use Rattle.vme_model.specs.declared.boards.InterrupterRow.{InterrupterRow}
 use Rattle.vme_model.specs.declared.pins.Pins.{Pins}
@@ -8,7 +8,6 @@ use Rattle.vme_model.specs.declared.signals.Driver.TheVariants.{Slot}
 use Rattle.vme_model.specs.declared.signals.Wire.{Wire}
 use Rattle.vme_model.specs.declared.signals.Wire.TheVariants.{Irq, IackOut, Dtack}
 use Rattle.vme_model.specs.declared.signals.Cycle.{Cycle}
-use Rattle.vme_model.specs.declared.signals.Cycle.TheVariants.{Acknowledge, Access}
 use Rattle.vme_model.specs.declared.signals.Edge.{Edge}
 use Rattle.vme_model.specs.Signals.{is_fall_of}
 use Rattle.vme_model.specs.Sets.{no_levels}
@@ -84,19 +83,9 @@ local i pins = readings i.slot i.row (low i) i.is_served pins
 abbrev pub over : ℕ → Option InterrupterRow → List Noted → Pins → Readings
 over s row noted pins = readings s row (drive (edges noted) (Slot s)) (served noted (Slot s) row) pins
 
--- by the state it asks at the level of the acknowledge that is shown
-abbrev pub asks_at : State → Option Cycle → Bool
-asks_at i (Some (Acknowledge level)) =
-    option_map_or (λ r. r.level == level) i.row false && i.irq && not i.is_served
-asks_at i _ = false
-
--- an access to its slot is shown
-abbrev pub is_accessed : State → Option Cycle → Bool
-is_accessed i (Some (Access s)) = i.slot == s
-is_accessed i _ = false
-
 -- readings that say what an interrupter is told, whatever they say of all else
-pub record SayWhatIsTold (s : ℕ) (row : Option InterrupterRow) (own : Wire → Bool) (is_served : Bool) (pins : Pins) (r : Readings) : Type 0 where
+pub record SayWhatIsTold (s : ℕ) (row : Option InterrupterRow) (own : Wire → Bool)
+    (is_served : Bool) (pins : Pins) (r : Readings) : Type 0 where
   pub own_wires : (w : Wire) → is_own w ≡ true → r.own w ≡ own w
   pub served : r.served_since_request ≡ is_served
   pub address_strobe : r.address_strobe ≡ pins.address_strobe

@@ -10,7 +10,8 @@ ghost use Rattle.vme_model.specs.declared.signals.Version.TheVariants.{One};
 ghost use Rattle.vme_model.specs.Readings.{is_pending};
 ghost use Rattle.vme_model.specs.Rules.{failing, guard};
 ghost use Rattle.vme_model.specs.Verdict.{ruling, ruling_on};
-ghost use Rattle.vme_interrupter.specs.Local.{Noted, state_of, serves_board, is_own, low, local, over, asks_at, is_accessed};
+ghost use Rattle.vme_interrupter.specs.Local.{Noted, state_of, serves_board, is_own, low, local, over};
+ghost use Rattle.vme_interrupter.specs.Address.{asks_at, is_accessed};
 
 use arrayvec::ArrayVec;
 use std::marker::Model;
@@ -85,14 +86,17 @@ impl Interrupter {
     /// Whether the board asks at the level: its interrupter has that level, its request is low, and it gave no answer
     /// that serves it since it requested.
     pub fn is_pending(&self, level: u8) -> bool
-        ensures { (noted : List Noted) (pins : PinsValue) → self.now ≡ state_of self.now.slot self.now.row noted → result ≡ is_pending (over self.now.slot self.now.row noted pins) level }
+        ensures { (noted : List Noted) (pins : PinsValue) →
+            self.now ≡ state_of self.now.slot self.now.row noted →
+            result ≡ is_pending (over self.now.slot self.now.row noted pins) level }
     {
         self.asks(level)
     }
 
     /// The same by the fields.
     fn asks(&self, level: u8) -> bool
-        ensures { result ≡ (option_map_or (λ i. i.level == level) self.now.row false && self.now.irq && not self.now.is_served) }
+        ensures { result ≡ (option_map_or (λ i. i.level == level) self.now.row false
+            && self.now.irq && not self.now.is_served) }
     {
         self.has_level(level) && self.irq && !self.is_served
     }
@@ -273,7 +277,9 @@ impl Interrupter {
     /// nothing.
     #[inline(always)]
     pub fn note(&mut self, edge: Edge, shown: Option<Cycle>)
-        ensures { (s : ℕ) (row : OptionValue RowValue) (noted : List Noted) → self.old ≡ state_of s row noted → self.new ≡ state_of s row ((edge, shown) ∷ noted) }
+        ensures { (s : ℕ) (row : OptionValue RowValue) (noted : List Noted) →
+            self.old ≡ state_of s row noted →
+            self.new ≡ state_of s row ((edge, shown) ∷ noted) }
     {
         if edge.driver.is_same(Driver::Slot(self.slot)) {
             match (edge.wire, edge.fall) {
@@ -288,7 +294,10 @@ impl Interrupter {
 
     /// Its request falls or rises.
     fn request(&mut self, fall: bool)
-        ensures { self.new ≡ record self.old { irq = fall; is_served = if fall then false else self.old.is_served } }
+        ensures { self.new ≡ record self.old {
+          irq = fall;
+          is_served = if fall then false else self.old.is_served;
+        } }
     {
         self.irq = fall;
         self.is_served = !fall && self.is_served;
@@ -296,7 +305,10 @@ impl Interrupter {
 
     /// It answers while this is shown.
     fn answer(&mut self, shown: Option<Cycle>)
-        ensures { self.new ≡ record self.old { dtack = true; is_served = serves_board self.old.row shown || self.old.is_served } }
+        ensures { self.new ≡ record self.old {
+          dtack = true;
+          is_served = serves_board self.old.row shown || self.old.is_served;
+        } }
     {
         self.dtack = true;
         self.is_served = self.is_served_by(shown) || self.is_served;
