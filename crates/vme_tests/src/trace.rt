@@ -149,11 +149,17 @@ const TRACES: [(&[u8], Version, usize); 5] = [
     (b"vme 2\n", Version::Two, 0),
 ];
 
-/// Asserts that this text is what is written of these edges.
-fn assert_written(rt: &(impl Abort + AllocGlobal), version: Version, edges: &[Edge], want: &[u8]) {
+/// The trace of some edges.
+fn written(rt: &(impl Abort + AllocGlobal), version: Version, edges: &[Edge]) -> Vec<u8> {
     assert!(rt; edges.iter().all(|edge| edge.is_well_formed()));
     let mut text = Vec::new(rt.alloc());
     assert_same(rt, write(version, edges, &mut text), Ok(()));
+    text
+}
+
+/// Asserts that this text is what is written of these edges.
+fn assert_written(rt: &(impl Abort + AllocGlobal), version: Version, edges: &[Edge], want: &[u8]) {
+    let text = written(rt, version, edges);
     assert_same(rt, text.as_slice(), want);
 }
 
@@ -235,20 +241,12 @@ fn every_edge(alloc: Global) -> Result<Vec<Edge>, AllocError> {
     Ok(edges)
 }
 
-/// The trace of some edges.
-fn written(rt: &(impl Abort + AllocGlobal), edges: &[Edge]) -> Vec<u8> {
-    assert!(rt; edges.iter().all(|edge| edge.is_well_formed()));
-    let mut text = Vec::new(rt.alloc());
-    assert_same(rt, write(Version::One, edges, &mut text), Ok(()));
-    text
-}
-
 // The controller has 7 wires, and a board 8 without a value. Each falls and rises. An address rises, and falls with 28 values.
 #[test]
 fn every_edge_is_read_as_it_was_written(rt: HostRuntime) -> Result<(), AllocError> {
     let edges = every_edge(rt.alloc())?;
     assert_same(&rt, edges.len(), 14 + 21 * (16 + 29));
-    let text = written(&rt, &edges);
+    let text = written(&rt, Version::One, &edges);
     let found = assert_parsed(&rt, &text, Ok(Version::One));
     assert_edges(&rt, &found, &edges);
     Ok(())
