@@ -18,9 +18,9 @@ extern void *__libc_malloc(size_t);
 extern void *__libc_calloc(size_t, size_t);
 extern void *__libc_realloc(void *, size_t);
 
-enum kind { NONE, MEMORY, STREAM, INTERRUPTED, NOT_READY, SHORT, OPENING, OPENING_INTERRUPTED, THREAD };
+enum kind { NONE, MEMORY, STREAM, INTERRUPTED, INTERRUPTED_FILES, NOT_READY, SHORT, OPENING, OPENING_INTERRUPTED, THREAD };
 
-static const char *const names[] = {"none", "memory", "stream", "interrupted", "not-ready", "short", "opening", "opening-interrupted", "thread"};
+static const char *const names[] = {"none", "memory", "stream", "interrupted", "interrupted-files", "not-ready", "short", "opening", "opening-interrupted", "thread"};
 
 static enum kind kind;
 static long failing;
@@ -89,14 +89,16 @@ void *calloc(size_t count, size_t size) { return is_refused() ? NULL : __libc_ca
 
 void *realloc(void *block, size_t size) { return is_refused() ? NULL : __libc_realloc(block, size); }
 
-/* The fault of a read or a write, 0 for none. */
-static int fault_of_stream(void) {
+/* The fault of a read or a write, 0 for none. Standard error is no file: what is told there can be read. */
+static int fault_of_stream(int file) {
+    if (file != STDERR_FILENO && is_it(INTERRUPTED_FILES))
+        return EINTR;
     return is_it(STREAM) ? EIO : is_it(INTERRUPTED) ? EINTR : is_it(NOT_READY) ? EAGAIN : 0;
 }
 
 /* A read or a write of a stream, in full, in part or not at all. */
 static ssize_t move(long number, int file, void *bytes, size_t size) {
-    int fault = fault_of_stream();
+    int fault = fault_of_stream(file);
     if (fault) {
         errno = fault;
         return -1;

@@ -4,7 +4,6 @@ use Rattle.std.specs.Prelude.{◌&&◌, not, nat_lt, Option, Ok}
 use Rattle.std.specs.List.{list_any}
 use Rattle.std.proofs.lemmas.Bool.{ltb-true}
 use Rattle.vme_model.specs.declared.boards.ArbiterKind.{ArbiterKind}
-use Rattle.vme_model.specs.declared.boards.ArbiterKind.TheVariants.{Sgl, Pri, Rrs}
 use Rattle.vme_model.specs.declared.pins.Pins.{Pins}
 use Rattle.vme_model.specs.declared.refusals.Refused.TheVariants.{AlreadyThere, Rule}
 use Rattle.vme_model.specs.declared.signals.Version.{Version}
@@ -16,16 +15,17 @@ use Rattle.vme_model.specs.Sets.{has_bus_level}
 use Rattle.vme_model.specs.Readings.{Readings}
 use Rattle.vme_model.specs.Rules.{bus_numbers, is_pick, is_pri, are_grants_high, is_bus_clear_due}
 use Rattle.vme_model.specs.Verdict.{check, is_other_state, ruling_on}
+use Rattle.vme_model.proofs.Picks.{laws_of}
 use Rattle.vme_arbiter.specs.Local.{is_own, readings, SayWhatIsTold}
 
 alike : (o p b c fall : Bool) (n : ℕ) → o ≡ p → b ≡ c → check (is_other_state o fall) AlreadyThere (check b (Rule n) (Ok tt)) ≡ check (is_other_state p fall) AlreadyThere (check c (Rule n) (Ok tt))
 alike o p b c fall n e f = cc
 
 -- a pick is by the four lines and the level itself
-pick_alike : (kind : ArbiterKind) (low high : ℕ → Bool) (last n : ℕ) → ((m : ℕ) → low m ≡ high m) → is_pick kind low last n ≡ is_pick kind high last n
-pick_alike Sgl low high last n same = cc (same 3)
-pick_alike Pri low high last n same = cc (same n, same 0, same 1, same 2, same 3)
-pick_alike Rrs low high last n same = cc (same n, same 0, same 1, same 2, same 3)
+pick_alike : (kind : ArbiterKind) (low high : ℕ → Bool) (last n : ℕ) → ((m : ℕ) → low m ≡ high m) →
+    is_pick kind low last n ≡ is_pick kind high last n
+pick_alike kind low high last n same =
+    (laws_of kind).by_lines low high last n (same 0) (same 1) (same 2) (same 3) (same n)
 
 any_alike : (last : ℕ) (low high : ℕ → Bool) → ((m : ℕ) → low m ≡ high m) → list_any (λ m. nat_lt last m && low m) bus_numbers ≡ list_any (λ m. nat_lt last m && high m) bus_numbers
 any_alike last low high same = cc (same 0, same 1, same 2, same 3)
@@ -55,16 +55,9 @@ module _ (version : Version) (kind : ArbiterKind) (own : Wire → Bool) (last_le
   acknowledge_alike = ap is_acknowledge (sym says.shown)
 
   pub reads_told : (w : Wire) (fall : Bool) (value : Option Cycle) → is_own w ≡ true → ruling_on version t w fall value ≡ ruling_on version r w fall value
-  reads_told (Bg zero) true v own = alike _ _ _ _ true 1 (sym (says.own_wires (Bg 0) refl)) (cc (grants_alike, says.bbsy, pick_so 0))
-  reads_told (Bg zero) false v own = alike _ _ _ _ false 2 (sym (says.own_wires (Bg 0) refl)) (cc says.bbsy)
-  reads_told (Bg (suc zero)) true v own = alike _ _ _ _ true 1 (sym (says.own_wires (Bg 1) refl)) (cc (grants_alike, says.bbsy, pick_so 1))
-  reads_told (Bg (suc zero)) false v own = alike _ _ _ _ false 2 (sym (says.own_wires (Bg 1) refl)) (cc says.bbsy)
-  reads_told (Bg (suc (suc zero))) true v own = alike _ _ _ _ true 1 (sym (says.own_wires (Bg 2) refl)) (cc (grants_alike, says.bbsy, pick_so 2))
-  reads_told (Bg (suc (suc zero))) false v own = alike _ _ _ _ false 2 (sym (says.own_wires (Bg 2) refl)) (cc says.bbsy)
-  reads_told (Bg (suc (suc (suc zero)))) true v own = alike _ _ _ _ true 1 (sym (says.own_wires (Bg 3) refl)) (cc (grants_alike, says.bbsy, pick_so 3))
-  reads_told (Bg (suc (suc (suc zero)))) false v own = alike _ _ _ _ false 2 (sym (says.own_wires (Bg 3) refl)) (cc says.bbsy)
-  reads_told (Bg (suc (suc (suc (suc n))))) fall v own =
-      absurd (let small = ltb-true (suc (suc (suc (suc n)))) 4 own in omega (arith, small))
+  reads_told (Bg n) true v own =
+      alike _ _ _ _ true 1 (sym (says.own_wires (Bg n) own)) (cc (grants_alike, says.bbsy, pick_so n))
+  reads_told (Bg n) false v own = alike _ _ _ _ false 2 (sym (says.own_wires (Bg n) own)) (cc says.bbsy)
   reads_told Bclr true v own = alike _ _ _ _ true 3 (sym (says.own_wires Bclr refl)) clear_alike
   reads_told Bclr false v own = alike _ _ _ _ false 4 (sym (says.own_wires Bclr refl)) (ap not clear_alike)
   reads_told Iack true v own = alike _ _ _ _ true 5 (sym (says.own_wires Iack refl)) (cc (says.address_strobe, says.data_strobe, acknowledge_alike))

@@ -1,4 +1,5 @@
--- A controller's local state, and what its rules read. A list of noted edges has its newest edge first.
+-- A controller's local state, and what its rules read. A list of noted edges has its newest edge
+-- first.
 use Rattle.std.specs.Prelude.{◌≡◌, ◌==◌, if◌then◌else◌, ℕ, Bool, true, false, Option, List}
 use Rattle.std.specs.Option.{option_map_or}
 use Rattle.vme_model.specs.declared.boards.ArbiterKind.{ArbiterKind}
@@ -14,7 +15,8 @@ use Rattle.vme_model.specs.Sets.{has_bus_level}
 use Rattle.vme_model.specs.History.{drive, last_level}
 use Rattle.vme_model.specs.Readings.{Readings, readings_of_pins}
 
--- what a controller keeps: its kind, the version of its rules, which of its wires are low, and the level last granted
+-- what a controller keeps: its kind, the version of its rules, which of its wires are low, and the
+-- level last granted
 pub record State : Type 0 where
   pub kind : ArbiterKind
   pub version : Version
@@ -48,7 +50,9 @@ is_own w = has_wire Controller w
 
 -- the wires by the state
 abbrev pub low : State → Wire → Bool
-low c (Bg n) = if n == 0 then c.bg0 else (if n == 1 then c.bg1 else (if n == 2 then c.bg2 else (if n == 3 then c.bg3 else false)))
+low c (Bg n) =
+    if n == 0 then c.bg0
+    else (if n == 1 then c.bg1 else (if n == 2 then c.bg2 else (if n == 3 then c.bg3 else false)))
 low c Bclr = c.bclr
 low c Iack = c.iack
 low c Berr = c.berr
@@ -70,12 +74,16 @@ local c pins = readings c.kind (low c) c.last_level pins
 abbrev pub over : ArbiterKind → List Edge → Pins → Readings
 over kind noted pins = readings kind (drive noted Controller) (last_level noted) pins
 
--- the same with a policy's own pick in the place of its kind's: priority picks it where nothing else is requested
+-- the same with a policy's own pick in the place of its kind's: priority picks it where nothing
+-- else is requested
 abbrev pub over_pick : Option ℕ → List Edge → Pins → Readings
-over_pick picked noted pins = record (over Pri noted pins) { request = λ n. option_map_or (λ m. m == n) picked false }
+over_pick picked noted pins =
+    record (over Pri noted pins) { request = λ n. option_map_or (λ m. m == n) picked false }
 
 -- readings that say what a controller is told, whatever they say of all else
-pub record SayWhatIsTold (kind : ArbiterKind) (own : Wire → Bool) (last_level : ℕ) (pins : Pins) (r : Readings) : Type 0 where
+pub record SayWhatIsTold
+    (kind : ArbiterKind) (own : Wire → Bool) (last_level : ℕ) (pins : Pins) (r : Readings)
+    : Type 0 where
   pub own_wires : (w : Wire) → is_own w ≡ true → r.own w ≡ own w
   pub arbiter : r.arbiter ≡ kind
   pub last : r.last_level ≡ last_level

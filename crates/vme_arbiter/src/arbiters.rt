@@ -18,7 +18,8 @@ use crate::policies::Policy;
 use std::marker::Model;
 use vme_model::{ArbiterKind, BusLevels, Driver, Edge, Pins, Refused, Version, Wire};
 
-/// What a controller's own edges left: which of its wires are low, and the level that it last granted.
+/// What a controller's own edges left: which of its wires are low, and the level that it last
+/// granted.
 #[derive(Clone, Copy, PartialEq, Eq, Debug)]
 struct Controller {
     kind: ArbiterKind,
@@ -38,9 +39,31 @@ impl Model for Controller {
 
     ghost Value = { State };
 
-    ghost view = { λ c. record { kind = c.kind; version = c.version; bg0 = c.bg0; bg1 = c.bg1; bg2 = c.bg2; bg3 = c.bg3; bclr = c.bclr; iack = c.iack; berr = c.berr; last_level = c.last_level } };
+    ghost view = { λ c. record {
+      kind = c.kind;
+      version = c.version;
+      bg0 = c.bg0;
+      bg1 = c.bg1;
+      bg2 = c.bg2;
+      bg3 = c.bg3;
+      bclr = c.bclr;
+      iack = c.iack;
+      berr = c.berr;
+      last_level = c.last_level;
+    } };
 
-    ghost inverse = { λ s. record { kind = s.kind; version = s.version; bg0 = s.bg0; bg1 = s.bg1; bg2 = s.bg2; bg3 = s.bg3; bclr = s.bclr; iack = s.iack; berr = s.berr; last_level = s.last_level } };
+    ghost inverse = { λ s. record {
+      kind = s.kind;
+      version = s.version;
+      bg0 = s.bg0;
+      bg1 = s.bg1;
+      bg2 = s.bg2;
+      bg3 = s.bg3;
+      bclr = s.bclr;
+      iack = s.iack;
+      berr = s.berr;
+      last_level = s.last_level;
+    } };
 }
 
 impl Controller {
@@ -88,7 +111,8 @@ impl Controller {
 
     /// Whether a level above the one last granted is requested.
     fn is_outranked(&self, requests: BusLevels) -> bool
-        ensures { result ≡ list_any (λ m. nat_lt self.now.last_level m && has_bus_level requests m) bus_numbers }
+        ensures { result ≡
+            list_any (λ m. nat_lt self.now.last_level m && has_bus_level requests m) bus_numbers }
     {
         let last = self.last_level;
         [0, 1, 2, 3]
@@ -106,13 +130,22 @@ impl Controller {
             && self.is_outranked(pins.requests)
     }
 
-    /// The rule that names an edge of its own, and whether its guard holds, where the policy picks the level of a
-    /// grant or does not.
+    /// The rule that names an edge of its own, and whether its guard holds, where the policy picks
+    /// the level of a grant or does not.
     #[inline(always)]
     fn rule(&self, edge: Edge, pins: Pins, is_picked: bool) -> (u8, bool)
         ensures picked { is_grant edge ≡ true → result.1 ≡ true → is_picked ≡ true }
-        ensures rows { is_own edge.wire ≡ true → (is_grant edge ≡ true → is_picked ≡ is_pick self.now.kind (has_bus_level pins.requests) self.now.last_level (grant_level edge.wire)) → result ≡ rule self.now.version (local self.now pins) edge.wire edge.fall edge.value }
-        ensures grants { (kind : KindValue) (request : ℕ → Bool) → is_own edge.wire ≡ true → is_grant edge ≡ true → is_picked ≡ is_pick kind request self.now.last_level (grant_level edge.wire) → result ≡ rule self.now.version (record (local self.now pins) { request = request; arbiter = kind }) edge.wire edge.fall edge.value }
+        ensures rows { is_own edge.wire ≡ true →
+            (is_grant edge ≡ true →
+            is_picked ≡ is_pick self.now.kind (has_bus_level pins.requests) self.now.last_level
+            (grant_level edge.wire)) →
+            result ≡ rule self.now.version (local self.now pins) edge.wire edge.fall edge.value }
+        ensures grants { (kind : KindValue) (request : ℕ → Bool) →
+            is_own edge.wire ≡ true → is_grant edge ≡ true →
+            is_picked ≡ is_pick kind request self.now.last_level (grant_level edge.wire) →
+            result ≡ rule self.now.version
+            (record (local self.now pins) { request = request; arbiter = kind })
+            edge.wire edge.fall edge.value }
     {
         match (edge.wire, edge.fall) {
             (Wire::Bg(_), true) => (1, self.are_grants_high(pins) && !pins.bbsy && is_picked),
@@ -131,12 +164,21 @@ impl Controller {
         }
     }
 
-    /// The answer to an edge of its own by the fields, where the policy picks the level of a grant or does not.
+    /// The answer to an edge of its own by the fields, where the policy picks the level of a grant
+    /// or does not.
     #[inline(always)]
     fn judge(&self, edge: Edge, pins: Pins, is_picked: bool) -> Result<(), Refused>
         ensures picked { is_grant edge ≡ true → is_ok result ≡ true → is_picked ≡ true }
-        ensures rows { is_own edge.wire ≡ true → (is_grant edge ≡ true → is_picked ≡ is_pick self.now.kind (has_bus_level pins.requests) self.now.last_level (grant_level edge.wire)) → result ≡ ruling self.now.version (local self.now pins) edge }
-        ensures grants { (kind : KindValue) (request : ℕ → Bool) → is_own edge.wire ≡ true → is_grant edge ≡ true → is_picked ≡ is_pick kind request self.now.last_level (grant_level edge.wire) → result ≡ ruling self.now.version (record (local self.now pins) { request = request; arbiter = kind }) edge }
+        ensures rows { is_own edge.wire ≡ true →
+            (is_grant edge ≡ true →
+            is_picked ≡ is_pick self.now.kind (has_bus_level pins.requests) self.now.last_level
+            (grant_level edge.wire)) →
+            result ≡ ruling self.now.version (local self.now pins) edge }
+        ensures grants { (kind : KindValue) (request : ℕ → Bool) →
+            is_own edge.wire ≡ true → is_grant edge ≡ true →
+            is_picked ≡ is_pick kind request self.now.last_level (grant_level edge.wire) →
+            result ≡ ruling self.now.version
+            (record (local self.now pins) { request = request; arbiter = kind }) edge }
     {
         if self.is_low(edge.wire) == edge.fall {
             return Err(Refused::AlreadyThere);
@@ -157,7 +199,9 @@ impl Controller {
 
     /// Takes in an edge that was made.
     fn note(&mut self, edge: Edge)
-        ensures { (kind : KindValue) (version : VersionValue) (noted : List EdgeValue) → self.old ≡ state_of kind version noted → self.new ≡ state_of kind version (edge ∷ noted) }
+        ensures { (kind : KindValue) (version : VersionValue) (noted : List EdgeValue) →
+            self.old ≡ state_of kind version noted →
+            self.new ≡ state_of kind version (edge ∷ noted) }
     {
         if edge.is_grant() {
             self.last_level = edge.wire.grant_level();
@@ -197,8 +241,8 @@ impl<P> Model for Arbiter<P> {
 }
 
 impl<P: Policy> Arbiter<P> {
-    /// The arbiter over a policy before any edge, under that version of the rules. Its kind says whether it drives
-    /// BCLR*, as a priority arbiter alone does.
+    /// The arbiter over a policy before any edge, under that version of the rules. Its kind says
+    /// whether it drives BCLR*, as a priority arbiter alone does.
     pub fn new(policy: P, kind: ArbiterKind, version: Version) -> Arbiter<P>
         ensures { result ≡ (policy, state_of kind version []) }
     {
@@ -208,7 +252,8 @@ impl<P: Policy> Arbiter<P> {
         }
     }
 
-    /// Whether the controller drives the wire low; only `bg0` to `bg3`, `bclr`, `iack` and `berr` are its own.
+    /// Whether the controller drives the wire low; only `bg0` to `bg3`, `bclr`, `iack` and `berr`
+    /// are its own.
     #[inline(always)]
     pub fn is_low(&self, wire: Wire) -> bool
         ensures { result ≡ low self.now.1 wire }
@@ -218,33 +263,46 @@ impl<P: Policy> Arbiter<P> {
 
     /// Whether an edge is a grant of the level that the policy picks of those requested.
     fn picks(&self, edge: Edge, requests: BusLevels) -> bool
-        ensures { result ≡ (is_grant edge && option_map_or (λ m. m == grant_level edge.wire) (P.picked self.now.0 requests self.now.1.last_level) false) }
+        ensures { result ≡ (is_grant edge && option_map_or (λ m. m == grant_level edge.wire)
+            (P.picked self.now.0 requests self.now.1.last_level) false) }
     {
         edge.is_grant() && self.is_pick(edge.wire.grant_level(), requests)
     }
 
     /// Whether the policy picks the level of those requested.
     fn is_pick(&self, level: u8, requests: BusLevels) -> bool
-        ensures { result ≡ option_map_or (λ m. m == level) (P.picked self.now.0 requests self.now.1.last_level) false }
+        ensures { result ≡ option_map_or (λ m. m == level)
+            (P.picked self.now.0 requests self.now.1.last_level) false }
     {
         self.policy
             .pick(requests, self.controller.last_level())
             .is_some_and(|picked| picked == level)
     }
 
-    /// Whether the rules G1 to G8 allow an edge of the controller's wires. The settling rules S2 to S4, which look at
-    /// boards, are not its to see. It is told its pins.
+    /// Whether the rules G1 to G8 allow an edge of the controller's wires. The settling rules S2 to
+    /// S4, which look at boards, are not its to see. It is told its pins.
     ///
-    /// Whatever the policy, a grant is of the level that it picks, and the answer to a grant is the table's with the
-    /// policy's pick in the place of its kind's. Where the two picks are the same, each answer is the table's.
+    /// Whatever the policy, a grant is of the level that it picks, and the answer to a grant is the
+    /// table's with the policy's pick in the place of its kind's. Where the two picks are the same,
+    /// each answer is the table's.
     ///
     /// # Errors
     /// E2 where the wire is in that state, else E3 where the rule's guard fails.
     #[inline(always)]
     pub fn may(&self, edge: Edge, pins: Pins) -> Result<(), Refused>
-        ensures picked { is_grant edge ≡ true → is_ok result ≡ true → P.picked self.now.0 pins.requests self.now.1.last_level ≡ Some (grant_level edge.wire) }
-        ensures rows { (kind : KindValue) (version : VersionValue) (noted : List EdgeValue) → self.now.1 ≡ state_of kind version noted → is_own edge.wire ≡ true → (is_grant edge ≡ true → P.picked self.now.0 pins.requests (last_level noted) ≡ pick kind (has_bus_level pins.requests) (last_level noted)) → result ≡ ruling version (over kind noted pins) edge }
-        ensures grants { (kind : KindValue) (version : VersionValue) (noted : List EdgeValue) → self.now.1 ≡ state_of kind version noted → is_own edge.wire ≡ true → is_grant edge ≡ true → result ≡ ruling version (over_pick (P.picked self.now.0 pins.requests (last_level noted)) noted pins) edge }
+        ensures picked { is_grant edge ≡ true → is_ok result ≡ true →
+            P.picked self.now.0 pins.requests self.now.1.last_level ≡ Some (grant_level edge.wire) }
+        ensures rows { (kind : KindValue) (version : VersionValue) (noted : List EdgeValue) →
+            self.now.1 ≡ state_of kind version noted → is_own edge.wire ≡ true →
+            (is_grant edge ≡ true →
+            P.picked self.now.0 pins.requests (last_level noted) ≡
+            pick kind (has_bus_level pins.requests) (last_level noted)) →
+            result ≡ ruling version (over kind noted pins) edge }
+        ensures grants { (kind : KindValue) (version : VersionValue) (noted : List EdgeValue) →
+            self.now.1 ≡ state_of kind version noted →
+            is_own edge.wire ≡ true → is_grant edge ≡ true →
+            result ≡ ruling version
+            (over_pick (P.picked self.now.0 pins.requests (last_level noted)) noted pins) edge }
     {
         let is_picked = self.picks(edge, pins.requests);
         self.controller.judge(edge, pins, is_picked)
@@ -253,7 +311,9 @@ impl<P: Policy> Arbiter<P> {
     /// Takes in an edge that was made; one of another driver changes no wire of the controller's.
     pub fn note(&mut self, edge: Edge)
         ensures policy { self.new.0 ≡ self.old.0 }
-        ensures state { (kind : KindValue) (version : VersionValue) (noted : List EdgeValue) → self.old.1 ≡ state_of kind version noted → self.new.1 ≡ state_of kind version (edge ∷ noted) }
+        ensures state { (kind : KindValue) (version : VersionValue) (noted : List EdgeValue) →
+            self.old.1 ≡ state_of kind version noted →
+            self.new.1 ≡ state_of kind version (edge ∷ noted) }
     {
         self.controller.note(edge);
     }

@@ -13,11 +13,17 @@ ghost use Rattle.vme_arbiter.specs.Local.{is_own, readings, SayWhatIsTold};
 
 /// The level that a rule tests for is the one that is picked: there are never two.
 pub fn picks_one()
-    ensures { (kind : ArbiterKind) (low : ℕ → Bool) (last n : ℕ) → n < 4 → is_pick kind low last n ≡ option_map_or (λ m. m == n) (pick kind low last) false }
+    ensures { (kind : ArbiterKind) (low : ℕ → Bool) (last n : ℕ) → n < 4 →
+        is_pick kind low last n ≡ option_map_or (λ m. m == n) (pick kind low last) false }
 {}
 
-/// Whatever readings say what a controller is told have the same answer: its rules read its own wires, the request
-/// lines, BBSY*, AS*, DS0*, DTACK*, what is shown, its arbiter's kind and the level last granted, and nothing else.
+/// Whatever readings say what a controller is told have the same answer: its rules read its own
+/// wires, the request lines, BBSY*, AS*, DS0*, DTACK*, what is shown, its arbiter's kind and the
+/// level last granted, and nothing else.
 pub fn reads_what_it_is_told()
-    ensures { (version : Version) (kind : ArbiterKind) (own : Wire → Bool) (last_level : ℕ) (pins : Pins) (r : Readings) (w : Wire) (fall : Bool) (value : Option Cycle) → SayWhatIsTold kind own last_level pins r → is_own w ≡ true → ruling_on version (readings kind own last_level pins) w fall value ≡ ruling_on version r w fall value }
+    ensures { (version : Version) (kind : ArbiterKind) (own : Wire → Bool) (last_level : ℕ)
+        (pins : Pins) (r : Readings) (w : Wire) (fall : Bool) (value : Option Cycle) →
+        SayWhatIsTold kind own last_level pins r → is_own w ≡ true →
+        ruling_on version (readings kind own last_level pins) w fall value ≡
+        ruling_on version r w fall value }
 {}

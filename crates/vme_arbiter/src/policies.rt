@@ -17,16 +17,18 @@ pub trait Policy {
     /// Whether it serves a level at all.
     ghost serves: { Self → ℕ → Bool };
 
-    /// The level to grant, of the low lines and the level last granted (0 at power-up); none where no line is low
-    /// that it serves.
+    /// The level to grant, of the low lines and the level last granted (0 at power-up); none where
+    /// no line is low that it serves.
     fn pick(&self, low: BusLevels, last: u8) -> Option<u8>
         ensures { result ≡ picked self.now low last };
 
     /// A level that is picked is low.
-    ghost is_low: { (policy : Self) (low : BusLevels) (last n : ℕ) → picked policy low last ≡ Some n → has_bus_level low n ≡ true };
+    ghost is_low: { (policy : Self) (low : BusLevels) (last n : ℕ) →
+        picked policy low last ≡ Some n → has_bus_level low n ≡ true };
 
     /// Where none is picked, no level that is served is low.
-    ghost is_exhausted: { (policy : Self) (low : BusLevels) (last n : ℕ) → picked policy low last ≡ None → serves policy n ≡ true → has_bus_level low n ≡ false };
+    ghost is_exhausted: { (policy : Self) (low : BusLevels) (last n : ℕ) →
+        picked policy low last ≡ None → serves policy n ≡ true → has_bus_level low n ≡ false };
 }
 
 /// Single level: serves BR3* alone.

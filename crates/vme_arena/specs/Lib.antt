@@ -1,4 +1,11 @@
+-- `believe` marks what the arena's theorems rest on, so that who trusts one has to agree with it, and
+-- `words` what only says how one function serves another.
+
+-- words: the stretch of a lease's granules
 pub mod Held
+-- words: what granules, pieces and blocks own
 pub mod Ownership
+-- believe: stretches, and which of them are apart
 pub mod Stretch
+-- believe: what a clause reads of a region, of its rest and of a lease
 pub mod Words

@@ -1,6 +1,12 @@
+-- the verdict with the end of the trace, from that without: `Backplane::verdict`
 pub mod Judged
+-- the stored edges, made once more from the first: `deliveries`
 pub mod Replayed
+-- an edge that is allowed is well formed: `Backplane::accepted`
 mod WellFormed
+-- `backplanes_answer_alike`
 mod Alike
-mod Offering
-mod Making
+-- the offers, from those but for the end of the trace: `Backplane::offers`, `offer`
+mod OfferChoice
+-- an offer is an edge that would be accepted: `Backplane::make_offer`, `step`
+mod AcceptedOffers

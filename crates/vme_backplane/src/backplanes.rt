@@ -12,6 +12,7 @@ ghost use Rattle.vme_wiring.specs.Offered.{offered_but_full};
 ghost use Rattle.vme_wiring.specs.Waits.{is_waiting};
 ghost use Rattle.vme_model.specs.Accepted.{IsAccepted};
 ghost use Rattle.vme_model.specs.Report.{at_power_up, trace_limit};
+ghost use Rattle.vme_backplane.specs.Sound.{IsSound};
 
 use crate::deliveries::deliveries;
 use arrayvec::ArrayVec;
@@ -152,9 +153,7 @@ impl<'r> Backplane<'r> {
         ensures answer { result ≡ answer self.old edge }
         ensures accepted { is_ok result ≡ is_ok (verdict self.old edge) }
         ensures state { self.new ≡ after self.old edge }
-        ensures legal { IsLegal self.new.version self.new.plan self.new.history }
-        ensures safe { IsSafe self.new.plan self.new.history }
-        ensures orderly { IsOrderly self.new.version self.new.plan self.new.history }
+        ensures sound { IsSound self.new }
     {
         let answer = self.step_by_wire(edge);
         self.laws();
@@ -191,7 +190,8 @@ impl<'r> Backplane<'r> {
     fn accepted(&self, edge: Edge)
         requires { verdict self.now edge ≡ Ok tt }
         ensures room { (length self.now.history == self.now.max) ≡ false }
-        ensures allowed { verdict_but_full self.now.version self.now.plan self.now.history edge ≡ Ok tt }
+        ensures allowed { verdict_but_full self.now.version self.now.plan self.now.history edge
+            ≡ Ok tt }
         ensures well_formed { is_well_formed edge ≡ true }
     {
         let _edge = edge;
@@ -221,9 +221,7 @@ impl<'r> Backplane<'r> {
     /// Steps through all the edges, past those that are refused.
     pub fn run(&mut self, edges: &[Edge]) -> Counts
         ensures state { self.new ≡ kept self.old edges.now }
-        ensures legal { IsLegal self.new.version self.new.plan self.new.history }
-        ensures safe { IsSafe self.new.plan self.new.history }
-        ensures orderly { IsOrderly self.new.version self.new.plan self.new.history }
+        ensures sound { IsSound self.new }
         ensures accepted { length self.old.history + result.accepted ≡ length self.new.history }
         ensures refused { result.accepted + result.refused ≡ length edges.now }
     {
@@ -262,7 +260,8 @@ impl<'r> Backplane<'r> {
 
     /// The same, but for the end of the trace.
     fn offers_but_full(&self, driver: Driver) -> ArrayVec<Edge, 16>
-        ensures { result.items ≡ offered_but_full self.now.version self.now.plan self.now.history driver }
+        ensures { result.items
+            ≡ offered_but_full self.now.version self.now.plan self.now.history driver }
     {
         self.wiring.offers(driver)
     }
@@ -270,7 +269,8 @@ impl<'r> Backplane<'r> {
     /// Whether the driver waits for an edge of another. It then has no offer; where it answers false, there may be none either.
     fn is_waiting(&self, driver: Driver) -> bool
         ensures waits { result ≡ is_waiting self.now.version self.now.plan self.now.history driver }
-        ensures none { result ≡ true → offered_but_full self.now.version self.now.plan self.now.history driver ≡ [] }
+        ensures none { result ≡ true
+            → offered_but_full self.now.version self.now.plan self.now.history driver ≡ [] }
     {
         self.wiring.is_waiting(driver)
     }
@@ -280,7 +280,8 @@ impl<'r> Backplane<'r> {
     /// It tries no edge of a driver that waits for another's, as most do.
     #[inline(always)]
     pub fn offer(&self, driver: Driver, round: u32) -> Option<Edge>
-        ensures { result ≡ slice_get (offered self.now driver) (round % length (offered self.now driver)) }
+        ensures { result
+            ≡ slice_get (offered self.now driver) (round % length (offered self.now driver)) }
     {
         if self.is_waiting(driver) {
             return None;
@@ -293,11 +294,10 @@ impl<'r> Backplane<'r> {
     /// It is `offer`, and a step with what that answers: the edge is not judged again.
     #[inline(always)]
     pub fn make_offer(&mut self, driver: Driver, round: u32) -> Option<Edge>
-        ensures offer { result ≡ slice_get (offered self.old driver) (round % length (offered self.old driver)) }
+        ensures offer { result
+            ≡ slice_get (offered self.old driver) (round % length (offered self.old driver)) }
         ensures state { self.new ≡ option_map_or (made self.old) result self.old }
-        ensures legal { IsLegal self.new.version self.new.plan self.new.history }
-        ensures safe { IsSafe self.new.plan self.new.history }
-        ensures orderly { IsOrderly self.new.version self.new.plan self.new.history }
+        ensures sound { IsSound self.new }
     {
         let offer = self.offer(driver, round);
         match offer {

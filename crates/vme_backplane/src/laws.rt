@@ -18,13 +18,15 @@ use vme_model::Edge;
 /// Every legal list is safe, as is the history of every backplane.
 #[tactic(auto, using(vme_model::proofs::Safety::legal_is_safe))]
 pub fn legal_list_is_safe()
-    ensures { (version : Version) (p : Plan) (h : List Edge) → IsAccepted p → IsLegal version p h → IsSafe p h }
+    ensures { (version : Version) (p : Plan) (h : List Edge) → IsAccepted p
+        → IsLegal version p h → IsSafe p h }
 {}
 
 /// Every legal list is orderly, as is the history of every backplane.
 #[tactic(auto, using(vme_model::proofs::Safety::legal_is_orderly))]
 pub fn legal_list_is_orderly()
-    ensures { (version : Version) (p : Plan) (h : List Edge) → IsAccepted p → IsLegal version p h → IsOrderly version p h }
+    ensures { (version : Version) (p : Plan) (h : List Edge) → IsAccepted p
+        → IsLegal version p h → IsOrderly version p h }
 {}
 
 /// What the first version of the rules allows, the second allows too.
@@ -37,8 +39,10 @@ pub fn first_version_is_within_second()
 /// for the edges that a settling rule binds to other boards' wires.
 #[tactic(auto, using(vme_model::proofs::Local::local, vme_model::proofs::Local::legal_local))]
 pub fn verdict_is_local()
-    ensures well_formed { (version : Version) (p : Plan) (h k : List Edge) (e : Edge) → IsAccepted p → AreWellFormed h → AreWellFormed k → IsLocal version p h k e }
-    ensures legal { (version : Version) (p : Plan) (h k : List Edge) (e : Edge) → IsAccepted p → IsLegal version p h → IsLegal version p k → IsLocal version p h k e }
+    ensures well_formed { (version : Version) (p : Plan) (h k : List Edge) (e : Edge) → IsAccepted p
+        → AreWellFormed h → AreWellFormed k → IsLocal version p h k e }
+    ensures legal { (version : Version) (p : Plan) (h k : List Edge) (e : Edge) → IsAccepted p
+        → IsLegal version p h → IsLegal version p k → IsLocal version p h k e }
 {}
 
 /// Two backplanes of one version and one plan, neither of them full, answer an edge alike where its driver saw the same

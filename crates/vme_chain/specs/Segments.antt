@@ -1,4 +1,5 @@
--- A daisy chain, as the slots whose boards work it and the segments between them. (Chapters 3 and 4.)
+-- A daisy chain, as the slots whose boards work it and the segments between them. (Chapters 3 and
+-- 4.)
 use Rattle.std.specs.Prelude.{◌+◌, ℕ, Bool, false, not, List, ◌∷◌, length, map, get_or, replicate, nat_lt}
 use Rattle.std.specs.List.{count_by, list_all}
 use Rattle.vme_model.specs.declared.sets.ChainId.{ChainId}
@@ -18,7 +19,8 @@ pub record Segments : Type 0 where
 abbrev pub all_high : List ℕ → Segments
 all_high active = record { active = active; low = replicate (length active + 1) false }
 
--- the number of the segment that a slot reads: its greatest active slot below drives it, or the controller
+-- the number of the segment that a slot reads: its greatest active slot below drives it, or the
+-- controller
 abbrev pub input_number : List ℕ → ℕ → ℕ
 input_number active s = count_by (λ t. nat_lt t s) active
 
@@ -44,4 +46,7 @@ is_past_end c = get_or c.low (length c.active) false
 
 -- the segments of a plan's chain after a history
 abbrev pub segments_of : Plan → List Edge → ChainId → Segments
-segments_of p h c = record { active = active p c; low = segment h c None ∷ map (λ s. segment h c (Some s)) (active p c) }
+segments_of p h c = record {
+  active = active p c;
+  low = segment h c None ∷ map (λ s. segment h c (Some s)) (active p c);
+}

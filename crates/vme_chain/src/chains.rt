@@ -8,8 +8,8 @@ use std::marker::Model;
 /// The most boards that a backplane has.
 const MOST: usize = 21;
 
-/// A daisy chain, as its segments: 0 is what the controller drives at its head, and k what the k-th of the slots that
-/// work it drives, at most 21.
+/// A daisy chain, as its segments: 0 is what the controller drives at its head, and k what the k-th
+/// of the slots that work it drives, at most 21.
 #[derive(Drop)]
 pub struct Chain {
     slots: [u8; 21],
@@ -27,9 +27,14 @@ impl Model for Chain {
 
     ghost Value = { Segments };
 
-    ghost view = { λ c. record { active = take c.length c.slots; low = take (c.length + 1) c.segments } };
+    ghost view = { λ c. record {
+      active = take c.length c.slots;
+      low = take (c.length + 1) c.segments;
+    } };
 
-    ghost invariant = { λ c. (c.length ≤ 21) × (c.lows ≡ count_by (λ is_low. is_low) (take (c.length + 1) c.segments)) × ((s : ℕ) → s < 22 → get_or c.inputs s 0 ≡ input_number (take c.length c.slots) s) };
+    ghost invariant = { λ c. (c.length ≤ 21)
+        × (c.lows ≡ count_by (λ is_low. is_low) (take (c.length + 1) c.segments))
+        × ((s : ℕ) → s < 22 → get_or c.inputs s 0 ≡ input_number (take c.length c.slots) s) };
 }
 
 /// The number of the segment that a slot reads.
@@ -67,8 +72,8 @@ fn padded(active: &[u8]) -> [u8; 21]
 }
 
 impl Chain {
-    /// A chain that these slots work, in their order, and that is high everywhere. A backplane has at most 21 boards:
-    /// of a longer list the first 21 count.
+    /// A chain that these slots work, in their order, and that is high everywhere. A backplane has
+    /// at most 21 boards: of a longer list the first 21 count.
     pub fn new(active: &[u8]) -> Chain
         ensures { result ≡ all_high (take 21 active.now) }
     {
@@ -82,7 +87,8 @@ impl Chain {
         }
     }
 
-    /// Segment k falls: 0 is the controller's, k that of the k-th active slot. There is such a segment, and it is high.
+    /// Segment k falls: 0 is the controller's, k that of the k-th active slot. There is such a
+    /// segment, and it is high.
     #[tactic(auto, using(crate::proofs::Counts::one_more, crate::proofs::Counts::within, crate::proofs::Counts::moved))]
     pub fn fall(&mut self, k: u8)
         requires high { slice_get self.old.low k ≡ Some false }
@@ -134,7 +140,8 @@ impl Chain {
         self.segments[usize::from(k)]
     }
 
-    /// What a slot reads at its input: the segment of the greatest active slot below it, or the controller's.
+    /// What a slot reads at its input: the segment of the greatest active slot below it, or the
+    /// controller's.
     #[tactic(auto, using(crate::proofs::Counts::at_most))]
     #[inline(always)]
     pub fn is_in_low(&self, slot: u8) -> bool

@@ -10,17 +10,20 @@ ghost use Rattle.vme_chain.specs.Segments.{segments_of, input, is_clear, is_past
 
 /// A slot's input is that after the history.
 pub fn reads_inputs()
-    ensures { (p : Plan) (h : List Edge) (c : ChainId) (s : ℕ) → input (segments_of p h c) s ≡ input_after p h c s }
+    ensures { (p : Plan) (h : List Edge) (c : ChainId) (s : ℕ) →
+        input (segments_of p h c) s ≡ input_after p h c s }
 {}
 
 /// The chain is clear where it is clear after the history.
 pub fn reads_clearness()
-    ensures { (p : Plan) (h : List Edge) (c : ChainId) → is_clear (segments_of p h c) ≡ is_chain_clear p h c }
+    ensures { (p : Plan) (h : List Edge) (c : ChainId) →
+        is_clear (segments_of p h c) ≡ is_chain_clear p h c }
 {}
 
 /// The last segment is low where it is low after the history.
 pub fn reads_the_end()
-    ensures { (p : Plan) (h : List Edge) (c : ChainId) → is_past_end (segments_of p h c) ≡ is_past_end_after p h c }
+    ensures { (p : Plan) (h : List Edge) (c : ChainId) →
+        is_past_end (segments_of p h c) ≡ is_past_end_after p h c }
 {}
 
 /// An accepted plan has at most 21 slots, and so no more that work a chain.

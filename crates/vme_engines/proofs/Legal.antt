@@ -15,7 +15,7 @@ use Rattle.vme_model.specs.Safe.{IsSafe}
 use Rattle.vme_model.specs.Text.{text, read_of}
 use Rattle.vme_model.specs.Report.{trace_limit}
 use Rattle.vme_model.proofs.Bools.{and_left}
-use Rattle.vme_model.proofs.Passed.{checked}
+use Rattle.vme_model.proofs.AllowedEdges.{checked}
 use Rattle.vme_model.proofs.Safety.{legal_is_safe}
 use Rattle.vme_trace.specs.Texts.{whole}
 use Rattle.vme_trace.proofs.Texts.{text_read}

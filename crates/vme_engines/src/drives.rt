@@ -10,7 +10,6 @@ ghost use Rattle.vme_engines.specs.Outcomes.{Lent};
 ghost use Rattle.vme_engines.specs.declared.Status.TheVariants.{Done, Limit};
 ghost use Rattle.vme_engines.specs.Driving.{Drives, DrivesSafely};
 
-use crate::lines::flush;
 use crate::plans::{history_region, history_room, plan_of};
 use crate::{EngineFault, Status};
 use arrayvec::ArrayVec;
@@ -19,7 +18,7 @@ use std::io::Write;
 use vme_backplane::Backplane;
 use vme_model::{Driver, Version};
 use vme_slots::Plan;
-use vme_trace::{Fault, header_line, line_of, put};
+use vme_trace::{Fault, flush, header_line, line_of, put};
 
 /// The most drivers of a plan: the controller and 21 boards.
 const DRIVERS: usize = 22;

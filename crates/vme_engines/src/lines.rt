@@ -1,6 +1,6 @@
 //! The lines that engines write.
 ghost use Rattle.std.specs.Prelude.{◌≡◌, ◌+◌, ◌-◌, ◌<◌, ◌≤◌, ◌^◌, ◌++◌, length, decimal, codes, Err, IfErr, OnOk, OnErr};
-ghost use Rattle.std.specs.Io.KnownBytes.{Appends, Keeps};
+ghost use Rattle.std.specs.Io.KnownBytes.{Appends};
 ghost use Rattle.arrayvec.specs.ArrayVec.{array_vec_len};
 ghost use Rattle.vme_model.specs.Verdict.{kept};
 ghost use Rattle.vme_model.specs.Deliveries.{answer};
@@ -15,7 +15,7 @@ use itoa::Buffer;
 use std::io::Write;
 use vme_backplane::Backplane;
 use vme_model::{Delivery, Edge, Refused};
-use vme_trace::{Fault, put};
+use vme_trace::{Fault, flush, put};
 
 /// Room for any line: two numbers of at most 20 digits, or one and a verdict, and a few words.
 const LINE: usize = 80;
@@ -172,17 +172,6 @@ pub(crate) fn write_verdicts<W: Write>(
         put(out, verdict_line(&count, &mut line, &answer))?;
     }
     Ok(())
-}
-
-/// Has the writer hand on what it holds back.
-pub(crate) fn flush<W: Write>(out: &mut W) -> Result<(), Fault>
-    ensures kept { Keeps (W.contents out.old) (W.contents out.new) }
-    ensures fault { IfErr result (λ fault. fault ≡ Fault.Write) }
-{
-    match out.flush() {
-        Ok(()) => Ok(()),
-        Err(_) => Err(Fault::Write),
-    }
 }
 
 /// Writes the closing line of a report, and has the writer hand on what it holds back.

@@ -7,7 +7,7 @@ ghost use Rattle.vme_engines.specs.Streams.{streams, ReadNothing, WroteNothing};
 ghost use Rattle.vme_engines.specs.Outcomes.{Lent, ReplaysInput, status_with};
 ghost use Rattle.vme_engines.specs.Steps.{TakesPiece, traced};
 
-use crate::lines::{close, flush, write_verdicts};
+use crate::lines::{close, write_verdicts};
 use crate::pieces::{Judge, read_on};
 use crate::plans::{history_region, history_room, plan_of};
 use crate::traces::open;
@@ -17,7 +17,7 @@ use std::io::{Read, Write};
 use vme_backplane::{Backplane, Trace};
 use vme_model::Edge;
 use vme_slots::Plan;
-use vme_trace::{Fault, Reader};
+use vme_trace::{Fault, Reader, flush};
 
 /// The status of a replay with so many refused edges.
 fn status_of(refused: u64) -> Status

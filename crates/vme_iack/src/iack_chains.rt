@@ -6,8 +6,8 @@ ghost use Rattle.vme_chain.specs.Segments.{all_high, output_number, input, low_c
 use std::marker::Model;
 use vme_chain::Chain;
 
-/// The acknowledge chain, as its segments: 0 is the controller's `iack`, and k the `iackout` of the k-th board that has
-/// an interrupter.
+/// The acknowledge chain, as its segments: 0 is the controller's `iack`, and k the `iackout` of the
+/// k-th board that has an interrupter.
 #[derive(Drop)]
 pub struct IackChain {
     chain: Chain,
@@ -24,8 +24,8 @@ impl Model for IackChain {
 }
 
 impl IackChain {
-    /// A chain that these slots work, in their order, and that is high everywhere. A backplane has at most 21 boards:
-    /// of a longer list the first 21 count.
+    /// A chain that these slots work, in their order, and that is high everywhere. A backplane has
+    /// at most 21 boards: of a longer list the first 21 count.
     pub fn new(active: &[u8]) -> IackChain
         ensures { result ≡ all_high (take 21 active.now) }
     {
@@ -34,7 +34,8 @@ impl IackChain {
         }
     }
 
-    /// Segment k falls: 0 is the controller's, k that of the k-th active slot. There is such a segment, and it is high.
+    /// Segment k falls: 0 is the controller's, k that of the k-th active slot. There is such a
+    /// segment, and it is high.
     pub fn fall(&mut self, k: u8)
         requires high { slice_get self.old.low k ≡ Some false }
         ensures { self.new ≡ record self.old { low = set self.old.low k true } }
@@ -57,7 +58,8 @@ impl IackChain {
         self.chain.output_of(slot)
     }
 
-    /// Whether a slot's IACKIN* is low: the segment of the greatest active slot below it, or the controller's.
+    /// Whether a slot's IACKIN* is low: the segment of the greatest active slot below it, or the
+    /// controller's.
     #[inline(always)]
     pub fn is_in_low(&self, slot: u8) -> bool
         ensures { result ≡ input self.now slot }
@@ -79,7 +81,8 @@ impl IackChain {
         self.chain.is_clear()
     }
 
-    /// Whether the last segment is low: every board passed the acknowledge on, and BERR* may fall (S2).
+    /// Whether the last segment is low: every board passed the acknowledge on, and BERR* may fall
+    /// (S2).
     pub fn is_past_end(&self) -> bool
         ensures { result ≡ is_past_end self.now }
     {

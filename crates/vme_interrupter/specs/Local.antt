@@ -84,7 +84,8 @@ abbrev pub over : ℕ → Option InterrupterRow → List Noted → Pins → Read
 over s row noted pins = readings s row (drive (edges noted) (Slot s)) (served noted (Slot s) row) pins
 
 -- readings that say what an interrupter is told, whatever they say of all else
-pub record SayWhatIsTold (s : ℕ) (row : Option InterrupterRow) (own : Wire → Bool) (is_served : Bool) (pins : Pins) (r : Readings) : Type 0 where
+pub record SayWhatIsTold (s : ℕ) (row : Option InterrupterRow) (own : Wire → Bool)
+    (is_served : Bool) (pins : Pins) (r : Readings) : Type 0 where
   pub own_wires : (w : Wire) → is_own w ≡ true → r.own w ≡ own w
   pub served : r.served_since_request ≡ is_served
   pub address_strobe : r.address_strobe ≡ pins.address_strobe

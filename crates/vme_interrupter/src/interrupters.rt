@@ -8,12 +8,18 @@ ghost use Rattle.vme_model.specs.declared.signals.Cycle.{Cycle as CycleValue};
 ghost use Rattle.vme_model.specs.declared.signals.Version.{Version};
 ghost use Rattle.vme_model.specs.declared.signals.Version.TheVariants.{One};
 ghost use Rattle.vme_model.specs.Readings.{is_pending};
-ghost use Rattle.vme_model.specs.Rules.{is_passed_by, may_answer, rule};
-ghost use Rattle.vme_model.specs.Verdict.{check, ruling, ruling_on};
+ghost use Rattle.vme_model.specs.Rules.{failing, guard};
+ghost use Rattle.vme_model.specs.Verdict.{ruling, ruling_on};
 ghost use Rattle.vme_interrupter.specs.Local.{Noted, state_of, serves_board, is_own, low, local, over};
+ghost use Rattle.vme_interrupter.specs.Address.{asks_at, is_accessed};
 
+use arrayvec::ArrayVec;
 use std::marker::Model;
-use vme_model::{Cycle, Driver, Edge, InterrupterRow, IrqKind, Pins, Refused, Wire};
+use vme_model::{Condition, Cycle, Driver, Edge, InterrupterRow, IrqKind, Pins, Refused, Wire};
+use vme_rules::interrupters::{
+    answers, dtack_falls, dtack_rises, iackout_falls, iackout_rises, irq_falls, irq_rises, passes,
+};
+use vme_rules::{Outcome, allowed};
 
 /// A board's interrupter with its data transfer acknowledge, as what its own edges left: which of its wires are low,
 /// and whether its request was served.
@@ -45,18 +51,6 @@ fn serves(kind: IrqKind, shown: Option<Cycle>) -> bool
         (IrqKind::Roak, Some(Cycle::Acknowledge(_))) => true,
         (IrqKind::Rora, Some(Cycle::Access(_))) => true,
         _ => false,
-    }
-}
-
-/// The answer to an edge that changes its wire, by the rule that names it and whether its guard holds.
-#[inline(always)]
-fn allowed(number: u8, holds: bool) -> Result<(), Refused>
-    ensures { result ≡ check holds (Refused.Rule number) (Ok tt) }
-{
-    if holds {
-        Ok(())
-    } else {
-        Err(Refused::Rule(number))
     }
 }
 
@@ -92,14 +86,17 @@ impl Interrupter {
     /// Whether the board asks at the level: its interrupter has that level, its request is low, and it gave no answer
     /// that serves it since it requested.
     pub fn is_pending(&self, level: u8) -> bool
-        ensures { (noted : List Noted) (pins : PinsValue) → self.now ≡ state_of self.now.slot self.now.row noted → result ≡ is_pending (over self.now.slot self.now.row noted pins) level }
+        ensures { (noted : List Noted) (pins : PinsValue) →
+            self.now ≡ state_of self.now.slot self.now.row noted →
+            result ≡ is_pending (over self.now.slot self.now.row noted pins) level }
     {
         self.asks(level)
     }
 
     /// The same by the fields.
     fn asks(&self, level: u8) -> bool
-        ensures { result ≡ (option_map_or (λ i. i.level == level) self.now.row false && self.now.irq && not self.now.is_served) }
+        ensures { result ≡ (option_map_or (λ i. i.level == level) self.now.row false
+            && self.now.irq && not self.now.is_served) }
     {
         self.has_level(level) && self.irq && !self.is_served
     }
@@ -112,39 +109,76 @@ impl Interrupter {
             .is_some_and(|interrupter| interrupter.level == level)
     }
 
-    /// Whether it passes an acknowledge on that is shown.
-    fn is_passed_by(&self, lines: &Pins) -> bool
-        ensures { result ≡ is_passed_by (local self.now lines.now) lines.now.shown }
+    /// Whether it asks at the level of the acknowledge that is shown.
+    #[inline(always)]
+    fn asks_at(&self, shown: Option<Cycle>) -> bool
+        ensures { result ≡ asks_at self.now shown }
     {
-        match lines.shown {
-            Some(Cycle::Acknowledge(level)) => !self.asks(level),
+        match shown {
+            Some(Cycle::Acknowledge(level)) => self.asks(level),
             _ => false,
         }
     }
 
-    /// Whether it answers what is shown: an acknowledge that reached it, or an access to its slot.
-    fn answers(&self, lines: &Pins, iack_in: bool) -> bool
-        ensures { result ≡ may_answer (local self.now (record lines.now { iack_in = iack_in })) lines.now.shown }
+    /// Whether an access to its slot is shown.
+    #[inline(always)]
+    fn is_accessed(&self, shown: Option<Cycle>) -> bool
+        ensures { result ≡ is_accessed self.now shown }
     {
-        match lines.shown {
-            Some(Cycle::Acknowledge(level)) => iack_in && !self.iackout && self.asks(level),
+        match shown {
             Some(Cycle::Access(slot)) => self.slot == slot,
-            None => false,
+            _ => false,
         }
     }
 
-    /// Whether it may pass an acknowledge on now (G23).
-    fn may_go_on(&self, lines: &Pins, iack_in: bool) -> bool
-        ensures { result ≡ (rule One (local self.now (record lines.now { iack_in = iack_in })) Wire.IackOut true None).1 }
+    /// The rule that names an edge of its interrupt request, and what its guard answers (G21, G22).
+    #[inline(always)]
+    fn request_rule<A: Outcome>(&self, fall: bool) -> (u8, A)
+        ensures number { (pins : PinsValue) (value : OptionValue CycleValue) →
+            result.0 ≡ (guard One (local self.now pins) Wire.Irq fall value).0 }
+        ensures answer { (pins : PinsValue) (value : OptionValue CycleValue) →
+            A.tells result.1 (guard One (local self.now pins) Wire.Irq fall value).1 }
     {
-        iack_in && !self.dtack && lines.data_strobe && self.is_passed_by(lines)
+        if fall {
+            (21, irq_falls())
+        } else {
+            (22, irq_rises(self.is_served))
+        }
     }
 
-    /// Whether the board may answer now (G25).
-    fn may_begin(&self, lines: &Pins, iack_in: bool) -> bool
-        ensures { result ≡ (rule One (local self.now (record lines.now { iack_in = iack_in })) Wire.Dtack true None).1 }
+    /// The rule that names an edge of its acknowledge out, and what its guard answers (G23, G24).
+    #[inline(always)]
+    fn pass_rule<A: Outcome>(&self, fall: bool, pins: &Pins, iack_in: bool) -> (u8, A)
+        ensures number { (value : OptionValue CycleValue) → result.0 ≡
+            (guard One (local self.now (record pins.now { iack_in = iack_in })) Wire.IackOut fall value).0 }
+        ensures answer { (value : OptionValue CycleValue) → A.tells result.1
+            (guard One (local self.now (record pins.now { iack_in = iack_in })) Wire.IackOut fall value).1 }
     {
-        lines.data_strobe && lines.address_strobe && self.answers(lines, iack_in)
+        if !fall {
+            return (24, iackout_rises(pins.address_strobe));
+        }
+        let passing = passes(self.asks_at(pins.shown), pins.shown);
+        let guard = iackout_falls(iack_in, self.dtack, pins.data_strobe, passing);
+        (23, guard)
+    }
+
+    /// The rule that names an edge of its data transfer acknowledge, and what its guard answers (G25, G26).
+    #[inline(always)]
+    fn answer_rule<A: Outcome>(&self, fall: bool, pins: &Pins, iack_in: bool) -> (u8, A)
+        ensures number { (value : OptionValue CycleValue) → result.0 ≡
+            (guard One (local self.now (record pins.now { iack_in = iack_in })) Wire.Dtack fall value).0 }
+        ensures answer { (value : OptionValue CycleValue) → A.tells result.1
+            (guard One (local self.now (record pins.now { iack_in = iack_in })) Wire.Dtack fall value).1 }
+    {
+        if !fall {
+            return (26, dtack_rises(pins.data_strobe));
+        }
+        let shown = pins.shown;
+        let is_pending = self.asks_at(shown);
+        let is_accessed = self.is_accessed(shown);
+        let answering = answers(iack_in, self.iackout, is_pending, is_accessed, shown);
+        let guard = dtack_falls(pins.data_strobe, pins.address_strobe, answering);
+        (25, guard)
     }
 
     /// Whether the rules G21 and G22 allow an edge of its interrupt request.
@@ -153,45 +187,45 @@ impl Interrupter {
     /// As for `may`.
     #[inline(always)]
     pub fn may_request(&self, fall: bool) -> Result<(), Refused>
-        ensures { (pins : PinsValue) (value : OptionValue CycleValue) → result ≡ ruling_on One (local self.now pins) Wire.Irq fall value }
+        ensures { (pins : PinsValue) (value : OptionValue CycleValue) →
+            result ≡ ruling_on One (local self.now pins) Wire.Irq fall value }
     {
-        match (fall, self.irq) {
-            (true, true) | (false, false) => Err(Refused::AlreadyThere),
-            (true, false) => allowed(21, true),
-            (false, true) => allowed(22, self.is_served),
+        if self.irq == fall {
+            return Err(Refused::AlreadyThere);
         }
+        allowed(self.request_rule(fall))
     }
 
-    /// Whether the rules G23 and G24 allow an edge of its acknowledge out, of the lines that it sees and the input of
+    /// Whether the rules G23 and G24 allow an edge of its acknowledge out, of its pins and the input of
     /// the acknowledge chain.
     ///
     /// # Errors
     /// As for `may`.
     #[inline(always)]
-    pub fn may_pass(&self, fall: bool, lines: &Pins, iack_in: bool) -> Result<(), Refused>
-        ensures { (value : OptionValue CycleValue) → result ≡ ruling_on One (local self.now (record lines.now { iack_in = iack_in })) Wire.IackOut fall value }
+    pub fn may_pass(&self, fall: bool, pins: &Pins, iack_in: bool) -> Result<(), Refused>
+        ensures { (value : OptionValue CycleValue) → result ≡
+            ruling_on One (local self.now (record pins.now { iack_in = iack_in })) Wire.IackOut fall value }
     {
-        match (fall, self.iackout) {
-            (true, true) | (false, false) => Err(Refused::AlreadyThere),
-            (true, false) => allowed(23, self.may_go_on(lines, iack_in)),
-            (false, true) => allowed(24, !lines.address_strobe),
+        if self.iackout == fall {
+            return Err(Refused::AlreadyThere);
         }
+        allowed(self.pass_rule(fall, pins, iack_in))
     }
 
-    /// Whether the rules G25 and G26 allow an edge of its data transfer acknowledge, of the lines that it sees and the
+    /// Whether the rules G25 and G26 allow an edge of its data transfer acknowledge, of its pins and the
     /// input of the acknowledge chain.
     ///
     /// # Errors
     /// As for `may`.
     #[inline(always)]
-    pub fn may_answer(&self, fall: bool, lines: &Pins, iack_in: bool) -> Result<(), Refused>
-        ensures { (value : OptionValue CycleValue) → result ≡ ruling_on One (local self.now (record lines.now { iack_in = iack_in })) Wire.Dtack fall value }
+    pub fn may_answer(&self, fall: bool, pins: &Pins, iack_in: bool) -> Result<(), Refused>
+        ensures { (value : OptionValue CycleValue) → result ≡
+            ruling_on One (local self.now (record pins.now { iack_in = iack_in })) Wire.Dtack fall value }
     {
-        match (fall, self.dtack) {
-            (true, true) | (false, false) => Err(Refused::AlreadyThere),
-            (true, false) => allowed(25, self.may_begin(lines, iack_in)),
-            (false, true) => allowed(26, !lines.data_strobe),
+        if self.dtack == fall {
+            return Err(Refused::AlreadyThere);
         }
+        allowed(self.answer_rule(fall, pins, iack_in))
     }
 
     /// Whether the rules G21 to G26 allow an edge of its own wires. It is told its pins.
@@ -200,7 +234,10 @@ impl Interrupter {
     /// E2 where the wire is in that state, else E3 where the rule's guard fails.
     #[inline(always)]
     pub fn may(&self, edge: Edge, pins: Pins) -> Result<(), Refused>
-        ensures { (version : Version) (noted : List Noted) → self.now ≡ state_of self.now.slot self.now.row noted → is_own edge.wire ≡ true → result ≡ ruling version (over self.now.slot self.now.row noted pins) edge }
+        ensures { (version : Version) (noted : List Noted) →
+            self.now ≡ state_of self.now.slot self.now.row noted →
+            is_own edge.wire ≡ true →
+            result ≡ ruling version (over self.now.slot self.now.row noted pins) edge }
     {
         match edge.wire {
             Wire::Irq => self.may_request(edge.fall),
@@ -208,6 +245,24 @@ impl Interrupter {
             Wire::Dtack => self.may_answer(edge.fall, &pins, pins.iack_in),
             _ => Err(Refused::NoSuchDriver),
         }
+    }
+
+    /// The conditions that fail of the rule that names an edge of its own wires, in the order of its
+    /// guard. It is told its pins.
+    pub fn failing(&self, edge: Edge, pins: Pins) -> ArrayVec<Condition, 5>
+        ensures { (version : Version) (noted : List Noted) →
+            self.now ≡ state_of self.now.slot self.now.row noted →
+            is_own edge.wire ≡ true →
+            result.items ≡ failing version (over self.now.slot self.now.row noted pins)
+            edge.wire edge.fall edge.value }
+    {
+        let (_number, failed) = match edge.wire {
+            Wire::Irq => self.request_rule(edge.fall),
+            Wire::IackOut => self.pass_rule(edge.fall, &pins, pins.iack_in),
+            Wire::Dtack => self.answer_rule(edge.fall, &pins, pins.iack_in),
+            _ => return ArrayVec::new(),
+        };
+        failed
     }
 
     /// Whether an answer while this is shown serves its interrupter.
@@ -222,7 +277,9 @@ impl Interrupter {
     /// nothing.
     #[inline(always)]
     pub fn note(&mut self, edge: Edge, shown: Option<Cycle>)
-        ensures { (s : ℕ) (row : OptionValue RowValue) (noted : List Noted) → self.old ≡ state_of s row noted → self.new ≡ state_of s row ((edge, shown) ∷ noted) }
+        ensures { (s : ℕ) (row : OptionValue RowValue) (noted : List Noted) →
+            self.old ≡ state_of s row noted →
+            self.new ≡ state_of s row ((edge, shown) ∷ noted) }
     {
         if edge.driver.is_same(Driver::Slot(self.slot)) {
             match (edge.wire, edge.fall) {
@@ -237,7 +294,10 @@ impl Interrupter {
 
     /// Its request falls or rises.
     fn request(&mut self, fall: bool)
-        ensures { self.new ≡ record self.old { irq = fall; is_served = if fall then false else self.old.is_served } }
+        ensures { self.new ≡ record self.old {
+          irq = fall;
+          is_served = if fall then false else self.old.is_served;
+        } }
     {
         self.irq = fall;
         self.is_served = !fall && self.is_served;
@@ -245,7 +305,10 @@ impl Interrupter {
 
     /// It answers while this is shown.
     fn answer(&mut self, shown: Option<Cycle>)
-        ensures { self.new ≡ record self.old { dtack = true; is_served = serves_board self.old.row shown || self.old.is_served } }
+        ensures { self.new ≡ record self.old {
+          dtack = true;
+          is_served = serves_board self.old.row shown || self.old.is_served;
+        } }
     {
         self.dtack = true;
         self.is_served = self.is_served_by(shown) || self.is_served;

@@ -24,16 +24,27 @@ pub fn notes_history()
 
 /// Noted as they are made, they say of each board whether it was served what the history says.
 pub fn notes_service()
-    ensures { (p : Plan) (h : List Edge) (d : Driver) (row : Row) → board_of p d ≡ Some row → served (seen p h) d row.interrupter ≡ is_served p h d }
+    ensures { (p : Plan) (h : List Edge) (d : Driver) (row : Row) →
+        board_of p d ≡ Some row →
+        served (seen p h) d row.interrupter ≡ is_served p h d }
 {}
 
 /// What is shown counts at the board's own `dtack-` alone.
 pub fn reads_shown_at_answers()
-    ensures { (s : ℕ) (row : Option InterrupterRow) (e : Edge) (one other : Option Cycle) (noted : List Noted) → is_fall_of (Slot s) Dtack e ≡ false → state_of s row ((e, one) ∷ noted) ≡ state_of s row ((e, other) ∷ noted) }
+    ensures { (s : ℕ) (row : Option InterrupterRow) (e : Edge) (one other : Option Cycle)
+        (noted : List Noted) →
+        is_fall_of (Slot s) Dtack e ≡ false →
+        state_of s row ((e, one) ∷ noted) ≡ state_of s row ((e, other) ∷ noted) }
 {}
 
 /// Whatever readings say what an interrupter is told have the same answer: its rules read its own wires, whether it was
 /// served, AS*, DS0*, what is shown, its iackin, its slot and its row, and nothing else.
 pub fn reads_what_it_is_told()
-    ensures { (version : Version) (s : ℕ) (row : Option InterrupterRow) (own : Wire → Bool) (is_served : Bool) (pins : Pins) (r : Readings) (w : Wire) (fall : Bool) (value : Option Cycle) → SayWhatIsTold s row own is_served pins r → is_own w ≡ true → ruling_on version (readings s row own is_served pins) w fall value ≡ ruling_on version r w fall value }
+    ensures { (version : Version) (s : ℕ) (row : Option InterrupterRow) (own : Wire → Bool)
+        (is_served : Bool) (pins : Pins) (r : Readings) (w : Wire) (fall : Bool)
+        (value : Option Cycle) →
+        SayWhatIsTold s row own is_served pins r →
+        is_own w ≡ true →
+        ruling_on version (readings s row own is_served pins) w fall value
+        ≡ ruling_on version r w fall value }
 {}

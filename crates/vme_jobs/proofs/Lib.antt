@@ -1,2 +1,4 @@
+-- src/files.rt: a text that was read with a limit is all of its bytes
 pub mod Fronts
+-- src/jobs.rt: the answer of an engine, as a job hands it on
 pub mod Handing

@@ -1,9 +1,10 @@
 -- What a job leaves on its output, and answers.
 use Rattle.std.specs.Prelude.{◌≡◌, ◌⊎◌, ℕ, List, Option, Result, Ok, Err}
 use Rattle.std.specs.Io.KnownBytes.{Keeps}
+use Rattle.vme_model.specs.Plan.{Plan}
 use Rattle.vme_engines.specs.declared.Status.{Status}
 use Rattle.vme_engines.specs.declared.EngineFault.TheVariants as fault
-use Rattle.vme_engines.specs.Streams.{ReadNothing, WroteNothing, streams}
+use Rattle.vme_engines.specs.Streams.{Streams, ReadNothing, WroteNothing, streams}
 use Rattle.vme_engines.specs.Outcomes.{Answer, Lent, ReplaysInput}
 use Rattle.vme_engines.specs.Checking.{ChecksInput}
 use Rattle.vme_engines.specs.Driving.{Drives}
@@ -27,25 +28,33 @@ Alone Ends (Ok status) = Ends (Ok status)
 Alone Ends (Err (run.Engine f)) = Ends (Err f)
 Alone Ends (Err _) = ⊥
 
+-- an engine that does so on a plan, with a trace beside it
+abbrev pub OnTrace : (Streams → Plan → Answer → Type 0) → Known → Known → Answer → Type 0
+OnTrace Ends old new answer = (text : List ℕ) × (from : Known) × (to : Known)
+    × (let s = streams from to old new in
+    Lent text (ReadNothing s × WroteNothing s) (Ends s) answer)
+
 -- What the engine of a job does, by what the output held and holds, on some text of a scenario, and some input that had
 -- these bytes left and has those: no clause can say what a file gives.
 abbrev pub Does : Job → Known → Known → Result Status RunFault → Type 0
-Does Joined old new = Alone (λ answer. (from : Known) × (to : Known) × Joins (streams from to old new) answer)
-Does (Replay scenario trace) old new = Alone (λ answer. (text : List ℕ) × (from : Known) × (to : Known)
-    × Lent text (ReadNothing (streams from to old new) × WroteNothing (streams from to old new)) (ReplaysInput (streams from to old new)) answer)
-Does (Check scenario trace) old new = Alone (λ answer. (text : List ℕ) × (from : Known) × (to : Known)
-    × Lent text (ReadNothing (streams from to old new) × WroteNothing (streams from to old new)) (ChecksInput (streams from to old new)) answer)
-Does (Drive scenario edges version) old new =
-    Alone (λ answer. (text : List ℕ) × Lent text (Keeps old new) (Drives version edges old new) answer)
-Does (Run scenario edges turns version) old new = λ answer. (text : List ℕ) × Runs text version edges turns old new answer
+Does Joined old new =
+    Alone (λ answer. (from : Known) × (to : Known) × Joins (streams from to old new) answer)
+Does (Replay scenario trace) old new = Alone (OnTrace ReplaysInput old new)
+Does (Check scenario trace) old new = Alone (OnTrace ChecksInput old new)
+Does (Drive scenario edges version) old new = Alone (λ answer.
+    (text : List ℕ) × Lent text (Keeps old new) (Drives version edges old new) answer)
+Does (Run scenario edges turns version) old new = λ answer.
+    (text : List ℕ) × Runs text version edges turns old new answer
 
 -- The answer is an engine's; or a file could not be read, or there was no memory for what the engine is handed, and nothing
 -- was written.
-abbrev pub Hands : (Result Status RunFault → Type 0) → Type 0 → Result Status ProgramFault → Type 0
+abbrev pub Hands :
+    (Result Status RunFault → Type 0) → Type 0 → Result Status ProgramFault → Type 0
 Hands Ends nothing (Ok status) = Ends (Ok status)
 Hands Ends nothing (Err (CannotRead name)) = nothing
 Hands Ends nothing (Err (TooLong name)) = nothing
-Hands Ends nothing (Err (Engine f)) = Ends (Err (run.Engine f)) ⊎ ((f ≡ fault.NoMemory) × nothing)
+Hands Ends nothing (Err (Engine f)) =
+    Ends (Err (run.Engine f)) ⊎ ((f ≡ fault.NoMemory) × nothing)
 Hands Ends nothing (Err (Boards f)) = Ends (Err f)
 
 -- a job is done so
@@ -54,10 +63,13 @@ IsDone job old new result = Hands (Does job old new) (Keeps old new) result
 
 -- What the output is at a fault: nothing was written, or a job that the words ask for ended with it.
 abbrev pub HasFailed : List (List ℕ) → Known → Known → Type 0
-HasFailed words old new = Keeps old new ⊎ ((job : Job) × (f : ProgramFault) × Ask words job × IsDone job old new (Err f))
+HasFailed words old new = Keeps old new
+    ⊎ ((job : Job) × (f : ProgramFault) × Ask words job × IsDone job old new (Err f))
 
 -- What the program comes to, by the words, its output and its exit status: a job that the words ask for is done without a
 -- fault, and the status is the engine's; or there was a fault, and it is 1.
 abbrev pub IsObeyed : List (List ℕ) → Known → Known → ℕ → Type 0
 IsObeyed words old new code =
-    ((job : Job) × (status : Status) × Ask words job × Does job old new (Ok status) × (code ≡ exit_code status)) ⊎ (HasFailed words old new × (code ≡ 1))
+    ((job : Job) × (status : Status) × Ask words job
+    × Does job old new (Ok status) × (code ≡ exit_code status))
+    ⊎ (HasFailed words old new × (code ≡ 1))

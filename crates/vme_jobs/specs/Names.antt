@@ -39,12 +39,21 @@ abbrev pub told_answer : Bor (List ℕ) → Result Status EngineFault → Result
 told_answer name (Ok status) = Ok status
 told_answer name (Err f) = Err (told_fault name f)
 
-abbrev pub told_run_answer : Bor (List ℕ) → Result Status RunFault → Result Status ProgramFault
+abbrev pub told_run_answer :
+    Bor (List ℕ) → Result Status RunFault → Result Status ProgramFault
 told_run_answer name (Ok status) = Ok status
 told_run_answer name (Err (run.Engine f)) = Err (told_fault name f)
 told_run_answer name (Err run.NotStarted) = Err (Boards run.NotStarted)
 told_run_answer name (Err (run.LogDiffers driver at)) = Err (Boards (run.LogDiffers driver at))
 told_run_answer name (Err (run.NotReplayed at)) = Err (Boards (run.NotReplayed at))
+
+-- a file of this name cannot be read, or there is no memory for it
+abbrev pub IsFileFault : Bor (List ℕ) → ProgramFault → Type 0
+IsFileFault name f = (f ≡ CannotRead name) ⊎ (f ≡ Engine fault.NoMemory)
+
+-- the same of a scenario, which may be too long
+abbrev pub IsScenarioFault : Bor (List ℕ) → ProgramFault → Type 0
+IsScenarioFault name f = (f ≡ CannotRead name) ⊎ (f ≡ TooLong name) ⊎ (f ≡ Engine fault.NoMemory)
 
 -- a fault of a job: what cannot be read is one of its files, and what is too long is its scenario
 abbrev pub IsFaultOf : Job → ProgramFault → Type 0

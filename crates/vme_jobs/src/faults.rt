@@ -2,6 +2,7 @@
 ghost use Rattle.std.specs.Prelude.{◌≡◌, ◌≢◌};
 ghost use Rattle.std.specs.IoError.{error_kind};
 ghost use Rattle.std.specs.Process.{exit_status};
+ghost use Rattle.vme_jobs.specs.Names.{told_fault};
 
 use crate::lines::OneLine;
 use std::fmt;
@@ -31,8 +32,10 @@ pub enum ProgramFault<'a> {
 impl<'a> ProgramFault<'a> {
     /// A fault of the file of this name: F3 where memory was refused, and else F1.
     pub fn of_file(name: &'a str, error: &io::Error) -> Self
-        ensures memory { error_kind error.now ≡ ErrorKind.OutOfMemory → result ≡ ProgramFault.Engine EngineFault.NoMemory }
-        ensures other { error_kind error.now ≢ ErrorKind.OutOfMemory → result ≡ ProgramFault.CannotRead name.entry }
+        ensures memory { error_kind error.now ≡ ErrorKind.OutOfMemory
+            → result ≡ ProgramFault.Engine EngineFault.NoMemory }
+        ensures other { error_kind error.now ≢ ErrorKind.OutOfMemory
+            → result ≡ ProgramFault.CannotRead name.entry }
     {
         match error.kind() {
             ErrorKind::OutOfMemory => ProgramFault::Engine(EngineFault::NoMemory),
@@ -42,9 +45,7 @@ impl<'a> ProgramFault<'a> {
 
     /// An engine's fault, where the scenario has this name.
     pub fn of_engine(name: &'a str, fault: EngineFault) -> Self
-        ensures unreadable { fault ≡ EngineFault.CannotRead → result ≡ ProgramFault.CannotRead name.entry }
-        ensures long { fault ≡ EngineFault.TooLong → result ≡ ProgramFault.TooLong name.entry }
-        ensures other { fault ≢ EngineFault.CannotRead → fault ≢ EngineFault.TooLong → result ≡ ProgramFault.Engine fault }
+        ensures { result ≡ told_fault name.entry fault }
     {
         match fault {
             EngineFault::CannotRead => ProgramFault::CannotRead(name),

@@ -15,7 +15,7 @@ use std::sync::Wait;
 use std::thread::Threads;
 use vme_engines::{EngineFault, Status, check, drive, joined, replay};
 use vme_model::Version;
-use vme_run::{RunFault, run as run_boards};
+use vme_run::{RunFault, run as run_scenario};
 use vme_words::Job;
 
 /// An engine's answer, where the scenario has this name.
@@ -58,7 +58,8 @@ fn run_replay<'a, W: Write>(
     out: &mut W,
 ) -> Result<Status, ProgramFault<'a>>
     ensures fault { IfErr result (IsFaultOf (Job.Replay scenario.entry trace.entry)) }
-    ensures done { IsDone (Job.Replay scenario.entry trace.entry) (W.contents out.old) (W.contents out.new) result }
+    ensures done { IsDone (Job.Replay scenario.entry trace.entry)
+        (W.contents out.old) (W.contents out.new) result }
 {
     let text = read_scenario(rt, scenario)?;
     let mut input = buffered(rt, open(rt, trace)?)?;
@@ -74,7 +75,8 @@ fn run_check<'a, W: Write>(
     out: &mut W,
 ) -> Result<Status, ProgramFault<'a>>
     ensures fault { IfErr result (IsFaultOf (Job.Check scenario.entry trace.entry)) }
-    ensures done { IsDone (Job.Check scenario.entry trace.entry) (W.contents out.old) (W.contents out.new) result }
+    ensures done { IsDone (Job.Check scenario.entry trace.entry)
+        (W.contents out.old) (W.contents out.new) result }
 {
     let text = read_scenario(rt, scenario)?;
     let mut input = buffered(rt, open(rt, trace)?)?;
@@ -91,7 +93,8 @@ fn run_drive<'a, W: Write>(
     out: &mut W,
 ) -> Result<Status, ProgramFault<'a>>
     ensures fault { IfErr result (IsFaultOf (Job.Drive scenario.entry edges version)) }
-    ensures done { IsDone (Job.Drive scenario.entry edges version) (W.contents out.old) (W.contents out.new) result }
+    ensures done { IsDone (Job.Drive scenario.entry edges version)
+        (W.contents out.old) (W.contents out.new) result }
 {
     let text = read_scenario(rt, scenario)?;
     told(scenario, drive(rt.alloc(), &text, edges, out, version))
@@ -110,12 +113,13 @@ fn run_run<'a, R: Threads + Wait + Sync, W: Write>(
 ) -> Result<Status, ProgramFault<'a>>
     requires { (edges ≤ trace_limit) × (turns ≤ most_turns) }
     ensures fault { IfErr result (IsFaultOf (Job.Run scenario.entry edges turns version)) }
-    ensures done { IsDone (Job.Run scenario.entry edges turns version) (W.contents out.old) (W.contents out.new) result }
+    ensures done { IsDone (Job.Run scenario.entry edges turns version)
+        (W.contents out.old) (W.contents out.new) result }
 {
     let text = read_scenario(rt, scenario)?;
     told_run(
         scenario,
-        run_boards(threads, rt.alloc(), &text, edges, turns, out, version),
+        run_scenario(threads, rt.alloc(), &text, edges, turns, out, version),
     )
 }
 

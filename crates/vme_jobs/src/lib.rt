@@ -30,7 +30,8 @@ pub fn obey<R: Threads + Wait + Sync, W: Write>(
     given: &[&str],
     out: &mut W,
 ) -> ExitCode
-    ensures { IsObeyed (map (λ word. word.now) given.now) (W.contents out.old) (W.contents out.new) (exit_status result) }
+    ensures { IsObeyed (map (λ word. word.now) given.now)
+        (W.contents out.old) (W.contents out.new) (exit_status result) }
 {
     match words(rt.alloc(), given) {
         Ok(job) => match run(rt, threads, job, out) {

@@ -3,7 +3,8 @@ ghost use Rattle.std.specs.Prelude.{◌≡◌, ◌<◌, ◌+◌, nat_lt};
 
 use std::marker::Model;
 
-/// An open-collector line, as the number of its drivers that pull it low, 0 to 22: the controller and 21 boards.
+/// An open-collector line, as the number of its drivers that pull it low, 0 to 22: the controller
+/// and 21 boards.
 ///
 /// The line is low while one of them at least pulls (chapters 2 and 3 of the standard).
 #[derive(Clone, Copy, PartialEq, Eq, Debug)]
@@ -29,7 +30,8 @@ impl OrLine {
         OrLine { pulls: 0 }
     }
 
-    /// One more driver pulls the line low. A backplane has 22 drivers, so fewer than 22 pull before.
+    /// One more driver pulls the line low. A backplane has 22 drivers, so fewer than 22 pull
+    /// before.
     pub fn pull(&mut self)
         requires few { self.old < 22 }
         ensures { self.new ≡ self.old + 1 }

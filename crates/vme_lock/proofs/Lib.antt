@@ -1,10 +1,20 @@
-pub mod Answering
-pub mod Counting
-pub mod Differing
-pub mod Edges
-pub mod Fronts
-pub mod Holding
-pub mod Seating
-pub mod Joining
-pub mod Paging
-pub mod Standing
+-- when two edges are one: `following::is_same`
+pub mod OneEdge
+-- each driver's number of edges at its desk: `opening::counts_of`, `laws::step_in`
+pub mod DeskCounts
+-- a seat for each driver, and that all edges are theirs: `opening::seat_all`, `Shared::new`
+pub mod AllSeats
+-- the answers of a hold: `laws`, and what `Shared::look` and `turn` say of them
+pub mod HoldAnswers
+-- what an edge leaves of the locked value: `laws::step_in`
+pub mod OneHold
+-- that an edge made is well formed: `laws::edge_in`
+pub mod WellFormed
+-- the pages of a worker: `logs::Pages`
+pub mod LogPages
+-- one seat and log more: `threads::run_all`; as many seats as drivers: `Shared::close`
+pub mod SeatsAndLogs
+-- one driver's edges beside its log: `closing::difference`
+pub mod LogDifference
+-- all drivers' edges beside their logs: `following::are_logs`
+pub mod OnePass

@@ -28,5 +28,6 @@ pub record DiffersAt (xs ys : List Edge) (at : ℕ) : Type 0 where
 -- the first driver whose edges are not its log, and the first place where they differ
 abbrev pub FirstDiffers : List Edge → List Driver → List (List Edge) → Driver → ℕ → Type 0
 FirstDiffers h (d ∷ drivers) (log ∷ logs) driver at =
-    ((d ≡ driver) × DiffersAt (only h d) log at) ⊎ ((only h d ≡ log) × FirstDiffers h drivers logs driver at)
+    ((d ≡ driver) × DiffersAt (only h d) log at)
+    ⊎ ((only h d ≡ log) × FirstDiffers h drivers logs driver at)
 FirstDiffers h _ _ driver at = ⊥

@@ -12,7 +12,8 @@ pub record HasNumber (numbers : List ℕ) (d : Driver) (n : ℕ) : Type 0 where
 
 -- each driver's number is its place among them
 abbrev pub AreNumbered : List ℕ → List Driver → Type 0
-AreNumbered numbers drivers = (k : ℕ) → (d : Driver) → slice_get drivers k ≡ Some d → HasNumber numbers d k
+AreNumbered numbers drivers =
+    (k : ℕ) → (d : Driver) → slice_get drivers k ≡ Some d → HasNumber numbers d k
 
 -- these edges are the first so many of the log
 pub record IsFront (edges log : List Edge) (at : ℕ) : Type 0 where
@@ -21,11 +22,14 @@ pub record IsFront (edges log : List Edge) (at : ℕ) : Type 0 where
 
 -- of these edges, in the order of time, each driver's are the first of the log that has its number
 abbrev pub AreFronts : List Edge → List ℕ → List (List Edge) → List ℕ → Type 0
-AreFronts edges numbers logs ends = (d : Driver) → (log : List Edge) → can_sit d ≡ true → slice_get logs (slice_index numbers (desk d)) ≡ Some log
+AreFronts edges numbers logs ends =
+    (d : Driver) → (log : List Edge) → can_sit d ≡ true
+    → slice_get logs (slice_index numbers (desk d)) ≡ Some log
     → IsFront (filter (λ e. is_same_driver e.driver d) edges) log (slice_index ends (desk d))
 
 -- each driver's log is followed to its end
 abbrev pub AreWhole : List Driver → List (List Edge) → List ℕ → Type 0
 AreWhole [] [] ends = Unit {0}
-AreWhole (d ∷ drivers) (log ∷ logs) ends = (slice_index ends (desk d) ≡ length log) × AreWhole drivers logs ends
+AreWhole (d ∷ drivers) (log ∷ logs) ends =
+    (slice_index ends (desk d) ≡ length log) × AreWhole drivers logs ends
 AreWhole _ _ ends = ⊥

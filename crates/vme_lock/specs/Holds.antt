@@ -21,7 +21,12 @@ use Rattle.vme_lock.specs.Seats.{Place, Follows}
 
 -- what a look at the backplane shows a driver
 abbrev pub view_of : State → Driver → View
-view_of b d = record { pins = pins b.plan b.history d; offers = record { items = offered b d }; own = count b.history d; total = length b.history }
+view_of b d = record {
+  pins = pins b.plan b.history d;
+  offers = record { items = offered b d };
+  own = count b.history d;
+  total = length b.history;
+}
 
 -- the history has other edges of the seat's driver than the seat made
 abbrev pub is_lost : State → Place → Bool
@@ -37,7 +42,10 @@ look_answer b s = if is_lost b s then Err (lost b s) else Ok (view_of b s.driver
 
 -- what a turn shows a driver: the offer at the place of the turn among all
 abbrev pub turn_of : State → Driver → ℕ → Turn
-turn_of b d t = record { offer = slice_get (offered b d) (t % length (offered b d)); total = length b.history }
+turn_of b d t = record {
+  offer = slice_get (offered b d) (t % length (offered b d));
+  total = length b.history;
+}
 
 -- the answer to it
 abbrev pub turn_answer : State → Place → ℕ → Result Turn Lost

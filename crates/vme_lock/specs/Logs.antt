@@ -1,5 +1,5 @@
 -- The edges of a worker, while it works.
-use Rattle.std.specs.Prelude.{◌==◌, ◌&&◌, not, ℕ, ◌-◌, ◌≤◌, ◌++◌, Bool, true, false, Option, Some, None, List, [], ◌∷◌, length, slice_get}
+use Rattle.std.specs.Prelude.{◌==◌, ◌&&◌, not, ℕ, ◌-◌, ◌++◌, Bool, true, false, Option, Some, None, List, [], ◌∷◌, length, slice_get}
 use Rattle.std.specs.Option.{option_map_or}
 use Rattle.vme_model.specs.declared.signals.Cycle.{Cycle}
 use Rattle.vme_model.specs.declared.signals.Cycle.TheVariants.{Acknowledge, Access}
@@ -10,10 +10,6 @@ use Rattle.vme_model.specs.declared.signals.Edge.{Edge}
 pub record Filling : Type 0 where
   pub edges : List Edge
   pub room : ℕ
-
--- no more edges than turns, nor than the history may have
-abbrev pub IsWithin : ℕ → ℕ → List Edge → Type 0
-IsWithin turns edges log = (length log ≤ turns) × (length log ≤ edges)
 
 -- the edges of all pages
 abbrev pub joined : List (List Edge) → List Edge
@@ -39,4 +35,6 @@ is_same_turn true fall = fall
 is_same_turn false fall = not fall
 
 abbrev pub is_same_edge : Edge → Edge → Bool
-is_same_edge e f = is_same_driver e.driver f.driver && is_same_wire e.wire f.wire && is_same_turn e.fall f.fall && is_same_value e.value f.value
+is_same_edge e f =
+    is_same_driver e.driver f.driver && is_same_wire e.wire f.wire
+    && is_same_turn e.fall f.fall && is_same_value e.value f.value

@@ -1,5 +1,5 @@
 -- What seats and the locked value are to a contract.
-use Rattle.std.specs.Prelude.{◌≡◌, ℕ, ◌+◌, Bool, true, List, [], ◌∷◌, ◌++◌, length, map, slice_index, slice_set}
+use Rattle.std.specs.Prelude.{◌≡◌, ◌≤◌, ℕ, ◌+◌, Bool, true, List, [], ◌∷◌, ◌++◌, length, map, slice_index, slice_set}
 use Rattle.vme_model.specs.declared.boards.ArbiterKind.TheVariants.{Sgl}
 use Rattle.vme_model.specs.declared.signals.Driver.{Driver}
 use Rattle.vme_model.specs.declared.signals.Driver.TheVariants.{Controller, Slot}
@@ -40,6 +40,10 @@ AllWorked [] [] [] = Unit {0}
 AllWorked (s ∷ seats) (t ∷ after) (log ∷ logs) = (t ≡ worked s log) × AllWorked seats after logs
 AllWorked _ _ _ = ⊥
 
+-- no more edges than turns, nor than the history may have
+abbrev pub IsWithin : ℕ → ℕ → List Edge → Type 0
+IsWithin turns edges log = (length log ≤ turns) × (length log ≤ edges)
+
 -- a driver that some plan has
 abbrev pub can_sit : Driver → Bool
 can_sit Controller = true
@@ -66,7 +70,11 @@ pub record Keeping : Type 0 where
 
 -- with one edge more, of the driver
 abbrev pub kept_more : Keeping → Edge → Driver → Keeping
-kept_more k e d = record { board = made k.board e; counts = counted_more k.counts d; total = k.total + 1 }
+kept_more k e d = record {
+  board = made k.board e;
+  counts = counted_more k.counts d;
+  total = k.total + 1;
+}
 
 -- the backplane began as the one that was opened: edges were made since, and nothing else
 abbrev pub Follows : State → State → Type 0
@@ -80,4 +88,9 @@ pub record IsHeld (opened : State) (k : Keeping) : Type 0 where
 
 -- a backplane that no program locks
 abbrev pub nowhere : State
-nowhere = record { version = One; plan = record { slots = 0; rows = []; jumpers = []; arbiter = Sgl }; history = []; max = 0 }
+nowhere = record {
+  version = One;
+  plan = record { slots = 0; rows = []; jumpers = []; arbiter = Sgl };
+  history = [];
+  max = 0;
+}

@@ -39,7 +39,9 @@ impl<'r, L: Rig> Shared<'r, L> {
         requires parts { L.parts ≡ 22 }
         requires seats { drivers_of seats.items ≡ drivers L.opened.plan }
         requires logs { length logs.now ≡ vec_len seats }
-        ensures history { MatchResult result (λ c. IsClosing L.opened seats.items c.backplane) (λ m. IsClosing L.opened seats.items m.backplane) }
+        ensures history { MatchResult result
+            (λ c. IsClosing L.opened seats.items c.backplane)
+            (λ m. IsClosing L.opened seats.items m.backplane) }
         ensures logs { MatchResult result
             (λ c. AreLogs c.backplane.history (drivers L.opened.plan) logs.now)
             (λ m. FirstDiffers m.backplane.history (drivers L.opened.plan) logs.now m.driver m.at) }

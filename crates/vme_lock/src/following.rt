@@ -49,7 +49,8 @@ fn numbers_of<L: Rig>(seats: &[Seat<L>]) -> Option<[usize; 22]>
 /// At each driver's desk how many of its edges the history has, which are the first of its log. None where an edge is no
 /// seat's, or is not the next of its driver's log.
 fn followed(backplane: &Backplane<'_>, numbers: &[usize; 22], logs: &[Log<'_>]) -> Option<[u32; 22]>
-    ensures { IfSome result (λ ends. AreFronts (in_order backplane.now.history) numbers.now logs.now ends) }
+    ensures { IfSome result
+        (λ ends. AreFronts (in_order backplane.now.history) numbers.now logs.now ends) }
 {
     let mut ends = [0; 22];
     for place in 0..backplane.len() {
@@ -100,7 +101,9 @@ fn is_same(edge: Edge, other: Edge) -> bool
 /// Whether the log has this edge at the place.
 #[inline(always)]
 pub(crate) fn stands_at(log: &Log<'_>, at: u32, edge: Edge) -> bool
-    ensures { MatchBool result (slice_get log.now at ≡ Some edge) (slice_get log.now at ≢ Some edge) }
+    ensures { MatchBool result
+        (slice_get log.now at ≡ Some edge)
+        (slice_get log.now at ≢ Some edge) }
 {
     at < log.len() && is_same(log.edge_at(at), edge)
 }

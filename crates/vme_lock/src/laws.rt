@@ -61,7 +61,9 @@ pub fn turn_in<L: Rig>(held: &Held<'_, L>, seat: &Seat<L>, turn: u32) -> Result<
 
 /// The tests before an edge: that it is the seat's, and that the seat made all edges of its driver.
 fn is_own<L: Rig>(held: &Held<'_, L>, seat: &Seat<L>, edge: Edge) -> Result<(), EdgeRefused>
-    ensures { MatchResult result (λ _. IsOwn held.now.board seat.now edge) (λ refused. Err refused ≡ edge_answer held.now.board seat.now edge) }
+    ensures { MatchResult result
+        (λ _. IsOwn held.now.board seat.now edge)
+        (λ refused. Err refused ≡ edge_answer held.now.board seat.now edge) }
 {
     if !edge.driver.is_same(seat.driver) {
         return Err(EdgeRefused::NotYours);
@@ -81,8 +83,12 @@ fn step_in<L: Rig>(
 ) -> Result<Option<Delivery>, Refused>
     requires { IsOwn held.old.board seat.old edge }
     ensures answer { result ≡ answer held.old.board edge }
-    ensures held { MatchResult result (λ _. held.new ≡ kept_more held.old edge seat.old.driver) (λ _. held.new ≡ held.old) }
-    ensures seat { MatchResult result (λ _. seat.new ≡ one_more seat.old) (λ _. seat.new ≡ seat.old) }
+    ensures held { MatchResult result
+        (λ _. held.new ≡ kept_more held.old edge seat.old.driver)
+        (λ _. held.new ≡ held.old) }
+    ensures seat { MatchResult result
+        (λ _. seat.new ≡ one_more seat.old)
+        (λ _. seat.new ≡ seat.old) }
 {
     let Held {
         backplane,
@@ -115,8 +121,12 @@ pub fn edge_in<L: Rig>(
     edge: Edge,
 ) -> Result<Option<Delivery>, EdgeRefused>
     ensures answer { result ≡ edge_answer held.old.board seat.old edge }
-    ensures held { MatchResult result (λ _. held.new ≡ kept_more held.old edge seat.old.driver) (λ _. held.new ≡ held.old) }
-    ensures seat { MatchResult result (λ _. seat.new ≡ one_more seat.old) (λ _. seat.new ≡ seat.old) }
+    ensures held { MatchResult result
+        (λ _. held.new ≡ kept_more held.old edge seat.old.driver)
+        (λ _. held.new ≡ held.old) }
+    ensures seat { MatchResult result
+        (λ _. seat.new ≡ one_more seat.old)
+        (λ _. seat.new ≡ seat.old) }
     ensures well_formed { OnOk result (is_well_formed edge ≡ true) }
     ensures before { IsHeld L.opened held.old }
     ensures legal { IsLegal held.old.board.version held.old.board.plan held.old.board.history }

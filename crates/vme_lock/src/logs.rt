@@ -148,7 +148,7 @@ impl<'s, 'r> Pages<'s, 'r> {
     }
 
     /// Makes room for one more edge, if there is none.
-    #[tactic(auto, using(crate::proofs::Paging::joined_page, crate::proofs::Paging::room_page))]
+    #[tactic(auto, using(crate::proofs::LogPages::joined_page, crate::proofs::LogPages::room_page))]
     pub(crate) fn make_room(&mut self) -> Result<(), AllocError>
         ensures edges { self.new.edges ≡ self.old.edges }
         ensures room { OnOk result (0 < self.new.room) }

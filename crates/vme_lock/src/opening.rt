@@ -27,7 +27,9 @@ impl<'r, L: Rig> Shared<'r, L> {
     ) -> Result<(Shared<'r, L>, Seats<L>), Backplane<'r>>
         requires blank { (blank.name ≡ L.name) × (blank.parts ≡ L.parts) × (blank.parts ≡ 22) }
         requires opened { L.opened ≡ backplane }
-        ensures seats { MatchResult result (λ r. r.1.items ≡ seats_of backplane.entry) (λ b. b ≡ backplane.entry) }
+        ensures seats { MatchResult result
+            (λ r. r.1.items ≡ seats_of backplane.entry)
+            (λ b. b ≡ backplane.entry) }
         ensures drivers { IfOk result (λ r. drivers_of r.1.items ≡ drivers backplane.entry.plan) }
     {
         let Ok(seats) = Vec::with_capacity(alloc, PARTS) else {
@@ -66,10 +68,12 @@ impl<L: Rig> Opening<L> {
         requires driver { can_sit driver ≡ true }
         requires room { vec_len self.old.seats < vec_capacity self.old.seats }
         requires rest { (0 < self.old.rest.parts) × (self.old.rest.amount ≡ 0) }
-        ensures seats { self.new.seats.items ≡ self.old.seats.items ++ record { driver = driver; made = made } ∷ [] }
+        ensures seats { self.new.seats.items
+            ≡ self.old.seats.items ++ record { driver = driver; made = made } ∷ [] }
         ensures room { vec_capacity self.new.seats ≡ vec_capacity self.old.seats }
         ensures total { self.new.book.total ≡ self.old.book.total + made }
-        ensures rest { (self.new.rest.parts + 1 ≡ self.old.rest.parts) × (self.new.rest.amount ≡ 0) }
+        ensures rest { (self.new.rest.parts + 1 ≡ self.old.rest.parts)
+            × (self.new.rest.amount ≡ 0) }
     {
         let mut share = self.rest.split_off(1, 0);
         self.book.add(&mut share, u64::from(made));
@@ -79,11 +83,13 @@ impl<L: Rig> Opening<L> {
     /// Gives a seat to the controller, and to each board.
     fn seat_all(&mut self, backplane: &Backplane<'_>, counts: &[u32; 22])
         requires counts { AreCounts counts.now backplane.now.history }
-        requires empty { (self.old.seats.items ≡ []) × (22 ≤ vec_capacity self.old.seats) × (self.old.book.total ≡ 0) }
+        requires empty { (self.old.seats.items ≡ []) × (22 ≤ vec_capacity self.old.seats)
+            × (self.old.book.total ≡ 0) }
         requires rest { (self.old.rest.parts ≡ 22) × (self.old.rest.amount ≡ 0) }
         ensures seats { self.new.seats.items ≡ seats_of backplane.now }
         ensures total { self.new.book.total ≡ length backplane.now.history }
-        ensures rest { (self.new.rest.parts + length (drivers backplane.now.plan) ≡ 22) × (self.new.rest.amount ≡ 0) }
+        ensures rest { (self.new.rest.parts + length (drivers backplane.now.plan) ≡ 22)
+            × (self.new.rest.amount ≡ 0) }
     {
         backplane.laws();
         self.seat(Driver::Controller, counts[0]);

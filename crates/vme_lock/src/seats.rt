@@ -37,7 +37,8 @@ impl<L: Rig> Model for Seat<L> {
 
     ghost view = { λ s. record { driver = s.driver; made = s.made } };
 
-    ghost invariant = { λ s. (s.share.amount ≡ s.made) × (s.share.parts ≡ 1) × (can_sit s.driver ≡ true) };
+    ghost invariant = { λ s.
+        (s.share.amount ≡ s.made) × (s.share.parts ≡ 1) × (can_sit s.driver ≡ true) };
 }
 
 impl<L: Rig> Seat<L> {

@@ -23,7 +23,9 @@ impl<'r, L: Rig> Shared<'r, L> {
     /// `Lost` where the history has another number of its edges than the seat made.
     pub fn look<R: Wait>(&self, rt: &R, seat: &Seat<L>) -> Result<View, Lost>
         ensures answer { OfSome L.opened (λ b. result ≡ look_answer b seat.now) }
-        ensures own { MatchResult result (λ v. (v.own ≡ seat.now.made) × (v.own ≤ v.total)) (λ lost. lost.own ≢ seat.now.made) }
+        ensures own { MatchResult result
+            (λ v. (v.own ≡ seat.now.made) × (v.own ≤ v.total))
+            (λ lost. lost.own ≢ seat.now.made) }
     {
         let held = self.lock.lock(rt);
         look_in(&*held, seat)
@@ -35,7 +37,9 @@ impl<'r, L: Rig> Shared<'r, L> {
     /// `Lost` as for a look.
     pub fn turn<R: Wait>(&self, rt: &R, seat: &Seat<L>, turn: u32) -> Result<Turn, Lost>
         ensures answer { OfSome L.opened (λ b. result ≡ turn_answer b seat.now turn) }
-        ensures own { MatchResult result (λ t. seat.now.made ≤ t.total) (λ lost. lost.own ≢ seat.now.made) }
+        ensures own { MatchResult result
+            (λ t. seat.now.made ≤ t.total)
+            (λ lost. lost.own ≢ seat.now.made) }
     {
         let held = self.lock.lock(rt);
         turn_in(&*held, seat, turn)
@@ -51,7 +55,9 @@ impl<'r, L: Rig> Shared<'r, L> {
         edge: Edge,
     ) -> Result<Option<Delivery>, EdgeRefused>
         ensures answer { OfSome L.opened (λ b. result ≡ edge_answer b seat.old edge) }
-        ensures seat { MatchResult result (λ _. seat.new ≡ one_more seat.old) (λ _. seat.new ≡ seat.old) }
+        ensures seat { MatchResult result
+            (λ _. seat.new ≡ one_more seat.old)
+            (λ _. seat.new ≡ seat.old) }
         ensures well_formed { OnOk result (is_well_formed edge ≡ true) }
         ensures driver { seat.new.driver ≡ seat.old.driver }
     {

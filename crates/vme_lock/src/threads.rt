@@ -1,8 +1,7 @@
 //! One thread for each board.
 ghost use Rattle.std.specs.Prelude.{◌≡◌, ◌≤◌, [], All, IfOk, vec_len, vec_capacity};
 ghost use Rattle.std.specs.Thread.{IsSync};
-ghost use Rattle.vme_lock.specs.Seats.{worked, AllWorked, drivers_of};
-ghost use Rattle.vme_lock.specs.Logs.{IsWithin};
+ghost use Rattle.vme_lock.specs.Seats.{worked, AllWorked, IsWithin, drivers_of};
 
 use crate::logs::{Log, Room};
 use crate::seats::{Rig, Seat, Seats};
@@ -57,7 +56,8 @@ fn run_all<'r, L: Rig + Send + Sync, G: Gate + Sync, R: Threads + Wait + Sync>(
     requires reserved { vec_len seats ≤ vec_capacity logs }
     ensures worked { AllWorked seats.items result.0.items result.1.items }
     ensures len { (vec_len result.0 ≡ vec_len seats) × (vec_len result.1 ≡ vec_len seats) }
-    ensures reserved { (vec_capacity result.0 ≡ vec_capacity seats) × (vec_capacity result.1 ≡ vec_capacity logs.entry) }
+    ensures reserved { (vec_capacity result.0 ≡ vec_capacity seats)
+        × (vec_capacity result.1 ≡ vec_capacity logs.entry) }
     ensures most { All (IsWithin bounds.turns bounds.edges) result.1.items }
 {
     let Some(seat) = seats.pop() else {
@@ -79,7 +79,8 @@ fn run_all<'r, L: Rig + Send + Sync, G: Gate + Sync, R: Threads + Wait + Sync>(
             requires reserved { vec_len seats ≤ vec_capacity logs }
             ensures worked { AllWorked seats.items result.0.items result.1.items }
             ensures len { (vec_len result.0 ≡ vec_len seats) × (vec_len result.1 ≡ vec_len seats) }
-            ensures reserved { (vec_capacity result.0 ≡ vec_capacity seats) × (vec_capacity result.1 ≡ vec_capacity logs.entry) }
+            ensures reserved { (vec_capacity result.0 ≡ vec_capacity seats)
+                × (vec_capacity result.1 ≡ vec_capacity logs.entry) }
             ensures most { All (IsWithin bounds.turns bounds.edges) result.1.items }
         { run_all(rt, shared, seats, gate, bounds, rooms, logs) },
     );

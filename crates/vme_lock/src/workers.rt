@@ -1,7 +1,6 @@
 //! A worker: one driver's turns, in each of which it asks for one offer and makes one edge at most.
 ghost use Rattle.std.specs.Prelude.{◌≡◌, ◌≢◌, ◌+◌, ◌<◌, ◌≤◌, [], IfErr, IfOk, OnOk, length, min, true};
-ghost use Rattle.vme_lock.specs.Seats.{worked};
-ghost use Rattle.vme_lock.specs.Logs.{IsWithin};
+ghost use Rattle.vme_lock.specs.Seats.{worked, IsWithin};
 ghost use Rattle.vme_lock.specs.Holds.{OfSome, ending, turn_answer};
 
 use crate::logs::{Log, Pages, Room};
@@ -136,7 +135,8 @@ fn take_turn<L: Rig, G: Gate, R: Wait>(
     requires most { length work.old.pages.edges ≤ bounds.edges }
     ensures driver { seat.new.driver ≡ seat.old.driver }
     ensures turns { OnOk result (work.new.turns ≡ work.old.turns + 1) }
-    ensures made { seat.new.made + length work.old.pages.edges ≡ seat.old.made + length work.new.pages.edges }
+    ensures made { seat.new.made + length work.old.pages.edges
+        ≡ seat.old.made + length work.new.pages.edges }
     ensures one { length work.new.pages.edges ≤ length work.old.pages.edges + 1 }
     ensures most { length work.new.pages.edges ≤ bounds.edges }
     ensures early { IfErr result (λ spent. spent ≢ Spent.Turns) }
@@ -173,7 +173,7 @@ fn take_turns<L: Rig, G: Gate, R: Wait>(
     ensures driver { seat.new.driver ≡ seat.old.driver }
     ensures turns { result ≡ Spent.Turns → work.new.turns ≡ bounds.turns }
     ensures made { seat.new.made ≡ seat.old.made + length work.new.pages.edges }
-    ensures most { (length work.new.pages.edges ≤ bounds.turns) × (length work.new.pages.edges ≤ bounds.edges) }
+    ensures most { IsWithin bounds.turns bounds.edges work.new.pages.edges }
 {
     for _turn in 0..bounds.turns {
         if let Err(spent) = take_turn(rt, shared, seat, gate, bounds, work) {

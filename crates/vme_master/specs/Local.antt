@@ -75,15 +75,18 @@ readings s row handler own cycles has_strobed pins holds_bus = record (readings_
 
 -- what its rules read, by the state
 abbrev pub local : State → Pins → Bool → Readings
-local m pins holds_bus = readings m.slot m.row m.handler (low m) m.cycles m.has_strobed pins holds_bus
+local m pins holds_bus =
+    readings m.slot m.row m.handler (low m) m.cycles m.has_strobed pins holds_bus
 
 -- what its rules read, over the edges that were noted
 abbrev pub over : ℕ → RequesterRow → Levels → List Edge → Pins → Bool → Readings
 over s row handler noted pins holds_bus =
-    readings s row handler (drive noted (Slot s)) (cycles noted (Slot s)) (has_strobed noted (Slot s)) pins holds_bus
+    readings s row handler (drive noted (Slot s)) (cycles noted (Slot s))
+    (has_strobed noted (Slot s)) pins holds_bus
 
 -- readings that say what a master is told, whatever they say of all else
-pub record SayWhatIsTold (row : RequesterRow) (handler : Levels) (own : Wire → Bool) (cycles : ℕ) (has_strobed : Bool) (pins : Pins) (holds_bus : Bool) (r : Readings) : Type 0 where
+pub record SayWhatIsTold (row : RequesterRow) (handler : Levels) (own : Wire → Bool)
+    (cycles : ℕ) (has_strobed : Bool) (pins : Pins) (holds_bus : Bool) (r : Readings) : Type 0 where
   pub own_wires : (w : Wire) → is_own w ≡ true → r.own w ≡ own w
   pub bbsy : r.own Bbsy ≡ holds_bus
   pub tenure : r.cycles ≡ cycles
@@ -93,4 +96,5 @@ pub record SayWhatIsTold (row : RequesterRow) (handler : Levels) (own : Wire →
   pub dtack : r.dtack ≡ pins.dtack
   pub berr : r.berr ≡ pins.berr
   pub requester : option_and_then (λ b. b.requester) r.board ≡ Some row
-  pub handles : (level : ℕ) → option_map_or (λ b. has_level b.handler level) r.board false ≡ has_level handler level
+  pub handles : (level : ℕ) →
+      option_map_or (λ b. has_level b.handler level) r.board false ≡ has_level handler level

@@ -6,12 +6,19 @@ ghost use Rattle.vme_model.specs.declared.signals.Version.{Version};
 ghost use Rattle.vme_model.specs.declared.signals.Version.TheVariants.{One};
 ghost use Rattle.vme_model.specs.declared.signals.Cycle.{Cycle as CycleValue};
 ghost use Rattle.vme_model.specs.declared.signals.Edge.{Edge as EdgeValue};
-ghost use Rattle.vme_model.specs.Rules.{is_below_burst, may_show, rule};
-ghost use Rattle.vme_model.specs.Verdict.{check, ruling, ruling_on};
+ghost use Rattle.vme_model.specs.Rules.{failing, guard};
+ghost use Rattle.vme_model.specs.Verdict.{ruling, ruling_on};
 ghost use Rattle.vme_master.specs.Local.{state_of, most_cycles, is_own, low, local, over};
 
+use arrayvec::ArrayVec;
 use std::marker::Model;
-use vme_model::{Cycle, Driver, Edge, Levels, Pins, Refused, Release, RequesterRow, Wire};
+use vme_model::{
+    Condition, Cycle, Driver, Edge, Levels, Pins, Refused, Release, RequesterRow, Wire,
+};
+use vme_rules::masters::{
+    addr_goes_off, addr_goes_on, as_falls, as_rises, below_burst, ds_falls, ds_rises, shows,
+};
+use vme_rules::{Outcome, allowed};
 
 /// A master, as what its own edges left: which of its wires are low, and how far its cycle and its tenure have come.
 #[derive(Clone, Copy, PartialEq, Eq, Debug)]
@@ -34,18 +41,6 @@ impl Model for Master {
     ghost view = { λ m. record { slot = m.slot; row = m.row; handler = m.handler; addr = m.addr; address_strobe = m.address_strobe; data_strobe = m.data_strobe; cycles = m.cycles; has_strobed = m.has_strobed } };
 
     ghost inverse = { λ s. record { slot = s.slot; row = s.row; handler = s.handler; addr = s.addr; address_strobe = s.address_strobe; data_strobe = s.data_strobe; cycles = s.cycles; has_strobed = s.has_strobed } };
-}
-
-/// The answer to an edge that changes its wire, by the rule that names it and whether its guard holds.
-#[inline(always)]
-fn allowed(number: u8, holds: bool) -> Result<(), Refused>
-    ensures { result ≡ check holds (Refused.Rule number) (Ok tt) }
-{
-    if holds {
-        Ok(())
-    } else {
-        Err(Refused::Rule(number))
-    }
 }
 
 impl Master {
@@ -79,52 +74,73 @@ impl Master {
         }
     }
 
-    /// Whether its tenure has room for another cycle.
-    fn is_within_burst(&self) -> bool
-        ensures { result ≡ is_below_burst self.now.cycles self.now.row.release }
+    /// The rule that names an edge of its address group, and what its guard answers (G15, G19).
+    #[inline(always)]
+    fn address_rule<A: Outcome>(
+        &self,
+        fall: bool,
+        value: Option<Cycle>,
+        pins: &Pins,
+        holds_bus: bool,
+    ) -> (u8, A)
+        ensures number { result.0 ≡
+            (guard One (local self.now pins.now holds_bus) Wire.Addr fall value).0 }
+        ensures answer { A.tells result.1
+            (guard One (local self.now pins.now holds_bus) Wire.Addr fall value).1 }
     {
-        match self.row.release {
-            Release::Done { burst } => self.cycles < burst,
-            Release::Request => true,
+        if !fall {
+            let guard = addr_goes_off(self.address_strobe, self.data_strobe, self.has_strobed);
+            return (19, guard);
+        }
+        let bursting = below_burst(self.cycles, self.row.release);
+        let showing = shows(self.handler, pins.irq, value);
+        let guard = addr_goes_on(holds_bus, pins.address_strobe, bursting, showing);
+        (15, guard)
+    }
+
+    /// The rule that names an edge of its address strobe, and what its guard answers (G16, G20).
+    #[inline(always)]
+    fn address_strobe_rule<A: Outcome>(&self, fall: bool, pins: &Pins) -> (u8, A)
+        ensures number { (holds_bus : Bool) (value : OptionValue CycleValue) →
+            result.0 ≡
+            (guard One (local self.now pins.now holds_bus) Wire.AddressStrobe fall value).0 }
+        ensures answer { (holds_bus : Bool) (value : OptionValue CycleValue) →
+            A.tells result.1
+            (guard One (local self.now pins.now holds_bus) Wire.AddressStrobe fall value).1 }
+    {
+        if fall {
+            (16, as_falls(self.addr, pins.address_strobe))
+        } else {
+            (20, as_rises(self.addr))
         }
     }
 
-    /// Whether it may show that value: an acknowledge only of a level that its board handles and that is requested.
-    fn may_show(&self, value: Option<Cycle>, lines: &Pins, holds_bus: bool) -> bool
-        ensures { result ≡ may_show (local self.now lines.now holds_bus) value }
+    /// The rule that names an edge of its data strobe, and what its guard answers (G17, G18).
+    #[inline(always)]
+    fn data_strobe_rule<A: Outcome>(&self, fall: bool, pins: &Pins) -> (u8, A)
+        ensures number { (holds_bus : Bool) (value : OptionValue CycleValue) →
+            result.0 ≡
+            (guard One (local self.now pins.now holds_bus) Wire.DataStrobe fall value).0 }
+        ensures answer { (holds_bus : Bool) (value : OptionValue CycleValue) →
+            A.tells result.1
+            (guard One (local self.now pins.now holds_bus) Wire.DataStrobe fall value).1 }
     {
-        match value {
-            Some(Cycle::Acknowledge(level)) => self.handler.has(level) && lines.irq.has(level),
-            _ => true,
+        if !fall {
+            return (18, ds_rises(pins.dtack, pins.berr));
         }
+        let own_strobe = self.address_strobe;
+        let guard = ds_falls(
+            own_strobe,
+            self.addr,
+            pins.dtack,
+            pins.berr,
+            self.has_strobed,
+        );
+        (17, guard)
     }
 
-    /// Whether its address group may go on with that value (G15).
-    fn may_go_on(&self, value: Option<Cycle>, lines: &Pins, holds_bus: bool) -> bool
-        ensures { result ≡ (rule One (local self.now lines.now holds_bus) Wire.Addr true value).1 }
-    {
-        holds_bus
-            && !lines.address_strobe
-            && self.is_within_burst()
-            && self.may_show(value, lines, holds_bus)
-    }
-
-    /// Whether its address group may go off (G19).
-    fn may_go_off(&self) -> bool
-        ensures { result ≡ (self.now.address_strobe && not self.now.data_strobe && self.now.has_strobed) }
-    {
-        self.address_strobe && !self.data_strobe && self.has_strobed
-    }
-
-    /// Whether it may begin a transfer (G17).
-    fn may_begin(&self, lines: &Pins) -> bool
-        ensures { result ≡ (self.now.address_strobe && self.now.addr && not lines.now.dtack && not lines.now.berr && not self.now.has_strobed) }
-    {
-        self.address_strobe && self.addr && !lines.dtack && !lines.berr && !self.has_strobed
-    }
-
-    /// Whether the rules G15 and G19 allow an edge of its address group, of the lines that it sees, and whether its
-    /// board drives BBSY* low.
+    /// Whether the rules G15 and G19 allow an edge of its address group, of its pins, and whether its board drives
+    /// BBSY* low.
     ///
     /// # Errors
     /// As for `may`.
@@ -133,46 +149,46 @@ impl Master {
         &self,
         fall: bool,
         value: Option<Cycle>,
-        lines: &Pins,
+        pins: &Pins,
         holds_bus: bool,
     ) -> Result<(), Refused>
-        ensures { result ≡ ruling_on One (local self.now lines.now holds_bus) Wire.Addr fall value }
+        ensures { result ≡ ruling_on One (local self.now pins.now holds_bus) Wire.Addr fall value }
     {
-        match (fall, self.addr) {
-            (true, true) | (false, false) => Err(Refused::AlreadyThere),
-            (true, false) => allowed(15, self.may_go_on(value, lines, holds_bus)),
-            (false, true) => allowed(19, self.may_go_off()),
+        if self.addr == fall {
+            return Err(Refused::AlreadyThere);
         }
+        allowed(self.address_rule(fall, value, pins, holds_bus))
     }
 
-    /// Whether the rules G16 and G20 allow an edge of its address strobe, of the lines that it sees.
+    /// Whether the rules G16 and G20 allow an edge of its address strobe, of its pins.
     ///
     /// # Errors
     /// As for `may`.
     #[inline(always)]
-    pub fn may_strobe_address(&self, fall: bool, lines: &Pins) -> Result<(), Refused>
-        ensures { (holds_bus : Bool) (value : OptionValue CycleValue) → result ≡ ruling_on One (local self.now lines.now holds_bus) Wire.AddressStrobe fall value }
+    pub fn may_strobe_address(&self, fall: bool, pins: &Pins) -> Result<(), Refused>
+        ensures { (holds_bus : Bool) (value : OptionValue CycleValue) →
+            result ≡
+            ruling_on One (local self.now pins.now holds_bus) Wire.AddressStrobe fall value }
     {
-        match (fall, self.address_strobe) {
-            (true, true) | (false, false) => Err(Refused::AlreadyThere),
-            (true, false) => allowed(16, self.addr && !lines.address_strobe),
-            (false, true) => allowed(20, !self.addr),
+        if self.address_strobe == fall {
+            return Err(Refused::AlreadyThere);
         }
+        allowed(self.address_strobe_rule(fall, pins))
     }
 
-    /// Whether the rules G17 and G18 allow an edge of its data strobe, of the lines that it sees.
+    /// Whether the rules G17 and G18 allow an edge of its data strobe, of its pins.
     ///
     /// # Errors
     /// As for `may`.
     #[inline(always)]
-    pub fn may_strobe_data(&self, fall: bool, lines: &Pins) -> Result<(), Refused>
-        ensures { (holds_bus : Bool) (value : OptionValue CycleValue) → result ≡ ruling_on One (local self.now lines.now holds_bus) Wire.DataStrobe fall value }
+    pub fn may_strobe_data(&self, fall: bool, pins: &Pins) -> Result<(), Refused>
+        ensures { (holds_bus : Bool) (value : OptionValue CycleValue) →
+            result ≡ ruling_on One (local self.now pins.now holds_bus) Wire.DataStrobe fall value }
     {
-        match (fall, self.data_strobe) {
-            (true, true) | (false, false) => Err(Refused::AlreadyThere),
-            (true, false) => allowed(17, self.may_begin(lines)),
-            (false, true) => allowed(18, lines.dtack || lines.berr),
+        if self.data_strobe == fall {
+            return Err(Refused::AlreadyThere);
         }
+        allowed(self.data_strobe_rule(fall, pins))
     }
 
     /// Whether the rules G15 to G20 allow an edge of its own wires. That the acknowledge chain is clear at an `as-`
@@ -184,7 +200,11 @@ impl Master {
     /// E2 where the wire is in that state, else E3 where the rule's guard fails.
     #[inline(always)]
     pub fn may(&self, edge: Edge, pins: Pins, holds_bus: bool) -> Result<(), Refused>
-        ensures { (version : Version) (noted : List EdgeValue) → self.now ≡ state_of self.now.slot self.now.row self.now.handler noted → is_own edge.wire ≡ true → result ≡ ruling version (over self.now.slot self.now.row self.now.handler noted pins holds_bus) edge }
+        ensures { (version : Version) (noted : List EdgeValue) →
+            self.now ≡ state_of self.now.slot self.now.row self.now.handler noted →
+            is_own edge.wire ≡ true →
+            result ≡ ruling version
+            (over self.now.slot self.now.row self.now.handler noted pins holds_bus) edge }
     {
         match edge.wire {
             Wire::Addr => self.may_address(edge.fall, edge.value, &pins, holds_bus),
@@ -194,12 +214,33 @@ impl Master {
         }
     }
 
+    /// The conditions that fail of the rule that names an edge of its own wires, in the order of its
+    /// guard. It is told what `may` is.
+    pub fn failing(&self, edge: Edge, pins: Pins, holds_bus: bool) -> ArrayVec<Condition, 5>
+        ensures { (version : Version) (noted : List EdgeValue) →
+            self.now ≡ state_of self.now.slot self.now.row self.now.handler noted →
+            is_own edge.wire ≡ true →
+            result.items ≡ failing version
+            (over self.now.slot self.now.row self.now.handler noted pins holds_bus)
+            edge.wire edge.fall edge.value }
+    {
+        let (_number, failed) = match edge.wire {
+            Wire::Addr => self.address_rule(edge.fall, edge.value, &pins, holds_bus),
+            Wire::AddressStrobe => self.address_strobe_rule(edge.fall, &pins),
+            Wire::DataStrobe => self.data_strobe_rule(edge.fall, &pins),
+            _ => return ArrayVec::new(),
+        };
+        failed
+    }
+
     /// Takes in an edge that was made: its own, or its board's `bbsy-`, which begins a tenure. Any other changes
     /// nothing.
     #[tactic(auto, using(crate::proofs::Counts::one_more))]
     #[inline(always)]
     pub fn note(&mut self, edge: Edge)
-        ensures { (s : ℕ) (row : RowValue) (handler : LevelsValue) (noted : List EdgeValue) → self.old ≡ state_of s row handler noted → self.new ≡ state_of s row handler (edge ∷ noted) }
+        ensures { (s : ℕ) (row : RowValue) (handler : LevelsValue) (noted : List EdgeValue) →
+            self.old ≡ state_of s row handler noted →
+            self.new ≡ state_of s row handler (edge ∷ noted) }
     {
         if edge.driver.is_same(Driver::Slot(self.slot)) {
             match (edge.wire, edge.fall) {
@@ -225,7 +266,12 @@ impl Master {
 
     /// Its address strobe falls.
     fn begin_cycle(&mut self)
-        ensures { self.new ≡ record self.old { address_strobe = true; cycles = if nat_lt self.old.cycles (most_cycles self.old.row.release) then self.old.cycles + 1 else self.old.cycles; has_strobed = false } }
+        ensures { self.new ≡ record self.old {
+          address_strobe = true;
+          cycles = if nat_lt self.old.cycles (most_cycles self.old.row.release)
+              then self.old.cycles + 1 else self.old.cycles;
+          has_strobed = false;
+        } }
     {
         if self.cycles < self.most_cycles() {
             self.cycles += 1;
@@ -236,7 +282,10 @@ impl Master {
 
     /// Its data strobe falls or rises.
     fn strobe(&mut self, fall: bool)
-        ensures { self.new ≡ record self.old { data_strobe = fall; has_strobed = fall || self.old.has_strobed } }
+        ensures { self.new ≡ record self.old {
+          data_strobe = fall;
+          has_strobed = fall || self.old.has_strobed;
+        } }
     {
         self.data_strobe = fall;
         self.has_strobed = fall || self.has_strobed;

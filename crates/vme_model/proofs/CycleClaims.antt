@@ -27,7 +27,7 @@ use Rattle.vme_model.proofs.Ranges.{IsInRange}
 use Rattle.vme_model.proofs.CyclePhases.{Answer, IsAnswer, unasked, one_group, group_strobe, answer_of, rightful_answer}
 use Rattle.vme_model.proofs.Grants.{Now}
 use Rattle.vme_model.proofs.Cycles.{cycle_wires, busy_of, interrupts, masters, has_board, Going, one_holder, line_from, board_there, within, chain_below, chain_asks, chain_member}
-use Rattle.vme_model.proofs.Passed.{Passed, all_passed}
+use Rattle.vme_model.proofs.AllowedEdges.{Passed, all_passed}
 
 answer_alone : (p : Plan) (h : List Edge) (a : Answer) (x y : Driver) → IsAnswer (interrupts p) (masters p) (has_board p) p.slots (λ s. drive h (Slot s) Dtack) (drive h Controller Berr) a → Answers h x → Answers h y → x ≡ y
 answer_alone p h a Controller Controller i e f = refl

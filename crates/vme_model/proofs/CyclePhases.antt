@@ -1,4 +1,5 @@
--- The address lines, the strobes and the answers, as four phases: what holds in each, and which phase each edge leads to.
+-- The address lines, the strobes and the answers, as four phases: what holds in each, and which
+-- phase each edge leads to.
 use Rattle.std.proofs.Common.{◌≡◌, ◌≢◌, ℕ, suc, ◌<◌, ◌≤◌, Bool, true, false, List, [], ◌∷◌, Option, Some, None, refl, sym, ap, ◌∙◌, subst, arith, ⊎_elim}
 use Rattle.std.specs.Prelude.{map}
 use Rattle.std.proofs.lemmas.Bool.{cases_lt}
@@ -32,8 +33,9 @@ pub data Answer : Type 0 where
   By : (t : ℕ) → Answer
   Error : Answer
 
--- No address strobe is low. Or slot s drives it, and no data strobe has fallen; or its data strobe is low, with the
--- segments of the acknowledge chain below slot hi, the controller's where g says so; or its data strobe rose again.
+-- No address strobe is low. Or slot s drives it, and no data strobe has fallen; or its data strobe
+-- is low, with the segments of the acknowledge chain below slot hi, the controller's where g says
+-- so; or its data strobe rose again.
 pub data Cyclic : Type 0 where
   Quiet : Cyclic
   Fresh : (s : ℕ) → Cyclic

@@ -30,7 +30,7 @@ use Rattle.vme_model.proofs.Members.{on, some_row, found_row}
 use Rattle.vme_model.proofs.GrantPhases.{holds_once}
 use Rattle.vme_model.proofs.Grants.{Now, grant_wires, now_of}
 use Rattle.vme_model.proofs.CyclePhases.{CycleWires, Quiet, Cycled, Silent, iack_before, IsAsked, IsUnanswerable, group_falls, group_rises, strobe_falls, strobe_rises, dstrobe_falls, dstrobe_rises, dtack_falls, dtack_rises, berr_falls, berr_rises, iack_falls, iack_rises, iout_falls, iout_rises, taken, given_up}
-use Rattle.vme_model.proofs.Passed.{Passed, all_passed, sets_slot}
+use Rattle.vme_model.proofs.AllowedEdges.{Passed, all_passed, sets_slot}
 
 -- what the lemmas on phases read of a history
 abbrev pub cycle_wires : Plan → List Edge → CycleWires

@@ -1,5 +1,6 @@
--- Why the rules are needed: histories that break a claim, although all of their edges but one are allowed. That one is refused
--- by the rule named; were it allowed too, the list would be legal and not safe.
+-- Why the rules are needed: histories that break a claim, although all of their edges but one are
+-- allowed. That one is refused by the rule named; were it allowed too, the list would be legal and
+-- not safe.
 use Rattle.std.proofs.Common.{◌≡◌, ◌⊎◌, ℕ, zero, suc, ◌++◌, Bool, true, false, List, [], ◌∷◌, Option, Some, None, Ok, refl, sym, ◌∙◌, subst, arith, inl, inr, map}
 use Rattle.std.specs.List.{Contains}
 use Rattle.vme_model.specs.declared.boards.Row.{Row}
@@ -45,7 +46,8 @@ rise d w = record { driver = d; wire = w; fall = false; value = None }
 abbrev shows : ℕ → Cycle → Edge
 shows s cycle = record { driver = Slot s; wire = Addr; fall = true; value = Some cycle }
 
--- boards with a requester that gives the bus up when it is done, and with a ROAK interrupter of level 4
+-- boards with a requester that gives the bus up when it is done, and with a ROAK interrupter of
+-- level 4
 abbrev requester : ℕ → ℕ → Row
 requester s level = record { slot = s; requester = Some (record { level = level; release = Done 2 }); interrupter = None; handler = no_levels }
 
@@ -55,7 +57,8 @@ handler s = record (requester s 3) { handler = with_level no_levels 4 }
 abbrev interrupter : ℕ → Row
 interrupter s = record { slot = s; requester = None; interrupter = Some (record { level = 4; kind = Roak; status = 65 }); handler = no_levels }
 
--- backplanes with one board, with two on level 3, with two on levels 3 and 2, and with a handler and two interrupters
+-- backplanes with one board, with two on level 3, with two on levels 3 and 2, and with a handler
+-- and two interrupters
 abbrev one_board : Plan
 one_board = record { slots = 1; rows = requester 1 3 ∷ []; jumpers = []; arbiter = Sgl }
 
@@ -224,7 +227,8 @@ grant_after_an_old_rise = record { accepted = refl; before = (refl, (refl, (refl
 new_grant_is_lost : NoneLost Two one_board (fall Controller (Bg 3) ∷ before_grant_after_an_old_rise) → ⊥
 new_grant_is_lost f = lost Two _ refl refl (f 3 refl (low_grant _ refl))
 
--- S3: in the second version the controller takes a grant back before the last board has passed it on
+-- S3: in the second version the controller takes a grant back before the last board has passed it
+-- on
 abbrev before_time_out_of_a_travelling_grant : List Edge
 before_time_out_of_a_travelling_grant = fall (Slot 1) BgOut ∷ fall Controller (Bg 3) ∷ fall (Slot 2) Br ∷ []
 

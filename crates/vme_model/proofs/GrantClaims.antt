@@ -17,7 +17,7 @@ use Rattle.vme_model.proofs.Below.{low_part, part_of, IsBelow, is_below}
 use Rattle.vme_model.proofs.Ranges.{IsInRange}
 use Rattle.vme_model.proofs.Members.{on, one_chain, within, is_at, member_of, is_member, active_is, level_of}
 use Rattle.vme_model.proofs.GrantPhases.{segment_of, quiet, leaves_clear, Stands, stands_once, stands_while_free, holds_once, IsPart, Before, one_chain_low, none_between, starts_or_ends, IsWithdrawn, Found, not_lost, stands_or_ends, rightful}
-use Rattle.vme_model.proofs.Passed.{Passed}
+use Rattle.vme_model.proofs.AllowedEdges.{Passed}
 use Rattle.vme_model.proofs.Grants.{grant_wires, Now, all_free, holder, as_segment, grant_is, place, is_end}
 
 stands : (version : Version) (p : Plan) → IsInRange p → (h : List Edge) (n s : ℕ) → Travels p h n s → Stands (on p) p.slots (is_two version) (grant_wires p h) n s (upstream p (grant_chain n) s)

@@ -23,9 +23,10 @@ pub record GrantWires : Type 0 where
 abbrev pub Sets : (new old : ℕ → Bool) → ℕ → Bool → Type 0
 Sets new old s v = (t : ℕ) → ((t ≡ s) × (new t ≡ v)) ⊎ ((t ≢ s) × (new t ≡ old t))
 
--- No grant is low, and nobody holds the bus. Or the controller's segment of chain c is low, with those of its slots below
--- hi. Or slot k of chain c holds the bus, and the segments from lo up to it are low, with the controller's where g says so.
--- Or, in the second version, the controller took the grant of chain c back, and the segments from lo on are low.
+-- No grant is low, and nobody holds the bus. Or the controller's segment of chain c is low, with
+-- those of its slots below hi. Or slot k of chain c holds the bus, and the segments from lo up to
+-- it are low, with the controller's where g says so. Or, in the second version, the controller took
+-- the grant of chain c back, and the segments from lo on are low.
 pub data Phase : Type 0 where
   Idle : Phase
   Granting : (c hi : ℕ) → Phase

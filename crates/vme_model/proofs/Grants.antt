@@ -5,8 +5,6 @@ use Rattle.std.specs.List.{list_any, list_all}
 use Rattle.std.specs.Option.{option_map_or}
 use Rattle.std.proofs.lemmas.Bool.Decides.{nat_tests}
 use Rattle.vme_model.specs.declared.boards.Row.{Row}
-use Rattle.vme_model.specs.declared.boards.ArbiterKind.{ArbiterKind}
-use Rattle.vme_model.specs.declared.boards.ArbiterKind.TheVariants.{Sgl, Pri, Rrs}
 use Rattle.vme_model.specs.declared.signals.Version.{Version}
 use Rattle.vme_model.specs.declared.signals.Edge.{Edge}
 use Rattle.vme_model.specs.declared.signals.Cycle.{Cycle}
@@ -18,16 +16,16 @@ use Rattle.vme_model.specs.Signals.{is_two}
 use Rattle.vme_model.specs.Plan.{Plan, requests_on, upstream, last_active, grant_chain}
 use Rattle.vme_model.specs.History.{drive, pulls_line, line, pulls_request, request_line, segment, last_level, is_past_end}
 use Rattle.vme_model.specs.Readings.{grant_in}
-use Rattle.vme_model.specs.Rules.{is_pick}
 use Rattle.vme_model.specs.Settling.{are_grants_through}
 use Rattle.vme_model.specs.Verdict.{IsLegal}
 use Rattle.vme_model.specs.GrantSafety.{last_granted, was_taken, grant_passes, was_withdrawn}
-use Rattle.vme_model.proofs.Bools.{and_left, and_right, not_true, is_false, same_number}
+use Rattle.vme_model.proofs.Bools.{and_left, and_right, not_true, is_false}
 use Rattle.vme_model.proofs.Below.{IsBelow, is_below, last_of}
 use Rattle.vme_model.proofs.Ranges.{IsRowInRange, IsInRange}
 use Rattle.vme_model.proofs.Members.{on, some_row, one_chain, within, line_low, found_row, has_board, is_at, active_is, HasLevel, level_of}
 use Rattle.vme_model.proofs.GrantPhases.{GrantWires, Phased, Idle, segment_of, IsAt, HasPassed, grant_falls, grant_rises, asks, asks_no_more, passes_on, rises, takes, releases}
-use Rattle.vme_model.proofs.Passed.{Passed, all_passed, sets_slot, sets_level}
+use Rattle.vme_model.proofs.Picks.{laws_of, at_four}
+use Rattle.vme_model.proofs.AllowedEdges.{Passed, all_passed, sets_slot, sets_level}
 
 -- what the lemmas on phases read of a history
 abbrev pub grant_wires : Plan → List Edge → GrantWires
@@ -56,12 +54,6 @@ holder p range h e =
     let r = some_row (pulls_line h Bbsy) (IsRowInRange p) p.rows range.rows e in
     (r.0.slot, and_right _ _ r.1)
 
--- a level that is picked is low
-picked_low : (kind : ArbiterKind) (low : ℕ → Bool) (last n : ℕ) → is_pick kind low last n ≡ true → low n ≡ true
-picked_low Sgl low last n e = subst (λ x. low x ≡ true) (sym (same_number n 3 (and_left _ _ e))) (and_right _ _ e)
-picked_low Pri low last n e = and_left (low n) _ e
-picked_low Rrs low last n e = and_left (low n) _ e
-
 -- somebody waits where a request line is low
 waiter : (p : Plan) → IsInRange p → (h : List Edge) (n : ℕ) → request_line p h n ≡ true → (s : ℕ) × (on p n s ≡ true) × (drive h (Slot s) Br ≡ true)
 waiter p range h n e =
@@ -69,11 +61,7 @@ waiter p range h n e =
     (r.0.slot, ap (λ x. option_map_or (requests_on n) x false) r.2.alone ∙ and_left _ _ r.1, and_right (requests_on n r.0) _ r.1)
 
 pub grants_high : (bg : ℕ → Bool) → list_all (λ n. not (bg n)) (0 ∷ 1 ∷ 2 ∷ 3 ∷ []) ≡ true → (m : ℕ) → m < 4 → bg m ≡ false
-grants_high bg e zero l = not_true (bg 0) (and_left _ _ e)
-grants_high bg e (suc zero) l = not_true (bg 1) (and_left _ _ (and_right (not (bg 0)) _ e))
-grants_high bg e (suc (suc zero)) l = not_true (bg 2) (and_left _ _ (and_right (not (bg 1)) _ (and_right (not (bg 0)) _ e)))
-grants_high bg e (suc (suc (suc zero))) l = not_true (bg 3) (and_left _ _ (and_right (not (bg 2)) _ (and_right (not (bg 1)) _ (and_right (not (bg 0)) _ e))))
-grants_high bg e (suc (suc (suc (suc m)))) l = absurd (omega arith)
+grants_high bg e m l = not_true (bg m) (at_four (λ n. not (bg n)) m l e)
 
 is_less : (m n : ℕ) → nat_lt m n ≡ true → m < n
 is_less m n h = grind (arith, nat_tests)
@@ -141,7 +129,7 @@ KeepsPhase version p d w fall = (h : List Edge) (v : Option Cycle) → Passed ve
 after_grant : (version : Version) (p : Plan) → IsInRange p → (n : ℕ) → KeepsPhase version p Controller (Bg n) true
 after_grant version p range n h v a now =
     let r = and_left _ _ a.rule in
-    let w = waiter p range h n (picked_low p.arbiter (request_line p h) (last_level h) n (and_right _ _ a.rule)) in
+    let w = waiter p range h n ((laws_of p.arbiter).is_low (request_line p h) (last_level h) n (and_right _ _ a.rule)) in
     grant_falls (on p) p.slots (is_two version) (grant_wires p h) _ n w.0 (sets_level (λ m. drive h Controller (Bg m)) n true) (is_less n 4 a.wire) w.1 w.2 (grants_high (λ m. drive h Controller (Bg m)) (and_left _ _ r)) (all_free p range h (not_true _ (and_right _ _ r))) (λ e m s o. clear_now p range h m s o (when (not (is_two version)) (are_grants_through p h) (off (is_two version) e) a.settles)) now
 
 after_grant_rise : (version : Version) (p : Plan) → IsInRange p → (n : ℕ) → KeepsPhase version p Controller (Bg n) false

@@ -1,19 +1,40 @@
+-- tests that hold and fail
 pub mod Bools
+-- `guard_fails_by_its_conditions` and `rule_fails_by_its_conditions`
 pub mod Guards
+-- the slots of a chain below a bound
 pub mod Below
+-- what an accepted plan says of its rows
 pub mod Ranges
+-- the four phases of the grant chains, and which edge leads to which
 pub mod GrantPhases
+-- what a plan in range says of its slots
 pub mod Members
-pub mod Passed
+-- what an edge that is allowed has passed
+pub mod AllowedEdges
+-- each legal list is in a phase of the grants
 pub mod Grants
+-- the claims of `GrantSafety`, by the phase
 pub mod GrantClaims
+-- `first_version_is_within_second`
 pub mod Versions
+-- the four phases of the address lines, the strobes and the answers
 pub mod CyclePhases
+-- each legal list is in a phase of the cycles
 pub mod Cycles
+-- the claims of `CycleSafety`, by the phase
 pub mod CycleClaims
+-- `legal_list_is_safe` and `legal_list_is_orderly`
 pub mod Safety
+-- a sum of bits tells each bit: sets of levels are equal by their bits
 pub mod Bits
+-- `verdict_is_local`
 pub mod Local
+-- histories that a rule keeps from being unsafe: why it is needed
 pub mod Examples
+-- `open_edges_are_all_that_is_allowed`
+pub mod OpenEdges
+-- the laws of the arbiter's policies
 pub mod Picks
+-- the sets on a board's pins hold the levels whose lines are low
 pub mod PinSets

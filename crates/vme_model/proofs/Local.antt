@@ -34,7 +34,7 @@ use Rattle.vme_model.proofs.Bools.{and_left, and_right, is_false, same_number}
 use Rattle.vme_model.proofs.Bits.{bits, seven_bits}
 use Rattle.vme_model.proofs.Ranges.{IsRowInRange, IsInRange, in_range}
 use Rattle.vme_model.proofs.Members.{some_row}
-use Rattle.vme_model.proofs.Passed.{checked}
+use Rattle.vme_model.proofs.AllowedEdges.{checked}
 
 -- a fold over the own edges
 abbrev fold_own : {A : Type 0} → (Edge → Pins → A → A) → A → List (Edge × Pins) → A

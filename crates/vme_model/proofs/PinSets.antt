@@ -5,11 +5,11 @@ use Rattle.std.specs.List.{list_all}
 use Rattle.vme_model.specs.Sets.{has_level, has_bus_level, irq_levels, bus_levels}
 use Rattle.vme_model.specs.Accepted.{irq_numbers}
 use Rattle.vme_model.specs.declared.boards.ArbiterKind.{ArbiterKind}
-use Rattle.vme_model.specs.declared.boards.ArbiterKind.TheVariants.{Sgl, Pri, Rrs}
 use Rattle.vme_model.specs.declared.sets.Levels.{Levels}
 use Rattle.vme_model.specs.Rules.{bus_numbers, pick}
 use Rattle.vme_model.specs.Offers.{irq_descending}
-use Rattle.vme_model.proofs.Picks.{on_both, at_one, and_left, and_right, agreed}
+use Rattle.vme_model.proofs.Bools.{and_left, and_right}
+use Rattle.vme_model.proofs.Picks.{on_both, at_one, at_four, agreed, pick_by_lines}
 
 abbrev lines : Bool → Bool → Bool → Bool → Bool → Bool → Bool → ℕ → Bool
 lines a b c d e f g zero = false
@@ -75,11 +75,7 @@ bus_all a b c d =
     (at_one (λ a. on_both (λ b. on_both (λ c. on_both (λ d. bus_same a b c d)))) refl a) b) c) d
 
 pick_bus : (s t : ℕ → Bool) (n : ℕ) → n < 4 → same s t bus_numbers ≡ true → s n ≡ t n
-pick_bus s t zero l e = agreed (s 0) (t 0) (and_left _ _ e)
-pick_bus s t (suc zero) l e = agreed (s 1) (t 1) (and_left _ _ (and_right (at_place s t 0) _ e))
-pick_bus s t (suc (suc zero)) l e = agreed (s 2) (t 2) (and_left _ _ (and_right (at_place s t 1) _ (and_right (at_place s t 0) _ e)))
-pick_bus s t (suc (suc (suc zero))) l e = agreed (s 3) (t 3) (and_left _ _ (and_right (at_place s t 2) _ (and_right (at_place s t 1) _ (and_right (at_place s t 0) _ e))))
-pick_bus s t (suc (suc (suc (suc n)))) l e = absurd (omega arith)
+pick_bus s t n l e = agreed (s n) (t n) (at_four (at_place s t) n l e)
 
 pub has_bus : (low : ℕ → Bool) (n : ℕ) → n < 4 → has_bus_level (bus_levels low) n ≡ low n
 has_bus low n l = pick_bus (has_bus_level (bus_levels low)) low n l (bus_all (low 0) (low 1) (low 2) (low 3))
@@ -102,12 +98,7 @@ wanted_of_pins handled low =
     (find_cons s t 2 (1 ∷ []) (at 2 (omega arith) (omega arith))
     (find_cons s t 1 [] (at 1 (omega arith) (omega arith)) refl))))))
 
-by_lines : (kind : ArbiterKind) (low high : ℕ → Bool) (last : ℕ) → low 0 ≡ high 0 → low 1 ≡ high 1 → low 2 ≡ high 2 → low 3 ≡ high 3 → pick kind low last ≡ pick kind high last
-by_lines Sgl low high last a b c d = cc
-by_lines Pri low high last a b c d = cc
-by_lines Rrs low high last a b c d = cc
-
 -- what a policy picks by the pins is what it picks by the lines
 pub pick_of_pins : (kind : ArbiterKind) (low : ℕ → Bool) (last : ℕ) → pick kind (has_bus_level (bus_levels low)) last ≡ pick kind low last
 pick_of_pins kind low last =
-    by_lines kind (has_bus_level (bus_levels low)) low last (has_bus low 0 (omega arith)) (has_bus low 1 (omega arith)) (has_bus low 2 (omega arith)) (has_bus low 3 (omega arith))
+    pick_by_lines kind (has_bus_level (bus_levels low)) low last (has_bus low 0 (omega arith)) (has_bus low 1 (omega arith)) (has_bus low 2 (omega arith)) (has_bus low 3 (omega arith))

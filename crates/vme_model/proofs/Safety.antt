@@ -9,7 +9,7 @@ use Rattle.vme_model.specs.GrantSafety.{OneTravels, NoneTravelsWhileBusy, OneHol
 use Rattle.vme_model.specs.CycleSafety.{OneAddresses, KeepsItsAddress, OneAnswers, AnswersRightfully, AnswersOnce, ReleasesAnswered}
 use Rattle.vme_model.specs.Safe.{OnEachPrefix, AtEachEdge, IsSafe, IsOrderly}
 use Rattle.vme_model.proofs.Ranges.{IsInRange, in_range}
-use Rattle.vme_model.proofs.Passed.{Passed, all_passed}
+use Rattle.vme_model.proofs.AllowedEdges.{Passed, all_passed}
 use Rattle.vme_model.proofs.Grants.{Now, now_of}
 use Rattle.vme_model.proofs.GrantClaims.{one_travels, none_while_busy, one_holder, one_chain_low_of, no_gap, begins_at_controller, none_lost, travels_or_ends, takes_rightfully, releases_after_grants}
 use Rattle.vme_model.proofs.Cycles.{Going, going_of}

@@ -19,7 +19,7 @@ use Rattle.vme_model.proofs.Bools.{and_left, and_right, not_true}
 use Rattle.vme_model.proofs.Ranges.{IsInRange, in_range}
 use Rattle.vme_model.proofs.Members.{on}
 use Rattle.vme_model.proofs.GrantPhases.{clear_before}
-use Rattle.vme_model.proofs.Passed.{all_passed, checked}
+use Rattle.vme_model.proofs.AllowedEdges.{all_passed, checked}
 use Rattle.vme_model.proofs.Grants.{Now, grant_wires, now_of, all_free, grants_high}
 
 all_high : (f : ℕ → Bool) → ((s : ℕ) → f s ≡ false) → (rows : List Row) → list_all (λ r. not (f r.slot)) rows ≡ true

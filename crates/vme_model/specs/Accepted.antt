@@ -1,5 +1,6 @@
--- Which plans are accepted: the first fault, in the order of the tests. (Profile, but for P1: chapter 3, the arbiter stands in
--- slot 1; P2: chapter 7; P4: chapters 3 and 4; P5: chapter 3, SGL serves level 3 alone; and P6: chapter 4.)
+-- Which plans are accepted: the first fault, in the order of the tests. (Profile, but for P1:
+-- chapter 3, the arbiter stands in slot 1; P2: chapter 7; P4: chapters 3 and 4; P5: chapter 3, SGL
+-- serves level 3 alone; and P6: chapter 4.)
 use Rattle.std.specs.Prelude.{◌≡◌, ◌==◌, ◌&&◌, not, ℕ, Bool, true, false, Option, Some, None, List, [], ◌∷◌, ◌++◌, length, map, filter, find, nat_lt, nat_le, is_none, option_map}
 use Rattle.std.specs.List.{list_any}
 use Rattle.std.specs.Option.{option_map_or}
@@ -73,11 +74,13 @@ no_controller p = when (is_none (board p 1)) error.NoController
 
 -- how many rows and jumpers name a slot
 abbrev pub namings : Plan → ℕ → ℕ
-namings p s = length (filter (λ t. t == s) (map (λ r. r.slot) p.rows ++ map (λ j. j.slot) p.jumpers))
+namings p s =
+    length (filter (λ t. t == s) (map (λ r. r.slot) p.rows ++ map (λ j. j.slot) p.jumpers))
 
 -- P3 (profile)
 abbrev pub slot_twice : Plan → Option PlanError
-slot_twice p = option_map (λ s. error.SlotTwice s) (find (λ s. nat_lt 1 (namings p s)) (up_to p.slots))
+slot_twice p =
+    option_map (λ s. error.SlotTwice s) (find (λ s. nat_lt 1 (namings p s)) (up_to p.slots))
 
 -- the five daisy chains (chapters 3 and 4)
 abbrev pub chains : List ChainId
@@ -89,11 +92,15 @@ is_joined p s c = list_any (λ j. j.slot == s && has_chain j.chains c) p.jumpers
 
 -- an empty slot that does not join a chain which a higher slot works
 abbrev pub is_broken : Plan → ℕ → ChainId → Bool
-is_broken p s c = is_none (board p s) && not (is_joined p s c) && list_any (λ r. nat_lt s r.slot && works c r) p.rows
+is_broken p s c =
+    is_none (board p s) && not (is_joined p s c)
+    && list_any (λ r. nat_lt s r.slot && works c r) p.rows
 
 -- P4: the least slot, then the least chain; an empty slot joins input to output (chapters 3 and 4)
 abbrev pub chain_broken : Plan → Option PlanError
-chain_broken p = first_of (map (λ s. option_map (λ c. error.ChainBroken s c) (find (is_broken p s) chains)) (up_to p.slots))
+chain_broken p =
+    first_of (map (λ s. option_map (λ c. error.ChainBroken s c) (find (is_broken p s) chains))
+    (up_to p.slots))
 
 -- a single level arbiter (chapter 3)
 abbrev pub is_sgl : ArbiterKind → Bool
@@ -103,7 +110,8 @@ is_sgl _ = false
 -- P5: an SGL arbiter serves level 3 alone (chapter 3)
 abbrev pub level_not_served : Plan → Option PlanError
 level_not_served p = option_map (λ r. error.LevelNotServed r.slot)
-    (find (λ r. is_sgl p.arbiter && option_map_or (λ q. not (q.level == 3)) r.requester false) p.rows)
+    (find (λ r. is_sgl p.arbiter && option_map_or (λ q. not (q.level == 3)) r.requester false)
+    p.rows)
 
 -- the levels of IRQ1* to IRQ7* (chapter 4)
 abbrev pub irq_numbers : List ℕ

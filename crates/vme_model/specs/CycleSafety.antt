@@ -1,4 +1,5 @@
--- What is safe about the address lines and the answers. (The claims are this project's own; the words are those of chapters 2 and 4.)
+-- What is safe about the address lines and the answers. (The claims are this project's own; the
+-- words are those of chapters 2 and 4.)
 use Rattle.std.specs.Prelude.{◌≡◌, ◌≤◌, ◌+◌, ◌&&◌, ◌||◌, ℕ, Bool, true, false, not, if◌then◌else◌, Option, Some, None, List, [], ◌∷◌, map}
 use Rattle.std.specs.List.{Contains}
 use Rattle.std.specs.Option.{option_map_or, option_and_then}
@@ -27,7 +28,8 @@ OneAddresses h = (s t : ℕ) → Addresses h s → Addresses h t → s ≡ t
 
 -- and if it does not hold the bus, its AS* is low
 abbrev pub KeepsItsAddress : List Edge → Type 0
-KeepsItsAddress h = (s : ℕ) → Addresses h s → drive h (Slot s) Bbsy ≡ false → drive h (Slot s) AddressStrobe ≡ true
+KeepsItsAddress h =
+    (s : ℕ) → Addresses h s → drive h (Slot s) Bbsy ≡ false → drive h (Slot s) AddressStrobe ≡ true
 
 -- a driver ends the cycle: a slot by its DTACK*, the controller by BERR*
 abbrev pub Answers : List Edge → Driver → Type 0
@@ -71,29 +73,33 @@ abbrev pub is_pending_at : Plan → List Edge → Driver → Option Cycle → Bo
 is_pending_at p h d (Some (Acknowledge level)) = is_pending (readings p h d) level
 is_pending_at p h d _ = false
 
--- who passed the acknowledge on since it began, the newest first, each with what was shown just before, and whether it
--- was pending at that
+-- who passed the acknowledge on since it began, the newest first, each with what was shown just
+-- before, and whether it was pending at that
 abbrev pub acknowledge_passes : Plan → List Edge → List (Driver × Option Cycle × Bool)
 acknowledge_passes p [] = []
 acknowledge_passes p (e ∷ h) =
     if begins_acknowledge e then []
-    else (if passes_acknowledge e then (e.driver, shown p h, is_pending_at p h e.driver (shown p h)) ∷ acknowledge_passes p h
+    else (if passes_acknowledge e
+    then (e.driver, shown p h, is_pending_at p h e.driver (shown p h)) ∷ acknowledge_passes p h
     else acknowledge_passes p h)
 
--- Slot k may answer an acknowledge of the level after a history: the chain last began with that acknowledge, and none was
--- answered since; those who passed it on are the slots of the chain below k, once each, in ascending order, while it was
--- shown and with no request at its level; and k is pending at it. (That nobody at or above k passed it on is part of it.)
+-- Slot k may answer an acknowledge of the level after a history: the chain last began with that
+-- acknowledge, and none was answered since; those who passed it on are the slots of the chain below
+-- k, once each, in ascending order, while it was shown and with no request at its level; and k is
+-- pending at it. (That nobody at or above k passed it on is part of it.)
 pub record IsRightfulAnswer (p : Plan) (h : List Edge) (k level : ℕ) : Type 0 where
   pub member : Contains (active p chain.Iack) k
   pub began : last_acknowledged p h ≡ Some (Acknowledge level)
   pub unanswered : was_acknowledged p h ≡ false
-  pub passed : acknowledge_passes p h ≡ map (λ t. (Slot t, Some (Acknowledge level), false)) (slots_below p chain.Iack k)
+  pub passed : acknowledge_passes p h ≡
+      map (λ t. (Slot t, Some (Acknowledge level), false)) (slots_below p chain.Iack k)
   pub requests : pending p h k level ≡ true
 
 -- an edge by which a slot answers an acknowledge is a rightful answer
 abbrev pub AnswersRightfully : Plan → List Edge → Edge → Type 0
 AnswersRightfully p h e =
-    (k level : ℕ) → answers k e ≡ true → shown p h ≡ Some (Acknowledge level) → IsRightfulAnswer p h k level
+    (k level : ℕ) → answers k e ≡ true → shown p h ≡ Some (Acknowledge level)
+    → IsRightfulAnswer p h k level
 
 -- it lets its request go because of the acknowledge (chapter 4)
 abbrev pub is_roak : IrqKind → Bool
@@ -102,7 +108,8 @@ is_roak Rora = false
 
 -- the slot's interrupter lets its request go because of the acknowledge
 abbrev pub has_roak : Plan → ℕ → Bool
-has_roak p s = option_map_or (λ i. is_roak i.kind) (option_and_then (λ r. r.interrupter) (board p s)) false
+has_roak p s =
+    option_map_or (λ i. is_roak i.kind) (option_and_then (λ r. r.interrupter) (board p s)) false
 
 -- how often the slot answered while an acknowledge was shown, since its last `irq-`
 abbrev pub answers_since_request : Plan → List Edge → ℕ → ℕ
@@ -117,4 +124,5 @@ AnswersOnce p h = (s : ℕ) → has_roak p s ≡ true → answers_since_request 
 
 -- and exactly once before it lets go of it
 abbrev pub ReleasesAnswered : Plan → List Edge → Edge → Type 0
-ReleasesAnswered p h e = (k : ℕ) → releases_request k e ≡ true → has_roak p k ≡ true → answers_since_request p h k ≡ 1
+ReleasesAnswered p h e =
+    (k : ℕ) → releases_request k e ≡ true → has_roak p k ≡ true → answers_since_request p h k ≡ 1

@@ -15,13 +15,16 @@ use Rattle.vme_model.specs.Verdict.{State, Judgement, verdict}
 -- what an answer delivers, by what is shown, the slot that shows it, and the board that answers
 abbrev pub delivered_by : Option Cycle → Option ℕ → Option Row → Option Delivery
 delivered_by (Some (Acknowledge v)) (Some to) (Some row) =
-    option_map (λ i. record { handler = to; level = v; answered_by = row.slot; status = i.status }) row.interrupter
+    option_map (λ i. record { handler = to; level = v; answered_by = row.slot; status = i.status })
+    row.interrupter
 delivered_by _ _ _ = None
 
 -- what an edge delivers: a `dtack-` while an acknowledge is shown, the board's status byte
 abbrev pub delivery : Plan → List Edge → Edge → Option Delivery
 delivery p h e =
-    if e.fall && is_same_wire e.wire Dtack then delivered_by (shown p h) (addressing p h) (board_of p e.driver) else None
+    if e.fall && is_same_wire e.wire Dtack
+    then delivered_by (shown p h) (addressing p h) (board_of p e.driver)
+    else None
 
 -- a list with one more delivery, where there is one
 abbrev pub followed_by : List Delivery → Option Delivery → List Delivery

@@ -1,4 +1,5 @@
--- What is safe about the grants and the bus. (The claims are this project's own; the words for wires and chains are those of chapter 3.)
+-- What is safe about the grants and the bus. (The claims are this project's own; the words for
+-- wires and chains are those of chapter 3.)
 use Rattle.std.specs.Prelude.{◌≡◌, ◌≤◌, ◌<◌, ◌&&◌, ◌||◌, ◌⊎◌, ℕ, Bool, true, false, not, if◌then◌else◌, Option, Some, None, List, [], ◌∷◌, nat_lt, filter, reverse, map}
 use Rattle.std.specs.List.{Contains}
 use Rattle.std.specs.Option.{option_map_or}
@@ -63,20 +64,22 @@ abbrev pub was_taken : List Edge → Bool
 was_taken [] = false
 was_taken (e ∷ h) = if is_grant e then false else (is_fall_on Bbsy e || was_taken h)
 
--- who passed a grant on since the last one was made, the newest first, each with its own `br` just before
+-- who passed a grant on since the last one was made, the newest first, each with its own `br` just
+-- before
 abbrev pub grant_passes : List Edge → List (Driver × Bool)
 grant_passes [] = []
 grant_passes (e ∷ h) =
     if is_grant e then []
-    else (if passes_grant e then (e.driver, drive h e.driver Br) ∷ grant_passes h else grant_passes h)
+    else (if passes_grant e then (e.driver, drive h e.driver Br) ∷ grant_passes h
+    else grant_passes h)
 
 -- the slots of a chain below slot k, the greatest first
 abbrev pub slots_below : Plan → ChainId → ℕ → List ℕ
 slots_below p c k = reverse (filter (λ t. nat_lt t k) (active p c))
 
--- Slot k may take the bus after a history: the last grant is of its level and nobody took it; those who passed it on
--- are the slots of the chain below k, once each, in ascending order, with no request of their own; and k requests.
--- (That nobody at or above k passed it on is part of it.)
+-- Slot k may take the bus after a history: the last grant is of its level and nobody took it; those
+-- who passed it on are the slots of the chain below k, once each, in ascending order, with no
+-- request of their own; and k requests. (That nobody at or above k passed it on is part of it.)
 pub record IsRightfulTake (p : Plan) (h : List Edge) (k : ℕ) : Type 0 where
   pub level : ℕ
   pub in_range : level < 4
@@ -114,13 +117,15 @@ OneChainLow p h = (m n : ℕ) (a b : Option ℕ) → IsLow p h m a → IsLow p h
 -- and no high one stands between two of them
 abbrev pub NoGap : Plan → List Edge → Type 0
 NoGap p h =
-    (n : ℕ) (a b c : Option ℕ) → IsBefore a b → IsBefore b c → IsSegment p n b → IsLow p h n a → IsLow p h n c → IsLow p h n b
+    (n : ℕ) (a b c : Option ℕ) → IsBefore a b → IsBefore b c → IsSegment p n b
+    → IsLow p h n a → IsLow p h n c → IsLow p h n b
 
 -- the last segment of the chain of level n is low
 abbrev pub IsEndLow : Plan → List Edge → ℕ → Type 0
 IsEndLow p h n = is_past_end p h (grant_chain n) ≡ true
 
--- while BBSY* is high, they begin with the controller's segment; in the second version they may end with the last one instead
+-- while BBSY* is high, they begin with the controller's segment; in the second version they may end
+-- with the last one instead
 abbrev pub BeginsAtController : Version → Plan → List Edge → Type 0
 BeginsAtController version p h =
     (n : ℕ) (a : Option ℕ) → line p h Bbsy ≡ false → IsLow p h n a
@@ -142,7 +147,8 @@ abbrev pub was_withdrawn : Plan → List Edge → ℕ → Bool
 was_withdrawn p [] n = false
 was_withdrawn p (e ∷ h) n = if is_grant e then false else (withdraws p h n e || was_withdrawn p h n)
 
--- a grant of level n travels to a board that waits for it: it stands at slot s, and `br` is low at s or a slot above it
+-- a grant of level n travels to a board that waits for it: it stands at slot s, and `br` is low at
+-- s or a slot above it
 pub record IsAwaited (p : Plan) (h : List Edge) (n : ℕ) : Type 0 where
   pub slot : ℕ
   pub waiter : ℕ
@@ -151,8 +157,9 @@ pub record IsAwaited (p : Plan) (h : List Edge) (n : ℕ) : Type 0 where
   pub member : Contains (active p (grant_chain n)) waiter
   pub waits : drive h (Slot waiter) Br ≡ true
 
--- No grant is lost: while a controller's grant is low and BBSY* is high, it travels to a board that waits for it; in the
--- second version a board of the chain may have withdrawn its request instead. (That one grant alone travels is OneTravels.)
+-- No grant is lost: while a controller's grant is low and BBSY* is high, it travels to a board that
+-- waits for it; in the second version a board of the chain may have withdrawn its request instead.
+-- (That one grant alone travels is OneTravels.)
 abbrev pub NoneLost : Version → Plan → List Edge → Type 0
 NoneLost version p h =
     (n : ℕ) → line p h Bbsy ≡ false → IsLow p h n None
@@ -160,4 +167,6 @@ NoneLost version p h =
 
 -- in every case it still travels, or has passed the last board of its chain
 abbrev pub TravelsOrEnds : Plan → List Edge → Type 0
-TravelsOrEnds p h = (n : ℕ) → line p h Bbsy ≡ false → IsLow p h n None → ((s : ℕ) × Travels p h n s) ⊎ IsEndLow p h n
+TravelsOrEnds p h =
+    (n : ℕ) → line p h Bbsy ≡ false → IsLow p h n None
+    → ((s : ℕ) × Travels p h n s) ⊎ IsEndLow p h n

@@ -4,7 +4,8 @@ use Rattle.vme_model.specs.declared.conditions.Condition.{Condition}
 use Rattle.vme_model.specs.declared.conditions.Condition.TheVariants as condition
 
 infixl 30 ◌⊓◌
--- a guard: none, a condition by its name and whether it holds, two guards at once, or one that does not bind where a test holds
+-- a guard: none, a condition by its name and whether it holds, two guards at once, or one that does
+-- not bind where a test holds
 pub data Guard : Type 0 where
   free : Guard
   asks : Condition → Bool → Guard

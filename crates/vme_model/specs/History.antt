@@ -1,6 +1,7 @@
--- What a list of edges says of the wires, by looking back through it. (The lines and chains are those of chapters 2 to 4; that
--- wires have a state between edges, and no times, is this project's profile.)
--- A history has its newest edge first, so `e ∷ h` is h with e made after it; `in_order h` is the order of time.
+-- What a list of edges says of the wires, by looking back through it. (The lines and chains are
+-- those of chapters 2 to 4; that wires have a state between edges, and no times, is this project's
+-- profile.) A history has its newest edge first, so `e ∷ h` is h with e made after it; `in_order h`
+-- is the order of time.
 use Rattle.std.specs.Prelude.{◌&&◌, ◌||◌, ◌+◌, ℕ, Bool, true, false, if◌then◌else◌, Option, Some, None, List, [], ◌∷◌, find, reverse}
 use Rattle.std.specs.List.{list_any}
 use Rattle.std.specs.Option.{option_and_then}
@@ -22,7 +23,8 @@ use Rattle.vme_model.specs.Plan.{Plan, upstream, last_active, up_to, requests_on
 abbrev pub in_order : List Edge → List Edge
 in_order h = reverse h
 
--- low, or for the address group on: the driver's last edge on the wire is a fall; at power-up all are high or off (profile)
+-- low, or for the address group on: the driver's last edge on the wire is a fall; at power-up all
+-- are high or off (profile)
 abbrev pub drive : List Edge → Driver → Wire → Bool
 drive [] d w = false
 drive (e ∷ h) d w = if is_edge_of d w e then e.fall else drive h d w
@@ -49,12 +51,14 @@ pulls_interrupt h n r = interrupts_on n r && drive h (Slot r.slot) Irq
 abbrev pub interrupt_line : Plan → List Edge → ℕ → Bool
 interrupt_line p h n = list_any (pulls_interrupt h n) p.rows
 
--- a segment of a daisy chain: what the controller drives at its head, or an active slot at its output (chapters 3 and 4)
+-- a segment of a daisy chain: what the controller drives at its head, or an active slot at its
+-- output (chapters 3 and 4)
 abbrev pub segment : List Edge → ChainId → Option ℕ → Bool
 segment h c None = drive h Controller (head_wire c)
 segment h c (Some s) = drive h (Slot s) (out_wire c)
 
--- a slot's input: the segment of the greatest active slot below it, or the controller's (chapters 3 and 4)
+-- a slot's input: the segment of the greatest active slot below it, or the controller's (chapters 3
+-- and 4)
 abbrev pub input : Plan → List Edge → ChainId → ℕ → Bool
 input p h c s = segment h c (upstream p c s)
 
@@ -75,8 +79,8 @@ addressing p h = find (λ s. drive h (Slot s) Addr) (up_to p.slots)
 abbrev pub shown : Plan → List Edge → Option Cycle
 shown p h = option_and_then (λ s. last_value h (Slot s)) (addressing p h)
 
--- an answer while this is shown serves an interrupter of the kind: ROAK an acknowledge, RORA an access (chapter 4). (`serves` of
--- Rules speaks of arbiters instead.)
+-- an answer while this is shown serves an interrupter of the kind: ROAK an acknowledge, RORA an
+-- access (chapter 4). (`serves` of Rules speaks of arbiters instead.)
 abbrev pub serves : IrqKind → Option Cycle → Bool
 serves Roak (Some (Acknowledge level)) = true
 serves Rora (Some (Access s)) = true

@@ -10,7 +10,8 @@ use Rattle.vme_model.specs.Plan.{Plan}
 use Rattle.vme_model.specs.Views.{view}
 use Rattle.vme_model.specs.Verdict.{verdict_but_full}
 
--- a settling rule looks at other boards before such an edge: `as-` and `berr-`, and in the second version the grants
+-- a settling rule looks at other boards before such an edge: `as-` and `berr-`, and in the second
+-- version the grants
 abbrev pub is_settled_by_others : Version → Wire → Bool → Bool
 is_settled_by_others version AddressStrobe true = true
 is_settled_by_others version Berr true = true
@@ -21,7 +22,8 @@ is_settled_by_others version _ _ = false
 abbrev pub AreWellFormed : List Edge → Type 0
 AreWellFormed h = list_all is_well_formed h ≡ true
 
--- but for those edges and a full trace, the verdict is the same after two histories of which the driver saw the same
+-- but for those edges and a full trace, the verdict is the same after two histories of which the
+-- driver saw the same
 abbrev pub IsLocal : Version → Plan → List Edge → List Edge → Edge → Type 0
 IsLocal version p h k e =
     is_settled_by_others version e.wire e.fall ≡ false → view p h e.driver ≡ view p k e.driver

@@ -31,18 +31,23 @@ wanted p h r = find (λ v. has_level r.handler v && interrupt_line p h v) irq_de
 -- the next slot with a board: the least above s, else the least of all
 abbrev pub next_board : Plan → ℕ → Option ℕ
 next_board p s =
-    option_or (find (λ t. nat_lt s t && is_some (board p t)) (up_to p.slots)) (find (λ t. is_some (board p t)) (up_to p.slots))
+    option_or (find (λ t. nat_lt s t && is_some (board p t)) (up_to p.slots))
+    (find (λ t. is_some (board p t)) (up_to p.slots))
 
 -- what a board considers to show
 abbrev pub cycles_of : Plan → List Edge → Row → List Cycle
 cycles_of p h r =
-    option_to_list (option_map (λ v. Acknowledge v) (wanted p h r)) ++ option_to_list (option_map (λ t. Access t) (next_board p r.slot))
+    option_to_list (option_map (λ v. Acknowledge v) (wanted p h r))
+    ++ option_to_list (option_map (λ t. Access t) (next_board p r.slot))
 
 -- the address group going on
 abbrev pub going_on : Plan → List Edge → Driver → List Edge
 going_on p h Controller = []
 going_on p h (Slot s) =
-    option_map_or (λ r. map (λ c. record { driver = Slot s; wire = Addr; fall = true; value = Some c }) (cycles_of p h r)) (board p s) []
+    option_map_or
+    (λ r. map (λ c. record { driver = Slot s; wire = Addr; fall = true; value = Some c })
+    (cycles_of p h r))
+    (board p s) []
 
 -- an edge without a value, to the wire's other state
 abbrev pub turned : List Edge → Driver → Wire → Edge
@@ -68,7 +73,8 @@ abbrev pub turns : ℕ → ℕ → State → List Driver → State
 turns r n b [] = b
 turns r n b (d ∷ ds) = turns r n (turn r n b d) ds
 
--- rounds from the r-th on, until one makes no edge; each other one makes at least one, so n of them are enough
+-- rounds from the r-th on, until one makes no edge; each other one makes at least one, so n of them
+-- are enough
 abbrev pub rounds_from : ℕ → ℕ → ℕ → State → State
 rounds_from zero r n b = b
 rounds_from (suc more) r n b =

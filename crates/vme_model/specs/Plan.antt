@@ -1,5 +1,6 @@
--- The boards of a backplane, and the slots that work each daisy chain. (The chains are those of chapters 3 and 4; which parts a
--- board can have, and that joined pins are one wire, is this project's profile.)
+-- The boards of a backplane, and the slots that work each daisy chain. (The chains are those of
+-- chapters 3 and 4; which parts a board can have, and that joined pins are one wire, is this
+-- project's profile.)
 use Rattle.std.specs.Prelude.{◌==◌, ◌++◌, if◌then◌else◌, ℕ, zero, suc, Bool, true, false, Option, None, List, [], ◌∷◌, nat_lt, is_some, filter, map, reverse, find}
 use Rattle.std.specs.Option.{option_map_or}
 use Rattle.vme_model.specs.declared.boards.Row.{Row}
@@ -41,7 +42,8 @@ requests_on level r = option_map_or (λ q. q.level == level) r.requester false
 abbrev pub interrupts_on : ℕ → Row → Bool
 interrupts_on level r = option_map_or (λ i. i.level == level) r.interrupter false
 
--- the board works the chain: it does not join input and output, but passes it on by an edge (chapters 3 and 4)
+-- the board works the chain: it does not join input and output, but passes it on by an edge
+-- (chapters 3 and 4)
 abbrev pub works : ChainId → Row → Bool
 works chain.Bg0 r = requests_on 0 r
 works chain.Bg1 r = requests_on 1 r
@@ -72,7 +74,9 @@ last_active p c = find (λ s. true) (reverse (active p c))
 
 -- the chain of a grant level
 abbrev pub grant_chain : ℕ → ChainId
-grant_chain level = if level == 0 then chain.Bg0 else (if level == 1 then chain.Bg1 else (if level == 2 then chain.Bg2 else chain.Bg3))
+grant_chain level =
+    if level == 0 then chain.Bg0
+    else (if level == 1 then chain.Bg1 else (if level == 2 then chain.Bg2 else chain.Bg3))
 
 -- the controller's wire at the head of a chain (chapters 3 and 4)
 abbrev pub head_wire : ChainId → Wire

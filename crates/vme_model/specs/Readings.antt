@@ -1,4 +1,5 @@
--- What a rule may read just before an edge. (Profile: each rule reads the wires as they are before its edge.)
+-- What a rule may read just before an edge. (Profile: each rule reads the wires as they are before
+-- its edge.)
 use Rattle.std.specs.Prelude.{◌==◌, ◌&&◌, ℕ, Bool, false, not, Option, None, List, is_some}
 use Rattle.std.specs.Option.{option_map_or, option_and_then}
 use Rattle.vme_model.specs.declared.boards.Row.{Row}
@@ -16,7 +17,8 @@ use Rattle.vme_model.specs.Sets.{has_bus_level, has_level}
 use Rattle.vme_model.specs.Plan.{Plan, board_of, grant_chain}
 use Rattle.vme_model.specs.History.{drive, line, request_line, interrupt_line, input, shown, served_since_request, last_level, cycles, has_strobed}
 
--- the acting driver's own wires and edges, its board, and the lines; true means low, and for the address group on
+-- the acting driver's own wires and edges, its board, and the lines; true means low, and for the
+-- address group on
 pub record Readings : Type 0 where
   pub own : Wire → Bool
   -- BR0* to BR3*, and IRQ1* to IRQ7*
@@ -40,7 +42,8 @@ pub record Readings : Type 0 where
   pub arbiter : ArbiterKind
   pub board : Option Row
 
--- what the pins alone say of it: no wire of the driver's own is low, it made no edge, it has no board, and the arbiter is SGL
+-- what the pins alone say of it: no wire of the driver's own is low, it made no edge, it has no
+-- board, and the arbiter is SGL
 abbrev pub readings_of_pins : Pins → Readings
 readings_of_pins pins = record {
   own = λ w. false;
@@ -64,15 +67,21 @@ readings_of_pins pins = record {
 
 -- the input of the board's own grant chain, for a board with a requester (chapter 3)
 abbrev pub grant_in : Plan → List Edge → Driver → Bool
-grant_in p h d = option_map_or (λ r. option_map_or (λ q. input p h (grant_chain q.level) r.slot) r.requester false) (board_of p d) false
+grant_in p h d =
+    option_map_or
+    (λ r. option_map_or (λ q. input p h (grant_chain q.level) r.slot) r.requester false)
+    (board_of p d) false
 
 -- the input of the acknowledge chain, for a board with an interrupter (chapter 4)
 abbrev pub iack_in : Plan → List Edge → Driver → Bool
-iack_in p h d = option_map_or (λ r. is_some r.interrupter && input p h chain.Iack r.slot) (board_of p d) false
+iack_in p h d =
+    option_map_or (λ r. is_some r.interrupter && input p h chain.Iack r.slot) (board_of p d) false
 
 -- the board's interrupter was served since it last requested
 abbrev pub is_served : Plan → List Edge → Driver → Bool
-is_served p h d = option_map_or (λ r. option_map_or (λ i. served_since_request p h d i.kind) r.interrupter false) (board_of p d) false
+is_served p h d =
+    option_map_or (λ r. option_map_or (λ i. served_since_request p h d i.kind) r.interrupter false)
+    (board_of p d) false
 
 -- what a driver's rules read after a history
 abbrev pub readings : Plan → List Edge → Driver → Readings
@@ -96,7 +105,8 @@ readings p h d = record {
   board = board_of p d;
 }
 
--- the board's interrupter asks at the level: it has that level, its request is low, and it was not served since (chapter 4)
+-- the board's interrupter asks at the level: it has that level, its request is low, and it was not
+-- served since (chapter 4)
 abbrev pub is_pending : Readings → ℕ → Bool
 is_pending r level =
     option_map_or (λ i. i.level == level) (option_and_then (λ b. b.interrupter) r.board) false

@@ -13,8 +13,8 @@ use Rattle.vme_model.specs.Text.{Reading, TextFault, read_of}
 -- what is written of a delivery
 abbrev pub delivery_text : Delivery → List ℕ
 delivery_text d =
-    ((((((codes "ok irq " ++ decimal d.level) ++ codes " to ") ++ decimal d.handler) ++ codes " from ") ++ decimal d.answered_by)
-    ++ codes " status ") ++ decimal d.status
+    ((((((codes "ok irq " ++ decimal d.level) ++ codes " to ") ++ decimal d.handler)
+    ++ codes " from ") ++ decimal d.answered_by) ++ codes " status ") ++ decimal d.status
 
 -- what is written of an answer
 abbrev pub verdict_text : Result (Option Delivery) Refused → List ℕ
@@ -49,7 +49,8 @@ accepted_count b es = length (kept b es).history - length b.history
 
 -- the closing line, of so many edges that were accepted and refused
 abbrev pub closing_text : ℕ → ℕ → List ℕ
-closing_text accepted refused = ((codes "accepted " ++ decimal accepted) ++ codes " refused ") ++ decimal refused ++ 10 ∷ []
+closing_text accepted refused =
+    ((codes "accepted " ++ decimal accepted) ++ codes " refused ") ++ decimal refused ++ 10 ∷ []
 
 -- how many were accepted, and how many refused
 abbrev pub closing_line : State → List Edge → List ℕ
@@ -64,7 +65,8 @@ closing None b es = closing_line b es
 abbrev pub report_of : Option Version → Plan → Reading → List ℕ
 report_of None p r = []
 report_of (Some version) p r =
-    let b = at_power_up version p trace_limit in verdict_lines b 1 r.edges ++ closing r.fault b r.edges
+    let b = at_power_up version p trace_limit in
+    verdict_lines b 1 r.edges ++ closing r.fault b r.edges
 
 -- the verdicts on the trace that the bytes spell, on a plan
 abbrev pub report : Plan → List ℕ → List ℕ

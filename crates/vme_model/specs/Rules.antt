@@ -1,4 +1,5 @@
--- The rules of edges, as one table. (Chapters 2 to 4, with guards that are this project's profile: see `rule`.)
+-- The rules of edges, as one table. (Chapters 2 to 4, with guards that are this project's profile:
+-- see `rule`.)
 use Rattle.std.specs.Prelude.{◌==◌, ◌&&◌, ◌||◌, ◌+◌, ◌-◌, ◌%◌, ℕ, Bool, true, false, not, Option, Some, None, List, [], ◌∷◌, nat_lt, nat_le, find}
 use Rattle.std.specs.List.{list_any, list_all}
 use Rattle.std.specs.Option.{option_map_or, option_and_then}
@@ -26,21 +27,25 @@ bus_numbers = 0 ∷ 1 ∷ 2 ∷ 3 ∷ []
 abbrev pub is_highest : (ℕ → Bool) → ℕ → Bool
 is_highest low n = list_all (λ m. not (low m) || nat_le m n) bus_numbers
 
--- the place of a level in the round that begins below the level last granted, and wraps from 0 to 3 (chapter 3)
+-- the place of a level in the round that begins below the level last granted, and wraps from 0 to 3
+-- (chapter 3)
 abbrev pub round_place : ℕ → ℕ → ℕ
 round_place last n = (last + 3 - n) % 4
 
 -- no low line comes before it in the round
 abbrev pub is_next : (ℕ → Bool) → ℕ → ℕ → Bool
-is_next low last n = list_all (λ m. not (low m) || nat_le (round_place last n) (round_place last m)) bus_numbers
+is_next low last n =
+    list_all (λ m. not (low m) || nat_le (round_place last n) (round_place last m)) bus_numbers
 
--- the level is the policy's pick of the low lines: SGL serves level 3 alone, PRI the highest, RRS the next in the round (chapter 3)
+-- the level is the policy's pick of the low lines: SGL serves level 3 alone, PRI the highest, RRS
+-- the next in the round (chapter 3)
 abbrev pub is_pick : ArbiterKind → (ℕ → Bool) → ℕ → ℕ → Bool
 is_pick Sgl low last n = n == 3 && low 3
 is_pick Pri low last n = low n && is_highest low n
 is_pick Rrs low last n = low n && is_next low last n
 
--- the levels that a policy serves at all: SGL level 3 alone (chapter 3). (`serves` of History speaks of interrupters instead.)
+-- the levels that a policy serves at all: SGL level 3 alone (chapter 3). (`serves` of History
+-- speaks of interrupters instead.)
 abbrev pub serves : ArbiterKind → ℕ → Bool
 serves Sgl n = n == 3
 serves Pri n = true
@@ -59,22 +64,27 @@ is_pri _ = false
 abbrev pub are_grants_high : Readings → Bool
 are_grants_high r = list_all (λ n. not (r.own (Bg n))) bus_numbers
 
--- The guards, each over what it reads; a wire or a line is told by whether it is low, the address group by whether it is on.
--- Above each: whose guard it is, and why. A chapter is the standard's, whose sentence the guard renders; it speaks in times,
--- and the guard does not. What is the profile's is this project's own. G1 to G8 are the controller's.
+-- The guards, each over what it reads; a wire or a line is told by whether it is low, the address
+-- group by whether it is on. Above each: whose guard it is, and why. A chapter is the standard's,
+-- whose sentence the guard renders; it speaks in times, and the guard does not. What is the
+-- profile's is this project's own. G1 to G8 are the controller's.
 
--- G1, the pick: chapter 3; grants and BBSY* high, one grant at a time and none to a bus that has an owner: profile
+-- G1, the pick: chapter 3; grants and BBSY* high, one grant at a time and none to a bus that has an
+-- owner: profile
 abbrev pub bg_falls : Bool → Bool → Bool → Guard
-bg_falls are_high bbsy is_picked = asks GrantsHigh are_high ⊓ asks BusyHigh (not bbsy) ⊓ asks Picked is_picked
+bg_falls are_high bbsy is_picked =
+    asks GrantsHigh are_high ⊓ asks BusyHigh (not bbsy) ⊓ asks Picked is_picked
 
 -- G2, profile: a grant stands until somebody has taken it, but in version 2 it may time out
 abbrev pub bg_rises : Version → Bool → Guard
 bg_rises version bbsy = unless (is_two version) (asks BusyLow bbsy)
 
--- G3, chapter 3: the owner is asked to make room for a higher level; once the grants are high again: profile
+-- G3, chapter 3: the owner is asked to make room for a higher level; once the grants are high
+-- again: profile
 abbrev pub bclr_falls : Bool → Bool → Bool → Bool → Guard
 bclr_falls has_priority bbsy are_high is_outranked =
-    asks ArbiterIsPri has_priority ⊓ asks BusyLow bbsy ⊓ asks GrantsHigh are_high ⊓ asks HigherAsked is_outranked
+    asks ArbiterIsPri has_priority ⊓ asks BusyLow bbsy ⊓ asks GrantsHigh are_high
+    ⊓ asks HigherAsked is_outranked
 
 -- G4, profile: the wish stands as long as its reason
 abbrev pub bclr_rises : Bool → Guard
@@ -83,7 +93,8 @@ bclr_rises is_due = asks ClearNotDue (not is_due)
 -- G5, chapter 4: it starts the daisy chain of the acknowledge that is shown
 abbrev pub iack_falls : Bool → Bool → Bool → Guard
 iack_falls address_strobe data_strobe is_acknowledged =
-    asks AddressStrobeLow address_strobe ⊓ asks DataStrobeLow data_strobe ⊓ asks AcknowledgeShown is_acknowledged
+    asks AddressStrobeLow address_strobe ⊓ asks DataStrobeLow data_strobe
+    ⊓ asks AcknowledgeShown is_acknowledged
 
 -- G6, chapter 4: the chain stays low as long as the cycle
 abbrev pub iack_rises : Bool → Guard
@@ -107,25 +118,30 @@ br_rises version bbsy = unless (is_two version) (asks OwnBusyLow bbsy)
 
 -- G11, chapter 3: a board that does not want the grant hands it on
 abbrev pub bgout_falls : Bool → Bool → Bool → Guard
-bgout_falls grant_in br bbsy = asks GrantInLow grant_in ⊓ asks OwnRequestHigh (not br) ⊓ asks OwnBusyHigh (not bbsy)
+bgout_falls grant_in br bbsy =
+    asks GrantInLow grant_in ⊓ asks OwnRequestHigh (not br) ⊓ asks OwnBusyHigh (not bbsy)
 
 -- G12, profile: the chain rises from its beginning on
 abbrev pub bgout_rises : Bool → Guard
 bgout_rises grant_in = asks GrantInHigh (not grant_in)
 
--- G13, chapter 3: who asks takes the grant that reaches it; own request and own output, since what was passed on is lost: profile
+-- G13, chapter 3: who asks takes the grant that reaches it; own request and own output, since what
+-- was passed on is lost: profile
 abbrev pub bbsy_falls : Bool → Bool → Bool → Guard
-bbsy_falls grant_in bgout br = asks GrantInLow grant_in ⊓ asks OwnGrantOutHigh (not bgout) ⊓ asks OwnRequestLow br
+bbsy_falls grant_in bgout br =
+    asks GrantInLow grant_in ⊓ asks OwnGrantOutHigh (not bgout) ⊓ asks OwnRequestLow br
 
 -- RWD waits for nothing, ROR for a low BR line
 abbrev pub released : Bool → Release → Guard
 released is_asked (Done burst) = free
 released is_asked Request = asks Asked is_asked
 
--- G14, chapter 3: given up during the last transfer, and by ROR once another asks; own request and input high, so that no old grant is left: profile
+-- G14, chapter 3: given up during the last transfer, and by ROR once another asks; own request and
+-- input high, so that no old grant is left: profile
 abbrev pub bbsy_rises : Bool → Bool → Bool → Guard → Guard
 bbsy_rises br grant_in is_address_free releasing =
-    asks OwnRequestHigh (not br) ⊓ asks GrantInHigh (not grant_in) ⊓ asks AddressFree is_address_free ⊓ releasing
+    asks OwnRequestHigh (not br) ⊓ asks GrantInHigh (not grant_in)
+    ⊓ asks AddressFree is_address_free ⊓ releasing
 
 -- RWD has fewer cycles than its burst, ROR as many as it will
 abbrev pub below_burst : ℕ → Release → Guard
@@ -134,10 +150,12 @@ below_burst cycles Request = free
 
 -- an acknowledge is of a level that the board handles and whose line is low
 abbrev pub shows : (ℕ → Bool) → (ℕ → Bool) → Option Cycle → Guard
-shows handles irq (Some (Acknowledge level)) = asks Handled (handles level) ⊓ asks InterruptLow (irq level)
+shows handles irq (Some (Acknowledge level)) =
+    asks Handled (handles level) ⊓ asks InterruptLow (irq level)
 shows handles irq _ = free
 
--- G15, chapter 2: a new owner waits for the end of the last cycle; chapter 4: the level is its own; burst and a low IRQ line: profile
+-- G15, chapter 2: a new owner waits for the end of the last cycle; chapter 4: the level is its own;
+-- burst and a low IRQ line: profile
 abbrev pub addr_goes_on : Bool → Bool → Guard → Guard → Guard
 addr_goes_on bbsy address_strobe bursting showing =
     asks OwnBusyLow bbsy ⊓ asks AddressStrobeHigh (not address_strobe) ⊓ bursting ⊓ showing
@@ -149,8 +167,8 @@ as_falls addr address_strobe = asks OwnAddressOn addr ⊓ asks AddressStrobeHigh
 -- G17, chapter 2: not while the last answer is still there; one strobe a cycle: profile
 abbrev pub ds_falls : Bool → Bool → Bool → Bool → Bool → Guard
 ds_falls own_strobe addr dtack berr has_strobed =
-    asks OwnAddressStrobeLow own_strobe ⊓ asks OwnAddressOn addr ⊓ asks DtackHigh (not dtack) ⊓ asks BerrHigh (not berr)
-    ⊓ asks NotStrobed (not has_strobed)
+    asks OwnAddressStrobeLow own_strobe ⊓ asks OwnAddressOn addr ⊓ asks DtackHigh (not dtack)
+    ⊓ asks BerrHigh (not berr) ⊓ asks NotStrobed (not has_strobed)
 
 -- G18, chapter 2: the strobe stands until it is answered
 abbrev pub ds_rises : Bool → Bool → Guard
@@ -159,9 +177,11 @@ ds_rises dtack berr = asks Answered (dtack || berr)
 -- G19, profile: the address leaves once its one transfer is over
 abbrev pub addr_goes_off : Bool → Bool → Bool → Guard
 addr_goes_off own_strobe own_data_strobe has_strobed =
-    asks OwnAddressStrobeLow own_strobe ⊓ asks OwnDataStrobeHigh (not own_data_strobe) ⊓ asks Strobed has_strobed
+    asks OwnAddressStrobeLow own_strobe ⊓ asks OwnDataStrobeHigh (not own_data_strobe)
+    ⊓ asks Strobed has_strobed
 
--- G20, profile: the next owner drives the address as soon as AS* is high, so this one is gone by then
+-- G20, profile: the next owner drives the address as soon as AS* is high, so this one is gone by
+-- then
 abbrev pub as_rises : Bool → Guard
 as_rises addr = asks OwnAddressOff (not addr)
 
@@ -181,7 +201,8 @@ passes pending _ = asks AcknowledgeShown false
 -- G23, chapter 4: a board with nothing to say at this level hands the acknowledge on
 abbrev pub iackout_falls : Bool → Bool → Bool → Guard → Guard
 iackout_falls iack_in dtack data_strobe passing =
-    asks AcknowledgeInLow iack_in ⊓ asks OwnDtackHigh (not dtack) ⊓ asks DataStrobeLow data_strobe ⊓ passing
+    asks AcknowledgeInLow iack_in ⊓ asks OwnDtackHigh (not dtack) ⊓ asks DataStrobeLow data_strobe
+    ⊓ passing
 
 -- G24, chapter 4: the chain stays low as long as the cycle
 abbrev pub iackout_rises : Bool → Guard
@@ -190,11 +211,13 @@ iackout_rises address_strobe = asks AddressStrobeHigh (not address_strobe)
 -- an acknowledge that reached the board while it is pending, or an access to its slot
 abbrev pub answers : Bool → Bool → (ℕ → Bool) → (ℕ → Bool) → Option Cycle → Guard
 answers iack_in iackout pending is_own (Some (Acknowledge level)) =
-    asks AcknowledgeInLow iack_in ⊓ asks OwnAcknowledgeOutHigh (not iackout) ⊓ asks Pending (pending level)
+    asks AcknowledgeInLow iack_in ⊓ asks OwnAcknowledgeOutHigh (not iackout)
+    ⊓ asks Pending (pending level)
 answers iack_in iackout pending is_own (Some (Access s)) = asks OwnSlotShown (is_own s)
 answers iack_in iackout pending is_own None = asks CycleShown false
 
--- G25, chapter 4: the first pending board that is reached answers; chapter 2: a register answers for its slot; that each board has one: profile
+-- G25, chapter 4: the first pending board that is reached answers; chapter 2: a register answers
+-- for its slot; that each board has one: profile
 abbrev pub dtack_falls : Bool → Bool → Guard → Guard
 dtack_falls data_strobe address_strobe answering =
     asks DataStrobeLow data_strobe ⊓ asks AddressStrobeLow address_strobe ⊓ answering
@@ -208,7 +231,8 @@ dtack_rises data_strobe = asks DataStrobeHigh (not data_strobe)
 -- a PRI arbiter has the bus cleared for a request above the level last granted
 abbrev pub clear_guard : Readings → Guard
 clear_guard r =
-    bclr_falls (is_pri r.arbiter) r.bbsy (are_grants_high r) (list_any (λ m. nat_lt r.last_level m && r.request m) bus_numbers)
+    bclr_falls (is_pri r.arbiter) r.bbsy (are_grants_high r)
+    (list_any (λ m. nat_lt r.last_level m && r.request m) bus_numbers)
 
 abbrev pub is_bus_clear_due : Readings → Bool
 is_bus_clear_due r = holds (clear_guard r)
@@ -219,7 +243,8 @@ is_asked r release = holds (released (list_any r.request bus_numbers) release)
 -- the board's requester may give up the bus: without a requester, nothing is asked
 abbrev pub release_guard : Readings → Guard
 release_guard r =
-    option_map_or (λ q. released (list_any r.request bus_numbers) q.release) (option_and_then (λ b. b.requester) r.board) free
+    option_map_or (λ q. released (list_any r.request bus_numbers) q.release)
+    (option_and_then (λ b. b.requester) r.board) free
 
 abbrev pub may_release : Readings → Bool
 may_release r = holds (release_guard r)
@@ -229,14 +254,17 @@ is_below_burst cycles release = holds (below_burst cycles release)
 
 -- the board may begin one more cycle in this tenure
 abbrev pub burst_guard : Readings → Guard
-burst_guard r = option_map_or (λ q. below_burst r.cycles q.release) (option_and_then (λ b. b.requester) r.board) free
+burst_guard r =
+    option_map_or (λ q. below_burst r.cycles q.release)
+    (option_and_then (λ b. b.requester) r.board) free
 
 abbrev pub is_within_burst : Readings → Bool
 is_within_burst r = holds (burst_guard r)
 
 -- the board may show it
 abbrev pub show_guard : Readings → Option Cycle → Guard
-show_guard r v = shows (λ level. option_map_or (λ b. has_level b.handler level) r.board false) r.irq v
+show_guard r v =
+    shows (λ level. option_map_or (λ b. has_level b.handler level) r.board false) r.irq v
 
 abbrev pub may_show : Readings → Option Cycle → Bool
 may_show r v = holds (show_guard r v)
@@ -250,7 +278,9 @@ is_passed_by r v = holds (pass_guard r v)
 
 -- the board answers it
 abbrev pub answer_guard : Readings → Option Cycle → Guard
-answer_guard r v = answers r.iack_in (r.own IackOut) (is_pending r) (λ s. option_map_or (λ b. b.slot == s) r.board false) v
+answer_guard r v =
+    answers r.iack_in (r.own IackOut) (is_pending r)
+    (λ s. option_map_or (λ b. b.slot == s) r.board false) v
 
 abbrev pub may_answer : Readings → Option Cycle → Bool
 may_answer r v = holds (answer_guard r v)
@@ -258,11 +288,13 @@ may_answer r v = holds (answer_guard r v)
 -- The number of the rule that names a wire and a direction, and its guard.
 -- `true` is a fall, and for the address group going on; `v` is what it then shows.
 abbrev pub guard : Version → Readings → Wire → Bool → Option Cycle → ℕ × Guard
-guard version r (Bg n) true v = (1, bg_falls (are_grants_high r) r.bbsy (is_pick r.arbiter r.request r.last_level n))
+guard version r (Bg n) true v =
+    (1, bg_falls (are_grants_high r) r.bbsy (is_pick r.arbiter r.request r.last_level n))
 guard version r (Bg n) false v = (2, bg_rises version r.bbsy)
 guard version r Bclr true v = (3, clear_guard r)
 guard version r Bclr false v = (4, bclr_rises (is_bus_clear_due r))
-guard version r Iack true v = (5, iack_falls r.address_strobe r.data_strobe (is_acknowledge r.shown))
+guard version r Iack true v =
+    (5, iack_falls r.address_strobe r.data_strobe (is_acknowledge r.shown))
 guard version r Iack false v = (6, iack_rises r.address_strobe)
 guard version r Berr true v = (7, berr_falls r.data_strobe r.dtack)
 guard version r Berr false v = (8, berr_rises r.data_strobe)
@@ -271,18 +303,27 @@ guard version r Br false v = (10, br_rises version (r.own Bbsy))
 guard version r BgOut true v = (11, bgout_falls r.grant_in (r.own Br) (r.own Bbsy))
 guard version r BgOut false v = (12, bgout_rises r.grant_in)
 guard version r Bbsy true v = (13, bbsy_falls r.grant_in (r.own BgOut) (r.own Br))
-guard version r Bbsy false v = (14, bbsy_rises (r.own Br) r.grant_in (not (r.own Addr) || r.own AddressStrobe) (release_guard r))
-guard version r Addr true v = (15, addr_goes_on (r.own Bbsy) r.address_strobe (burst_guard r) (show_guard r v))
+guard version r Bbsy false v = (
+  14,
+  bbsy_rises (r.own Br) r.grant_in (not (r.own Addr) || r.own AddressStrobe)
+      (release_guard r),
+)
+guard version r Addr true v =
+    (15, addr_goes_on (r.own Bbsy) r.address_strobe (burst_guard r) (show_guard r v))
 guard version r AddressStrobe true v = (16, as_falls (r.own Addr) r.address_strobe)
-guard version r DataStrobe true v = (17, ds_falls (r.own AddressStrobe) (r.own Addr) r.dtack r.berr r.has_strobed)
+guard version r DataStrobe true v =
+    (17, ds_falls (r.own AddressStrobe) (r.own Addr) r.dtack r.berr r.has_strobed)
 guard version r DataStrobe false v = (18, ds_rises r.dtack r.berr)
-guard version r Addr false v = (19, addr_goes_off (r.own AddressStrobe) (r.own DataStrobe) r.has_strobed)
+guard version r Addr false v =
+    (19, addr_goes_off (r.own AddressStrobe) (r.own DataStrobe) r.has_strobed)
 guard version r AddressStrobe false v = (20, as_rises (r.own Addr))
 guard version r Irq true v = (21, irq_falls)
 guard version r Irq false v = (22, irq_rises r.served_since_request)
-guard version r IackOut true v = (23, iackout_falls r.iack_in (r.own Dtack) r.data_strobe (pass_guard r r.shown))
+guard version r IackOut true v =
+    (23, iackout_falls r.iack_in (r.own Dtack) r.data_strobe (pass_guard r r.shown))
 guard version r IackOut false v = (24, iackout_rises r.address_strobe)
-guard version r Dtack true v = (25, dtack_falls r.data_strobe r.address_strobe (answer_guard r r.shown))
+guard version r Dtack true v =
+    (25, dtack_falls r.data_strobe r.address_strobe (answer_guard r r.shown))
 guard version r Dtack false v = (26, dtack_rises r.data_strobe)
 
 -- the number of the rule that names a wire and a direction, and whether its guard holds

@@ -1,4 +1,5 @@
--- What is safe about a list of edges. (The claims are this project's own; the words are those of chapters 2 to 4.)
+-- What is safe about a list of edges. (The claims are this project's own; the words are those of
+-- chapters 2 to 4.)
 use Rattle.std.specs.Prelude.{List, [], ◌∷◌}
 use Rattle.vme_model.specs.declared.signals.Version.{Version}
 use Rattle.vme_model.specs.declared.signals.Edge.{Edge}
@@ -16,8 +17,9 @@ abbrev pub AtEachEdge : (List Edge → Edge → Type 0) → List Edge → Type 0
 AtEachEdge P [] = Unit {0}
 AtEachEdge P (e ∷ h) = P h e × AtEachEdge P h
 
--- at most one grant travels, none while the bus is busy, at most one slot holds it and at most one addresses; each take
--- and each answer is rightful; and each request of a ROAK slot is answered once
+-- at most one grant travels, none while the bus is busy, at most one slot holds it and at most one
+-- addresses; each take and each answer is rightful; and each request of a ROAK slot is answered
+-- once
 pub record IsSafe (p : Plan) (h : List Edge) : Type 0 where
   pub one_travels : OnEachPrefix (OneTravels p) h
   pub none_while_busy : OnEachPrefix (NoneTravelsWhileBusy p) h
@@ -28,7 +30,8 @@ pub record IsSafe (p : Plan) (h : List Edge) : Type 0 where
   pub once : OnEachPrefix (AnswersOnce p) h
   pub once_released : AtEachEdge (ReleasesAnswered p) h
 
--- the low grant segments are one run; no grant is lost; an address is kept until its strobe is low; no cycle has two answers
+-- the low grant segments are one run; no grant is lost; an address is kept until its strobe is low;
+-- no cycle has two answers
 pub record IsOrderly (version : Version) (p : Plan) (h : List Edge) : Type 0 where
   pub one_chain : OnEachPrefix (OneChainLow p) h
   pub no_gap : OnEachPrefix (NoGap p) h

@@ -69,4 +69,7 @@ bus_levels low = record { 0 = bit (low 0) 1 + bit (low 1) 2 + bit (low 2) 4 + bi
 
 -- the set of the interrupt levels whose lines are low
 abbrev pub irq_levels : (ℕ → Bool) → Levels
-irq_levels low = record { 0 = bit (low 1) 1 + bit (low 2) 2 + bit (low 3) 4 + bit (low 4) 8 + bit (low 5) 16 + bit (low 6) 32 + bit (low 7) 64 }
+irq_levels low = record {
+  0 = bit (low 1) 1 + bit (low 2) 2 + bit (low 3) 4 + bit (low 4) 8
+      + bit (low 5) 16 + bit (low 6) 32 + bit (low 7) 64;
+}

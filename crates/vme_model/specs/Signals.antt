@@ -1,4 +1,5 @@
--- Which drivers, wires and edges there are. (Std 1014, chapters 2 to 4; one edge as the atomic step is this project's profile.)
+-- Which drivers, wires and edges there are. (Std 1014, chapters 2 to 4; one edge as the atomic step
+-- is this project's profile.)
 use Rattle.std.specs.Prelude.{◌==◌, ◌&&◌, ℕ, Bool, true, false, Option, Some, None, nat_lt, nat_le}
 use Rattle.vme_model.specs.declared.signals.Version.{Version}
 use Rattle.vme_model.specs.declared.signals.Version.TheVariants.{One, Two}

@@ -1,5 +1,5 @@
 -- The text of a trace. (Profile.)
-use Rattle.std.specs.Prelude.{◌≡◌, ◌==◌, ◌&&◌, ◌||◌, ℕ, ◌+◌, ◌-◌, ◌*◌, ◌/◌, ◌%◌, ◌^◌, min, Bool, true, false, List, [], ◌∷◌, ◌++◌, length, map, filter, find, Option, Some, None, IsTrue, codes, nat_lt, if◌then◌else◌}
+use Rattle.std.specs.Prelude.{◌≡◌, ◌==◌, ℕ, ◌+◌, ◌-◌, ◌/◌, ◌%◌, ◌^◌, min, Bool, true, false, List, [], ◌∷◌, ◌++◌, length, map, filter, find, Option, Some, None, IsTrue, codes, nat_lt, if◌then◌else◌}
 use Rattle.std.specs.List.{flat_map}
 use Rattle.std.specs.Str.{bytes_eq}
 use Rattle.vme_model.specs.declared.signals.Version.{Version}
@@ -52,7 +52,8 @@ argument (Some (Access t)) = codes " r" ++ number t
 
 -- the spelling of an edge, without its line feed
 abbrev pub spelling : Edge → List ℕ
-spelling e = (((driver_text e.driver ++ codes " ") ++ wire_text e.wire) ++ sign e.fall) ++ argument e.value
+spelling e =
+    (((driver_text e.driver ++ codes " ") ++ wire_text e.wire) ++ sign e.fall) ++ argument e.value
 
 -- a line spells a well-formed edge
 abbrev pub Spells : List ℕ → Edge → Type 0
@@ -64,11 +65,14 @@ all_drivers = Controller ∷ map (λ s. Slot s) (up_to 21)
 
 -- every wire
 abbrev pub all_wires : List Wire
-all_wires = Bg 0 ∷ Bg 1 ∷ Bg 2 ∷ Bg 3 ∷ Bclr ∷ Iack ∷ Berr ∷ Br ∷ BgOut ∷ Bbsy ∷ Addr ∷ AddressStrobe ∷ DataStrobe ∷ Irq ∷ IackOut ∷ Dtack ∷ []
+all_wires =
+    Bg 0 ∷ Bg 1 ∷ Bg 2 ∷ Bg 3 ∷ Bclr ∷ Iack ∷ Berr ∷ Br ∷ BgOut ∷ Bbsy ∷ Addr ∷ AddressStrobe
+    ∷ DataStrobe ∷ Irq ∷ IackOut ∷ Dtack ∷ []
 
 -- every value, and none
 abbrev pub all_values : List (Option Cycle)
-all_values = None ∷ map (λ v. Some (Acknowledge v)) (up_to 7) ++ map (λ t. Some (Access t)) (up_to 21)
+all_values =
+    None ∷ map (λ v. Some (Acknowledge v)) (up_to 7) ++ map (λ t. Some (Access t)) (up_to 21)
 
 -- every well-formed edge
 unfoldable pub all_edges : List Edge
@@ -89,7 +93,9 @@ header Two = codes "vme 2"
 
 -- the version that a first line names
 abbrev pub version_of : List ℕ → Option Version
-version_of line = if bytes_eq line (header One) then Some One else (if bytes_eq line (header Two) then Some Two else None)
+version_of line =
+    if bytes_eq line (header One) then Some One
+    else (if bytes_eq line (header Two) then Some Two else None)
 
 -- a line for each of these edges
 abbrev pub edge_lines : List Edge → List ℕ
@@ -106,7 +112,8 @@ pub data TextFault : Type 0 where
   too_long : ℕ → TextFault
   cut_off : TextFault
 
--- what the bytes of a trace say: its version, once the header line stands, its edges up to the first fault, and that fault
+-- what the bytes of a trace say: its version, once the header line stands, its edges up to the
+-- first fault, and that fault
 pub record Reading : Type 0 where
   pub version : Option Version
   pub edges : List Edge
@@ -117,10 +124,12 @@ abbrev pub begin_line : ℕ → List (List ℕ) × List ℕ → List (List ℕ) 
 begin_line b ([], rest) = ([], b ∷ rest)
 begin_line b (l ∷ ls, rest) = ((b ∷ l) ∷ ls, rest)
 
--- bytes as lines: the complete ones, each without its line feed, and what stands after the last line feed
+-- bytes as lines: the complete ones, each without its line feed, and what stands after the last
+-- line feed
 unfoldable pub split_lines : List ℕ → List (List ℕ) × List ℕ
 split_lines [] = ([], [])
-split_lines (b ∷ bs) = if b == 10 then ([] ∷ (split_lines bs).0, (split_lines bs).1) else begin_line b (split_lines bs)
+split_lines (b ∷ bs) =
+    if b == 10 then ([] ∷ (split_lines bs).0, (split_lines bs).1) else begin_line b (split_lines bs)
 
 -- a line has at most 64 bytes
 abbrev pub is_too_long : List ℕ → Bool
@@ -130,13 +139,16 @@ is_too_long line = nat_lt 64 (length line)
 abbrev pub next_number : ℕ → ℕ
 next_number n = min (n + 1) (2 ^ 64 - 1)
 
--- what stands after the last line feed says at the end of the input, where lines were complete before it
+-- what stands after the last line feed says at the end of the input, where lines were complete
+-- before it
 abbrev pub end_fault : ℕ → List ℕ → Option TextFault
 end_fault n rest =
-    if is_too_long rest then Some (too_long n) else (if nat_lt 0 (length rest) then Some cut_off else None)
+    if is_too_long rest then Some (too_long n)
+    else (if nat_lt 0 (length rest) then Some cut_off else None)
 
 -- the edge of a line, if it spells one, before those of later lines
-abbrev pub before_others : ℕ → Option Edge → List Edge × Option TextFault → List Edge × Option TextFault
+abbrev pub before_others :
+    ℕ → Option Edge → List Edge × Option TextFault → List Edge × Option TextFault
 before_others n None others = ([], Some (no_edge n))
 before_others n (Some e) others = (e ∷ others.0, others.1)
 
@@ -154,14 +166,17 @@ unread fault = record { version = None; edges = []; fault = Some fault }
 -- what a trace says, by its header line and by the lines after it
 abbrev pub behind_header : Option Version → List Edge × Option TextFault → Reading
 behind_header None others = unread no_header
-behind_header (Some version) others = record { version = Some version; edges = others.0; fault = others.1 }
+behind_header (Some version) others =
+    record { version = Some version; edges = others.0; fault = others.1 }
 
 -- the n-th line is the header
 abbrev pub read_from_header : ℕ → List (List ℕ) → List ℕ → Reading
 read_from_header n [] rest =
-    if is_too_long rest then unread (too_long n) else (if nat_lt 0 (length rest) then unread cut_off else unread no_header)
+    if is_too_long rest then unread (too_long n)
+    else (if nat_lt 0 (length rest) then unread cut_off else unread no_header)
 read_from_header n (line ∷ lines) rest =
-    if is_too_long line then unread (too_long n) else behind_header (version_of line) (read_lines (next_number n) lines rest)
+    if is_too_long line then unread (too_long n)
+    else behind_header (version_of line) (read_lines (next_number n) lines rest)
 
 -- what the whole bytes say
 unfoldable pub read_of : List ℕ → Reading

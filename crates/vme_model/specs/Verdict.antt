@@ -1,4 +1,5 @@
--- The answer to an edge, legal histories, and the edges that are kept. (The order of refusals is this project's profile.)
+-- The answer to an edge, legal histories, and the edges that are kept. (The order of refusals is
+-- this project's profile.)
 use Rattle.std.specs.Prelude.{◌==◌, ◌≡◌, ◌&&◌, ◌∷◌, ℕ, Bool, true, false, not, if◌then◌else◌, Option, Result, Ok, Err, List, [], length, is_ok}
 use Rattle.vme_model.specs.declared.conditions.Condition.TheVariants.{HasDriver, OtherState, HasRoom}
 use Rattle.vme_model.specs.declared.refusals.Refused.{Refused}

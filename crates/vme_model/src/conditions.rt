@@ -16,7 +16,8 @@ pub enum Condition {
     ArbiterIsPri,
     /// A bus request above the level last granted is low.
     HigherAsked,
-    /// The arbiter has no reason to ask for the bus: one of the conditions of a falling bus clear fails.
+    /// The arbiter has no reason to ask for the bus: one of the conditions of a falling bus clear
+    /// fails.
     ClearNotDue,
     /// BBSY* is high.
     BusyHigh,
@@ -84,7 +85,8 @@ pub enum Condition {
     Strobed,
     /// The board's data strobe has not fallen in this cycle.
     NotStrobed,
-    /// The board's interrupt request was served in its own way: ROAK by an acknowledge, RORA by an access.
+    /// The board's interrupt request was served in its own way: ROAK by an acknowledge, RORA by an
+    /// access.
     Served,
     /// The board's interrupter is pending at the level that is shown.
     Pending,
@@ -92,7 +94,8 @@ pub enum Condition {
     NotPending,
     /// Every segment of the acknowledge chain is high.
     ChainHigh,
-    /// No board can answer what is shown: the acknowledge has passed the last one, or the slot is empty.
+    /// No board can answer what is shown: the acknowledge has passed the last one, or the slot is
+    /// empty.
     NobodyCanAnswer,
     /// Every board that works the grant's chain has passed the grant on.
     PassedTheLastBoard,

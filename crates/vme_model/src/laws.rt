@@ -6,30 +6,36 @@ ghost use Rattle.std.specs.List.{list_all};
 ghost use Rattle.vme_model.specs.Accepted.{IsAccepted};
 ghost use Rattle.vme_model.specs.Guards.{Guard, holds, conditions, failed};
 ghost use Rattle.vme_model.specs.Locality.{AreWellFormed, IsLocal};
+ghost use Rattle.vme_model.specs.Open.{open_edges, IsAllThatIsAllowed};
 ghost use Rattle.vme_model.specs.Plan.{Plan};
 ghost use Rattle.vme_model.specs.Readings.{Readings};
 ghost use Rattle.vme_model.specs.Rules.{failing, rule};
 ghost use Rattle.vme_model.specs.Safe.{IsOrderly, IsSafe};
 ghost use Rattle.vme_model.specs.Settling.{settling, unsettled};
-ghost use Rattle.vme_model.specs.Verdict.{IsLegal};
+ghost use Rattle.vme_model.specs.Verdict.{IsLegal, State};
 ghost use Rattle.vme_model.specs.declared.signals.Cycle.{Cycle};
+ghost use Rattle.vme_model.specs.declared.signals.Driver.{Driver};
 ghost use Rattle.vme_model.specs.declared.signals.Edge.{Edge};
 ghost use Rattle.vme_model.specs.declared.signals.Version.TheVariants.{One, Two};
 ghost use Rattle.vme_model.specs.declared.signals.Version.{Version};
 ghost use Rattle.vme_model.specs.declared.signals.Wire.{Wire};
 
-/// Every legal list is safe: after each edge at most one grant travels, none while BBSY* is low, at most one board
-/// holds the bus and at most one drives the address lines; each board took the bus and answered an acknowledge by
-/// right; and each ROAK request was answered at most once, and exactly once before it was let go.
+/// Every legal list is safe: after each edge at most one grant travels, none while BBSY* is low, at
+/// most one board holds the bus and at most one drives the address lines; each board took the bus
+/// and answered an acknowledge by right; and each ROAK request was answered at most once, and
+/// exactly once before it was let go.
 pub fn legal_list_is_safe()
-    ensures { (version : Version) (p : Plan) (h : List Edge) → IsAccepted p → IsLegal version p h → IsSafe p h }
+    ensures { (version : Version) (p : Plan) (h : List Edge) →
+        IsAccepted p → IsLegal version p h → IsSafe p h }
 {}
 
-/// Every legal list is orderly: after each edge the low grant segments are one run of one chain, that begins with the
-/// controller's while BBSY* is high; the bus is released only where none is low; no grant is lost; a board drives the
-/// address lines without the bus only while its AS* is low; and no cycle has two answers.
+/// Every legal list is orderly: after each edge the low grant segments are one run of one chain,
+/// that begins with the controller's while BBSY* is high; the bus is released only where none is
+/// low; no grant is lost; a board drives the address lines without the bus only while its AS* is
+/// low; and no cycle has two answers.
 pub fn legal_list_is_orderly()
-    ensures { (version : Version) (p : Plan) (h : List Edge) → IsAccepted p → IsLegal version p h → IsOrderly version p h }
+    ensures { (version : Version) (p : Plan) (h : List Edge) →
+        IsAccepted p → IsLegal version p h → IsOrderly version p h }
 {}
 
 /// What the first version of the rules allows, the second allows too.
@@ -37,23 +43,33 @@ pub fn first_version_is_within_second()
     ensures { (p : Plan) (h : List Edge) → IsAccepted p → IsLegal One p h → IsLegal Two p h }
 {}
 
-/// The verdict on an edge is the same after two histories of which its driver saw the same; but for a full trace, and
-/// for the edges that a settling rule binds to other boards' wires.
+/// The verdict on an edge is the same after two histories of which its driver saw the same; but for
+/// a full trace, and for the edges that a settling rule binds to other boards' wires.
 pub fn verdict_is_local()
-    ensures well_formed { (version : Version) (p : Plan) (h k : List Edge) (e : Edge) → IsAccepted p → AreWellFormed h → AreWellFormed k → IsLocal version p h k e }
-    ensures legal { (version : Version) (p : Plan) (h k : List Edge) (e : Edge) → IsAccepted p → IsLegal version p h → IsLegal version p k → IsLocal version p h k e }
+    ensures well_formed { (version : Version) (p : Plan) (h k : List Edge) (e : Edge) →
+        IsAccepted p → AreWellFormed h → AreWellFormed k → IsLocal version p h k e }
+    ensures legal { (version : Version) (p : Plan) (h k : List Edge) (e : Edge) →
+        IsAccepted p → IsLegal version p h → IsLegal version p k → IsLocal version p h k e }
 {}
 
-/// A guard holds exactly where all its conditions do, and exactly where none fails; those that fail are, in the
-/// guard's order, those of its conditions that do not hold.
+/// A guard holds exactly where all its conditions do, and exactly where none fails; those that fail
+/// are, in the guard's order, those of its conditions that do not hold.
 pub fn guard_fails_by_its_conditions()
     ensures all { (g : Guard) → holds g ≡ list_all (λ c. c.1) (conditions g) }
     ensures none { (g : Guard) → (failed g ≡ []) ↔ (holds g ≡ true) }
     ensures names { (g : Guard) → failed g ≡ map (λ c. c.0) (filter (λ c. not c.1) (conditions g)) }
 {}
 
-/// No condition of the rule that names an edge fails exactly where the rule's guard holds; and so of the settling rule.
+/// No condition of the rule that names an edge fails exactly where the rule's guard holds; and so
+/// of the settling rule.
 pub fn rule_fails_by_its_conditions()
-    ensures rule { (version : Version) (r : Readings) (w : Wire) (fall : Bool) (v : Option Cycle) → (failing version r w fall v ≡ []) ↔ ((rule version r w fall v).1 ≡ true) }
-    ensures settling { (version : Version) (p : Plan) (h : List Edge) (w : Wire) (fall : Bool) → (unsettled version p h w fall ≡ []) ↔ ((settling version p h w fall).1 ≡ true) }
+    ensures rule { (version : Version) (r : Readings) (w : Wire) (fall : Bool) (v : Option Cycle) →
+        (failing version r w fall v ≡ []) ↔ ((rule version r w fall v).1 ≡ true) }
+    ensures settling { (version : Version) (p : Plan) (h : List Edge) (w : Wire) (fall : Bool) →
+        (unsettled version p h w fall ≡ []) ↔ ((settling version p h w fall).1 ≡ true) }
+{}
+
+/// The open edges of a driver are all edges of it that would be accepted after the history, and no others.
+pub fn open_edges_are_all_that_is_allowed()
+    ensures { (b : State) (d : Driver) → IsAllThatIsAllowed b d (open_edges b d) }
 {}

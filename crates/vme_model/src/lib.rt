@@ -1,6 +1,8 @@
-//! What an edge, a board, a pin and a refusal are, and every definition that a theorem of this workspace cites.
+//! What an edge, a board, a pin and a refusal are, and every definition that a theorem of this
+//! workspace cites.
 //!
-//! The definitions stand in `specs/`, one file a subject, in the order in which `specs/Lib.antt` names them.
+//! The definitions stand in `specs/`, one file a subject, in the order in which `specs/Lib.antt`
+//! names them.
 #![tactic(auto)]
 
 mod boards;

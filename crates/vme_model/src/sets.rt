@@ -46,7 +46,8 @@ impl ChainId {
 
 /// The table of a set's flags, each under the name of its constant.
 ///
-/// `bitflag_items!` would write it, and with it operators and number formats that have no contract and that nobody calls.
+/// `bitflag_items!` would write it, and with it operators and number formats that have no contract
+/// and that nobody calls.
 macro_rules! flag_table {
     ($set:ident: $($flag:ident),*) => {
         &[$(Flag { name: stringify!($flag), value: $set::$flag }),*]
@@ -90,7 +91,8 @@ impl Flags for Levels {
 
     ghost exact = { ⊤ };
 
-    ghost table = { (codes "IRQ1", 1) ∷ (codes "IRQ2", 2) ∷ (codes "IRQ3", 4) ∷ (codes "IRQ4", 8) ∷ (codes "IRQ5", 16) ∷ (codes "IRQ6", 32) ∷ (codes "IRQ7", 64) ∷ [] };
+    ghost table = { (codes "IRQ1", 1) ∷ (codes "IRQ2", 2) ∷ (codes "IRQ3", 4) ∷ (codes "IRQ4", 8)
+        ∷ (codes "IRQ5", 16) ∷ (codes "IRQ6", 32) ∷ (codes "IRQ7", 64) ∷ [] };
 
     ghost set_of = { λ p. p.0 };
 
@@ -173,7 +175,8 @@ impl Flags for BusLevels {
 
     ghost exact = { ⊤ };
 
-    ghost table = { (codes "BR0", 1) ∷ (codes "BR1", 2) ∷ (codes "BR2", 4) ∷ (codes "BR3", 8) ∷ [] };
+    ghost table = { (codes "BR0", 1) ∷ (codes "BR1", 2)
+        ∷ (codes "BR2", 4) ∷ (codes "BR3", 8) ∷ [] };
 
     ghost set_of = { λ p. p.0 };
 
@@ -230,7 +233,8 @@ impl Flags for Chains {
 
     ghost exact = { ⊤ };
 
-    ghost table = { (codes "BG0", 1) ∷ (codes "BG1", 2) ∷ (codes "BG2", 4) ∷ (codes "BG3", 8) ∷ (codes "IACK", 16) ∷ [] };
+    ghost table = { (codes "BG0", 1) ∷ (codes "BG1", 2) ∷ (codes "BG2", 4) ∷ (codes "BG3", 8)
+        ∷ (codes "IACK", 16) ∷ [] };
 
     ghost set_of = { λ p. p.0 };
 

@@ -63,7 +63,8 @@ pub enum Cycle {
 
 /// One edge of one driver: the atomic step of a backplane.
 ///
-/// A fall is a wire going low, or the address group going on; else it is a rise, or the group going off.
+/// A fall is a wire going low, or the address group going on; else it is a rise, or the group going
+/// off.
 #[derive(Clone, Copy, PartialEq, Eq, Debug, Default)]
 pub struct Edge {
     pub driver: Driver,
@@ -182,8 +183,8 @@ impl Edge {
         self.fall && self.wire.is_grant()
     }
 
-    /// Whether the driver can have such a wire, slots and levels are in range, and a value stands exactly with a
-    /// fall of the address group.
+    /// Whether the driver can have such a wire, slots and levels are in range, and a value stands
+    /// exactly with a fall of the address group.
     #[inline(always)]
     pub fn is_well_formed(&self) -> bool
         ensures { result ≡ is_well_formed self.now }

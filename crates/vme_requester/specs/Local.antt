@@ -2,6 +2,7 @@
 use Rattle.std.specs.Prelude.{◌≡◌, ◌||◌, ℕ, Bool, true, false, not, Some, None, List}
 use Rattle.vme_model.specs.declared.boards.RequesterRow.{RequesterRow}
 use Rattle.std.specs.Option.{option_and_then}
+use Rattle.vme_model.specs.declared.conditions.Condition.{Condition}
 use Rattle.vme_model.specs.declared.pins.Pins.{Pins}
 use Rattle.vme_model.specs.declared.signals.Version.{Version}
 use Rattle.vme_model.specs.declared.signals.Driver.TheVariants.{Slot}
@@ -11,6 +12,7 @@ use Rattle.vme_model.specs.declared.signals.Edge.{Edge}
 use Rattle.vme_model.specs.Sets.{no_levels, has_bus_level}
 use Rattle.vme_model.specs.History.{drive}
 use Rattle.vme_model.specs.Readings.{Readings, readings_of_pins}
+use Rattle.vme_model.specs.Rules.{failing}
 use Rattle.vme_model.specs.Verdict.{Judgement, ruling}
 
 -- what a requester keeps: where it stands, the version of its rules, and which of its wires are low
@@ -60,8 +62,13 @@ readings s row own pins is_address_free = record (readings_of_pins pins) {
   board = Some (record { slot = s; requester = Some row; interrupter = None; handler = no_levels });
 }
 
+-- what its rules read, by the state
+abbrev pub local : State → Pins → Bool → Readings
+local r pins is_address_free = readings r.slot r.row (low r) pins is_address_free
+
 -- readings that say what a requester is told, whatever they say of all else
-pub record SayWhatIsTold (row : RequesterRow) (own : Wire → Bool) (pins : Pins) (is_address_free : Bool) (r : Readings) : Type 0 where
+pub record SayWhatIsTold (row : RequesterRow) (own : Wire → Bool) (pins : Pins)
+    (is_address_free : Bool) (r : Readings) : Type 0 where
   pub own_wires : (w : Wire) → is_own w ≡ true → r.own w ≡ own w
   pub address_free : (not (r.own Addr) || r.own AddressStrobe) ≡ is_address_free
   pub requests : (n : ℕ) → r.request n ≡ has_bus_level pins.requests n
@@ -72,3 +79,10 @@ pub record SayWhatIsTold (row : RequesterRow) (own : Wire → Bool) (pins : Pins
 abbrev pub answer_over : ℕ → RequesterRow → Version → List Edge → Pins → Bool → Edge → Judgement
 answer_over s row version noted pins is_address_free e =
     ruling version (readings s row (drive noted (Slot s)) pins is_address_free) e
+
+-- the conditions that fail of the rule that names an edge of its own, read so
+abbrev pub failing_over : ℕ → RequesterRow → Version → List Edge → Pins → Bool → Edge →
+    List Condition
+failing_over s row version noted pins is_address_free e =
+    failing version (readings s row (drive noted (Slot s)) pins is_address_free)
+    e.wire e.fall e.value

@@ -8,13 +8,17 @@ ghost use Rattle.vme_model.specs.declared.signals.Version.{Version as VersionVal
 ghost use Rattle.vme_model.specs.declared.signals.Edge.{Edge as EdgeValue};
 ghost use Rattle.vme_model.specs.Signals.{is_two};
 ghost use Rattle.vme_model.specs.Sets.{has_bus_level};
-ghost use Rattle.vme_model.specs.Guards.{holds};
-ghost use Rattle.vme_model.specs.Rules.{bus_numbers, released, rule};
-ghost use Rattle.vme_model.specs.Verdict.{check, ruling_on};
-ghost use Rattle.vme_requester.specs.Local.{state_of, is_own, low, readings, answer_over};
+ghost use Rattle.vme_model.specs.Rules.{bus_numbers, guard};
+ghost use Rattle.vme_model.specs.Verdict.{ruling_on};
+ghost use Rattle.vme_requester.specs.Local.{state_of, is_own, low, local, answer_over, failing_over};
 
+use arrayvec::ArrayVec;
 use std::marker::Model;
-use vme_model::{BusLevels, Driver, Edge, Pins, Refused, Release, RequesterRow, Version, Wire};
+use vme_model::{BusLevels, Condition, Driver, Edge, Pins, Refused, RequesterRow, Version, Wire};
+use vme_rules::requesters::{
+    bbsy_falls, bbsy_rises, bgout_falls, bgout_rises, br_falls, br_rises, released,
+};
+use vme_rules::{Outcome, allowed};
 
 /// A requester, as what its own edges left: which of its wires are low.
 #[derive(Clone, Copy, PartialEq, Eq, Debug)]
@@ -42,18 +46,6 @@ fn is_any(requests: BusLevels) -> bool
     ensures { result ≡ list_any (has_bus_level requests) bus_numbers }
 {
     [0, 1, 2, 3].iter().any(|level| requests.has(*level))
-}
-
-/// The answer to an edge that changes its wire, by the rule that names it and whether its guard holds.
-#[inline(always)]
-fn allowed(number: u8, holds: bool) -> Result<(), Refused>
-    ensures { result ≡ check holds (Refused.Rule number) (Ok tt) }
-{
-    if holds {
-        Ok(())
-    } else {
-        Err(Refused::Rule(number))
-    }
 }
 
 impl Requester {
@@ -84,23 +76,71 @@ impl Requester {
         }
     }
 
-    /// Whether it may let go now, or waits for a request.
+    /// The rule that names an edge of its bus request, and what its guard answers (G9, G10).
     #[inline(always)]
-    fn may_release(&self, requests: BusLevels) -> bool
-        ensures { result ≡ holds (released (list_any (has_bus_level requests) bus_numbers) self.now.row.release) }
+    fn request_rule<A: Outcome>(&self, fall: bool) -> (u8, A)
+        ensures number { (pins : PinsValue) (is_address_free : Bool)
+            (value : OptionValue CycleValue) →
+            result.0 ≡ (guard self.now.version
+            (local self.now pins is_address_free) Wire.Br fall value).0 }
+        ensures answer { (pins : PinsValue) (is_address_free : Bool)
+            (value : OptionValue CycleValue) →
+            A.tells result.1 (guard self.now.version
+            (local self.now pins is_address_free) Wire.Br fall value).1 }
     {
-        match self.row.release {
-            Release::Done { .. } => true,
-            Release::Request => is_any(requests),
+        if fall {
+            (9, br_falls(self.bbsy))
+        } else {
+            (10, br_rises(self.version, self.bbsy))
         }
     }
 
-    /// Whether its owner may let the bus go (G14).
+    /// The rule that names an edge of its bus grant out, and what its guard answers (G11, G12).
     #[inline(always)]
-    fn may_let_go(&self, lines: &Pins, grant_in: bool, is_address_free: bool) -> bool
-        ensures { result ≡ (rule self.now.version (readings self.now.slot self.now.row (low self.now) (record lines.now { grant_in = grant_in }) is_address_free) Wire.Bbsy false None).1 }
+    fn pass_rule<A: Outcome>(&self, fall: bool, grant_in: bool) -> (u8, A)
+        ensures number { (pins : PinsValue) (is_address_free : Bool)
+            (value : OptionValue CycleValue) →
+            result.0 ≡ (guard self.now.version
+            (local self.now pins is_address_free) Wire.BgOut fall value).0 }
+        ensures answer { (pins : PinsValue) (is_address_free : Bool)
+            (value : OptionValue CycleValue) →
+            pins.grant_in ≡ grant_in →
+            A.tells result.1 (guard self.now.version
+            (local self.now pins is_address_free) Wire.BgOut fall value).1 }
     {
-        !self.br && !grant_in && is_address_free && self.may_release(lines.requests)
+        if fall {
+            (11, bgout_falls(grant_in, self.br, self.bbsy))
+        } else {
+            (12, bgout_rises(grant_in))
+        }
+    }
+
+    /// The rule that names an edge of its bus busy, and what its guard answers (G13, G14).
+    #[inline(always)]
+    fn hold_rule<A: Outcome>(
+        &self,
+        fall: bool,
+        pins: &Pins,
+        grant_in: bool,
+        is_address_free: bool,
+    ) -> (u8, A)
+        ensures number { (value : OptionValue CycleValue) →
+            result.0 ≡ (guard self.now.version
+            (local self.now (record pins.now { grant_in = grant_in }) is_address_free)
+            Wire.Bbsy fall value).0 }
+        ensures answer { (value : OptionValue CycleValue) →
+            A.tells result.1 (guard self.now.version
+            (local self.now (record pins.now { grant_in = grant_in }) is_address_free)
+            Wire.Bbsy fall value).1 }
+    {
+        if fall {
+            return (13, bbsy_falls(grant_in, self.bgout, self.br));
+        }
+        let releasing = released(is_any(pins.requests), self.row.release);
+        (
+            14,
+            bbsy_rises(self.br, grant_in, is_address_free, releasing),
+        )
     }
 
     /// Whether the rules G9 and G10 allow an edge of its bus request.
@@ -109,13 +149,14 @@ impl Requester {
     /// As for `may`.
     #[inline(always)]
     pub fn may_request(&self, fall: bool) -> Result<(), Refused>
-        ensures { (pins : PinsValue) (is_address_free : Bool) (value : OptionValue CycleValue) → result ≡ ruling_on self.now.version (readings self.now.slot self.now.row (low self.now) pins is_address_free) Wire.Br fall value }
+        ensures { (pins : PinsValue) (is_address_free : Bool) (value : OptionValue CycleValue) →
+            result ≡ ruling_on self.now.version
+            (local self.now pins is_address_free) Wire.Br fall value }
     {
-        match (fall, self.br) {
-            (true, true) | (false, false) => Err(Refused::AlreadyThere),
-            (true, false) => allowed(9, !self.bbsy),
-            (false, true) => allowed(10, self.version.is_two() || self.bbsy),
+        if self.br == fall {
+            return Err(Refused::AlreadyThere);
         }
+        allowed(self.request_rule(fall))
     }
 
     /// Whether the rules G11 and G12 allow an edge of its bus grant out, of the input of its grant chain.
@@ -124,17 +165,19 @@ impl Requester {
     /// As for `may`.
     #[inline(always)]
     pub fn may_pass(&self, fall: bool, grant_in: bool) -> Result<(), Refused>
-        ensures { (pins : PinsValue) (is_address_free : Bool) (value : OptionValue CycleValue) → pins.grant_in ≡ grant_in → result ≡ ruling_on self.now.version (readings self.now.slot self.now.row (low self.now) pins is_address_free) Wire.BgOut fall value }
+        ensures { (pins : PinsValue) (is_address_free : Bool) (value : OptionValue CycleValue) →
+            pins.grant_in ≡ grant_in →
+            result ≡ ruling_on self.now.version
+            (local self.now pins is_address_free) Wire.BgOut fall value }
     {
-        match (fall, self.bgout) {
-            (true, true) | (false, false) => Err(Refused::AlreadyThere),
-            (true, false) => allowed(11, grant_in && !self.br && !self.bbsy),
-            (false, true) => allowed(12, !grant_in),
+        if self.bgout == fall {
+            return Err(Refused::AlreadyThere);
         }
+        allowed(self.pass_rule(fall, grant_in))
     }
 
-    /// Whether the rules G13 and G14 allow an edge of its bus busy, of the lines that it sees, the input of its
-    /// grant chain, and whether its master's address group is off or the master's address strobe low.
+    /// Whether the rules G13 and G14 allow an edge of its bus busy, of its pins, the input of its grant chain, and
+    /// whether its master's address group is off or the master's address strobe low.
     ///
     /// # Errors
     /// As for `may`.
@@ -142,17 +185,19 @@ impl Requester {
     pub fn may_hold(
         &self,
         fall: bool,
-        lines: &Pins,
+        pins: &Pins,
         grant_in: bool,
         is_address_free: bool,
     ) -> Result<(), Refused>
-        ensures { (value : OptionValue CycleValue) → result ≡ ruling_on self.now.version (readings self.now.slot self.now.row (low self.now) (record lines.now { grant_in = grant_in }) is_address_free) Wire.Bbsy fall value }
+        ensures { (value : OptionValue CycleValue) →
+            result ≡ ruling_on self.now.version
+            (local self.now (record pins.now { grant_in = grant_in }) is_address_free)
+            Wire.Bbsy fall value }
     {
-        match (fall, self.bbsy) {
-            (true, true) | (false, false) => Err(Refused::AlreadyThere),
-            (true, false) => allowed(13, grant_in && !self.bgout && self.br),
-            (false, true) => allowed(14, self.may_let_go(lines, grant_in, is_address_free)),
+        if self.bbsy == fall {
+            return Err(Refused::AlreadyThere);
         }
+        allowed(self.hold_rule(fall, pins, grant_in, is_address_free))
     }
 
     /// Whether the rules G9 to G14 allow an edge of its own wires.
@@ -163,7 +208,11 @@ impl Requester {
     /// E2 where the wire is in that state, else E3 where the rule's guard fails.
     #[inline(always)]
     pub fn may(&self, edge: Edge, pins: Pins, is_address_free: bool) -> Result<(), Refused>
-        ensures { (noted : List EdgeValue) → self.now ≡ state_of self.now.slot self.now.row self.now.version noted → is_own edge.wire ≡ true → result ≡ answer_over self.now.slot self.now.row self.now.version noted pins is_address_free edge }
+        ensures { (noted : List EdgeValue) →
+            self.now ≡ state_of self.now.slot self.now.row self.now.version noted →
+            is_own edge.wire ≡ true →
+            result ≡ answer_over self.now.slot self.now.row self.now.version noted pins
+            is_address_free edge }
     {
         match edge.wire {
             Wire::Br => self.may_request(edge.fall),
@@ -173,10 +222,32 @@ impl Requester {
         }
     }
 
+    /// The conditions that fail of the rule that names an edge of its own wires, in the order of its guard.
+    ///
+    /// It is told what `may` is.
+    pub fn failing(&self, edge: Edge, pins: Pins, is_address_free: bool) -> ArrayVec<Condition, 5>
+        ensures { (noted : List EdgeValue) →
+            self.now ≡ state_of self.now.slot self.now.row self.now.version noted →
+            is_own edge.wire ≡ true →
+            result.items ≡ failing_over self.now.slot self.now.row self.now.version noted pins
+            is_address_free edge }
+    {
+        match edge.wire {
+            Wire::Br => self.request_rule(edge.fall).1,
+            Wire::BgOut => self.pass_rule(edge.fall, pins.grant_in).1,
+            Wire::Bbsy => self
+                .hold_rule(edge.fall, &pins, pins.grant_in, is_address_free)
+                .1,
+            _ => ArrayVec::new(),
+        }
+    }
+
     /// Takes in an edge that was made; one of another driver or wire changes nothing.
     #[inline(always)]
     pub fn note(&mut self, edge: Edge)
-        ensures { (s : ℕ) (row : RowValue) (version : VersionValue) (noted : List EdgeValue) → self.old ≡ state_of s row version noted → self.new ≡ state_of s row version (edge ∷ noted) }
+        ensures { (s : ℕ) (row : RowValue) (version : VersionValue) (noted : List EdgeValue) →
+            self.old ≡ state_of s row version noted →
+            self.new ≡ state_of s row version (edge ∷ noted) }
     {
         if edge.driver.is_same(Driver::Slot(self.slot)) {
             match edge.wire {

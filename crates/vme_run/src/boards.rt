@@ -1,5 +1,5 @@
 //! Running the boards of a backplane, each in a thread of its own.
-ghost use Rattle.std.specs.Prelude.{◌≡◌, ◌≤◌, All, IfOk, MatchResult, min, vec_len};
+ghost use Rattle.std.specs.Prelude.{◌≡◌, ◌≤◌, All, IfOk, MatchResult, length, min, vec_len};
 ghost use Rattle.vme_arena.specs.Words.{region_size};
 ghost use Rattle.vme_lock.specs.Seats.{drivers_of, seats_of};
 ghost use Rattle.vme_model.specs.Accepted.{IsAccepted};
@@ -7,7 +7,7 @@ ghost use Rattle.vme_model.specs.Plan.{drivers};
 ghost use Rattle.vme_model.specs.Report.{trace_limit};
 ghost use Rattle.vme_model.specs.Verdict.{IsLegal};
 ghost use Rattle.vme_run.specs.Rooms.{IsRoomFor, rooms_bytes};
-ghost use Rattle.vme_run.specs.Running.{IsPlayed, IsNotPlayed};
+ghost use Rattle.vme_run.specs.Between.{IsClosedWith, IsClosedApart, IsPlayed, IsNotPlayed};
 
 use crate::RunFault;
 use std::alloc::{AllocError, Global};
@@ -19,7 +19,7 @@ use vme_arena::{Region, Rest};
 use vme_backplane::{Backplane, Trace};
 use vme_engines::EngineFault;
 use vme_lock::{
-    Bounds, Closed, LogMismatch, OpenGate, Rig, Room, Seats, Shared, log_bytes, run_boards,
+    Bounds, Closed, Log, LogMismatch, OpenGate, Rig, Room, Seats, Shared, log_bytes, run_boards,
 };
 
 /// The most drivers of a plan, and the parts of a ledger.
@@ -75,7 +75,9 @@ pub(crate) fn play<'r, R: Threads + Wait + Sync>(
     bounds: Bounds,
 ) -> Result<Backplane<'r>, RunFault>
     requires { bounds.edges ≤ trace_limit }
-    ensures { MatchResult result (IsPlayed bounds.turns backplane.entry) (IsNotPlayed bounds.turns backplane.entry) }
+    ensures { MatchResult result
+        (IsPlayed bounds.turns backplane.entry)
+        (IsNotPlayed bounds.turns backplane.entry) }
 {
     play_on::<Brand, R>(rt, alloc, Blank::new(DRIVERS), backplane, bounds)
 }
@@ -90,7 +92,9 @@ fn play_on<'r, L: Rig + Send + Sync, R: Threads + Wait + Sync>(
     requires blank { (blank.name ≡ L.name) × (blank.parts ≡ L.parts) × (blank.parts ≡ 22) }
     requires opened { L.opened ≡ backplane }
     requires limit { bounds.edges ≤ trace_limit }
-    ensures { MatchResult result (IsPlayed bounds.turns L.opened) (IsNotPlayed bounds.turns L.opened) }
+    ensures { MatchResult result
+        (IsPlayed bounds.turns L.opened)
+        (IsNotPlayed bounds.turns L.opened) }
 {
     backplane.laws();
     let Ok((shared, seats)) = Shared::<L>::new(alloc, blank, backplane) else {
@@ -122,12 +126,30 @@ fn play_in<'r, L: Rig + Send + Sync, R: Threads + Wait + Sync>(
     requires drivers { drivers_of seats.items ≡ drivers L.opened.plan }
     requires rooms { vec_len rooms ≡ vec_len seats }
     requires bytes { All (IsRoomFor (min bounds.turns bounds.edges)) rooms.items }
-    ensures { MatchResult result (IsPlayed bounds.turns L.opened) (IsNotPlayed bounds.turns L.opened) }
+    ensures { MatchResult result
+        (IsPlayed bounds.turns L.opened)
+        (IsNotPlayed bounds.turns L.opened) }
 {
     let Ok((seats, logs)) = run_boards(rt, alloc, &shared, seats, &OpenGate, bounds, rooms) else {
         return Err(RunFault::NotStarted);
     };
-    match shared.close(seats, logs.as_slice()) {
+    close_boards(shared, seats, logs.as_slice())
+}
+
+/// Closes a lock, with the logs that its workers handed back.
+fn close_boards<'r, L: Rig>(
+    shared: Shared<'r, L>,
+    seats: Seats<L>,
+    logs: &[Log<'_>],
+) -> Result<Backplane<'r>, RunFault>
+    requires parts { L.parts ≡ 22 }
+    requires seats { drivers_of seats.items ≡ drivers L.opened.plan }
+    requires logs { length logs.now ≡ vec_len seats }
+    ensures { MatchResult result
+        (IsClosedWith L.opened seats.items logs.now)
+        (IsClosedApart L.opened seats.items logs.now) }
+{
+    match shared.close(seats, logs) {
         Ok(Closed { backplane }) => {
             backplane.laws();
             backplane.safety();

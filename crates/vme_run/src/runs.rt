@@ -1,7 +1,8 @@
 //! A run from a scenario to a trace.
 ghost use Rattle.std.specs.Prelude.{◌≡◌, ◌≤◌, ◌+◌, ◌*◌, [], Ok, IfOk, IfErr, length, min};
 ghost use Rattle.vme_model.specs.Report.{at_power_up, trace_limit};
-ghost use Rattle.vme_run.specs.Running.{EndsRun, IsPlayed, IsRead, IsUnread, IsWritten, Runs};
+ghost use Rattle.vme_run.specs.Between.{EndsRun, IsPlayed, IsRead, IsUnread, IsWritten};
+ghost use Rattle.vme_run.specs.Running.{Runs};
 
 use crate::RunFault;
 use crate::boards::play;
@@ -28,7 +29,7 @@ fn plan_for(alloc: Global, text: &[u8]) -> Result<Plan, RunFault>
 }
 
 /// A backplane at power-up, with room for so many edges.
-fn bench_on<'r>(
+fn backplane_on<'r>(
     alloc: Global,
     rest: &mut Rest<'r>,
     plan: Plan,
@@ -49,21 +50,21 @@ fn most_edges(plan: &Plan, edges: u32, turns: u32) -> u32
 }
 
 /// Makes the edges of a closed history once more. None of them is refused.
-fn replay<'r>(closed: &Backplane<'_>, mut bench: Backplane<'r>) -> Result<Backplane<'r>, RunFault>
-    requires { bench ≡ record closed.now { history = [] } }
+fn replay<'r>(closed: &Backplane<'_>, mut second: Backplane<'r>) -> Result<Backplane<'r>, RunFault>
+    requires { second ≡ record closed.now { history = [] } }
     ensures { result ≡ Ok closed.now }
 {
     closed.laws();
     for at in 0..closed.len() {
-        if bench.step(closed.edge_at(at)).is_err() {
+        if second.step(closed.edge_at(at)).is_err() {
             return Err(RunFault::NotReplayed { at });
         }
     }
-    Ok(bench)
+    Ok(second)
 }
 
 /// Two backplanes of a scenario at power-up, the first of the plan that was read.
-fn benches_on<'r>(
+fn backplanes_on<'r>(
     alloc: Global,
     rest: &mut Rest<'r>,
     scenario: &[u8],
@@ -72,20 +73,21 @@ fn benches_on<'r>(
     version: Version,
 ) -> Result<(Backplane<'r>, Backplane<'r>), RunFault>
     requires read { IsRead scenario.now plan }
-    ensures two { IfOk result (λ two. (two.0 ≡ at_power_up version plan bounds.edges) × (two.1 ≡ at_power_up version plan bounds.edges)) }
+    ensures first { IfOk result (λ two. two.0 ≡ at_power_up version plan bounds.edges) }
+    ensures second { IfOk result (λ two. two.1 ≡ at_power_up version plan bounds.edges) }
     ensures fault { IfErr result (EndsRun scenario.now version bounds.edges bounds.turns) }
 {
-    let Ok(opened) = bench_on(alloc, rest, plan, bounds.edges, version) else {
+    let Ok(first) = backplane_on(alloc, rest, plan, bounds.edges, version) else {
         return Err(RunFault::Engine(EngineFault::NoMemory));
     };
     let again = match plan_for(alloc, scenario) {
         Ok(again) => again,
         Err(fault) => return Err(fault),
     };
-    let Ok(bench) = bench_on(alloc, rest, again, bounds.edges, version) else {
+    let Ok(second) = backplane_on(alloc, rest, again, bounds.edges, version) else {
         return Err(RunFault::Engine(EngineFault::NoMemory));
     };
-    Ok((opened, bench))
+    Ok((first, second))
 }
 
 /// What the boards of a plan made, made once more.
@@ -103,11 +105,11 @@ fn made_twice<'r, R: Threads + Wait + Sync>(
     ensures made { IfOk result (IsPlayed bounds.turns (at_power_up version plan bounds.edges)) }
     ensures fault { IfErr result (EndsRun scenario.now version bounds.edges bounds.turns) }
 {
-    match benches_on(alloc, rest, scenario, plan, bounds, version) {
+    match backplanes_on(alloc, rest, scenario, plan, bounds, version) {
         Err(fault) => Err(fault),
-        Ok((opened, bench)) => match play(rt, alloc, opened, bounds) {
+        Ok((first, second)) => match play(rt, alloc, first, bounds) {
             Err(fault) => Err(fault),
-            Ok(closed) => replay(&closed, bench),
+            Ok(closed) => replay(&closed, second),
         },
     }
 }
@@ -130,7 +132,7 @@ fn write_made<W: Write>(made: &Backplane<'_>, edges: u32, out: &mut W) -> Result
 ///
 /// Errors: F2, the faults of the scenario, F3, L3 and L4, before anything is written; X8 where the output cannot be
 /// written. L6 never comes.
-#[tactic(auto, using(crate::proofs::Following::runs_out))]
+#[tactic(auto, using(crate::proofs::WhatIsLeft::runs_out))]
 pub fn run<R: Threads + Wait + Sync, W: Write>(
     rt: &R,
     alloc: Global,
@@ -141,7 +143,8 @@ pub fn run<R: Threads + Wait + Sync, W: Write>(
     version: Version,
 ) -> Result<Status, RunFault>
     requires limits { (edges ≤ trace_limit) × (turns ≤ 1000000) }
-    ensures { Runs scenario.now version edges turns (W.contents out.old) (W.contents out.new) result }
+    ensures { Runs scenario.now version edges turns
+        (W.contents out.old) (W.contents out.new) result }
 {
     let plan = plan_for(alloc, scenario)?;
     let most = most_edges(&plan, edges, turns);

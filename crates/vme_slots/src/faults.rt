@@ -39,13 +39,19 @@ impl<'a> Model for Draft<'a> {
 
     ghost Value = { Plan };
 
-    ghost view = { λ d. record { slots = d.slots; rows = d.rows.now; jumpers = d.jumpers.now; arbiter = d.arbiter } };
+    ghost view = { λ d. record {
+      slots = d.slots;
+      rows = d.rows.now;
+      jumpers = d.jumpers.now;
+      arbiter = d.arbiter;
+    } };
 }
 
 impl<'a> Draft<'a> {
     /// The plan of these boards and jumpers.
     pub fn new(slots: u8, rows: &'a [Row], jumpers: &'a [Jumper], arbiter: ArbiterKind) -> Self
-        ensures { result ≡ record { slots = slots; rows = rows.now; jumpers = jumpers.now; arbiter = arbiter } }
+        ensures { result ≡
+            record { slots = slots; rows = rows.now; jumpers = jumpers.now; arbiter = arbiter } }
     {
         Draft {
             slots,
@@ -212,7 +218,9 @@ impl<'a> Draft<'a> {
 
     /// The first of these levels that more than one row handles.
     fn handled_twice_among(&self, levels: &[u8]) -> Option<u8>
-        ensures { result ≡ find (λ v. nat_lt 1 (length (filter (λ r. has_level r.handler v) self.now.rows))) levels.now }
+        ensures { result ≡
+            find (λ v. nat_lt 1 (length (filter (λ r. has_level r.handler v) self.now.rows)))
+            levels.now }
     {
         levels
             .iter()

@@ -1,4 +1,5 @@
-//! The plan of one backplane: which boards stand in which slots, tested once and known from then on to be accepted.
+//! The plan of one backplane: which boards stand in which slots, tested once and known from then on
+//! to be accepted.
 #![tactic(auto)]
 
 mod boards;

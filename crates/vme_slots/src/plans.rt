@@ -37,10 +37,20 @@ impl Model for Plan {
 
     ghost Value = { PlanValue };
 
-    ghost view = { λ a. record { slots = a.slots; rows = a.rows.items; jumpers = a.jumpers.items; arbiter = a.arbiter } };
+    ghost view = { λ a. record {
+      slots = a.slots;
+      rows = a.rows.items;
+      jumpers = a.jumpers.items;
+      arbiter = a.arbiter;
+    } };
 
     ghost invariant = { λ a.
-        let p : PlanValue = record { slots = a.slots; rows = a.rows.items; jumpers = a.jumpers.items; arbiter = a.arbiter } in
+        let p : PlanValue = record {
+          slots = a.slots;
+          rows = a.rows.items;
+          jumpers = a.jumpers.items;
+          arbiter = a.arbiter;
+        } in
         IsAccepted p
         × (a.active.bg0.items ≡ active_slots p chain.Bg0)
         × (a.active.bg1.items ≡ active_slots p chain.Bg1)
@@ -53,9 +63,11 @@ impl Plan {
     ghost use Rattle.vme_model.specs.Plan.{active, upstream, last_active, board};
     ghost use Rattle.vme_model.specs.Accepted.{IsAccepted, plan_fault};
 
-    /// The plan of these boards and jumpers, or the first fault, in the order P2, P8, P1, P3, P4, P5, P6, P7.
+    /// The plan of these boards and jumpers, or the first fault, in the order P2, P8, P1, P3, P4,
+    /// P5, P6, P7.
     ///
-    /// The boards stand in slots 1 to `slots`, in any order. P9 is answered only where the plan has no fault and a growth was refused.
+    /// The boards stand in slots 1 to `slots`, in any order. P9 is answered only where the plan has
+    /// no fault and a growth was refused.
     pub fn new(
         alloc: Global,
         slots: u8,
@@ -64,12 +76,16 @@ impl Plan {
         arbiter: ArbiterKind,
     ) -> Result<Plan, PlanError>
         ensures plan { IfOk result (λ p.
-            p ≡ record { slots = slots; rows = rows.now; jumpers = jumpers.now; arbiter = arbiter }) }
+            p ≡
+            record { slots = slots; rows = rows.now; jumpers = jumpers.now; arbiter = arbiter }) }
         ensures accepted { IfOk result (λ p. IsAccepted p) }
         ensures refused { IfErr result (λ e. e ≢ PlanError.Memory →
-            plan_fault (record { slots = slots; rows = rows.now; jumpers = jumpers.now; arbiter = arbiter }) ≡ Some e) }
+            plan_fault
+            (record { slots = slots; rows = rows.now; jumpers = jumpers.now; arbiter = arbiter })
+            ≡ Some e) }
         ensures memory { IfErr result (λ e. e ≡ PlanError.Memory →
-            IsAccepted (record { slots = slots; rows = rows.now; jumpers = jumpers.now; arbiter = arbiter })) }
+            IsAccepted
+            (record { slots = slots; rows = rows.now; jumpers = jumpers.now; arbiter = arbiter })) }
     {
         if let Some(fault) = Draft::new(slots, rows, jumpers, arbiter).fault() {
             return Err(fault);
@@ -139,7 +155,8 @@ impl Plan {
         }
     }
 
-    /// The greatest slot below this one that works the chain; none: the controller drives its input.
+    /// The greatest slot below this one that works the chain; none: the controller drives its
+    /// input.
     pub fn upstream(&self, chain: ChainId, slot: u8) -> Option<u8>
         ensures { result ≡ upstream self.now chain slot }
     {
@@ -166,7 +183,8 @@ fn accepted_plan(
     jumpers: &[Jumper],
     arbiter: ArbiterKind,
 ) -> Result<Plan, AllocError>
-    requires { IsAccepted (record { slots = slots; rows = rows.now; jumpers = jumpers.now; arbiter = arbiter }) }
+    requires { IsAccepted
+        (record { slots = slots; rows = rows.now; jumpers = jumpers.now; arbiter = arbiter }) }
     ensures { IfOk result (λ p.
         p ≡ record { slots = slots; rows = rows.now; jumpers = jumpers.now; arbiter = arbiter }) }
 {

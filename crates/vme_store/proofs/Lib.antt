@@ -1,2 +1,4 @@
+-- `codes_are_one_to_one`: the edge that an edge's code stands for is that edge
 mod RoundTrip
-mod Filling
+-- `Store::push`, `edge_at` and `len`: how the pages of a store fill
+mod FilledPages

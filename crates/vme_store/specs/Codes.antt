@@ -39,20 +39,31 @@ value_code (Some (Access s)) = s + 7
 
 -- the code of an edge
 abbrev pub code_of : Edge → ℕ
-code_of e = ((driver_code e.driver * 16 + wire_code e.wire) * 2 + fall_code e.fall) * 32 + value_code e.value
+code_of e =
+    ((driver_code e.driver * 16 + wire_code e.wire) * 2 + fall_code e.fall) * 32
+    + value_code e.value
 
 abbrev pub driver_of : ℕ → Driver
 driver_of n = if n == 0 then Controller else Slot n
 
 abbrev pub wire_of : ℕ → Wire
 wire_of n =
-    if nat_lt n 4 then Bg n else if n == 4 then Bclr else if n == 5 then Iack else if n == 6 then Berr else if n == 7 then Br
-    else if n == 8 then BgOut else if n == 9 then Bbsy else if n == 10 then Addr else if n == 11 then AddressStrobe
+    if nat_lt n 4 then Bg n
+    else if n == 4 then Bclr else if n == 5 then Iack else if n == 6 then Berr
+    else if n == 7 then Br else if n == 8 then BgOut else if n == 9 then Bbsy
+    else if n == 10 then Addr else if n == 11 then AddressStrobe
     else if n == 12 then DataStrobe else if n == 13 then Irq else if n == 14 then IackOut else Dtack
 
 abbrev pub value_of : ℕ → Option Cycle
-value_of n = if n == 0 then None else if nat_lt n 8 then Some (Acknowledge n) else Some (Access (n - 7))
+value_of n =
+    if n == 0 then None
+    else if nat_lt n 8 then Some (Acknowledge n) else Some (Access (n - 7))
 
 -- the edge that a code stands for
 unfoldable pub edge_of : ℕ → Edge
-edge_of c = record { driver = driver_of (c / 1024 % 32); wire = wire_of (c / 64 % 16); fall = c / 32 % 2 == 1; value = value_of (c % 32) }
+edge_of c = record {
+  driver = driver_of (c / 1024 % 32);
+  wire = wire_of (c / 64 % 16);
+  fall = c / 32 % 2 == 1;
+  value = value_of (c % 32);
+}

@@ -19,7 +19,9 @@ pages_for max = (max + 65535) / 65536
 -- room for max edges, of which n are kept: page after page is full before the next is begun
 abbrev pub ArePages : ℕ → ℕ → List Page → Type 0
 ArePages max n [] = max ≡ 0
-ArePages max n (p ∷ ps) = (p.room ≡ min max 65536) × (length p.edges ≡ min n 65536) × ArePages (max - 65536) (n - 65536) ps
+ArePages max n (p ∷ ps) =
+    (p.room ≡ min max 65536) × (length p.edges ≡ min n 65536)
+    × ArePages (max - 65536) (n - 65536) ps
 
 -- the edges in the pages, oldest first
 abbrev pub stored : List Page → List Edge

@@ -6,7 +6,8 @@ ghost use Rattle.vme_store.specs.Codes.{driver_code, wire_code, fall_code, value
 use std::marker::Model;
 use vme_model::{Cycle, Driver, Edge, Wire};
 
-/// A well-formed edge as the one number of four bytes that a trace keeps of it. A contract sees it as the edge.
+/// A well-formed edge as the one number of four bytes that a trace keeps of it. A contract sees it
+/// as the edge.
 #[derive(Clone, Copy)]
 pub struct Code {
     code: u32,

@@ -26,12 +26,13 @@ impl<'r> Model for Store<'r> {
 
     ghost view = { λ s. record { history = reverse (stored s.pages.items); max = s.max } };
 
-    ghost invariant = { λ s. ArePages s.max s.len s.pages.items × (s.len ≤ s.max) × (s.max ≤ trace_limit) };
+    ghost invariant = { λ s. ArePages s.max s.len s.pages.items
+        × (s.len ≤ s.max) × (s.max ≤ trace_limit) };
 }
 
 impl<'r> Store<'r> {
     /// No edge, in the room of a trace.
-    #[tactic(auto, using(crate::proofs::Filling::none_stored))]
+    #[tactic(auto, using(crate::proofs::FilledPages::none_stored))]
     pub fn new(trace: Trace<'r>) -> Store<'r>
         ensures { result ≡ record { history = []; max = trace.entry } }
     {
@@ -44,7 +45,7 @@ impl<'r> Store<'r> {
     }
 
     /// What holds of every store: it holds no more than it has room for.
-    #[tactic(auto, using(crate::proofs::Filling::length_of))]
+    #[tactic(auto, using(crate::proofs::FilledPages::length_of))]
     pub fn laws(&self)
         ensures fits { length self.now.history ≤ self.now.max }
         ensures bounded { self.now.max ≤ trace_limit }

@@ -32,8 +32,8 @@ pub enum TraceError {
 
 /// Room for a number of edges, which a contract sees as that number.
 ///
-/// It stands in pages, each on a lease of its own: as many pages as are needed at 65,536 edges a page, all of them full but
-/// the last.
+/// It stands in pages, each on a lease of its own: as many pages as are needed at 65,536 edges a
+/// page, all of them full but the last.
 #[derive(Drop)]
 pub struct Trace<'r> {
     pages: Vec<Page<'r>>,
@@ -61,7 +61,8 @@ impl<'r> Trace<'r> {
         max.div_ceil(PAGE)
     }
 
-    /// How many edges a page of a trace of `max` edges holds, pages counted from 0: the lesser of 65,536 and what is left.
+    /// How many edges a page of a trace of `max` edges holds, pages counted from 0: the lesser of
+    /// 65,536 and what is left.
     pub fn page_max(max: u32, page: u32) -> u32
         requires limit { max ≤ trace_limit }
         requires page { page < pages_for max }
@@ -70,7 +71,8 @@ impl<'r> Trace<'r> {
         PAGE.min(max - PAGE * page)
     }
 
-    /// How many bytes the lease of a page for `max` edges needs: four for each, rounded up to a multiple of 16.
+    /// How many bytes the lease of a page for `max` edges needs: four for each, rounded up to a
+    /// multiple of 16.
     pub fn bytes(max: u32) -> usize
         requires { max ≤ trace_limit }
         ensures { result ≡ rounded (4 * max) }
@@ -78,14 +80,17 @@ impl<'r> Trace<'r> {
         (max as usize * 4).next_multiple_of(16)
     }
 
-    /// Reserves room for `max` edges, 0 to 1,048,576: a page on each lease in turn. No later step asks for memory.
+    /// Reserves room for `max` edges, 0 to 1,048,576: a page on each lease in turn. No later step
+    /// asks for memory.
     ///
-    /// Page `p`, counted from 0, holds the lesser of 65,536 and `max - 65,536 * p` edges. `TooMany` where `max` is greater
-    /// than that, else `WrongLeases` where there are more or fewer leases than pages, else `NoRoom` where memory was refused.
+    /// Page `p`, counted from 0, holds the lesser of 65,536 and `max - 65,536 * p` edges. `TooMany`
+    /// where `max` is greater than that, else `WrongLeases` where there are more or fewer leases
+    /// than pages, else `NoRoom` where memory was refused.
     pub fn new(alloc: Global, leases: Vec<Lease<'r>>, max: u32) -> Result<Trace<'r>, TraceError>
         ensures made { IfOk result (λ t. t ≡ max) }
         ensures fits { IfOk result (λ t. refusal max (vec_len leases.entry) ≡ None) }
-        ensures refused { IfErr result (λ e. (refusal max (vec_len leases.entry) ≡ Some e) ⊎ (refusal max (vec_len leases.entry) ≡ None) × (e ≡ TraceError.NoRoom)) }
+        ensures refused { IfErr result (λ e. (refusal max (vec_len leases.entry) ≡ Some e)
+            ⊎ (refusal max (vec_len leases.entry) ≡ None) × (e ≡ TraceError.NoRoom)) }
     {
         if max > TRACE_LIMIT {
             return Err(TraceError::TooMany);
@@ -100,14 +105,18 @@ impl<'r> Trace<'r> {
         Ok(Trace { pages, max })
     }
 
-    /// The same on leases that are carved from the front of a rest, `Trace::bytes(max)` bytes of it.
+    /// The same on leases that are carved from the front of a rest, `Trace::bytes(max)` bytes of
+    /// it.
     ///
-    /// `TooMany` where `max` is over 1,048,576, else `NoRoom` where memory was refused or the rest is shorter.
+    /// `TooMany` where `max` is over 1,048,576, else `NoRoom` where memory was refused or the rest
+    /// is shorter.
     pub fn on(alloc: Global, rest: &mut Rest<'r>, max: u32) -> Result<Trace<'r>, TraceError>
         ensures made { IfOk result (λ t. t ≡ max) }
         ensures fits { IfOk result (λ t. max ≤ trace_limit) }
-        ensures carved { IfOk result (λ t. rest_left rest.new + rounded (4 * max) ≡ rest_left rest.old) }
-        ensures refused { IfErr result (λ e. e ≡ (if nat_lt trace_limit max then TraceError.TooMany else TraceError.NoRoom)) }
+        ensures carved { IfOk result (λ t.
+            rest_left rest.new + rounded (4 * max) ≡ rest_left rest.old) }
+        ensures refused { IfErr result (λ e.
+            e ≡ (if nat_lt trace_limit max then TraceError.TooMany else TraceError.NoRoom)) }
     {
         if TRACE_LIMIT < max {
             return Err(TraceError::TooMany);
@@ -138,7 +147,8 @@ impl<'r> Trace<'r> {
 fn carved<'r>(alloc: Global, rest: &mut Rest<'r>, max: u32) -> Result<Vec<Lease<'r>>, AllocError>
     requires { max ≤ trace_limit }
     ensures leases { IfOk result (λ v. vec_len v ≡ pages_for max) }
-    ensures carved { IfOk result (λ _. rest_left rest.new + rounded (4 * max) ≡ rest_left rest.old) }
+    ensures carved { IfOk result (λ _.
+        rest_left rest.new + rounded (4 * max) ≡ rest_left rest.old) }
 {
     let pages = Trace::pages(max);
     let mut leases = Vec::with_capacity(alloc, pages as usize)?;

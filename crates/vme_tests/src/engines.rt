@@ -92,8 +92,10 @@ fn a_failing_read_before_the_trace_is_no_scenario(rt: HostRuntime) {
 }
 
 /// Inputs without a header line.
-const NO_TRACES: [&[u8]; 6] = [
+const NO_TRACES: [&[u8]; 8] = [
     b"",
+    b"\n",
+    b"\n\nvme 1",
     b"slots = 1\n",
     b"vme 1",
     b"vme 1\r\n",

@@ -80,6 +80,19 @@ slot = 1
 requester = { level = 3, release = \"rwd\", burst = 1 }
 ";
 
+/// The same board, and the header line after it: 106 bytes.
+const BOARD_AND_HEADER: &[u8] = b"slots = 1
+arbiter = \"sgl\"
+
+[[board]]
+slot = 1
+requester = { level = 3, release = \"rwd\", burst = 1 }
+vme 1
+";
+
+/// The longest line: 13 bytes. There is no such board.
+const NO_BOARD: &[u8] = b"21 addr- r21\n";
+
 /// The lines of one tenure of the bus: 42 bytes.
 const TENURE: &[u8] = b"1 br-\nc bg3-\n1 bbsy-\n1 br+\nc bg3+\n1 bbsy+\n";
 
@@ -97,14 +110,24 @@ fn a_scenario_without_end_is_read_so_often(rt: HostRuntime) {
     assert_same(&rt, (input.reads, out.bytes), (MOST, 0));
 }
 
-// Behind the header line stand 1,290,554 whole lines of 13 bytes, and a part of a further one.
+// After the header line stand 1,290,554 whole lines of 13 bytes, and a part of a further one.
 #[test]
 fn a_trace_without_end_is_read_so_often(rt: HostRuntime) {
-    let mut trace = Drops::new(b"vme 1\n", b"21 addr- r21\n", u32::MAX);
+    let mut trace = Drops::new(b"vme 1\n", NO_BOARD, u32::MAX);
     let mut out = Counting { bytes: 0 };
     let answer = replay(rt.alloc(), ONE_BOARD, &mut trace, &mut out);
     assert!(&rt; is_unread(&answer));
     assert_same(&rt, (trace.reads, out.bytes), (MOST, 13_084_990));
+}
+
+// The reads of the scenario count too, so that 1,290,546 whole lines stand after it.
+#[test]
+fn a_trace_without_end_after_its_scenario_is_read_so_often(rt: HostRuntime) {
+    let mut input = Drops::new(BOARD_AND_HEADER, NO_BOARD, u32::MAX);
+    let mut out = Counting { bytes: 0 };
+    let answer = joined(rt.alloc(), &mut input, &mut out);
+    assert!(&rt; is_unread(&answer));
+    assert_same(&rt, (input.reads, out.bytes), (MOST, 13_084_902));
 }
 
 // Ten thousand tenures of six edges each.

@@ -2,7 +2,9 @@
 use crate::asserts::assert_same;
 use crate::boards::edge;
 use crate::devices::{Narrow, Pieces};
+use std::alloc::{AllocError, Global};
 use std::process::Abort;
+use std::test::Fail;
 use vme_model::{Cycle, Driver, Edge, Version, Wire};
 use vme_trace::{Fault, Reader, parse, pump, put, write};
 
@@ -147,11 +149,17 @@ const TRACES: [(&[u8], Version, usize); 5] = [
     (b"vme 2\n", Version::Two, 0),
 ];
 
-/// Asserts that this text is what is written of these edges.
-fn assert_written(rt: &(impl Abort + AllocGlobal), version: Version, edges: &[Edge], want: &[u8]) {
+/// The trace of some edges.
+fn written(rt: &(impl Abort + AllocGlobal), version: Version, edges: &[Edge]) -> Vec<u8> {
     assert!(rt; edges.iter().all(|edge| edge.is_well_formed()));
     let mut text = Vec::new(rt.alloc());
     assert_same(rt, write(version, edges, &mut text), Ok(()));
+    text
+}
+
+/// Asserts that this text is what is written of these edges.
+fn assert_written(rt: &(impl Abort + AllocGlobal), version: Version, edges: &[Edge], want: &[u8]) {
+    let text = written(rt, version, edges);
     assert_same(rt, text.as_slice(), want);
 }
 
@@ -162,6 +170,86 @@ fn writes_what_was_read(rt: HostRuntime) {
         assert_same(&rt, edges.len(), *count);
         assert_written(&rt, *version, &edges, text);
     }
+}
+
+/// Every wire.
+const WIRES: [Wire; 16] = [
+    Wire::Bg(0),
+    Wire::Bg(1),
+    Wire::Bg(2),
+    Wire::Bg(3),
+    Wire::Bclr,
+    Wire::Iack,
+    Wire::Berr,
+    Wire::Br,
+    Wire::BgOut,
+    Wire::Bbsy,
+    Wire::Addr,
+    Wire::AddressStrobe,
+    Wire::DataStrobe,
+    Wire::Irq,
+    Wire::IackOut,
+    Wire::Dtack,
+];
+
+/// Appends the fall and the rise of a wire with a value, where they are well formed.
+fn push_both(
+    edges: &mut Vec<Edge>,
+    driver: Driver,
+    wire: Wire,
+    value: Option<Cycle>,
+) -> Result<(), AllocError> {
+    for fall in [true, false] {
+        let edge = Edge {
+            driver,
+            wire,
+            fall,
+            value,
+        };
+        if edge.is_well_formed() {
+            edges.push(edge)?;
+        }
+    }
+    Ok(())
+}
+
+/// Appends the edges of a driver on a wire.
+fn push_values(edges: &mut Vec<Edge>, driver: Driver, wire: Wire) -> Result<(), AllocError> {
+    push_both(edges, driver, wire, None)?;
+    for number in 0..=22 {
+        push_both(edges, driver, wire, Some(Cycle::Acknowledge(number)))?;
+        push_both(edges, driver, wire, Some(Cycle::Access(number)))?;
+    }
+    Ok(())
+}
+
+/// Appends the edges of a driver.
+fn push_wires(edges: &mut Vec<Edge>, driver: Driver) -> Result<(), AllocError> {
+    for wire in WIRES {
+        push_values(edges, driver, wire)?;
+    }
+    Ok(())
+}
+
+/// Every well-formed edge.
+fn every_edge(alloc: Global) -> Result<Vec<Edge>, AllocError> {
+    let mut edges = Vec::new(alloc);
+    push_wires(&mut edges, Driver::Controller)?;
+    for slot in 0..=22 {
+        push_wires(&mut edges, Driver::Slot(slot))?;
+    }
+    Ok(edges)
+}
+
+// The controller has 7 wires, and a board 8 without a value. Each falls and rises. An address rises, and falls with 28 values.
+#[test]
+fn every_edge_is_read_as_it_was_written(rt: HostRuntime) -> Result<(), AllocError> {
+    let edges = every_edge(rt.alloc())?;
+    assert_same(&rt, edges.len(), 14 + 21 * (16 + 29));
+    let text = written(&rt, Version::One, &edges);
+    let found = assert_parsed(&rt, &text, Ok(Version::One));
+    assert_edges(&rt, &found, &edges);
+    Ok(())
 }
 
 /// What is no trace, and its fault.
@@ -297,6 +385,21 @@ fn a_write_that_fails_leaves_a_front(rt: HostRuntime) {
     assert_not_written(&rt, board_edge(1, Wire::Br, true, None), &mut out);
     assert_same(&rt, out.taken(), b"vme 1\n1 b".as_slice());
     assert_same(&rt, put(&mut out, b"r-"), Err(Fault::Write));
+}
+
+/// Each way to read asks for memory for a list of edges, which `acceptance/failing-calls` refuses in turn.
+#[test]
+fn each_reading_finds_memory(rt: HostRuntime) -> Result<(), Fail> {
+    let text: &[u8] = b"vme 1\n1 br-\n";
+    let mut parsed = Vec::new(rt.alloc());
+    parse(text, &mut parsed)?;
+    let mut fed = Vec::new(rt.alloc());
+    Reader::new().feed(text, &mut fed)?;
+    let mut pumped = Vec::new(rt.alloc());
+    pump(&mut Reader::new(), &mut { text }, &mut pumped)?;
+    assert_edges(&rt, &fed, &parsed);
+    assert_edges(&rt, &pumped, &parsed);
+    Ok(())
 }
 
 /// The faults and their texts.

@@ -5,13 +5,11 @@ ghost use Rattle.vme_model.specs.declared.signals.Edge.{Edge};
 ghost use Rattle.vme_trace.specs.Reading.{HasRead, Pumped, ReadsPiece};
 
 use crate::Fault;
+use crate::patience::read_patiently;
 use crate::reader::Reader;
 use std::alloc::Allocator;
-use std::io::{ErrorKind, Read};
+use std::io::Read;
 use vme_model::Edge;
-
-/// How often a read is tried while it is interrupted.
-const TRIES: u32 = 65536;
 
 /// One read of up to 512 bytes, fed to the reader: false at the end of the input, where the reader is finished.
 ///
@@ -53,12 +51,8 @@ pub fn read_piece<R: Read>(input: &mut R, buffer: &mut [u8; 512]) -> Result<usiz
     ensures err { IfErr result (λ fault. Keeps (R.remaining input.old) (R.remaining input.new)) }
     ensures fault { IfErr result (λ fault. fault ≡ Fault.Read) }
 {
-    for _ in 0..TRIES {
-        match input.read(buffer) {
-            Ok(count) => return Ok(count),
-            Err(error) if error.kind() == ErrorKind::Interrupted => {}
-            Err(_) => return Err(Fault::Read),
-        }
+    match read_patiently(input, buffer) {
+        Ok(count) => Ok(count),
+        Err(_) => Err(Fault::Read),
     }
-    Err(Fault::Read)
 }

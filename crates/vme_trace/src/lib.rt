@@ -7,14 +7,16 @@ mod front;
 mod headers;
 mod input;
 pub mod laws;
+mod patience;
 mod reader;
 mod writer;
 
 pub use headers::{header_line, header_of};
 pub use input::{pump, read_piece};
+pub use patience::Patient;
 pub use reader::{Reader, parse};
 use thiserror::Error;
-pub use writer::{line_of, put, write};
+pub use writer::{flush, line_of, put, write};
 
 /// Why a trace could not be read or written.
 #[derive(Clone, Copy, PartialEq, Eq, Debug, Error)]

@@ -1,6 +1,6 @@
 //! Writing a trace.
 ghost use Rattle.std.specs.Prelude.{◌≡◌, ◌+◌, ◌<◌, ◌≤◌, ◌++◌, [], length, IsTrue, IfErr, Ok, OnOk, OnErr, All};
-ghost use Rattle.std.specs.Io.KnownBytes.{Appends};
+ghost use Rattle.std.specs.Io.KnownBytes.{Appends, Keeps};
 ghost use Rattle.arrayvec.specs.ArrayVec.{array_vec_len};
 ghost use Rattle.vme_model.specs.Signals.{is_well_formed};
 ghost use Rattle.vme_model.specs.Text.{wire_text, number, spelling, text, edge_lines};
@@ -8,6 +8,7 @@ ghost use Rattle.vme_trace.specs.Writing.{AppendsFront, HasText, edge_line};
 
 use crate::Fault;
 use crate::headers::header_line;
+use crate::patience::{flush_patiently, write_patiently};
 use arrayvec::ArrayVec;
 use std::io::Write;
 use vme_model::{Cycle, Driver, Edge, Version, Wire};
@@ -17,7 +18,7 @@ pub(crate) const LINE: usize = 16;
 
 /// Writes all the bytes; with none there is no write, and no fault.
 ///
-/// Errors: X8 where a write failed or took no byte; a prefix of the bytes was then written.
+/// Errors: X8 where a write failed, took no byte or was interrupted 65,536 times; a prefix of the bytes was then written.
 pub fn put<W: Write>(out: &mut W, bytes: &[u8]) -> Result<(), Fault>
     ensures ok { OnOk result (Appends (W.contents out.old) (W.contents out.new) bytes.now) }
     ensures front { OnErr result (AppendsFront (W.contents out.old) (W.contents out.new) bytes.now) }
@@ -26,12 +27,25 @@ pub fn put<W: Write>(out: &mut W, bytes: &[u8]) -> Result<(), Fault>
 {
     let mut rest = bytes;
     'writes: while !rest.is_empty() {
-        match out.write(rest) {
+        match write_patiently(out, rest) {
             Err(_) | Ok(0) => return Err(Fault::Write),
             Ok(count) => rest = &rest[count..],
         }
     }
     Ok(())
+}
+
+/// Has the writer hand on what it holds back.
+///
+/// Errors: X8 where that failed.
+pub fn flush<W: Write>(out: &mut W) -> Result<(), Fault>
+    ensures kept { Keeps (W.contents out.old) (W.contents out.new) }
+    ensures fault { IfErr result (λ fault. fault ≡ Fault.Write) }
+{
+    match flush_patiently(out) {
+        Ok(()) => Ok(()),
+        Err(_) => Err(Fault::Write),
+    }
 }
 
 /// The word of a wire; a grant's level is below 4.

@@ -21,8 +21,8 @@ use Rattle.vme_wiring.specs.Counts.{request_level}
 use Rattle.vme_wiring.specs.Chained.{chains_of, chain_at, moved, with_output, after_board, after_controller, IsBefore, CanMove, CanMoveHead}
 use Rattle.vme_wiring.specs.declared.chains.Chains.{Chains}
 use Rattle.vme_wiring.proofs.Others.{drive_same}
-use Rattle.vme_wiring.proofs.Chaining.{IsOne, HasPlace, placed, map_others}
-use Rattle.vme_wiring.proofs.Standing.{Stands, IsDriven, at, at_head, own_after}
+use Rattle.vme_wiring.proofs.SegmentMoves.{IsOne, HasPlace, placed, map_others}
+use Rattle.vme_wiring.proofs.AllowedBoards.{Stands, IsDriven, at, at_head, own_after}
 
 self : (n : ℕ) → (n == n) ≡ true
 self n = grind (arith, nat_tests)

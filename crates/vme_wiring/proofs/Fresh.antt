@@ -14,7 +14,7 @@ use Rattle.vme_model.specs.Sets.{bus_levels, irq_levels}
 use Rattle.vme_wiring.specs.Boards.{parts_of, place}
 use Rattle.vme_wiring.specs.Counts.{pulls, IsLines, no_pulls, high_pins}
 use Rattle.vme_wiring.specs.declared.boards.Board.{Board}
-use Rattle.vme_wiring.proofs.Standing.{stands}
+use Rattle.vme_wiring.proofs.AllowedBoards.{stands}
 use Rattle.vme_model.specs.declared.boards.Row.{Row}
 use Rattle.vme_model.specs.declared.pins.Pins.{Pins}
 use Rattle.vme_model.specs.declared.sets.ChainId.{ChainId}

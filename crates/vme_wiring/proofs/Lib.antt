@@ -1,18 +1,36 @@
+-- a part that there is: `note_requester`, `note_master`, `Wiring::note_board`
 pub mod Parts
-pub mod Asking
-pub mod Counting
+-- a part's own rows of the table are those of the whole backplane: `Wiring::ask`
+pub mod RuleRows
+-- how a count moves with one board that pulls: `note_line`
+pub mod PullCounts
+-- what an edge of another driver leaves as it was: `Wiring::note`
 pub mod Others
-pub mod Chaining
-pub mod Standing
+-- how the segments of a chain move with the boards that work it: `note_segment`
+pub mod SegmentMoves
+-- a board of an accepted plan, and an edge that is allowed it: `Wiring::note`
+pub mod AllowedBoards
+-- the counts of the lines after an edge: `Wiring::note`
 pub mod LineNotes
+-- the chains after an edge: `Wiring::note`
 pub mod ChainNotes
-pub mod Showing
-pub mod Noting
-pub mod Seeing
-pub mod Judging
+-- whose address group is on, and what is shown, after an edge: `Wiring::note`
+pub mod AddressNotes
+-- the wiring after an edge is that of the longer history: `Wiring::note`
+pub mod LongerHistory
+-- what the fields say of the history: `Wiring::pins`, `is_low`, `ask`, `settling`
+pub mod FieldReads
+-- the verdict, from E1, what a part answers, and the settling rules: `Wiring::judge`
+pub mod JudgedParts
+-- before any edge: `Wiring::new`
 pub mod Fresh
-pub mod Offering
-pub mod Ruling
-pub mod Waiting
+-- what the fields say of the edges that are considered: `Wiring::next_board`, `wanted`
+pub mod ConsideredReads
+-- what a part answers by its own fields: `Board::ask_requester`, `ask_master`, `ask_interrupter`
+pub mod PartAnswers
+-- who waits has no edge that the rules allow: `Wiring::is_waiting` and the parts of it
+pub mod NoOffers
+-- lists that grow by what passes a test: `Wiring::offer_requester` and its like
 pub mod More
+-- a quiet board to which nothing has come waits, and a busy bus has no grant: `Wiring::is_waiting`
 pub mod Quiet

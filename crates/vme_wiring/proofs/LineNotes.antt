@@ -25,9 +25,9 @@ use Rattle.vme_model.specs.Views.{pins}
 use Rattle.vme_model.proofs.Bools.{same_number}
 use Rattle.vme_wiring.specs.Counts.{pulls, IsLines, moved, is_movable, request_level, interrupt_level, count_of, lines_after, shared_after, shared_after_controller}
 use Rattle.vme_wiring.specs.declared.lines.Lines.{Lines}
-use Rattle.vme_wiring.proofs.Counting.{any_pulls, IsSameElsewhere, IsMoved, pulls_move, pulls_stay}
+use Rattle.vme_wiring.proofs.PullCounts.{any_pulls, IsSameElsewhere, IsMoved, pulls_move, pulls_stay}
 use Rattle.vme_wiring.proofs.Others.{drive_same}
-use Rattle.vme_wiring.proofs.Standing.{Stands, IsDriven, at, at_head, own_after, flipped}
+use Rattle.vme_wiring.proofs.AllowedBoards.{Stands, IsDriven, at, at_head, own_after, flipped}
 
 -- which boards pull, of those that pass a gate
 abbrev gated : (Row → Bool) → List Edge → Wire → Row → Bool

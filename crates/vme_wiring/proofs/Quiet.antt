@@ -28,8 +28,8 @@ use Rattle.vme_wiring.specs.Quiet.{is_ungranted, is_unaddressed, may_grant}
 use Rattle.vme_wiring.specs.Wired.{IsWiringOf}
 use Rattle.vme_wiring.specs.declared.boards.Board.{Board}
 use Rattle.vme_wiring.specs.declared.wirings.Wiring.{Wiring}
-use Rattle.vme_wiring.proofs.Seeing.{own_of_controller}
-use Rattle.vme_wiring.proofs.Waiting.{closed, reads_grant, reads_bus, reads_cycle}
+use Rattle.vme_wiring.proofs.FieldReads.{own_of_controller}
+use Rattle.vme_wiring.proofs.NoOffers.{closed, reads_grant, reads_bus, reads_cycle}
 
 same_truth : (a b : Bool) → (a ≡ true → b ≡ true) → (b ≡ true → a ≡ true) → a ≡ b
 same_truth true b there back = sym (there refl)

@@ -1,5 +1,5 @@
 -- A board's parts, by the history of its backplane.
-use Rattle.std.specs.Prelude.{◌&&◌, not, ℕ, Bool, true, false, Option, List, option_map, slice_get}
+use Rattle.std.specs.Prelude.{◌≡◌, ◌&&◌, not, ℕ, Bool, true, false, Option, Some, List, option_map, slice_get}
 use Rattle.std.specs.Option.{option_and_then, option_map_or}
 use Rattle.vme_model.specs.declared.boards.Row.{Row}
 use Rattle.vme_model.specs.declared.signals.Version.{Version}
@@ -21,9 +21,19 @@ parts_of version p h r = record {
   interrupter = interrupter_of r.slot r.interrupter (seen p h);
 }
 
+-- what holds of each history and row by which a board has its parts
+abbrev pub OfParts : Board → (Version → Plan → List Edge → Row → Type 0) → Type 0
+OfParts b P =
+    (version : Version) (p : Plan) (h : List Edge) (r : Row)
+    → b ≡ parts_of version p h r → P version p h r
+
 -- the board in a place, if there is one
 abbrev pub place : List (Option Board) → ℕ → Option Board
 place boards s = option_and_then (λ b. b) (slice_get boards s)
+
+-- what holds of the board in a place
+abbrev pub OfPlace : List (Option Board) → ℕ → (Board → Type 0) → Type 0
+OfPlace boards s P = (b : Board) → place boards s ≡ Some b → P b
 
 -- the wires by the parts
 abbrev pub low_of : Board → Wire → Bool
@@ -40,14 +50,21 @@ low_of b _ = false
 
 -- the requester, if there is one, requests the bus, and has nothing to undo
 abbrev pub is_requester_quiet : Board → Bool
-is_requester_quiet b = option_map_or (λ q. low_of b Br && not (low_of b BgOut) && not (low_of b Bbsy)) b.row.requester true
+is_requester_quiet b =
+    option_map_or (λ q. low_of b Br && not (low_of b BgOut) && not (low_of b Bbsy))
+    b.row.requester true
 
 -- the board does not hold the bus, and its address group and strobes are off
 abbrev pub is_master_quiet : Board → Bool
-is_master_quiet b = not (low_of b Bbsy) && not (low_of b Addr) && not (low_of b AddressStrobe) && not (low_of b DataStrobe)
+is_master_quiet b =
+    not (low_of b Bbsy) && not (low_of b Addr)
+    && not (low_of b AddressStrobe) && not (low_of b DataStrobe)
+
+-- its interrupter, if there is one, passes no acknowledge on
+abbrev pub is_interrupter_quiet : Board → Bool
+is_interrupter_quiet b = option_map_or (λ i. not (low_of b IackOut)) b.row.interrupter true
 
 -- none of its own wires keeps the board from waiting
 abbrev pub is_quiet : Board → Bool
 is_quiet b =
-    is_requester_quiet b && is_master_quiet b && not (low_of b Dtack)
-    && option_map_or (λ i. not (low_of b IackOut)) b.row.interrupter true
+    is_requester_quiet b && is_master_quiet b && not (low_of b Dtack) && is_interrupter_quiet b

@@ -1,5 +1,6 @@
 -- The daisy chains, by the history of their backplane.
-use Rattle.std.specs.Prelude.{◌≡◌, Bool, ℕ, List, Some, not, set, slice_get}
+use Rattle.std.specs.Prelude.{◌≡◌, ◌&&◌, Bool, ℕ, false, List, Some, not, is_some, set, slice_get}
+use Rattle.std.specs.Option.{option_map_or}
 use Rattle.vme_model.specs.declared.sets.ChainId.{ChainId}
 use Rattle.vme_model.specs.declared.sets.ChainId.TheVariants as chain
 use Rattle.vme_model.specs.declared.signals.Edge.{Edge}
@@ -8,7 +9,7 @@ use Rattle.vme_model.specs.declared.boards.Row.{Row}
 use Rattle.vme_model.specs.declared.signals.Wire.{Wire}
 use Rattle.vme_model.specs.declared.signals.Wire.TheVariants as wire
 use Rattle.vme_model.specs.Plan.{grant_chain}
-use Rattle.vme_chain.specs.Segments.{Segments, segments_of, output_number}
+use Rattle.vme_chain.specs.Segments.{Segments, segments_of, input, output_number}
 use Rattle.vme_wiring.specs.Counts.{request_level}
 use Rattle.vme_wiring.specs.declared.chains.Chains.{Chains}
 
@@ -27,6 +28,14 @@ chain_at chain.Bg1 c = c.bg1
 chain_at chain.Bg2 c = c.bg2
 chain_at chain.Bg3 c = c.bg3
 chain_at chain.Iack c = c.iack
+
+-- a board's inputs on its grant chain and on the acknowledge chain, where it has the part for it
+abbrev pub grant_in : Chains → Row → Bool
+grant_in c r =
+    option_map_or (λ q. input (chain_at (grant_chain q.level) c) r.slot) r.requester false
+
+abbrev pub iack_in : Chains → Row → Bool
+iack_in c r = is_some r.interrupter && input c.iack r.slot
 
 -- a chain with one segment in that state
 abbrev pub moved : Segments → ℕ → Bool → Segments
@@ -57,9 +66,12 @@ after_controller _ fall c = c
 abbrev pub IsBefore : ChainId → ℕ → Bool → Chains → Type 0
 IsBefore id k fall c = slice_get (chain_at id c).low k ≡ Some (not fall)
 
+abbrev pub IsOutputBefore : ChainId → ℕ → Bool → Chains → Type 0
+IsOutputBefore id s fall c = IsBefore id (output_number (chain_at id c).active s) fall c
+
 abbrev pub CanMove : Row → Wire → Bool → Chains → Type 0
-CanMove r wire.BgOut fall c = IsBefore (grant_chain (request_level r)) (output_number (chain_at (grant_chain (request_level r)) c).active r.slot) fall c
-CanMove r wire.IackOut fall c = IsBefore chain.Iack (output_number (chain_at chain.Iack c).active r.slot) fall c
+CanMove r wire.BgOut fall c = IsOutputBefore (grant_chain (request_level r)) r.slot fall c
+CanMove r wire.IackOut fall c = IsOutputBefore chain.Iack r.slot fall c
 CanMove r _ fall c = Unit {0}
 
 abbrev pub CanMoveHead : Wire → Bool → Chains → Type 0

@@ -36,12 +36,23 @@ pub record IsLines (p : Plan) (h : List Edge) (l : Lines) : Type 0 where
 
 -- nobody pulls
 abbrev pub no_pulls : Lines
-no_pulls = record { br = 0 ∷ 0 ∷ 0 ∷ 0 ∷ []; irq = 0 ∷ 0 ∷ 0 ∷ 0 ∷ 0 ∷ 0 ∷ 0 ∷ 0 ∷ []; bgout = 0; bbsy = 0; address_strobe = 0; data_strobe = 0; dtack = 0 }
+no_pulls = record {
+  br = 0 ∷ 0 ∷ 0 ∷ 0 ∷ [];
+  irq = 0 ∷ 0 ∷ 0 ∷ 0 ∷ 0 ∷ 0 ∷ 0 ∷ 0 ∷ [];
+  bgout = 0;
+  bbsy = 0;
+  address_strobe = 0;
+  data_strobe = 0;
+  dtack = 0;
+}
 
 -- a count after one driver more pulls, or one fewer, and whether it can be so
 abbrev pub moved : ℕ → Bool → ℕ
 moved n true = n + 1
 moved n false = n - 1
+
+abbrev pub moved_at : List ℕ → ℕ → Bool → List ℕ
+moved_at ns n fall = set ns n (moved (get_or ns n 0) fall)
 
 abbrev pub is_movable : ℕ → Bool → Bool
 is_movable n true = nat_lt n 22
@@ -67,8 +78,8 @@ count_of l r _ = 1
 
 -- the lines after an edge of the board's wire
 abbrev pub lines_after : Lines → Row → Wire → Bool → Lines
-lines_after l r Br fall = record l { br = set l.br (request_level r) (moved (get_or l.br (request_level r) 0) fall) }
-lines_after l r Irq fall = record l { irq = set l.irq (interrupt_level r) (moved (get_or l.irq (interrupt_level r) 0) fall) }
+lines_after l r Br fall = record l { br = moved_at l.br (request_level r) fall }
+lines_after l r Irq fall = record l { irq = moved_at l.irq (interrupt_level r) fall }
 lines_after l r BgOut fall = record l { bgout = moved l.bgout fall }
 lines_after l r Bbsy fall = record l { bbsy = moved l.bbsy fall }
 lines_after l r AddressStrobe fall = record l { address_strobe = moved l.address_strobe fall }
@@ -78,7 +89,19 @@ lines_after l r _ fall = l
 
 -- what all drivers see where every line is high
 abbrev pub high_pins : Pins
-high_pins = record { requests = bus_levels (λ n. false); bbsy = false; bclr = false; address_strobe = false; data_strobe = false; dtack = false; berr = false; irq = irq_levels (λ n. false); shown = None; grant_in = false; iack_in = false }
+high_pins = record {
+  requests = bus_levels (λ n. false);
+  bbsy = false;
+  bclr = false;
+  address_strobe = false;
+  data_strobe = false;
+  dtack = false;
+  berr = false;
+  irq = irq_levels (λ n. false);
+  shown = None;
+  grant_in = false;
+  iack_in = false;
+}
 
 -- what all drivers see of the lines after an edge of a board's wire
 abbrev pub shared_after : Pins → Lines → Wire → Option Cycle → Pins

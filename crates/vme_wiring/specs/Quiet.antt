@@ -15,11 +15,16 @@ use Rattle.vme_wiring.specs.declared.wirings.Wiring.{Wiring}
 
 -- the board's requester, if there is one, may not withdraw, and no grant has reached it
 abbrev pub is_ungranted : Wiring → Board → Bool
-is_ungranted w b = option_map_or (λ q. not (is_two w.version) && not (input (chain_at (grant_chain q.level) w.chains) b.row.slot)) b.row.requester true
+is_ungranted w b =
+    option_map_or
+    (λ q. not (is_two w.version) && not (input (chain_at (grant_chain q.level) w.chains) b.row.slot))
+    b.row.requester true
 
 -- no access to the board is shown, and no acknowledge has reached its interrupter, if it has one
 abbrev pub is_unaddressed : Wiring → Board → Bool
-is_unaddressed w b = not (is_access_to b.row.slot w.shared.shown) && option_map_or (λ i. not (input w.chains.iack b.row.slot)) b.row.interrupter true
+is_unaddressed w b =
+    not (is_access_to b.row.slot w.shared.shown)
+    && option_map_or (λ i. not (input w.chains.iack b.row.slot)) b.row.interrupter true
 
 -- the grants are high, and the bus is free
 abbrev pub may_grant : Wiring → Bool

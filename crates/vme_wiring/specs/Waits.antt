@@ -17,26 +17,32 @@ use Rattle.vme_wiring.specs.Boards.{low_of}
 use Rattle.vme_wiring.specs.declared.boards.Board.{Board}
 use Rattle.vme_wiring.specs.declared.wirings.Wiring.{Wiring}
 
--- a requester, if there is one, waits for its grant: it requests, and may not withdraw; no grant has reached it, it passes none
--- on, and it does not hold the bus (chapter 3)
+-- a requester, if there is one, waits for its grant: it requests, and may not withdraw; no grant
+-- has reached it, it passes none on, and it does not hold the bus (chapter 3)
 abbrev pub waits_for_grant : Version → Readings → Row → Bool
 waits_for_grant version r b =
-    option_map_or (λ q. not (is_two version) && r.own Br && not (r.own BgOut) && not (r.own Bbsy) && not r.grant_in) b.requester true
+    option_map_or
+    (λ q. not (is_two version)
+    && r.own Br && not (r.own BgOut) && not (r.own Bbsy) && not r.grant_in)
+    b.requester true
 
--- a master waits for the bus: its board does not hold it, and its address group and strobes are off (chapters 2 and 3)
+-- a master waits for the bus: its board does not hold it, and its address group and strobes are off
+-- (chapters 2 and 3)
 abbrev pub waits_for_bus : Readings → Bool
-waits_for_bus r = not (r.own Bbsy) && not (r.own Addr) && not (r.own AddressStrobe) && not (r.own DataStrobe)
+waits_for_bus r =
+    not (r.own Bbsy) && not (r.own Addr) && not (r.own AddressStrobe) && not (r.own DataStrobe)
 
 -- what is shown is an access to the slot (chapter 2)
 abbrev pub is_access_to : ℕ → Option Cycle → Bool
 is_access_to s (Some (Access t)) = s == t
 is_access_to s _ = false
 
--- a board waits for a cycle: it answers nothing, no access to it is shown, and no acknowledge has reached its interrupter, if it
--- has one, or is passed on (chapters 2 and 4)
+-- a board waits for a cycle: it answers nothing, no access to it is shown, and no acknowledge has
+-- reached its interrupter, if it has one, or is passed on (chapters 2 and 4)
 abbrev pub waits_for_cycle : Readings → Row → Bool
 waits_for_cycle r b =
-    not (r.own Dtack) && not (is_access_to b.slot r.shown) && option_map_or (λ i. not (r.own IackOut) && not r.iack_in) b.interrupter true
+    not (r.own Dtack) && not (is_access_to b.slot r.shown)
+    && option_map_or (λ i. not (r.own IackOut) && not r.iack_in) b.interrupter true
 
 -- an interrupter, if there is one, requests and was not served since (chapter 4)
 abbrev pub is_unserved : Readings → Row → Bool
@@ -44,13 +50,18 @@ is_unserved r b = option_map_or (λ i. r.own Irq && not r.served_since_request) 
 
 -- a board waits where each of its parts does
 abbrev pub board_waits : Version → Readings → Row → Bool
-board_waits version r b = waits_for_grant version r b && waits_for_bus r && (waits_for_cycle r b && is_unserved r b)
+board_waits version r b =
+    waits_for_grant version r b && waits_for_bus r && (waits_for_cycle r b && is_unserved r b)
 
 -- a driver waits: the controller never, and a slot without a board always
 abbrev pub is_waiting : Version → Plan → List Edge → Driver → Bool
 is_waiting version p h Controller = false
-is_waiting version p h (Slot s) = option_map_or (board_waits version (readings p h (Slot s))) (board p s) true
+is_waiting version p h (Slot s) =
+    option_map_or (board_waits version (readings p h (Slot s))) (board p s) true
 
 -- what of that a board's stored fields say
 abbrev pub read_by : Wiring → Board → Readings
-read_by w b = record (readings_of_pins (seen_by w.chains w.shared b.row)) { own = low_of b; served_since_request = b.interrupter.is_served }
+read_by w b = record (readings_of_pins (seen_by w.chains w.shared b.row)) {
+  own = low_of b;
+  served_since_request = b.interrupter.is_served;
+}

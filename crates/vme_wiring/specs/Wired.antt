@@ -1,5 +1,5 @@
 -- Which wiring a history leads to.
-use Rattle.std.specs.Prelude.{◌≡◌, ◌<◌, ℕ, true, List, Ok, length, option_map}
+use Rattle.std.specs.Prelude.{◌≡◌, ◌<◌, ℕ, true, List, Some, Ok, length, option_map}
 use Rattle.vme_model.specs.declared.boards.Row.{Row}
 use Rattle.vme_model.specs.declared.signals.Driver.TheVariants.{Controller}
 use Rattle.vme_model.specs.declared.signals.Version.{Version}
@@ -13,6 +13,7 @@ use Rattle.vme_arbiter.specs.Local.{state_of as controller_of}
 use Rattle.vme_wiring.specs.Boards.{parts_of, place}
 use Rattle.vme_wiring.specs.Counts.{IsLines, request_level, interrupt_level, is_movable, count_of}
 use Rattle.vme_wiring.specs.Chained.{chains_of, CanMove}
+use Rattle.vme_wiring.specs.declared.boards.Board.{Board}
 use Rattle.vme_wiring.specs.declared.wirings.Wiring.{Wiring}
 
 -- each stored field is that reading of a legal history of an accepted plan
@@ -30,6 +31,17 @@ pub record IsWiringOf (version : Version) (p : Plan) (h : List Edge) (w : Wiring
   pub shared : w.shared ≡ pins p h Controller
   pub addressing : w.addressing ≡ addressing p h
 
+-- what holds of each history that a wiring is of
+abbrev pub OfHistory : Wiring → (Version → Plan → List Edge → Type 0) → Type 0
+OfHistory w P =
+    (version : Version) (p : Plan) (h : List Edge) → IsWiringOf version p h w → P version p h
+
+-- the same, and of each slot whose place has the board
+abbrev pub OfPlaced : Wiring → Board → (Version → Plan → List Edge → ℕ → Type 0) → Type 0
+OfPlaced w b P =
+    (version : Version) (p : Plan) (h : List Edge) (s : ℕ)
+    → IsWiringOf version p h w → Some b ≡ place w.boards s → P version p h s
+
 -- some history leads to it after which the rules allow the edge
 pub record CanTake (w : Wiring) (e : Edge) : Type 0 where
   pub version : Version
@@ -38,7 +50,8 @@ pub record CanTake (w : Wiring) (e : Edge) : Type 0 where
   pub is_wiring : IsWiringOf version plan history w
   pub allowed : verdict_but_full version plan history e ≡ Ok tt
 
--- the levels of a board are in range, and the line and the segment that its edge moves are in the other state
+-- the levels of a board are in range, and the line and the segment that its edge moves are in the
+-- other state
 pub record CanNote (w : Wiring) (r : Row) (e : Edge) : Type 0 where
   pub request_level : request_level r < 4
   pub interrupt_level : interrupt_level r < 8

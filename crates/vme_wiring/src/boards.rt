@@ -1,6 +1,5 @@
 //! One board, with its parts.
 ghost use Rattle.std.specs.Prelude.{◌≡◌, ◌||◌, ◌∷◌, [], ℕ, true, not, List, Option as OptionValue, option_map};
-ghost use Rattle.vme_model.specs.declared.boards.Row.{Row as RowValue};
 ghost use Rattle.vme_model.specs.declared.boards.RequesterRow.{RequesterRow as RequesterValue};
 ghost use Rattle.vme_model.specs.declared.sets.Levels.{Levels as LevelsValue};
 ghost use Rattle.vme_model.specs.declared.signals.Edge.{Edge as EdgeValue};
@@ -9,8 +8,7 @@ ghost use Rattle.vme_model.specs.Plan.{Plan};
 ghost use Rattle.vme_model.specs.History.{shown as shown_after};
 ghost use Rattle.vme_requester.specs.Local.{state_of as requester_of, is_own as is_requesters};
 ghost use Rattle.vme_master.specs.Local.{state_of as master_of, is_own as is_masters};
-ghost use Rattle.vme_model.specs.declared.boards.InterrupterRow.{InterrupterRow as InterrupterValue};
-ghost use Rattle.vme_interrupter.specs.Local.{Noted, state_of as interrupter_of, is_own as is_interrupters};
+ghost use Rattle.vme_interrupter.specs.Local.{is_own as is_interrupters};
 ghost use Rattle.vme_wiring.specs.Asked.{asked, seen_by, IsAsked};
 ghost use Rattle.vme_wiring.specs.declared.chains.Chains.{Chains as ChainsValue};
 
@@ -32,7 +30,10 @@ pub struct Board {
 /// The requester takes in an edge, if there is one.
 #[inline(always)]
 fn note_requester(requester: &mut Option<Requester>, edge: Edge)
-    ensures { (s : ℕ) (row : OptionValue RequesterValue) (version : VersionValue) (h : List EdgeValue) → requester.old ≡ option_map (λ q. requester_of s q version h) row → requester.new ≡ option_map (λ q. requester_of s q version (edge ∷ h)) row }
+    ensures { (s : ℕ) (row : OptionValue RequesterValue)
+        → (version : VersionValue) (h : List EdgeValue)
+        → requester.old ≡ option_map (λ q. requester_of s q version h) row
+        → requester.new ≡ option_map (λ q. requester_of s q version (edge ∷ h)) row }
 {
     match requester {
         Some(requester) => requester.note(edge),
@@ -43,7 +44,10 @@ fn note_requester(requester: &mut Option<Requester>, edge: Edge)
 /// The master takes in an edge, if there is one.
 #[inline(always)]
 fn note_master(master: &mut Option<Master>, edge: Edge)
-    ensures { (s : ℕ) (row : OptionValue RequesterValue) (handler : LevelsValue) (h : List EdgeValue) → master.old ≡ option_map (λ q. master_of s q handler h) row → master.new ≡ option_map (λ q. master_of s q handler (edge ∷ h)) row }
+    ensures { (s : ℕ) (row : OptionValue RequesterValue)
+        → (handler : LevelsValue) (h : List EdgeValue)
+        → master.old ≡ option_map (λ q. master_of s q handler h) row
+        → master.new ≡ option_map (λ q. master_of s q handler (edge ∷ h)) row }
 {
     match master {
         Some(master) => master.note(edge),
@@ -52,7 +56,7 @@ fn note_master(master: &mut Option<Master>, edge: Edge)
 }
 
 impl Board {
-    ghost use Rattle.vme_wiring.specs.Boards.{parts_of, low_of};
+    ghost use Rattle.vme_wiring.specs.Boards.{OfParts, parts_of, low_of};
 
     /// The board of a row, before any edge.
     pub fn new(row: Row, version: Version) -> Board
@@ -73,7 +77,8 @@ impl Board {
     /// Takes in an edge of the board that was made while that was shown.
     #[inline(always)]
     pub fn note(&mut self, edge: Edge, shown: Option<Cycle>)
-        ensures { (version : VersionValue) (p : Plan) (h : List EdgeValue) (r : RowValue) → self.old ≡ parts_of version p h r → shown ≡ shown_after p h → self.new ≡ parts_of version p (edge ∷ h) r }
+        ensures { OfParts self.old (λ version p h r. shown ≡ shown_after p h
+            → self.new ≡ parts_of version p (edge ∷ h) r) }
     {
         match edge.wire {
             Wire::Br | Wire::BgOut => note_requester(&mut self.requester, edge),
@@ -117,8 +122,10 @@ impl Board {
 
     /// E2 and E3 for an edge of its requester's.
     #[inline(always)]
-    fn ask_requester(&self, edge: Edge, lines: &Pins, chains: &Chains) -> Result<(), Refused>
-        ensures { (version : VersionValue) (p : Plan) (h : List EdgeValue) (r : RowValue) → self.now ≡ parts_of version p h r → IsAsked p h r (seen_by chains.now lines.now self.now.row) edge → is_requesters edge.wire ≡ true → result ≡ asked version p h edge }
+    fn ask_requester(&self, edge: Edge, pins: &Pins, chains: &Chains) -> Result<(), Refused>
+        ensures { OfParts self.now (λ version p h r.
+            IsAsked p h r (seen_by chains.now pins.now self.now.row) edge
+            → is_requesters edge.wire ≡ true → result ≡ asked version p h edge) }
     {
         match &self.requester {
             Some(requester) => match edge.wire {
@@ -126,7 +133,7 @@ impl Board {
                 Wire::BgOut => requester.may_pass(edge.fall, chains.grant_in(&self.row)),
                 Wire::Bbsy => {
                     let grant_in = chains.grant_in(&self.row);
-                    requester.may_hold(edge.fall, lines, grant_in, self.is_address_free())
+                    requester.may_hold(edge.fall, pins, grant_in, self.is_address_free())
                 }
                 _ => Err(Refused::NoSuchDriver),
             },
@@ -136,17 +143,19 @@ impl Board {
 
     /// E2 and E3 for an edge of its master's.
     #[inline(always)]
-    fn ask_master(&self, edge: Edge, lines: &Pins) -> Result<(), Refused>
-        ensures { (version : VersionValue) (p : Plan) (h : List EdgeValue) (r : RowValue) (chains : ChainsValue) → self.now ≡ parts_of version p h r → IsAsked p h r (seen_by chains lines.now self.now.row) edge → is_masters edge.wire ≡ true → result ≡ asked version p h edge }
+    fn ask_master(&self, edge: Edge, pins: &Pins) -> Result<(), Refused>
+        ensures { OfParts self.now (λ version p h r. (chains : ChainsValue)
+            → IsAsked p h r (seen_by chains pins.now self.now.row) edge
+            → is_masters edge.wire ≡ true → result ≡ asked version p h edge) }
     {
         match &self.master {
             Some(master) => match edge.wire {
                 Wire::Addr => {
                     let holds_bus = self.is_low(Wire::Bbsy);
-                    master.may_address(edge.fall, edge.value, lines, holds_bus)
+                    master.may_address(edge.fall, edge.value, pins, holds_bus)
                 }
-                Wire::AddressStrobe => master.may_strobe_address(edge.fall, lines),
-                Wire::DataStrobe => master.may_strobe_data(edge.fall, lines),
+                Wire::AddressStrobe => master.may_strobe_address(edge.fall, pins),
+                Wire::DataStrobe => master.may_strobe_data(edge.fall, pins),
                 _ => Err(Refused::NoSuchDriver),
             },
             None => Err(Refused::NoSuchDriver),
@@ -155,18 +164,20 @@ impl Board {
 
     /// E2 and E3 for an edge of its interrupter's.
     #[inline(always)]
-    fn ask_interrupter(&self, edge: Edge, lines: &Pins, chains: &Chains) -> Result<(), Refused>
-        ensures { (version : VersionValue) (p : Plan) (h : List EdgeValue) (r : RowValue) → self.now ≡ parts_of version p h r → IsAsked p h r (seen_by chains.now lines.now self.now.row) edge → is_interrupters edge.wire ≡ true → result ≡ asked version p h edge }
+    fn ask_interrupter(&self, edge: Edge, pins: &Pins, chains: &Chains) -> Result<(), Refused>
+        ensures { OfParts self.now (λ version p h r.
+            IsAsked p h r (seen_by chains.now pins.now self.now.row) edge
+            → is_interrupters edge.wire ≡ true → result ≡ asked version p h edge) }
     {
         match edge.wire {
             Wire::Irq => self.interrupter.may_request(edge.fall),
             Wire::IackOut => {
                 let iack_in = chains.iack_in(&self.row);
-                self.interrupter.may_pass(edge.fall, lines, iack_in)
+                self.interrupter.may_pass(edge.fall, pins, iack_in)
             }
             Wire::Dtack => {
                 let iack_in = chains.iack_in(&self.row);
-                self.interrupter.may_answer(edge.fall, lines, iack_in)
+                self.interrupter.may_answer(edge.fall, pins, iack_in)
             }
             _ => Err(Refused::NoSuchDriver),
         }
@@ -174,13 +185,15 @@ impl Board {
 
     /// E2 and E3 for an edge of one of its wires, by the part that drives it.
     #[inline(always)]
-    pub fn may(&self, edge: Edge, lines: &Pins, chains: &Chains) -> Result<(), Refused>
-        ensures { (version : VersionValue) (p : Plan) (h : List EdgeValue) (r : RowValue) → self.now ≡ parts_of version p h r → IsAsked p h r (seen_by chains.now lines.now self.now.row) edge → result ≡ asked version p h edge }
+    pub fn may(&self, edge: Edge, pins: &Pins, chains: &Chains) -> Result<(), Refused>
+        ensures { OfParts self.now (λ version p h r.
+            IsAsked p h r (seen_by chains.now pins.now self.now.row) edge
+            → result ≡ asked version p h edge) }
     {
         match edge.wire {
-            Wire::Br | Wire::BgOut | Wire::Bbsy => self.ask_requester(edge, lines, chains),
-            Wire::Addr | Wire::AddressStrobe | Wire::DataStrobe => self.ask_master(edge, lines),
-            Wire::Irq | Wire::IackOut | Wire::Dtack => self.ask_interrupter(edge, lines, chains),
+            Wire::Br | Wire::BgOut | Wire::Bbsy => self.ask_requester(edge, pins, chains),
+            Wire::Addr | Wire::AddressStrobe | Wire::DataStrobe => self.ask_master(edge, pins),
+            Wire::Irq | Wire::IackOut | Wire::Dtack => self.ask_interrupter(edge, pins, chains),
             Wire::Bg(_) | Wire::Bclr | Wire::Iack | Wire::Berr => Err(Refused::NoSuchDriver),
         }
     }

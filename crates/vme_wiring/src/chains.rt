@@ -1,8 +1,6 @@
 //! The daisy chains of a backplane.
-ghost use Rattle.std.specs.Prelude.{◌≡◌, ◌&&◌, [], Some, true, false, not, is_some};
+ghost use Rattle.std.specs.Prelude.{◌≡◌, [], Some, true, false, not};
 ghost use Rattle.std.specs.List.{slice_get};
-ghost use Rattle.std.specs.Option.{option_map_or};
-ghost use Rattle.vme_model.specs.Plan.{grant_chain};
 ghost use Rattle.vme_wiring.specs.Chained.{after_board, CanMove};
 ghost use Rattle.vme_chain.specs.Segments.{input, output_number, is_clear, is_past_end};
 
@@ -23,7 +21,7 @@ pub struct Chains {
 }
 
 impl Chains {
-    ghost use Rattle.vme_wiring.specs.Chained.{chains_of, chain_at, with_segment, after_controller, CanMoveHead};
+    ghost use Rattle.vme_wiring.specs.Chained.{chains_of, chain_at, grant_in, iack_in, with_segment, after_controller, CanMoveHead};
 
     /// The chains of a plan, high everywhere.
     #[tactic(auto, using(crate::proofs::Fresh::high_segments))]
@@ -57,7 +55,7 @@ impl Chains {
     /// The input of the board's own grant chain, for a board with a requester.
     #[inline(always)]
     pub fn grant_in(&self, row: &Row) -> bool
-        ensures { result ≡ option_map_or (λ q. input (chain_at (grant_chain q.level) self.now) row.now.slot) row.now.requester false }
+        ensures { result ≡ grant_in self.now row.now }
     {
         match row.requester {
             Some(requester) => self.input(ChainId::of_grant(requester.level), row.slot),
@@ -68,7 +66,7 @@ impl Chains {
     /// The input of the acknowledge chain, for a board with an interrupter.
     #[inline(always)]
     pub fn iack_in(&self, row: &Row) -> bool
-        ensures { result ≡ (is_some row.now.interrupter && input self.now.iack row.now.slot) }
+        ensures { result ≡ iack_in self.now row.now }
     {
         row.interrupter.is_some() && self.iack.is_in_low(row.slot)
     }

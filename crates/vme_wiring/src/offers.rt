@@ -1,11 +1,9 @@
 //! What a driver is offered.
-ghost use Rattle.std.specs.Prelude.{◌≡◌, ◌≤◌, ◌<◌, ◌+◌, ◌++◌, ◌&&◌, ◌∷◌, [], List, true, Some, filter, find, length, map, nat_lt, is_some, option_map};
+ghost use Rattle.std.specs.Prelude.{◌≡◌, ◌≤◌, ◌<◌, ◌+◌, ◌++◌, ◌&&◌, ◌∷◌, [], true, Some, filter, find, length, map, nat_lt, is_some, option_map};
 ghost use Rattle.std.specs.Option.{option_to_list};
 ghost use Rattle.vme_model.specs.declared.signals.Driver.TheVariants.{Controller, Slot};
-ghost use Rattle.vme_model.specs.declared.signals.Edge.{Edge as EdgeValue};
-ghost use Rattle.vme_model.specs.declared.signals.Version.{Version as VersionValue};
 ghost use Rattle.vme_model.specs.declared.signals.Wire.TheVariants.{Bg};
-ghost use Rattle.vme_model.specs.Plan.{Plan as PlanValue, up_to};
+ghost use Rattle.vme_model.specs.Plan.{up_to};
 ghost use Rattle.vme_model.specs.Offers.{considered, going_on, next_board, turned, wanted};
 ghost use Rattle.vme_wiring.specs.Boards.{place};
 
@@ -17,7 +15,8 @@ use vme_model::{Cycle, Driver, Edge, Row, Wire};
 
 /// The slot's address group going on.
 fn showing(slot: u8, cycle: Cycle) -> Edge
-    ensures { result ≡ record { driver = Driver.Slot slot; wire = Wire.Addr; fall = true; value = Some cycle } }
+    ensures { result
+        ≡ record { driver = Driver.Slot slot; wire = Wire.Addr; fall = true; value = Some cycle } }
 {
     Edge {
         driver: Driver::Slot(slot),
@@ -29,7 +28,15 @@ fn showing(slot: u8, cycle: Cycle) -> Edge
 
 /// The slot's address group going on with an acknowledge, and with an access.
 fn showings(slot: u8, level: Option<u8>, target: Option<u8>) -> ArrayVec<Edge, 2>
-    ensures { result.items ≡ map (λ c. record { driver = Driver.Slot slot; wire = Wire.Addr; fall = true; value = Some c }) (option_to_list (option_map (λ v. Cycle.Acknowledge v) level) ++ option_to_list (option_map (λ t. Cycle.Access t) target)) }
+    ensures { result.items
+        ≡ map (λ c. record {
+          driver = Driver.Slot slot;
+          wire = Wire.Addr;
+          fall = true;
+          value = Some c;
+        })
+        (option_to_list (option_map (λ v. Cycle.Acknowledge v) level)
+        ++ option_to_list (option_map (λ t. Cycle.Access t) target)) }
 {
     let mut edges = ArrayVec::new();
     if let Some(level) = level {
@@ -42,7 +49,7 @@ fn showings(slot: u8, level: Option<u8>, target: Option<u8>) -> ArrayVec<Edge, 2
 }
 
 impl Wiring {
-    ghost use Rattle.vme_wiring.specs.Wired.{IsWiringOf};
+    ghost use Rattle.vme_wiring.specs.Wired.{OfHistory};
     ghost use Rattle.vme_wiring.specs.Quiet.{may_grant};
     ghost use Rattle.vme_wiring.specs.Offered.{is_open, offered_on, offered_but_full, requester_wires, master_wires, interrupter_wires};
 
@@ -56,7 +63,9 @@ impl Wiring {
     /// The least slot with a board above that one.
     #[tactic(auto, using(vme_slots::proofs::Slots::find_up_to_none))]
     fn board_above(&self, slot: u8) -> Option<u8>
-        ensures { result ≡ find (λ t. nat_lt slot t && is_some (place self.now.boards t)) (up_to self.now.slots) }
+        ensures { result
+            ≡ find (λ t. nat_lt slot t && is_some (place self.now.boards t))
+            (up_to self.now.slots) }
     {
         for other in 1..=self.slots {
             if self.is_board_above(other, slot) {
@@ -68,21 +77,21 @@ impl Wiring {
 
     /// The next slot with a board, from the least again after the greatest.
     fn next_board(&self, slot: u8) -> Option<u8>
-        ensures { (version : VersionValue) (p : PlanValue) (h : List EdgeValue) → IsWiringOf version p h self.now → result ≡ next_board p slot }
+        ensures { OfHistory self.now (λ _ p _. result ≡ next_board p slot) }
     {
         self.board_above(slot).or(self.board_above(0))
     }
 
     /// The highest low level that the board handles.
     fn wanted(&self, row: &Row) -> Option<u8>
-        ensures { (version : VersionValue) (p : PlanValue) (h : List EdgeValue) → IsWiringOf version p h self.now → result ≡ wanted p h row.now }
+        ensures { OfHistory self.now (λ _ p h. result ≡ wanted p h row.now) }
     {
         Handler::new(row.handler).wants(self.shared.irq)
     }
 
     /// What the driver's board considers to show: an acknowledge, and an access.
     fn going_on(&self, driver: Driver) -> ArrayVec<Edge, 2>
-        ensures { (version : VersionValue) (p : PlanValue) (h : List EdgeValue) → IsWiringOf version p h self.now → result.items ≡ going_on p h driver }
+        ensures { OfHistory self.now (λ _ p h. result.items ≡ going_on p h driver) }
     {
         let Driver::Slot(slot) = driver else {
             return ArrayVec::new();
@@ -100,7 +109,7 @@ impl Wiring {
     /// The edge without a value that moves the wire to its other state.
     #[inline(always)]
     fn turned(&self, driver: Driver, wire: Wire) -> Edge
-        ensures { (version : VersionValue) (p : PlanValue) (h : List EdgeValue) → IsWiringOf version p h self.now → result ≡ turned h driver wire }
+        ensures { OfHistory self.now (λ _ _ h. result ≡ turned h driver wire) }
     {
         Edge {
             driver,
@@ -112,7 +121,7 @@ impl Wiring {
 
     /// That edge alone.
     fn turning(&self, driver: Driver, wire: Wire) -> ArrayVec<Edge, 2>
-        ensures { (version : VersionValue) (p : PlanValue) (h : List EdgeValue) → IsWiringOf version p h self.now → result.items ≡ turned h driver wire ∷ [] }
+        ensures { OfHistory self.now (λ _ _ h. result.items ≡ turned h driver wire ∷ []) }
     {
         let mut edges = ArrayVec::new();
         edges.push(self.turned(driver, wire));
@@ -121,7 +130,7 @@ impl Wiring {
 
     /// The edges of the address group that are considered.
     fn considered_address(&self, driver: Driver) -> ArrayVec<Edge, 2>
-        ensures { (version : VersionValue) (p : PlanValue) (h : List EdgeValue) → IsWiringOf version p h self.now → result.items ≡ considered p h driver Wire.Addr }
+        ensures { OfHistory self.now (λ _ p h. result.items ≡ considered p h driver Wire.Addr) }
     {
         if self.is_low(driver, Wire::Addr) {
             self.turning(driver, Wire::Addr)
@@ -134,7 +143,8 @@ impl Wiring {
     #[inline(always)]
     fn offer(&self, edge: Edge, offers: &mut ArrayVec<Edge, 16>)
         requires { length offers.old.items < 16 }
-        ensures offered { (version : VersionValue) (p : PlanValue) (h : List EdgeValue) → IsWiringOf version p h self.now → offers.new.items ≡ offers.old.items ++ filter (is_open version p h) (edge ∷ []) }
+        ensures offered { OfHistory self.now (λ version p h. offers.new.items
+            ≡ offers.old.items ++ filter (is_open version p h) (edge ∷ [])) }
         ensures few { length offers.new.items ≤ length offers.old.items + 1 }
     {
         if self.judge(edge).is_ok() {
@@ -146,7 +156,8 @@ impl Wiring {
     #[inline(always)]
     fn offer_turned(&self, driver: Driver, wire: Wire, offers: &mut ArrayVec<Edge, 16>)
         requires { length offers.old.items < 16 }
-        ensures offered { (version : VersionValue) (p : PlanValue) (h : List EdgeValue) → IsWiringOf version p h self.now → offers.new.items ≡ offers.old.items ++ filter (is_open version p h) (turned h driver wire ∷ []) }
+        ensures offered { OfHistory self.now (λ version p h. offers.new.items
+            ≡ offers.old.items ++ filter (is_open version p h) (turned h driver wire ∷ [])) }
         ensures few { length offers.new.items ≤ length offers.old.items + 1 }
     {
         self.offer(self.turned(driver, wire), offers);
@@ -156,7 +167,8 @@ impl Wiring {
     #[inline(always)]
     fn offer_address(&self, driver: Driver, offers: &mut ArrayVec<Edge, 16>)
         requires { length offers.old.items ≤ 14 }
-        ensures offered { (version : VersionValue) (p : PlanValue) (h : List EdgeValue) → IsWiringOf version p h self.now → offers.new.items ≡ offers.old.items ++ filter (is_open version p h) (considered p h driver Wire.Addr) }
+        ensures offered { OfHistory self.now (λ version p h. offers.new.items
+            ≡ offers.old.items ++ filter (is_open version p h) (considered p h driver Wire.Addr)) }
         ensures few { length offers.new.items ≤ length offers.old.items + 2 }
     {
         for edge in self.considered_address(driver).as_slice() {
@@ -168,7 +180,8 @@ impl Wiring {
     fn offer_requester(&self, slot: u8, board: &Board, offers: &mut ArrayVec<Edge, 16>)
         requires placed { Some board.now ≡ place self.now.boards slot }
         requires room { length offers.old.items ≤ 12 }
-        ensures offered { (version : VersionValue) (p : PlanValue) (h : List EdgeValue) → IsWiringOf version p h self.now → offers.new.items ≡ offers.old.items ++ offered_on version p h (Slot slot) requester_wires }
+        ensures offered { OfHistory self.now (λ version p h. offers.new.items
+            ≡ offers.old.items ++ offered_on version p h (Slot slot) requester_wires) }
         ensures few { length offers.new.items ≤ length offers.old.items + 3 }
     {
         if self.is_requester_waiting(board) {
@@ -183,7 +196,8 @@ impl Wiring {
     fn offer_master(&self, slot: u8, board: &Board, offers: &mut ArrayVec<Edge, 16>)
         requires placed { Some board.now ≡ place self.now.boards slot }
         requires room { length offers.old.items ≤ 12 }
-        ensures offered { (version : VersionValue) (p : PlanValue) (h : List EdgeValue) → IsWiringOf version p h self.now → offers.new.items ≡ offers.old.items ++ offered_on version p h (Slot slot) master_wires }
+        ensures offered { OfHistory self.now (λ version p h. offers.new.items
+            ≡ offers.old.items ++ offered_on version p h (Slot slot) master_wires) }
         ensures few { length offers.new.items ≤ length offers.old.items + 4 }
     {
         if self.is_master_waiting(board) {
@@ -198,7 +212,8 @@ impl Wiring {
     fn offer_interrupter(&self, slot: u8, board: &Board, offers: &mut ArrayVec<Edge, 16>)
         requires placed { Some board.now ≡ place self.now.boards slot }
         requires room { length offers.old.items ≤ 12 }
-        ensures offered { (version : VersionValue) (p : PlanValue) (h : List EdgeValue) → IsWiringOf version p h self.now → offers.new.items ≡ offers.old.items ++ offered_on version p h (Slot slot) interrupter_wires }
+        ensures offered { OfHistory self.now (λ version p h. offers.new.items
+            ≡ offers.old.items ++ offered_on version p h (Slot slot) interrupter_wires) }
         ensures few { length offers.new.items ≤ length offers.old.items + 3 }
     {
         if self.is_interrupter_waiting(board) {
@@ -212,7 +227,8 @@ impl Wiring {
     /// What the slot's board is offered.
     fn board_offers(&self, slot: u8, board: &Board) -> ArrayVec<Edge, 16>
         requires { Some board.now ≡ place self.now.boards slot }
-        ensures { (version : VersionValue) (p : PlanValue) (h : List EdgeValue) → IsWiringOf version p h self.now → result.items ≡ offered_but_full version p h (Slot slot) }
+        ensures { OfHistory self.now (λ version p h. result.items
+            ≡ offered_but_full version p h (Slot slot)) }
     {
         let mut offers = ArrayVec::new();
         self.offer_requester(slot, board, &mut offers);
@@ -237,7 +253,9 @@ impl Wiring {
     fn offer_grant(&self, level: u8, is_free: bool, offers: &mut ArrayVec<Edge, 16>)
         requires room { length offers.old.items < 16 }
         requires known { is_free ≡ may_grant self.now }
-        ensures offered { (version : VersionValue) (p : PlanValue) (h : List EdgeValue) → IsWiringOf version p h self.now → offers.new.items ≡ offers.old.items ++ filter (is_open version p h) (turned h Controller (Bg level) ∷ []) }
+        ensures offered { OfHistory self.now (λ version p h. offers.new.items
+            ≡ offers.old.items ++ filter (is_open version p h)
+            (turned h Controller (Bg level) ∷ [])) }
         ensures few { length offers.new.items ≤ length offers.old.items + 1 }
     {
         if !is_free && !self.arbiter.is_low(Wire::Bg(level)) {
@@ -248,7 +266,8 @@ impl Wiring {
 
     /// What the controller is offered.
     fn controller_offers(&self) -> ArrayVec<Edge, 16>
-        ensures { (version : VersionValue) (p : PlanValue) (h : List EdgeValue) → IsWiringOf version p h self.now → result.items ≡ offered_but_full version p h Controller }
+        ensures { OfHistory self.now (λ version p h. result.items
+            ≡ offered_but_full version p h Controller) }
     {
         let mut offers = ArrayVec::new();
         let is_free = self.may_grant();
@@ -265,7 +284,8 @@ impl Wiring {
     /// What a driver is offered, but for the end of the trace: of the edges that are considered for it those that the
     /// rules allow, in the order of its wires.
     pub fn offers(&self, driver: Driver) -> ArrayVec<Edge, 16>
-        ensures { (version : VersionValue) (p : PlanValue) (h : List EdgeValue) → IsWiringOf version p h self.now → result.items ≡ offered_but_full version p h driver }
+        ensures { OfHistory self.now (λ version p h. result.items
+            ≡ offered_but_full version p h driver) }
     {
         match driver {
             Driver::Controller => self.controller_offers(),

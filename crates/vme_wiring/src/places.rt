@@ -1,13 +1,8 @@
 //! A board in its place, with what each of its edges moves and every turn asks.
-ghost use Rattle.std.specs.Prelude.{◌≡◌, ◌&&◌, ◌∷◌, [], true, not, List};
-ghost use Rattle.std.specs.Option.{option_map_or};
-ghost use Rattle.vme_model.specs.declared.boards.Row.{Row as RowValue};
-ghost use Rattle.vme_model.specs.declared.signals.Edge.{Edge as EdgeValue};
-ghost use Rattle.vme_model.specs.declared.signals.Version.{Version as VersionValue};
-ghost use Rattle.vme_model.specs.declared.signals.Wire.{Wire as WireValue};
+ghost use Rattle.std.specs.Prelude.{◌≡◌, ◌&&◌, ◌∷◌, [], true, not};
 ghost use Rattle.vme_model.specs.Plan.{Plan};
 ghost use Rattle.vme_model.specs.History.{shown as shown_after};
-ghost use Rattle.vme_wiring.specs.Boards.{parts_of, low_of, is_quiet, is_requester_quiet, is_master_quiet};
+ghost use Rattle.vme_wiring.specs.Boards.{OfParts, parts_of, is_quiet, is_requester_quiet, is_master_quiet, is_interrupter_quiet};
 
 use crate::boards::Board;
 use std::marker::Model;
@@ -40,7 +35,7 @@ pub fn is_master_quiet(board: &Board) -> bool
 /// Whether the board's interrupter, if it has one, passes no acknowledge on.
 #[inline(always)]
 fn is_interrupter_quiet(board: &Board) -> bool
-    ensures { result ≡ option_map_or (λ i. not (low_of board.now WireValue.IackOut)) board.now.row.interrupter true }
+    ensures { result ≡ is_interrupter_quiet board.now }
 {
     match board.row.interrupter {
         Some(_) => !board.is_low(Wire::IackOut),
@@ -114,7 +109,8 @@ impl Placed {
     /// Takes in an edge of the board that was made while that was shown.
     #[inline(always)]
     pub fn note(&mut self, edge: Edge, shown: Option<Cycle>)
-        ensures { (version : VersionValue) (p : Plan) (h : List EdgeValue) (r : RowValue) → self.old ≡ parts_of version p h r → shown ≡ shown_after p h → self.new ≡ parts_of version p (edge ∷ h) r }
+        ensures { OfParts self.old (λ version p h r. shown ≡ shown_after p h
+            → self.new ≡ parts_of version p (edge ∷ h) r) }
     {
         self.board.note(edge, shown);
         self.quiet = is_quiet(&self.board);

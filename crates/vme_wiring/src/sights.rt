@@ -1,10 +1,7 @@
 //! What a driver sees of a wiring, and what an answer delivers.
-ghost use Rattle.std.specs.Prelude.{◌≡◌, List};
+ghost use Rattle.std.specs.Prelude.{◌≡◌};
 ghost use Rattle.std.specs.Option.{option_copied};
-ghost use Rattle.vme_model.specs.declared.boards.Row.{Row as RowValue};
-ghost use Rattle.vme_model.specs.declared.signals.Edge.{Edge as EdgeValue};
-ghost use Rattle.vme_model.specs.declared.signals.Version.{Version as VersionValue};
-ghost use Rattle.vme_model.specs.Plan.{Plan as PlanValue, board_of};
+ghost use Rattle.vme_model.specs.Plan.{board_of};
 ghost use Rattle.vme_model.specs.History.{drive};
 ghost use Rattle.vme_model.specs.Views.{pins};
 ghost use Rattle.vme_model.specs.Deliveries.{delivery, delivered_by};
@@ -45,7 +42,7 @@ fn delivered_by(
 }
 
 impl Wiring {
-    ghost use Rattle.vme_wiring.specs.Wired.{IsWiringOf};
+    ghost use Rattle.vme_wiring.specs.Wired.{OfHistory};
 
     /// What a board reads on its pins.
     pub(crate) fn pins_at(&self, board: &Board) -> Pins
@@ -59,7 +56,7 @@ impl Wiring {
 
     /// What a driver reads on its pins.
     pub fn pins(&self, driver: Driver) -> Pins
-        ensures { (version : VersionValue) (p : PlanValue) (h : List EdgeValue) → IsWiringOf version p h self.now → result ≡ pins p h driver }
+        ensures { OfHistory self.now (λ _ p h. result ≡ pins p h driver) }
     {
         match driver {
             Driver::Controller => self.shared,
@@ -73,7 +70,7 @@ impl Wiring {
     /// Whether the driver's own wire is low, or its address group on.
     #[inline(always)]
     pub(crate) fn is_low(&self, driver: Driver, wire: Wire) -> bool
-        ensures { (version : VersionValue) (p : PlanValue) (h : List EdgeValue) → IsWiringOf version p h self.now → result ≡ drive h driver wire }
+        ensures { OfHistory self.now (λ _ _ h. result ≡ drive h driver wire) }
     {
         match driver {
             Driver::Controller => self.arbiter.is_low(wire),
@@ -86,7 +83,7 @@ impl Wiring {
 
     /// The row of the driver's board.
     fn row(&self, driver: Driver) -> Option<&Row>
-        ensures { (version : VersionValue) (p : PlanValue) (h : List EdgeValue) → IsWiringOf version p h self.now → option_copied result ≡ board_of p driver }
+        ensures { OfHistory self.now (λ _ p _. option_copied result ≡ board_of p driver) }
     {
         match driver {
             Driver::Controller => None,
@@ -100,7 +97,7 @@ impl Wiring {
     /// What an edge delivers.
     #[inline(always)]
     pub fn delivery(&self, edge: Edge) -> Option<Delivery>
-        ensures { (version : VersionValue) (p : PlanValue) (h : List EdgeValue) → IsWiringOf version p h self.now → result ≡ delivery p h edge }
+        ensures { OfHistory self.now (λ _ p h. result ≡ delivery p h edge) }
     {
         if !(edge.fall && edge.wire.is_same(Wire::Dtack)) {
             return None;

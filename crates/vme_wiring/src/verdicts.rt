@@ -1,26 +1,24 @@
 //! The verdict on an edge, but for the end of the trace.
-ghost use Rattle.std.specs.Prelude.{◌≡◌, ◌&&◌, ◌||◌, not, true, false, List, Some, Ok, nat_lt};
-ghost use Rattle.vme_model.specs.declared.signals.Edge.{Edge as EdgeValue};
-ghost use Rattle.vme_model.specs.declared.signals.Version.{Version as VersionValue};
+ghost use Rattle.std.specs.Prelude.{◌≡◌, ◌&&◌, ◌||◌, not, true, false, Some, Ok, nat_lt};
 ghost use Rattle.vme_model.specs.Signals.{is_two, is_well_formed};
-ghost use Rattle.vme_model.specs.Plan.{Plan as PlanValue, grant_chain, has_driver};
+ghost use Rattle.vme_model.specs.Plan.{grant_chain, has_driver};
 ghost use Rattle.vme_model.specs.History.{shown};
 ghost use Rattle.vme_model.specs.Settling.{is_unanswerable, settling};
 ghost use Rattle.vme_model.specs.Verdict.{check, settled, verdict_but_full};
 ghost use Rattle.vme_chain.specs.Segments.{is_past_end};
 ghost use Rattle.vme_wiring.specs.Chained.{chain_at};
-ghost use Rattle.vme_wiring.specs.Asked.{asked};
+ghost use Rattle.vme_wiring.specs.Asked.{asked, exists};
 
 use crate::wirings::Wiring;
 use vme_model::{ChainId, Cycle, Driver, Edge, Refused, Wire};
 
 impl Wiring {
-    ghost use Rattle.vme_wiring.specs.Wired.{IsWiringOf};
+    ghost use Rattle.vme_wiring.specs.Wired.{OfHistory};
 
     /// Whether the backplane has the driver, with such a wire.
     #[inline(always)]
     fn has_driver(&self, driver: Driver, wire: Wire) -> bool
-        ensures { (version : VersionValue) (p : PlanValue) (h : List EdgeValue) → IsWiringOf version p h self.now → result ≡ has_driver p driver wire }
+        ensures { OfHistory self.now (λ _ p _. result ≡ has_driver p driver wire) }
     {
         match driver {
             Driver::Controller => wire.is_controllers(),
@@ -34,7 +32,7 @@ impl Wiring {
     /// E1: whether the edge is well formed, and there is such a driver.
     #[inline(always)]
     fn exists(&self, edge: Edge) -> bool
-        ensures { (version : VersionValue) (p : PlanValue) (h : List EdgeValue) → IsWiringOf version p h self.now → result ≡ (is_well_formed edge && has_driver p edge.driver edge.wire) }
+        ensures { OfHistory self.now (λ _ p _. result ≡ exists p edge) }
     {
         edge.is_well_formed() && self.has_driver(edge.driver, edge.wire)
     }
@@ -42,7 +40,8 @@ impl Wiring {
     /// E2 and E3, by the part that drives the wire.
     #[inline(always)]
     fn ask(&self, edge: Edge) -> Result<(), Refused>
-        ensures { (version : VersionValue) (p : PlanValue) (h : List EdgeValue) → IsWiringOf version p h self.now → (is_well_formed edge && has_driver p edge.driver edge.wire) ≡ true → result ≡ asked version p h edge }
+        ensures { OfHistory self.now (λ version p h. exists p edge ≡ true
+            → result ≡ asked version p h edge) }
     {
         match edge.driver {
             Driver::Controller => self.arbiter.may(edge, self.shared),
@@ -55,7 +54,7 @@ impl Wiring {
 
     /// Whether nobody can answer the cycle.
     fn is_beyond_boards(&self, cycle: Cycle) -> bool
-        ensures { (version : VersionValue) (p : PlanValue) (h : List EdgeValue) → IsWiringOf version p h self.now → result ≡ is_unanswerable p h (Some cycle) }
+        ensures { OfHistory self.now (λ _ p h. result ≡ is_unanswerable p h (Some cycle)) }
     {
         match cycle {
             Cycle::Acknowledge(_) => self.chains.is_past_end(ChainId::Iack),
@@ -65,7 +64,7 @@ impl Wiring {
 
     /// S2: whether nobody can answer what is shown.
     fn is_unanswerable(&self) -> bool
-        ensures { (version : VersionValue) (p : PlanValue) (h : List EdgeValue) → IsWiringOf version p h self.now → result ≡ is_unanswerable p h (shown p h) }
+        ensures { OfHistory self.now (λ _ p h. result ≡ is_unanswerable p h (shown p h)) }
     {
         match self.shared.shown {
             Some(cycle) => self.is_beyond_boards(cycle),
@@ -76,7 +75,8 @@ impl Wiring {
     /// S3: whether a grant that nobody took has passed every board.
     #[inline(always)]
     fn is_grant_seen(&self, level: u8) -> bool
-        ensures { result ≡ (not (is_two self.now.version) || self.now.shared.bbsy || is_past_end (chain_at (grant_chain level) self.now.chains)) }
+        ensures { result ≡ (not (is_two self.now.version) || self.now.shared.bbsy
+            || is_past_end (chain_at (grant_chain level) self.now.chains)) }
     {
         !self.version.is_two()
             || self.shared.bbsy
@@ -94,7 +94,8 @@ impl Wiring {
     /// The number of the settling rule that names the edge, and whether it holds; 0 where none does.
     #[inline(always)]
     fn settling(&self, edge: Edge) -> (u8, bool)
-        ensures { (version : VersionValue) (p : PlanValue) (h : List EdgeValue) → IsWiringOf version p h self.now → result ≡ settling version p h edge.wire edge.fall }
+        ensures { OfHistory self.now (λ version p h. result
+            ≡ settling version p h edge.wire edge.fall) }
     {
         match (edge.wire, edge.fall) {
             (Wire::AddressStrobe, true) => (1, self.chains.is_acknowledge_clear()),
@@ -108,7 +109,9 @@ impl Wiring {
     /// E4: the settling rules.
     #[inline(always)]
     fn settle(&self, edge: Edge) -> Result<(), Refused>
-        ensures { (version : VersionValue) (p : PlanValue) (h : List EdgeValue) → IsWiringOf version p h self.now → result ≡ check (settled version p h edge) (Refused.NotSettled (settling version p h edge.wire edge.fall).0) (Ok tt) }
+        ensures { OfHistory self.now (λ version p h. result
+            ≡ check (settled version p h edge)
+            (Refused.NotSettled (settling version p h edge.wire edge.fall).0) (Ok tt)) }
     {
         let (number, holds) = self.settling(edge);
         if holds {
@@ -121,7 +124,7 @@ impl Wiring {
     /// The first of E1 to E4 that applies to an edge.
     #[inline(always)]
     pub fn judge(&self, edge: Edge) -> Result<(), Refused>
-        ensures { (version : VersionValue) (p : PlanValue) (h : List EdgeValue) → IsWiringOf version p h self.now → result ≡ verdict_but_full version p h edge }
+        ensures { OfHistory self.now (λ version p h. result ≡ verdict_but_full version p h edge) }
     {
         if !self.exists(edge) {
             return Err(Refused::NoSuchDriver);

@@ -1,12 +1,8 @@
 //! Which drivers wait for an edge of another.
-ghost use Rattle.std.specs.Prelude.{◌≡◌, ◌&&◌, ℕ, true, List, [], Some};
-ghost use Rattle.vme_model.specs.declared.boards.Row.{Row as RowValue};
+ghost use Rattle.std.specs.Prelude.{◌≡◌, ◌&&◌, true, [], Some};
 ghost use Rattle.vme_model.specs.declared.signals.Driver.TheVariants.{Slot};
-ghost use Rattle.vme_model.specs.declared.signals.Edge.{Edge as EdgeValue};
-ghost use Rattle.vme_model.specs.declared.signals.Version.{Version as VersionValue};
-ghost use Rattle.vme_model.specs.Plan.{Plan as PlanValue};
 ghost use Rattle.vme_model.specs.Readings.{readings};
-ghost use Rattle.vme_wiring.specs.Boards.{parts_of, place};
+ghost use Rattle.vme_wiring.specs.Boards.{OfParts};
 ghost use Rattle.vme_wiring.specs.Waits.{is_access_to, is_unserved, read_by, waits_for_bus};
 ghost use Rattle.vme_wiring.specs.declared.wirings.Wiring.{Wiring as WiringValue};
 
@@ -34,7 +30,8 @@ fn waits_for_bus(board: &Board) -> bool
 
 /// Whether the board's interrupter, if it has one, requests and was not served.
 fn is_unserved(board: &Board) -> bool
-    ensures { (version : VersionValue) (p : PlanValue) (h : List EdgeValue) (r : RowValue) → board.now ≡ parts_of version p h r → (w : WiringValue) → result ≡ is_unserved (read_by w board.now) board.now.row }
+    ensures { OfParts board.now (λ _ _ _ _. (w : WiringValue)
+        → result ≡ is_unserved (read_by w board.now) board.now.row) }
 {
     match board.row.interrupter {
         Some(interrupter) => board.interrupter.is_pending(interrupter.level),
@@ -43,7 +40,7 @@ fn is_unserved(board: &Board) -> bool
 }
 
 impl Wiring {
-    ghost use Rattle.vme_wiring.specs.Wired.{IsWiringOf};
+    ghost use Rattle.vme_wiring.specs.Wired.{OfHistory, OfPlaced};
     ghost use Rattle.vme_wiring.specs.Boards.{is_quiet};
     ghost use Rattle.vme_wiring.specs.Quiet.{is_ungranted, is_unaddressed};
     ghost use Rattle.vme_wiring.specs.Offered.{offered_on, offered_but_full, requester_wires, master_wires, interrupter_wires};
@@ -51,7 +48,8 @@ impl Wiring {
 
     /// Whether the board's requester, if it has one, requests the bus, may not withdraw, and no grant has reached it.
     fn waits_for_grant(&self, board: &Board) -> bool
-        ensures { result ≡ waits_for_grant self.now.version (read_by self.now board.now) board.now.row }
+        ensures { result
+            ≡ waits_for_grant self.now.version (read_by self.now board.now) board.now.row }
     {
         match board.row.requester {
             Some(requester) => {
@@ -85,24 +83,31 @@ impl Wiring {
 
     /// Whether the requester of a slot's board has no edge to make. Where it answers false, there may be none either.
     pub(crate) fn is_requester_waiting(&self, board: &Board) -> bool
-        ensures waits { (version : VersionValue) (p : PlanValue) (h : List EdgeValue) (s : ℕ) → IsWiringOf version p h self.now → Some board.now ≡ place self.now.boards s → result ≡ waits_for_grant version (readings p h (Slot s)) board.now.row }
-        ensures none { (version : VersionValue) (p : PlanValue) (h : List EdgeValue) (s : ℕ) → IsWiringOf version p h self.now → Some board.now ≡ place self.now.boards s → result ≡ true → offered_on version p h (Slot s) requester_wires ≡ [] }
+        ensures waits { OfPlaced self.now board.now (λ version p h s. result
+            ≡ waits_for_grant version (readings p h (Slot s)) board.now.row) }
+        ensures none { OfPlaced self.now board.now (λ version p h s. result ≡ true
+            → offered_on version p h (Slot s) requester_wires ≡ []) }
     {
         self.waits_for_grant(board)
     }
 
     /// The same of its master.
     pub(crate) fn is_master_waiting(&self, board: &Board) -> bool
-        ensures waits { (version : VersionValue) (p : PlanValue) (h : List EdgeValue) (s : ℕ) → IsWiringOf version p h self.now → Some board.now ≡ place self.now.boards s → result ≡ waits_for_bus (readings p h (Slot s)) }
-        ensures none { (version : VersionValue) (p : PlanValue) (h : List EdgeValue) (s : ℕ) → IsWiringOf version p h self.now → Some board.now ≡ place self.now.boards s → result ≡ true → offered_on version p h (Slot s) master_wires ≡ [] }
+        ensures waits { OfPlaced self.now board.now (λ _ p h s. result
+            ≡ waits_for_bus (readings p h (Slot s))) }
+        ensures none { OfPlaced self.now board.now (λ version p h s. result ≡ true
+            → offered_on version p h (Slot s) master_wires ≡ []) }
     {
         waits_for_bus(board)
     }
 
     /// The same of its interrupter and its answers.
     pub(crate) fn is_interrupter_waiting(&self, board: &Board) -> bool
-        ensures waits { (version : VersionValue) (p : PlanValue) (h : List EdgeValue) (s : ℕ) → IsWiringOf version p h self.now → Some board.now ≡ place self.now.boards s → result ≡ (waits_for_cycle (readings p h (Slot s)) board.now.row && is_unserved (readings p h (Slot s)) board.now.row) }
-        ensures none { (version : VersionValue) (p : PlanValue) (h : List EdgeValue) (s : ℕ) → IsWiringOf version p h self.now → Some board.now ≡ place self.now.boards s → result ≡ true → offered_on version p h (Slot s) interrupter_wires ≡ [] }
+        ensures waits { OfPlaced self.now board.now (λ _ p h s. result
+            ≡ (waits_for_cycle (readings p h (Slot s)) board.now.row
+            && is_unserved (readings p h (Slot s)) board.now.row)) }
+        ensures none { OfPlaced self.now board.now (λ version p h s. result ≡ true
+            → offered_on version p h (Slot s) interrupter_wires ≡ []) }
     {
         self.waits_for_cycle(board) && is_unserved(board)
     }
@@ -139,7 +144,8 @@ impl Wiring {
     /// to answer; that is so of most boards in most turns.
     #[inline(always)]
     fn is_board_waiting(&self, placed: &Placed) -> bool
-        ensures { result ≡ (is_quiet placed.now && is_ungranted self.now placed.now && is_unaddressed self.now placed.now) }
+        ensures { result ≡ (is_quiet placed.now
+            && is_ungranted self.now placed.now && is_unaddressed self.now placed.now) }
     {
         placed.is_quiet()
             && self.is_ungranted(placed.board())
@@ -151,8 +157,9 @@ impl Wiring {
     ///
     /// It looks at a few fields alone. Where it answers false, `offers` may still be empty.
     pub fn is_waiting(&self, driver: Driver) -> bool
-        ensures waits { (version : VersionValue) (p : PlanValue) (h : List EdgeValue) → IsWiringOf version p h self.now → result ≡ is_waiting version p h driver }
-        ensures none { (version : VersionValue) (p : PlanValue) (h : List EdgeValue) → IsWiringOf version p h self.now → result ≡ true → offered_but_full version p h driver ≡ [] }
+        ensures waits { OfHistory self.now (λ version p h. result ≡ is_waiting version p h driver) }
+        ensures none { OfHistory self.now (λ version p h. result ≡ true
+            → offered_but_full version p h driver ≡ []) }
     {
         match driver {
             Driver::Controller => false,

@@ -1,5 +1,5 @@
 //! The state that a backplane's edges lead to.
-ghost use Rattle.std.specs.Prelude.{◌≡◌, ◌<◌, ◌∷◌, [], ℕ, true, List, Some, Ok, length, option_map, set};
+ghost use Rattle.std.specs.Prelude.{◌≡◌, ◌<◌, ◌∷◌, [], ℕ, List, Some, Ok, length, option_map, set};
 ghost use Rattle.std.specs.List.{slice_get};
 ghost use Rattle.std.specs.Option.{option_copied};
 ghost use Rattle.vme_model.specs.declared.boards.ArbiterKind.{ArbiterKind as KindValue};
@@ -10,10 +10,9 @@ ghost use Rattle.vme_model.specs.Plan.{Plan as PlanValue, board};
 ghost use Rattle.vme_model.specs.History.{shown};
 ghost use Rattle.vme_model.specs.Verdict.{verdict_but_full};
 ghost use Rattle.vme_arbiter.specs.Local.{state_of as controller_of};
-ghost use Rattle.vme_wiring.specs.Boards.{parts_of, place};
+ghost use Rattle.vme_wiring.specs.Boards.{OfPlace, parts_of, place};
 ghost use Rattle.vme_wiring.specs.Counts.{high_pins, lines_after, shared_after, shared_after_controller, addressing_after};
 ghost use Rattle.vme_wiring.specs.Chained.{after_board, after_controller, CanMoveHead};
-ghost use Rattle.vme_wiring.specs.declared.boards.Board.{Board as BoardValue};
 
 use crate::boards::Board;
 use crate::chains::{Chains, note_segment};
@@ -52,7 +51,8 @@ fn board_of(plan: &Plan, slot: u8, version: Version) -> Option<Placed>
 /// The boards of a plan, before any edge.
 fn boards_of(plan: &Plan, version: Version) -> [Option<Placed>; 22]
     ensures room { length result ≡ 22 }
-    ensures boards { (s : ℕ) → s < 22 → slice_get result s ≡ Some (option_map (parts_of version plan.now []) (board plan.now s)) }
+    ensures boards { (s : ℕ) → s < 22
+        → slice_get result s ≡ Some (option_map (parts_of version plan.now []) (board plan.now s)) }
 {
     let mut boards = [None; 22];
     for slot in 0..22_u8 {
@@ -81,7 +81,7 @@ fn all_high() -> Pins
 }
 
 impl Wiring {
-    ghost use Rattle.vme_wiring.specs.Wired.{IsWiringOf, CanNote, CanTake};
+    ghost use Rattle.vme_wiring.specs.Wired.{IsWiringOf, OfHistory, CanNote, CanTake};
 
     /// The wiring of a plan at power-up, before any edge.
     pub fn new(plan: &Plan, version: Version) -> Wiring
@@ -126,7 +126,8 @@ impl Wiring {
     #[inline(always)]
     pub fn note(&mut self, edge: Edge)
         requires allowed { CanTake self.old edge }
-        ensures { (version : VersionValue) (p : PlanValue) (h : List EdgeValue) → IsWiringOf version p h self.old → verdict_but_full version p h edge ≡ Ok tt → IsWiringOf version p (edge ∷ h) self.new }
+        ensures { OfHistory self.old (λ version p h. verdict_but_full version p h edge ≡ Ok tt
+            → IsWiringOf version p (edge ∷ h) self.new) }
     {
         match edge.driver {
             Driver::Controller => self.note_controller(edge),
@@ -142,10 +143,13 @@ impl Wiring {
         ensures slots { self.new.slots ≡ self.old.slots }
         ensures boards { self.new.boards ≡ self.old.boards }
         ensures policy { self.new.arbiter.0 ≡ self.old.arbiter.0 }
-        ensures arbiter { (kind : KindValue) (version : VersionValue) (h : List EdgeValue) → self.old.arbiter.1 ≡ controller_of kind version h → self.new.arbiter.1 ≡ controller_of kind version (edge ∷ h) }
+        ensures arbiter { (kind : KindValue) (version : VersionValue) (h : List EdgeValue)
+            → self.old.arbiter.1 ≡ controller_of kind version h
+            → self.new.arbiter.1 ≡ controller_of kind version (edge ∷ h) }
         ensures lines { self.new.lines ≡ self.old.lines }
         ensures chains { self.new.chains ≡ after_controller edge.wire edge.fall self.old.chains }
-        ensures shared { self.new.shared ≡ shared_after_controller self.old.shared edge.wire edge.fall }
+        ensures shared { self.new.shared
+            ≡ shared_after_controller self.old.shared edge.wire edge.fall }
         ensures addressing { self.new.addressing ≡ self.old.addressing }
     {
         self.arbiter.note(edge);
@@ -158,15 +162,23 @@ impl Wiring {
     #[tactic(auto, using(crate::proofs::Parts::read_place))]
     fn note_board(&mut self, slot: u8, edge: Edge)
         requires slot { slot < 22 }
-        requires board { (b : BoardValue) → place self.old.boards slot ≡ Some b → CanNote self.old b.row edge }
+        requires board { OfPlace self.old.boards slot (λ b. CanNote self.old b.row edge) }
         ensures version { self.new.version ≡ self.old.version }
         ensures slots { self.new.slots ≡ self.old.slots }
-        ensures boards { (version : VersionValue) (p : PlanValue) (h : List EdgeValue) (r : RowValue) → place self.old.boards slot ≡ Some (parts_of version p h r) → self.old.shared.shown ≡ shown p h → self.new.boards ≡ set self.old.boards slot (Some (parts_of version p (edge ∷ h) r)) }
+        ensures boards { (version : VersionValue) (p : PlanValue) (h : List EdgeValue)
+            → (r : RowValue)
+            → place self.old.boards slot ≡ Some (parts_of version p h r)
+            → self.old.shared.shown ≡ shown p h
+            → self.new.boards ≡ set self.old.boards slot (Some (parts_of version p (edge ∷ h) r)) }
         ensures arbiter { self.new.arbiter ≡ self.old.arbiter }
-        ensures lines { (b : BoardValue) → place self.old.boards slot ≡ Some b → self.new.lines ≡ lines_after self.old.lines b.row edge.wire edge.fall }
-        ensures chains { (b : BoardValue) → place self.old.boards slot ≡ Some b → self.new.chains ≡ after_board b.row edge.wire edge.fall self.old.chains }
-        ensures shared { (b : BoardValue) → place self.old.boards slot ≡ Some b → self.new.shared ≡ shared_after self.old.shared self.new.lines edge.wire edge.value }
-        ensures addressing { (b : BoardValue) → place self.old.boards slot ≡ Some b → self.new.addressing ≡ addressing_after self.old.addressing slot edge.wire edge.fall }
+        ensures lines { OfPlace self.old.boards slot (λ b. self.new.lines
+            ≡ lines_after self.old.lines b.row edge.wire edge.fall) }
+        ensures chains { OfPlace self.old.boards slot (λ b. self.new.chains
+            ≡ after_board b.row edge.wire edge.fall self.old.chains) }
+        ensures shared { OfPlace self.old.boards slot (λ b. self.new.shared
+            ≡ shared_after self.old.shared self.new.lines edge.wire edge.value) }
+        ensures addressing { OfPlace self.old.boards slot (λ b. self.new.addressing
+            ≡ addressing_after self.old.addressing slot edge.wire edge.fall) }
     {
         let shown = self.shared.shown;
         match &mut self.boards[usize::from(slot)] {

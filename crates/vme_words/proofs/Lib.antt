@@ -1,2 +1,4 @@
+-- src/commands.rt: a command line, as each call adds to it
 pub mod Building
+-- src/lib.rt: what the getters of a parse give
 pub mod Operands

@@ -13,4 +13,5 @@ IsWithin (Drive scenario edges version) = (1 ≤ edges) × (edges ≤ trace_limi
 IsWithin Joined = Unit {0}
 IsWithin (Replay scenario trace) = Unit {0}
 IsWithin (Check scenario trace) = Unit {0}
-IsWithin (Run scenario edges turns version) = (1 ≤ edges) × (edges ≤ trace_limit) × (1 ≤ turns) × (turns ≤ most_turns)
+IsWithin (Run scenario edges turns version) =
+    (1 ≤ edges) × (edges ≤ trace_limit) × (1 ≤ turns) × (turns ≤ most_turns)

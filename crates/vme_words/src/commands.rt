@@ -163,8 +163,8 @@ fn taking<'a>(
     command: Result<Command<'a>, AllocError>,
     word: Arg<'a>,
 ) -> Result<Command<'a>, AllocError>
-    ensures { IfOk result (λ c. (a : App) (r : Rule) → IfOk command.entry (λ before. app_of before ≡ a) → rule_of word.entry ≡ r → r.is_simple ≡ true
-        → app_of c ≡ with_rule a r) }
+    ensures { IfOk result (λ c. (a : App) (r : Rule) → IfOk command.entry (λ before. app_of before ≡ a)
+        → rule_of word.entry ≡ r → r.is_simple ≡ true → app_of c ≡ with_rule a r) }
 {
     command?.arg(word)
 }
@@ -177,7 +177,8 @@ fn command_on_trace<'a>(
     usage: &'a str,
     example: &'a str,
 ) -> Result<Command<'a>, AllocError>
-    ensures { IfOk result (λ c. app_of c ≡ said.leaf name.entry.now (said.file (codes "TRACE") ∷ [])) }
+    ensures { IfOk result (λ c.
+        app_of c ≡ said.leaf name.entry.now (said.file (codes "TRACE") ∷ [])) }
 {
     taking(
         command(alloc, name, about, usage, example),
@@ -216,7 +217,8 @@ fn run<'a>(alloc: Global) -> Result<Command<'a>, AllocError>
 
 /// The program without its commands.
 fn program<'a>(alloc: Global) -> Result<Command<'a>, AllocError>
-    ensures { IfOk result (λ c. app_of c ≡ on_top (λ s. record s { no_binary_name = true }) (new_app (codes "vmebus"))) }
+    ensures { IfOk result (λ c.
+        app_of c ≡ on_top (λ s. record s { no_binary_name = true }) (new_app (codes "vmebus"))) }
 {
     Command::new(alloc, "vmebus")
         .no_binary_name(true)
@@ -230,7 +232,8 @@ fn offering<'a>(
     program: Result<Command<'a>, AllocError>,
     command: Result<Command<'a>, AllocError>,
 ) -> Result<Command<'a>, AllocError>
-    ensures { IfOk result (λ c. (a : App) (s : Shape) → IfOk program.entry (λ before. app_of before ≡ a) → IfOk command.entry (λ sub. shape_of sub ≡ s)
+    ensures { IfOk result (λ c. (a : App) (s : Shape) → IfOk program.entry (λ before. app_of before ≡ a)
+        → IfOk command.entry (λ sub. shape_of sub ≡ s)
         → s.is_plain ≡ true → app_of c ≡ with_subcommand a s) }
 {
     program?.subcommand(command?)

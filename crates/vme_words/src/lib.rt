@@ -1,9 +1,9 @@
 //! The words after the name of the program `vmebus`, and what they ask for.
 #![tactic(auto)]
 
-ghost use Rattle.std.specs.Prelude.{◌≡◌, ◌≤◌, ◌↔◌, ◌⊎◌, [], ◌∷◌, IfErr, IfOk, IfSome, IsSomeAnd, Ok, Some, codes, length, map};
+ghost use Rattle.std.specs.Prelude.{◌≡◌, ◌≤◌, ◌↔◌, ◌⊎◌, [], ◌∷◌, IfErr, IfOk, IfSome, IsSomeAnd, Ok, Some, codes, length};
 ghost use Rattle.clap.specs.Words.{FailsBy, IsAmong, fault_of, found_of, kind_of, rows_of, subcommand_of, subcommand_rows_of};
-ghost use Rattle.vme_words.specs.Asked.{Ask, AsksFor, IsFile, spelled, version_number};
+ghost use Rattle.vme_words.specs.Asked.{Ask, AsksFor, IsFile, spelled, texts_of, version_number};
 ghost use Rattle.vme_words.specs.Commands.{commands as commands_said};
 ghost use Rattle.vme_words.specs.Limits.{IsWithin};
 
@@ -72,7 +72,8 @@ fn file_of<'a>(operands: &ArgMatches<'a>, name: &str) -> Option<&'a str>
 /// The number that the option of that name spells, where it is 1 to `most`.
 fn number_of(operands: &ArgMatches<'_>, name: &str, most: u32) -> Option<u32>
     ensures within { IfSome result (λ n. (1 ≤ n) × (n ≤ most)) }
-    ensures spelled { IfSome result (λ n. spelled name.now (rows_of (found_of operands.now)) ≡ Some n) }
+    ensures spelled { IfSome result (λ n.
+        spelled name.now (rows_of (found_of operands.now)) ≡ Some n) }
 {
     let number = operands.get_one::<u32>(name)?;
     if 1 <= number && number <= most {
@@ -84,7 +85,8 @@ fn number_of(operands: &ArgMatches<'_>, name: &str, most: u32) -> Option<u32>
 
 /// The version of the rules, where there is one of the number that `--version` spells.
 fn version_of(operands: &ArgMatches<'_>) -> Option<Version>
-    ensures { IfSome result (λ version. spelled (codes "version") (rows_of (found_of operands.now)) ≡ Some (version_number version)) }
+    ensures { IfSome result (λ version.
+        spelled (codes "version") (rows_of (found_of operands.now)) ≡ Some (version_number version)) }
 {
     match number_of(operands, "version", 2)? {
         1 => Some(Version::One),
@@ -143,7 +145,8 @@ fn job_of<'a>(name: &str, operands: &ArgMatches<'a>) -> Option<Job<'a>>
 /// The job that the command of a parse asks for.
 fn job_in<'a>(matches: &ArgMatches<'a>) -> Option<Job<'a>>
     ensures within { IfSome result IsWithin }
-    ensures asked { IfSome result (λ job. IsSomeAnd (subcommand_rows_of matches.now) (λ met. AsksFor met.0 met.1 job)) }
+    ensures asked { IfSome result (λ job.
+        IsSomeAnd (subcommand_rows_of matches.now) (λ met. AsksFor met.0 met.1 job)) }
 {
     let (name, operands) = matches.subcommand()?;
     job_of(name, operands)
@@ -151,8 +154,9 @@ fn job_in<'a>(matches: &ArgMatches<'a>) -> Option<Job<'a>>
 
 /// What the command line makes of words.
 fn parsed<'a>(alloc: Global, words: &'a [&'a str]) -> Result<ArgMatches<'a>, Error>
-    ensures fault { FailsBy (fault_of commands_said (map (λ word. word.now) words.entry.now)) result }
-    ensures found { IfOk result (λ m. subcommand_rows_of m ≡ subcommand_of commands_said (map (λ word. word.now) words.entry.now)) }
+    ensures fault { FailsBy (fault_of commands_said (texts_of words.entry.now)) result }
+    ensures found { IfOk result (λ m.
+        subcommand_rows_of m ≡ subcommand_of commands_said (texts_of words.entry.now)) }
 {
     commands(alloc)?.try_get_matches_from(words)
 }
@@ -160,8 +164,9 @@ fn parsed<'a>(alloc: Global, words: &'a [&'a str]) -> Result<ArgMatches<'a>, Err
 /// The job that words ask for, where they name a command.
 fn asked<'a>(alloc: Global, words: &'a [&'a str]) -> Result<Option<Job<'a>>, Error>
     ensures within { IfOk result (λ job. IfSome job IsWithin) }
-    ensures asked { IfOk result (λ job. IfSome job (λ found. IsSomeAnd (subcommand_of commands_said (map (λ word. word.now) words.entry.now)) (λ met. AsksFor met.0 met.1 found))) }
-    ensures fault { FailsBy (fault_of commands_said (map (λ word. word.now) words.entry.now)) result }
+    ensures asked { IfOk result (λ job. IfSome job (λ found.
+        IsSomeAnd (subcommand_of commands_said (texts_of words.entry.now)) (λ met. AsksFor met.0 met.1 found))) }
+    ensures fault { FailsBy (fault_of commands_said (texts_of words.entry.now)) result }
 {
     Ok(job_in(&parsed(alloc, words)?))
 }
@@ -178,10 +183,12 @@ fn missing(alloc: Global) -> Result<Error, AllocError>
 /// No words ask for [`Job::Joined`]. An error's `Display` is the text for the user; a call for help is one too.
 pub fn words<'a>(alloc: Global, words: &'a [&'a str]) -> Result<Job<'a>, Error>
     ensures within { IfOk result IsWithin }
-    ensures asked { IfOk result (Ask (map (λ word. word.now) words.entry.now)) }
-    ensures taken { IfOk result (λ _. (length words.entry.now ≡ 0) ⊎ (fault_of commands_said (map (λ word. word.now) words.entry.now) ≡ [])) }
+    ensures asked { IfOk result (Ask (texts_of words.entry.now)) }
+    ensures taken { IfOk result (λ _.
+        (length words.entry.now ≡ 0) ⊎ (fault_of commands_said (texts_of words.entry.now) ≡ [])) }
     ensures refused { IfErr result (λ error. IsAmong (kind_of error)
-        (ErrorKind.OutOfMemory ∷ ErrorKind.MissingSubcommand ∷ fault_of commands_said (map (λ word. word.now) words.entry.now))) }
+        (ErrorKind.OutOfMemory ∷ ErrorKind.MissingSubcommand
+        ∷ fault_of commands_said (texts_of words.entry.now))) }
     ensures joined { (result ≡ Ok Job.Joined) ↔ (length words.entry.now ≡ 0) }
 {
     if words.is_empty() {

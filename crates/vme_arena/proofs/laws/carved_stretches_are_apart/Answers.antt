@@ -1,4 +1,4 @@
-use Rattle.vme_arena.proofs.Carving.{carved_within, carved_apart}
+use Rattle.vme_arena.proofs.CarvedStretches.{carved_within, carved_apart}
 use Rattle.vme_arena.proofs.laws.carved_stretches_are_apart.Goals as goal
 
 pub returns-clause-within : goal.returns-clause-within

@@ -1,7 +1,7 @@
 use Rattle.std.proofs.Common.{arith, sym, ap, ◌∙◌}
 use Rattle.std.proofs.lemmas.List.{take_all, length-reverse}
 use Rattle.vme_model.specs.History.{in_order}
-use Rattle.vme_lock.proofs.Differing.{own, went_on, passed, stopped, ends}
+use Rattle.vme_lock.proofs.LogDifference.{own, went_on, passed, stopped, ends}
 use Rattle.vme_lock.proofs.closing.difference.Goals as goal
 use Rattle.vme_lock.proofs.closing.difference.Goals.{then-is_same+else-not-stands_at, else-is_same}
 

@@ -1,6 +1,6 @@
 use Rattle.std.specs.Prelude.{◌≡◌, ◌≤◌, take, length}
 use Rattle.vme_model.specs.History.{in_order}
-use Rattle.vme_lock.proofs.Differing.{own}
+use Rattle.vme_lock.proofs.LogDifference.{own}
 use Rattle.vme_lock.proofs.closing.difference.Given as goal
 
 abbrev pub invariant-loop-place : goal.invariant-loop-place

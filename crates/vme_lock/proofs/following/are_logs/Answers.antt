@@ -1,5 +1,5 @@
 use Rattle.vme_lock.specs.Seats.{drivers_of}
-use Rattle.vme_lock.proofs.Fronts.{all_logs}
+use Rattle.vme_lock.proofs.OnePass.{all_logs}
 use Rattle.vme_lock.proofs.following.are_logs.Goals as goal
 
 pub returns : goal.returns

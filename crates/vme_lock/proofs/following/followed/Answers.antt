@@ -4,7 +4,7 @@ use Rattle.std.proofs.lemmas.Option.{slice_get_read}
 use Rattle.vme_model.specs.declared.signals.Edge.{Edge}
 use Rattle.vme_model.specs.History.{in_order}
 use Rattle.vme_lock.specs.Following.{AreFronts}
-use Rattle.vme_lock.proofs.Fronts.{fronts_more, end_within}
+use Rattle.vme_lock.proofs.OnePass.{fronts_more, end_within}
 use Rattle.vme_lock.proofs.following.followed.Goals as goal
 
 pub overflow_add-ends : goal.overflow_add-ends

@@ -1,7 +1,7 @@
 use Rattle.std.proofs.Common.{arith, length, ◌∙◌}
 use Rattle.std.proofs.lemmas.List.{length-set}
 use Rattle.vme_lock.specs.Seats.{drivers_of}
-use Rattle.vme_lock.proofs.Fronts.{numbered_more, driver_at, all_numbered}
+use Rattle.vme_lock.proofs.OnePass.{numbered_more, driver_at, all_numbered}
 use Rattle.vme_lock.proofs.following.numbers_of.Goals as goal
 
 pub loop-number-preserved : goal.loop-number-preserved

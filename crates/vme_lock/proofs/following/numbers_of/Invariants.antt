@@ -1,6 +1,6 @@
 use Rattle.std.specs.Prelude.{◌≡◌, length}
 use Rattle.vme_lock.specs.Seats.{drivers_of}
-use Rattle.vme_lock.proofs.Fronts.{AreNumberedBelow}
+use Rattle.vme_lock.proofs.OnePass.{AreNumberedBelow}
 use Rattle.vme_lock.proofs.following.numbers_of.Given as goal
 
 abbrev pub invariant-loop-number : goal.invariant-loop-number

@@ -1,6 +1,6 @@
 use Rattle.std.proofs.Common.{arith}
 use Rattle.std.proofs.lemmas.Bool.Decides.{nat_tests}
-use Rattle.vme_lock.proofs.Differing.{stands, stands_not}
+use Rattle.vme_lock.proofs.LogDifference.{stands, stands_not}
 use Rattle.vme_lock.proofs.following.stands_at.Goals as goal
 
 pub returns-then-at-len : goal.returns-then-at-len

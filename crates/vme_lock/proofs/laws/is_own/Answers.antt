@@ -2,7 +2,7 @@ use Rattle.std.proofs.Common.{sym, ap, ◌∙◌, subst}
 use Rattle.std.specs.Prelude.{slice_index}
 use Rattle.vme_lock.specs.Seats.{Place, Keeping}
 use Rattle.vme_lock.specs.Holds.{IsOwn, edge_answer}
-use Rattle.vme_lock.proofs.Answering.{edge_lost}
+use Rattle.vme_lock.proofs.HoldAnswers.{edge_lost}
 use Rattle.vme_lock.proofs.laws.is_own.Goals as goal
 
 pub returns-then-count-seat : goal.returns-then-count-seat

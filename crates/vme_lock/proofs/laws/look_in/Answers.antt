@@ -2,7 +2,7 @@ use Rattle.std.proofs.Common.{sym, ap, ◌∙◌}
 use Rattle.std.specs.Prelude.{slice_index}
 use Rattle.vme_lock.specs.declared.views.View.{View}
 use Rattle.vme_lock.specs.Holds.{look_answer}
-use Rattle.vme_lock.proofs.Answering.{look_lost, look_seen, seen_is}
+use Rattle.vme_lock.proofs.HoldAnswers.{look_lost, look_seen, seen_is}
 use Rattle.vme_lock.proofs.laws.look_in.Goals as goal
 
 pub returns-then-own-seat-clause-answer : goal.returns-then-own-seat-clause-answer

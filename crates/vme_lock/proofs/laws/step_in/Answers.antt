@@ -4,8 +4,8 @@ use Rattle.std.proofs.lemmas.List.Sums.{count_by-le-length}
 use Rattle.vme_model.specs.Signals.{is_same_driver}
 use Rattle.vme_lock.specs.Seats.{Place, Keeping}
 use Rattle.vme_lock.specs.Holds.{IsOwn}
-use Rattle.vme_lock.proofs.Counting.{at_most}
-use Rattle.vme_lock.proofs.Holding.{stepped, held_after}
+use Rattle.vme_lock.proofs.DeskCounts.{at_most}
+use Rattle.vme_lock.proofs.OneHold.{stepped, held_after}
 use Rattle.vme_lock.proofs.laws.step_in.Goals as goal
 
 pub overflow_add-counts : goal.overflow_add-counts

@@ -2,7 +2,7 @@ use Rattle.std.proofs.Common.{sym, ap, ◌∙◌}
 use Rattle.std.specs.Prelude.{slice_index}
 use Rattle.vme_lock.specs.declared.views.Turn.{Turn}
 use Rattle.vme_lock.specs.Holds.{turn_answer}
-use Rattle.vme_lock.proofs.Answering.{turn_lost, turn_seen, turn_is}
+use Rattle.vme_lock.proofs.HoldAnswers.{turn_lost, turn_seen, turn_is}
 use Rattle.vme_lock.proofs.laws.turn_in.Goals as goal
 
 pub returns-then-made-seat-clause-answer : goal.returns-then-made-seat-clause-answer

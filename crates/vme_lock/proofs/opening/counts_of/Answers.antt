@@ -2,7 +2,7 @@ use Rattle.std.proofs.Common.{arith, sym, ◌∙◌, subst}
 use Rattle.std.proofs.lemmas.List.{take_all, length-reverse}
 use Rattle.vme_model.specs.History.{in_order}
 use Rattle.vme_lock.specs.Seats.{AreCounts}
-use Rattle.vme_lock.proofs.Counting.{counted_next, counted_past, AreCounts-in_order}
+use Rattle.vme_lock.proofs.DeskCounts.{counted_next, counted_past, AreCounts-in_order}
 use Rattle.vme_lock.proofs.opening.counts_of.Goals as goal
 use Rattle.vme_lock.proofs.opening.counts_of.Goals.{in-Some, in-None}
 

@@ -1,6 +1,6 @@
 use Rattle.std.proofs.lemmas.List.Elements.{All-push}
-use Rattle.vme_lock.specs.Logs.{IsWithin}
-use Rattle.vme_lock.proofs.Joining.{AllWorked-push}
+use Rattle.vme_lock.specs.Seats.{IsWithin}
+use Rattle.vme_lock.proofs.SeatsAndLogs.{AllWorked-push}
 use Rattle.vme_lock.proofs.threads.+fn-run_all-join+arg3+run_all.Goals as goal
 
 pub returns-clause-worked : goal.returns-clause-worked

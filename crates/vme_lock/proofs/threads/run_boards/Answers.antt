@@ -1,4 +1,4 @@
-use Rattle.vme_lock.proofs.Joining.{same_drivers}
+use Rattle.vme_lock.proofs.SeatsAndLogs.{same_drivers}
 use Rattle.vme_lock.proofs.threads.run_boards.Goals as goal
 
 pub returns-clause-drivers : goal.returns-clause-drivers

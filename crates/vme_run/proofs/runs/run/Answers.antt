@@ -1,4 +1,4 @@
-use Rattle.vme_run.proofs.Following.{fits, written}
+use Rattle.vme_run.proofs.WhatIsLeft.{fits, written}
 use Rattle.vme_run.proofs.runs.run.Goals as goal
 
 pub returns-in-Ok-made_twice : goal.returns-in-Ok-made_twice

@@ -3,7 +3,7 @@ use Rattle.std.proofs.lemmas.Grind.{common_steps}
 use Rattle.std.proofs.lemmas.List.{length-append}
 use Rattle.std.specs.Vec.Iter.{into_iter_items}
 use Rattle.vme_store.specs.Pages.{Page}
-use Rattle.vme_store.proofs.Filling.{another_page}
+use Rattle.vme_store.proofs.FilledPages.{another_page}
 use Rattle.vme_store.proofs.traces.reserved.Goals as goal
 
 pub loop-lease-preserved : goal.loop-lease-preserved

@@ -2,7 +2,7 @@ use Rattle.std.proofs.Common.{◌∙◌}
 use Rattle.vme_model.specs.declared.signals.Driver.TheVariants.{Controller}
 use Rattle.vme_model.specs.Views.{pins}
 use Rattle.vme_interrupter.specs.Local.{seen}
-use Rattle.vme_wiring.proofs.Waiting.{unserved, own_state}
+use Rattle.vme_wiring.proofs.NoOffers.{unserved, own_state}
 use Rattle.vme_wiring.proofs.waits.is_unserved.Goals as goal
 
 pub returns-in-Some : goal.returns-in-Some

@@ -7,7 +7,7 @@ use denote.Memory.{cell_at}
 use denote.Shadow.{pure_l}
 use denote.Steps.{opens}
 use Rattle.vme_arena.proofs.Values.{granules_val, granules_own, granules_told, granules_made, granules_type, loan_val, loan_own, loan_made}
-use Rattle.vme_arena.proofs.Lending.{lends}
+use Rattle.vme_arena.proofs.LentGranules.{lends}
 use Rattle.vme_arena.specs.Ownership.{Spot, homes_at}
 use Rattle.vme_arena.specs.contracts.granules.Granules as granules
 use Rattle.vme_arena.specs.contracts.granules.Granules.lend.{ended, clauses}

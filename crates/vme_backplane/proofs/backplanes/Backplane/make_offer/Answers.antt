@@ -1,7 +1,7 @@
 use Rattle.std.proofs.Common.{◌∙◌, sym, length}
 use Rattle.std.specs.Prelude.{◌%◌}
 use Rattle.vme_model.specs.Offers.{offered}
-use Rattle.vme_backplane.proofs.Making.{offer_is_accepted}
+use Rattle.vme_backplane.proofs.AcceptedOffers.{offer_is_accepted}
 use Rattle.vme_backplane.proofs.backplanes.Backplane.make_offer.Goals as goal
 
 pub make_by_wire-requires : goal.make_by_wire-requires

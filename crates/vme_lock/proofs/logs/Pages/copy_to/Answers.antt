@@ -1,6 +1,6 @@
 use Rattle.std.proofs.Common.{◌++◌, arith, sym, ap, ◌∙◌, length, take, append_assoc, length-append}
 use Rattle.vme_lock.specs.Logs.{joined}
-use Rattle.vme_lock.proofs.Paging.{joined-next, joined-front}
+use Rattle.vme_lock.proofs.LogPages.{joined-next, joined-front}
 use Rattle.vme_lock.proofs.logs.Pages.copy_to.Goals as goal
 
 pub copy_page-requires : goal.copy_page-requires

@@ -1,8 +1,8 @@
 use Rattle.std.proofs.Common.{◌<◌, ◌-◌, ◌++◌, ◌∷◌, [], arith, sym, ap, ◌∙◌, set}
 use Rattle.std.specs.Prelude.{vec_len}
 use Rattle.vme_lock.specs.Logs.{joined, room_of}
-use Rattle.vme_lock.proofs.Edges.{never}
-use Rattle.vme_lock.proofs.Paging.{fits, some_page, joined-set}
+use Rattle.vme_lock.proofs.OneEdge.{never}
+use Rattle.vme_lock.proofs.LogPages.{fits, some_page, joined-set}
 use Rattle.vme_lock.proofs.logs.Pages.push.Goals as goal
 use Rattle.vme_lock.proofs.logs.Pages.push.Goals.{in-Some, in-None}
 

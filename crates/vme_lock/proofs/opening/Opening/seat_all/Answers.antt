@@ -2,7 +2,7 @@ use Rattle.std.proofs.Common.{◌≡◌, ◌+◌, ◌≤◌, arith, refl, sym, a
 use Rattle.std.specs.Prelude.{slice_index, is_some}
 use Rattle.vme_model.specs.Plan.{board}
 use Rattle.vme_model.specs.declared.signals.Driver.TheVariants.{Controller, Slot}
-use Rattle.vme_lock.proofs.Seating.{seated_first, seated_more, seated_same, seated_all, all_counted, board_sits}
+use Rattle.vme_lock.proofs.AllSeats.{seated_first, seated_more, seated_same, seated_all, all_counted, board_sits}
 use Rattle.vme_lock.proofs.opening.Opening.seat_all.Goals as goal
 use Rattle.vme_lock.proofs.opening.Opening.seat_all.Goals.{then-has_board, else-has_board}
 

@@ -1,5 +1,5 @@
 use Rattle.std.specs.Prelude.{◌≡◌, ◌≤◌, vec_capacity}
-use Rattle.vme_lock.proofs.Seating.{AreSeated}
+use Rattle.vme_lock.proofs.AllSeats.{AreSeated}
 use Rattle.vme_lock.proofs.opening.Opening.seat_all.Given as goal
 
 abbrev pub invariant-loop-below : goal.invariant-loop-below

@@ -1,5 +1,5 @@
 use Rattle.std.proofs.Common.{arith, ap, length}
-use Rattle.vme_lock.proofs.Joining.{as_many}
+use Rattle.vme_lock.proofs.SeatsAndLogs.{as_many}
 use Rattle.vme_lock.proofs.shared.Shared.close.Goals as goal
 
 pub count_all-requires-clause-all : goal.count_all-requires-clause-all

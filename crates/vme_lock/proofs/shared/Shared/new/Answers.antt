@@ -2,7 +2,7 @@ use Rattle.std.proofs.Common.{◌≡◌, ◌+◌, [], sym, ap, ◌∙◌, subst,
 use Rattle.vme_model.specs.Plan.{drivers}
 use Rattle.vme_model.specs.Verdict.{State}
 use Rattle.vme_lock.specs.Seats.{drivers_of}
-use Rattle.vme_lock.proofs.Seating.{drivers-seats_of}
+use Rattle.vme_lock.proofs.AllSeats.{drivers-seats_of}
 use Rattle.vme_lock.proofs.shared.Shared.new.Goals as goal
 
 pub invariant_of-held : goal.invariant_of-held

@@ -4,7 +4,7 @@ use Rattle.vme_model.specs.declared.signals.Edge.{Edge}
 use Rattle.vme_store.specs.Codes.{edge_of}
 use Rattle.vme_store.specs.Pages.{Page}
 use Rattle.vme_store.proofs.RoundTrip.{round_trip}
-use Rattle.vme_store.proofs.Filling.{longer}
+use Rattle.vme_store.proofs.FilledPages.{longer}
 use Rattle.vme_store.proofs.pages.Page.push.Goals as goal
 
 abbrev page_of : List Edge → ℕ → Page

@@ -4,7 +4,7 @@ use Rattle.std.proofs.lemmas.List.{reverse-reverse}
 use Rattle.std.proofs.lemmas.Option.{slice_get-get_or, get_or_from_slice_get}
 use Rattle.vme_model.specs.declared.signals.Edge.{Edge}
 use Rattle.vme_store.specs.Pages.{Store, stored}
-use Rattle.vme_store.proofs.Filling.{length_of, stored_length, has_page, is_there, stored_at}
+use Rattle.vme_store.proofs.FilledPages.{length_of, stored_length, has_page, is_there, stored_at}
 use Rattle.vme_store.proofs.stores.Store.edge_at.Goals as goal
 
 pub index-page-requires : goal.index-page-requires

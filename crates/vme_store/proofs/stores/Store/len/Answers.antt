@@ -1,5 +1,5 @@
 use Rattle.std.proofs.Common.{sym}
-use Rattle.vme_store.proofs.Filling.{length_of}
+use Rattle.vme_store.proofs.FilledPages.{length_of}
 use Rattle.vme_store.proofs.stores.Store.len.Goals as goal
 
 pub returns : goal.returns

@@ -2,7 +2,7 @@ use Rattle.std.proofs.Common.{◌/◌, ◌<◌, ℕ, [], ◌∷◌, List, length
 use Rattle.std.proofs.lemmas.List.{reverse-append}
 use Rattle.vme_model.specs.declared.signals.Edge.{Edge}
 use Rattle.vme_store.specs.Pages.{Store, stored}
-use Rattle.vme_store.proofs.Filling.{length_of, has_page, has_room, pages_after, stored_after}
+use Rattle.vme_store.proofs.FilledPages.{length_of, has_page, has_room, pages_after, stored_after}
 use Rattle.vme_store.proofs.stores.Store.push.Goals as goal
 
 abbrev store_of : List Edge → ℕ → Store

@@ -13,9 +13,9 @@ use Rattle.vme_model.proofs.Bools.{and_left, and_right}
 use Rattle.vme_arbiter.specs.declared.policies.AnyPolicy.{AnyPolicy}
 use Rattle.vme_model.specs.Verdict.{ruling}
 use Rattle.vme_arbiter.specs.Local.{over}
-use Rattle.vme_wiring.proofs.Asking.{controller_asked}
-use Rattle.vme_wiring.proofs.Noting.{placed_board}
-use Rattle.vme_wiring.proofs.Seeing.{pins_of_board}
+use Rattle.vme_wiring.proofs.RuleRows.{controller_asked}
+use Rattle.vme_wiring.proofs.LongerHistory.{placed_board}
+use Rattle.vme_wiring.proofs.FieldReads.{pins_of_board}
 use Rattle.vme_wiring.proofs.wirings.Wiring.ask.Goals as goal
 
 pub returns-in-Controller : goal.returns-in-Controller

@@ -2,7 +2,7 @@ use Rattle.std.proofs.Common.{◌∙◌, ap, ◌++◌, List}
 use Rattle.vme_model.specs.declared.signals.Driver.TheVariants.{Slot}
 use Rattle.vme_model.specs.declared.signals.Edge.{Edge}
 use Rattle.vme_wiring.specs.Offered.{offered_on, requester_wires, master_wires, interrupter_wires}
-use Rattle.vme_wiring.proofs.Waiting.{parts_joined}
+use Rattle.vme_wiring.proofs.NoOffers.{parts_joined}
 use Rattle.vme_wiring.proofs.wirings.Wiring.board_offers.Goals as goal
 
 pub returns : goal.returns

@@ -1,7 +1,7 @@
 use Rattle.std.proofs.Common.{◌∙◌, sym, ap}
 use Rattle.std.specs.Prelude.{Some}
 use Rattle.vme_model.specs.Settling.{is_unanswerable}
-use Rattle.vme_wiring.proofs.Seeing.{past_boards}
+use Rattle.vme_wiring.proofs.FieldReads.{past_boards}
 use Rattle.vme_wiring.proofs.wirings.Wiring.is_beyond_boards.Goals as goal
 
 pub returns-in-Acknowledge : goal.returns-in-Acknowledge

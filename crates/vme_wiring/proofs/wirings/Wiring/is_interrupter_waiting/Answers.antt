@@ -3,8 +3,8 @@ use Rattle.std.specs.Prelude.{◌&&◌}
 use Rattle.vme_model.specs.declared.signals.Driver.TheVariants.{Slot}
 use Rattle.vme_model.specs.Readings.{readings}
 use Rattle.vme_wiring.specs.Waits.{waits_for_cycle, is_unserved}
-use Rattle.vme_wiring.proofs.Noting.{placed_board}
-use Rattle.vme_wiring.proofs.Waiting.{interrupter_none, reads_cycle, reads_service, row_here}
+use Rattle.vme_wiring.proofs.LongerHistory.{placed_board}
+use Rattle.vme_wiring.proofs.NoOffers.{interrupter_none, reads_cycle, reads_service, row_here}
 use Rattle.vme_wiring.proofs.wirings.Wiring.is_interrupter_waiting.Goals as goal
 
 pub returns-then-waits_for_cycle-clause-waits : goal.returns-then-waits_for_cycle-clause-waits

@@ -3,8 +3,8 @@ use Rattle.std.specs.Option.{option_copied}
 use Rattle.vme_model.specs.declared.signals.Driver.{Driver}
 use Rattle.vme_model.specs.History.{drive}
 use Rattle.vme_arbiter.specs.Local.{low}
-use Rattle.vme_wiring.proofs.Offering.{own_of_place}
-use Rattle.vme_wiring.proofs.Seeing.{no_board_in, own_of_controller, own_of_none}
+use Rattle.vme_wiring.proofs.ConsideredReads.{own_of_place}
+use Rattle.vme_wiring.proofs.FieldReads.{no_board_in, own_of_controller, own_of_none}
 use Rattle.vme_wiring.proofs.wirings.Wiring.is_low.Goals as goal
 
 pub returns-in-Controller : goal.returns-in-Controller

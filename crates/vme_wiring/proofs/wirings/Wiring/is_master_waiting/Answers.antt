@@ -1,5 +1,5 @@
 use Rattle.std.proofs.Common.{◌∙◌, sym}
-use Rattle.vme_wiring.proofs.Waiting.{reads_bus, master_none, row_here}
+use Rattle.vme_wiring.proofs.NoOffers.{reads_bus, master_none, row_here}
 use Rattle.vme_wiring.proofs.wirings.Wiring.is_master_waiting.Goals as goal
 
 pub returns-clause-waits : goal.returns-clause-waits

@@ -1,5 +1,5 @@
 use Rattle.std.proofs.Common.{◌∙◌, sym}
-use Rattle.vme_wiring.proofs.Waiting.{reads_grant, requester_none, row_here}
+use Rattle.vme_wiring.proofs.NoOffers.{reads_grant, requester_none, row_here}
 use Rattle.vme_wiring.proofs.wirings.Wiring.is_requester_waiting.Goals as goal
 
 pub returns-clause-waits : goal.returns-clause-waits

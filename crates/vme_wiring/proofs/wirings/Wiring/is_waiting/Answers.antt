@@ -5,9 +5,9 @@ use Rattle.vme_model.specs.declared.signals.Driver.TheVariants.{Slot}
 use Rattle.vme_model.specs.Readings.{readings}
 use Rattle.vme_wiring.specs.Waits.{is_waiting, is_unserved, read_by, waits_for_bus, waits_for_cycle, waits_for_grant}
 use Rattle.vme_wiring.specs.declared.boards.Board.{Board}
-use Rattle.vme_wiring.proofs.Noting.{placed_board}
+use Rattle.vme_wiring.proofs.LongerHistory.{placed_board}
 use Rattle.vme_wiring.proofs.Quiet.{quiet_reads, all_but_last, one_moves}
-use Rattle.vme_wiring.proofs.Waiting.{reads_service, waits_here, waiting_none}
+use Rattle.vme_wiring.proofs.NoOffers.{reads_service, waits_here, waiting_none}
 use Rattle.vme_wiring.proofs.wirings.Wiring.is_waiting.Goals as goal
 
 pub returns-then-is_board_waiting-clause-waits : goal.returns-then-is_board_waiting-clause-waits

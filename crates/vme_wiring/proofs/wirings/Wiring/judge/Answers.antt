@@ -1,5 +1,5 @@
 use Rattle.std.proofs.Common.{◌∙◌, sym}
-use Rattle.vme_wiring.proofs.Judging.{refused, passed}
+use Rattle.vme_wiring.proofs.JudgedParts.{refused, passed}
 use Rattle.vme_wiring.proofs.wirings.Wiring.judge.Goals as goal
 
 pub returns-in-Ok : goal.returns-in-Ok

@@ -2,7 +2,7 @@ use Rattle.std.proofs.Common.{◌∙◌, sym, ap}
 use Rattle.std.specs.Option.{option_copied}
 use Rattle.vme_model.specs.declared.signals.Driver.{Driver}
 use Rattle.vme_wiring.specs.Offered.{offered_but_full}
-use Rattle.vme_wiring.proofs.Waiting.{nobody}
+use Rattle.vme_wiring.proofs.NoOffers.{nobody}
 use Rattle.vme_wiring.proofs.wirings.Wiring.offers.Goals as goal
 
 pub returns-in-None : goal.returns-in-None

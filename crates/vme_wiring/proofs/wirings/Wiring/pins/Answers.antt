@@ -4,8 +4,8 @@ use Rattle.vme_model.specs.declared.signals.Driver.{Driver}
 use Rattle.vme_model.specs.declared.signals.Driver.TheVariants.{Slot}
 use Rattle.vme_model.specs.Plan.{board}
 use Rattle.vme_model.specs.Views.{pins}
-use Rattle.vme_wiring.proofs.Noting.{placed_board}
-use Rattle.vme_wiring.proofs.Seeing.{pins_of_board}
+use Rattle.vme_wiring.proofs.LongerHistory.{placed_board}
+use Rattle.vme_wiring.proofs.FieldReads.{pins_of_board}
 use Rattle.vme_wiring.proofs.wirings.Wiring.pins.Goals as goal
 
 pub returns-in-Some : goal.returns-in-Some

@@ -1,6 +1,6 @@
 use Rattle.std.proofs.Common.{◌∙◌, ap, true, false}
 use Rattle.vme_model.specs.declared.signals.Wire.TheVariants.{Bg, AddressStrobe}
-use Rattle.vme_wiring.proofs.Seeing.{pair, settling_at, acknowledge_clear, grant_seen, grant_gone}
+use Rattle.vme_wiring.proofs.FieldReads.{pair, settling_at, acknowledge_clear, grant_seen, grant_gone}
 use Rattle.vme_wiring.proofs.wirings.Wiring.settling.Goals as goal
 
 pub returns-in-AddressStrobe-true : goal.returns-in-AddressStrobe-true

@@ -3,7 +3,7 @@ use Rattle.std.specs.Prelude.{◌&&◌, find}
 use Rattle.vme_model.specs.declared.sets.Levels.{Levels}
 use Rattle.vme_model.specs.Sets.{has_level}
 use Rattle.vme_model.specs.Offers.{irq_descending}
-use Rattle.vme_wiring.proofs.Offering.{wants}
+use Rattle.vme_wiring.proofs.ConsideredReads.{wants}
 use Rattle.vme_wiring.proofs.wirings.Wiring.wanted.Goals as goal
 
 pub returns : goal.returns

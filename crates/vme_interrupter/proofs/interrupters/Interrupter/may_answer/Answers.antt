@@ -1,0 +1,8 @@
+use Rattle.std.proofs.Common.{◌∙◌, ap}
+use Rattle.vme_rules.proofs.Moves.{ruled_alone}
+use Rattle.vme_interrupter.proofs.interrupters.Interrupter.may_answer.Goals as goal
+
+pub returns : goal.returns
+returns c = λ value.
+    c.allowed.ensures
+    ∙ ruled_alone c.args.self.now.dtack c.args.fall (cc (c.if-self-fall.false, ap (λ i. i.dtack) c.self.view_is)) (c.answer_rule.ensures.number value) (c.answer_rule.ensures.answer value)

@@ -1,0 +1,8 @@
+use Rattle.std.proofs.Common.{◌∙◌, ap}
+use Rattle.vme_rules.proofs.Moves.{ruled_alone}
+use Rattle.vme_interrupter.proofs.interrupters.Interrupter.may_pass.Goals as goal
+
+pub returns : goal.returns
+returns c = λ value.
+    c.allowed.ensures
+    ∙ ruled_alone c.args.self.now.iackout c.args.fall (cc (c.if-self-fall.false, ap (λ i. i.iackout) c.self.view_is)) (c.pass_rule.ensures.number value) (c.pass_rule.ensures.answer value)

@@ -1,0 +1,8 @@
+use Rattle.std.proofs.Common.{◌∙◌, ap}
+use Rattle.vme_rules.proofs.Moves.{ruled_alone}
+use Rattle.vme_master.proofs.masters.Master.may_address.Goals as goal
+
+pub returns : goal.returns
+returns c =
+    c.allowed.ensures
+    ∙ ruled_alone c.args.self.now.addr c.args.fall (cc (c.if-self-fall.false, ap (λ m. m.addr) c.self.view_is)) (c.address_rule.ensures.number) (c.address_rule.ensures.answer)

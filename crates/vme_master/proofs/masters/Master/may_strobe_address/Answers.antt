@@ -1,0 +1,8 @@
+use Rattle.std.proofs.Common.{◌∙◌, ap}
+use Rattle.vme_rules.proofs.Moves.{ruled_alone}
+use Rattle.vme_master.proofs.masters.Master.may_strobe_address.Goals as goal
+
+pub returns : goal.returns
+returns c = λ holds_bus value.
+    c.allowed.ensures
+    ∙ ruled_alone c.args.self.now.address_strobe c.args.fall (cc (c.if-self-fall.false, ap (λ m. m.address_strobe) c.self.view_is)) (c.address_strobe_rule.ensures.number holds_bus value) (c.address_strobe_rule.ensures.answer holds_bus value)

@@ -1,0 +1,8 @@
+use Rattle.std.proofs.Common.{◌∙◌, ap}
+use Rattle.vme_rules.proofs.Moves.{ruled_alone}
+use Rattle.vme_requester.proofs.requesters.Requester.may_request.Goals as goal
+
+pub returns : goal.returns
+returns c = λ pins is_address_free value.
+    c.allowed.ensures
+    ∙ ruled_alone c.args.self.now.br c.args.fall (cc (c.if-self-fall.false, ap (λ r. r.br) c.self.view_is)) (c.request_rule.ensures.number pins is_address_free value) (c.request_rule.ensures.answer pins is_address_free value)

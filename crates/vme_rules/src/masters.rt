@@ -1,0 +1,98 @@
+//! The guards of a master's wires.
+ghost use Rattle.vme_model.specs.Guards.{Guard};
+ghost use Rattle.vme_model.specs.Sets.{has_level};
+ghost use Rattle.vme_model.specs.Rules.{below_burst, shows, addr_goes_on, as_falls, ds_falls, ds_rises, addr_goes_off, as_rises};
+
+use crate::outcomes::Outcome;
+use vme_model::{Condition, Cycle, Levels, Release};
+
+/// Part of G15: RWD has fewer cycles than its burst, ROR as many as it will.
+#[inline(always)]
+pub fn below_burst<A: Outcome>(cycles: u8, release: Release) -> A
+    ensures { A.tells result (below_burst cycles release) }
+{
+    match release {
+        Release::Done { burst } => A::asks(Condition::WithinBurst, cycles < burst),
+        Release::Request => A::free(),
+    }
+}
+
+/// Part of G15: an acknowledge is of a level that the board handles and that is requested.
+#[inline(always)]
+pub fn shows<A: Outcome>(handler: Levels, irq: Levels, value: Option<Cycle>) -> A
+    ensures { A.tells result (shows (has_level handler) (has_level irq) value) }
+{
+    match value {
+        Some(Cycle::Acknowledge(level)) => A::asks(Condition::Handled, handler.has(level)).and(
+            A::asks(Condition::InterruptLow, irq.has(level)),
+        ),
+        _ => A::free(),
+    }
+}
+
+/// G15: the address group goes on.
+#[inline(always)]
+pub fn addr_goes_on<A: Outcome>(bbsy: bool, address_strobe: bool, bursting: A, showing: A) -> A
+    ensures { (g k : Guard) → A.tells bursting g → A.tells showing k →
+        A.tells result (addr_goes_on bbsy address_strobe g k) }
+{
+    A::asks(Condition::OwnBusyLow, bbsy)
+        .and(A::asks(Condition::AddressStrobeHigh, !address_strobe))
+        .and(bursting)
+        .and(showing)
+}
+
+/// G16: the strobe says that the address is good.
+#[inline(always)]
+pub fn as_falls<A: Outcome>(addr: bool, address_strobe: bool) -> A
+    ensures { A.tells result (as_falls addr address_strobe) }
+{
+    A::asks(Condition::OwnAddressOn, addr).and(A::asks(
+        Condition::AddressStrobeHigh,
+        !address_strobe,
+    ))
+}
+
+/// G17: the transfer begins.
+#[inline(always)]
+pub fn ds_falls<A: Outcome>(
+    own_strobe: bool,
+    addr: bool,
+    dtack: bool,
+    berr: bool,
+    has_strobed: bool,
+) -> A
+    ensures { A.tells result (ds_falls own_strobe addr dtack berr has_strobed) }
+{
+    A::asks(Condition::OwnAddressStrobeLow, own_strobe)
+        .and(A::asks(Condition::OwnAddressOn, addr))
+        .and(A::asks(Condition::DtackHigh, !dtack))
+        .and(A::asks(Condition::BerrHigh, !berr))
+        .and(A::asks(Condition::NotStrobed, !has_strobed))
+}
+
+/// G18: it ends.
+#[inline(always)]
+pub fn ds_rises<A: Outcome>(dtack: bool, berr: bool) -> A
+    ensures { A.tells result (ds_rises dtack berr) }
+{
+    A::asks(Condition::Answered, dtack || berr)
+}
+
+/// G19: the address group goes off.
+#[inline(always)]
+pub fn addr_goes_off<A: Outcome>(own_strobe: bool, own_data_strobe: bool, has_strobed: bool) -> A
+    ensures { A.tells result (addr_goes_off own_strobe own_data_strobe has_strobed) }
+{
+    A::asks(Condition::OwnAddressStrobeLow, own_strobe)
+        .and(A::asks(Condition::OwnDataStrobeHigh, !own_data_strobe))
+        .and(A::asks(Condition::Strobed, has_strobed))
+}
+
+/// G20: the cycle ends.
+#[inline(always)]
+pub fn as_rises<A: Outcome>(addr: bool) -> A
+    ensures { A.tells result (as_rises addr) }
+{
+    A::asks(Condition::OwnAddressOff, !addr)
+}

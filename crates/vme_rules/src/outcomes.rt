@@ -1,0 +1,99 @@
+//! What a guard answers.
+ghost use Rattle.std.specs.Prelude.{◌≡◌, ◌≤◌, Ok};
+ghost use Rattle.vme_model.specs.Guards.{Guard, free, asks, ◌⊓◌, unless, holds, failed};
+ghost use Rattle.vme_model.specs.Verdict.{check};
+ghost use Rattle.vme_rules.specs.Room.{most};
+
+use arrayvec::ArrayVec;
+use vme_model::{Condition, Refused};
+
+/// What is asked of a guard: whether it holds, or which of its conditions fail.
+///
+/// A rule is written once, for each of them: by a function for each way to make a guard.
+pub trait Outcome {
+    /// It is the answer of that guard.
+    ghost tells: { Self → Guard → Type 0 };
+
+    /// Of the guard without a condition.
+    fn free() -> Self
+        ensures { tells result free };
+
+    /// Of one condition, and whether it holds.
+    fn asks(condition: Condition, holds: bool) -> Self
+        ensures { tells result (asks condition holds) };
+
+    /// Of two guards at once, this one's conditions first.
+    fn and(self, other: Self) -> Self
+        ensures { (g k : Guard) → tells self g → tells other k → tells result (g ⊓ k) };
+
+    /// Of a guard that does not bind where that holds.
+    fn unless(self, is_free: bool) -> Self
+        ensures { (g : Guard) → tells self g → tells result (unless is_free g) };
+}
+
+/// Whether the guard holds.
+impl Outcome for bool {
+    ghost tells = { λ result g. result ≡ holds g };
+
+    #[inline(always)]
+    fn free() -> bool {
+        true
+    }
+
+    #[inline(always)]
+    fn asks(_condition: Condition, holds: bool) -> bool {
+        holds
+    }
+
+    #[inline(always)]
+    fn and(self, other: bool) -> bool {
+        self && other
+    }
+
+    #[inline(always)]
+    fn unless(self, is_free: bool) -> bool {
+        is_free || self
+    }
+}
+
+/// Which of the guard's conditions fail, in the guard's order, where it has at most five.
+impl Outcome for ArrayVec<Condition, 5> {
+    ghost tells = { λ result g. most g ≤ 5 → result.items ≡ failed g };
+
+    fn free() -> ArrayVec<Condition, 5> {
+        ArrayVec::new()
+    }
+
+    fn asks(condition: Condition, holds: bool) -> ArrayVec<Condition, 5> {
+        let mut failed = ArrayVec::new();
+        if !holds {
+            failed.push(condition);
+        }
+        failed
+    }
+
+    fn and(mut self, other: ArrayVec<Condition, 5>) -> ArrayVec<Condition, 5> {
+        let _fits = self.try_extend_from_slice(other.as_slice()).is_ok();
+        self
+    }
+
+    fn unless(self, is_free: bool) -> ArrayVec<Condition, 5> {
+        if is_free { ArrayVec::new() } else { self }
+    }
+}
+
+/// The answer to an edge that moves its wire, by the rule that names it and whether its guard holds.
+///
+/// # Errors
+/// E3 where it does not.
+#[inline(always)]
+pub fn allowed(rule: (u8, bool)) -> Result<(), Refused>
+    ensures { result ≡ check rule.1 (Refused.Rule rule.0) (Ok tt) }
+{
+    let (number, holds) = rule;
+    if holds {
+        Ok(())
+    } else {
+        Err(Refused::Rule(number))
+    }
+}

@@ -1,0 +1,73 @@
+//! The guards of a requester's wires.
+ghost use Rattle.vme_model.specs.Guards.{Guard};
+ghost use Rattle.vme_model.specs.Rules.{br_falls, br_rises, bgout_falls, bgout_rises, bbsy_falls, released, bbsy_rises};
+
+use crate::outcomes::Outcome;
+use vme_model::{Condition, Release, Version};
+
+/// G9: the board asks for the bus.
+#[inline(always)]
+pub fn br_falls<A: Outcome>(bbsy: bool) -> A
+    ensures { A.tells result (br_falls bbsy) }
+{
+    A::asks(Condition::OwnBusyHigh, !bbsy)
+}
+
+/// G10: it asks no longer.
+#[inline(always)]
+pub fn br_rises<A: Outcome>(version: Version, bbsy: bool) -> A
+    ensures { A.tells result (br_rises version bbsy) }
+{
+    A::asks(Condition::OwnBusyLow, bbsy).unless(version.is_two())
+}
+
+/// G11: it hands a grant on.
+#[inline(always)]
+pub fn bgout_falls<A: Outcome>(grant_in: bool, br: bool, bbsy: bool) -> A
+    ensures { A.tells result (bgout_falls grant_in br bbsy) }
+{
+    A::asks(Condition::GrantInLow, grant_in)
+        .and(A::asks(Condition::OwnRequestHigh, !br))
+        .and(A::asks(Condition::OwnBusyHigh, !bbsy))
+}
+
+/// G12: the end of a grant is handed on.
+#[inline(always)]
+pub fn bgout_rises<A: Outcome>(grant_in: bool) -> A
+    ensures { A.tells result (bgout_rises grant_in) }
+{
+    A::asks(Condition::GrantInHigh, !grant_in)
+}
+
+/// G13: it takes the bus.
+#[inline(always)]
+pub fn bbsy_falls<A: Outcome>(grant_in: bool, bgout: bool, br: bool) -> A
+    ensures { A.tells result (bbsy_falls grant_in bgout br) }
+{
+    A::asks(Condition::GrantInLow, grant_in)
+        .and(A::asks(Condition::OwnGrantOutHigh, !bgout))
+        .and(A::asks(Condition::OwnRequestLow, br))
+}
+
+/// Part of G14: RWD waits for nothing, ROR until another board asks.
+#[inline(always)]
+pub fn released<A: Outcome>(is_asked: bool, release: Release) -> A
+    ensures { A.tells result (released is_asked release) }
+{
+    match release {
+        Release::Done { .. } => A::free(),
+        Release::Request => A::asks(Condition::Asked, is_asked),
+    }
+}
+
+/// G14: it gives the bus up.
+#[inline(always)]
+pub fn bbsy_rises<A: Outcome>(br: bool, grant_in: bool, is_address_free: bool, releasing: A) -> A
+    ensures { (g : Guard) → A.tells releasing g →
+        A.tells result (bbsy_rises br grant_in is_address_free g) }
+{
+    A::asks(Condition::OwnRequestHigh, !br)
+        .and(A::asks(Condition::GrantInHigh, !grant_in))
+        .and(A::asks(Condition::AddressFree, is_address_free))
+        .and(releasing)
+}

@@ -1,0 +1,93 @@
+-- What the functions of a run tell one another.
+use Rattle.std.specs.Prelude.{◌≡◌, ◌==◌, ◌≤◌, ◌+◌, ◌*◌, ℕ, List, length, Option, Ok, Err, if◌then◌else◌}
+use Rattle.std.specs.Io.KnownBytes.{Appends}
+use Rattle.vme_model.specs.declared.signals.Version.{Version}
+use Rattle.vme_model.specs.declared.signals.Driver.{Driver}
+use Rattle.vme_model.specs.declared.signals.Edge.{Edge}
+use Rattle.vme_model.specs.Plan.{Plan, drivers}
+use Rattle.vme_model.specs.History.{in_order}
+use Rattle.vme_model.specs.Verdict.{State, IsLegal}
+use Rattle.vme_model.specs.Safe.{IsSafe}
+use Rattle.vme_model.specs.Text.{text}
+use Rattle.vme_scenario.specs.Format.{scenario}
+use Rattle.vme_trace.specs.declared.Fault.TheVariants.{Write}
+use Rattle.vme_trace.specs.Writing.{AppendsFront}
+use Rattle.vme_engines.specs.declared.Status.TheVariants.{Done, Limit}
+use Rattle.vme_engines.specs.declared.EngineFault.TheVariants as fault
+use Rattle.vme_engines.specs.Outcomes.{scenario_limit}
+use Rattle.vme_engines.specs.Steps.{IsNoPlan}
+use Rattle.vme_lock.specs.Seats.{Place, Follows}
+use Rattle.vme_lock.specs.Closing.{IsClosing, AreLogs, FirstDiffers}
+use Rattle.vme_run.specs.declared.RunFault.{RunFault}
+use Rattle.vme_run.specs.declared.RunFault.TheVariants.{Engine, NotStarted, LogDiffers, NotReplayed}
+use Rattle.vme_run.specs.Running.{AreInTurns, AreHandedBack, RunAnswer, Runs}
+
+-- the scenario is read as this plan
+pub record IsRead (lent : List ℕ) (p : Plan) : Type 0 where
+  pub short : length lent ≤ scenario_limit
+  pub read : scenario lent ≡ Ok p
+
+-- why there is no plan
+abbrev pub IsUnread : List ℕ → RunFault → Type 0
+IsUnread lent (Engine f) = IsNoPlan lent f
+IsUnread lent _ = ⊥
+
+-- the lock of a backplane gave it back, with the seats as they were handed to it
+pub record IsClosed (opened : State) (seats : List Place) (b : State) : Type 0 where
+  pub closing : IsClosing opened seats b
+  pub safe : IsSafe b.plan b.history
+  pub fits : length b.history ≤ b.max
+
+-- each driver's edges are the log that was handed in
+abbrev pub IsClosedWith : State → List Place → List (List Edge) → State → Type 0
+IsClosedWith opened seats logs b =
+    IsClosed opened seats b × AreLogs b.history (drivers opened.plan) logs
+
+-- L4, of the logs that were handed in
+abbrev pub IsClosedApart : State → List Place → List (List Edge) → RunFault → Type 0
+IsClosedApart opened seats logs (LogDiffers driver at) =
+    (b : State) × IsClosed opened seats b
+    × FirstDiffers b.history (drivers opened.plan) logs driver at
+IsClosedApart opened seats logs _ = ⊥
+
+-- the drivers of a backplane made edges of its rules, in all at most one for each turn of each, and nothing else changed
+abbrev pub IsGrown : ℕ → State → State → Type 0
+IsGrown turns opened b =
+    Follows opened b × IsLegal b.version b.plan b.history × IsSafe b.plan b.history
+    × (length b.history ≤ b.max)
+    × (length b.history ≤ length opened.history + turns * length (drivers opened.plan))
+
+-- and no driver has more of them than turns
+abbrev pub IsPlayed : ℕ → State → State → Type 0
+IsPlayed turns opened b = IsGrown turns opened b × AreInTurns turns (drivers opened.plan) b.history
+
+-- the logs of the workers of a backplane that grew are not its drivers' edges
+abbrev pub HasGrownApart : ℕ → State → State → Driver → ℕ → Type 0
+HasGrownApart turns opened b driver at =
+    (logs : List (List Edge)) × (made : ℕ)
+    × AreHandedBack turns (length (drivers opened.plan)) made logs
+    × (length b.history ≡ length opened.history + made)
+    × FirstDiffers b.history (drivers opened.plan) logs driver at
+
+-- Why a backplane was not played: F3, L3, or L4.
+abbrev pub IsNotPlayed : ℕ → State → RunFault → Type 0
+IsNotPlayed turns opened (Engine fault.NoMemory) = Unit {0}
+IsNotPlayed turns opened (Engine _) = ⊥
+IsNotPlayed turns opened NotStarted = Unit {0}
+IsNotPlayed turns opened (LogDiffers driver at) =
+    (b : State) × IsGrown turns opened b × HasGrownApart turns opened b driver at
+IsNotPlayed turns opened (NotReplayed at) = ⊥
+
+-- the fault ends a run of so many edges at most, with nothing written
+abbrev pub EndsRun : List ℕ → Version → ℕ → ℕ → RunFault → Type 0
+EndsRun lent version most turns f =
+    (n : ℕ) (old : Option (List ℕ)) → most ≤ n → Runs lent version n turns old old (Err f)
+
+-- what is left of the trace of a backplane, and the answer
+abbrev pub IsWritten : State → ℕ → Option (List ℕ) → Option (List ℕ) → RunAnswer → Type 0
+IsWritten b n old new (Ok status) =
+    Appends old new (text b.version (in_order b.history))
+    × (status ≡ (if length b.history == n then Limit else Done))
+IsWritten b n old new (Err (Engine (fault.Trace f))) =
+    (f ≡ Write) × AppendsFront old new (text b.version (in_order b.history))
+IsWritten b n old new (Err _) = ⊥

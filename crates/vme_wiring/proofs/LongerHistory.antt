@@ -1,0 +1,264 @@
+-- The wiring after an edge is that of the longer history.
+use Rattle.std.proofs.Common.{◌≡◌, ◌∙◌, refl, sym, ap, subst, ℕ, zero, suc, Bool, true, false, List, [], ◌∷◌, ◌<◌, length, arith}
+use Rattle.std.specs.Prelude.{◌==◌, not, Option, Some, None, Ok, option_map, set}
+use Rattle.std.specs.List.{slice_get}
+use Rattle.std.specs.Option.{option_and_then, option_map_or}
+use Rattle.std.proofs.lemmas.Bool.Decides.{nat_tests}
+use Rattle.std.proofs.lemmas.List.{length-set}
+use Rattle.vme_model.specs.declared.boards.Row.{Row}
+use Rattle.vme_model.specs.declared.boards.ArbiterKind.{ArbiterKind}
+use Rattle.vme_model.specs.declared.pins.Pins.{Pins}
+use Rattle.vme_model.specs.declared.signals.Version.{Version}
+use Rattle.vme_model.specs.declared.signals.Driver.{Driver}
+use Rattle.vme_model.specs.declared.signals.Driver.TheVariants.{Controller, Slot}
+use Rattle.vme_model.specs.declared.signals.Wire.{Wire}
+use Rattle.vme_model.specs.declared.signals.Wire.TheVariants.{Bg, Bclr, Iack, Berr, Br, BgOut, Bbsy, Addr, AddressStrobe, DataStrobe, Irq, IackOut, Dtack}
+use Rattle.vme_model.specs.declared.signals.Cycle.{Cycle}
+use Rattle.vme_model.specs.declared.signals.Edge.{Edge}
+use Rattle.vme_model.specs.Signals.{has_wire, is_same_driver}
+use Rattle.vme_model.specs.Plan.{Plan, board, has_driver, drives}
+use Rattle.vme_model.specs.Accepted.{IsAccepted}
+use Rattle.vme_model.specs.History.{drive, addressing}
+use Rattle.vme_model.specs.Verdict.{verdict_but_full}
+use Rattle.vme_model.proofs.AllowedEdges.{all_passed}
+use Rattle.vme_arbiter.specs.declared.policies.AnyPolicy.{AnyPolicy}
+use Rattle.vme_arbiter.specs.Local.{State as ControllerState, state_of as controller_of}
+use Rattle.vme_wiring.specs.Boards.{parts_of, place}
+use Rattle.vme_wiring.specs.Counts.{IsLines, lines_after, shared_after, shared_after_controller, addressing_after, is_movable, count_of}
+use Rattle.vme_wiring.specs.Chained.{after_board, after_controller, CanMove, CanMoveHead}
+use Rattle.vme_wiring.specs.Wired.{IsWiringOf}
+use Rattle.vme_wiring.specs.declared.boards.Board.{Board}
+use Rattle.vme_wiring.specs.declared.wirings.Wiring.{Wiring}
+use Rattle.vme_wiring.proofs.Parts.{part}
+use Rattle.vme_wiring.proofs.Others.{parts_same}
+use Rattle.vme_wiring.proofs.AllowedBoards.{Stands, stands, driven, at, at_head, flipped}
+use Rattle.vme_wiring.proofs.LineNotes.{counted, uncounted, shared_by_board, shared_by_controller}
+use Rattle.vme_wiring.proofs.ChainNotes.{chained, can_move, chained_head, can_move_head}
+use Rattle.vme_wiring.proofs.AddressNotes.{IsShownAt, shown_at}
+
+-- one place of the boards is written
+set_here : {A : Type 0} (xs : List A) (s : ℕ) (x : A) → s < length xs → slice_get (set xs s x) s ≡ Some x
+set_here {A} [] s x l = absurd (omega arith)
+set_here {A} (y ∷ xs) zero x l = refl
+set_here {A} (y ∷ xs) (suc s) x l = set_here xs s x (omega arith)
+
+set_there : {A : Type 0} (xs : List A) (s t : ℕ) (x : A) → (t == s) ≡ false → slice_get (set xs s x) t ≡ slice_get xs t
+set_there {A} [] s t x e = refl
+set_there {A} (y ∷ xs) zero zero x e = absurd (grind (arith, nat_tests))
+set_there {A} (y ∷ xs) zero (suc t) x e = refl
+set_there {A} (y ∷ xs) (suc s) zero x e = refl
+set_there {A} (y ∷ xs) (suc s) (suc t) x e = set_there xs s t x (grind (arith, nat_tests))
+
+-- boards of other slots
+other_board : (version : Version) (p : Plan) (h : List Edge) (e : Edge) (o : Option Row) → ((r : Row) → o ≡ Some r → is_same_driver e.driver (Slot r.slot) ≡ false) → option_map (parts_of version p h) o ≡ option_map (parts_of version p (e ∷ h)) o
+other_board version p h e None others = refl
+other_board version p h e (Some r) others = ap (λ (b : Board). Some b) (sym (parts_same version p h e r (others r refl)))
+
+abbrev IsBoards : Version → Plan → List Edge → List (Option Board) → Type 0
+IsBoards version p h boards = (s : ℕ) → place boards s ≡ option_map (parts_of version p h) (board p s)
+
+boards_after : (version : Version) (p : Plan) (h : List Edge) (s : ℕ) (r : Row) (w : Wire) (fall : Bool) (v : Option Cycle) (boards : List (Option Board)) → IsAccepted p → Stands p s r → length boards ≡ 22 → IsBoards version p h boards →
+    IsBoards version p (at s w fall v ∷ h) (set boards s (Some (parts_of version p (at s w fall v ∷ h) r)))
+boards_after version p h s r w fall v boards ok k room old t = by_slot (t == s) refl
+  where
+    by_slot : (b : Bool) → (t == s) ≡ b → place (set boards s (Some (parts_of version p (at s w fall v ∷ h) r))) t ≡ option_map (parts_of version p (at s w fall v ∷ h)) (board p t)
+    by_slot true is =
+        let same : t ≡ s = grind (arith, nat_tests) in
+        let near = k.near in
+        let P : ℕ → Type 0 = λ x. place (set boards s (Some (parts_of version p (at s w fall v ∷ h) r))) x ≡ option_map (parts_of version p (at s w fall v ∷ h)) (board p x) in
+        subst P (sym same) (
+        ap (option_and_then (λ b. b)) (set_here boards s (Some (parts_of version p (at s w fall v ∷ h) r)) (omega arith))
+        ∙ ap (option_map (parts_of version p (at s w fall v ∷ h))) (sym k.found))
+    by_slot false is =
+        ap (option_and_then (λ b. b)) (set_there boards s t (Some (parts_of version p (at s w fall v ∷ h) r)) is)
+        ∙ old t
+        ∙ other_board version p h (at s w fall v) (board p t) (λ q found. let same = (stands p t q ok found).slot in subst (λ x. (s == x) ≡ false) (sym same) (flipped t s is))
+
+boards_kept : (version : Version) (p : Plan) (h : List Edge) (w : Wire) (fall : Bool) (v : Option Cycle) (boards : List (Option Board)) → IsBoards version p h boards → IsBoards version p (at_head w fall v ∷ h) boards
+boards_kept version p h w fall v boards old t = old t ∙ other_board version p h (at_head w fall v) (board p t) (λ r found. refl)
+
+-- a board's edge leaves the controller
+controller_kept : (kind : ArbiterKind) (version : Version) (h : List Edge) (s : ℕ) (w : Wire) (fall : Bool) (v : Option Cycle) → has_wire (Slot s) w ≡ true → controller_of kind version h ≡ controller_of kind version (at s w fall v ∷ h)
+controller_kept kind version h s Br true v has = refl
+controller_kept kind version h s Br false v has = refl
+controller_kept kind version h s BgOut true v has = refl
+controller_kept kind version h s BgOut false v has = refl
+controller_kept kind version h s Bbsy true v has = refl
+controller_kept kind version h s Bbsy false v has = refl
+controller_kept kind version h s Addr true v has = refl
+controller_kept kind version h s Addr false v has = refl
+controller_kept kind version h s AddressStrobe true v has = refl
+controller_kept kind version h s AddressStrobe false v has = refl
+controller_kept kind version h s DataStrobe true v has = refl
+controller_kept kind version h s DataStrobe false v has = refl
+controller_kept kind version h s Irq true v has = refl
+controller_kept kind version h s Irq false v has = refl
+controller_kept kind version h s IackOut true v has = refl
+controller_kept kind version h s IackOut false v has = refl
+controller_kept kind version h s Dtack true v has = refl
+controller_kept kind version h s Dtack false v has = refl
+controller_kept kind version h s w fall v has = absurd (cc)
+
+-- the slot that is on
+addressing_by : (p : Plan) (h : List Edge) (s : ℕ) (w : Wire) (fall : Bool) (v : Option Cycle) → has_wire (Slot s) w ≡ true → (w ≡ Addr → addressing p (at s w fall v ∷ h) ≡ addressing_after (addressing p h) s w fall) → addressing_after (addressing p h) s w fall ≡ addressing p (at s w fall v ∷ h)
+addressing_by p h s Addr fall v has on = sym (on refl)
+addressing_by p h s Br fall v has on = refl
+addressing_by p h s BgOut fall v has on = refl
+addressing_by p h s Bbsy fall v has on = refl
+addressing_by p h s AddressStrobe fall v has on = refl
+addressing_by p h s DataStrobe fall v has on = refl
+addressing_by p h s Irq fall v has on = refl
+addressing_by p h s IackOut fall v has on = refl
+addressing_by p h s Dtack fall v has on = refl
+addressing_by p h s w fall v has on = absurd (cc)
+
+addressing_kept : (p : Plan) (h : List Edge) (w : Wire) (fall : Bool) (v : Option Cycle) → has_wire Controller w ≡ true → addressing p h ≡ addressing p (at_head w fall v ∷ h)
+addressing_kept p h (Bg n) fall v has = refl
+addressing_kept p h Bclr fall v has = refl
+addressing_kept p h Iack fall v has = refl
+addressing_kept p h Berr fall v has = refl
+addressing_kept p h w fall v has = absurd (cc)
+
+-- what an edge of a board leaves
+pub record IsNotedByBoard (version : Version) (p : Plan) (h : List Edge) (s : ℕ) (r : Row) (e : Edge) (old new : Wiring) : Type 0 where
+  pub rules : new.version ≡ old.version
+  pub slots : new.slots ≡ old.slots
+  pub boards : new.boards ≡ set old.boards s (Some (parts_of version p (e ∷ h) r))
+  pub arbiter : new.arbiter ≡ old.arbiter
+  pub lines : new.lines ≡ lines_after old.lines r e.wire e.fall
+  pub chains : new.chains ≡ after_board r e.wire e.fall old.chains
+  pub shared : new.shared ≡ shared_after old.shared new.lines e.wire e.value
+  pub addressing : new.addressing ≡ addressing_after old.addressing s e.wire e.fall
+
+board_noted : (version : Version) (p : Plan) (h : List Edge) (s : ℕ) (r : Row) (w : Wire) (fall : Bool) (v : Option Cycle) (old new : Wiring) → IsWiringOf version p h old → verdict_but_full version p h (at s w fall v) ≡ Ok tt → board p s ≡ Some r → IsNotedByBoard version p h s r (at s w fall v) old new →
+    IsWiringOf version p (at s w fall v ∷ h) new
+board_noted version p h s r w fall v old new is allowed found n =
+    let e = at s w fall v in
+    let k = stands p s r is.accepted found in
+    let d = driven version p h s r w fall v found allowed in
+    let lines : IsLines p (e ∷ h) new.lines = subst (IsLines p (e ∷ h)) (sym n.lines) (counted p h s r w fall v old.lines is.accepted k d is.lines).lines in
+    record {
+      accepted = is.accepted;
+      legal = (allowed, is.legal);
+      rules = n.rules ∙ is.rules;
+      slots = n.slots ∙ is.slots;
+      room = ap length n.boards ∙ length-set old.boards s (Some (parts_of version p (e ∷ h) r)) ∙ is.room;
+      boards = subst (IsBoards version p (e ∷ h)) (sym n.boards) (boards_after version p h s r w fall v old.boards is.accepted k is.room is.boards);
+      arbiter = n.arbiter ∙ is.arbiter ∙ ap (λ (c : ControllerState). (record { kind = p.arbiter }, c)) (controller_kept p.arbiter version h s w fall v d.wire);
+      lines = lines;
+      chains = n.chains ∙ ap (after_board r w fall) is.chains ∙ sym (chained p h s r w fall v k d);
+      shared = n.shared ∙ ap (λ (x : Pins). shared_after x new.lines w v) is.shared ∙ shared_by_board p h s w fall v new.lines d.wire lines (λ on. (shows on).shown);
+      addressing = n.addressing ∙ ap (λ o. addressing_after o s w fall) is.addressing ∙ addressing_by p h s w fall v d.wire (λ on. (shows on).addressing);
+    }
+  where
+    shows : w ≡ Addr → IsShownAt p h s w fall v
+    shows on = shown_at version p h s r w fall v is.accepted is.legal allowed (stands p s r is.accepted found) (driven version p h s r w fall v found allowed) on
+
+pub noted_by_board : (version : Version) (p : Plan) (h : List Edge) (s : ℕ) (r : Row) (e : Edge) (old new : Wiring) → IsWiringOf version p h old → verdict_but_full version p h e ≡ Ok tt → e.driver ≡ Slot s → board p s ≡ Some r → IsNotedByBoard version p h s r e old new →
+    IsWiringOf version p (e ∷ h) new
+noted_by_board version p h s r e old new is allowed driver found n =
+    let of = λ (d : Driver). let x : Edge = record { driver = d; wire = e.wire; fall = e.fall; value = e.value } in x in
+    let P : Driver → Type 0 = λ d. verdict_but_full version p h (of d) ≡ Ok tt → IsNotedByBoard version p h s r (of d) old new → IsWiringOf version p (of d ∷ h) new in
+    let all : P (Slot s) = λ a m. board_noted version p h s r e.wire e.fall e.value old new is a found m in
+    subst P (sym driver) all allowed n
+
+-- what an edge of the controller leaves
+pub record IsNotedByController (version : Version) (p : Plan) (h : List Edge) (e : Edge) (old new : Wiring) : Type 0 where
+  pub rules : new.version ≡ old.version
+  pub slots : new.slots ≡ old.slots
+  pub boards : new.boards ≡ old.boards
+  pub policy : new.arbiter.0 ≡ old.arbiter.0
+  pub arbiter : old.arbiter.1 ≡ controller_of p.arbiter version h → new.arbiter.1 ≡ controller_of p.arbiter version (e ∷ h)
+  pub lines : new.lines ≡ old.lines
+  pub chains : new.chains ≡ after_controller e.wire e.fall old.chains
+  pub shared : new.shared ≡ shared_after_controller old.shared e.wire e.fall
+  pub addressing : new.addressing ≡ old.addressing
+
+controller_noted : (version : Version) (p : Plan) (h : List Edge) (w : Wire) (fall : Bool) (v : Option Cycle) (old new : Wiring) → IsWiringOf version p h old → verdict_but_full version p h (at_head w fall v) ≡ Ok tt → IsNotedByController version p h (at_head w fall v) old new →
+    IsWiringOf version p (at_head w fall v ∷ h) new
+controller_noted version p h w fall v old new is allowed n =
+    let e = at_head w fall v in
+    let has = (all_passed version p h Controller w fall v allowed).wire in
+    let policy = n.policy ∙ ap (λ a. a.0) is.arbiter in
+    let state = n.arbiter (ap (λ a. a.1) is.arbiter) in
+    record {
+      accepted = is.accepted;
+      legal = (allowed, is.legal);
+      rules = n.rules ∙ is.rules;
+      slots = n.slots ∙ is.slots;
+      room = ap length n.boards ∙ is.room;
+      boards = subst (IsBoards version p (e ∷ h)) (sym n.boards) (boards_kept version p h w fall v old.boards is.boards);
+      arbiter = ap (λ (a : AnyPolicy). (a, new.arbiter.1)) policy ∙ ap (λ (c : ControllerState). (record { kind = p.arbiter }, c)) state;
+      lines = subst (IsLines p (e ∷ h)) (sym n.lines) (uncounted p h w fall v old.lines has is.lines);
+      chains = n.chains ∙ ap (after_controller w fall) is.chains ∙ sym (chained_head p h w fall v has);
+      shared = n.shared ∙ ap (λ (x : Pins). shared_after_controller x w fall) is.shared ∙ shared_by_controller p h w fall v has;
+      addressing = n.addressing ∙ is.addressing ∙ addressing_kept p h w fall v has;
+    }
+
+pub noted_by_controller : (version : Version) (p : Plan) (h : List Edge) (e : Edge) (old new : Wiring) → IsWiringOf version p h old → verdict_but_full version p h e ≡ Ok tt → e.driver ≡ Controller → IsNotedByController version p h e old new →
+    IsWiringOf version p (e ∷ h) new
+noted_by_controller version p h e old new is allowed driver n =
+    let of = λ (d : Driver). let x : Edge = record { driver = d; wire = e.wire; fall = e.fall; value = e.value } in x in
+    let P : Driver → Type 0 = λ d. verdict_but_full version p h (of d) ≡ Ok tt → IsNotedByController version p h (of d) old new → IsWiringOf version p (of d ∷ h) new in
+    let all : P Controller = λ a m. controller_noted version p h e.wire e.fall e.value old new is a m in
+    subst P (sym driver) all allowed n
+
+-- no edge of a slot without a board is allowed
+pub no_board : (version : Version) (p : Plan) (h : List Edge) (s : ℕ) (e : Edge) → verdict_but_full version p h e ≡ Ok tt → e.driver ≡ Slot s → board p s ≡ None → ⊥
+no_board version p h s e allowed driver none =
+    let passed = all_passed version p h e.driver e.wire e.fall e.value allowed in
+    let exists : has_driver p (Slot s) e.wire ≡ true = subst (λ d. has_driver p d e.wire ≡ true) driver passed.exists in
+    let bad : false ≡ true = subst (λ (o : Option Row). option_map_or (drives e.wire) o false ≡ true) none exists in cc
+
+-- the line's count and the chain's segment can move
+pub line_can : (version : Version) (p : Plan) (h : List Edge) (s : ℕ) (r : Row) (e : Edge) (w : Wiring) → IsWiringOf version p h w → verdict_but_full version p h e ≡ Ok tt → e.driver ≡ Slot s → board p s ≡ Some r → is_movable (count_of w.lines r e.wire) e.fall ≡ true
+line_can version p h s r e w is allowed driver found =
+    let here = subst (λ d. verdict_but_full version p h (record { driver = d; wire = e.wire; fall = e.fall; value = e.value }) ≡ Ok tt) driver allowed in
+    (counted p h s r e.wire e.fall e.value w.lines is.accepted (stands p s r is.accepted found) (driven version p h s r e.wire e.fall e.value found here) is.lines).can
+
+pub chain_can : (version : Version) (p : Plan) (h : List Edge) (s : ℕ) (r : Row) (e : Edge) (w : Wiring) → IsWiringOf version p h w → verdict_but_full version p h e ≡ Ok tt → e.driver ≡ Slot s → board p s ≡ Some r → CanMove r e.wire e.fall w.chains
+chain_can version p h s r e w is allowed driver found =
+    let here = subst (λ d. verdict_but_full version p h (record { driver = d; wire = e.wire; fall = e.fall; value = e.value }) ≡ Ok tt) driver allowed in
+    subst (CanMove r e.wire e.fall) (sym is.chains)
+    (can_move p h s r e.wire e.fall e.value (stands p s r is.accepted found) (driven version p h s r e.wire e.fall e.value found here))
+
+pub head_can : (version : Version) (p : Plan) (h : List Edge) (e : Edge) (w : Wiring) → IsWiringOf version p h w → verdict_but_full version p h e ≡ Ok tt → e.driver ≡ Controller → CanMoveHead e.wire e.fall w.chains
+head_can version p h e w is allowed driver =
+    let passed = all_passed version p h e.driver e.wire e.fall e.value allowed in
+    subst (CanMoveHead e.wire e.fall) (sym is.chains)
+    (can_move_head p h e.wire e.fall (subst (λ d. has_wire d e.wire ≡ true) driver passed.wire) (subst (λ d. drive h d e.wire ≡ not e.fall) driver passed.before))
+
+-- the board in a place
+pub record IsPlaced (version : Version) (p : Plan) (h : List Edge) (s : ℕ) (b : Board) : Type 0 where
+  pub row : Row
+  pub found : board p s ≡ Some row
+  pub is : b ≡ parts_of version p h row
+  pub same_row : b.row ≡ row
+  pub stands : Stands p s row
+
+pub placed_board : (version : Version) (p : Plan) (h : List Edge) (s : ℕ) (b : Board) (w : Wiring) → IsWiringOf version p h w → Some b ≡ place w.boards s → IsPlaced version p h s b
+placed_board version p h s b w is here =
+    let k = part (parts_of version p h) (board p s) b (here ∙ is.boards s) in
+    record {
+      row = k.of;
+      found = k.is_row;
+      is = k.is_part;
+      same_row = ap (λ (x : Board). x.row) k.is_part;
+      stands = stands p s k.of is.accepted k.is_row;
+    }
+
+-- the board that an allowed edge of a slot is of
+pub record IsStanding (p : Plan) (s : ℕ) : Type 0 where
+  pub row : Row
+  pub found : board p s ≡ Some row
+
+pub standing : (version : Version) (p : Plan) (h : List Edge) (s : ℕ) (e : Edge) → verdict_but_full version p h e ≡ Ok tt → e.driver ≡ Slot s → IsStanding p s
+standing version p h s e allowed driver = by_board (board p s) refl
+  where
+    by_board : (o : Option Row) → board p s ≡ o → IsStanding p s
+    by_board None is = absurd (no_board version p h s e allowed driver is)
+    by_board (Some r) is = record { row = r; found = is }
+
+pub none_placed : {X A : Type 0} (f : X → A) (o : Option X) → option_map f o ≡ None → o ≡ None
+none_placed {X} {A} f None e = refl
+none_placed {X} {A} f (Some x) e = absurd (cc)
