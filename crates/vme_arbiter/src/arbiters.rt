@@ -7,16 +7,22 @@ ghost use Rattle.vme_model.specs.declared.sets.BusLevels.{BusLevels as LevelsVal
 ghost use Rattle.vme_model.specs.declared.signals.Version.{Version as VersionValue};
 ghost use Rattle.vme_model.specs.declared.signals.Wire.TheVariants.{Bg};
 ghost use Rattle.vme_model.specs.declared.signals.Edge.{Edge as EdgeValue};
-ghost use Rattle.vme_model.specs.Signals.{is_two, is_grant, grant_level};
+ghost use Rattle.vme_model.specs.Signals.{is_grant, grant_level, is_acknowledge};
 ghost use Rattle.vme_model.specs.Sets.{has_bus_level};
 ghost use Rattle.vme_model.specs.History.{last_level};
-ghost use Rattle.vme_model.specs.Rules.{bus_numbers, pick, is_pick, are_grants_high, is_bus_clear_due, rule};
+ghost use Rattle.vme_model.specs.Readings.{Readings};
+ghost use Rattle.vme_model.specs.Rules.{bus_numbers, pick, is_pick, are_grants_high, clear_guard, bg_falls, iack_falls, failing, guard};
 ghost use Rattle.vme_model.specs.Verdict.{ruling};
 ghost use Rattle.vme_arbiter.specs.Local.{state_of, is_own, low, local, over, over_pick};
 
 use crate::policies::Policy;
+use arrayvec::ArrayVec;
 use std::marker::Model;
-use vme_model::{ArbiterKind, BusLevels, Driver, Edge, Pins, Refused, Version, Wire};
+use vme_model::{ArbiterKind, BusLevels, Condition, Driver, Edge, Pins, Refused, Version, Wire};
+use vme_rules::controllers::{
+    bclr_falls, bclr_rises, berr_falls, berr_rises, bg_falls, bg_rises, iack_falls, iack_rises,
+};
+use vme_rules::{Outcome, allowed};
 
 /// What a controller's own edges left: which of its wires are low, and the level that it last granted.
 #[derive(Clone, Copy, PartialEq, Eq, Debug)]
@@ -96,38 +102,59 @@ impl Controller {
             .any(|level| last < *level && requests.has(*level))
     }
 
-    /// Whether it has the owner clear the bus: its policy is priority, and a higher level waits.
-    fn is_bus_clear_due(&self, pins: Pins) -> bool
-        ensures { result ≡ is_bus_clear_due (local self.now pins) }
+    /// What the guard of a falling bus clear answers (G3), which a rising one reads too (G4): its policy is priority, and a
+    /// higher level waits.
+    #[inline(always)]
+    fn clear_guard<A: Outcome>(&self, pins: Pins) -> A
+        ensures { A.tells result (clear_guard (local self.now pins)) }
     {
-        matches!(self.kind, ArbiterKind::Pri)
-            && pins.bbsy
-            && self.are_grants_high(pins)
-            && self.is_outranked(pins.requests)
+        let is_pri = matches!(self.kind, ArbiterKind::Pri);
+        let is_outranked = self.is_outranked(pins.requests);
+        bclr_falls(is_pri, pins.bbsy, self.are_grants_high(pins), is_outranked)
     }
 
-    /// The rule that names an edge of its own, and whether its guard holds, where the policy picks the level of a
-    /// grant or does not.
+    /// What the guard of a falling acknowledge answers (G5).
     #[inline(always)]
-    fn rule(&self, edge: Edge, pins: Pins, is_picked: bool) -> (u8, bool)
-        ensures picked { is_grant edge ≡ true → result.1 ≡ true → is_picked ≡ true }
-        ensures rows { is_own edge.wire ≡ true → (is_grant edge ≡ true → is_picked ≡ is_pick self.now.kind (has_bus_level pins.requests) self.now.last_level (grant_level edge.wire)) → result ≡ rule self.now.version (local self.now pins) edge.wire edge.fall edge.value }
-        ensures grants { (kind : KindValue) (request : ℕ → Bool) → is_own edge.wire ≡ true → is_grant edge ≡ true → is_picked ≡ is_pick kind request self.now.last_level (grant_level edge.wire) → result ≡ rule self.now.version (record (local self.now pins) { request = request; arbiter = kind }) edge.wire edge.fall edge.value }
+    fn acknowledge_guard<A: Outcome>(&self, pins: Pins) -> A
+        ensures { A.tells result
+            (iack_falls pins.address_strobe pins.data_strobe (is_acknowledge pins.shown)) }
+    {
+        let is_acknowledged = pins.shown.is_some_and(|cycle| cycle.is_acknowledge());
+        iack_falls(pins.address_strobe, pins.data_strobe, is_acknowledged)
+    }
+
+    /// The rule that names an edge of its own, and what its guard answers, where the policy picks the level of a grant
+    /// or does not.
+    #[inline(always)]
+    fn rule<A: Outcome>(&self, edge: Edge, pins: Pins, is_picked: bool) -> (u8, A)
+        ensures number { (r : Readings) → is_own edge.wire ≡ true →
+            result.0 ≡ (guard self.now.version r edge.wire edge.fall edge.value).0 }
+        ensures picked { is_grant edge ≡ true →
+            A.tells result.1 (bg_falls (are_grants_high (local self.now pins)) pins.bbsy is_picked) }
+        ensures rows { is_own edge.wire ≡ true →
+            (is_grant edge ≡ true → is_picked ≡ is_pick self.now.kind (has_bus_level pins.requests)
+            self.now.last_level (grant_level edge.wire)) →
+            A.tells result.1
+            (guard self.now.version (local self.now pins) edge.wire edge.fall edge.value).1 }
+        ensures grants { (kind : KindValue) (request : ℕ → Bool) →
+            is_own edge.wire ≡ true → is_grant edge ≡ true →
+            is_picked ≡ is_pick kind request self.now.last_level (grant_level edge.wire) →
+            A.tells result.1
+            (guard self.now.version (record (local self.now pins) { request = request; arbiter = kind })
+            edge.wire edge.fall edge.value).1 }
     {
         match (edge.wire, edge.fall) {
-            (Wire::Bg(_), true) => (1, self.are_grants_high(pins) && !pins.bbsy && is_picked),
-            (Wire::Bg(_), false) => (2, self.version.is_two() || pins.bbsy),
-            (Wire::Bclr, true) => (3, self.is_bus_clear_due(pins)),
-            (Wire::Bclr, false) => (4, !self.is_bus_clear_due(pins)),
-            (Wire::Iack, true) => (
-                5,
-                pins.address_strobe
-                    && pins.data_strobe
-                    && pins.shown.is_some_and(|cycle| cycle.is_acknowledge()),
+            (Wire::Bg(_), true) => (
+                1,
+                bg_falls(self.are_grants_high(pins), pins.bbsy, is_picked),
             ),
-            (Wire::Iack, false) => (6, !pins.address_strobe),
-            (_, true) => (7, pins.data_strobe && !pins.dtack),
-            (_, false) => (8, !pins.data_strobe),
+            (Wire::Bg(_), false) => (2, bg_rises(self.version, pins.bbsy)),
+            (Wire::Bclr, true) => (3, self.clear_guard(pins)),
+            (Wire::Bclr, false) => (4, bclr_rises(self.clear_guard(pins))),
+            (Wire::Iack, true) => (5, self.acknowledge_guard(pins)),
+            (Wire::Iack, false) => (6, iack_rises(pins.address_strobe)),
+            (_, true) => (7, berr_falls(pins.data_strobe, pins.dtack)),
+            (_, false) => (8, berr_rises(pins.data_strobe)),
         }
     }
 
@@ -135,17 +162,20 @@ impl Controller {
     #[inline(always)]
     fn judge(&self, edge: Edge, pins: Pins, is_picked: bool) -> Result<(), Refused>
         ensures picked { is_grant edge ≡ true → is_ok result ≡ true → is_picked ≡ true }
-        ensures rows { is_own edge.wire ≡ true → (is_grant edge ≡ true → is_picked ≡ is_pick self.now.kind (has_bus_level pins.requests) self.now.last_level (grant_level edge.wire)) → result ≡ ruling self.now.version (local self.now pins) edge }
-        ensures grants { (kind : KindValue) (request : ℕ → Bool) → is_own edge.wire ≡ true → is_grant edge ≡ true → is_picked ≡ is_pick kind request self.now.last_level (grant_level edge.wire) → result ≡ ruling self.now.version (record (local self.now pins) { request = request; arbiter = kind }) edge }
+        ensures rows { is_own edge.wire ≡ true →
+            (is_grant edge ≡ true → is_picked ≡ is_pick self.now.kind (has_bus_level pins.requests)
+            self.now.last_level (grant_level edge.wire)) →
+            result ≡ ruling self.now.version (local self.now pins) edge }
+        ensures grants { (kind : KindValue) (request : ℕ → Bool) →
+            is_own edge.wire ≡ true → is_grant edge ≡ true →
+            is_picked ≡ is_pick kind request self.now.last_level (grant_level edge.wire) →
+            result ≡ ruling self.now.version
+            (record (local self.now pins) { request = request; arbiter = kind }) edge }
     {
         if self.is_low(edge.wire) == edge.fall {
             return Err(Refused::AlreadyThere);
         }
-        let (number, holds) = self.rule(edge, pins, is_picked);
-        if !holds {
-            return Err(Refused::Rule(number));
-        }
-        Ok(())
+        allowed(self.rule(edge, pins, is_picked))
     }
 
     /// The level last granted, 0 at power-up.
@@ -242,12 +272,44 @@ impl<P: Policy> Arbiter<P> {
     /// E2 where the wire is in that state, else E3 where the rule's guard fails.
     #[inline(always)]
     pub fn may(&self, edge: Edge, pins: Pins) -> Result<(), Refused>
-        ensures picked { is_grant edge ≡ true → is_ok result ≡ true → P.picked self.now.0 pins.requests self.now.1.last_level ≡ Some (grant_level edge.wire) }
-        ensures rows { (kind : KindValue) (version : VersionValue) (noted : List EdgeValue) → self.now.1 ≡ state_of kind version noted → is_own edge.wire ≡ true → (is_grant edge ≡ true → P.picked self.now.0 pins.requests (last_level noted) ≡ pick kind (has_bus_level pins.requests) (last_level noted)) → result ≡ ruling version (over kind noted pins) edge }
-        ensures grants { (kind : KindValue) (version : VersionValue) (noted : List EdgeValue) → self.now.1 ≡ state_of kind version noted → is_own edge.wire ≡ true → is_grant edge ≡ true → result ≡ ruling version (over_pick (P.picked self.now.0 pins.requests (last_level noted)) noted pins) edge }
+        ensures picked { is_grant edge ≡ true → is_ok result ≡ true →
+            P.picked self.now.0 pins.requests self.now.1.last_level ≡ Some (grant_level edge.wire) }
+        ensures rows { (kind : KindValue) (version : VersionValue) (noted : List EdgeValue) →
+            self.now.1 ≡ state_of kind version noted →
+            is_own edge.wire ≡ true →
+            (is_grant edge ≡ true → P.picked self.now.0 pins.requests (last_level noted)
+            ≡ pick kind (has_bus_level pins.requests) (last_level noted)) →
+            result ≡ ruling version (over kind noted pins) edge }
+        ensures grants { (kind : KindValue) (version : VersionValue) (noted : List EdgeValue) →
+            self.now.1 ≡ state_of kind version noted →
+            is_own edge.wire ≡ true → is_grant edge ≡ true →
+            result ≡ ruling version
+            (over_pick (P.picked self.now.0 pins.requests (last_level noted)) noted pins) edge }
     {
         let is_picked = self.picks(edge, pins.requests);
         self.controller.judge(edge, pins, is_picked)
+    }
+
+    /// The conditions that fail of the rule that names an edge of the controller's wires, in the order of its guard: of
+    /// a grant with the policy's pick in the place of its kind's. It is told its pins.
+    pub fn failing(&self, edge: Edge, pins: Pins) -> ArrayVec<Condition, 5>
+        ensures rows { (kind : KindValue) (version : VersionValue) (noted : List EdgeValue) →
+            self.now.1 ≡ state_of kind version noted →
+            is_own edge.wire ≡ true →
+            (is_grant edge ≡ true → P.picked self.now.0 pins.requests (last_level noted)
+            ≡ pick kind (has_bus_level pins.requests) (last_level noted)) →
+            result.items ≡
+            failing version (over kind noted pins) edge.wire edge.fall edge.value }
+        ensures grants { (kind : KindValue) (version : VersionValue) (noted : List EdgeValue) →
+            self.now.1 ≡ state_of kind version noted →
+            is_own edge.wire ≡ true → is_grant edge ≡ true →
+            result.items ≡ failing version
+            (over_pick (P.picked self.now.0 pins.requests (last_level noted)) noted pins)
+            edge.wire edge.fall edge.value }
+    {
+        let is_picked = self.picks(edge, pins.requests);
+        let (_number, failed) = self.controller.rule(edge, pins, is_picked);
+        failed
     }
 
     /// Takes in an edge that was made; one of another driver changes no wire of the controller's.
