@@ -7,19 +7,24 @@ ghost use Rattle.vme_model.specs.declared.sets.BusLevels.{BusLevels as LevelsVal
 ghost use Rattle.vme_model.specs.declared.signals.Version.{Version as VersionValue};
 ghost use Rattle.vme_model.specs.declared.signals.Wire.TheVariants.{Bg};
 ghost use Rattle.vme_model.specs.declared.signals.Edge.{Edge as EdgeValue};
-ghost use Rattle.vme_model.specs.Signals.{is_two, is_grant, grant_level};
+ghost use Rattle.vme_model.specs.Signals.{is_grant, grant_level, is_acknowledge};
 ghost use Rattle.vme_model.specs.Sets.{has_bus_level};
 ghost use Rattle.vme_model.specs.History.{last_level};
-ghost use Rattle.vme_model.specs.Rules.{bus_numbers, pick, is_pick, are_grants_high, is_bus_clear_due, rule};
+ghost use Rattle.vme_model.specs.Readings.{Readings};
+ghost use Rattle.vme_model.specs.Rules.{bus_numbers, pick, is_pick, are_grants_high, clear_guard, bg_falls, iack_falls, failing, guard};
 ghost use Rattle.vme_model.specs.Verdict.{ruling};
 ghost use Rattle.vme_arbiter.specs.Local.{state_of, is_own, low, local, over, over_pick};
 
 use crate::policies::Policy;
+use arrayvec::ArrayVec;
 use std::marker::Model;
-use vme_model::{ArbiterKind, BusLevels, Driver, Edge, Pins, Refused, Version, Wire};
+use vme_model::{ArbiterKind, BusLevels, Condition, Driver, Edge, Pins, Refused, Version, Wire};
+use vme_rules::controllers::{
+    bclr_falls, bclr_rises, berr_falls, berr_rises, bg_falls, bg_rises, iack_falls, iack_rises,
+};
+use vme_rules::{Outcome, allowed};
 
-/// What a controller's own edges left: which of its wires are low, and the level that it last
-/// granted.
+/// What a controller's own edges left: which of its wires are low, and the level that it last granted.
 #[derive(Clone, Copy, PartialEq, Eq, Debug)]
 struct Controller {
     kind: ArbiterKind,
@@ -39,31 +44,9 @@ impl Model for Controller {
 
     ghost Value = { State };
 
-    ghost view = { λ c. record {
-      kind = c.kind;
-      version = c.version;
-      bg0 = c.bg0;
-      bg1 = c.bg1;
-      bg2 = c.bg2;
-      bg3 = c.bg3;
-      bclr = c.bclr;
-      iack = c.iack;
-      berr = c.berr;
-      last_level = c.last_level;
-    } };
+    ghost view = { λ c. record { kind = c.kind; version = c.version; bg0 = c.bg0; bg1 = c.bg1; bg2 = c.bg2; bg3 = c.bg3; bclr = c.bclr; iack = c.iack; berr = c.berr; last_level = c.last_level } };
 
-    ghost inverse = { λ s. record {
-      kind = s.kind;
-      version = s.version;
-      bg0 = s.bg0;
-      bg1 = s.bg1;
-      bg2 = s.bg2;
-      bg3 = s.bg3;
-      bclr = s.bclr;
-      iack = s.iack;
-      berr = s.berr;
-      last_level = s.last_level;
-    } };
+    ghost inverse = { λ s. record { kind = s.kind; version = s.version; bg0 = s.bg0; bg1 = s.bg1; bg2 = s.bg2; bg3 = s.bg3; bclr = s.bclr; iack = s.iack; berr = s.berr; last_level = s.last_level } };
 }
 
 impl Controller {
@@ -111,8 +94,7 @@ impl Controller {
 
     /// Whether a level above the one last granted is requested.
     fn is_outranked(&self, requests: BusLevels) -> bool
-        ensures { result ≡
-            list_any (λ m. nat_lt self.now.last_level m && has_bus_level requests m) bus_numbers }
+        ensures { result ≡ list_any (λ m. nat_lt self.now.last_level m && has_bus_level requests m) bus_numbers }
     {
         let last = self.last_level;
         [0, 1, 2, 3]
@@ -120,59 +102,69 @@ impl Controller {
             .any(|level| last < *level && requests.has(*level))
     }
 
-    /// Whether it has the owner clear the bus: its policy is priority, and a higher level waits.
-    fn is_bus_clear_due(&self, pins: Pins) -> bool
-        ensures { result ≡ is_bus_clear_due (local self.now pins) }
+    /// What the guard of a falling bus clear answers (G3), which a rising one reads too (G4): its policy is priority, and a
+    /// higher level waits.
+    #[inline(always)]
+    fn clear_guard<A: Outcome>(&self, pins: Pins) -> A
+        ensures { A.tells result (clear_guard (local self.now pins)) }
     {
-        matches!(self.kind, ArbiterKind::Pri)
-            && pins.bbsy
-            && self.are_grants_high(pins)
-            && self.is_outranked(pins.requests)
+        let is_pri = matches!(self.kind, ArbiterKind::Pri);
+        let is_outranked = self.is_outranked(pins.requests);
+        bclr_falls(is_pri, pins.bbsy, self.are_grants_high(pins), is_outranked)
     }
 
-    /// The rule that names an edge of its own, and whether its guard holds, where the policy picks
-    /// the level of a grant or does not.
+    /// What the guard of a falling acknowledge answers (G5).
     #[inline(always)]
-    fn rule(&self, edge: Edge, pins: Pins, is_picked: bool) -> (u8, bool)
-        ensures picked { is_grant edge ≡ true → result.1 ≡ true → is_picked ≡ true }
+    fn acknowledge_guard<A: Outcome>(&self, pins: Pins) -> A
+        ensures { A.tells result
+            (iack_falls pins.address_strobe pins.data_strobe (is_acknowledge pins.shown)) }
+    {
+        let is_acknowledged = pins.shown.is_some_and(|cycle| cycle.is_acknowledge());
+        iack_falls(pins.address_strobe, pins.data_strobe, is_acknowledged)
+    }
+
+    /// The rule that names an edge of its own, and what its guard answers, where the policy picks the level of a grant
+    /// or does not.
+    #[inline(always)]
+    fn rule<A: Outcome>(&self, edge: Edge, pins: Pins, is_picked: bool) -> (u8, A)
+        ensures number { (r : Readings) → is_own edge.wire ≡ true →
+            result.0 ≡ (guard self.now.version r edge.wire edge.fall edge.value).0 }
+        ensures picked { is_grant edge ≡ true →
+            A.tells result.1 (bg_falls (are_grants_high (local self.now pins)) pins.bbsy is_picked) }
         ensures rows { is_own edge.wire ≡ true →
-            (is_grant edge ≡ true →
-            is_picked ≡ is_pick self.now.kind (has_bus_level pins.requests) self.now.last_level
-            (grant_level edge.wire)) →
-            result ≡ rule self.now.version (local self.now pins) edge.wire edge.fall edge.value }
+            (is_grant edge ≡ true → is_picked ≡ is_pick self.now.kind (has_bus_level pins.requests)
+            self.now.last_level (grant_level edge.wire)) →
+            A.tells result.1
+            (guard self.now.version (local self.now pins) edge.wire edge.fall edge.value).1 }
         ensures grants { (kind : KindValue) (request : ℕ → Bool) →
             is_own edge.wire ≡ true → is_grant edge ≡ true →
             is_picked ≡ is_pick kind request self.now.last_level (grant_level edge.wire) →
-            result ≡ rule self.now.version
-            (record (local self.now pins) { request = request; arbiter = kind })
-            edge.wire edge.fall edge.value }
+            A.tells result.1
+            (guard self.now.version (record (local self.now pins) { request = request; arbiter = kind })
+            edge.wire edge.fall edge.value).1 }
     {
         match (edge.wire, edge.fall) {
-            (Wire::Bg(_), true) => (1, self.are_grants_high(pins) && !pins.bbsy && is_picked),
-            (Wire::Bg(_), false) => (2, self.version.is_two() || pins.bbsy),
-            (Wire::Bclr, true) => (3, self.is_bus_clear_due(pins)),
-            (Wire::Bclr, false) => (4, !self.is_bus_clear_due(pins)),
-            (Wire::Iack, true) => (
-                5,
-                pins.address_strobe
-                    && pins.data_strobe
-                    && pins.shown.is_some_and(|cycle| cycle.is_acknowledge()),
+            (Wire::Bg(_), true) => (
+                1,
+                bg_falls(self.are_grants_high(pins), pins.bbsy, is_picked),
             ),
-            (Wire::Iack, false) => (6, !pins.address_strobe),
-            (_, true) => (7, pins.data_strobe && !pins.dtack),
-            (_, false) => (8, !pins.data_strobe),
+            (Wire::Bg(_), false) => (2, bg_rises(self.version, pins.bbsy)),
+            (Wire::Bclr, true) => (3, self.clear_guard(pins)),
+            (Wire::Bclr, false) => (4, bclr_rises(self.clear_guard(pins))),
+            (Wire::Iack, true) => (5, self.acknowledge_guard(pins)),
+            (Wire::Iack, false) => (6, iack_rises(pins.address_strobe)),
+            (_, true) => (7, berr_falls(pins.data_strobe, pins.dtack)),
+            (_, false) => (8, berr_rises(pins.data_strobe)),
         }
     }
 
-    /// The answer to an edge of its own by the fields, where the policy picks the level of a grant
-    /// or does not.
+    /// The answer to an edge of its own by the fields, where the policy picks the level of a grant or does not.
     #[inline(always)]
     fn judge(&self, edge: Edge, pins: Pins, is_picked: bool) -> Result<(), Refused>
         ensures picked { is_grant edge ≡ true → is_ok result ≡ true → is_picked ≡ true }
         ensures rows { is_own edge.wire ≡ true →
-            (is_grant edge ≡ true →
-            is_picked ≡ is_pick self.now.kind (has_bus_level pins.requests) self.now.last_level
-            (grant_level edge.wire)) →
+            (is_grant edge ≡ true → is_picked ≡ is_pick self.now.kind (has_bus_level pins.requests)
+            self.now.last_level (grant_level edge.wire)) →
             result ≡ ruling self.now.version (local self.now pins) edge }
         ensures grants { (kind : KindValue) (request : ℕ → Bool) →
             is_own edge.wire ≡ true → is_grant edge ≡ true →
@@ -183,11 +175,7 @@ impl Controller {
         if self.is_low(edge.wire) == edge.fall {
             return Err(Refused::AlreadyThere);
         }
-        let (number, holds) = self.rule(edge, pins, is_picked);
-        if !holds {
-            return Err(Refused::Rule(number));
-        }
-        Ok(())
+        allowed(self.rule(edge, pins, is_picked))
     }
 
     /// The level last granted, 0 at power-up.
@@ -199,9 +187,7 @@ impl Controller {
 
     /// Takes in an edge that was made.
     fn note(&mut self, edge: Edge)
-        ensures { (kind : KindValue) (version : VersionValue) (noted : List EdgeValue) →
-            self.old ≡ state_of kind version noted →
-            self.new ≡ state_of kind version (edge ∷ noted) }
+        ensures { (kind : KindValue) (version : VersionValue) (noted : List EdgeValue) → self.old ≡ state_of kind version noted → self.new ≡ state_of kind version (edge ∷ noted) }
     {
         if edge.is_grant() {
             self.last_level = edge.wire.grant_level();
@@ -241,8 +227,8 @@ impl<P> Model for Arbiter<P> {
 }
 
 impl<P: Policy> Arbiter<P> {
-    /// The arbiter over a policy before any edge, under that version of the rules. Its kind says
-    /// whether it drives BCLR*, as a priority arbiter alone does.
+    /// The arbiter over a policy before any edge, under that version of the rules. Its kind says whether it drives
+    /// BCLR*, as a priority arbiter alone does.
     pub fn new(policy: P, kind: ArbiterKind, version: Version) -> Arbiter<P>
         ensures { result ≡ (policy, state_of kind version []) }
     {
@@ -252,8 +238,7 @@ impl<P: Policy> Arbiter<P> {
         }
     }
 
-    /// Whether the controller drives the wire low; only `bg0` to `bg3`, `bclr`, `iack` and `berr`
-    /// are its own.
+    /// Whether the controller drives the wire low; only `bg0` to `bg3`, `bclr`, `iack` and `berr` are its own.
     #[inline(always)]
     pub fn is_low(&self, wire: Wire) -> bool
         ensures { result ≡ low self.now.1 wire }
@@ -263,28 +248,25 @@ impl<P: Policy> Arbiter<P> {
 
     /// Whether an edge is a grant of the level that the policy picks of those requested.
     fn picks(&self, edge: Edge, requests: BusLevels) -> bool
-        ensures { result ≡ (is_grant edge && option_map_or (λ m. m == grant_level edge.wire)
-            (P.picked self.now.0 requests self.now.1.last_level) false) }
+        ensures { result ≡ (is_grant edge && option_map_or (λ m. m == grant_level edge.wire) (P.picked self.now.0 requests self.now.1.last_level) false) }
     {
         edge.is_grant() && self.is_pick(edge.wire.grant_level(), requests)
     }
 
     /// Whether the policy picks the level of those requested.
     fn is_pick(&self, level: u8, requests: BusLevels) -> bool
-        ensures { result ≡ option_map_or (λ m. m == level)
-            (P.picked self.now.0 requests self.now.1.last_level) false }
+        ensures { result ≡ option_map_or (λ m. m == level) (P.picked self.now.0 requests self.now.1.last_level) false }
     {
         self.policy
             .pick(requests, self.controller.last_level())
             .is_some_and(|picked| picked == level)
     }
 
-    /// Whether the rules G1 to G8 allow an edge of the controller's wires. The settling rules S2 to
-    /// S4, which look at boards, are not its to see. It is told its pins.
+    /// Whether the rules G1 to G8 allow an edge of the controller's wires. The settling rules S2 to S4, which look at
+    /// boards, are not its to see. It is told its pins.
     ///
-    /// Whatever the policy, a grant is of the level that it picks, and the answer to a grant is the
-    /// table's with the policy's pick in the place of its kind's. Where the two picks are the same,
-    /// each answer is the table's.
+    /// Whatever the policy, a grant is of the level that it picks, and the answer to a grant is the table's with the
+    /// policy's pick in the place of its kind's. Where the two picks are the same, each answer is the table's.
     ///
     /// # Errors
     /// E2 where the wire is in that state, else E3 where the rule's guard fails.
@@ -293,10 +275,10 @@ impl<P: Policy> Arbiter<P> {
         ensures picked { is_grant edge ≡ true → is_ok result ≡ true →
             P.picked self.now.0 pins.requests self.now.1.last_level ≡ Some (grant_level edge.wire) }
         ensures rows { (kind : KindValue) (version : VersionValue) (noted : List EdgeValue) →
-            self.now.1 ≡ state_of kind version noted → is_own edge.wire ≡ true →
-            (is_grant edge ≡ true →
-            P.picked self.now.0 pins.requests (last_level noted) ≡
-            pick kind (has_bus_level pins.requests) (last_level noted)) →
+            self.now.1 ≡ state_of kind version noted →
+            is_own edge.wire ≡ true →
+            (is_grant edge ≡ true → P.picked self.now.0 pins.requests (last_level noted)
+            ≡ pick kind (has_bus_level pins.requests) (last_level noted)) →
             result ≡ ruling version (over kind noted pins) edge }
         ensures grants { (kind : KindValue) (version : VersionValue) (noted : List EdgeValue) →
             self.now.1 ≡ state_of kind version noted →
@@ -308,12 +290,32 @@ impl<P: Policy> Arbiter<P> {
         self.controller.judge(edge, pins, is_picked)
     }
 
+    /// The conditions that fail of the rule that names an edge of the controller's wires, in the order of its guard: of
+    /// a grant with the policy's pick in the place of its kind's. It is told its pins.
+    pub fn failing(&self, edge: Edge, pins: Pins) -> ArrayVec<Condition, 5>
+        ensures rows { (kind : KindValue) (version : VersionValue) (noted : List EdgeValue) →
+            self.now.1 ≡ state_of kind version noted →
+            is_own edge.wire ≡ true →
+            (is_grant edge ≡ true → P.picked self.now.0 pins.requests (last_level noted)
+            ≡ pick kind (has_bus_level pins.requests) (last_level noted)) →
+            result.items ≡
+            failing version (over kind noted pins) edge.wire edge.fall edge.value }
+        ensures grants { (kind : KindValue) (version : VersionValue) (noted : List EdgeValue) →
+            self.now.1 ≡ state_of kind version noted →
+            is_own edge.wire ≡ true → is_grant edge ≡ true →
+            result.items ≡ failing version
+            (over_pick (P.picked self.now.0 pins.requests (last_level noted)) noted pins)
+            edge.wire edge.fall edge.value }
+    {
+        let is_picked = self.picks(edge, pins.requests);
+        let (_number, failed) = self.controller.rule(edge, pins, is_picked);
+        failed
+    }
+
     /// Takes in an edge that was made; one of another driver changes no wire of the controller's.
     pub fn note(&mut self, edge: Edge)
         ensures policy { self.new.0 ≡ self.old.0 }
-        ensures state { (kind : KindValue) (version : VersionValue) (noted : List EdgeValue) →
-            self.old.1 ≡ state_of kind version noted →
-            self.new.1 ≡ state_of kind version (edge ∷ noted) }
+        ensures state { (kind : KindValue) (version : VersionValue) (noted : List EdgeValue) → self.old.1 ≡ state_of kind version noted → self.new.1 ≡ state_of kind version (edge ∷ noted) }
     {
         self.controller.note(edge);
     }
