@@ -57,13 +57,23 @@ def header(lines, at):
 
 
 def owner_of(text):
-    """What the prover calls the type of an impl: the type's name, and after it the trait's with its arguments, but for `Drop`."""
+    """What the prover calls the type of an impl: the type's name, and after it the trait's with its arguments, but for `Drop`.
+
+    An argument of the type itself is named where it is no parameter of the impl."""
     text = text.partition(" where ")[0].removeprefix("unsafe ").removeprefix("impl")
-    text = text[closing(text) + 1 :] if text.startswith("<") else text
+    parameters = ""
+    if text.startswith("<"):
+        parameters, text = text[1 : closing(text)], text[closing(text) + 1 :]
     trait, is_of, of_type = text.partition(" for ")
     if not is_of:
         return name_of(trait)
-    return name_of(of_type) + ("" if name_of(trait) == "Drop" else name_of(trait) + arguments_of(trait))
+    name = name_of(of_type) + arguments_of(of_type, names_of_parameters(parameters))
+    return name[:1].upper() + name[1:] + ("" if name_of(trait) == "Drop" else name_of(trait) + arguments_of(trait))
+
+
+def names_of_parameters(text):
+    """The names that an impl's list of parameters declares."""
+    return {it.partition(":")[0].removeprefix("const ").strip() for it in text.split(",")}
 
 
 def closing(text):
@@ -81,10 +91,11 @@ def name_of(path):
     return re.sub(r"[^\w:]", "", path.partition("<")[0]).rpartition("::")[2]
 
 
-def arguments_of(path):
-    """The names of a path's arguments that are types, one after another."""
+def arguments_of(path, but=()):
+    """The names of a path's arguments that are no lifetimes, one after another, but for these."""
     inside = path.partition("<")[2].rpartition(">")[0]
-    return "".join(name_of(it) for it in inside.split(",") if inside and not it.strip().startswith("'"))
+    names = [name_of(it) for it in inside.split(",") if inside and not it.strip().startswith("'")]
+    return "".join(it for it in names if it not in but)
 
 
 def body_of(lines, at, indent):
