@@ -30,28 +30,12 @@ pub(crate) fn read_patiently<R: Read>(input: &mut R, buffer: &mut [u8]) -> Resul
 /// A write; one that was interrupted is tried again, at most 65,535 times.
 ///
 /// Errors: those of the writer, but for an interruption; a timeout where the last try was interrupted.
-#[inline(always)]
 pub(crate) fn write_patiently<W: Write>(out: &mut W, bytes: &[u8]) -> Result<usize>
     ensures bound { WritesAtMost result bytes.now }
     ensures bytes { WriteAppends (W.contents out.old) (W.contents out.new) result bytes.now }
     ensures retried { IfErr result (λ e. error_kind e ≢ ErrorKind.Interrupted) }
 {
-    match out.write(bytes) {
-        Ok(count) => Ok(count),
-        Err(error) if error.kind() == ErrorKind::Interrupted => write_again(out, bytes),
-        Err(error) => Err(error),
-    }
-}
-
-/// A write that was interrupted once. It stands apart, so that each other write is as cheap as the writer's own.
-#[cold]
-#[inline(never)]
-fn write_again<W: Write>(out: &mut W, bytes: &[u8]) -> Result<usize>
-    ensures bound { WritesAtMost result bytes.now }
-    ensures bytes { WriteAppends (W.contents out.old) (W.contents out.new) result bytes.now }
-    ensures retried { IfErr result (λ e. error_kind e ≢ ErrorKind.Interrupted) }
-{
-    for _ in 1..TRIES {
+    for _ in 0..TRIES {
         match out.write(bytes) {
             Ok(count) => return Ok(count),
             Err(error) if error.kind() == ErrorKind::Interrupted => {}

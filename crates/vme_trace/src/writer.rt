@@ -8,7 +8,7 @@ ghost use Rattle.vme_trace.specs.Writing.{AppendsFront, HasText, edge_line};
 
 use crate::Fault;
 use crate::headers::header_line;
-use crate::patience::{flush_patiently, write_patiently};
+use crate::patience::flush_patiently;
 use arrayvec::ArrayVec;
 use std::io::Write;
 use vme_model::{Cycle, Driver, Edge, Version, Wire};
@@ -18,7 +18,8 @@ pub(crate) const LINE: usize = 16;
 
 /// Writes all the bytes; with none there is no write, and no fault.
 ///
-/// Errors: X8 where a write failed, took no byte or was interrupted 65,536 times; a prefix of the bytes was then written.
+/// Errors: X8 where a write failed or took no byte; a prefix of the bytes was then written. A write that was interrupted
+/// has failed; a [`Patient`](crate::Patient) writer tries it again.
 pub fn put<W: Write>(out: &mut W, bytes: &[u8]) -> Result<(), Fault>
     ensures ok { OnOk result (Appends (W.contents out.old) (W.contents out.new) bytes.now) }
     ensures front { OnErr result (AppendsFront (W.contents out.old) (W.contents out.new) bytes.now) }
@@ -27,7 +28,7 @@ pub fn put<W: Write>(out: &mut W, bytes: &[u8]) -> Result<(), Fault>
 {
     let mut rest = bytes;
     'writes: while !rest.is_empty() {
-        match write_patiently(out, rest) {
+        match out.write(rest) {
             Err(_) | Ok(0) => return Err(Fault::Write),
             Ok(count) => rest = &rest[count..],
         }
