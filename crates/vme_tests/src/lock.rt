@@ -351,7 +351,7 @@ fn many_boards_many_times(rt: HostRuntime) -> Result<(), Fail> {
 }
 
 /// Makes an edge of slot 1, which then stands in no log.
-#[tactic(auto, using(vme_lock::proofs::Joining::drivers_set))]
+#[tactic(auto, using(vme_lock::proofs::SeatsAndLogs::drivers_set))]
 fn make_otherwise<L: Rig, R: Wait>(
     rt: &R,
     shared: &Shared<'_, L>,
