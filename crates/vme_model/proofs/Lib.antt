@@ -2,6 +2,8 @@
 pub mod Bools
 -- `guard_fails_by_its_conditions` and `rule_fails_by_its_conditions`
 pub mod Guards
+-- `edge_fails_where_it_is_refused`
+pub mod Failing
 -- the slots of a chain below a bound
 pub mod Below
 -- what an accepted plan says of its rows

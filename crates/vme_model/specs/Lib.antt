@@ -22,6 +22,8 @@ pub mod Rules
 pub mod Settling
 -- believe: the refusals E1 to E5 in their order, and which lists are legal
 pub mod Verdict
+-- believe, for what is told of a refusal: the conditions that an edge fails
+pub mod Failing
 -- words: what a driver reads on its pins; to be believed for `verdict_is_local` alone
 pub mod Views
 -- believe: which status byte is delivered

@@ -1,9 +1,10 @@
 //! What holds of every legal list of edges of every accepted plan, and of every guard.
 //!
 //! The functions do nothing: each is a theorem over the definitions, stated by its contract.
-ghost use Rattle.std.specs.Prelude.{◌≡◌, ◌↔◌, true, not, Bool, List, [], Option, map, filter};
+ghost use Rattle.std.specs.Prelude.{◌≡◌, ◌↔◌, true, not, Bool, List, [], Ok, Option, map, filter};
 ghost use Rattle.std.specs.List.{list_all};
 ghost use Rattle.vme_model.specs.Accepted.{IsAccepted};
+ghost use Rattle.vme_model.specs.Failing.{all_asked, first_failed, unmet, unmet_but_full};
 ghost use Rattle.vme_model.specs.Guards.{Guard, holds, conditions, failed};
 ghost use Rattle.vme_model.specs.Locality.{AreWellFormed, IsLocal};
 ghost use Rattle.vme_model.specs.Open.{open_edges, IsAllThatIsAllowed};
@@ -12,7 +13,7 @@ ghost use Rattle.vme_model.specs.Readings.{Readings};
 ghost use Rattle.vme_model.specs.Rules.{failing, rule};
 ghost use Rattle.vme_model.specs.Safe.{IsOrderly, IsSafe};
 ghost use Rattle.vme_model.specs.Settling.{settling, unsettled};
-ghost use Rattle.vme_model.specs.Verdict.{IsLegal, State};
+ghost use Rattle.vme_model.specs.Verdict.{IsLegal, State, verdict, verdict_but_full};
 ghost use Rattle.vme_model.specs.declared.signals.Cycle.{Cycle};
 ghost use Rattle.vme_model.specs.declared.signals.Driver.{Driver};
 ghost use Rattle.vme_model.specs.declared.signals.Edge.{Edge};
@@ -67,6 +68,16 @@ pub fn rule_fails_by_its_conditions()
         (failing version r w fall v ≡ []) ↔ ((rule version r w fall v).1 ≡ true) }
     ensures settling { (version : Version) (p : Plan) (h : List Edge) (w : Wire) (fall : Bool) →
         (unsettled version p h w fall ≡ []) ↔ ((settling version p h w fall).1 ≡ true) }
+{}
+
+/// An edge fails no condition exactly where it is accepted, and so but for E5. Those that it fails are
+/// the conditions that fail of the first guard that does not hold: what E1 asks for, E2, its rule, its
+/// settling rule, E5.
+pub fn edge_fails_where_it_is_refused()
+    ensures none { (b : State) (e : Edge) → (unmet b e ≡ []) ↔ (verdict b e ≡ Ok tt) }
+    ensures none_but_full { (version : Version) (p : Plan) (h : List Edge) (e : Edge) →
+        (unmet_but_full version p h e ≡ []) ↔ (verdict_but_full version p h e ≡ Ok tt) }
+    ensures first { (b : State) (e : Edge) → unmet b e ≡ first_failed (all_asked b e) }
 {}
 
 /// The open edges of a driver are all edges of it that would be accepted after the history, and no others.

@@ -1,0 +1,48 @@
+-- Which conditions an edge fails. (Profile.)
+use Rattle.std.specs.Prelude.{if◌then◌else◌, Ok, Err, List, [], ◌∷◌}
+use Rattle.vme_model.specs.declared.conditions.Condition.{Condition}
+use Rattle.vme_model.specs.declared.conditions.Condition.TheVariants.{HasDriver, OtherState, HasRoom}
+use Rattle.vme_model.specs.declared.refusals.Refused.TheVariants.{NoSuchDriver, AlreadyThere, Rule, NotSettled, TraceFull}
+use Rattle.vme_model.specs.declared.signals.Version.{Version}
+use Rattle.vme_model.specs.declared.signals.Edge.{Edge}
+use Rattle.vme_model.specs.Plan.{Plan}
+use Rattle.vme_model.specs.History.{drive}
+use Rattle.vme_model.specs.Readings.{readings}
+use Rattle.vme_model.specs.Guards.{Guard, holds, failed}
+use Rattle.vme_model.specs.Rules.{guard, failing}
+use Rattle.vme_model.specs.Settling.{settling_guard, unsettled}
+use Rattle.vme_model.specs.Verdict.{State, Judgement, verdict, verdict_but_full, driver_guard, state_guard, room_guard}
+
+-- the conditions that an answer to an edge refuses it for: at E3 those of the rule that fail, at E4
+-- those of the settling rule, at E1, E2 and E5 the one that it asks for; none where it is accepted
+abbrev pub refused_for : Version → Plan → List Edge → Edge → Judgement → List Condition
+refused_for version p h e (Ok u) = []
+refused_for version p h e (Err NoSuchDriver) = HasDriver ∷ []
+refused_for version p h e (Err AlreadyThere) = OtherState ∷ []
+refused_for version p h e (Err (Rule n)) =
+    failing version (readings p h e.driver) e.wire e.fall e.value
+refused_for version p h e (Err (NotSettled n)) = unsettled version p h e.wire e.fall
+refused_for version p h e (Err TraceFull) = HasRoom ∷ []
+
+-- the conditions that an edge fails
+abbrev pub unmet : State → Edge → List Condition
+unmet b e = refused_for b.version b.plan b.history e (verdict b e)
+
+-- the same but for E5
+abbrev pub unmet_but_full : Version → Plan → List Edge → Edge → List Condition
+unmet_but_full version p h e = refused_for version p h e (verdict_but_full version p h e)
+
+-- what E1 to E5 ask for, in their order
+abbrev pub all_asked : State → Edge → List Guard
+all_asked b e =
+    driver_guard b.plan e
+    ∷ state_guard (drive b.history e.driver e.wire) e.fall
+    ∷ (guard b.version (readings b.plan b.history e.driver) e.wire e.fall e.value).1
+    ∷ (settling_guard b.version b.plan b.history e.wire e.fall).1
+    ∷ room_guard b
+    ∷ []
+
+-- of the first of the guards that does not hold, the conditions that fail
+abbrev pub first_failed : List Guard → List Condition
+first_failed [] = []
+first_failed (g ∷ gs) = if holds g then first_failed gs else failed g
