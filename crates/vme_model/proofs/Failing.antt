@@ -1,6 +1,6 @@
 -- An edge fails the conditions of the first guard that does not hold.
 use Rattle.std.proofs.Common.{◌≡◌, ◌∙◌, refl, ap, ℕ, Bool, true, false, List, [], ◌∷◌, length}
-use Rattle.std.specs.Prelude.{◌==◌, ◌&&◌, ◌↔◌, not, if◌then◌else◌, Ok, Err}
+use Rattle.std.specs.Prelude.{◌==◌, ◌&&◌, ◌++◌, ◌↔◌, not, if◌then◌else◌, Ok, Err}
 use Rattle.vme_model.specs.declared.conditions.Condition.{Condition}
 use Rattle.vme_model.specs.declared.conditions.Condition.TheVariants.{HasDriver, OtherState, HasRoom}
 use Rattle.vme_model.specs.declared.refusals.Refused.{Refused}
@@ -15,8 +15,8 @@ use Rattle.vme_model.specs.Guards.{Guard, asks, holds, failed}
 use Rattle.vme_model.specs.Rules.{guard, rule}
 use Rattle.vme_model.specs.Settling.{settling, settling_guard}
 use Rattle.vme_model.specs.Verdict.{State, Judgement, check, is_other_state, verdict, verdict_but_full}
-use Rattle.vme_model.specs.Failing.{refused_for, unmet, unmet_but_full, all_asked, first_failed}
-use Rattle.vme_model.proofs.Guards.{all_held}
+use Rattle.vme_model.specs.Failing.{refused_for, unmet, unmet_but_full, all_asked, first_failed, tested_for, tested, tested_but_full}
+use Rattle.vme_model.proofs.Guards.{all_held, none_failed}
 
 -- one condition, where it is the one that is asked
 alone_of_one : (c : Condition) (b : Bool) (rest : List Condition) → (if b then rest else c ∷ []) ≡ (if b then rest else (if b then [] else c ∷ []))
@@ -84,6 +84,25 @@ module _ (version : Version) (p : Plan) (h : List Edge) (e : Edge) where
       ∙ ap (λ t. if holds settles then t else failed settles) (
       told x TraceFull (Ok tt) ∙ alone_of_one HasRoom x []))))
 
+  -- of what is tested, the same conditions fail
+  none_before : (c : Bool) (xs : List Condition) → (c ≡ true → failed ruled ≡ []) → c ≡ true → failed ruled ++ xs ≡ xs
+  none_before c xs held is = ap (λ t. t ++ xs) (held is)
+
+  fails_so : (a b c d x : Bool) (n m : ℕ) → (c ≡ true → failed ruled ≡ []) → (d ≡ true → failed settles ≡ []) →
+      failed (tested_for version p h e (answer a b c d x n m)) ≡ refused_for version p h e (answer a b c d x n m)
+  fails_so false b c d x n m r s = refl
+  fails_so true false c d x n m r s = refl
+  fails_so true true false d x n m r s = refl
+  fails_so true true true false x n m r s = none_before true (failed settles) r refl
+  fails_so true true true true false n m r s =
+      ap (λ t. (t ++ failed settles) ++ HasRoom ∷ []) (r refl) ∙ ap (λ t. t ++ HasRoom ∷ []) (s refl)
+  fails_so true true true true true n m r s = none_before true (failed settles) r refl ∙ s refl
+
+  pub tested_fail : (x : Bool) →
+      failed (tested_for version p h e (answer exists turns (holds ruled) (holds settles) x number last_number))
+      ≡ refused_for version p h e (answer exists turns (holds ruled) (holds settles) x number last_number)
+  tested_fail x = fails_so exists turns (holds ruled) (holds settles) x number last_number (none_failed ruled) (none_failed settles)
+
 pub none_met : (b : State) (e : Edge) → (unmet b e ≡ []) ↔ (verdict b e ≡ Ok tt)
 none_met b e = none_where_accepted b.version b.plan b.history e (not (length b.history == b.max))
 
@@ -94,3 +113,9 @@ pub first_unmet : (b : State) (e : Edge) → unmet b e ≡ first_failed (all_ask
 first_unmet b e =
     first_of_all b.version b.plan b.history e (exists b.version b.plan b.history e) (turns b.version b.plan b.history e) (not (length b.history == b.max))
     (number b.version b.plan b.history e) (last_number b.version b.plan b.history e)
+
+pub fails_of_tested : (b : State) (e : Edge) → failed (tested b e) ≡ unmet b e
+fails_of_tested b e = tested_fail b.version b.plan b.history e (not (length b.history == b.max))
+
+pub fails_of_tested_but_full : (version : Version) (p : Plan) (h : List Edge) (e : Edge) → failed (tested_but_full version p h e) ≡ unmet_but_full version p h e
+fails_of_tested_but_full version p h e = tested_fail version p h e true

@@ -1,5 +1,5 @@
 -- Which conditions an edge fails. (Profile.)
-use Rattle.std.specs.Prelude.{if◌then◌else◌, Ok, Err, List, [], ◌∷◌}
+use Rattle.std.specs.Prelude.{if◌then◌else◌, false, Ok, Err, List, [], ◌∷◌}
 use Rattle.vme_model.specs.declared.conditions.Condition.{Condition}
 use Rattle.vme_model.specs.declared.conditions.Condition.TheVariants.{HasDriver, OtherState, HasRoom}
 use Rattle.vme_model.specs.declared.refusals.Refused.TheVariants.{NoSuchDriver, AlreadyThere, Rule, NotSettled, TraceFull}
@@ -8,7 +8,7 @@ use Rattle.vme_model.specs.declared.signals.Edge.{Edge}
 use Rattle.vme_model.specs.Plan.{Plan}
 use Rattle.vme_model.specs.History.{drive}
 use Rattle.vme_model.specs.Readings.{readings}
-use Rattle.vme_model.specs.Guards.{Guard, holds, failed}
+use Rattle.vme_model.specs.Guards.{Guard, asks, ◌⊓◌, holds, failed}
 use Rattle.vme_model.specs.Rules.{guard, failing}
 use Rattle.vme_model.specs.Settling.{settling_guard, unsettled}
 use Rattle.vme_model.specs.Verdict.{State, Judgement, verdict, verdict_but_full, driver_guard, state_guard, room_guard}
@@ -46,3 +46,25 @@ all_asked b e =
 abbrev pub first_failed : List Guard → List Condition
 first_failed [] = []
 first_failed (g ∷ gs) = if holds g then first_failed gs else failed g
+
+-- What is tested of an edge, as far as its answer comes: what E1 or E2 asks for where it fails; else
+-- all conditions of its rule, behind them, where they hold, that of its settling rule, and at E5 that
+-- of the room.
+abbrev pub tested_for : Version → Plan → List Edge → Edge → Judgement → Guard
+tested_for version p h e (Err NoSuchDriver) = asks HasDriver false
+tested_for version p h e (Err AlreadyThere) = asks OtherState false
+tested_for version p h e (Err (Rule n)) =
+    (guard version (readings p h e.driver) e.wire e.fall e.value).1
+tested_for version p h e (Err TraceFull) =
+    (guard version (readings p h e.driver) e.wire e.fall e.value).1
+    ⊓ (settling_guard version p h e.wire e.fall).1 ⊓ asks HasRoom false
+tested_for version p h e answer =
+    (guard version (readings p h e.driver) e.wire e.fall e.value).1
+    ⊓ (settling_guard version p h e.wire e.fall).1
+
+abbrev pub tested : State → Edge → Guard
+tested b e = tested_for b.version b.plan b.history e (verdict b e)
+
+-- the same but for E5
+abbrev pub tested_but_full : Version → Plan → List Edge → Edge → Guard
+tested_but_full version p h e = tested_for version p h e (verdict_but_full version p h e)

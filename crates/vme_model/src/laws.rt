@@ -4,7 +4,7 @@
 ghost use Rattle.std.specs.Prelude.{◌≡◌, ◌↔◌, true, not, Bool, List, [], Ok, Option, map, filter};
 ghost use Rattle.std.specs.List.{list_all};
 ghost use Rattle.vme_model.specs.Accepted.{IsAccepted};
-ghost use Rattle.vme_model.specs.Failing.{all_asked, first_failed, unmet, unmet_but_full};
+ghost use Rattle.vme_model.specs.Failing.{all_asked, first_failed, tested, tested_but_full, unmet, unmet_but_full};
 ghost use Rattle.vme_model.specs.Guards.{Guard, holds, conditions, failed};
 ghost use Rattle.vme_model.specs.Locality.{AreWellFormed, IsLocal};
 ghost use Rattle.vme_model.specs.Open.{open_edges, IsAllThatIsAllowed};
@@ -72,12 +72,15 @@ pub fn rule_fails_by_its_conditions()
 
 /// An edge fails no condition exactly where it is accepted, and so but for E5. Those that it fails are
 /// the conditions that fail of the first guard that does not hold: what E1 asks for, E2, its rule, its
-/// settling rule, E5.
+/// settling rule, E5. Of all that is tested of it, the same ones fail.
 pub fn edge_fails_where_it_is_refused()
     ensures none { (b : State) (e : Edge) → (unmet b e ≡ []) ↔ (verdict b e ≡ Ok tt) }
     ensures none_but_full { (version : Version) (p : Plan) (h : List Edge) (e : Edge) →
         (unmet_but_full version p h e ≡ []) ↔ (verdict_but_full version p h e ≡ Ok tt) }
     ensures first { (b : State) (e : Edge) → unmet b e ≡ first_failed (all_asked b e) }
+    ensures tested { (b : State) (e : Edge) → failed (tested b e) ≡ unmet b e }
+    ensures tested_but_full { (version : Version) (p : Plan) (h : List Edge) (e : Edge) →
+        failed (tested_but_full version p h e) ≡ unmet_but_full version p h e }
 {}
 
 /// The open edges of a driver are all edges of it that would be accepted after the history, and no others.
