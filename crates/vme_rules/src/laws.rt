@@ -1,5 +1,6 @@
 //! What holds of every guard of the table.
 ghost use Rattle.std.specs.Prelude.{◌≤◌, Bool, List, Option};
+ghost use Rattle.vme_model.specs.Failing.{tested_but_full};
 ghost use Rattle.vme_model.specs.Plan.{Plan};
 ghost use Rattle.vme_model.specs.Readings.{Readings};
 ghost use Rattle.vme_model.specs.Rules.{guard};
@@ -10,10 +11,13 @@ ghost use Rattle.vme_model.specs.declared.signals.Version.{Version};
 ghost use Rattle.vme_model.specs.declared.signals.Wire.{Wire};
 ghost use Rattle.vme_rules.specs.Room.{most};
 
-/// A list of five has room for the conditions of each: of a rule's guard, and of a settling rule's.
+/// A list of five has room for the conditions of each: of a rule's guard, of a settling rule's, and for all that is
+/// tested of an edge before the end of the trace.
 pub fn five_have_room()
     ensures rule { (version : Version) (r : Readings) (w : Wire) (fall : Bool) (v : Option Cycle) →
         most (guard version r w fall v).1 ≤ 5 }
     ensures settling { (version : Version) (p : Plan) (h : List Edge) (w : Wire) (fall : Bool) →
         most (settling_guard version p h w fall).1 ≤ 5 }
+    ensures tested { (version : Version) (p : Plan) (h : List Edge) (e : Edge) →
+        most (tested_but_full version p h e) ≤ 5 }
 {}
