@@ -1,13 +1,13 @@
 //! What a guard answers.
 ghost use Rattle.std.specs.Prelude.{◌≡◌, ◌≤◌, Ok};
-ghost use Rattle.vme_model.specs.Guards.{Guard, free, asks, ◌⊓◌, unless, holds, failed};
+ghost use Rattle.vme_model.specs.Guards.{Guard, free, asks, ◌⊓◌, unless, holds, conditions, failed};
 ghost use Rattle.vme_model.specs.Verdict.{check};
 ghost use Rattle.vme_rules.specs.Room.{most};
 
 use arrayvec::ArrayVec;
-use vme_model::{Condition, Refused};
+use vme_model::{Condition, Refused, Tested};
 
-/// What is asked of a guard: whether it holds, or which of its conditions fail.
+/// What is asked of a guard: whether it holds, which of its conditions fail, or what each of them is.
 ///
 /// A rule is written once, for each of them: by a function for each way to make a guard.
 pub trait Outcome {
@@ -78,6 +78,31 @@ impl Outcome for ArrayVec<Condition, 5> {
     }
 
     fn unless(self, is_free: bool) -> ArrayVec<Condition, 5> {
+        if is_free { ArrayVec::new() } else { self }
+    }
+}
+
+/// All conditions of the guard, each with whether it holds, in the guard's order, where it has at
+/// most five.
+impl Outcome for ArrayVec<Tested, 5> {
+    ghost tells = { λ result g. most g ≤ 5 → result.items ≡ conditions g };
+
+    fn free() -> ArrayVec<Tested, 5> {
+        ArrayVec::new()
+    }
+
+    fn asks(condition: Condition, holds: bool) -> ArrayVec<Tested, 5> {
+        let mut conditions = ArrayVec::new();
+        conditions.push(Tested { condition, holds });
+        conditions
+    }
+
+    fn and(mut self, other: ArrayVec<Tested, 5>) -> ArrayVec<Tested, 5> {
+        let _fits = self.try_extend_from_slice(other.as_slice()).is_ok();
+        self
+    }
+
+    fn unless(self, is_free: bool) -> ArrayVec<Tested, 5> {
         if is_free { ArrayVec::new() } else { self }
     }
 }
