@@ -22,7 +22,7 @@ use Rattle.vme_model.specs.Views.{pins}
 use Rattle.vme_model.proofs.Bools.{same_number}
 use Rattle.vme_model.proofs.AllowedEdges.{all_passed}
 use Rattle.vme_model.specs.Signals.{is_two}
-use Rattle.vme_model.specs.Settling.{are_grants_through, is_chain_clear, settling}
+use Rattle.vme_model.specs.Settling.{are_grants_through, is_chain_clear, settling_guard, bg_rise_settles, bg_fall_settles}
 use Rattle.vme_chain.specs.Segments.{segments_of, input, is_past_end, is_clear}
 use Rattle.vme_chain.proofs.History.{reads_inputs, reads_the_end, reads_clearness}
 use Rattle.vme_wiring.specs.Counts.{passes_grant}
@@ -169,25 +169,22 @@ own_of_controller version p h Irq legal = sym (never_drove version p h Controlle
 own_of_controller version p h IackOut legal = sym (never_drove version p h Controller IackOut legal refl)
 own_of_controller version p h Dtack legal = sym (never_drove version p h Controller Dtack legal refl)
 
-abbrev pub pair : ℕ → Bool → ℕ × Bool
-pair n b = (n, b)
-
 abbrev pub arbiter_by : AnyPolicy → ArbiterKind → Version → AnyPolicy × ControllerState
 arbiter_by a kind version = (a, controller_of kind version [])
 
 -- the settling rules
-pub grant_gone : (version : Version) (p : Plan) (h : List Edge) (w : Wiring) → IsWiringOf version p h w → (not (is_two w.version) || not (nat_lt 0 w.lines.bgout)) ≡ (not (is_two version) || are_grants_through p h)
+pub grant_gone : (version : Version) (p : Plan) (h : List Edge) (w : Wiring) → IsWiringOf version p h w → bg_fall_settles w.version (not (nat_lt 0 w.lines.bgout)) ≡ bg_fall_settles version (are_grants_through p h)
 grant_gone version p h w is =
-    ap (λ v. not (is_two v) || not (nat_lt 0 w.lines.bgout)) is.rules
-    ∙ ap (λ b. not (is_two version) || not b) (ap (nat_lt 0) is.lines.bgout)
-    ∙ ap (λ b. not (is_two version) || b) (sym (no_pulls_left (passes_grant h) p.rows))
+    ap (λ v. bg_fall_settles v (not (nat_lt 0 w.lines.bgout))) is.rules
+    ∙ ap (λ b. bg_fall_settles version (not b)) (ap (nat_lt 0) is.lines.bgout)
+    ∙ ap (bg_fall_settles version) (sym (no_pulls_left (passes_grant h) p.rows))
 
 pub grant_seen : (version : Version) (p : Plan) (h : List Edge) (w : Wiring) (n : ℕ) → IsWiringOf version p h w →
-    (not (is_two w.version) || w.shared.bbsy || is_past_end (chain_at (grant_chain n) w.chains)) ≡ (not (is_two version) || line p h Bbsy || is_past_end_after p h (grant_chain n))
+    bg_rise_settles w.version w.shared.bbsy (is_past_end (chain_at (grant_chain n) w.chains)) ≡ bg_rise_settles version (line p h Bbsy) (is_past_end_after p h (grant_chain n))
 grant_seen version p h w n is =
-    ap (λ v. not (is_two v) || w.shared.bbsy || is_past_end (chain_at (grant_chain n) w.chains)) is.rules
-    ∙ ap (λ (x : Pins). not (is_two version) || x.bbsy || is_past_end (chain_at (grant_chain n) w.chains)) is.shared
-    ∙ ap (λ b. not (is_two version) || line p h Bbsy || b) (
+    ap (λ v. bg_rise_settles v w.shared.bbsy (is_past_end (chain_at (grant_chain n) w.chains))) is.rules
+    ∙ ap (λ (x : Pins). bg_rise_settles version x.bbsy (is_past_end (chain_at (grant_chain n) w.chains))) is.shared
+    ∙ ap (bg_rise_settles version (line p h Bbsy)) (
     ap (λ (x : Chains). is_past_end (chain_at (grant_chain n) x)) is.chains
     ∙ ap is_past_end (chain_is p h (grant_chain n)) ∙ reads_the_end p h (grant_chain n))
 
@@ -198,9 +195,9 @@ pub past_boards : (version : Version) (p : Plan) (h : List Edge) (w : Wiring) �
 past_boards version p h w is = ap (λ (x : Chains). is_past_end x.iack) is.chains ∙ reads_the_end p h chain.Iack
 
 -- the settling rule of a wire and a direction
-pub settling_at : (version : Version) (p : Plan) (h : List Edge) (x y : Wire) (fall down : Bool) (n : ℕ) (b : Bool) → x ≡ y → fall ≡ down → pair n b ≡ settling version p h y down → pair n b ≡ settling version p h x fall
-settling_at version p h x y fall down n b wire falls is =
-    is ∙ sym (ap (λ z. settling version p h z fall) wire ∙ ap (λ d. settling version p h y d) falls)
+pub settling_at : (version : Version) (p : Plan) (h : List Edge) (x y : Wire) (fall down : Bool) → x ≡ y → fall ≡ down → settling_guard version p h y down ≡ settling_guard version p h x fall
+settling_at version p h x y fall down wire falls =
+    sym (ap (λ z. settling_guard version p h z fall) wire ∙ ap (λ d. settling_guard version p h y d) falls)
 
 pub arbiter_of : (a : AnyPolicy) (kind own : ArbiterKind) (version : Version) → a.kind ≡ kind → own ≡ kind → arbiter_by a own version ≡ arbiter_by (record { kind = kind }) kind version
 arbiter_of a kind own version policy same =

@@ -1,4 +1,4 @@
--- What a part answers by its own rows of the table is what the whole backplane answers.
+-- A part's own rows of the table are those of the whole backplane, guard by guard; so it answers the same.
 use Rattle.std.proofs.Common.{◌≡◌, ◌∙◌, refl, sym, ap, subst, ℕ, Bool, true, false, List, ◌<◌, ◌≤◌, arith}
 use Rattle.std.specs.Prelude.{◌&&◌, ◌||◌, ◌==◌, not, Option, Some, None, Ok, nat_lt}
 use Rattle.std.specs.List.{list_any}
@@ -24,19 +24,20 @@ use Rattle.vme_model.specs.Sets.{has_level, has_bus_level, bus_levels}
 use Rattle.vme_model.specs.Plan.{Plan, board}
 use Rattle.vme_model.specs.History.{drive, request_line, interrupt_line, cycles, last_level, shown, line}
 use Rattle.vme_model.specs.Readings.{Readings, readings, is_served, grant_in, iack_in}
-use Rattle.vme_model.specs.Guards.{free as no_condition, holds}
-use Rattle.vme_model.specs.Rules.{rule, bus_numbers, is_pick, may_release, released as released_where, is_asked, is_within_burst, below_burst, is_below_burst, may_show, is_passed_by, may_answer, is_bus_clear_due, are_grants_high, is_pri}
+use Rattle.vme_model.specs.declared.conditions.Condition.TheVariants.{Handled, InterruptLow, NotPending, Pending, OwnSlotShown, AcknowledgeInLow, OwnAcknowledgeOutHigh}
+use Rattle.vme_model.specs.Guards.{Guard, free as no_condition, asks, ◌⊓◌, holds}
+use Rattle.vme_model.specs.Rules.{guard, rule, bus_numbers, is_pick, bg_falls, bclr_falls, bclr_rises, bbsy_rises, addr_goes_on, iackout_falls, dtack_falls, released as released_where, below_burst, release_guard, burst_guard, show_guard, pass_guard, answer_guard, clear_guard, are_grants_high, is_pri}
 use Rattle.vme_model.specs.Verdict.{Judgement, check, is_other_state, ruling}
 use Rattle.vme_model.specs.Views.{pins}
 use Rattle.vme_model.proofs.Picks.{laws_of}
 use Rattle.vme_model.proofs.PinSets.{has_bus, has_irq}
 use Rattle.vme_model.proofs.Bools.{and_left, and_right}
-use Rattle.vme_requester.specs.Local.{is_own as is_requesters, told as requester_told, readings as requester_readings, answer_over}
+use Rattle.vme_requester.specs.Local.{is_own as is_requesters, told as requester_told, readings as requester_readings, answer_over, guard_over}
 use Rattle.vme_master.specs.Local.{is_own as is_masters, told as master_told, over as master_over}
 use Rattle.vme_interrupter.specs.Local.{is_own as is_interrupters, seen, served, readings as interrupter_readings, over as interrupter_over}
 use Rattle.vme_interrupter.proofs.Seen.{edges_seen, served_seen}
 use Rattle.vme_arbiter.specs.Local.{over as controller_over}
-use Rattle.vme_wiring.specs.Asked.{asked, IsAsked}
+use Rattle.vme_wiring.specs.Asked.{asked, asked_guard, IsAsked}
 
 -- two sets of lines that agree
 record Agree (s t : ℕ → Bool) : Type 0 where
@@ -63,25 +64,29 @@ any_above low last = let a = lines_agree low in above_alike (has_bus_level (bus_
 pick_low : (kind : ArbiterKind) (low : ℕ → Bool) (last n : ℕ) → n < 4 → is_pick kind (has_bus_level (bus_levels low)) last n ≡ is_pick kind low last n
 pick_low kind low last n l = let a = lines_agree low in (laws_of kind).by_lines (has_bus_level (bus_levels low)) low last n a.zero a.one a.two a.three (has_bus low n l)
 
+-- what a row of the table answers
+abbrev answered : ℕ × Guard → ℕ × Bool
+answered g = (g.0, holds g.1)
+
 -- an answer by the state of the wire, and the row of the table
 abbrev by_row : Bool → Bool → ℕ × Bool → Judgement
 by_row low fall row = check (is_other_state low fall) AlreadyThere (check row.1 (Rule row.0) (Ok tt))
 
-by_same : (low fall : Bool) (a b : ℕ × Bool) → a ≡ b → by_row low fall a ≡ by_row low fall b
-by_same low fall a b e = ap (by_row low fall) e
+by_same : (low fall : Bool) (a b : ℕ × Guard) → a ≡ b → by_row low fall (answered a) ≡ by_row low fall (answered b)
+by_same low fall a b e = ap (λ g. by_row low fall (answered g)) e
 
 -- an edge of that driver
 asked_of : (version : Version) (p : Plan) (h : List Edge) (d : Driver) (e : Edge) → e.driver ≡ d → by_row (drive h d e.wire) e.fall (rule version (readings p h d) e.wire e.fall e.value) ≡ asked version p h e
 asked_of version p h d e same = ap (λ x. by_row (drive h x e.wire) e.fall (rule version (readings p h x) e.wire e.fall e.value)) (sym same)
 
+-- and its guard
+guard_of : (version : Version) (p : Plan) (h : List Edge) (d : Driver) (e : Edge) → e.driver ≡ d → (guard version (readings p h d) e.wire e.fall e.value).1 ≡ asked_guard version p h e
+guard_of version p h d e same = ap (λ x. (guard version (readings p h x) e.wire e.fall e.value).1) (sym same)
+
 twice_not : (a b : Bool) → (not (not (not a || b)) || (not a || b)) ≡ (not a || b)
 twice_not true true = refl
 twice_not true false = refl
 twice_not false b = refl
-
-asked_alike : (r t : Readings) (release : Release) → list_any r.request bus_numbers ≡ list_any t.request bus_numbers → is_asked r release ≡ is_asked t release
-asked_alike r t (Done burst) e = refl
-asked_alike r t Request e = e
 
 -- the readings of the whole, with the board's own part
 part_of_board : (p : Plan) (s : ℕ) (r : Row) (q : RequesterRow) → board p s ≡ Some r → r.requester ≡ Some q → option_and_then (λ b. b.requester) (board p s) ≡ Some q
@@ -95,22 +100,22 @@ abbrev requester_sees : Plan → List Edge → ℕ → RequesterRow → Readings
 requester_sees p h s q = requester_readings s q (drive h (Slot s)) (pins p h (Slot s)) (is_free h s)
 
 released : (p : Plan) (h : List Edge) (s : ℕ) (q : RequesterRow) → option_and_then (λ b. b.requester) (board p s) ≡ Some q →
-    is_asked (requester_sees p h s q) q.release ≡ may_release (readings p h (Slot s))
+    release_guard (requester_sees p h s q) ≡ release_guard (readings p h (Slot s))
 released p h s q e =
-    asked_alike (requester_sees p h s q) (readings p h (Slot s)) q.release (any_low (request_line p h))
-    ∙ sym (ap (λ o. holds (option_map_or (λ x. released_where (list_any (request_line p h) bus_numbers) x.release) o no_condition)) e)
+    ap (λ b. released_where b q.release) (any_low (request_line p h))
+    ∙ sym (ap (λ o. option_map_or (λ x. released_where (list_any (request_line p h) bus_numbers) x.release) o no_condition) e)
 
 requester_row : (version : Version) (p : Plan) (h : List Edge) (s : ℕ) (q : RequesterRow) (w : Wire) (f : Bool) (v : Option Cycle) → option_and_then (λ b. b.requester) (board p s) ≡ Some q → is_requesters w ≡ true →
-    rule version (requester_sees p h s q) w f v ≡ rule version (readings p h (Slot s)) w f v
+    guard version (requester_sees p h s q) w f v ≡ guard version (readings p h (Slot s)) w f v
 requester_row version p h s q Br true v e own = refl
 requester_row version p h s q Br false v e own = refl
 requester_row version p h s q BgOut true v e own = refl
 requester_row version p h s q BgOut false v e own = refl
 requester_row version p h s q Bbsy true v e own = refl
 requester_row version p h s q Bbsy false v e own =
-    let front = λ (a b : Bool). not (drive h (Slot s) Br) && not (grant_in p h (Slot s)) && a && b in
-    ap (λ a. (14, front a (is_asked (requester_sees p h s q) q.release))) (twice_not (drive h (Slot s) Addr) (drive h (Slot s) AddressStrobe))
-    ∙ ap (λ b. (14, front (is_free h s) b)) (released p h s q e)
+    let row = λ (a : Bool) (k : Guard). (14, bbsy_rises (drive h (Slot s) Br) (grant_in p h (Slot s)) a k) in
+    ap (λ a. row a (release_guard (requester_sees p h s q))) (twice_not (drive h (Slot s) Addr) (drive h (Slot s) AddressStrobe))
+    ∙ ap (λ k. row (is_free h s) k) (released p h s q e)
 requester_row version p h s q w f v e own = absurd (cc)
 
 requester_own : (p : Plan) (h : List Edge) (s : ℕ) (q : RequesterRow) (w : Wire) → is_requesters w ≡ true → requester_told (drive h (Slot s)) (is_free h s) w ≡ drive h (Slot s) w
@@ -129,13 +134,22 @@ requester_asked version p h r q seen free e k has told own =
     ∙ by_same (drive h (Slot s) e.wire) e.fall _ _ (requester_row version p h s q e.wire e.fall e.value (part_of_board p s r q k.row has) own)
     ∙ asked_of version p h (Slot s) e k.driver
 
+pub requester_guarded : (version : Version) (p : Plan) (h : List Edge) (r : Row) (q : RequesterRow) (seen : Pins) (free : Bool) (e : Edge) → IsAsked p h r seen e → r.requester ≡ Some q → free ≡ is_free h r.slot → is_requesters e.wire ≡ true →
+    guard_over r.slot q version h seen free e ≡ asked_guard version p h e
+requester_guarded version p h r q seen free e k has told own =
+    let s = r.slot in
+    ap (λ (x : Pins). guard_over s q version h x free e) k.pins
+    ∙ ap (λ b. guard_over s q version h (pins p h (Slot s)) b e) told
+    ∙ ap (λ g. g.1) (requester_row version p h s q e.wire e.fall e.value (part_of_board p s r q k.row has) own)
+    ∙ guard_of version p h (Slot s) e k.driver
+
 -- a master
 abbrev master_sees : Plan → List Edge → Row → RequesterRow → Readings
 master_sees p h r q = master_over r.slot q r.handler h (pins p h (Slot r.slot)) (drive h (Slot r.slot) Bbsy)
 
 within : (p : Plan) (h : List Edge) (r : Row) (q : RequesterRow) → option_and_then (λ b. b.requester) (board p r.slot) ≡ Some q →
-    is_below_burst (cycles h (Slot r.slot)) q.release ≡ is_within_burst (readings p h (Slot r.slot))
-within p h r q e = sym (ap (λ o. holds (option_map_or (λ x. below_burst (cycles h (Slot r.slot)) x.release) o no_condition)) e)
+    burst_guard (master_sees p h r q) ≡ burst_guard (readings p h (Slot r.slot))
+within p h r q e = sym (ap (λ o. option_map_or (λ x. below_burst (cycles h (Slot r.slot)) x.release) o no_condition) e)
 
 level_from : (n : ℕ) → is_level n ≡ true → 1 ≤ n
 level_from n e = grind (arith, nat_tests, e)
@@ -144,19 +158,19 @@ level_to : (n : ℕ) → is_level n ≡ true → n ≤ 7
 level_to n e = grind (arith, nat_tests, e)
 
 showing : (p : Plan) (h : List Edge) (r : Row) (q : RequesterRow) (v : Option Cycle) → board p r.slot ≡ Some r → has_value Addr true v ≡ true →
-    may_show (master_sees p h r q) v ≡ may_show (readings p h (Slot r.slot)) v
+    show_guard (master_sees p h r q) v ≡ show_guard (readings p h (Slot r.slot)) v
 showing p h r q (Some (Acknowledge n)) found formed =
-    ap (λ b. has_level r.handler n && b) (has_irq (interrupt_line p h) n (level_from n formed) (level_to n formed))
-    ∙ sym (ap (λ o. option_map_or (λ b. has_level b.handler n) o false && interrupt_line p h n) found)
+    ap (λ b. asks Handled (has_level r.handler n) ⊓ asks InterruptLow b) (has_irq (interrupt_line p h) n (level_from n formed) (level_to n formed))
+    ∙ sym (ap (λ o. asks Handled (option_map_or (λ b. has_level b.handler n) o false) ⊓ asks InterruptLow (interrupt_line p h n)) found)
 showing p h r q (Some (Access t)) found formed = refl
 showing p h r q None found formed = refl
 
 master_row : (version : Version) (p : Plan) (h : List Edge) (r : Row) (q : RequesterRow) (w : Wire) (f : Bool) (v : Option Cycle) → board p r.slot ≡ Some r → option_and_then (λ b. b.requester) (board p r.slot) ≡ Some q → has_value w f v ≡ true → is_masters w ≡ true →
-    rule version (master_sees p h r q) w f v ≡ rule version (readings p h (Slot r.slot)) w f v
+    guard version (master_sees p h r q) w f v ≡ guard version (readings p h (Slot r.slot)) w f v
 master_row version p h r q Addr true v found e formed own =
-    let front = λ (a b : Bool). drive h (Slot r.slot) Bbsy && not (line p h AddressStrobe) && a && b in
-    ap (λ a. (15, front a (may_show (master_sees p h r q) v))) (within p h r q e)
-    ∙ ap (λ b. (15, front (is_within_burst (readings p h (Slot r.slot))) b)) (showing p h r q v found formed)
+    let row = λ (a b : Guard). (15, addr_goes_on (drive h (Slot r.slot) Bbsy) (line p h AddressStrobe) a b) in
+    ap (λ a. row a (show_guard (master_sees p h r q) v)) (within p h r q e)
+    ∙ ap (λ b. row (burst_guard (readings p h (Slot r.slot))) b) (showing p h r q v found formed)
 master_row version p h r q Addr false v found e formed own = refl
 master_row version p h r q AddressStrobe true v found e formed own = refl
 master_row version p h r q AddressStrobe false v found e formed own = refl
@@ -183,31 +197,40 @@ master_asked version p h r q seen holds e k has told own =
     ∙ by_same (drive h (Slot s) e.wire) e.fall _ _ (master_row version p h r q e.wire e.fall e.value k.row (part_of_board p s r q k.row has) (value_of e k.formed) own)
     ∙ asked_of version p h (Slot s) e k.driver
 
+pub master_guarded : (version : Version) (p : Plan) (h : List Edge) (r : Row) (q : RequesterRow) (seen : Pins) (holds : Bool) (e : Edge) → IsAsked p h r seen e → r.requester ≡ Some q → holds ≡ drive h (Slot r.slot) Bbsy → is_masters e.wire ≡ true →
+    (guard version (master_over r.slot q r.handler h seen holds) e.wire e.fall e.value).1 ≡ asked_guard version p h e
+master_guarded version p h r q seen holds e k has told own =
+    let s = r.slot in
+    ap (λ (x : Pins). (guard version (master_over s q r.handler h x holds) e.wire e.fall e.value).1) k.pins
+    ∙ ap (λ b. (guard version (master_over s q r.handler h (pins p h (Slot s)) b) e.wire e.fall e.value).1) told
+    ∙ ap (λ g. g.1) (master_row version p h r q e.wire e.fall e.value k.row (part_of_board p s r q k.row has) (value_of e k.formed) own)
+    ∙ guard_of version p h (Slot s) e k.driver
+
 -- an interrupter
 abbrev interrupter_sees : Plan → List Edge → Row → Readings
 interrupter_sees p h r = interrupter_readings r.slot r.interrupter (drive h (Slot r.slot)) (is_served p h (Slot r.slot)) (pins p h (Slot r.slot))
 
-passed_by : (p : Plan) (h : List Edge) (r : Row) (c : Option Cycle) → board p r.slot ≡ Some r → is_passed_by (interrupter_sees p h r) c ≡ is_passed_by (readings p h (Slot r.slot)) c
+passed_by : (p : Plan) (h : List Edge) (r : Row) (c : Option Cycle) → board p r.slot ≡ Some r → pass_guard (interrupter_sees p h r) c ≡ pass_guard (readings p h (Slot r.slot)) c
 passed_by p h r (Some (Acknowledge n)) found =
-    sym (ap (λ o. not (option_map_or (λ i. i.level == n) (option_and_then (λ b. b.interrupter) o) false && drive h (Slot r.slot) Irq && not (is_served p h (Slot r.slot)))) found)
+    sym (ap (λ o. asks NotPending (not (option_map_or (λ i. i.level == n) (option_and_then (λ b. b.interrupter) o) false && drive h (Slot r.slot) Irq && not (is_served p h (Slot r.slot))))) found)
 passed_by p h r (Some (Access t)) found = refl
 passed_by p h r None found = refl
 
-answering : (p : Plan) (h : List Edge) (r : Row) (c : Option Cycle) → board p r.slot ≡ Some r → may_answer (interrupter_sees p h r) c ≡ may_answer (readings p h (Slot r.slot)) c
+answering : (p : Plan) (h : List Edge) (r : Row) (c : Option Cycle) → board p r.slot ≡ Some r → answer_guard (interrupter_sees p h r) c ≡ answer_guard (readings p h (Slot r.slot)) c
 answering p h r (Some (Acknowledge n)) found =
-    sym (ap (λ o. iack_in p h (Slot r.slot) && not (drive h (Slot r.slot) IackOut) && (option_map_or (λ i. i.level == n) (option_and_then (λ b. b.interrupter) o) false && drive h (Slot r.slot) Irq && not (is_served p h (Slot r.slot)))) found)
-answering p h r (Some (Access t)) found = sym (ap (λ o. option_map_or (λ b. b.slot == t) o false) found)
+    sym (ap (λ o. asks AcknowledgeInLow (iack_in p h (Slot r.slot)) ⊓ asks OwnAcknowledgeOutHigh (not (drive h (Slot r.slot) IackOut)) ⊓ asks Pending (option_map_or (λ i. i.level == n) (option_and_then (λ b. b.interrupter) o) false && drive h (Slot r.slot) Irq && not (is_served p h (Slot r.slot)))) found)
+answering p h r (Some (Access t)) found = sym (ap (λ o. asks OwnSlotShown (option_map_or (λ b. b.slot == t) o false)) found)
 answering p h r None found = refl
 
 interrupter_row : (version : Version) (p : Plan) (h : List Edge) (r : Row) (w : Wire) (f : Bool) (v : Option Cycle) → board p r.slot ≡ Some r → is_interrupters w ≡ true →
-    rule version (interrupter_sees p h r) w f v ≡ rule version (readings p h (Slot r.slot)) w f v
+    guard version (interrupter_sees p h r) w f v ≡ guard version (readings p h (Slot r.slot)) w f v
 interrupter_row version p h r Irq true v found own = refl
 interrupter_row version p h r Irq false v found own = refl
 interrupter_row version p h r IackOut true v found own =
-    ap (λ b. (23, iack_in p h (Slot r.slot) && not (drive h (Slot r.slot) Dtack) && line p h DataStrobe && b)) (passed_by p h r (shown p h) found)
+    ap (λ k. (23, iackout_falls (iack_in p h (Slot r.slot)) (drive h (Slot r.slot) Dtack) (line p h DataStrobe) k)) (passed_by p h r (shown p h) found)
 interrupter_row version p h r IackOut false v found own = refl
 interrupter_row version p h r Dtack true v found own =
-    ap (λ b. (25, line p h DataStrobe && line p h AddressStrobe && b)) (answering p h r (shown p h) found)
+    ap (λ k. (25, dtack_falls (line p h DataStrobe) (line p h AddressStrobe) k)) (answering p h r (shown p h) found)
 interrupter_row version p h r Dtack false v found own = refl
 interrupter_row version p h r w f v found own = absurd (cc)
 
@@ -225,6 +248,13 @@ interrupter_asked version p h r seen_pins e k own =
     ∙ by_same (drive h (Slot r.slot) e.wire) e.fall _ _ (interrupter_row version p h r e.wire e.fall e.value k.row own)
     ∙ asked_of version p h (Slot r.slot) e k.driver
 
+pub interrupter_guarded : (version : Version) (p : Plan) (h : List Edge) (r : Row) (seen_pins : Pins) (e : Edge) → IsAsked p h r seen_pins e → is_interrupters e.wire ≡ true →
+    (guard version (interrupter_over r.slot r.interrupter (seen p h) seen_pins) e.wire e.fall e.value).1 ≡ asked_guard version p h e
+interrupter_guarded version p h r seen_pins e k own =
+    ap (λ (x : Readings). (guard version x e.wire e.fall e.value).1) (over_seen p h r seen_pins k.row k.pins)
+    ∙ ap (λ g. g.1) (interrupter_row version p h r e.wire e.fall e.value k.row own)
+    ∙ guard_of version p h (Slot r.slot) e k.driver
+
 -- the controller
 abbrev controller_sees : Plan → List Edge → Readings
 controller_sees p h = controller_over p.arbiter h (pins p h Controller)
@@ -232,24 +262,32 @@ controller_sees p h = controller_over p.arbiter h (pins p h Controller)
 below_four : (n : ℕ) → nat_lt n 4 ≡ true → n < 4
 below_four n e = grind (arith, nat_tests, e)
 
-clear_due : (p : Plan) (h : List Edge) → is_bus_clear_due (controller_sees p h) ≡ is_bus_clear_due (readings p h Controller)
-clear_due p h = ap (λ b. is_pri p.arbiter && line p h Bbsy && are_grants_high (readings p h Controller) && b) (any_above (request_line p h) (last_level h))
+clear_due : (p : Plan) (h : List Edge) → clear_guard (controller_sees p h) ≡ clear_guard (readings p h Controller)
+clear_due p h = ap (λ b. bclr_falls (is_pri p.arbiter) (line p h Bbsy) (are_grants_high (readings p h Controller)) b) (any_above (request_line p h) (last_level h))
 
 controller_row : (version : Version) (p : Plan) (h : List Edge) (w : Wire) (f : Bool) (v : Option Cycle) → has_wire Controller w ≡ true →
-    rule version (controller_sees p h) w f v ≡ rule version (readings p h Controller) w f v
+    guard version (controller_sees p h) w f v ≡ guard version (readings p h Controller) w f v
 controller_row version p h (Bg n) true v own =
-    ap (λ b. (1, are_grants_high (readings p h Controller) && not (line p h Bbsy) && b)) (pick_low p.arbiter (request_line p h) (last_level h) n (below_four n own))
+    ap (λ b. (1, bg_falls (are_grants_high (readings p h Controller)) (line p h Bbsy) b)) (pick_low p.arbiter (request_line p h) (last_level h) n (below_four n own))
 controller_row version p h (Bg n) false v own = refl
-controller_row version p h Bclr true v own = ap (λ b. (3, b)) (clear_due p h)
-controller_row version p h Bclr false v own = ap (λ b. (4, not b)) (clear_due p h)
+controller_row version p h Bclr true v own = ap (λ k. (3, k)) (clear_due p h)
+controller_row version p h Bclr false v own = ap (λ k. (4, bclr_rises (holds k))) (clear_due p h)
 controller_row version p h Iack true v own = refl
 controller_row version p h Iack false v own = refl
 controller_row version p h Berr true v own = refl
 controller_row version p h Berr false v own = refl
 controller_row version p h w f v own = absurd (cc)
 
+controllers_wire : (e : Edge) → e.driver ≡ Controller → is_well_formed e ≡ true → has_wire Controller e.wire ≡ true
+controllers_wire e same formed = subst (λ d. has_wire d e.wire ≡ true) same (and_left (has_wire e.driver e.wire) (has_value e.wire e.fall e.value) formed)
+
 pub controller_asked : (version : Version) (p : Plan) (h : List Edge) (e : Edge) → e.driver ≡ Controller → is_well_formed e ≡ true →
     ruling version (controller_over p.arbiter h (pins p h Controller)) e ≡ asked version p h e
 controller_asked version p h e same formed =
-    by_same (drive h Controller e.wire) e.fall _ _ (controller_row version p h e.wire e.fall e.value (subst (λ d. has_wire d e.wire ≡ true) same (and_left (has_wire e.driver e.wire) (has_value e.wire e.fall e.value) formed)))
+    by_same (drive h Controller e.wire) e.fall _ _ (controller_row version p h e.wire e.fall e.value (controllers_wire e same formed))
     ∙ asked_of version p h Controller e same
+
+pub controller_guarded : (version : Version) (p : Plan) (h : List Edge) (e : Edge) → e.driver ≡ Controller → is_well_formed e ≡ true →
+    (guard version (controller_over p.arbiter h (pins p h Controller)) e.wire e.fall e.value).1 ≡ asked_guard version p h e
+controller_guarded version p h e same formed =
+    ap (λ g. g.1) (controller_row version p h e.wire e.fall e.value (controllers_wire e same formed)) ∙ guard_of version p h Controller e same

@@ -8,6 +8,8 @@ use Rattle.vme_model.specs.declared.signals.Edge.{Edge}
 use Rattle.vme_model.specs.Signals.{is_well_formed}
 use Rattle.vme_model.specs.Plan.{Plan, board, drives, has_driver}
 use Rattle.vme_model.specs.Readings.{readings}
+use Rattle.vme_model.specs.Guards.{Guard}
+use Rattle.vme_model.specs.Rules.{guard}
 use Rattle.vme_model.specs.Verdict.{Judgement, ruling}
 use Rattle.vme_model.specs.Views.{pins}
 use Rattle.vme_wiring.specs.Chained.{grant_in, iack_in}
@@ -19,6 +21,10 @@ exists p e = is_well_formed e && has_driver p e.driver e.wire
 
 abbrev pub asked : Version → Plan → List Edge → Edge → Judgement
 asked version p h e = ruling version (readings p h e.driver) e
+
+-- the guard of the rule that names an edge
+abbrev pub asked_guard : Version → Plan → List Edge → Edge → Guard
+asked_guard version p h e = (guard version (readings p h e.driver) e.wire e.fall e.value).1
 
 -- a board's pins, by the chains and the lines that all drivers see alike
 abbrev pub seen_by : Chains → Pins → Row → Pins

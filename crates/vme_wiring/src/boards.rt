@@ -9,7 +9,7 @@ ghost use Rattle.vme_model.specs.History.{shown as shown_after};
 ghost use Rattle.vme_requester.specs.Local.{state_of as requester_of, is_own as is_requesters};
 ghost use Rattle.vme_master.specs.Local.{state_of as master_of, is_own as is_masters};
 ghost use Rattle.vme_interrupter.specs.Local.{is_own as is_interrupters};
-ghost use Rattle.vme_wiring.specs.Asked.{asked, seen_by, IsAsked};
+ghost use Rattle.vme_wiring.specs.Asked.{asked, asked_guard, seen_by, IsAsked};
 ghost use Rattle.vme_wiring.specs.declared.chains.Chains.{Chains as ChainsValue};
 
 use crate::chains::Chains;
@@ -17,6 +17,7 @@ use vme_interrupter::Interrupter;
 use vme_master::Master;
 use vme_model::{Cycle, Edge, Pins, Refused, Row, Version, Wire};
 use vme_requester::Requester;
+use vme_rules::Outcome;
 
 /// A board, as its row of the plan and the states of its parts.
 #[derive(Clone, Copy)]
@@ -195,6 +196,52 @@ impl Board {
             Wire::Addr | Wire::AddressStrobe | Wire::DataStrobe => self.ask_master(edge, pins),
             Wire::Irq | Wire::IackOut | Wire::Dtack => self.ask_interrupter(edge, pins, chains),
             Wire::Bg(_) | Wire::Bclr | Wire::Iack | Wire::Berr => Err(Refused::NoSuchDriver),
+        }
+    }
+
+    /// What the guard answers of the rule that names an edge of its requester's.
+    fn told_by_requester<A: Outcome>(&self, edge: Edge, pins: Pins) -> A
+        ensures { OfParts self.now (λ version p h r. IsAsked p h r pins edge
+            → is_requesters edge.wire ≡ true → A.tells result (asked_guard version p h edge)) }
+    {
+        match &self.requester {
+            Some(requester) => requester.told(edge, pins, self.is_address_free()),
+            None => A::free(),
+        }
+    }
+
+    /// What the guard answers of the rule that names an edge of its master's.
+    fn told_by_master<A: Outcome>(&self, edge: Edge, pins: Pins) -> A
+        ensures { OfParts self.now (λ version p h r. IsAsked p h r pins edge
+            → is_masters edge.wire ≡ true → A.tells result (asked_guard version p h edge)) }
+    {
+        match &self.master {
+            Some(master) => master.told(edge, pins, self.is_low(Wire::Bbsy)),
+            None => A::free(),
+        }
+    }
+
+    /// What the guard answers of the rule that names an edge of its interrupter's.
+    fn told_by_interrupter<A: Outcome>(&self, edge: Edge, pins: Pins) -> A
+        ensures { OfParts self.now (λ version p h r. IsAsked p h r pins edge
+            → is_interrupters edge.wire ≡ true → A.tells result (asked_guard version p h edge)) }
+    {
+        self.interrupter.told(edge, pins)
+    }
+
+    /// What the guard answers of the rule that names an edge of one of its wires, by the part that drives it, with the
+    /// board's pins.
+    pub fn told<A: Outcome>(&self, edge: Edge, pins: Pins) -> A
+        ensures { OfParts self.now (λ version p h r. IsAsked p h r pins edge
+            → A.tells result (asked_guard version p h edge)) }
+    {
+        match edge.wire {
+            Wire::Br | Wire::BgOut | Wire::Bbsy => self.told_by_requester(edge, pins),
+            Wire::Addr | Wire::AddressStrobe | Wire::DataStrobe => {
+                self.told_by_master(edge, pins)
+            }
+            Wire::Irq | Wire::IackOut | Wire::Dtack => self.told_by_interrupter(edge, pins),
+            Wire::Bg(_) | Wire::Bclr | Wire::Iack | Wire::Berr => A::free(),
         }
     }
 }
