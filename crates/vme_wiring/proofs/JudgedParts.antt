@@ -1,8 +1,8 @@
 -- The verdict from E1, what a part answers, and the settling rules.
-use Rattle.std.proofs.Common.{◌≡◌, ◌∙◌, refl, sym, ap, Bool, true, false, List}
+use Rattle.std.proofs.Common.{◌≡◌, ◌∙◌, refl, sym, ap, ℕ, Bool, true, false, List}
 use Rattle.std.specs.Prelude.{◌&&◌, Ok, Err}
 use Rattle.vme_model.specs.declared.refusals.Refused.{Refused}
-use Rattle.vme_model.specs.declared.refusals.Refused.TheVariants.{NoSuchDriver, AlreadyThere, Rule, NotSettled}
+use Rattle.vme_model.specs.declared.refusals.Refused.TheVariants.{NoSuchDriver, AlreadyThere, Rule, NotSettled, TraceFull}
 use Rattle.vme_model.specs.declared.signals.Version.{Version}
 use Rattle.vme_model.specs.declared.signals.Edge.{Edge}
 use Rattle.vme_model.specs.Signals.{is_well_formed}
@@ -23,6 +23,25 @@ passed_before : (a b : Bool) (x y : Refused) (rest : Judgement) → check a x (c
 passed_before true true x y rest e = refl
 passed_before true false x y rest e = absurd (cc)
 passed_before false b x y rest e = absurd (cc)
+
+driven_where_ruled : (a : Bool) (n : ℕ) (rest : Judgement) → check a NoSuchDriver rest ≡ Err (Rule n) → a ≡ true
+driven_where_ruled true n rest e = refl
+driven_where_ruled false n rest e = absurd (cc)
+
+driven_where_settled : (a : Bool) (n : ℕ) (rest : Judgement) → check a NoSuchDriver rest ≡ Err (NotSettled n) → a ≡ true
+driven_where_settled true n rest e = refl
+driven_where_settled false n rest e = absurd (cc)
+
+driven_where_accepted : (a : Bool) (rest : Judgement) → check a NoSuchDriver rest ≡ Ok tt → a ≡ true
+driven_where_accepted true rest e = refl
+driven_where_accepted false rest e = absurd (cc)
+
+not_full : (a b c d : Bool) (n m : ℕ) → ¬ (check a NoSuchDriver (check b AlreadyThere (check c (Rule n) (check d (NotSettled m) (Ok tt)))) ≡ Err TraceFull)
+not_full false b c d n m e = cc
+not_full true false c d n m e = cc
+not_full true true false d n m e = cc
+not_full true true true false n m e = cc
+not_full true true true true n m e = cc
 
 module _ (version : Version) (p : Plan) (h : List Edge) (e : Edge) where
   abbrev exists : Bool
@@ -52,3 +71,17 @@ module _ (version : Version) (p : Plan) (h : List Edge) (e : Edge) where
   passed some is =
       sym (passed_before (is_other_state (drive h e.driver e.wire) e.fall) holds AlreadyThere named last is)
       ∙ sym (ap (λ b. check b NoSuchDriver between) some)
+
+  -- an answer but E1 is of an edge that there is
+  pub exists_ruled : (n : ℕ) → verdict_but_full version p h e ≡ Err (Rule n) → exists ≡ true
+  exists_ruled n is = driven_where_ruled exists n between is
+
+  pub exists_settled : (n : ℕ) → verdict_but_full version p h e ≡ Err (NotSettled n) → exists ≡ true
+  exists_settled n is = driven_where_settled exists n between is
+
+  pub exists_accepted : verdict_but_full version p h e ≡ Ok tt → exists ≡ true
+  exists_accepted is = driven_where_accepted exists between is
+
+  pub never_full : ¬ (verdict_but_full version p h e ≡ Err TraceFull)
+  never_full is = not_full exists (is_other_state (drive h e.driver e.wire) e.fall) holds (settled version p h e)
+      (rule version (readings p h e.driver) e.wire e.fall e.value).0 (settling version p h e.wire e.fall).0 is

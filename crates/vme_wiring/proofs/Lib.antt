@@ -34,3 +34,5 @@ pub mod NoOffers
 pub mod More
 -- a quiet board to which nothing has come waits, and a busy bus has no grant: `Wiring::is_waiting`
 pub mod Quiet
+-- the guard that a part reads by its own fields: `Board::told` and the parts of it
+pub mod PartGuards

@@ -1,19 +1,39 @@
-use Rattle.std.proofs.Common.{◌∙◌, ap, true, false}
-use Rattle.vme_model.specs.declared.signals.Wire.TheVariants.{Bg, AddressStrobe}
-use Rattle.vme_wiring.proofs.FieldReads.{pair, settling_at, acknowledge_clear, grant_seen, grant_gone}
+use Rattle.std.proofs.Common.{◌∙◌, sym, ap, subst, ℕ, true, false}
+use Rattle.vme_model.specs.declared.sets.ChainId.{ChainId}
+use Rattle.vme_model.specs.declared.signals.Wire.TheVariants.{Bg, Berr, AddressStrobe}
+use Rattle.vme_model.specs.Guards.{Guard}
+use Rattle.vme_model.specs.Settling.{as_settles, berr_settles}
+use Rattle.vme_chain.specs.Segments.{is_past_end}
+use Rattle.vme_wiring.specs.Chained.{chain_at}
+use Rattle.vme_wiring.proofs.FieldReads.{settling_at, acknowledge_clear, grant_seen, grant_gone}
 use Rattle.vme_wiring.proofs.wirings.Wiring.settling.Goals as goal
 
-pub returns-in-AddressStrobe-true : goal.returns-in-AddressStrobe-true
-returns-in-AddressStrobe-true c version p h is =
-    settling_at version p h c.args.edge.wire AddressStrobe c.args.edge.fall true 1 c.is_acknowledge_clear.result c.in-AddressStrobe-true.is-0 c.in-AddressStrobe-true.is-1
-    (ap (pair 1) (c.is_acknowledge_clear.ensures ∙ acknowledge_clear version p h c.args.self.now is))
+pub returns-in-AddressStrobe-true-clause-answer : goal.returns-in-AddressStrobe-true-clause-answer
+returns-in-AddressStrobe-true-clause-answer g c = λ version p h is.
+    let tells = g.A.Outcome.tells c.as_settles.result in
+    subst (λ (k : ℕ × Guard). tells k.1)
+    (settling_at version p h c.args.edge.wire AddressStrobe c.args.edge.fall true c.in-AddressStrobe-true.is-0 c.in-AddressStrobe-true.is-1)
+    (subst (λ b. tells (as_settles b)) (c.is_acknowledge_clear.ensures ∙ acknowledge_clear version p h c.args.self.now is) c.as_settles.ensures)
 
-pub returns-in-Bg-false : goal.returns-in-Bg-false
-returns-in-Bg-false c version p h is =
-    settling_at version p h c.args.edge.wire (Bg c.in-Bg-false.level) c.args.edge.fall false 3 c.is_grant_seen.result c.in-Bg-false.is-0 c.in-Bg-false.is-1
-    (ap (pair 3) (c.is_grant_seen.ensures ∙ grant_seen version p h c.args.self.now c.in-Bg-false.level is))
+pub returns-in-Berr-true-clause-answer : goal.returns-in-Berr-true-clause-answer
+returns-in-Berr-true-clause-answer g c = λ version p h is.
+    let tells = g.A.Outcome.tells c.berr_settles.result in
+    subst (λ (k : ℕ × Guard). tells k.1)
+    (settling_at version p h c.args.edge.wire Berr c.args.edge.fall true c.in-Berr-true.is-0 c.in-Berr-true.is-1)
+    (subst (λ b. tells (berr_settles b)) (c.is_unanswerable.ensures version p h is) c.berr_settles.ensures)
 
-pub returns-in-Bg-true : goal.returns-in-Bg-true
-returns-in-Bg-true c version p h is =
-    settling_at version p h c.args.edge.wire (Bg c.in-Bg-true.field-0-0) c.args.edge.fall true 4 c.is_grant_gone.result c.in-Bg-true.is-0 c.in-Bg-true.is-1
-    (ap (pair 4) (c.is_grant_gone.ensures ∙ grant_gone version p h c.args.self.now is))
+pub returns-in-Bg-false-clause-answer : goal.returns-in-Bg-false-clause-answer
+returns-in-Bg-false-clause-answer g c = λ version p h is.
+    let w = c.args.self.now in
+    let n = c.in-Bg-false.level in
+    let tells = g.A.Outcome.tells c.bg_rise_settles.result in
+    subst (λ (k : ℕ × Guard). tells k.1)
+    (settling_at version p h c.args.edge.wire (Bg n) c.args.edge.fall false c.in-Bg-false.is-0 c.in-Bg-false.is-1)
+    (subst tells (grant_seen version p h w n is) c.bg_rise_settles.ensures)
+
+pub returns-in-Bg-true-clause-answer : goal.returns-in-Bg-true-clause-answer
+returns-in-Bg-true-clause-answer g c = λ version p h is.
+    let tells = g.A.Outcome.tells c.bg_fall_settles.result in
+    subst (λ (k : ℕ × Guard). tells k.1)
+    (settling_at version p h c.args.edge.wire (Bg c.in-Bg-true.field-0-0) c.args.edge.fall true c.in-Bg-true.is-0 c.in-Bg-true.is-1)
+    (subst tells (grant_gone version p h c.args.self.now is) c.bg_fall_settles.ensures)
