@@ -10,3 +10,5 @@ mod Alike
 mod OfferChoice
 -- an offer is an edge that would be accepted: `Backplane::make_offer`, `step`
 mod AcceptedOffers
+-- what an edge fails with the end of the trace, from what it fails without: `Backplane::told`, `failing`
+mod Failing

@@ -1,9 +1,10 @@
 //! A backplane, which takes edges one by one.
-ghost use Rattle.std.specs.Prelude.{◌≡◌, ◌==◌, ◌+◌, ◌%◌, ◌<◌, ◌≤◌, ◌↔◌, [], IfOk, IsTrue, Ok, Some, false, true, is_ok, length, slice_get};
+ghost use Rattle.std.specs.Prelude.{◌≡◌, ◌==◌, ◌&&◌, ◌+◌, ◌%◌, ◌<◌, ◌≤◌, ◌↔◌, [], IfOk, IsTrue, Ok, Some, false, true, is_ok, length, slice_get};
 ghost use Rattle.std.specs.Option.{option_map_or};
 ghost use Rattle.vme_model.specs.History.{in_order};
 ghost use Rattle.vme_model.specs.Signals.{is_well_formed};
 ghost use Rattle.vme_model.specs.Verdict.{verdict, verdict_but_full, made, after, kept, IsLegal};
+ghost use Rattle.vme_model.specs.Failing.{tested, tested_but_full, unmet, unmet_but_full};
 ghost use Rattle.vme_model.specs.Safe.{IsSafe, IsOrderly};
 ghost use Rattle.vme_model.specs.Views.{pins};
 ghost use Rattle.vme_model.specs.Deliveries.{answer, delivered, delivery};
@@ -18,7 +19,8 @@ use crate::deliveries::deliveries;
 use arrayvec::ArrayVec;
 use std::alloc::{AllocError, Global};
 use std::marker::Model;
-use vme_model::{Delivery, Driver, Edge, Pins, Refused, Version, Wire};
+use vme_model::{Condition, Delivery, Driver, Edge, Pins, Refused, Version, Wire};
+use vme_rules::Outcome;
 use vme_slots::Plan;
 use vme_store::{Store, Trace};
 use vme_wiring::Wiring;
@@ -144,6 +146,56 @@ impl<'r> Backplane<'r> {
             }
             Err(refused) => Err(refused),
         }
+    }
+
+    /// Whether the edge is refused for the end of the trace alone.
+    fn lacks_room(&self, edge: Edge) -> bool
+        ensures { result ≡ ((length self.now.history == self.now.max)
+            && is_ok (verdict_but_full self.now.version self.now.plan self.now.history edge)) }
+    {
+        self.is_full() && self.judge(edge).is_ok()
+    }
+
+    /// What is tested of an edge, but for the end of the trace.
+    fn told_but_full<A: Outcome>(&self, edge: Edge) -> A
+        ensures { A.tells result
+            (tested_but_full self.now.version self.now.plan self.now.history edge) }
+    {
+        self.wiring.told(edge)
+    }
+
+    /// What is tested of an edge, as far as the answer to it comes: the one condition that fails at E1 and E2, else those
+    /// of its rule, and where they hold, that of its settling rule; behind them, at E5, that of the room.
+    pub fn told<A: Outcome>(&self, edge: Edge) -> A
+        ensures { A.tells result (tested self.now edge) }
+    {
+        let tested = self.told_but_full(edge);
+        if self.lacks_room(edge) {
+            tested.and(A::asks(Condition::HasRoom, false))
+        } else {
+            tested
+        }
+    }
+
+    /// The conditions that an edge fails, but for the end of the trace.
+    fn failing_but_full(&self, edge: Edge) -> ArrayVec<Condition, 5>
+        ensures { result.items
+            ≡ unmet_but_full self.now.version self.now.plan self.now.history edge }
+    {
+        self.wiring.failing(edge)
+    }
+
+    /// The conditions that an edge fails, of the first of E1 to E5 that applies, in the order of its guard: none where
+    /// `step` would accept it.
+    pub fn failing(&self, edge: Edge) -> ArrayVec<Condition, 5>
+        ensures { result.items ≡ unmet self.now edge }
+    {
+        let mut failed = ArrayVec::new();
+        if self.lacks_room(edge) {
+            failed.push(Condition::HasRoom);
+            return failed;
+        }
+        self.failing_but_full(edge)
     }
 
     /// Makes the edge where the rules allow it, and answers what it delivers.
