@@ -1,11 +1,13 @@
 //! What no clause says: worked traces with what they deliver, and the end of a trace.
-use crate::boards::{FIRST, SECOND, THIRD, interrupter, requester};
+use crate::boards::{FIRST, SECOND, THIRD, board, interrupter, requester};
 use std::alloc::Global;
 use std::process::Abort;
 use std::test::*;
 use vme_arena::Region;
 use vme_backplane::{Backplane, Trace, TraceError};
-use vme_model::{ArbiterKind, Cycle, Delivery, Driver, Edge, Levels, Refused, Row, Version, Wire};
+use vme_model::{
+    ArbiterKind, Condition, Cycle, Delivery, Driver, Edge, Levels, Refused, Row, Version, Wire,
+};
 use vme_slots::Plan;
 
 const CONTROLLER: Driver = Driver::Controller;
@@ -153,6 +155,87 @@ const IN_ROUNDS: [Edge; 3] = [
     fall!(THIRD, Wire::Bbsy),
 ];
 
+const FOURTH: Driver = Driver::Slot(4);
+
+/// A grant reaches slot 3, while slot 2 asks too late and slot 4 waits: each edge, with the conditions that it fails. The
+/// twelve that fail none fill the trace.
+const A_LATE_REQUEST: [(Edge, &[Condition]); 23] = [
+    (fall!(FOURTH, Wire::Br), &[]),
+    (fall!(CONTROLLER, Wire::Bg(3)), &[]),
+    (fall!(SECOND, Wire::BgOut), &[]),
+    (fall!(SECOND, Wire::Br), &[]),
+    (fall!(THIRD, Wire::Br), &[]),
+    (fall!(THIRD, Wire::BgOut), &[Condition::OwnRequestHigh]),
+    (fall!(THIRD, Wire::Bbsy), &[]),
+    (fall!(SECOND, Wire::Bbsy), &[Condition::OwnGrantOutHigh]),
+    (fall!(FOURTH, Wire::Bbsy), &[Condition::GrantInLow]),
+    (rise!(THIRD, Wire::Br), &[]),
+    (rise!(CONTROLLER, Wire::Bg(3)), &[]),
+    (rise!(THIRD, Wire::Bbsy), &[Condition::GrantInHigh]),
+    (rise!(SECOND, Wire::BgOut), &[]),
+    (fall!(CONTROLLER, Wire::Bg(3)), &[Condition::BusyHigh]),
+    (rise!(THIRD, Wire::Bbsy), &[]),
+    (fall!(CONTROLLER, Wire::Bg(3)), &[]),
+    (fall!(SECOND, Wire::Bbsy), &[]),
+    (fall!(FIRST, Wire::Br), &[Condition::HasDriver]),
+    (fall!(SECOND, Wire::Bbsy), &[Condition::OtherState]),
+    (
+        fall!(THIRD, Wire::Bbsy),
+        &[Condition::GrantInLow, Condition::OwnRequestLow],
+    ),
+    (
+        fall!(CONTROLLER, Wire::Bclr),
+        &[
+            Condition::ArbiterIsPri,
+            Condition::GrantsHigh,
+            Condition::HigherAsked,
+        ],
+    ),
+    (
+        fall!(THIRD, Wire::Addr, Some(Cycle::Access(1))),
+        &[Condition::OwnBusyLow],
+    ),
+    (fall!(THIRD, Wire::Br), &[Condition::HasRoom]),
+];
+
+/// A cycle that a board can answer is not timed out, nor has an answer to wait for.
+const AN_ACCESS: [(Edge, &[Condition]); 8] = [
+    (fall!(FIRST, Wire::Br), &[]),
+    (fall!(CONTROLLER, Wire::Bg(3)), &[]),
+    (fall!(FIRST, Wire::Bbsy), &[]),
+    (fall!(FIRST, Wire::Addr, Some(Cycle::Access(1))), &[]),
+    (fall!(FIRST, Wire::AddressStrobe), &[]),
+    (fall!(FIRST, Wire::DataStrobe), &[]),
+    (
+        fall!(CONTROLLER, Wire::Berr),
+        &[Condition::NobodyCanAnswer],
+    ),
+    (rise!(FIRST, Wire::DataStrobe), &[Condition::Answered]),
+];
+
+/// A withdrawn request, whose grant is timed out when it has passed both boards; the next waits until it has risen through.
+const WITHDRAWN: [(Edge, &[Condition]); 10] = [
+    (fall!(SECOND, Wire::Br), &[]),
+    (fall!(CONTROLLER, Wire::Bg(3)), &[]),
+    (rise!(SECOND, Wire::Br), &[]),
+    (
+        rise!(CONTROLLER, Wire::Bg(3)),
+        &[Condition::PassedTheLastBoard],
+    ),
+    (fall!(FIRST, Wire::BgOut), &[]),
+    (fall!(SECOND, Wire::BgOut), &[]),
+    (
+        fall!(SECOND, Wire::Bbsy),
+        &[Condition::OwnGrantOutHigh, Condition::OwnRequestLow],
+    ),
+    (rise!(CONTROLLER, Wire::Bg(3)), &[]),
+    (fall!(FIRST, Wire::Br), &[]),
+    (
+        fall!(CONTROLLER, Wire::Bg(3)),
+        &[Condition::GrantsThrough],
+    ),
+];
+
 /// A master that handles level 4.
 fn handler() -> Row {
     Row {
@@ -220,6 +303,50 @@ fn assert_refused(rt: &impl Abort, backplane: &mut Backplane<'_>, cases: &[(Edge
     for (edge, refused) in cases {
         assert!(rt; backplane.step(*edge) == Err(*refused));
     }
+}
+
+/// Each edge fails the conditions beside it, and is accepted where there are none.
+fn assert_fails(rt: &impl Abort, backplane: &mut Backplane<'_>, cases: &[(Edge, &[Condition])]) {
+    for (edge, conditions) in cases {
+        let is_accepted: bool = backplane.told(*edge);
+        assert!(rt; backplane.failing(*edge).as_slice() == *conditions);
+        assert!(rt; is_accepted == conditions.is_empty());
+        assert!(rt; backplane.step(*edge).is_ok() == is_accepted);
+    }
+}
+
+/// The same on a backplane with these boards and room for so many edges.
+fn assert_told<R: AllocGlobal + Abort>(
+    rt: &R,
+    rows: &[Row],
+    version: Version,
+    max: u32,
+    cases: &[(Edge, &[Condition])],
+) -> Result<(), Fail> {
+    let mut region = Region::new(rt.alloc(), Trace::bytes(100))?;
+    let plan = Plan::new(rt.alloc(), 4, rows, &[], ArbiterKind::Sgl)?;
+    let trace = Trace::on(rt.alloc(), &mut region.rest(), max)?;
+    let mut backplane = Backplane::new(plan, trace, version);
+    assert_fails(rt, &mut backplane, cases);
+    Ok(())
+}
+
+#[test]
+fn a_late_request_fails_its_conditions(rt: HostRuntime) -> Result<(), Fail> {
+    let rows = [
+        board(1),
+        requester(2, 3, 1),
+        requester(3, 3, 1),
+        requester(4, 3, 1),
+    ];
+    assert_told(&rt, &rows, Version::One, 12, &A_LATE_REQUEST)
+}
+
+#[test]
+fn a_settling_rule_is_told_where_its_rule_holds(rt: HostRuntime) -> Result<(), Fail> {
+    let rows = [requester(1, 3, 2), requester(2, 3, 2)];
+    assert_told(&rt, &rows, Version::One, 100, &AN_ACCESS)?;
+    assert_told(&rt, &rows, Version::Two, 100, &WITHDRAWN)
 }
 
 /// Whether no driver is offered anything.
