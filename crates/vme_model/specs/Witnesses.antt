@@ -1,10 +1,8 @@
 -- What is told of each condition: the wires that it speaks of, or that hold its line low, and since
 -- when. (The lines and chains are those of chapters 2 to 4; what is told, and its order, is this
 -- project's profile.)
-use Rattle.std.specs.Prelude.{◌==◌, ◌&&◌, if◌then◌else◌, ℕ, Bool, Option, Some, None, List, [], ◌∷◌, ◌++◌, map, filter, option_map}
-use Rattle.std.specs.List.{flat_map}
+use Rattle.std.specs.Prelude.{◌&&◌, if◌then◌else◌, ℕ, Bool, false, Option, Some, None, List, [], ◌∷◌, ◌++◌, map, filter, option_map}
 use Rattle.std.specs.Option.{option_map_or, option_and_then, option_to_list}
-use Rattle.vme_model.specs.declared.boards.Row.{Row}
 use Rattle.vme_model.specs.declared.boards.Release.{Release}
 use Rattle.vme_model.specs.declared.boards.Release.TheVariants.{Done, Request}
 use Rattle.vme_model.specs.declared.boards.InterrupterRow.{InterrupterRow}
@@ -17,14 +15,13 @@ use Rattle.vme_model.specs.declared.signals.Driver.{Driver}
 use Rattle.vme_model.specs.declared.signals.Driver.TheVariants.{Controller, Slot}
 use Rattle.vme_model.specs.declared.signals.Wire.{Wire}
 use Rattle.vme_model.specs.declared.signals.Wire.TheVariants.{Bg, Iack, Berr, Br, BgOut, Bbsy, Addr, AddressStrobe, DataStrobe, Irq, IackOut, Dtack}
-use Rattle.vme_model.specs.declared.signals.Cycle.{Cycle}
-use Rattle.vme_model.specs.declared.signals.Cycle.TheVariants.{Acknowledge}
 use Rattle.vme_model.specs.declared.signals.Edge.{Edge}
 use Rattle.vme_model.specs.declared.witnesses.Witness.{Witness}
 use Rattle.vme_model.specs.declared.witnesses.Witness.TheVariants as witness
 use Rattle.vme_model.specs.Signals.{grant_level, is_acknowledge}
 use Rattle.vme_model.specs.Plan.{board_of, interrupts_on, upstream, last_active, grant_chain, head_wire, out_wire, has_driver, drivers}
 use Rattle.vme_model.specs.History.{drive, request_line, addressing, shown, last_level, cycles}
+use Rattle.vme_model.specs.Spoken.{level_of}
 use Rattle.vme_model.specs.Rules.{bus_numbers, pick}
 use Rattle.vme_model.specs.Verdict.{State}
 use Rattle.vme_model.specs.Numbered.{Numbered, since, granted_since, served_since, strobed_at}
@@ -85,7 +82,7 @@ picked b =
 abbrev pub interrupts : State → Numbered → ℕ → List Witness
 interrupts b k level =
     map (λ d. seen b k d Irq)
-    (filter (λ d. option_map_or (interrupts_on level) (board_of b.plan d) false && holds_low b Irq d)
+    (filter (λ d. option_map_or (interrupts_on level) (board_of b.plan d) false && drive b.history d Irq)
     (drivers b.plan))
 
 -- a segment of a daisy chain: the controller's, or that of a slot (chapters 3 and 4)
@@ -140,11 +137,6 @@ abbrev pub pending_at : State → Numbered → Driver → List Witness
 pending_at b k d =
     option_to_list (option_map (λ i. wire_at b k d Irq (Some i.level)) (interrupter_of b d))
     ++ service b k d
-
--- the level of an acknowledge
-abbrev pub level_of : Option Cycle → ℕ
-level_of (Some (Acknowledge level)) = level
-level_of _ = 0
 
 -- a condition on the board's own wires
 abbrev pub own_witnesses : State → Numbered → Driver → Condition → List Witness
