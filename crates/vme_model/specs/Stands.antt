@@ -20,7 +20,8 @@ use Rattle.vme_model.specs.Rules.{bus_numbers}
 use Rattle.vme_model.specs.Verdict.{State}
 use Rattle.vme_model.specs.Offers.{wires}
 use Rattle.vme_model.specs.Open.{open_edges}
-use Rattle.vme_model.specs.Text.{number, driver_text, wire_text, sign, argument}
+use Rattle.vme_model.specs.Text.{wire_text, sign, argument}
+use Rattle.vme_model.specs.Spoken.{driver_name}
 use Rattle.vme_model.specs.Numbered.{Numbered, since}
 use Rattle.vme_model.specs.Witnesses.{requester_of, interrupter_of, holds_low}
 use Rattle.vme_model.specs.Why.{since_text}
@@ -57,29 +58,29 @@ with_commas (w ∷ ws) = w ++ flat_map (λ v. codes ", " ++ v) ws
 -- behind a first word, where there are any
 abbrev pub listed : List ℕ → Driver → List (List ℕ) → List ℕ
 listed first d [] = []
-listed first d (w ∷ ws) = ((first ++ driver_text d) ++ codes " ") ++ with_commas (w ∷ ws)
+listed first d (w ∷ ws) = ((first ++ driver_name d) ++ codes " ") ++ with_commas (w ∷ ws)
 
 abbrev pub holder_text : State → Numbered → List ℕ
 holder_text b k =
-    option_map_or (λ s. (codes "holder " ++ number s) ++ since_text (since k (Slot s) Bbsy))
+    option_map_or (λ s. (codes "holder " ++ decimal s) ++ since_text (since k (Slot s) Bbsy))
     (holder b.plan b.history) (codes "holder none")
 
 abbrev pub grant_text : State → List ℕ
 grant_text b =
-    option_map_or (λ at. ((codes "grant bg" ++ number at.0) ++ codes " at ") ++ number at.1)
+    option_map_or (λ at. ((codes "grant bg" ++ decimal at.0) ++ codes " at ") ++ decimal at.1)
     (grant_at b.plan b.history) (codes "grant none")
 
 abbrev pub shown_text : State → Numbered → List ℕ
 shown_text b k =
     option_map_or
-    (λ s. (((codes "shown" ++ argument (shown b.plan b.history)) ++ codes " by ") ++ number s)
+    (λ s. (((codes "shown" ++ argument (shown b.plan b.history)) ++ codes " by ") ++ decimal s)
     ++ since_text (since k (Slot s) Addr))
     (addressing b.plan b.history) (codes "shown none")
 
 -- a board that requests the bus, and one whose interrupter is pending, with the level
 abbrev pub at_level : List ℕ → Driver → ℕ → Option ℕ → List ℕ
 at_level first d level n =
-    (((first ++ driver_text d) ++ codes " level ") ++ decimal level) ++ since_text n
+    (((first ++ driver_name d) ++ codes " level ") ++ decimal level) ++ since_text n
 
 abbrev pub asks_text : State → Numbered → Driver → List ℕ
 asks_text b k d =

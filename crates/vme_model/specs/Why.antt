@@ -17,9 +17,9 @@ use Rattle.vme_model.specs.Rules.{guard}
 use Rattle.vme_model.specs.Settling.{settling_guard}
 use Rattle.vme_model.specs.Verdict.{State, Judgement, verdict, driver_guard, state_guard, room_guard}
 use Rattle.vme_model.specs.Deliveries.{answer}
-use Rattle.vme_model.specs.Text.{driver_text, wire_text, argument, spelling}
+use Rattle.vme_model.specs.Text.{wire_text, argument, spelling}
 use Rattle.vme_model.specs.Report.{verdict_text}
-use Rattle.vme_model.specs.Spoken.{state_text, condition_text}
+use Rattle.vme_model.specs.Spoken.{driver_name, state_text, condition_text}
 use Rattle.vme_model.specs.Numbered.{Numbered}
 use Rattle.vme_model.specs.Witnesses.{witnesses_of}
 
@@ -70,15 +70,15 @@ pick_text (Some level) = codes "pick " ++ decimal level
 
 abbrev pub witness_text : Witness → List ℕ
 witness_text (wire_is d w low value level since) =
-    ((((((driver_text d ++ codes " ") ++ wire_text w) ++ codes " ") ++ state_text w low)
+    ((((((driver_name d ++ codes " ") ++ wire_text w) ++ codes " ") ++ state_text w low)
     ++ argument value) ++ level_text level) ++ since_text since
 witness_text (Granted level since) =
     (codes "level last granted " ++ decimal level) ++ since_text since
 witness_text (Picks level) = pick_text level
 witness_text (Cycles d made burst) =
-    (((driver_text d ++ codes " cycles ") ++ decimal made) ++ codes " of ") ++ decimal burst
-witness_text (Served d since) = (driver_text d ++ codes " served since ") ++ decimal since
-witness_text (Strobed d at) = (driver_text d ++ codes " ds- at ") ++ decimal at
+    (((driver_name d ++ codes " cycles ") ++ decimal made) ++ codes " of ") ++ decimal burst
+witness_text (Served d since) = (driver_name d ++ codes " served since ") ++ decimal since
+witness_text (Strobed d at) = (driver_name d ++ codes " ds- at ") ++ decimal at
 
 -- a line for each
 abbrev pub witness_lines : List Witness → List ℕ

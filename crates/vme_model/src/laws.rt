@@ -1,7 +1,7 @@
 //! What holds of every legal list of edges of every accepted plan, and of every guard.
 //!
 //! The functions do nothing: each is a theorem over the definitions, stated by its contract.
-ghost use Rattle.std.specs.Prelude.{◌≡◌, ◌↔◌, ℕ, true, not, Bool, List, [], Option, map, filter};
+ghost use Rattle.std.specs.Prelude.{◌≡◌, ◌↔◌, true, not, Bool, List, [], Option, map, filter};
 ghost use Rattle.std.specs.List.{list_all};
 ghost use Rattle.vme_model.specs.Accepted.{IsAccepted};
 ghost use Rattle.vme_model.specs.Guards.{Guard, holds, conditions, failed};
@@ -13,9 +13,6 @@ ghost use Rattle.vme_model.specs.Rules.{failing, rule};
 ghost use Rattle.vme_model.specs.Safe.{IsOrderly, IsSafe};
 ghost use Rattle.vme_model.specs.Settling.{settling, unsettled};
 ghost use Rattle.vme_model.specs.Verdict.{IsLegal, State};
-ghost use Rattle.vme_model.specs.Numbered.{numbered};
-ghost use Rattle.vme_model.specs.Why.{why_text};
-ghost use Rattle.vme_model.specs.Stands.{stands_text};
 ghost use Rattle.vme_model.specs.declared.signals.Cycle.{Cycle};
 ghost use Rattle.vme_model.specs.declared.signals.Driver.{Driver};
 ghost use Rattle.vme_model.specs.declared.signals.Edge.{Edge};
@@ -75,8 +72,4 @@ pub fn rule_fails_by_its_conditions()
 /// The open edges of a driver are all edges of it that would be accepted after the history, and no others.
 pub fn open_edges_are_all_that_is_allowed()
     ensures { (b : State) (d : Driver) → IsAllThatIsAllowed b d (open_edges b d) }
-{}
-
-pub fn scratch()
-    ensures { (b : State) (es : List Edge) (e : Edge) (n : ℕ) → why_text n b (numbered b es) e ≡ stands_text n b (numbered b es) }
 {}

@@ -13,6 +13,7 @@ mod pins;
 mod refusals;
 mod sets;
 mod signals;
+mod spoken;
 mod witnesses;
 
 pub use boards::{ArbiterKind, InterrupterRow, IrqKind, Jumper, Release, RequesterRow, Row};
