@@ -1,8 +1,8 @@
 //! How a condition is spelled of an edge.
-ghost use Rattle.std.specs.Prelude.{◌≡◌, ◌+◌, ◌≤◌, ◌++◌, length, decimal, IsTrue, option_map};
+ghost use Rattle.std.specs.Prelude.{◌≡◌, ◌+◌, ◌≤◌, ◌++◌, length, decimal, IsTrue};
 ghost use Rattle.arrayvec.specs.ArrayVec.{array_vec_len};
 ghost use Rattle.vme_model.specs.Signals.{is_well_formed};
-ghost use Rattle.vme_model.specs.Spoken.{level_of, service_text, part_text, kind_text, board_text, moved_text, condition_text};
+ghost use Rattle.vme_model.specs.Spoken.{level_of, service_text, board_text, moved_text, condition_text};
 
 use crate::boards::{IrqKind, Row};
 use crate::conditions::Condition;
@@ -67,8 +67,8 @@ fn level_of(value: Option<Cycle>) -> u8
 }
 
 /// What serves the board's interrupter; nothing without one.
-fn service_text(board: Option<&Row>) -> &'static str
-    ensures text { result.now ≡ service_text (option_map (λ r. r.now) board) }
+fn service_text(board: Option<Row>) -> &'static str
+    ensures text { result.now ≡ service_text board }
     ensures short { length result.now ≤ 48 }
 {
     match board {
@@ -81,8 +81,8 @@ fn service_text(board: Option<&Row>) -> &'static str
 }
 
 /// What the wire asks of its slot: a board, or a part of it.
-fn board_text(wire: Wire, board: Option<&Row>) -> &'static str
-    ensures text { result.now ≡ board_text wire (option_map (λ r. r.now) board) }
+fn board_text(wire: Wire, board: Option<Row>) -> &'static str
+    ensures text { result.now ≡ board_text wire board }
     ensures short { length result.now ≤ 48 }
 {
     match (board, wire) {
@@ -111,9 +111,9 @@ fn moved_text(edge: &Edge) -> ArrayVec<u8, TEXT>
 
 impl Condition {
     /// How it is spelled of a well-formed edge, by the board in the edge's slot and by what is shown before the edge.
-    pub fn text(self, edge: &Edge, board: Option<&Row>, shown: Option<Cycle>) -> ArrayVec<u8, TEXT>
+    pub fn text(self, edge: &Edge, board: Option<Row>, shown: Option<Cycle>) -> ArrayVec<u8, TEXT>
         requires { IsTrue (is_well_formed edge.now) }
-        ensures { result.items ≡ condition_text self edge.now (option_map (λ r. r.now) board) shown }
+        ensures { result.items ≡ condition_text self edge.now board shown }
     {
         match self {
             Condition::Picked => {
