@@ -57,7 +57,7 @@ and_assoc : (a b c : Bool) → ((a && b) && c) ≡ (a && (b && c))
 and_assoc true b c = refl
 and_assoc false b c = refl
 
-all_append : (xs ys : List (Condition × Bool)) → (list_all (λ c. c.1) xs && list_all (λ c. c.1) ys) ≡ list_all (λ c. c.1) (xs ++ ys)
+pub all_append : (xs ys : List (Condition × Bool)) → (list_all (λ c. c.1) xs && list_all (λ c. c.1) ys) ≡ list_all (λ c. c.1) (xs ++ ys)
 all_append [] ys = refl
 all_append (x ∷ xs) ys = and_assoc x.1 (list_all (λ c. c.1) xs) (list_all (λ c. c.1) ys) ∙ ap (λ b. x.1 && b) (all_append xs ys)
 

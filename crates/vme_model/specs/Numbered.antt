@@ -1,6 +1,6 @@
 -- The accepted edges of a trace with their numbers, and since which of them something is so.
 -- (Profile.)
-use Rattle.std.specs.Prelude.{◌+◌, ◌&&◌, if◌then◌else◌, ℕ, Option, Some, None, List, [], ◌∷◌, map, is_ok}
+use Rattle.std.specs.Prelude.{◌≡◌, ◌+◌, ◌&&◌, if◌then◌else◌, ℕ, Option, Some, None, List, [], ◌∷◌, map, is_ok, slice_get}
 use Rattle.std.specs.Option.{option_or}
 use Rattle.vme_model.specs.declared.boards.IrqKind.{IrqKind}
 use Rattle.vme_model.specs.declared.signals.Driver.{Driver}
@@ -32,6 +32,12 @@ numbered_on b n k (e ∷ es) = numbered_on (after b e) (n + 1) (numbered_with b 
 -- the accepted edges of a whole trace, on a backplane without edges
 abbrev pub numbered : State → List Edge → Numbered
 numbered b es = numbered_on b 0 [] es
+
+-- the edge is the n-th of a trace, from 1
+pub record IsNth (es : List Edge) (n : ℕ) (e : Edge) : Type 0 where
+  pub place : ℕ
+  pub number : n ≡ place + 1
+  pub is : slice_get es place ≡ Some e
 
 -- the driver's last edge on the wire: since then it is as it is
 abbrev pub since : Numbered → Driver → Wire → Option ℕ
