@@ -58,7 +58,7 @@ and_assoc : (a b c : Bool) → ((a && b) && c) ≡ (a && (b && c))
 and_assoc true b c = refl
 and_assoc false b c = refl
 
-all_append : (xs ys : List Tested) → (list_all (λ c. c.holds) xs && list_all (λ c. c.holds) ys) ≡ list_all (λ c. c.holds) (xs ++ ys)
+pub all_append : (xs ys : List Tested) → (list_all (λ c. c.holds) xs && list_all (λ c. c.holds) ys) ≡ list_all (λ c. c.holds) (xs ++ ys)
 all_append [] ys = refl
 all_append (x ∷ xs) ys = and_assoc x.holds (list_all (λ c. c.holds) xs) (list_all (λ c. c.holds) ys) ∙ ap (λ b. x.holds && b) (all_append xs ys)
 

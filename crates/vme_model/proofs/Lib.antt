@@ -40,3 +40,7 @@ pub mod OpenEdges
 pub mod Picks
 -- the sets on a board's pins hold the levels whose lines are low
 pub mod PinSets
+-- `numbered_edges_are_kept` and `what_is_so_has_its_edge`
+pub mod Numbers
+-- `why_tells_the_verdict`
+pub mod Reasons

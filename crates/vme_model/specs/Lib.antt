@@ -46,3 +46,13 @@ pub mod Open
 pub mod Text
 -- believe, for whole traces: the verdicts as text
 pub mod Report
+-- believe, for `explain`: accepted edges by their numbers, and since which of them a wire is as it is
+pub mod Numbered
+-- believe, for `explain`: how a condition is spelled
+pub mod Spoken
+-- believe, for `explain`: what is told of a condition
+pub mod Witnesses
+-- believe, for `explain`: what is told of an edge
+pub mod Why
+-- believe, for `state`: where the bus stands
+pub mod Stands

@@ -1,5 +1,5 @@
 -- The text of a trace. (Profile.)
-use Rattle.std.specs.Prelude.{◌≡◌, ◌==◌, ℕ, ◌+◌, ◌-◌, ◌/◌, ◌%◌, ◌^◌, min, Bool, true, false, List, [], ◌∷◌, ◌++◌, length, map, filter, find, Option, Some, None, IsTrue, codes, nat_lt, if◌then◌else◌}
+use Rattle.std.specs.Prelude.{◌≡◌, ◌==◌, ◌<◌, ℕ, ◌+◌, ◌-◌, ◌/◌, ◌%◌, ◌^◌, min, Bool, true, false, List, [], ◌∷◌, ◌++◌, length, map, filter, find, Option, Some, None, IsTrue, codes, nat_lt, if◌then◌else◌}
 use Rattle.std.specs.List.{flat_map}
 use Rattle.std.specs.Str.{bytes_eq}
 use Rattle.vme_model.specs.declared.signals.Version.{Version}
@@ -38,6 +38,11 @@ wire_text DataStrobe = codes "ds"
 wire_text Irq = codes "irq"
 wire_text IackOut = codes "iackout"
 wire_text Dtack = codes "dtack"
+
+-- a grant has a word for its level
+abbrev pub HasWord : Wire → Type 0
+HasWord (Bg n) = n < 4
+HasWord _ = Unit {0}
 
 -- a fall, and a rise
 abbrev pub sign : Bool → List ℕ

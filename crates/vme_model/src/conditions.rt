@@ -1,5 +1,5 @@
 //! The conditions of which the guards of the rules are made.
-ghost use Rattle.std.specs.Prelude.{◌≡◌, option_map};
+ghost use Rattle.std.specs.Prelude.{◌≡◌, ◌≤◌, length, IfSome, option_map};
 ghost use Rattle.vme_model.specs.Guards.{fixed_text, own_text};
 
 /// One condition of a guard, by what it asks for just before an edge.
@@ -121,7 +121,8 @@ pub struct Tested {
 impl Condition {
     /// How it is spelled, where its edge, its board and what is shown have no part in it.
     pub fn fixed_text(self) -> Option<&'static str>
-        ensures { option_map (λ text. text.now) result ≡ fixed_text self }
+        ensures text { option_map (λ text. text.now) result ≡ fixed_text self }
+        ensures short { IfSome result (λ text. length text.now ≤ 48) }
     {
         let text = match self {
             Condition::GrantsHigh => "all four grants are high",
@@ -154,7 +155,8 @@ impl Condition {
 
     /// The same for a condition on the board's own wires.
     fn own_text(self) -> Option<&'static str>
-        ensures { option_map (λ text. text.now) result ≡ own_text self }
+        ensures text { option_map (λ text. text.now) result ≡ own_text self }
+        ensures short { IfSome result (λ text. length text.now ≤ 48) }
     {
         let text = match self {
             Condition::GrantInHigh => "own grant-in is high",

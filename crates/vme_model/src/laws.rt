@@ -1,19 +1,23 @@
 //! What holds of every legal list of edges of every accepted plan, and of every guard.
 //!
 //! The functions do nothing: each is a theorem over the definitions, stated by its contract.
-ghost use Rattle.std.specs.Prelude.{◌≡◌, ◌↔◌, true, not, Bool, List, [], Ok, Option, map, filter};
-ghost use Rattle.std.specs.List.{list_all};
+ghost use Rattle.std.specs.Prelude.{◌≡◌, ◌↔◌, true, not, Bool, List, [], Ok, Option, map, filter, is_ok, is_some};
+ghost use Rattle.std.specs.List.{All, list_all};
 ghost use Rattle.vme_model.specs.Accepted.{IsAccepted};
 ghost use Rattle.vme_model.specs.Failing.{all_asked, first_failed, tested, tested_but_full, unmet, unmet_but_full};
 ghost use Rattle.vme_model.specs.Guards.{Guard, holds, conditions, failed};
+ghost use Rattle.vme_model.specs.History.{drive, has_strobed, served_since_request};
 ghost use Rattle.vme_model.specs.Locality.{AreWellFormed, IsLocal};
+ghost use Rattle.vme_model.specs.Numbered.{Numbered, IsNth, edges_in, numbered, served_since, since, strobed_at};
 ghost use Rattle.vme_model.specs.Open.{open_edges, IsAllThatIsAllowed};
 ghost use Rattle.vme_model.specs.Plan.{Plan};
 ghost use Rattle.vme_model.specs.Readings.{Readings};
 ghost use Rattle.vme_model.specs.Rules.{failing, rule};
 ghost use Rattle.vme_model.specs.Safe.{IsOrderly, IsSafe};
 ghost use Rattle.vme_model.specs.Settling.{settling, unsettled};
-ghost use Rattle.vme_model.specs.Verdict.{IsLegal, State, verdict, verdict_but_full};
+ghost use Rattle.vme_model.specs.Verdict.{IsLegal, State, kept, verdict, verdict_but_full};
+ghost use Rattle.vme_model.specs.Why.{why};
+ghost use Rattle.vme_model.specs.declared.boards.IrqKind.{IrqKind};
 ghost use Rattle.vme_model.specs.declared.signals.Cycle.{Cycle};
 ghost use Rattle.vme_model.specs.declared.signals.Driver.{Driver};
 ghost use Rattle.vme_model.specs.declared.signals.Edge.{Edge};
@@ -87,4 +91,28 @@ pub fn edge_fails_where_it_is_refused()
 /// The open edges of a driver are all edges of it that would be accepted after the history, and no others.
 pub fn open_edges_are_all_that_is_allowed()
     ensures { (b : State) (d : Driver) → IsAllThatIsAllowed b d (open_edges b d) }
+{}
+
+/// The numbered edges of a trace are those that are kept of it, and each is the edge of the trace that has its number.
+pub fn numbered_edges_are_kept()
+    ensures kept { (b : State) (es : List Edge) → b.history ≡ [] →
+        edges_in (numbered b es) ≡ (kept b es).history }
+    ensures numbers { (b : State) (es : List Edge) → All (λ m. IsNth es m.0 m.1) (numbered b es) }
+{}
+
+/// A wire that is low has an edge since which it is; an interrupt request was served, and a data strobe fell in this
+/// cycle, exactly where an edge is told.
+pub fn what_is_so_has_its_edge()
+    ensures low { (k : Numbered) (d : Driver) (w : Wire) →
+        drive (edges_in k) d w ≡ true → is_some (since k d w) ≡ true }
+    ensures served { (p : Plan) (k : Numbered) (d : Driver) (kind : IrqKind) →
+        is_some (served_since p k d kind) ≡ served_since_request p (edges_in k) d kind }
+    ensures strobed { (k : Numbered) (d : Driver) →
+        is_some (strobed_at k d) ≡ has_strobed (edges_in k) d }
+{}
+
+/// An edge is accepted exactly where every condition that is told of it holds.
+pub fn why_tells_the_verdict()
+    ensures { (b : State) (k : Numbered) (e : Edge) →
+        is_ok (verdict b e) ≡ list_all (λ r. r.holds) (why b k e) }
 {}

@@ -13,6 +13,8 @@ mod pins;
 mod refusals;
 mod sets;
 mod signals;
+mod spoken;
+mod witnesses;
 
 pub use boards::{ArbiterKind, InterrupterRow, IrqKind, Jumper, Release, RequesterRow, Row};
 pub use conditions::{Condition, Tested};
@@ -21,6 +23,7 @@ pub use pins::Pins;
 pub use refusals::{Field, PlanError, Refused};
 pub use sets::{BusLevels, ChainId, Chains, Levels};
 pub use signals::{Cycle, Driver, Edge, Version, Wire};
+pub use witnesses::Witness;
 
 /// The most edges that a trace can hold.
 pub const TRACE_LIMIT: u32 = 1_048_576;

@@ -1,6 +1,8 @@
 //! Drivers, wires and edges.
-ghost use Rattle.std.specs.Prelude.{◌≡◌, Some};
+ghost use Rattle.std.specs.Prelude.{◌≡◌, ◌≤◌, length, Some};
 ghost use Rattle.vme_model.specs.Signals.{is_two, is_same_driver, is_same_wire, is_grant, is_grant_wire, grant_level, has_wire, is_slot, is_level, is_acknowledge, is_in_range, is_well_formed};
+ghost use Rattle.vme_model.specs.Spoken.{state_text};
+ghost use Rattle.vme_model.specs.Text.{HasWord, wire_text};
 
 /// Which version of the rules a backplane keeps.
 ///
@@ -152,6 +154,45 @@ impl Wire {
         match self {
             Wire::Bg(level) => level,
             _ => 0,
+        }
+    }
+
+    /// How traces spell it; a grant's level is 0 to 3.
+    pub fn word(self) -> &'static str
+        requires { HasWord self }
+        ensures text { result.now ≡ wire_text self }
+        ensures short { length result.now ≤ 7 }
+    {
+        match self {
+            Wire::Bg(0) => "bg0",
+            Wire::Bg(1) => "bg1",
+            Wire::Bg(2) => "bg2",
+            Wire::Bg(_) => "bg3",
+            Wire::Bclr => "bclr",
+            Wire::Iack => "iack",
+            Wire::Berr => "berr",
+            Wire::Br => "br",
+            Wire::BgOut => "bgout",
+            Wire::Bbsy => "bbsy",
+            Wire::Addr => "addr",
+            Wire::AddressStrobe => "as",
+            Wire::DataStrobe => "ds",
+            Wire::Irq => "irq",
+            Wire::IackOut => "iackout",
+            Wire::Dtack => "dtack",
+        }
+    }
+
+    /// How its state is spelled: a wire is low or high, an address group on or off.
+    pub fn state(self, low: bool) -> &'static str
+        ensures text { result.now ≡ state_text self low }
+        ensures short { length result.now ≤ 4 }
+    {
+        match (self, low) {
+            (Wire::Addr, true) => "on",
+            (Wire::Addr, false) => "off",
+            (_, true) => "low",
+            (_, false) => "high",
         }
     }
 }

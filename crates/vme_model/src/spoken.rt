@@ -1,0 +1,139 @@
+//! How a condition is spelled of an edge.
+ghost use Rattle.std.specs.Prelude.{◌≡◌, ◌+◌, ◌≤◌, ◌++◌, length, decimal, IsTrue};
+ghost use Rattle.arrayvec.specs.ArrayVec.{array_vec_len};
+ghost use Rattle.vme_model.specs.Signals.{is_well_formed};
+ghost use Rattle.vme_model.specs.Spoken.{level_of, service_text, board_text, moved_text, condition_text};
+
+use crate::boards::{IrqKind, Row};
+use crate::conditions::Condition;
+use crate::signals::{Cycle, Driver, Edge, Wire};
+use arrayvec::ArrayVec;
+use itoa::Buffer;
+
+/// Room for the text of any condition: the longest has 45 bytes.
+const TEXT: usize = 48;
+
+/// Appends a text that has room.
+fn push(line: &mut ArrayVec<u8, TEXT>, text: &str)
+    requires { array_vec_len line.old + length text.now ≤ 48 }
+    ensures items { line.new.items ≡ line.old.items ++ text.now }
+    ensures len { array_vec_len line.new ≡ array_vec_len line.old + length text.now }
+{
+    if line.try_extend_from_slice(text.as_bytes()).is_err() {
+        unreachable!()
+    }
+}
+
+/// Appends a number in decimal.
+fn push_number(line: &mut ArrayVec<u8, TEXT>, n: u8)
+    requires { array_vec_len line.old + 3 ≤ 48 }
+    ensures items { line.new.items ≡ line.old.items ++ decimal n }
+    ensures len { array_vec_len line.new ≤ array_vec_len line.old + 3 }
+{
+    let mut digits = Buffer::new();
+    push(line, digits.format(n));
+}
+
+/// The text alone.
+fn text_of(text: &str) -> ArrayVec<u8, TEXT>
+    requires { length text.now ≤ 48 }
+    ensures { result.items ≡ text.now }
+{
+    let mut line = ArrayVec::new();
+    push(&mut line, text);
+    line
+}
+
+/// A text, and a number behind it.
+fn with_number(text: &str, n: u8) -> ArrayVec<u8, TEXT>
+    requires { length text.now ≤ 40 }
+    ensures items { result.items ≡ text.now ++ decimal n }
+    ensures len { array_vec_len result ≤ length text.now + 3 }
+{
+    let mut line = ArrayVec::new();
+    push(&mut line, text);
+    push_number(&mut line, n);
+    line
+}
+
+/// The level of an acknowledge, else 0.
+fn level_of(value: Option<Cycle>) -> u8
+    ensures { result ≡ level_of value }
+{
+    match value {
+        Some(Cycle::Acknowledge(level)) => level,
+        _ => 0,
+    }
+}
+
+/// What serves the board's interrupter; nothing without one.
+fn service_text(board: Option<Row>) -> &'static str
+    ensures text { result.now ≡ service_text board }
+    ensures short { length result.now ≤ 48 }
+{
+    match board {
+        Some(Row { interrupter: Some(interrupter), .. }) => match interrupter.kind {
+            IrqKind::Roak => "the request was served by an acknowledge",
+            IrqKind::Rora => "the request was served by an access",
+        },
+        _ => "",
+    }
+}
+
+/// What the wire asks of its slot: a board, or a part of it.
+fn board_text(wire: Wire, board: Option<Row>) -> &'static str
+    ensures text { result.now ≡ board_text wire board }
+    ensures short { length result.now ≤ 48 }
+{
+    match (board, wire) {
+        (None, _) => "the slot has a board",
+        (Some(_), Wire::Irq | Wire::IackOut) => "the board has an interrupter",
+        (Some(_), _) => "the board has a requester",
+    }
+}
+
+/// The state that the edge's wire has to be in.
+fn moved_text(edge: &Edge) -> ArrayVec<u8, TEXT>
+    requires { IsTrue (is_well_formed edge.now) }
+    ensures { result.items ≡ moved_text edge.now }
+{
+    let mut line = ArrayVec::new();
+    match edge.driver {
+        Driver::Controller => push(&mut line, "c"),
+        Driver::Slot(slot) => push_number(&mut line, slot),
+    }
+    push(&mut line, " ");
+    push(&mut line, edge.wire.word());
+    push(&mut line, " is ");
+    push(&mut line, edge.wire.state(!edge.fall));
+    line
+}
+
+impl Condition {
+    /// How it is spelled of a well-formed edge, by the board in the edge's slot and by what is shown before the edge.
+    pub fn text(self, edge: &Edge, board: Option<Row>, shown: Option<Cycle>) -> ArrayVec<u8, TEXT>
+        requires { IsTrue (is_well_formed edge.now) }
+        ensures { result.items ≡ condition_text self edge.now board shown }
+    {
+        match self {
+            Condition::Picked => {
+                with_number("the arbiter picks level ", edge.wire.grant_level())
+            }
+            Condition::Handled => with_number("the board handles level ", level_of(edge.value)),
+            Condition::InterruptLow => {
+                let mut line = with_number("IRQ", level_of(edge.value));
+                push(&mut line, "* is low");
+                line
+            }
+            Condition::Pending => with_number("pending at level ", level_of(shown)),
+            Condition::NotPending => with_number("not pending at level ", level_of(shown)),
+            Condition::Served => text_of(service_text(board)),
+            Condition::HasDriver => text_of(board_text(edge.wire, board)),
+            Condition::OtherState => moved_text(edge),
+            _ => match self.fixed_text() {
+                Some(text) => text_of(text),
+                None => ArrayVec::new(),
+            },
+        }
+    }
+}

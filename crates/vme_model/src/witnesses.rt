@@ -1,0 +1,33 @@
+//! What is told of a condition.
+
+use crate::signals::{Cycle, Driver, Wire};
+
+/// A reading of a condition: a wire as it is before the edge, or what the condition counts.
+///
+/// An edge is told by its number in the trace, from 1.
+#[derive(Clone, Copy, PartialEq, Eq, Debug)]
+pub enum Witness {
+    /// A driver's wire.
+    Wire {
+        driver: Driver,
+        wire: Wire,
+        /// Low, or for the address group on.
+        low: bool,
+        /// What an address group that is on shows.
+        value: Option<Cycle>,
+        /// The level of the board's requester or interrupter, where the condition asks for levels.
+        level: Option<u8>,
+        /// The wire's last edge; none where it never moved.
+        since: Option<u64>,
+    },
+    /// The level last granted, 0 to 3, and its grant; level 0 where there was none.
+    Granted { level: u8, since: Option<u64> },
+    /// The level that the arbiter's policy picks, of those requested.
+    Picks { level: Option<u8> },
+    /// How many cycles a board began in this tenure, and its burst.
+    Cycles { driver: Driver, made: u64, burst: u8 },
+    /// The board's first answer since its `irq-` that serves its interrupter.
+    Served { driver: Driver, since: u64 },
+    /// The board's `ds-` of this cycle.
+    Strobed { driver: Driver, at: u64 },
+}
