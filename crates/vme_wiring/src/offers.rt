@@ -255,12 +255,7 @@ impl Wiring {
 
     /// Puts the edge of a level's grant after the others where the rules allow it: none falls but where it may.
     #[inline(always)]
-    fn offer_grant<const N: usize>(
-        &self,
-        level: u8,
-        is_free: bool,
-        offers: &mut ArrayVec<Edge, N>,
-    )
+    fn offer_grant<const N: usize>(&self, level: u8, is_free: bool, offers: &mut ArrayVec<Edge, N>)
         requires room { length offers.old.items < N }
         requires known { is_free ≡ may_grant self.now }
         ensures offered { OfHistory self.now (λ version p h. offers.new.items

@@ -12,6 +12,6 @@ use Rattle.vme_wiring.proofs.wirings.Wiring.open_acknowledges.Given as goal
 abbrev pub invariant-loop-level : goal.invariant-loop-level
 invariant-loop-level l = record {
   opened : (version : Version) (p : Plan) (h : List Edge) → IsWiringOf version p h l.self →
-    l.edges.items ≡ l.fn.edges.items ++ filter (is_open version p h) (map (showing (Slot l.fn.slot)) (map (λ n. Acknowledge n) (up_to (l.level - 1))));
+      l.edges.items ≡ l.fn.edges.items ++ filter (is_open version p h) (map (showing (Slot l.fn.slot)) (map (λ n. Acknowledge n) (up_to (l.level - 1))));
   few : length l.edges.items + 1 ≤ length l.fn.edges.items + l.level;
 }
