@@ -6,7 +6,8 @@ pub mod Replayed
 mod WellFormed
 -- `backplanes_answer_alike`
 mod Alike
--- the offers, from those but for the end of the trace: `Backplane::offers`, `offer`
+-- the offers and the open edges, from those but for the end of the trace: `Backplane::offers`, `offer`,
+-- `open_edges`
 mod OfferChoice
 -- an offer is an edge that would be accepted: `Backplane::make_offer`, `step`
 mod AcceptedOffers

@@ -1,5 +1,5 @@
--- The offers, from those but for the end of the trace.
-use Rattle.std.proofs.Common.{◌≡◌, ◌∙◌, refl, ap, Bool, true, false, List, [], ◌∷◌, filter, length}
+-- The offers and the open edges, from those but for the end of the trace.
+use Rattle.std.proofs.Common.{◌≡◌, ◌∙◌, refl, sym, ap, subst, Bool, true, false, List, [], ◌∷◌, filter, length}
 use Rattle.std.specs.Prelude.{◌==◌, ◌&&◌, not, Ok, Err, is_ok}
 use Rattle.std.specs.List.{flat_map}
 use Rattle.vme_model.specs.declared.refusals.Refused.{Refused}
@@ -12,9 +12,12 @@ use Rattle.vme_model.specs.History.{drive}
 use Rattle.vme_model.specs.Readings.{readings}
 use Rattle.vme_model.specs.Rules.{rule}
 use Rattle.vme_model.specs.Settling.{settling}
-use Rattle.vme_model.specs.Verdict.{State, Judgement, check, is_other_state, settled, judged}
+use Rattle.vme_model.specs.Verdict.{State, Judgement, check, is_other_state, settled, judged, verdict}
 use Rattle.vme_model.specs.Offers.{considered, wires, offered}
-use Rattle.vme_wiring.specs.Offered.{offered_but_full}
+use Rattle.vme_model.specs.Open.{moves, open_edges, IsAllThatIsAllowed}
+use Rattle.vme_model.proofs.OpenEdges.{open_are_all}
+use Rattle.vme_wiring.specs.Offered.{is_open, offered_but_full}
+use Rattle.vme_wiring.specs.Opens.{open_but_full}
 
 four_err : (a b c d : Bool) (w x y z r : Refused) → is_ok {T = Unit {0}} {E = Refused} (check a w (check b x (check c y (check d z (Err r))))) ≡ false
 four_err true true true true w x y z r = refl
@@ -27,7 +30,8 @@ none_pass : {A : Type 0} (test : A → Bool) (xs : List A) → ((x : A) → test
 none_pass {A} test [] fails = refl
 none_pass {A} test (x ∷ xs) fails = rw (fails x) (none_pass test xs fails)
 
-module _ (b : State) (d : Driver) where
+-- what is accepted of some edges
+module _ (b : State) (es : List Edge) where
   -- the verdict where the trace is full, or not
   abbrev at_end : Bool → Edge → Judgement
   at_end full e = judged b.version b.plan b.history e (check (not full) TraceFull (Ok tt))
@@ -37,14 +41,27 @@ module _ (b : State) (d : Driver) where
       four_err (is_well_formed e && has_driver b.plan e.driver e.wire) (is_other_state (drive b.history e.driver e.wire) e.fall) (rule b.version (readings b.plan b.history e.driver) e.wire e.fall e.value).1 (settled b.version b.plan b.history e)
       NoSuchDriver AlreadyThere (Rule (rule b.version (readings b.plan b.history e.driver) e.wire e.fall e.value).0) (NotSettled (settling b.version b.plan b.history e.wire e.fall).0) TraceFull
 
-  abbrev offered_at : Bool → List Edge
-  offered_at full = filter (λ e. is_ok (at_end full e)) (flat_map (considered b.plan b.history d) (wires d))
+  abbrev accepted_at : Bool → List Edge
+  accepted_at full = filter (λ e. is_ok (at_end full e)) es
 
+  accepted_full : (length b.history == b.max) ≡ true → filter (λ e. is_ok (verdict b e)) es ≡ []
+  accepted_full full = ap accepted_at full ∙ none_pass (λ e. is_ok (at_end true e)) es all_refused
+
+  accepted_with_room : (length b.history == b.max) ≡ false → filter (λ e. is_ok (verdict b e)) es ≡ filter (is_open b.version b.plan b.history) es
+  accepted_with_room room = ap accepted_at room
+
+module _ (b : State) (d : Driver) where
   pub offered_full : (length b.history == b.max) ≡ true → offered b d ≡ []
-  offered_full full = ap offered_at full ∙ none_pass (λ e. is_ok (at_end true e)) (flat_map (considered b.plan b.history d) (wires d)) all_refused
+  offered_full = accepted_full b (flat_map (considered b.plan b.history d) (wires d))
 
   pub offered_with_room : (length b.history == b.max) ≡ false → offered b d ≡ offered_but_full b.version b.plan b.history d
-  offered_with_room room = ap offered_at room
+  offered_with_room = accepted_with_room b (flat_map (considered b.plan b.history d) (wires d))
+
+  pub open_full : (length b.history == b.max) ≡ true → open_edges b d ≡ []
+  open_full = accepted_full b (flat_map (moves b.history d) (wires d))
+
+  pub open_with_room : (length b.history == b.max) ≡ false → open_edges b d ≡ open_but_full b.version b.plan b.history d
+  open_with_room = accepted_with_room b (flat_map (moves b.history d) (wires d))
 
   by_end : (full : Bool) → (length b.history == b.max) ≡ full → offered_but_full b.version b.plan b.history d ≡ [] → offered b d ≡ []
   by_end true is none = offered_full is
@@ -52,3 +69,7 @@ module _ (b : State) (d : Driver) where
 
   pub none_offered : offered_but_full b.version b.plan b.history d ≡ [] → offered b d ≡ []
   none_offered none = by_end (length b.history == b.max) refl none
+
+  -- a list that is the open edges has all that is allowed
+  pub all_of : (es : List Edge) → es ≡ open_edges b d → IsAllThatIsAllowed b d es
+  all_of es is = subst (IsAllThatIsAllowed b d) (sym is) (open_are_all b d)

@@ -9,7 +9,9 @@ ghost use Rattle.vme_model.specs.Safe.{IsSafe, IsOrderly};
 ghost use Rattle.vme_model.specs.Views.{pins};
 ghost use Rattle.vme_model.specs.Deliveries.{answer, delivered, delivery};
 ghost use Rattle.vme_model.specs.Offers.{offered};
+ghost use Rattle.vme_model.specs.Open.{open_edges, IsAllThatIsAllowed};
 ghost use Rattle.vme_wiring.specs.Offered.{offered_but_full};
+ghost use Rattle.vme_wiring.specs.Opens.{open_but_full};
 ghost use Rattle.vme_wiring.specs.Waits.{is_waiting};
 ghost use Rattle.vme_model.specs.Accepted.{IsAccepted};
 ghost use Rattle.vme_model.specs.Report.{at_power_up, trace_limit};
@@ -316,6 +318,29 @@ impl<'r> Backplane<'r> {
             ≡ offered_but_full self.now.version self.now.plan self.now.history driver }
     {
         self.wiring.offers(driver)
+    }
+
+    /// All edges that the driver can make: of those that move one of its wires, those that would be accepted, in the
+    /// order of its wires. An address group goes on with each acknowledge, by level, and then with each access, by slot.
+    ///
+    /// Each is tried, whether or not a board would consider it, so that it takes longer than `offers`.
+    pub fn open_edges(&self, driver: Driver) -> ArrayVec<Edge, 36>
+        ensures edges { result.items ≡ open_edges self.now driver }
+        ensures all { IsAllThatIsAllowed self.now driver result.items }
+    {
+        if self.is_full() {
+            ArrayVec::new()
+        } else {
+            self.open_but_full(driver)
+        }
+    }
+
+    /// The same, but for the end of the trace.
+    fn open_but_full(&self, driver: Driver) -> ArrayVec<Edge, 36>
+        ensures { result.items
+            ≡ open_but_full self.now.version self.now.plan self.now.history driver }
+    {
+        self.wiring.open_edges(driver)
     }
 
     /// Whether the driver waits for an edge of another. It then has no offer; where it answers false, there may be none either.

@@ -24,6 +24,8 @@ mod gates;
 #[cfg(test)]
 mod lock;
 #[cfg(test)]
+mod opens;
+#[cfg(test)]
 mod parts;
 #[cfg(test)]
 mod reads;

@@ -32,6 +32,8 @@ pub mod PartAnswers
 pub mod NoOffers
 -- lists that grow by what passes a test: `Wiring::offer_requester` and its like
 pub mod More
+-- a list that grows by each number's edge: `Wiring::open_acknowledges`, `open_accesses`
+pub mod EachNumber
 -- a quiet board to which nothing has come waits, and a busy bus has no grant: `Wiring::is_waiting`
 pub mod Quiet
 -- the guard that a part reads by its own fields: `Board::told` and the parts of it

@@ -13,6 +13,8 @@ pub mod Wired
 pub mod Asked
 -- believe, for `Wiring::offers`: what a driver is offered, but for the end of the trace
 pub mod Offered
+-- believe, for `Wiring::open_edges`: all edges that a driver can make, but for the end of the trace
+pub mod Opens
 -- believe, for `Wiring::is_waiting`: which drivers wait for an edge of another
 pub mod Waits
 -- words: what shows at once that a board waits

@@ -5,6 +5,7 @@ mod boards;
 mod chains;
 mod lines;
 mod offers;
+mod opens;
 mod places;
 mod sights;
 mod verdicts;

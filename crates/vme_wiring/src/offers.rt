@@ -14,7 +14,7 @@ use vme_handler::Handler;
 use vme_model::{Cycle, Driver, Edge, Row, Wire};
 
 /// The slot's address group going on.
-fn showing(slot: u8, cycle: Cycle) -> Edge
+pub(crate) fn showing(slot: u8, cycle: Cycle) -> Edge
     ensures { result
         ≡ record { driver = Driver.Slot slot; wire = Wire.Addr; fall = true; value = Some cycle } }
 {
@@ -141,8 +141,8 @@ impl Wiring {
 
     /// Puts the edge after the others where the rules allow it.
     #[inline(always)]
-    fn offer(&self, edge: Edge, offers: &mut ArrayVec<Edge, 16>)
-        requires { length offers.old.items < 16 }
+    pub(crate) fn offer<const N: usize>(&self, edge: Edge, offers: &mut ArrayVec<Edge, N>)
+        requires { length offers.old.items < N }
         ensures offered { OfHistory self.now (λ version p h. offers.new.items
             ≡ offers.old.items ++ filter (is_open version p h) (edge ∷ [])) }
         ensures few { length offers.new.items ≤ length offers.old.items + 1 }
@@ -154,8 +154,13 @@ impl Wiring {
 
     /// Puts the edge of a wire after the others where the rules allow it.
     #[inline(always)]
-    fn offer_turned(&self, driver: Driver, wire: Wire, offers: &mut ArrayVec<Edge, 16>)
-        requires { length offers.old.items < 16 }
+    pub(crate) fn offer_turned<const N: usize>(
+        &self,
+        driver: Driver,
+        wire: Wire,
+        offers: &mut ArrayVec<Edge, N>,
+    )
+        requires { length offers.old.items < N }
         ensures offered { OfHistory self.now (λ version p h. offers.new.items
             ≡ offers.old.items ++ filter (is_open version p h) (turned h driver wire ∷ [])) }
         ensures few { length offers.new.items ≤ length offers.old.items + 1 }
@@ -250,8 +255,8 @@ impl Wiring {
 
     /// Puts the edge of a level's grant after the others where the rules allow it: none falls but where it may.
     #[inline(always)]
-    fn offer_grant(&self, level: u8, is_free: bool, offers: &mut ArrayVec<Edge, 16>)
-        requires room { length offers.old.items < 16 }
+    fn offer_grant<const N: usize>(&self, level: u8, is_free: bool, offers: &mut ArrayVec<Edge, N>)
+        requires room { length offers.old.items < N }
         requires known { is_free ≡ may_grant self.now }
         ensures offered { OfHistory self.now (λ version p h. offers.new.items
             ≡ offers.old.items ++ filter (is_open version p h)
@@ -265,7 +270,8 @@ impl Wiring {
     }
 
     /// What the controller is offered.
-    fn controller_offers(&self) -> ArrayVec<Edge, 16>
+    pub(crate) fn controller_offers<const N: usize>(&self) -> ArrayVec<Edge, N>
+        requires { 7 ≤ N }
         ensures { OfHistory self.now (λ version p h. result.items
             ≡ offered_but_full version p h Controller) }
     {

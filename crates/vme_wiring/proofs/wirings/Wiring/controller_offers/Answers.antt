@@ -8,7 +8,7 @@ use Rattle.vme_wiring.proofs.More.{one_more}
 use Rattle.vme_wiring.proofs.wirings.Wiring.controller_offers.Goals as goal
 
 pub returns : goal.returns
-returns c version p h is =
+returns g c version p h is =
     let test = is_open version p h in
     let o = c.new-offers.result.items in
     let t1 = turned h Controller (Bg 0) in

@@ -1,0 +1,88 @@
+//! All edges that a driver can make, with every value.
+ghost use Rattle.std.specs.Prelude.{◌≡◌, ◌≤◌, ◌+◌, ◌++◌, filter, length, map};
+ghost use Rattle.vme_model.specs.declared.signals.Driver.TheVariants.{Slot};
+ghost use Rattle.vme_model.specs.Open.{accesses, acknowledges, moves, showing as showing_of};
+
+use crate::offers::showing;
+use crate::wirings::Wiring;
+use arrayvec::ArrayVec;
+use vme_model::{Cycle, Driver, Edge, Wire};
+
+impl Wiring {
+    ghost use Rattle.vme_wiring.specs.Wired.{OfHistory};
+    ghost use Rattle.vme_wiring.specs.Offered.{is_open};
+    ghost use Rattle.vme_wiring.specs.Opens.{open_but_full};
+
+    /// Puts after the others the acknowledges that the slot can show, by level.
+    fn open_acknowledges(&self, slot: u8, edges: &mut ArrayVec<Edge, 36>)
+        requires { length edges.old.items ≤ 29 }
+        ensures opened { OfHistory self.now (λ version p h. edges.new.items ≡ edges.old.items
+            ++ filter (is_open version p h) (map (showing_of (Slot slot)) acknowledges)) }
+        ensures few { length edges.new.items ≤ length edges.old.items + 7 }
+    {
+        for level in 1..=7 {
+            self.offer(showing(slot, Cycle::Acknowledge(level)), edges);
+        }
+    }
+
+    /// Puts after the others the accesses that it can show, by their slots.
+    fn open_accesses(&self, slot: u8, edges: &mut ArrayVec<Edge, 36>)
+        requires { length edges.old.items ≤ 15 }
+        ensures opened { OfHistory self.now (λ version p h. edges.new.items ≡ edges.old.items
+            ++ filter (is_open version p h) (map (showing_of (Slot slot)) accesses)) }
+        ensures few { length edges.new.items ≤ length edges.old.items + 21 }
+    {
+        for target in 1..=21 {
+            self.offer(showing(slot, Cycle::Access(target)), edges);
+        }
+    }
+
+    /// Puts after the others the edges of its address group: going off, or going on with each cycle.
+    fn open_address(&self, slot: u8, edges: &mut ArrayVec<Edge, 36>)
+        requires { length edges.old.items ≤ 8 }
+        ensures opened { OfHistory self.now (λ version p h. edges.new.items ≡ edges.old.items
+            ++ filter (is_open version p h) (moves h (Slot slot) Wire.Addr)) }
+        ensures few { length edges.new.items ≤ length edges.old.items + 28 }
+    {
+        if self.is_low(Driver::Slot(slot), Wire::Addr) {
+            self.offer_turned(Driver::Slot(slot), Wire::Addr, edges);
+        } else {
+            self.open_acknowledges(slot, edges);
+            self.open_accesses(slot, edges);
+        }
+    }
+
+    /// All edges that the slot's board can make; none where there is no board.
+    fn slot_open_edges(&self, slot: u8) -> ArrayVec<Edge, 36>
+        ensures { OfHistory self.now (λ version p h. result.items
+            ≡ open_but_full version p h (Slot slot)) }
+    {
+        let mut edges = ArrayVec::new();
+        self.offer_turned(Driver::Slot(slot), Wire::Br, &mut edges);
+        self.offer_turned(Driver::Slot(slot), Wire::BgOut, &mut edges);
+        self.offer_turned(Driver::Slot(slot), Wire::Bbsy, &mut edges);
+        self.open_address(slot, &mut edges);
+        self.offer_turned(Driver::Slot(slot), Wire::AddressStrobe, &mut edges);
+        self.offer_turned(Driver::Slot(slot), Wire::DataStrobe, &mut edges);
+        self.offer_turned(Driver::Slot(slot), Wire::Irq, &mut edges);
+        self.offer_turned(Driver::Slot(slot), Wire::IackOut, &mut edges);
+        self.offer_turned(Driver::Slot(slot), Wire::Dtack, &mut edges);
+        edges
+    }
+
+    /// All edges that a driver can make, but for the end of the trace: of those that move one of its wires those that the
+    /// rules allow, in the order of its wires. An address group goes on with each acknowledge, by level, and then with
+    /// each access, by slot.
+    ///
+    /// `offers` has one acknowledge and one access of them at most.
+    pub fn open_edges(&self, driver: Driver) -> ArrayVec<Edge, 36>
+        ensures { OfHistory self.now (λ version p h. result.items
+            ≡ open_but_full version p h driver) }
+    {
+        match driver {
+            // its wires show nothing, so that it is offered all that it can make
+            Driver::Controller => self.controller_offers(),
+            Driver::Slot(slot) => self.slot_open_edges(slot),
+        }
+    }
+}
