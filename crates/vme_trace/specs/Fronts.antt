@@ -43,10 +43,10 @@ first_driver text =
     else if is_in_range 49 57 (slice_index text 0) && slice_index text 1 == 32
     then Some (Slot (slice_index text 0 - 48), drop 2 text)
     else if slice_index text 0 == 49
-        && (is_in_range 48 57 (slice_index text 1) && slice_index text 2 == 32)
+    && (is_in_range 48 57 (slice_index text 1) && slice_index text 2 == 32)
     then Some (Slot (10 + (slice_index text 1 - 48)), drop 3 text)
     else if slice_index text 0 == 50
-        && (is_in_range 48 49 (slice_index text 1) && slice_index text 2 == 32)
+    && (is_in_range 48 49 (slice_index text 1) && slice_index text 2 == 32)
     then Some (Slot (20 + (slice_index text 1 - 48)), drop 3 text)
     else None
 
@@ -54,7 +54,7 @@ first_driver text =
 unfoldable pub first_control_wire : List ℕ → First Wire
 first_control_wire text =
     if slice_index text 0 == 98
-        && (slice_index text 1 == 103 && is_in_range 48 51 (slice_index text 2))
+    && (slice_index text 1 == 103 && is_in_range 48 51 (slice_index text 2))
     then Some (Bg (slice_index text 2 - 48), drop 3 text)
     else if stands (codes "bclr") 0 text then Some (Bclr, drop 4 text)
     else if stands (codes "iack") 0 text then Some (Iack, drop 4 text)
@@ -114,10 +114,10 @@ first_slot text =
     if is_in_range 49 57 (slice_index text 0) && slice_index text 1 == 10
     then Some (slice_index text 0 - 48, drop 2 text)
     else if slice_index text 0 == 49
-        && (is_in_range 48 57 (slice_index text 1) && slice_index text 2 == 10)
+    && (is_in_range 48 57 (slice_index text 1) && slice_index text 2 == 10)
     then Some (10 + (slice_index text 1 - 48), drop 3 text)
     else if slice_index text 0 == 50
-        && (is_in_range 48 49 (slice_index text 1) && slice_index text 2 == 10)
+    && (is_in_range 48 49 (slice_index text 1) && slice_index text 2 == 10)
     then Some (20 + (slice_index text 1 - 48), drop 3 text)
     else None
 

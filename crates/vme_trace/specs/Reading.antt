@@ -40,7 +40,7 @@ rest_of None p bytes =
     read_from_header p.line (split_lines (p.part ++ bytes)).0 (split_lines (p.part ++ bytes)).1
 rest_of (Some version) p bytes =
     behind_header (Some version)
-        (read_lines p.line (split_lines (p.part ++ bytes)).0 (split_lines (p.part ++ bytes)).1)
+    (read_lines p.line (split_lines (p.part ++ bytes)).0 (split_lines (p.part ++ bytes)).1)
 
 -- these edges, and then the others
 abbrev pub with_edges : List Edge → Reading → Reading

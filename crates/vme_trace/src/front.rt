@@ -228,7 +228,7 @@ pub(crate) fn edge_at(text: &[u8]) -> Option<(Edge, &[u8])>
     ensures found { IfSome result (λ found. IsFrontLine found.0 text.now found.1.now) }
     ensures missed { IfNone result
         ((edge : Edge) (rest : List ℕ) → IsTrue (is_well_formed edge)
-            → text.now ≢ (spelling edge ++ 10 ∷ []) ++ rest) }
+        → text.now ≢ (spelling edge ++ 10 ∷ []) ++ rest) }
 {
     let (driver, rest) = driver_at(text)?;
     let (wire, rest) = wire_at(driver, rest)?;

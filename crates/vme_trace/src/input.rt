@@ -22,7 +22,7 @@ pub fn pump<R: Read, A: Allocator>(
 ) -> Result<bool, Fault>
     ensures reads { (bytes : List ℕ) (es : List Edge) → HasRead reader.old bytes es
         → Pumped (R.remaining input.old) (R.remaining input.new) bytes es
-            edges.old.items edges.new.items reader.new result }
+        edges.old.items edges.new.items reader.new result }
     ensures failed { reader.old.place ≡ None → result ≡ Err Fault.Failed }
     ensures unchanged { reader.old.place ≡ None → reader.new ≡ reader.old }
     ensures none_appended { reader.old.place ≡ None → edges.new.items ≡ edges.old.items }

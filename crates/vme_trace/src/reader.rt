@@ -37,8 +37,8 @@ impl Model for Reader {
     ghost Value = { State };
 
     ghost view = { λ r. record {
-        version = r.version;
-        place = if r.used_up then None else Some (place r.line r.part.items);
+      version = r.version;
+      place = if r.used_up then None else Some (place r.line r.part.items);
     } };
 
     ghost invariant = { λ r. IsPart r.part.items };
@@ -180,10 +180,10 @@ fn take_line<A: Allocator>(
     requires { IsOneLine line.now }
     ensures ok { OnOk result
         (Leads version.old (place n.old []) (line.now ++ 10 ∷ [])
-            edges.old.items edges.new.items version.new (place n.new [])) }
+        edges.old.items edges.new.items version.new (place n.new [])) }
     ensures fault { IfErr result
         (Fails version.old (place n.old []) (line.now ++ 10 ∷ [])
-            edges.old.items edges.new.items version.new) }
+        edges.old.items edges.new.items version.new) }
 {
     if line.len() > 64 {
         return Err(Fault::TooLong { n: *n });
@@ -221,10 +221,10 @@ fn take_joined<A: Allocator>(
     ensures part { IsPart part.new.items }
     ensures ok { OnOk result
         (Leads version.old (place n.old part.old.items) (tail.now ++ 10 ∷ [])
-            edges.old.items edges.new.items version.new (place n.new part.new.items)) }
+        edges.old.items edges.new.items version.new (place n.new part.new.items)) }
     ensures fault { IfErr result
         (Fails version.old (place n.old part.old.items) (tail.now ++ 10 ∷ [])
-            edges.old.items edges.new.items version.new) }
+        edges.old.items edges.new.items version.new) }
 {
     if part.is_empty() {
         return take_line(version, n, tail, edges);
@@ -251,10 +251,10 @@ fn take_front<'a, A: Allocator>(
     ensures shorter { IfOk result (λ rest. length rest.now < length piece.now) }
     ensures ok { IfOk result (λ rest. (taken : List ℕ) × (piece.now ≡ taken ++ rest.now)
         × Leads version.old (place n.old part.old.items) taken
-            edges.old.items edges.new.items version.new (place n.new part.new.items)) }
+        edges.old.items edges.new.items version.new (place n.new part.new.items)) }
     ensures fault { IfErr result
         (Fails version.old (place n.old part.old.items) piece.now
-            edges.old.items edges.new.items version.new) }
+        edges.old.items edges.new.items version.new) }
 {
     let end = line_end(piece);
     if end < piece.len() {
@@ -279,10 +279,10 @@ fn take_edges<'a, A: Allocator>(
     ensures ok { IfOk result (λ rest. (version : Version)
         → (taken : List ℕ) × (piece.now ≡ taken ++ rest.now)
         × Leads (Some version) (place n.old []) taken
-            edges.old.items edges.new.items (Some version) (place n.new [])) }
+        edges.old.items edges.new.items (Some version) (place n.new [])) }
     ensures fault { IfErr result (λ fault. (version : Version)
         → Fails (Some version) (place n.old []) piece.now
-            edges.old.items edges.new.items (Some version) fault) }
+        edges.old.items edges.new.items (Some version) fault) }
 {
     let mut rest = piece;
     'lines: while let Some((edge, behind)) = edge_at(rest) {
@@ -307,10 +307,10 @@ fn take<A: Allocator>(
     ensures part { IsPart part.new.items }
     ensures ok { OnOk result
         (Leads version.old (place n.old part.old.items) piece.now
-            edges.old.items edges.new.items version.new (place n.new part.new.items)) }
+        edges.old.items edges.new.items version.new (place n.new part.new.items)) }
     ensures fault { IfErr result
         (Fails version.old (place n.old part.old.items) piece.now
-            edges.old.items edges.new.items version.new) }
+        edges.old.items edges.new.items version.new) }
 {
     let mut rest = piece;
     'lines: while !rest.is_empty() {
