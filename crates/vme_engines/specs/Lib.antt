@@ -11,7 +11,8 @@ pub mod Joining
 pub mod Checking
 -- believe, for `drive` alone: what the drivers make, and what is written of it
 pub mod Driving
--- words: what the reads and the pieces of a trace do to an engine
+-- words, but for `IsNoPlan`, which `plan_of` answers by: what the reads and the pieces of a trace
+-- do to an engine
 pub mod Steps
 -- words: what the one loop over a trace leaves
 pub mod Pieces
