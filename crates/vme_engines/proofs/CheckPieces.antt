@@ -24,10 +24,10 @@ use Rattle.vme_engines.specs.Streams.{Streams, streams, WroteNothing}
 use Rattle.vme_engines.specs.Outcomes.{bench, HasFault, CanGoOn}
 use Rattle.vme_engines.specs.Checking.{or_refusal, first_refusal, refusal_of, IsUnrefused, IsLegalTrace, FindsNothing}
 use Rattle.vme_engines.specs.Steps.{Begins, Faults, Opens, ChecksPiece, Finds, FindsInput}
-use Rattle.vme_engines.proofs.Writing.{kept_append}
+use Rattle.vme_engines.proofs.WrittenLines.{kept_append}
 use Rattle.vme_engines.specs.Pieces.{IsFaulty, Stopped, Came, Answers, answered}
 use Rattle.vme_engines.proofs.TraceReads.{whole_input, no_such}
-use Rattle.vme_engines.proofs.ReadingOn.{came_begins}
+use Rattle.vme_engines.proofs.ReadOn.{came_begins}
 
 -- ---- the first refusal
 

@@ -13,7 +13,7 @@ use Rattle.vme_engines.specs.Streams.{streams}
 use Rattle.vme_engines.specs.Outcomes.{Answer}
 use Rattle.vme_engines.specs.Joining.{cut, FindsNoTrace, Joins}
 use Rattle.vme_engines.specs.Front.{behind, held_limit, IsHeld, IsFront, EndsFront, IsTextOf, Finds, JoinsBehind}
-use Rattle.vme_engines.proofs.Cuts.{cut_part, cut_line, cut_here, behind_behind, behind_none, named, unnamed, one_line_more, length_header}
+use Rattle.vme_engines.proofs.FirstHeader.{cut_part, cut_line, cut_here, behind_behind, behind_none, named, unnamed, one_line_more, length_header}
 
 -- ---- what is held
 

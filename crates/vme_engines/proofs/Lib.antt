@@ -1,15 +1,30 @@
-pub mod Writing
-pub mod Counting
-pub mod Digits
-pub mod Known
-pub mod Going
+-- lines that are written one after another: src/lines.rt, `drives::write_history`
+pub mod WrittenLines
+-- the digits of a number and of the next one: `Count::advance`
+pub mod NextNumber
+-- a byte's value in decimal, digit by digit: `lines::push_byte`
+pub mod ByteDigits
+-- the edges and the version of a trace, as more of it is read: `TraceReads`
+pub mod TraceSoFar
+-- what a reader has read can go on, as X5 has it: `TraceReads`, `ReadOn`
+pub mod CanGoOn
+-- a trace, read by read: `traces::open`, `pieces::read_on`
 pub mod TraceReads
-pub mod ReadingOn
+-- the loop over the pieces of a trace: `pieces::read_on`
+pub mod ReadOn
+-- a replay, piece by piece: src/replays.rt, `joins::replay_behind`
 pub mod ReplayPieces
-pub mod Cuts
+-- where the first header line of an input is: `Fronts`
+pub mod FirstHeader
+-- the input before its trace, byte by byte: `Front::take` and `find`, `joins::joined`
 pub mod Fronts
-pub mod Opening
-pub mod Starting
+-- where there is no plan, or no header line: `checks::find`, `replays::replay_trace`
+pub mod FirstReads
+-- a trace whose header line was found after a scenario: `joins::start`, `joins::replay_behind`
+pub mod AfterScenario
+-- a check, piece by piece: src/checks.rt
 pub mod CheckPieces
-pub mod Legal
-pub mod Driven
+-- the trace of a legal list is what a check calls legal: src/laws.rt, `drives::drive`
+pub mod LegalTrace
+-- the rounds of a drive, and the lines of what it made: src/drives.rt
+pub mod DriveRounds

@@ -18,8 +18,8 @@ use Rattle.vme_engines.specs.Streams.{Streams, Wrote}
 use Rattle.vme_engines.specs.Outcomes.{bench, lines_of, refused_count, status_with, HasFault, ReplayStops, Replays}
 use Rattle.vme_engines.specs.Steps.{Begins, ending, piece_text, TakesPiece, traced}
 use Rattle.vme_engines.specs.Pieces.{Stopped, Came, Answers}
-use Rattle.vme_engines.proofs.ReadingOn.{came_begins}
-use Rattle.vme_engines.proofs.Writing.{front_of_more, front_behind, lines_append, kept_append}
+use Rattle.vme_engines.proofs.ReadOn.{came_begins}
+use Rattle.vme_engines.proofs.WrittenLines.{front_of_more, front_behind, lines_append, kept_append}
 
 -- ---- pieces
 

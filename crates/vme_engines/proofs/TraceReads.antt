@@ -17,9 +17,9 @@ use Rattle.vme_engines.specs.declared.Status.{Status}
 use Rattle.vme_engines.specs.Streams.{Streams, streams, IsInput, Wrote}
 use Rattle.vme_engines.specs.Outcomes.{bench, lines_of, refused_count, status_with, HasFault, CanGoOn, ReplayStops, Replays}
 use Rattle.vme_engines.specs.Steps.{IsBounded, IsCounted, Begins, Faults, Comes, ending, piece_text, TakesPiece, traced}
-use Rattle.vme_engines.proofs.Writing.{front_of_all, front_of_more, front_behind, lines_append, kept_append}
-use Rattle.vme_engines.proofs.Known.{reads_on, few_edges, unknown_version}
-use Rattle.vme_engines.proofs.Going.{can_go_on}
+use Rattle.vme_engines.proofs.WrittenLines.{front_of_all, front_of_more, front_behind, lines_append, kept_append}
+use Rattle.vme_engines.proofs.TraceSoFar.{reads_on, few_edges, unknown_version}
+use Rattle.vme_engines.proofs.CanGoOn.{can_go_on}
 
 -- ---- reading
 

@@ -39,8 +39,8 @@ IsUnrefused p r = refusal_of p r.version r.edges ≡ None
 
 -- ---- findings
 
--- A whole trace of which no edge is refused: its edges are a legal list of its version, and so a safe one, and are few
--- enough to be kept.
+-- A whole trace of which no edge is refused: its edges are a legal list of its version, and so a
+-- safe one, and are few enough to be kept.
 pub record IsLegalTrace (p : Plan) (r : Reading) : Type 0 where
   pub version : Version
   pub named : r.version ≡ Some version
@@ -58,29 +58,38 @@ IsFound p r s (Illegal n refused) = refusal_of p r.version r.edges ≡ Some (n, 
 -- the line of a finding
 abbrev pub finding_line : Finding → List ℕ
 finding_line (Legal edges) = (codes "legal " ++ decimal edges) ++ 10 ∷ []
-finding_line (Illegal n refused) = (((codes "illegal " ++ decimal n) ++ codes " ") ++ verdict_text (Err refused)) ++ 10 ∷ []
+finding_line (Illegal n refused) =
+    (((codes "illegal " ++ decimal n) ++ codes " ") ++ verdict_text (Err refused)) ++ 10 ∷ []
 
 abbrev pub finding_status : Finding → Status
 finding_status (Legal edges) = Done
 finding_status (Illegal n refused) = SomeRefused
 
--- Why nothing is found: no edge before the fault is refused. X1 to X4: of the trace. X5: of what was read, which can go
--- on. X6: of the edges that found room.
+-- Why nothing is found: no edge before the fault is refused. X1 to X4: of the trace. X5: of what
+-- was read, which can go on. X6: of the edges that found room.
 abbrev pub FindsNothing : Plan → List ℕ → Streams → Fault → Type 0
 FindsNothing p trace s Header = HasFault trace Header × IsUnrefused p (read_of trace)
 FindsNothing p trace s (Line n) = HasFault trace (Line n) × IsUnrefused p (read_of trace)
 FindsNothing p trace s (TooLong n) = HasFault trace (TooLong n) × IsUnrefused p (read_of trace)
 FindsNothing p trace s CutOff = HasFault trace CutOff × IsUnrefused p (read_of trace)
-FindsNothing p trace s Read = (bytes : List ℕ) × HasRead s bytes × CanGoOn bytes × IsUnrefused p (read_of bytes)
-FindsNothing p trace s Memory = (es : List Edge) × (others : List Edge) × ((read_of trace).edges ≡ es ++ others) × (refusal_of p (read_of trace).version es ≡ None)
+FindsNothing p trace s Read =
+    (bytes : List ℕ) × HasRead s bytes × CanGoOn bytes × IsUnrefused p (read_of bytes)
+FindsNothing p trace s Memory =
+    (es : List Edge) × (others : List Edge) × ((read_of trace).edges ≡ es ++ others)
+    × (refusal_of p (read_of trace).version es ≡ None)
 FindsNothing p trace s Failed = ⊥
 FindsNothing p trace s Write = ⊥
 
--- What a check of a trace on a plan leaves: the line of what it found, at X8 a prefix of it; where it finds nothing, nothing.
+-- What a check of a trace on a plan leaves: the line of what it found, at X8 a prefix of it; where
+-- it finds nothing, nothing.
 abbrev pub Checks : Plan → List ℕ → Streams → Answer → Type 0
-Checks p trace s (Ok status) = (found : Finding) × IsFound p (read_of trace) s found × (status ≡ finding_status found) × Wrote s (finding_line found)
+Checks p trace s (Ok status) =
+    (found : Finding) × IsFound p (read_of trace) s found
+    × (status ≡ finding_status found) × Wrote s (finding_line found)
 Checks p trace s (Err (fault.Trace f)) =
-    (FindsNothing p trace s f × WroteNothing s) ⊎ ((f ≡ Write) × (found : Finding) × IsFound p (read_of trace) s found × WroteFront s (finding_line found))
+    (FindsNothing p trace s f × WroteNothing s)
+    ⊎ ((f ≡ Write) × (found : Finding) × IsFound p (read_of trace) s found
+    × WroteFront s (finding_line found))
 Checks p trace s (Err _) = ⊥
 
 -- a check of the whole input

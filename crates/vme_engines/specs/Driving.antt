@@ -25,13 +25,16 @@ driven p version n = (rounds (bench p version) n).history
 abbrev pub driven_text : Plan → Version → ℕ → List ℕ
 driven_text p version n = text version (in_order (driven p version n))
 
--- What a drive leaves, by what the writer held and holds: the trace of a legal list, which `check` calls legal; at X8 a
--- prefix of it.
+-- What a drive leaves, by what the writer held and holds: the trace of a legal list, which `check`
+-- calls legal; at X8 a prefix of it.
 abbrev pub Drives : Version → ℕ → Option (List ℕ) → Option (List ℕ) → Plan → Answer → Type 0
 Drives version n old new p (Ok status) =
-    Appends old new (driven_text p version n) × IsLegal version p (driven p version n) × IsLegalTrace p (read_of (driven_text p version n))
+    Appends old new (driven_text p version n)
+    × IsLegal version p (driven p version n)
+    × IsLegalTrace p (read_of (driven_text p version n))
     × (status ≡ (if length (driven p version n) == n then Limit else Done))
-Drives version n old new p (Err (fault.Trace f)) = (f ≡ Write) × AppendsFront old new (driven_text p version n)
+Drives version n old new p (Err (fault.Trace f)) =
+    (f ≡ Write) × AppendsFront old new (driven_text p version n)
 Drives version n old new p (Err _) = ⊥
 
 -- The edges that the drivers make are a safe list.

@@ -1,4 +1,5 @@
--- The part of an input before its trace, byte by byte: the words of the contracts between the functions of `joined`.
+-- The part of an input before its trace, byte by byte: the words of the contracts between the
+-- functions of `joined`.
 use Rattle.std.specs.Prelude.{◌≡◌, ◌<◌, ◌≤◌, ◌⊎◌, ◌+◌, ◌++◌, ◌∷◌, [], ℕ, min, Bool, true, false, List, length, take, Option, Some, None, option_map, Result, Ok, Err}
 use Rattle.std.specs.Io.KnownBytes.{Consumes}
 use Rattle.std.specs.declared.alloc.AllocError.{AllocError}
@@ -18,7 +19,12 @@ use Rattle.vme_engines.specs.Joining.{cut}
 abbrev pub behind : List ℕ → Option (List ℕ × List ℕ) → Option (List ℕ × List ℕ)
 behind before parts = option_map (λ p. (before ++ p.0, p.1)) parts
 
--- how many bytes are held before a trace: those of the greatest scenario, of a header line, and no more
+-- the header line of a version, with its line feed
+abbrev pub header_line : Version → List ℕ
+header_line version = header version ++ 10 ∷ []
+
+-- how many bytes are held before a trace: those of the greatest scenario, of a header line, and no
+-- more
 abbrev pub held_limit : ℕ
 held_limit = scenario_limit + 6
 
@@ -40,7 +46,7 @@ pub record IsFront (f : Front) (bytes : List ℕ) : Type 0 where
 -- These bytes end with the first header line; those before its line feed are held.
 pub record EndsFront (f : Front) (bytes : List ℕ) (version : Version) : Type 0 where
   pub before : List ℕ
-  pub whole : bytes ≡ before ++ (header version ++ 10 ∷ [])
+  pub whole : bytes ≡ before ++ header_line version
   pub none : (more : List ℕ) → cut true (before ++ more) ≡ behind before (cut true more)
   pub held : IsHeld f.held.items (before ++ header version)
 
@@ -53,22 +59,33 @@ Takes bytes byte f (Err e) = Unit {0}
 -- what the bytes of a piece do
 abbrev pub Finds : List ℕ → List ℕ → Front → Result (Option Found) AllocError → Type 0
 Finds bytes piece f (Ok None) = IsFront f (bytes ++ piece)
-Finds bytes piece f (Ok (Some found)) = (found.taken ≤ length piece) × EndsFront f (bytes ++ take found.taken piece) found.version
+Finds bytes piece f (Ok (Some found)) =
+    (found.taken ≤ length piece)
+    × EndsFront f (bytes ++ take found.taken piece) found.version
 Finds bytes piece f (Err e) = Unit {0}
 
 -- the scenario's text as it was held: all of it, unless both are too long
 abbrev pub IsTextOf : List ℕ → List ℕ → Type 0
-IsTextOf before text = (text ≡ before) ⊎ ((scenario_limit < length text) × (scenario_limit < length before))
+IsTextOf before text =
+    (text ≡ before) ⊎ ((scenario_limit < length text) × (scenario_limit < length before))
 
 -- A reader took in the header line and the rest of the piece after it.
 abbrev pub Starts : List ℕ → trace.State → List Edge → Result Bool Fault → Type 0
 Starts bytes reader es (Ok true) = trace.HasRead reader bytes es
 Starts bytes reader es (Ok false) = ⊥
-Starts bytes reader es (Err f) = (more : List ℕ) → trace.HasFault (read_of (bytes ++ more)) reader.version es f
+Starts bytes reader es (Err f) =
+    (more : List ℕ) → trace.HasFault (read_of (bytes ++ more)) reader.version es f
 
--- What stands after the text of a scenario was replayed: its header line, what was read after it, and the rest.
-abbrev pub JoinsBehind : Front → Version → List ℕ → Option (List ℕ) → Option (List ℕ) → Option (List ℕ) → Option (List ℕ) → Answer → Type 0
+-- What stands after the text of a scenario was replayed: its header line, what was read after it,
+-- and the rest.
+abbrev pub JoinsBehind :
+    Front → Version → List ℕ
+    → Option (List ℕ) → Option (List ℕ) → Option (List ℕ) → Option (List ℕ)
+    → Answer → Type 0
 JoinsBehind f version rest at to old new answer =
-    (from : Option (List ℕ)) (before : List ℕ) → IsHeld f.held.items (before ++ header version) → Consumes from at (before ++ ((header version ++ 10 ∷ []) ++ rest))
-    → (others : List ℕ) × IsInput from (before ++ ((header version ++ 10 ∷ []) ++ others))
-    × Lent before (WroteNothing (streams from to old new)) (λ p r. Replays p before ((header version ++ 10 ∷ []) ++ others) (streams from to old new) r) answer
+    (from : Option (List ℕ)) (before : List ℕ)
+    → IsHeld f.held.items (before ++ header version)
+    → Consumes from at (before ++ (header_line version ++ rest))
+    → (others : List ℕ) × IsInput from (before ++ (header_line version ++ others))
+    × Lent before (WroteNothing (streams from to old new))
+    (λ p r. Replays p before (header_line version ++ others) (streams from to old new) r) answer

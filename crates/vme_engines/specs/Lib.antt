@@ -1,9 +1,22 @@
+-- The definitions of the engines. `believe` marks what a theorem rests on, and `words` what only
+-- says how one function serves another.
+
+-- believe: what was read and what was written, as far as the bytes are known
 pub mod Streams
+-- believe: a scenario that an engine is lent, and what a replay leaves
 pub mod Outcomes
+-- believe, for `joined` alone: a scenario and a trace in one input
 pub mod Joining
+-- believe, for `check` and `drive`: what is found in a trace, and what a check leaves
 pub mod Checking
+-- believe, for `drive` alone: what the drivers make, and what is written of it
 pub mod Driving
+-- words, but for `IsNoPlan`, which `plan_of` answers by: what the reads and the pieces of a trace
+-- do to an engine
 pub mod Steps
+-- words: what the one loop over a trace leaves
 pub mod Pieces
+-- words: the input before its trace, byte by byte
 pub mod Front
+-- words: a number as it stands in a verdict line
 pub mod Counting

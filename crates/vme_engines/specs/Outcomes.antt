@@ -24,14 +24,20 @@ Answer = Result Status EngineFault
 abbrev pub scenario_limit : ℕ
 scenario_limit = 1048576
 
--- An engine that is lent the text of a scenario: the first fault is answered and `nothing` is done, or it runs on the plan.
+-- An engine that is lent the text of a scenario: the first fault is answered and `nothing` is
+-- done, or it runs on the plan.
 abbrev pub Lent : List ℕ → Type 0 → (Plan → Answer → Type 0) → Answer → Type 0
 Lent text nothing Runs (Err fault.TooLong) = (scenario_limit < length text) × nothing
-Lent text nothing Runs (Err (fault.Scenario e)) = (length text ≤ scenario_limit) × IsErrorOf (scenario text) e × nothing
-Lent text nothing Runs (Err fault.NoMemory) = (p : Plan) × (length text ≤ scenario_limit) × (scenario text ≡ Ok p) × nothing
-Lent text nothing Runs (Err (fault.Trace f)) = (p : Plan) × (length text ≤ scenario_limit) × (scenario text ≡ Ok p) × Runs p (Err (fault.Trace f))
+Lent text nothing Runs (Err (fault.Scenario e)) =
+    (length text ≤ scenario_limit) × IsErrorOf (scenario text) e × nothing
+Lent text nothing Runs (Err fault.NoMemory) =
+    (p : Plan) × (length text ≤ scenario_limit) × (scenario text ≡ Ok p) × nothing
+Lent text nothing Runs (Err (fault.Trace f)) =
+    (p : Plan) × (length text ≤ scenario_limit) × (scenario text ≡ Ok p)
+    × Runs p (Err (fault.Trace f))
 Lent text nothing Runs (Err fault.CannotRead) = ⊥
-Lent text nothing Runs (Ok status) = (p : Plan) × (length text ≤ scenario_limit) × (scenario text ≡ Ok p) × Runs p (Ok status)
+Lent text nothing Runs (Ok status) =
+    (p : Plan) × (length text ≤ scenario_limit) × (scenario text ≡ Ok p) × Runs p (Ok status)
 
 -- the backplane on which a trace of that version is judged
 abbrev pub bench : Plan → Version → State
@@ -57,27 +63,34 @@ status_of p r = status_with (refused_count p r.version r.edges)
 abbrev pub HasFault : List ℕ → Fault → Type 0
 HasFault trace f = option_map fault_of (read_of trace).fault ≡ Some f
 
--- A trace that begins with these bytes can go on, so that none of X1 to X3 stands in them: they are a whole trace, one
--- that is cut off, or nothing.
+-- A trace that begins with these bytes can go on, so that none of X1 to X3 stands in them: they
+-- are a whole trace, one that is cut off, or nothing.
 abbrev pub CanGoOn : List ℕ → Type 0
-CanGoOn bytes = ((read_of bytes).fault ≡ None) ⊎ ((read_of bytes).fault ≡ Some cut_off) ⊎ (bytes ≡ [])
+CanGoOn bytes =
+    ((read_of bytes).fault ≡ None) ⊎ ((read_of bytes).fault ≡ Some cut_off) ⊎ (bytes ≡ [])
 
--- What a replay of a trace leaves at a fault, where the trace stands in the input after a text. X1 to X4: the verdicts
--- on the edges before it. X5: on the edges of what was read, which can go on. X6: on the edges that found room. X8: a
--- prefix of the report.
+-- What a replay of a trace leaves at a fault, where the trace stands in the input after a text. X1
+-- to X4: the verdicts on the edges before it. X5: on the edges of what was read, which can go on.
+-- X6: on the edges that found room. X8: a prefix of the report.
 abbrev pub ReplayStops : Plan → List ℕ → List ℕ → Streams → Fault → Type 0
 ReplayStops p text trace s Header = HasFault trace Header × Wrote s (report p trace)
 ReplayStops p text trace s (Line n) = HasFault trace (Line n) × Wrote s (report p trace)
 ReplayStops p text trace s (TooLong n) = HasFault trace (TooLong n) × Wrote s (report p trace)
 ReplayStops p text trace s CutOff = HasFault trace CutOff × Wrote s (report p trace)
-ReplayStops p text trace s Read = (bytes : List ℕ) × HasRead s (text ++ bytes) × CanGoOn bytes × Wrote s (lines_of p (read_of bytes).version (read_of bytes).edges)
-ReplayStops p text trace s Memory = (es : List Edge) × (others : List Edge) × ((read_of trace).edges ≡ es ++ others) × Wrote s (lines_of p (read_of trace).version es)
+ReplayStops p text trace s Read =
+    (bytes : List ℕ) × HasRead s (text ++ bytes) × CanGoOn bytes
+    × Wrote s (lines_of p (read_of bytes).version (read_of bytes).edges)
+ReplayStops p text trace s Memory =
+    (es : List Edge) × (others : List Edge) × ((read_of trace).edges ≡ es ++ others)
+    × Wrote s (lines_of p (read_of trace).version es)
 ReplayStops p text trace s Failed = ⊥
 ReplayStops p text trace s Write = WroteFront s (report p trace)
 
 -- What a replay of a trace on a plan leaves: without a fault, the whole report.
 abbrev pub Replays : Plan → List ℕ → List ℕ → Streams → Answer → Type 0
-Replays p text trace s (Ok status) = ((read_of trace).fault ≡ None) × IsReadOut s × Wrote s (report p trace) × (status ≡ status_of p (read_of trace))
+Replays p text trace s (Ok status) =
+    ((read_of trace).fault ≡ None) × IsReadOut s × Wrote s (report p trace)
+    × (status ≡ status_of p (read_of trace))
 Replays p text trace s (Err (fault.Trace f)) = ReplayStops p text trace s f
 Replays p text trace s (Err _) = ⊥
 

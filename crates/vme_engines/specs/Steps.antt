@@ -42,29 +42,39 @@ pub record Begins (r : Reading) (v : Version) (es : List Edge) : Type 0 where
   pub edges : r.edges ≡ es ++ others
 
 -- A read failed behind these bytes of a trace, which can go on, and these edges of it.
-pub record Fails (to : Option (List ℕ)) (bytes : List ℕ) (reader : trace.State) (es : List Edge) : Type 0 where
+pub record Fails
+    (to : Option (List ℕ)) (bytes : List ℕ) (reader : trace.State) (es : List Edge)
+    : Type 0 where
   pub version : reader.version ≡ (read_of bytes).version
   pub edges : (read_of bytes).edges ≡ es
   pub goes_on : CanGoOn bytes
-  pub begins : (v : Version) → reader.version ≡ Some v → Begins (read_of (bytes ++ unwrap_or to [])) v es
+  pub begins : (v : Version) → reader.version ≡ Some v
+      → Begins (read_of (bytes ++ unwrap_or to [])) v es
 
 -- A fault came from the input: a read failed, or the trace has a fault.
 abbrev pub Faults : Option (List ℕ) → List ℕ → trace.State → List Edge → Fault → Type 0
 Faults to bytes reader es f =
-    ((f ≡ Read) × Fails to bytes reader es) ⊎ trace.HasFault (read_of (bytes ++ unwrap_or to [])) reader.version es f
+    ((f ≡ Read) × Fails to bytes reader es)
+    ⊎ trace.HasFault (read_of (bytes ++ unwrap_or to [])) reader.version es f
 
--- A read came, and what it answered. The trace stands in the input behind a text, and begins with a head; `es` are its
--- edges up to here.
-abbrev pub Comes : Option (List ℕ) → Option (List ℕ) → List ℕ → List ℕ → ℕ → trace.State → List Edge → Result Bool Fault → Type 0
+-- A read came, and what it answered. The trace stands in the input behind a text, and begins with
+-- a head; `es` are its edges up to here.
+abbrev pub Comes :
+    Option (List ℕ) → Option (List ℕ) → List ℕ → List ℕ → ℕ
+    → trace.State → List Edge → Result Bool Fault → Type 0
 Comes from to text head left reader es (Ok true) =
-    (later : List ℕ) × Consumes from to (text ++ (head ++ later)) × IsBounded (head ++ later) left × trace.HasRead reader (head ++ later) es
+    (later : List ℕ) × Consumes from to (text ++ (head ++ later))
+    × IsBounded (head ++ later) left × trace.HasRead reader (head ++ later) es
 Comes from to text head left reader es (Ok false) =
-    (later : List ℕ) × Consumes from to (text ++ (head ++ later)) × IsAtEnd to × (reader.version ≡ (read_of (head ++ later)).version)
+    (later : List ℕ) × Consumes from to (text ++ (head ++ later)) × IsAtEnd to
+    × (reader.version ≡ (read_of (head ++ later)).version)
     × ((read_of (head ++ later)).edges ≡ es) × ((read_of (head ++ later)).fault ≡ None)
 Comes from to text head left reader es (Err f) =
-    (later : List ℕ) × Consumes from to (text ++ (head ++ later)) × Faults to (head ++ later) reader es f
+    (later : List ℕ) × Consumes from to (text ++ (head ++ later))
+    × Faults to (head ++ later) reader es f
 
--- The reader has read a trace whose edges are few enough to be counted while so many reads are left.
+-- The reader has read a trace whose edges are few enough to be counted while so many reads are
+-- left.
 pub record IsCounted (reader : trace.State) (left judged : ℕ) : Type 0 where
   pub bytes : List ℕ
   pub es : List Edge
@@ -73,8 +83,11 @@ pub record IsCounted (reader : trace.State) (left judged : ℕ) : Type 0 where
   pub count : judged ≡ length es
 
 -- What the reads up to the header line leave: its version is known, or there is a fault.
-abbrev pub Opens : Option (List ℕ) → Option (List ℕ) → trace.State → List Edge → Result Bool Fault × ℕ → Type 0
-Opens from to reader es (answer, left) = Comes from to [] [] left reader es answer × (answer ≡ Ok true → reader.version ≢ None)
+abbrev pub Opens :
+    Option (List ℕ) → Option (List ℕ) → trace.State → List Edge
+    → Result Bool Fault × ℕ → Type 0
+Opens from to reader es (answer, left) =
+    Comes from to [] [] left reader es answer × (answer ≡ Ok true → reader.version ≢ None)
 
 -- ---- replay
 
@@ -86,16 +99,23 @@ ending (Err f) judged accepted = []
 
 -- what is written for the edges of a piece
 abbrev pub piece_text : State → ℕ → List Edge → Result Bool Fault → List ℕ
-piece_text b judged es more = verdict_lines b (judged + 1) es ++ ending more (judged + length es) (length (kept b es).history)
+piece_text b judged es more =
+    verdict_lines b (judged + 1) es
+    ++ ending more (judged + length es) (length (kept b es).history)
 
 -- What the edges of a piece do to a replay: `more` is what the read answered.
-abbrev pub TakesPiece : State → ℕ → List Edge → Result Bool Fault → Option (List ℕ) → Option (List ℕ) → State → ℕ → Result (Option Status) Fault → Type 0
+abbrev pub TakesPiece :
+    State → ℕ → List Edge → Result Bool Fault → Option (List ℕ) → Option (List ℕ)
+    → State → ℕ → Result (Option Status) Fault → Type 0
 TakesPiece b judged es more old new b' judged' (Ok None) =
-    (more ≡ Ok true) × Appends old new (piece_text b judged es more) × (b' ≡ kept b es) × (judged' ≡ judged + length es)
+    (more ≡ Ok true) × Appends old new (piece_text b judged es more)
+    × (b' ≡ kept b es) × (judged' ≡ judged + length es)
 TakesPiece b judged es more old new b' judged' (Ok (Some status)) =
-    (more ≡ Ok false) × Appends old new (piece_text b judged es more) × (status ≡ status_with (judged + length es - length (kept b es).history))
+    (more ≡ Ok false) × Appends old new (piece_text b judged es more)
+    × (status ≡ status_with (judged + length es - length (kept b es).history))
 TakesPiece b judged es more old new b' judged' (Err f) =
-    ((more ≡ Err f) × Appends old new (piece_text b judged es more)) ⊎ ((f ≡ Write) × AppendsFront old new (piece_text b judged es more))
+    ((more ≡ Err f) × Appends old new (piece_text b judged es more))
+    ⊎ ((f ≡ Write) × AppendsFront old new (piece_text b judged es more))
 
 -- an engine's answer, its fault as one of the trace
 abbrev pub traced : Result Status Fault → Answer
@@ -105,14 +125,21 @@ traced (Err f) = Err (fault.Trace f)
 -- ---- check
 
 -- What the edges of a piece do to a check: `more` is what the read answered.
-abbrev pub ChecksPiece : State → ℕ → List Edge → Result Bool Fault → State → ℕ → Result (Option Finding) Fault → Type 0
+abbrev pub ChecksPiece :
+    State → ℕ → List Edge → Result Bool Fault → State → ℕ
+    → Result (Option Finding) Fault → Type 0
 ChecksPiece b judged es more b' judged' (Ok None) =
-    (more ≡ Ok true) × (first_refusal (judged + 1) b es ≡ None) × (b' ≡ kept b es) × (judged' ≡ judged + length es)
-ChecksPiece b judged es more b' judged' (Ok (Some (Illegal n refused))) = first_refusal (judged + 1) b es ≡ Some (n, refused)
+    (more ≡ Ok true) × (first_refusal (judged + 1) b es ≡ None)
+    × (b' ≡ kept b es) × (judged' ≡ judged + length es)
+ChecksPiece b judged es more b' judged' (Ok (Some (Illegal n refused))) =
+    first_refusal (judged + 1) b es ≡ Some (n, refused)
 ChecksPiece b judged es more b' judged' (Ok (Some (Legal edges))) =
-    (more ≡ Ok false) × (first_refusal (judged + 1) b es ≡ None) × (b' ≡ kept b es) × (edges ≡ judged + length es)
-    × IsLegal b'.version b'.plan b'.history × IsSafe b'.plan b'.history × (length b'.history ≤ b'.max)
-ChecksPiece b judged es more b' judged' (Err f) = (more ≡ Err f) × (first_refusal (judged + 1) b es ≡ None)
+    (more ≡ Ok false) × (first_refusal (judged + 1) b es ≡ None)
+    × (b' ≡ kept b es) × (edges ≡ judged + length es)
+    × IsLegal b'.version b'.plan b'.history × IsSafe b'.plan b'.history
+    × (length b'.history ≤ b'.max)
+ChecksPiece b judged es more b' judged' (Err f) =
+    (more ≡ Err f) × (first_refusal (judged + 1) b es ≡ None)
 
 -- What a check finds in a trace, or why nothing.
 abbrev pub Finds : Plan → List ℕ → Option (List ℕ) → Option (List ℕ) → Result Finding Fault → Type 0

@@ -74,8 +74,12 @@ fn take_rounds(backplane: &mut Backplane, edges: u32, all: &[Driver])
 
 /// Writes the lines of the edges that were made.
 fn write_lines<W: Write>(backplane: &Backplane, out: &mut W) -> Result<(), Fault>
-    ensures ok { OnOk result (Appends (W.contents out.old) (W.contents out.new) (edge_lines (in_order backplane.now.history))) }
-    ensures front { OnErr result (AppendsFront (W.contents out.old) (W.contents out.new) (edge_lines (in_order backplane.now.history))) }
+    ensures ok { OnOk result
+        (Appends (W.contents out.old) (W.contents out.new)
+        (edge_lines (in_order backplane.now.history))) }
+    ensures front { OnErr result
+        (AppendsFront (W.contents out.old) (W.contents out.new)
+        (edge_lines (in_order backplane.now.history))) }
     ensures fault { IfErr result (λ fault. fault ≡ Fault.Write) }
 {
     backplane.laws();
@@ -90,8 +94,12 @@ fn write_lines<W: Write>(backplane: &Backplane, out: &mut W) -> Result<(), Fault
 ///
 /// Errors: X8 where the output cannot be written; a prefix of the trace was then written.
 pub fn write_history<W: Write>(backplane: &Backplane, out: &mut W) -> Result<(), Fault>
-    ensures ok { OnOk result (Appends (W.contents out.old) (W.contents out.new) (text backplane.now.version (in_order backplane.now.history))) }
-    ensures front { OnErr result (AppendsFront (W.contents out.old) (W.contents out.new) (text backplane.now.version (in_order backplane.now.history))) }
+    ensures ok { OnOk result
+        (Appends (W.contents out.old) (W.contents out.new)
+        (text backplane.now.version (in_order backplane.now.history))) }
+    ensures front { OnErr result
+        (AppendsFront (W.contents out.old) (W.contents out.new)
+        (text backplane.now.version (in_order backplane.now.history))) }
     ensures fault { IfErr result (λ fault. fault ≡ Fault.Write) }
 {
     put(out, header_line(backplane.version()))?;
@@ -123,7 +131,10 @@ pub fn drive<W: Write>(
     out: &mut W,
     version: Version,
 ) -> Result<Status, EngineFault>
-    ensures outcome { Lent scenario.now (Keeps (W.contents out.old) (W.contents out.new)) (Drives version edges (W.contents out.old) (W.contents out.new)) result }
+    ensures outcome { Lent scenario.now
+        (Keeps (W.contents out.old) (W.contents out.new))
+        (Drives version edges (W.contents out.old) (W.contents out.new))
+        result }
     ensures safe { OnOk result (DrivesSafely scenario.now version edges) }
 {
     let plan = plan_of(alloc, scenario)?;

@@ -2,9 +2,9 @@
 ghost use Rattle.std.specs.Prelude.{◌≡◌, ◌≢◌, ◌+◌, ◌<◌, ◌≤◌, ◌++◌, ◌∷◌, ℕ, List, [], length, take, drop, Some, None, Ok, Err, OnOk, OnErr};
 ghost use Rattle.vme_model.specs.Text.{header};
 ghost use Rattle.vme_trace.specs.Reading.{HasRead};
-ghost use Rattle.vme_engines.specs.Streams.{streams};
+ghost use Rattle.vme_engines.specs.Streams.{streams_of};
 ghost use Rattle.vme_engines.specs.Joining.{Joins};
-ghost use Rattle.vme_engines.specs.Front.{IsHeld, IsFront, IsTextOf, Takes, Finds, Starts, JoinsBehind};
+ghost use Rattle.vme_engines.specs.Front.{header_line, IsHeld, IsFront, IsTextOf, Takes, Finds, Starts, JoinsBehind};
 
 use crate::pieces::read_on;
 use crate::plans::{history_region, history_room, plan_of};
@@ -52,7 +52,9 @@ impl Front {
     /// Holds a byte, unless enough are held.
     fn hold(&mut self, byte: u8) -> Result<(), AllocError>
         ensures line { self.new.line ≡ self.old.line }
-        ensures held { OnOk result ((bytes : List ℕ) → IsHeld self.old.held.items bytes → IsHeld self.new.held.items (bytes ++ byte ∷ [])) }
+        ensures held { OnOk result ((bytes : List ℕ)
+            → IsHeld self.old.held.items bytes
+            → IsHeld self.new.held.items (bytes ++ byte ∷ [])) }
     {
         if self.held.len() < HELD {
             self.held.push(byte)?;
@@ -63,7 +65,8 @@ impl Front {
     /// Follows the line by a byte that does not end it.
     fn follow(&mut self, byte: u8)
         ensures held { self.new.held ≡ self.old.held }
-        ensures line { (part : List ℕ) → self.old.line.items ≡ take 6 part → self.new.line.items ≡ take 6 (part ++ byte ∷ []) }
+        ensures line { (part : List ℕ) → self.old.line.items ≡ take 6 part
+            → self.new.line.items ≡ take 6 (part ++ byte ∷ []) }
     {
         if !self.line.is_full() {
             self.line.push(byte);
@@ -90,7 +93,8 @@ impl Front {
 
     /// Takes the bytes of a piece, up to the end of a header line.
     fn find(&mut self, piece: &[u8]) -> Result<Option<Found>, AllocError>
-        ensures { (bytes : List ℕ) → IsFront self.old bytes → Finds bytes piece.now self.new result }
+        ensures { (bytes : List ℕ) → IsFront self.old bytes
+            → Finds bytes piece.now self.new result }
     {
         for (place, byte) in piece.iter().enumerate() {
             match self.take(*byte)? {
@@ -106,7 +110,8 @@ impl Front {
 
     /// The text before the header line that was found.
     fn into_text(self) -> Vec<u8>
-        ensures { (before : List ℕ) (version : Version) → IsHeld self.held.items (before ++ header version) → IsTextOf before result.items }
+        ensures { (before : List ℕ) (version : Version)
+            → IsHeld self.held.items (before ++ header version) → IsTextOf before result.items }
     {
         let mut text = self.held;
         text.truncate(text.len().saturating_sub(5));
@@ -133,7 +138,7 @@ fn start(
     requires reader { HasRead reader.old [] [] }
     requires empty { edges.old.items ≡ [] }
     ensures version { reader.new.version ≡ Some version }
-    ensures starts { Starts ((header version ++ 10 ∷ []) ++ rest.now) reader.new edges.new.items result }
+    ensures starts { Starts (header_line version ++ rest.now) reader.new edges.new.items result }
 {
     reader.feed(header_line(version), edges)?;
     reader.feed(rest, edges)?;
@@ -152,7 +157,9 @@ fn replay_behind<R: Read, W: Write>(
 ) -> Result<Status, EngineFault>
     requires rest { length rest.now ≤ 512 }
     requires reads { reads < 16777216 }
-    ensures { JoinsBehind front version rest.now (R.remaining input.old) (R.remaining input.new) (W.contents out.old) (W.contents out.new) result }
+    ensures { JoinsBehind front version rest.now
+        (R.remaining input.old) (R.remaining input.new)
+        (W.contents out.old) (W.contents out.new) result }
 {
     let text = front.into_text();
     let plan = plan_of(alloc, &text)?;
@@ -185,7 +192,7 @@ pub fn joined<R: Read, W: Write>(
     input: &mut R,
     out: &mut W,
 ) -> Result<Status, EngineFault>
-    ensures { Joins (streams (R.remaining input.old) (R.remaining input.new) (W.contents out.old) (W.contents out.new)) result }
+    ensures { Joins (streams_of R.remaining input W.contents out) result }
 {
     let mut front = Front::new(alloc);
     let mut buffer = [0u8; 512];

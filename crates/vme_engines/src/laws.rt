@@ -12,6 +12,7 @@ ghost use Rattle.vme_engines.specs.Checking.{IsLegalTrace};
 
 /// The trace of a legal list is what `check` calls legal. Such lists are what `drive` and `run` write.
 pub fn the_trace_of_a_legal_list_is_legal()
-    ensures { (plan : Plan) (version : Version) (history : List Edge) → IsAccepted plan → IsLegal version plan history
-        → length history ≤ trace_limit → IsLegalTrace plan (read_of (text version (in_order history))) }
+    ensures { (plan : Plan) (version : Version) (history : List Edge)
+        → IsAccepted plan → IsLegal version plan history → length history ≤ trace_limit
+        → IsLegalTrace plan (read_of (text version (in_order history))) }
 {}

@@ -160,8 +160,12 @@ pub(crate) fn write_verdicts<W: Write>(
 ) -> Result<(), Fault>
     requires { judged + length edges.now < 2 ^ 64 }
     ensures state { OnOk result (backplane.new ≡ kept backplane.old edges.now) }
-    ensures ok { OnOk result (Appends (W.contents out.old) (W.contents out.new) (verdict_lines backplane.old (judged + 1) edges.now)) }
-    ensures front { OnErr result (AppendsFront (W.contents out.old) (W.contents out.new) (verdict_lines backplane.old (judged + 1) edges.now)) }
+    ensures ok { OnOk result
+        (Appends (W.contents out.old) (W.contents out.new)
+        (verdict_lines backplane.old (judged + 1) edges.now)) }
+    ensures front { OnErr result
+        (AppendsFront (W.contents out.old) (W.contents out.new)
+        (verdict_lines backplane.old (judged + 1) edges.now)) }
     ensures fault { IfErr result (λ fault. fault ≡ Fault.Write) }
 {
     let mut count = Count::new(judged);
@@ -176,8 +180,10 @@ pub(crate) fn write_verdicts<W: Write>(
 
 /// Writes the closing line of a report, and has the writer hand on what it holds back.
 pub(crate) fn close<W: Write>(accepted: u64, refused: u64, out: &mut W) -> Result<(), Fault>
-    ensures ok { OnOk result (Appends (W.contents out.old) (W.contents out.new) (closing_text accepted refused)) }
-    ensures front { OnErr result (AppendsFront (W.contents out.old) (W.contents out.new) (closing_text accepted refused)) }
+    ensures ok { OnOk result
+        (Appends (W.contents out.old) (W.contents out.new) (closing_text accepted refused)) }
+    ensures front { OnErr result
+        (AppendsFront (W.contents out.old) (W.contents out.new) (closing_text accepted refused)) }
     ensures fault { IfErr result (λ fault. fault ≡ Fault.Write) }
 {
     put(out, closing_line(accepted, refused).as_slice())?;
@@ -186,8 +192,10 @@ pub(crate) fn close<W: Write>(accepted: u64, refused: u64, out: &mut W) -> Resul
 
 /// Writes the line of a finding, and has the writer hand on what it holds back.
 pub(crate) fn write_finding<W: Write>(finding: Finding, out: &mut W) -> Result<(), Fault>
-    ensures ok { OnOk result (Appends (W.contents out.old) (W.contents out.new) (finding_line finding)) }
-    ensures front { OnErr result (AppendsFront (W.contents out.old) (W.contents out.new) (finding_line finding)) }
+    ensures ok { OnOk result
+        (Appends (W.contents out.old) (W.contents out.new) (finding_line finding)) }
+    ensures front { OnErr result
+        (AppendsFront (W.contents out.old) (W.contents out.new) (finding_line finding)) }
     ensures fault { IfErr result (λ fault. fault ≡ Fault.Write) }
 {
     put(out, finding_line(finding).as_slice())?;

@@ -19,7 +19,8 @@ pub(crate) trait Judge {
 
     /// What it did with the edges since it began, where the last read answered so: what the writer held and holds, what
     /// became of it, and its answer.
-    ghost takes: { Self → List Edge → Result Bool Fault → Option (List ℕ) → Option (List ℕ) → Self → Result (Option Self.Answer) Fault → Type 0 };
+    ghost takes: { Self → List Edge → Result Bool Fault → Option (List ℕ) → Option (List ℕ)
+        → Self → Result (Option Self.Answer) Fault → Type 0 };
 
     /// Takes the edges of a piece. None where it has no answer yet, and the trace goes on.
     ///
@@ -31,14 +32,18 @@ pub(crate) trait Judge {
         out: &mut W,
     ) -> Result<Option<Self::Answer>, Fault>
         requires { count self.old + length edges.now < 2 ^ 64 }
-        ensures { (first : Self) (es : List Edge) (old : Option (List ℕ)) → takes first es (Ok true) old (W.contents out.old) self.old (Ok None)
+        ensures { (first : Self) (es : List Edge) (old : Option (List ℕ))
+            → takes first es (Ok true) old (W.contents out.old) self.old (Ok None)
             → takes first (es ++ edges.now) more old (W.contents out.new) self.new result };
 
     /// At its beginning it has taken nothing and written nothing.
-    ghost begins: { (first : Self) (old : Option (List ℕ)) → takes first [] (Ok true) old old first (Ok None) };
+    ghost begins: { (first : Self) (old : Option (List ℕ))
+        → takes first [] (Ok true) old old first (Ok None) };
 
     /// It has no answer only where the trace goes on, and then it has counted all edges.
-    ghost goes_on: { (first : Self) (es : List Edge) (more : Result Bool Fault) (old new : Option (List ℕ)) (now : Self) → takes first es more old new now (Ok None)
+    ghost goes_on: { (first : Self) (es : List Edge) (more : Result Bool Fault)
+        (old new : Option (List ℕ)) (now : Self)
+        → takes first es more old new now (Ok None)
         → (more ≡ Ok true) × (count now ≡ count first + length es) };
 }
 
@@ -54,7 +59,9 @@ pub(crate) fn read_on<J: Judge, R: Read, W: Write>(
 ) -> Result<J::Answer, Fault>
     requires counted { first ≡ Ok true → IsCounted reader.old reads (length edges.old.items) }
     requires begun { J.count judge.old ≡ 0 }
-    ensures { ReadsOn (J.takes judge.old) reader.old edges.old.items first reads (R.remaining input.old) (R.remaining input.new) (W.contents out.old) (W.contents out.new) result }
+    ensures { ReadsOn (J.takes judge.old) reader.old edges.old.items first reads
+        (R.remaining input.old) (R.remaining input.new)
+        (W.contents out.old) (W.contents out.new) result }
 {
     match judge.take(edges, first, out)? {
         Some(answer) => return Ok(answer),

@@ -18,7 +18,8 @@ use vme_slots::Plan;
 ///
 /// Errors: F2 where the text has more than 1,048,576 bytes, else the first fault of the scenario.
 pub fn plan_of(alloc: Global, text: &[u8]) -> Result<Plan, EngineFault>
-    ensures ok { IfOk result (λ p. (length text.now ≤ scenario_limit) × (scenario text.now ≡ Ok p)) }
+    ensures ok { IfOk result
+        (λ p. (length text.now ≤ scenario_limit) × (scenario text.now ≡ Ok p)) }
     ensures fault { IfErr result (IsNoPlan text.now) }
 {
     if text.len() > SCENARIO_LIMIT {

@@ -3,7 +3,7 @@ ghost use Rattle.std.specs.Prelude.{◌≡◌, ◌+◌, ◌<◌, ◌^◌, length
 ghost use Rattle.std.proofs.Common.{arith};
 ghost use Rattle.std.proofs.KnownBytes.{Appends-nil};
 ghost use Rattle.vme_model.specs.Report.{trace_limit};
-ghost use Rattle.vme_engines.specs.Streams.{streams, ReadNothing, WroteNothing};
+ghost use Rattle.vme_engines.specs.Streams.{streams_of, ReadNothing, WroteNothing};
 ghost use Rattle.vme_engines.specs.Outcomes.{Lent, ReplaysInput, status_with};
 ghost use Rattle.vme_engines.specs.Steps.{TakesPiece, traced};
 
@@ -41,7 +41,8 @@ fn take_piece<W: Write>(
     out: &mut W,
 ) -> Result<Option<Status>, Fault>
     requires { judged.old + length edges.now < 2 ^ 64 }
-    ensures { TakesPiece backplane.old judged.old edges.now more (W.contents out.old) (W.contents out.new) backplane.new judged.new result }
+    ensures { TakesPiece backplane.old judged.old edges.now more
+        (W.contents out.old) (W.contents out.new) backplane.new judged.new result }
 {
     write_verdicts(backplane, *judged, edges, out)?;
     *judged += edges.len() as u64;
@@ -86,7 +87,8 @@ impl Judge for Replaying<'_> {
 
     ghost count = { λ now. now.judged };
 
-    ghost takes = { λ first es more old new now answer. TakesPiece first.backplane first.judged es more old new now.backplane now.judged answer };
+    ghost takes = { λ first es more old new now answer.
+        TakesPiece first.backplane first.judged es more old new now.backplane now.judged answer };
 
     fn take<W: Write>(
         &mut self,
@@ -111,7 +113,7 @@ fn replay_trace<R: Read, W: Write>(
     out: &mut W,
 ) -> Result<Status, Fault>
     requires { room ≡ trace_limit }
-    ensures { ReplaysInput (streams (R.remaining trace.old) (R.remaining trace.new) (W.contents out.old) (W.contents out.new)) plan (traced result) }
+    ensures { ReplaysInput (streams_of R.remaining trace W.contents out) plan (traced result) }
 {
     let mut reader = Reader::new();
     let mut edges = Vec::new(alloc);
@@ -149,7 +151,7 @@ pub fn replay<R: Read, W: Write>(
     trace: &mut R,
     out: &mut W,
 ) -> Result<Status, EngineFault>
-    ensures { let s = streams (R.remaining trace.old) (R.remaining trace.new) (W.contents out.old) (W.contents out.new) in
+    ensures { let s = streams_of R.remaining trace W.contents out in
         Lent scenario.now (ReadNothing s × WroteNothing s) (ReplaysInput s) result }
 {
     let plan = plan_of(alloc, scenario)?;

@@ -18,7 +18,8 @@ pub(crate) fn open<R: Read>(
 ) -> (Result<bool, Fault>, u32)
     requires reader { HasRead reader.old [] [] }
     requires empty { edges.old.items ≡ [] }
-    ensures { Opens (R.remaining input.old) (R.remaining input.new) reader.new edges.new.items result }
+    ensures { Opens (R.remaining input.old) (R.remaining input.new)
+        reader.new edges.new.items result }
 {
     'reads: for done in 0..READS {
         let more = pump(reader, input, edges);

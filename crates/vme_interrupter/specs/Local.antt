@@ -1,4 +1,5 @@
--- An interrupter's local state, and what its rules read. A list of noted edges has its newest edge first.
+-- An interrupter's local state, and what its rules read. A list of noted edges has its newest edge
+-- first.
 use Rattle.std.specs.Prelude.{◌≡◌, ◌==◌, ◌&&◌, ◌||◌, if◌then◌else◌, ℕ, Bool, true, false, Option, Some, None, List, [], ◌∷◌, map}
 use Rattle.std.specs.Option.{option_map_or, option_and_then}
 use Rattle.vme_model.specs.declared.boards.InterrupterRow.{InterrupterRow}
@@ -33,7 +34,8 @@ served (n ∷ noted) d row =
     if is_fall_of d Irq n.0 then false
     else (is_fall_of d Dtack n.0 && serves_board row n.1) || served noted d row
 
--- what an interrupter keeps: where it stands, which of its wires are low, and whether its request was served
+-- what an interrupter keeps: where it stands, which of its wires are low, and whether its request
+-- was served
 pub record State : Type 0 where
   pub slot : ℕ
   pub row : Option InterrupterRow
@@ -81,7 +83,8 @@ local i pins = readings i.slot i.row (low i) i.is_served pins
 
 -- what its rules read, over the edges that were noted
 abbrev pub over : ℕ → Option InterrupterRow → List Noted → Pins → Readings
-over s row noted pins = readings s row (drive (edges noted) (Slot s)) (served noted (Slot s) row) pins
+over s row noted pins =
+    readings s row (drive (edges noted) (Slot s)) (served noted (Slot s) row) pins
 
 -- readings that say what an interrupter is told, whatever they say of all else
 pub record SayWhatIsTold (s : ℕ) (row : Option InterrupterRow) (own : Wire → Bool)

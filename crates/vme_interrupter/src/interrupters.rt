@@ -39,9 +39,23 @@ impl Model for Interrupter {
 
     ghost Value = { State };
 
-    ghost view = { λ i. record { slot = i.slot; row = i.row; irq = i.irq; iackout = i.iackout; dtack = i.dtack; is_served = i.is_served } };
+    ghost view = { λ i. record {
+      slot = i.slot;
+      row = i.row;
+      irq = i.irq;
+      iackout = i.iackout;
+      dtack = i.dtack;
+      is_served = i.is_served;
+    } };
 
-    ghost inverse = { λ s. record { slot = s.slot; row = s.row; irq = s.irq; iackout = s.iackout; dtack = s.dtack; is_served = s.is_served } };
+    ghost inverse = { λ s. record {
+      slot = s.slot;
+      row = s.row;
+      irq = s.irq;
+      iackout = s.iackout;
+      dtack = s.dtack;
+      is_served = s.is_served;
+    } };
 }
 
 /// Whether an answer while this is shown serves an interrupter of the kind: ROAK an acknowledge, RORA an access.
@@ -150,10 +164,12 @@ impl Interrupter {
     /// The rule that names an edge of its acknowledge out, and what its guard answers (G23, G24).
     #[inline(always)]
     fn pass_rule<A: Outcome>(&self, fall: bool, pins: &Pins, iack_in: bool) -> (u8, A)
-        ensures number { (value : OptionValue CycleValue) → result.0 ≡
-            (guard One (local self.now (record pins.now { iack_in = iack_in })) Wire.IackOut fall value).0 }
+        ensures number { (value : OptionValue CycleValue) → result.0
+            ≡ (guard One (local self.now (record pins.now { iack_in = iack_in }))
+            Wire.IackOut fall value).0 }
         ensures answer { (value : OptionValue CycleValue) → A.tells result.1
-            (guard One (local self.now (record pins.now { iack_in = iack_in })) Wire.IackOut fall value).1 }
+            (guard One (local self.now (record pins.now { iack_in = iack_in }))
+            Wire.IackOut fall value).1 }
     {
         if !fall {
             return (24, iackout_rises(pins.address_strobe));
@@ -166,10 +182,12 @@ impl Interrupter {
     /// The rule that names an edge of its data transfer acknowledge, and what its guard answers (G25, G26).
     #[inline(always)]
     fn answer_rule<A: Outcome>(&self, fall: bool, pins: &Pins, iack_in: bool) -> (u8, A)
-        ensures number { (value : OptionValue CycleValue) → result.0 ≡
-            (guard One (local self.now (record pins.now { iack_in = iack_in })) Wire.Dtack fall value).0 }
+        ensures number { (value : OptionValue CycleValue) → result.0
+            ≡ (guard One (local self.now (record pins.now { iack_in = iack_in }))
+            Wire.Dtack fall value).0 }
         ensures answer { (value : OptionValue CycleValue) → A.tells result.1
-            (guard One (local self.now (record pins.now { iack_in = iack_in })) Wire.Dtack fall value).1 }
+            (guard One (local self.now (record pins.now { iack_in = iack_in }))
+            Wire.Dtack fall value).1 }
     {
         if !fall {
             return (26, dtack_rises(pins.data_strobe));
@@ -204,8 +222,9 @@ impl Interrupter {
     /// As for `may`.
     #[inline(always)]
     pub fn may_pass(&self, fall: bool, pins: &Pins, iack_in: bool) -> Result<(), Refused>
-        ensures { (value : OptionValue CycleValue) → result ≡
-            ruling_on One (local self.now (record pins.now { iack_in = iack_in })) Wire.IackOut fall value }
+        ensures { (value : OptionValue CycleValue) → result
+            ≡ ruling_on One (local self.now (record pins.now { iack_in = iack_in }))
+            Wire.IackOut fall value }
     {
         if self.iackout == fall {
             return Err(Refused::AlreadyThere);
@@ -220,8 +239,9 @@ impl Interrupter {
     /// As for `may`.
     #[inline(always)]
     pub fn may_answer(&self, fall: bool, pins: &Pins, iack_in: bool) -> Result<(), Refused>
-        ensures { (value : OptionValue CycleValue) → result ≡
-            ruling_on One (local self.now (record pins.now { iack_in = iack_in })) Wire.Dtack fall value }
+        ensures { (value : OptionValue CycleValue) → result
+            ≡ ruling_on One (local self.now (record pins.now { iack_in = iack_in }))
+            Wire.Dtack fall value }
     {
         if self.dtack == fall {
             return Err(Refused::AlreadyThere);

@@ -34,8 +34,8 @@ OnTrace Ends old new answer = (text : List ℕ) × (from : Known) × (to : Known
     × (let s = streams from to old new in
     Lent text (ReadNothing s × WroteNothing s) (Ends s) answer)
 
--- What the engine of a job does, by what the output held and holds, on some text of a scenario, and some input that had
--- these bytes left and has those: no clause can say what a file gives.
+-- What the engine of a job does, by what the output held and holds, on some text of a scenario, and
+-- some input that had these bytes left and has those: no clause can say what a file gives.
 abbrev pub Does : Job → Known → Known → Result Status RunFault → Type 0
 Does Joined old new =
     Alone (λ answer. (from : Known) × (to : Known) × Joins (streams from to old new) answer)
@@ -46,8 +46,8 @@ Does (Drive scenario edges version) old new = Alone (λ answer.
 Does (Run scenario edges turns version) old new = λ answer.
     (text : List ℕ) × Runs text version edges turns old new answer
 
--- The answer is an engine's; or a file could not be read, or there was no memory for what the engine is handed, and nothing
--- was written.
+-- The answer is an engine's; or a file could not be read, or there was no memory for what the
+-- engine is handed, and nothing was written.
 abbrev pub Hands :
     (Result Status RunFault → Type 0) → Type 0 → Result Status ProgramFault → Type 0
 Hands Ends nothing (Ok status) = Ends (Ok status)
@@ -61,13 +61,14 @@ Hands Ends nothing (Err (Boards f)) = Ends (Err f)
 abbrev pub IsDone : Job → Known → Known → Result Status ProgramFault → Type 0
 IsDone job old new result = Hands (Does job old new) (Keeps old new) result
 
--- What the output is at a fault: nothing was written, or a job that the words ask for ended with it.
+-- What the output is at a fault: nothing was written, or a job that the words ask for ended with
+-- it.
 abbrev pub HasFailed : List (List ℕ) → Known → Known → Type 0
 HasFailed words old new = Keeps old new
     ⊎ ((job : Job) × (f : ProgramFault) × Ask words job × IsDone job old new (Err f))
 
--- What the program comes to, by the words, its output and its exit status: a job that the words ask for is done without a
--- fault, and the status is the engine's; or there was a fault, and it is 1.
+-- What the program comes to, by the words, its output and its exit status: a job that the words ask
+-- for is done without a fault, and the status is the engine's; or there was a fault, and it is 1.
 abbrev pub IsObeyed : List (List ℕ) → Known → Known → ℕ → Type 0
 IsObeyed words old new code =
     ((job : Job) × (status : Status) × Ask words job

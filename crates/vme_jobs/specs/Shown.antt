@@ -1,4 +1,5 @@
--- How a fault shows a character: as it is, but that a control character stands as in a string of TOML, so that a fault is one line.
+-- How a fault shows a character: as it is, but that a control character stands as in a string of
+-- TOML, so that a fault is one line.
 use Rattle.std.specs.Prelude.{ℕ, ◌+◌, ◌/◌, ◌%◌, ◌==◌, nat_lt, if◌then◌else◌, List, [], ◌∷◌, ◌++◌, codes, encode_utf8}
 use Rattle.std.specs.Char.{is_control}
 

@@ -14,7 +14,8 @@ use Rattle.vme_model.specs.Sets.{has_level}
 use Rattle.vme_model.specs.History.{drive, cycles, has_strobed}
 use Rattle.vme_model.specs.Readings.{Readings, readings_of_pins}
 
--- what a master keeps: where it stands, which of its wires are low (the address group: on), its cycles, and its data strobe
+-- what a master keeps: where it stands, which of its wires are low (the address group: on), its
+-- cycles, and its data strobe
 pub record State : Type 0 where
   pub slot : ℕ
   pub row : RequesterRow
@@ -64,7 +65,8 @@ abbrev pub told : (Wire → Bool) → Bool → Wire → Bool
 told own holds_bus Bbsy = holds_bus
 told own holds_bus w = own w
 
--- what its rules read: its own wires, its pins, its board, its cycles, its data strobe, and what it is told
+-- what its rules read: its own wires, its pins, its board, its cycles, its data strobe, and what it
+-- is told
 abbrev pub readings : ℕ → RequesterRow → Levels → (Wire → Bool) → ℕ → Bool → Pins → Bool → Readings
 readings s row handler own cycles has_strobed pins holds_bus = record (readings_of_pins pins) {
   own = told own holds_bus;

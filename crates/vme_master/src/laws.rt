@@ -13,11 +13,12 @@ ghost use Rattle.vme_master.specs.Local.{is_own, readings, SayWhatIsTold};
 /// Whatever readings say what a master is told have the same answer: its rules read its own wires and cycles, the
 /// interrupt lines, AS*, DTACK* and BERR*, its row, its handler and whether its board holds the bus, and nothing else.
 pub fn reads_what_it_is_told()
-    ensures { (version : Version) (s : ℕ) (row : RequesterRow) (handler : Levels) (own : Wire → Bool)
-        (cycles : ℕ) (has_strobed : Bool) (pins : Pins) (holds_bus : Bool) (r : Readings) (w : Wire)
-        (fall : Bool) (value : Option Cycle) →
+    ensures { (version : Version) (s : ℕ) (row : RequesterRow) (handler : Levels)
+        (own : Wire → Bool) (cycles : ℕ) (has_strobed : Bool) (pins : Pins) (holds_bus : Bool)
+        (r : Readings) (w : Wire) (fall : Bool) (value : Option Cycle) →
         SayWhatIsTold row handler own cycles has_strobed pins holds_bus r →
         is_own w ≡ true →
-        ruling_on version (readings s row handler own cycles has_strobed pins holds_bus) w fall value
+        ruling_on version (readings s row handler own cycles has_strobed pins holds_bus)
+        w fall value
         ≡ ruling_on version r w fall value }
 {}

@@ -39,9 +39,27 @@ impl Model for Master {
 
     ghost Value = { State };
 
-    ghost view = { λ m. record { slot = m.slot; row = m.row; handler = m.handler; addr = m.addr; address_strobe = m.address_strobe; data_strobe = m.data_strobe; cycles = m.cycles; has_strobed = m.has_strobed } };
+    ghost view = { λ m. record {
+      slot = m.slot;
+      row = m.row;
+      handler = m.handler;
+      addr = m.addr;
+      address_strobe = m.address_strobe;
+      data_strobe = m.data_strobe;
+      cycles = m.cycles;
+      has_strobed = m.has_strobed;
+    } };
 
-    ghost inverse = { λ s. record { slot = s.slot; row = s.row; handler = s.handler; addr = s.addr; address_strobe = s.address_strobe; data_strobe = s.data_strobe; cycles = s.cycles; has_strobed = s.has_strobed } };
+    ghost inverse = { λ s. record {
+      slot = s.slot;
+      row = s.row;
+      handler = s.handler;
+      addr = s.addr;
+      address_strobe = s.address_strobe;
+      data_strobe = s.data_strobe;
+      cycles = s.cycles;
+      has_strobed = s.has_strobed;
+    } };
 }
 
 impl Master {

@@ -1,3 +1,6 @@
-pub mod Each
+-- the tables of an array, read one after another: `arrays::boards`, `arrays::jumpers`
+pub mod ArrayTables
+-- paths of keys, and the faults at them: `errors::part_path`, `errors::error_of`
 pub mod Paths
-pub mod Texts
+-- texts that are too deep or no UTF-8, and the others: `scenario::document`
+pub mod Documents

@@ -1,5 +1,11 @@
 -- What the faults that borrow the text stand for, and the draft of a plan.
-use Rattle.std.specs.Prelude.{◌≡◌, ⊤, ℕ, List, Result, Ok, Err, codes, decimal}
+use Rattle.std.specs.Prelude.{◌≡◌, ⊤, ℕ, List, map, Result, Ok, Err, String, codes, decimal}
+use Rattle.std.specs.Borrow.{Bor}
+use Rattle.std.specs.BTreeMap.{BTreeMap}
+use Rattle.std.specs.declared.alloc.Global.{Global}
+use Rattle.toml.specs.Data.{Members}
+use Rattle.toml.specs.View.{table_view}
+use Rattle.toml.specs.declared.value.Value.{Value}
 use Rattle.vme_model.specs.Plan.{Plan}
 use Rattle.vme_scenario.specs.declared.faults.KeyFault.{KeyFault}
 use Rattle.vme_scenario.specs.declared.faults.KeyFault.TheVariants as key_fault
@@ -52,10 +58,25 @@ IsFaultOf r (text_fault.Board n f) = r ≡ Err (below (path (codes "board") (dec
 IsFaultOf r (text_fault.Jumper n f) = r ≡ Err (below (path (codes "jumper") (decimal n)) (at_key f))
 IsFaultOf r text_fault.Memory = ⊤
 
+-- what borrowed tables say, one after another
+abbrev pub table_views : List (Bor (BTreeMap (String Global) Value)) → List Members
+table_views tables = map (λ t. table_view t.now) tables
+
 -- the plan that is to be judged
 abbrev pub drafted : Draft → Plan
-drafted d = record { slots = d.slots; rows = d.rows.items; jumpers = d.jumpers.items; arbiter = d.arbiter }
+drafted d = record {
+  slots = d.slots;
+  rows = d.rows.items;
+  jumpers = d.jumpers.items;
+  arbiter = d.arbiter;
+}
 
 -- a place of a text
 abbrev pub placed : Place → depth.Place
-placed p = record { mode = p.mode; keyed = p.keyed; here = p.here; held = p.held; outer = p.outer.items }
+placed p = record {
+  mode = p.mode;
+  keyed = p.keyed;
+  here = p.here;
+  held = p.held;
+  outer = p.outer.items;
+}

@@ -1,5 +1,6 @@
--- How deep the tables and arrays of a text go, told byte by byte: each bracket or brace that is open is one deeper, and so is
--- each dot of a key, also of the keys of the tables around it, up to the last header's.
+-- How deep the tables and arrays of a text go, told byte by byte: each bracket or brace that is
+-- open is one deeper, and so is each dot of a key, also of the keys of the tables around it, up to
+-- the last header's.
 use Rattle.std.specs.Prelude.{ℕ, ◌+◌, Bool, true, false, ◌&&◌, ◌||◌, ◌==◌, nat_le, if◌then◌else◌, List, [], ◌∷◌, length}
 use Rattle.vme_scenario.specs.declared.depth.Mode.{Mode}
 use Rattle.vme_scenario.specs.declared.depth.Mode.TheVariants.{Plain, Comment, Opened, Doubled, Short, ShortEscape, Long, LongEscape}
@@ -41,8 +42,8 @@ left_brace = 123
 abbrev right_brace : ℕ
 right_brace = 125
 
--- Where the next byte stands: whether its line has a `=` yet; how deep it is, and how deep the table or array that it stands in;
--- and how deep are those around that one, from the inside out.
+-- Where the next byte stands: whether its line has a `=` yet; how deep it is, and how deep the
+-- table or array that it stands in; and how deep are those around that one, from the inside out.
 pub record Place : Type 0 where
   pub mode : Mode
   pub keyed : Bool
@@ -107,7 +108,8 @@ outside p c = structured (record p { mode = mode_behind c }) c
 
 -- after a byte in a string between such delimiters, on one line
 abbrev pub in_short : ℕ → ℕ → Mode
-in_short d c = if c == d then Plain else if c == backslash && d == quote then ShortEscape else Short d
+in_short d c =
+    if c == d then Plain else if c == backslash && d == quote then ShortEscape else Short d
 
 -- after a byte in a string over several lines that is no delimiter
 abbrev pub in_long : ℕ → ℕ → Mode

@@ -6,7 +6,8 @@ use Rattle.vme_scenario.specs.declared.errors.ScenarioError.{ScenarioError}
 use Rattle.vme_scenario.specs.declared.errors.ScenarioError.TheVariants as error
 use Rattle.vme_scenario.specs.Faults.{Fault, not_toml, unknown, missing, bad, plan}
 
--- the error is what is wrong; want of memory says nothing, but where the plan found none the scenario is right
+-- the error is what is wrong; want of memory says nothing, but where the plan found none the
+-- scenario is right
 abbrev pub IsErrorOf : Result Plan Fault → ScenarioError → Type 0
 IsErrorOf r error.NotToml = r ≡ Err not_toml
 IsErrorOf r (error.UnknownKey key) = r ≡ Err (unknown (string_bytes key))

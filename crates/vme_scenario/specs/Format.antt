@@ -19,7 +19,8 @@ use Rattle.vme_scenario.specs.Values.{document, byte, arbiter, interrupter_kind,
 -- no key but these: members ascend, so an unknown one that is named is the least by bytes
 abbrev pub only : List (List ℕ) → Members → Result (Unit {0}) Fault
 only keys no_members = Ok tt
-only keys (member key d ms) = if list_any (bytes_eq key) keys then only keys ms else Err (unknown key)
+only keys (member key d ms) =
+    if list_any (bytes_eq key) keys then only keys ms else Err (unknown key)
 
 -- what a key's value says
 abbrev pub valued : {A : Type 0} → List ℕ → Option A → Result A Fault
@@ -45,17 +46,23 @@ abbrev pub optional : {A : Type 0} → A → List ℕ → (Data → Option A) �
 optional absent key read ms = given_or absent key read (get_member key ms)
 
 -- what a table at a key says; another value is bad
-abbrev pub inside : {A : Type 0} → List ℕ → (Members → Result A Fault) → Option Members → Result (Option A) Fault
+abbrev pub inside :
+    {A : Type 0} → List ℕ → (Members → Result A Fault) → Option Members
+    → Result (Option A) Fault
 inside key read (Some ms) = within key (read ms) >>= λ a. Ok (Some a)
 inside key read None = Err (bad key)
 
 -- a table that may be absent
-abbrev pub given_part : {A : Type 0} → List ℕ → (Members → Result A Fault) → Option Data → Result (Option A) Fault
+abbrev pub given_part :
+    {A : Type 0} → List ℕ → (Members → Result A Fault) → Option Data
+    → Result (Option A) Fault
 given_part key read (Some d) = inside key read (as_table d)
 given_part key read None = Ok None
 
 -- the same, looked up in a table
-abbrev pub part : {A : Type 0} → List ℕ → (Members → Result A Fault) → Members → Result (Option A) Fault
+abbrev pub part :
+    {A : Type 0} → List ℕ → (Members → Result A Fault) → Members
+    → Result (Option A) Fault
 part key read ms = given_part key read (get_member key ms)
 
 -- the keys of a requester that releases the bus when done, and of one that releases it on request
@@ -105,10 +112,13 @@ jumper ms = do
   Ok (record { slot = slot; chains = chains })
 
 -- the tables of an array, numbered from n
-abbrev pub each : {A : Type 0} → List ℕ → (Members → Result A Fault) → ℕ → List Members → Result (List A) Fault
+abbrev pub each :
+    {A : Type 0} → List ℕ → (Members → Result A Fault) → ℕ → List Members
+    → Result (List A) Fault
 each key read n [] = Ok []
 each key read n (ms ∷ rest) =
-    within (path key (decimal n)) (read ms) >>= λ first. (each key read (suc n) rest >>= λ others. Ok (first ∷ others))
+    within (path key (decimal n)) (read ms) >>= λ first.
+    (each key read (suc n) rest >>= λ others. Ok (first ∷ others))
 
 -- a plan with no fault, or its first fault
 abbrev pub accepted_or : Plan → Option PlanError → Result Plan Fault

@@ -31,7 +31,8 @@ byte d = option_and_then (between 0 255) (as_integer d)
 -- what a word means, of those that there are
 abbrev pub meaning : {A : Type 0} → List (List ℕ × A) → List ℕ → Option A
 meaning [] word = None
-meaning (entry ∷ entries) word = if bytes_eq word entry.0 then Some entry.1 else meaning entries word
+meaning (entry ∷ entries) word =
+    if bytes_eq word entry.0 then Some entry.1 else meaning entries word
 
 -- the same, of a value
 abbrev pub word_of : {A : Type 0} → List (List ℕ × A) → Data → Option A
@@ -76,7 +77,10 @@ levels d = option_map (fold with_level no_levels) (array_of level d)
 
 -- the words of the daisy chains
 abbrev pub chain : Data → Option ChainId
-chain = word_of ((codes "bg0", Bg0) ∷ (codes "bg1", Bg1) ∷ (codes "bg2", Bg2) ∷ (codes "bg3", Bg3) ∷ (codes "iack", Iack) ∷ [])
+chain =
+    word_of
+    ((codes "bg0", Bg0) ∷ (codes "bg1", Bg1) ∷ (codes "bg2", Bg2) ∷ (codes "bg3", Bg3)
+    ∷ (codes "iack", Iack) ∷ [])
 
 -- the set of an array's chains
 abbrev pub chains : Data → Option Chains

@@ -1,7 +1,7 @@
 //! Arrays of tables.
-ghost use Rattle.std.specs.Prelude.{◌≡◌, Some, Ok, IfOk, IfErr, [], map, option_map, codes};
+ghost use Rattle.std.specs.Prelude.{◌≡◌, Some, Ok, IfOk, IfErr, [], option_map, codes};
 ghost use Rattle.toml.specs.View.{view, table_view};
-ghost use Rattle.vme_scenario.specs.Borrowed.{IsFaultOf};
+ghost use Rattle.vme_scenario.specs.Borrowed.{IsFaultOf, table_views};
 ghost use Rattle.vme_scenario.specs.Format as format;
 ghost use Rattle.vme_scenario.specs.Values as values;
 
@@ -15,7 +15,8 @@ use vme_model::{Jumper, Row};
 
 /// The tables of an array; none where the value is no array of tables.
 fn tables<'a>(alloc: Global, value: &'a Value) -> Result<Option<Vec<&'a Table>>, AllocError>
-    ensures { IfOk result (λ ts. option_map (λ v. map (λ t. table_view t.now) v.items) ts ≡ values.tables (view value.now)) }
+    ensures { IfOk result
+        (λ ts. option_map (λ v. table_views v.items) ts ≡ values.tables (view value.now)) }
 {
     let Some(items) = value.as_array() else {
         return Ok(None);
@@ -35,8 +36,11 @@ pub(crate) fn board_tables<'a>(
     alloc: Global,
     table: &'a Table,
 ) -> Result<Vec<&'a Table>, TextFault<'a>>
-    ensures ok { IfOk result (λ v. format.needed (codes "board") values.tables (table_view table.now) ≡ Ok (map (λ t. table_view t.now) v.items)) }
-    ensures fault { IfErr result (IsFaultOf (format.needed (codes "board") values.tables (table_view table.now))) }
+    ensures ok { IfOk result
+        (λ v. format.needed (codes "board") values.tables (table_view table.now)
+        ≡ Ok (table_views v.items)) }
+    ensures fault { IfErr result
+        (IsFaultOf (format.needed (codes "board") values.tables (table_view table.now))) }
 {
     let value = needed_value(table, "board").map_err(TextFault::Top)?;
     tables(alloc, value)?.ok_or(TextFault::Top(KeyFault::Bad("board")))
@@ -47,8 +51,11 @@ pub(crate) fn jumper_tables<'a>(
     alloc: Global,
     table: &'a Table,
 ) -> Result<Vec<&'a Table>, TextFault<'a>>
-    ensures ok { IfOk result (λ v. format.optional [] (codes "jumper") values.tables (table_view table.now) ≡ Ok (map (λ t. table_view t.now) v.items)) }
-    ensures fault { IfErr result (IsFaultOf (format.optional [] (codes "jumper") values.tables (table_view table.now))) }
+    ensures ok { IfOk result
+        (λ v. format.optional [] (codes "jumper") values.tables (table_view table.now)
+        ≡ Ok (table_views v.items)) }
+    ensures fault { IfErr result
+        (IsFaultOf (format.optional [] (codes "jumper") values.tables (table_view table.now))) }
 {
     match value_at(table, "jumper") {
         None => Ok(Vec::new(alloc)),
@@ -58,8 +65,11 @@ pub(crate) fn jumper_tables<'a>(
 
 /// The boards of the tables, in order.
 pub(crate) fn boards<'a>(alloc: Global, tables: &[&'a Table]) -> Result<Vec<Row>, TextFault<'a>>
-    ensures ok { IfOk result (λ rows. format.each (codes "board") format.board 1 (map (λ t. table_view t.now) tables.now) ≡ Ok rows.items) }
-    ensures fault { IfErr result (IsFaultOf (format.each (codes "board") format.board 1 (map (λ t. table_view t.now) tables.now))) }
+    ensures ok { IfOk result
+        (λ rows. format.each (codes "board") format.board 1 (table_views tables.now)
+        ≡ Ok rows.items) }
+    ensures fault { IfErr result
+        (IsFaultOf (format.each (codes "board") format.board 1 (table_views tables.now))) }
 {
     let mut rows = Vec::with_capacity(alloc, tables.len())?;
     for (index, table) in tables.iter().enumerate() {
@@ -73,8 +83,11 @@ pub(crate) fn boards<'a>(alloc: Global, tables: &[&'a Table]) -> Result<Vec<Row>
 
 /// The jumpers of the tables, in order.
 pub(crate) fn jumpers<'a>(alloc: Global, tables: &[&'a Table]) -> Result<Vec<Jumper>, TextFault<'a>>
-    ensures ok { IfOk result (λ jumpers. format.each (codes "jumper") format.jumper 1 (map (λ t. table_view t.now) tables.now) ≡ Ok jumpers.items) }
-    ensures fault { IfErr result (IsFaultOf (format.each (codes "jumper") format.jumper 1 (map (λ t. table_view t.now) tables.now))) }
+    ensures ok { IfOk result
+        (λ jumpers. format.each (codes "jumper") format.jumper 1 (table_views tables.now)
+        ≡ Ok jumpers.items) }
+    ensures fault { IfErr result
+        (IsFaultOf (format.each (codes "jumper") format.jumper 1 (table_views tables.now))) }
 {
     let mut jumpers = Vec::with_capacity(alloc, tables.len())?;
     for (index, table) in tables.iter().enumerate() {

@@ -16,7 +16,8 @@ use toml::Table;
 use vme_model::{InterrupterRow, Levels, RequesterRow, Row};
 
 fn requester(table: &Table) -> Result<Option<RequesterRow>, BoardFault<'_>>
-    ensures { boarded result ≡ format.part (codes "requester") format.requester (table_view table.now) }
+    ensures { boarded result
+        ≡ format.part (codes "requester") format.requester (table_view table.now) }
 {
     match part_at(table, "requester").map_err(BoardFault::Board)? {
         None => Ok(None),
@@ -28,7 +29,8 @@ fn requester(table: &Table) -> Result<Option<RequesterRow>, BoardFault<'_>>
 }
 
 fn interrupter(table: &Table) -> Result<Option<InterrupterRow>, BoardFault<'_>>
-    ensures { boarded result ≡ format.part (codes "interrupter") format.interrupter (table_view table.now) }
+    ensures { boarded result
+        ≡ format.part (codes "interrupter") format.interrupter (table_view table.now) }
 {
     match part_at(table, "interrupter").map_err(BoardFault::Board)? {
         None => Ok(None),
@@ -40,7 +42,8 @@ fn interrupter(table: &Table) -> Result<Option<InterrupterRow>, BoardFault<'_>>
 }
 
 fn handler(table: &Table) -> Result<Levels, KeyFault<'_>>
-    ensures { keyed result ≡ format.optional no_levels (codes "handler") values.levels (table_view table.now) }
+    ensures { keyed result
+        ≡ format.optional no_levels (codes "handler") values.levels (table_view table.now) }
 {
     match value_at(table, "handler") {
         None => Ok(Levels::empty()),

@@ -46,7 +46,8 @@ fn key_of<'a>(fault: KeyFault<'a>) -> &'a str
 
 /// The error of a fault whose key has this path.
 fn at_path(fault: KeyFault<'_>, key: String) -> ScenarioError
-    ensures { (r : Result Plan Fault) → r ≡ Err (moved_to (string_bytes key) fault.entry) → IsErrorOf r result }
+    ensures { (r : Result Plan Fault) → r ≡ Err (moved_to (string_bytes key) fault.entry)
+        → IsErrorOf r result }
 {
     match fault {
         KeyFault::Unknown(_) => ScenarioError::UnknownKey { key },
@@ -64,7 +65,8 @@ fn item_path(alloc: Global, array: &str, number: usize, key: &str) -> Result<Str
 
 /// The path of a key of a board's requester or interrupter.
 fn part_path(alloc: Global, number: usize, part: &str, key: &str) -> Result<String, AllocError>
-    ensures { IfOk result (λ s. string_bytes s ≡ path (path (codes "board") (decimal number)) (path part.now key.now)) }
+    ensures { IfOk result (λ s. string_bytes s
+        ≡ path (path (codes "board") (decimal number)) (path part.now key.now)) }
 {
     format!(in alloc; "board.{number}.{part}.{key}")
 }
@@ -75,7 +77,9 @@ fn board_path<'a>(
     number: usize,
     fault: BoardFault<'a>,
 ) -> Result<(String, KeyFault<'a>), AllocError>
-    ensures { IfOk result (λ at. below (path (codes "board") (decimal number)) (in_board fault.entry) ≡ moved_to (string_bytes at.0) at.1) }
+    ensures { IfOk result (λ at.
+        below (path (codes "board") (decimal number)) (in_board fault.entry)
+        ≡ moved_to (string_bytes at.0) at.1) }
 {
     match fault {
         BoardFault::Board(fault) => {

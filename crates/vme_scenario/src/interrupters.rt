@@ -12,7 +12,8 @@ use toml::Table;
 use vme_model::{InterrupterRow, IrqKind};
 
 fn kind(table: &Table) -> Result<IrqKind, KeyFault<'_>>
-    ensures { keyed result ≡ format.needed (codes "kind") values.interrupter_kind (table_view table.now) }
+    ensures { keyed result
+        ≡ format.needed (codes "kind") values.interrupter_kind (table_view table.now) }
 {
     interrupter_kind(needed_value(table, "kind")?).ok_or(KeyFault::Bad("kind"))
 }

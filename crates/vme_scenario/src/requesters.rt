@@ -12,7 +12,8 @@ use toml::Table;
 use vme_model::{Release, RequesterRow};
 
 fn when_done(table: &Table) -> Result<bool, KeyFault<'_>>
-    ensures { keyed result ≡ format.needed (codes "release") values.releases_when_done (table_view table.now) }
+    ensures { keyed result
+        ≡ format.needed (codes "release") values.releases_when_done (table_view table.now) }
 {
     releases_when_done(needed_value(table, "release")?).ok_or(KeyFault::Bad("release"))
 }

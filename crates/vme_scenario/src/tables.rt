@@ -26,7 +26,8 @@ pub(crate) fn needed_value<'a>(
     table: &'a Table,
     key: &'static str,
 ) -> Result<&'a Value, KeyFault<'a>>
-    ensures found { IfOk result (λ v. get_member key.now (table_view table.now) ≡ Some (view v.now)) }
+    ensures found { IfOk result
+        (λ v. get_member key.now (table_view table.now) ≡ Some (view v.now)) }
     ensures absent { IfErr result (λ _. get_member key.now (table_view table.now) ≡ None) }
     ensures fault { IfErr result (λ f. at_key f ≡ missing key.now) }
 {
@@ -68,7 +69,8 @@ pub(crate) fn part_at<'a>(
     table: &'a Table,
     key: &'static str,
 ) -> Result<Option<&'a Table>, KeyFault<'a>>
-    ensures { result_map_both (option_map (λ t. table_view t.now)) at_key result ≡ part key.now (λ ms. Ok ms) (table_view table.now) }
+    ensures { result_map_both (option_map (λ t. table_view t.now)) at_key result
+        ≡ part key.now (λ ms. Ok ms) (table_view table.now) }
 {
     match value_at(table, key) {
         None => Ok(None),

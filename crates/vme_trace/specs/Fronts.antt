@@ -40,17 +40,21 @@ stands (b ∷ bs) k text = slice_index text k == b && stands bs (k + 1) text
 unfoldable pub first_driver : List ℕ → First Driver
 first_driver text =
     if slice_index text 0 == 99 && slice_index text 1 == 32 then Some (Controller, drop 2 text)
-    else if is_in_range 49 57 (slice_index text 0) && slice_index text 1 == 32 then Some (Slot (slice_index text 0 - 48), drop 2 text)
-    else if slice_index text 0 == 49 && (is_in_range 48 57 (slice_index text 1) && slice_index text 2 == 32)
+    else if is_in_range 49 57 (slice_index text 0) && slice_index text 1 == 32
+    then Some (Slot (slice_index text 0 - 48), drop 2 text)
+    else if slice_index text 0 == 49
+    && (is_in_range 48 57 (slice_index text 1) && slice_index text 2 == 32)
     then Some (Slot (10 + (slice_index text 1 - 48)), drop 3 text)
-    else if slice_index text 0 == 50 && (is_in_range 48 49 (slice_index text 1) && slice_index text 2 == 32)
+    else if slice_index text 0 == 50
+    && (is_in_range 48 49 (slice_index text 1) && slice_index text 2 == 32)
     then Some (Slot (20 + (slice_index text 1 - 48)), drop 3 text)
     else None
 
 -- a wire of the controller
 unfoldable pub first_control_wire : List ℕ → First Wire
 first_control_wire text =
-    if slice_index text 0 == 98 && (slice_index text 1 == 103 && is_in_range 48 51 (slice_index text 2))
+    if slice_index text 0 == 98
+    && (slice_index text 1 == 103 && is_in_range 48 51 (slice_index text 2))
     then Some (Bg (slice_index text 2 - 48), drop 3 text)
     else if stands (codes "bclr") 0 text then Some (Bclr, drop 4 text)
     else if stands (codes "iack") 0 text then Some (Iack, drop 4 text)
@@ -100,24 +104,30 @@ first_sign text =
 -- a level, and a line feed
 unfoldable pub first_level : List ℕ → First ℕ
 first_level text =
-    if is_in_range 49 55 (slice_index text 0) && slice_index text 1 == 10 then Some (slice_index text 0 - 48, drop 2 text)
+    if is_in_range 49 55 (slice_index text 0) && slice_index text 1 == 10
+    then Some (slice_index text 0 - 48, drop 2 text)
     else None
 
 -- a slot, and a line feed
 unfoldable pub first_slot : List ℕ → First ℕ
 first_slot text =
-    if is_in_range 49 57 (slice_index text 0) && slice_index text 1 == 10 then Some (slice_index text 0 - 48, drop 2 text)
-    else if slice_index text 0 == 49 && (is_in_range 48 57 (slice_index text 1) && slice_index text 2 == 10)
+    if is_in_range 49 57 (slice_index text 0) && slice_index text 1 == 10
+    then Some (slice_index text 0 - 48, drop 2 text)
+    else if slice_index text 0 == 49
+    && (is_in_range 48 57 (slice_index text 1) && slice_index text 2 == 10)
     then Some (10 + (slice_index text 1 - 48), drop 3 text)
-    else if slice_index text 0 == 50 && (is_in_range 48 49 (slice_index text 1) && slice_index text 2 == 10)
+    else if slice_index text 0 == 50
+    && (is_in_range 48 49 (slice_index text 1) && slice_index text 2 == 10)
     then Some (20 + (slice_index text 1 - 48), drop 3 text)
     else None
 
 -- what is shown, after a blank, and a line feed
 unfoldable pub first_cycle : List ℕ → First Cycle
 first_cycle text =
-    if stands (codes " i") 0 text then option_map (λ p. (Acknowledge p.0, p.1)) (first_level (drop 2 text))
-    else if stands (codes " r") 0 text then option_map (λ p. (Access p.0, p.1)) (first_slot (drop 2 text))
+    if stands (codes " i") 0 text
+    then option_map (λ p. (Acknowledge p.0, p.1)) (first_level (drop 2 text))
+    else if stands (codes " r") 0 text
+    then option_map (λ p. (Access p.0, p.1)) (first_slot (drop 2 text))
     else None
 
 -- no value, and a line feed
@@ -130,4 +140,5 @@ as_value found = option_map (λ p. (Some p.0, p.1)) found
 
 -- what an edge of a wire shows, and a line feed
 unfoldable pub first_value : Wire → Bool → List ℕ → First (Option Cycle)
-first_value wire fall text = if has_value wire fall None then first_end text else as_value (first_cycle text)
+first_value wire fall text =
+    if has_value wire fall None then first_end text else as_value (first_cycle text)

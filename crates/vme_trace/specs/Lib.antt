@@ -1,5 +1,13 @@
+-- The definitions of a trace that is read and written in pieces. `believe` marks what a theorem
+-- rests on, and `words` what only says how one function serves another.
+
+-- believe: what a reader has read, and what it answers to a piece, to the end and to a whole trace
 pub mod Reading
+-- believe: the line of an edge, and that a prefix of some bytes was written
 pub mod Writing
+-- words: what a step of a reader does, between two places in a trace
 pub mod Taking
+-- words: what stands at the front of a text, part by part
 pub mod Fronts
+-- believe, for `laws` alone: what is read of a whole trace
 pub mod Texts

@@ -12,7 +12,8 @@ edge_line e = spelling e ++ 10 ∷ []
 
 -- a prefix of the bytes went to a writer
 abbrev pub AppendsFront : Option (List ℕ) → Option (List ℕ) → List ℕ → Type 0
-AppendsFront old new bytes = (front : List ℕ) × (others : List ℕ) × (bytes ≡ front ++ others) × Appends old new front
+AppendsFront old new bytes =
+    (front : List ℕ) × (others : List ℕ) × (bytes ≡ front ++ others) × Appends old new front
 
 -- a grant has a word for its level
 abbrev pub HasText : Wire → Type 0

@@ -174,7 +174,8 @@ fn slot_at(text: &[u8]) -> Option<(u8, &[u8])>
 #[tactic(auto, unfolding(crate::specs::Fronts::first_cycle))]
 fn cycle_at(text: &[u8]) -> Option<(Cycle, &[u8])>
     ensures known { IfSome result (λ found. IsTrue (is_in_range found.0)) }
-    ensures front { IfSome result (λ found. text.now ≡ argument (Some found.0) ++ 10 ∷ found.1.now) }
+    ensures front { IfSome result
+        (λ found. text.now ≡ argument (Some found.0) ++ 10 ∷ found.1.now) }
     ensures first { front_of result ≡ first_cycle text.now }
 {
     match text {
@@ -225,7 +226,9 @@ fn value_at(wire: Wire, fall: bool, text: &[u8]) -> Option<(Option<Cycle>, &[u8]
 #[inline(always)]
 pub(crate) fn edge_at(text: &[u8]) -> Option<(Edge, &[u8])>
     ensures found { IfSome result (λ found. IsFrontLine found.0 text.now found.1.now) }
-    ensures missed { IfNone result ((edge : Edge) (rest : List ℕ) → IsTrue (is_well_formed edge) → text.now ≢ (spelling edge ++ 10 ∷ []) ++ rest) }
+    ensures missed { IfNone result
+        ((edge : Edge) (rest : List ℕ) → IsTrue (is_well_formed edge)
+        → text.now ≢ (spelling edge ++ 10 ∷ []) ++ rest) }
 {
     let (driver, rest) = driver_at(text)?;
     let (wire, rest) = wire_at(driver, rest)?;

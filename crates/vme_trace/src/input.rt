@@ -21,7 +21,8 @@ pub fn pump<R: Read, A: Allocator>(
     edges: &mut Vec<Edge, A>,
 ) -> Result<bool, Fault>
     ensures reads { (bytes : List ℕ) (es : List Edge) → HasRead reader.old bytes es
-        → Pumped (R.remaining input.old) (R.remaining input.new) bytes es edges.old.items edges.new.items reader.new result }
+        → Pumped (R.remaining input.old) (R.remaining input.new) bytes es
+        edges.old.items edges.new.items reader.new result }
     ensures failed { reader.old.place ≡ None → result ≡ Err Fault.Failed }
     ensures unchanged { reader.old.place ≡ None → reader.new ≡ reader.old }
     ensures none_appended { reader.old.place ≡ None → edges.new.items ≡ edges.old.items }
@@ -47,7 +48,8 @@ pub fn pump<R: Read, A: Allocator>(
 ///
 /// Errors: X5 where the read failed, or was interrupted 65,536 times.
 pub fn read_piece<R: Read>(input: &mut R, buffer: &mut [u8; 512]) -> Result<usize, Fault>
-    ensures ok { IfOk result (ReadsPiece (R.remaining input.old) (R.remaining input.new) buffer.new) }
+    ensures ok { IfOk result
+        (ReadsPiece (R.remaining input.old) (R.remaining input.new) buffer.new) }
     ensures err { IfErr result (λ fault. Keeps (R.remaining input.old) (R.remaining input.new)) }
     ensures fault { IfErr result (λ fault. fault ≡ Fault.Read) }
 {

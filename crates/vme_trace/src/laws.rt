@@ -23,5 +23,6 @@ pub fn edge_has_one_spelling()
 
 /// The text of edges, as `write` writes it, reads as those edges in that version, without a fault.
 pub fn text_reads_as_written()
-    ensures { (version : Version) (es : List Edge) → All (λ e. IsTrue (is_well_formed e)) es → read_of (text version es) ≡ whole version es }
+    ensures { (version : Version) (es : List Edge) → All (λ e. IsTrue (is_well_formed e)) es
+        → read_of (text version es) ≡ whole version es }
 {}

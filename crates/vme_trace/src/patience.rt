@@ -72,7 +72,8 @@ impl<R: Read> Read for Patient<R> {
 
     fn read(&mut self, buf: &mut [u8]) -> Result<usize>
         ensures bound { ReadsAtMost result buf.new }
-        ensures bytes { ReadConsumes (R.remaining self.old.0) (R.remaining self.new.0) result buf.new }
+        ensures bytes { ReadConsumes (R.remaining self.old.0) (R.remaining self.new.0)
+            result buf.new }
         ensures retried { IfErr result (λ e. error_kind e ≢ ErrorKind.Interrupted) }
     {
         read_patiently(&mut self.0, buf)
@@ -84,7 +85,8 @@ impl<W: Write> Write for Patient<W> {
 
     fn write(&mut self, buf: &[u8]) -> Result<usize>
         ensures bound { WritesAtMost result buf.now }
-        ensures bytes { WriteAppends (W.contents self.old.0) (W.contents self.new.0) result buf.now }
+        ensures bytes { WriteAppends (W.contents self.old.0) (W.contents self.new.0)
+            result buf.now }
         ensures retried { IfErr result (λ e. error_kind e ≢ ErrorKind.Interrupted) }
     {
         write_patiently(&mut self.0, buf)

@@ -36,7 +36,10 @@ impl Model for Reader {
 
     ghost Value = { State };
 
-    ghost view = { λ r. record { version = r.version; place = if r.used_up then None else Some (place r.line r.part.items) } };
+    ghost view = { λ r. record {
+      version = r.version;
+      place = if r.used_up then None else Some (place r.line r.part.items);
+    } };
 
     ghost invariant = { λ r. IsPart r.part.items };
 }
@@ -96,7 +99,8 @@ impl Reader {
     ///
     /// Errors: X4 where the last line has no line feed; X1 where there is no line; X7 after a fault or the end.
     pub fn finish(&mut self) -> Result<(), Fault>
-        ensures ends { (bytes : List ℕ) (es : List Edge) → HasRead self.old bytes es → result ≡ answer_of (read_of bytes).fault }
+        ensures ends { (bytes : List ℕ) (es : List Edge) → HasRead self.old bytes es
+            → result ≡ answer_of (read_of bytes).fault }
         ensures named { OnOk result (IsSome self.new.version) }
         ensures used_up { self.new.place ≡ None }
         ensures version { self.new.version ≡ self.old.version }
@@ -136,9 +140,13 @@ impl Reader {
 pub fn parse<A: Allocator>(bytes: &[u8], edges: &mut Vec<Edge, A>) -> Result<Version, Fault>
     ensures version { IfOk result (λ version. (read_of bytes.now).version ≡ Some version) }
     ensures whole { OnOk result ((read_of bytes.now).fault ≡ None) }
-    ensures fault { IfErr result (λ fault. fault ≢ Fault.Memory → option_map fault_of (read_of bytes.now).fault ≡ Some fault) }
-    ensures edges { result ≢ Err Fault.Memory → edges.new.items ≡ edges.old.items ++ (read_of bytes.now).edges }
-    ensures front { (front : List Edge) × (others : List Edge) × ((read_of bytes.now).edges ≡ front ++ others) × (edges.new.items ≡ edges.old.items ++ front) }
+    ensures fault { IfErr result (λ fault. fault ≢ Fault.Memory
+        → option_map fault_of (read_of bytes.now).fault ≡ Some fault) }
+    ensures edges { result ≢ Err Fault.Memory
+        → edges.new.items ≡ edges.old.items ++ (read_of bytes.now).edges }
+    ensures front { (front : List Edge) × (others : List Edge)
+        × ((read_of bytes.now).edges ≡ front ++ others)
+        × (edges.new.items ≡ edges.old.items ++ front) }
 {
     let mut reader = Reader::new();
     reader.feed(bytes, edges)?;
@@ -170,8 +178,12 @@ fn take_line<A: Allocator>(
     edges: &mut Vec<Edge, A>,
 ) -> Result<(), Fault>
     requires { IsOneLine line.now }
-    ensures ok { OnOk result (Leads version.old (place n.old []) (line.now ++ 10 ∷ []) edges.old.items edges.new.items version.new (place n.new [])) }
-    ensures fault { IfErr result (Fails version.old (place n.old []) (line.now ++ 10 ∷ []) edges.old.items edges.new.items version.new) }
+    ensures ok { OnOk result
+        (Leads version.old (place n.old []) (line.now ++ 10 ∷ [])
+        edges.old.items edges.new.items version.new (place n.new [])) }
+    ensures fault { IfErr result
+        (Fails version.old (place n.old []) (line.now ++ 10 ∷ [])
+        edges.old.items edges.new.items version.new) }
 {
     if line.len() > 64 {
         return Err(Fault::TooLong { n: *n });
@@ -207,8 +219,12 @@ fn take_joined<A: Allocator>(
     requires part { IsPart part.old.items }
     requires tail { IsOneLine tail.now }
     ensures part { IsPart part.new.items }
-    ensures ok { OnOk result (Leads version.old (place n.old part.old.items) (tail.now ++ 10 ∷ []) edges.old.items edges.new.items version.new (place n.new part.new.items)) }
-    ensures fault { IfErr result (Fails version.old (place n.old part.old.items) (tail.now ++ 10 ∷ []) edges.old.items edges.new.items version.new) }
+    ensures ok { OnOk result
+        (Leads version.old (place n.old part.old.items) (tail.now ++ 10 ∷ [])
+        edges.old.items edges.new.items version.new (place n.new part.new.items)) }
+    ensures fault { IfErr result
+        (Fails version.old (place n.old part.old.items) (tail.now ++ 10 ∷ [])
+        edges.old.items edges.new.items version.new) }
 {
     if part.is_empty() {
         return take_line(version, n, tail, edges);
@@ -234,8 +250,11 @@ fn take_front<'a, A: Allocator>(
     ensures part { IsPart part.new.items }
     ensures shorter { IfOk result (λ rest. length rest.now < length piece.now) }
     ensures ok { IfOk result (λ rest. (taken : List ℕ) × (piece.now ≡ taken ++ rest.now)
-        × Leads version.old (place n.old part.old.items) taken edges.old.items edges.new.items version.new (place n.new part.new.items)) }
-    ensures fault { IfErr result (Fails version.old (place n.old part.old.items) piece.now edges.old.items edges.new.items version.new) }
+        × Leads version.old (place n.old part.old.items) taken
+        edges.old.items edges.new.items version.new (place n.new part.new.items)) }
+    ensures fault { IfErr result
+        (Fails version.old (place n.old part.old.items) piece.now
+        edges.old.items edges.new.items version.new) }
 {
     let end = line_end(piece);
     if end < piece.len() {
@@ -257,9 +276,13 @@ fn take_edges<'a, A: Allocator>(
     edges: &mut Vec<Edge, A>,
 ) -> Result<&'a [u8], Fault>
     ensures shorter { IfOk result (λ rest. length rest.now ≤ length piece.now) }
-    ensures ok { IfOk result (λ rest. (version : Version) → (taken : List ℕ) × (piece.now ≡ taken ++ rest.now)
-        × Leads (Some version) (place n.old []) taken edges.old.items edges.new.items (Some version) (place n.new [])) }
-    ensures fault { IfErr result (λ fault. (version : Version) → Fails (Some version) (place n.old []) piece.now edges.old.items edges.new.items (Some version) fault) }
+    ensures ok { IfOk result (λ rest. (version : Version)
+        → (taken : List ℕ) × (piece.now ≡ taken ++ rest.now)
+        × Leads (Some version) (place n.old []) taken
+        edges.old.items edges.new.items (Some version) (place n.new [])) }
+    ensures fault { IfErr result (λ fault. (version : Version)
+        → Fails (Some version) (place n.old []) piece.now
+        edges.old.items edges.new.items (Some version) fault) }
 {
     let mut rest = piece;
     'lines: while let Some((edge, behind)) = edge_at(rest) {
@@ -282,8 +305,12 @@ fn take<A: Allocator>(
 ) -> Result<(), Fault>
     requires { IsPart part.old.items }
     ensures part { IsPart part.new.items }
-    ensures ok { OnOk result (Leads version.old (place n.old part.old.items) piece.now edges.old.items edges.new.items version.new (place n.new part.new.items)) }
-    ensures fault { IfErr result (Fails version.old (place n.old part.old.items) piece.now edges.old.items edges.new.items version.new) }
+    ensures ok { OnOk result
+        (Leads version.old (place n.old part.old.items) piece.now
+        edges.old.items edges.new.items version.new (place n.new part.new.items)) }
+    ensures fault { IfErr result
+        (Fails version.old (place n.old part.old.items) piece.now
+        edges.old.items edges.new.items version.new) }
 {
     let mut rest = piece;
     'lines: while !rest.is_empty() {

@@ -22,7 +22,8 @@ pub(crate) const LINE: usize = 16;
 /// has failed; a [`Patient`](crate::Patient) writer tries it again.
 pub fn put<W: Write>(out: &mut W, bytes: &[u8]) -> Result<(), Fault>
     ensures ok { OnOk result (Appends (W.contents out.old) (W.contents out.new) bytes.now) }
-    ensures front { OnErr result (AppendsFront (W.contents out.old) (W.contents out.new) bytes.now) }
+    ensures front { OnErr result
+        (AppendsFront (W.contents out.old) (W.contents out.new) bytes.now) }
     ensures fault { IfErr result (λ fault. fault ≡ Fault.Write) }
     ensures none { bytes.now ≡ [] → result ≡ Ok tt }
 {
@@ -138,8 +139,10 @@ pub fn line_of(edge: &Edge) -> ArrayVec<u8, LINE>
 /// Writes the lines of the edges.
 fn write_lines<W: Write>(edges: &[Edge], out: &mut W) -> Result<(), Fault>
     requires { All (λ e. IsTrue (is_well_formed e)) edges.now }
-    ensures ok { OnOk result (Appends (W.contents out.old) (W.contents out.new) (edge_lines edges.now)) }
-    ensures front { OnErr result (AppendsFront (W.contents out.old) (W.contents out.new) (edge_lines edges.now)) }
+    ensures ok { OnOk result
+        (Appends (W.contents out.old) (W.contents out.new) (edge_lines edges.now)) }
+    ensures front { OnErr result
+        (AppendsFront (W.contents out.old) (W.contents out.new) (edge_lines edges.now)) }
     ensures fault { IfErr result (λ fault. fault ≡ Fault.Write) }
 {
     for edge in edges {
@@ -154,8 +157,10 @@ fn write_lines<W: Write>(edges: &[Edge], out: &mut W) -> Result<(), Fault>
 /// Errors: X8 where a write failed or took no byte; a prefix of the trace was then written.
 pub fn write<W: Write>(version: Version, edges: &[Edge], out: &mut W) -> Result<(), Fault>
     requires { All (λ e. IsTrue (is_well_formed e)) edges.now }
-    ensures ok { OnOk result (Appends (W.contents out.old) (W.contents out.new) (text version edges.now)) }
-    ensures front { OnErr result (AppendsFront (W.contents out.old) (W.contents out.new) (text version edges.now)) }
+    ensures ok { OnOk result
+        (Appends (W.contents out.old) (W.contents out.new) (text version edges.now)) }
+    ensures front { OnErr result
+        (AppendsFront (W.contents out.old) (W.contents out.new) (text version edges.now)) }
     ensures fault { IfErr result (λ fault. fault ≡ Fault.Write) }
 {
     put(out, header_line(version))?;

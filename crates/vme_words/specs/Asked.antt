@@ -45,7 +45,8 @@ AsksFor name rows (Run scenario edges turns version) = (name ≡ codes "run")
     × IsFile (codes "SCENARIO") rows scenario.now × AreOptions rows edges version
     × (spelled (codes "turns") rows ≡ Some turns)
 
--- no words ask for standard input; others for what their command says, with the operands that the command line gives it
+-- no words ask for standard input; others for what their command says, with the operands that the
+-- command line gives it
 abbrev pub Ask : List Text → Job → Type 0
 Ask [] job = job ≡ Joined
 Ask (word ∷ words) job =

@@ -1,4 +1,5 @@
--- The command line of the program: which commands it has, which files and options each takes, and which are required.
+-- The command line of the program: which commands it has, which files and options each takes, and
+-- which are required.
 use Rattle.std.specs.Prelude.{ℕ, List, [], ◌∷◌, Some, true, false, codes, pos}
 use Rattle.vme_model.specs.Report.{trace_limit}
 use Rattle.vme_words.specs.Limits.{most_turns}

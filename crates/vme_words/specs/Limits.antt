@@ -7,7 +7,8 @@ use Rattle.vme_words.specs.declared.Job.TheVariants.{Joined, Replay, Check, Driv
 abbrev pub most_turns : ℕ
 most_turns = 1000000
 
--- `drive` and `run` make at least one edge and no more than a trace may have, and `run` gives each driver 1 to 1,000,000 turns
+-- `drive` and `run` make at least one edge and no more than a trace may have, and `run` gives each
+-- driver 1 to 1,000,000 turns
 abbrev pub IsWithin : Job → Type 0
 IsWithin (Drive scenario edges version) = (1 ≤ edges) × (edges ≤ trace_limit)
 IsWithin Joined = Unit {0}

@@ -163,7 +163,8 @@ fn taking<'a>(
     command: Result<Command<'a>, AllocError>,
     word: Arg<'a>,
 ) -> Result<Command<'a>, AllocError>
-    ensures { IfOk result (λ c. (a : App) (r : Rule) → IfOk command.entry (λ before. app_of before ≡ a)
+    ensures { IfOk result (λ c. (a : App) (r : Rule)
+        → IfOk command.entry (λ before. app_of before ≡ a)
         → rule_of word.entry ≡ r → r.is_simple ≡ true → app_of c ≡ with_rule a r) }
 {
     command?.arg(word)
@@ -232,7 +233,8 @@ fn offering<'a>(
     program: Result<Command<'a>, AllocError>,
     command: Result<Command<'a>, AllocError>,
 ) -> Result<Command<'a>, AllocError>
-    ensures { IfOk result (λ c. (a : App) (s : Shape) → IfOk program.entry (λ before. app_of before ≡ a)
+    ensures { IfOk result (λ c. (a : App) (s : Shape)
+        → IfOk program.entry (λ before. app_of before ≡ a)
         → IfOk command.entry (λ sub. shape_of sub ≡ s)
         → s.is_plain ≡ true → app_of c ≡ with_subcommand a s) }
 {

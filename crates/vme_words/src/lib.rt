@@ -86,7 +86,8 @@ fn number_of(operands: &ArgMatches<'_>, name: &str, most: u32) -> Option<u32>
 /// The version of the rules, where there is one of the number that `--version` spells.
 fn version_of(operands: &ArgMatches<'_>) -> Option<Version>
     ensures { IfSome result (λ version.
-        spelled (codes "version") (rows_of (found_of operands.now)) ≡ Some (version_number version)) }
+        spelled (codes "version") (rows_of (found_of operands.now))
+        ≡ Some (version_number version)) }
 {
     match number_of(operands, "version", 2)? {
         1 => Some(Version::One),
@@ -165,7 +166,8 @@ fn parsed<'a>(alloc: Global, words: &'a [&'a str]) -> Result<ArgMatches<'a>, Err
 fn asked<'a>(alloc: Global, words: &'a [&'a str]) -> Result<Option<Job<'a>>, Error>
     ensures within { IfOk result (λ job. IfSome job IsWithin) }
     ensures asked { IfOk result (λ job. IfSome job (λ found.
-        IsSomeAnd (subcommand_of commands_said (texts_of words.entry.now)) (λ met. AsksFor met.0 met.1 found))) }
+        IsSomeAnd (subcommand_of commands_said (texts_of words.entry.now))
+        (λ met. AsksFor met.0 met.1 found))) }
     ensures fault { FailsBy (fault_of commands_said (texts_of words.entry.now)) result }
 {
     Ok(job_in(&parsed(alloc, words)?))

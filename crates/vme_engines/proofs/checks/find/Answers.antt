@@ -1,7 +1,7 @@
 use Rattle.std.proofs.Common.{[], Bool, Result, None, sym, ◌∙◌, subst}
 use Rattle.vme_trace.specs.declared.Fault.{Fault}
 use Rattle.vme_engines.specs.Steps.{Opens}
-use Rattle.vme_engines.proofs.Opening.{never_unopened}
+use Rattle.vme_engines.proofs.FirstReads.{never_unopened}
 use Rattle.vme_engines.proofs.CheckPieces.{unopened, finds_all}
 use Rattle.vme_engines.proofs.checks.find.Goals as goal
 

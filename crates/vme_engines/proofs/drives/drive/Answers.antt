@@ -2,7 +2,7 @@ use Rattle.std.proofs.Common.{◌==◌, ◌∙◌, ap, arith, if◌then◌else�
 use Rattle.vme_model.specs.Verdict.{State}
 use Rattle.vme_model.specs.Offers.{rounds}
 use Rattle.vme_engines.specs.declared.Status.TheVariants.{Done, Limit}
-use Rattle.vme_engines.proofs.Driven.{drives_done, drives_cut, drives_safely}
+use Rattle.vme_engines.proofs.DriveRounds.{drives_done, drives_cut, drives_safely}
 use Rattle.vme_engines.proofs.drives.drive.Goals as goal
 
 pub returns-in-Ok-clause-outcome : goal.returns-in-Ok-clause-outcome

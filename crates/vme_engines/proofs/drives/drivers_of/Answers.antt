@@ -1,5 +1,5 @@
 use Rattle.std.proofs.Common.{sym}
-use Rattle.vme_engines.proofs.Driven.{with_driver, without_driver}
+use Rattle.vme_engines.proofs.DriveRounds.{with_driver, without_driver}
 use Rattle.vme_engines.proofs.drives.drivers_of.Goals.{then-has_board, else-has_board}
 use Rattle.vme_engines.proofs.drives.drivers_of.Goals as goal
 

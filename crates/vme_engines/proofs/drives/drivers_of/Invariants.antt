@@ -1,5 +1,5 @@
 use Rattle.std.proofs.Common.{◌≡◌, ◌+◌, ◌≤◌, length}
-use Rattle.vme_engines.proofs.Driven.{drivers_to}
+use Rattle.vme_engines.proofs.DriveRounds.{drivers_to}
 use Rattle.vme_engines.proofs.drives.drivers_of.Given as goal
 
 abbrev pub invariant-loop-below : goal.invariant-loop-below

@@ -1,7 +1,7 @@
 use Rattle.std.proofs.Common.{◌≡◌, ◌-◌, ◌+◌, suc, ap, sym, ◌∙◌, arith}
 use Rattle.vme_model.specs.Offers.{rounds_from}
 use Rattle.vme_model.specs.Plan.{drivers}
-use Rattle.vme_engines.proofs.Driven.{last_round, next_round, plan_stays}
+use Rattle.vme_engines.proofs.DriveRounds.{last_round, next_round, plan_stays}
 use Rattle.vme_engines.proofs.drives.take_rounds.Goals as goal
 
 pub returns-then-len-before : goal.returns-then-len-before

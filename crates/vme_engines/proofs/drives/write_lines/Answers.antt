@@ -1,6 +1,6 @@
 use Rattle.std.proofs.Common.{◌∙◌}
-use Rattle.vme_engines.proofs.Writing.{on_err}
-use Rattle.vme_engines.proofs.Driven.{well_formed_at, listed_more, listed_front}
+use Rattle.vme_engines.proofs.WrittenLines.{on_err}
+use Rattle.vme_engines.proofs.DriveRounds.{well_formed_at, listed_more, listed_front}
 use Rattle.vme_engines.proofs.drives.write_lines.Goals as goal
 
 pub line_of-requires : goal.line_of-requires

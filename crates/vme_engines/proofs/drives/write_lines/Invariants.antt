@@ -1,5 +1,5 @@
 use Rattle.std.proofs.Common.{drop, reverse}
-use Rattle.vme_engines.proofs.Driven.{HasListed}
+use Rattle.vme_engines.proofs.DriveRounds.{HasListed}
 use Rattle.vme_engines.proofs.drives.write_lines.Given as goal
 
 abbrev pub invariant-loop-place : goal.invariant-loop-place

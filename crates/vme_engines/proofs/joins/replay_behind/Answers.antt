@@ -7,9 +7,9 @@ use Rattle.vme_engines.specs.declared.replays.Replaying.{Replaying}
 use Rattle.vme_engines.specs.Streams.{streams}
 use Rattle.vme_engines.specs.Outcomes.{Replays}
 use Rattle.vme_engines.specs.Steps.{IsNoPlan}
-use Rattle.vme_engines.proofs.Opening.{no_plan}
+use Rattle.vme_engines.proofs.FirstReads.{no_plan}
 use Rattle.vme_engines.proofs.ReplayPieces.{replays_all}
-use Rattle.vme_engines.proofs.Starting.{no_plan_of, plan_of_text, came_start, counted_start, input_behind}
+use Rattle.vme_engines.proofs.AfterScenario.{no_plan_of, plan_of_text, came_start, counted_start, input_behind}
 use Rattle.vme_engines.proofs.joins.replay_behind.Goals as goal
 
 pub returns-in_err-plan : goal.returns-in_err-plan

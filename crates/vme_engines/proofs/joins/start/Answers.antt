@@ -1,7 +1,7 @@
 use Rattle.std.proofs.Common.{[], ◌∷◌, ◌++◌}
 use Rattle.std.proofs.lemmas.Result.{err_from_is_err_and}
 use Rattle.vme_model.specs.Text.{header}
-use Rattle.vme_engines.proofs.Starting.{started_not, started_on, started}
+use Rattle.vme_engines.proofs.AfterScenario.{started_not, started_on, started}
 use Rattle.vme_engines.proofs.joins.start.Goals as goal
 
 pub returns-in_err-feed-clause-version : goal.returns-in_err-feed-clause-version

@@ -1,5 +1,5 @@
 use Rattle.std.proofs.Common.{ℕ, ◌+◌, ◌/◌, ◌%◌, List, [], ◌∷◌, ◌++◌, ◌∙◌, ap, arith}
-use Rattle.vme_engines.proofs.Digits.{digit_alone, digit_behind}
+use Rattle.vme_engines.proofs.ByteDigits.{digit_alone, digit_behind}
 use Rattle.vme_engines.proofs.lines.push_byte.Goals as goal
 use Rattle.vme_engines.proofs.lines.push_byte.Goals.{then-n-ge100, else-n-ge100, then-n-ge10, else-n-ge10}
 

@@ -1,6 +1,6 @@
 use Rattle.std.proofs.Common.{◌+◌, arith, ◌∙◌, ap}
 use Rattle.vme_model.specs.Report.{verdict_line}
-use Rattle.vme_engines.proofs.Writing.{judged_more, judged_front, on_err}
+use Rattle.vme_engines.proofs.WrittenLines.{judged_more, judged_front, on_err}
 use Rattle.vme_engines.proofs.lines.write_verdicts.Goals as goal
 
 pub returns-in_err-put-clause-front : goal.returns-in_err-put-clause-front

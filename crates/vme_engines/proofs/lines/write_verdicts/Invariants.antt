@@ -1,5 +1,5 @@
 use Rattle.std.proofs.Common.{◌≡◌, ◌+◌, drop}
-use Rattle.vme_engines.proofs.Writing.{HasJudged}
+use Rattle.vme_engines.proofs.WrittenLines.{HasJudged}
 use Rattle.vme_engines.proofs.lines.write_verdicts.Given as goal
 
 abbrev pub invariant-loop-edge : goal.invariant-loop-edge

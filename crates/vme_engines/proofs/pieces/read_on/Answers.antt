@@ -3,7 +3,7 @@ use Rattle.std.proofs.lemmas.Result.{err_from_is_err_and}
 use Rattle.vme_model.specs.declared.signals.Edge.{Edge}
 use Rattle.vme_engines.specs.Steps.{IsCounted}
 use Rattle.vme_engines.proofs.TraceReads.{came, stays_known, counted_few, counted_more}
-use Rattle.vme_engines.proofs.ReadingOn.{IsUnderWay, answers_so, answers_unread, goes_on}
+use Rattle.vme_engines.proofs.ReadOn.{IsUnderWay, answers_so, answers_unread, goes_on}
 use Rattle.vme_engines.proofs.pieces.read_on.Goals as goal
 
 pub returns-in_err-answer : goal.returns-in_err-answer

@@ -1,7 +1,7 @@
 use Rattle.std.proofs.Common.{◌≡◌, ◌-◌, ℕ, List, Option, Some}
 use Rattle.vme_model.specs.declared.signals.Version.{Version}
 use Rattle.vme_engines.specs.Steps.{Comes, IsCounted}
-use Rattle.vme_engines.proofs.ReadingOn.{IsUnderWay}
+use Rattle.vme_engines.proofs.ReadOn.{IsUnderWay}
 use Rattle.vme_engines.proofs.pieces.read_on.Given as goal
 
 abbrev pub invariant-reads : goal.invariant-reads

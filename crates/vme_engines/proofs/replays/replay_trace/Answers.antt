@@ -1,7 +1,7 @@
 use Rattle.std.proofs.Common.{[], Bool, Result, sym, ◌∙◌, subst}
 use Rattle.vme_trace.specs.declared.Fault.{Fault}
 use Rattle.vme_engines.specs.Steps.{Opens}
-use Rattle.vme_engines.proofs.Opening.{unopened, never_unopened}
+use Rattle.vme_engines.proofs.FirstReads.{unopened, never_unopened}
 use Rattle.vme_engines.proofs.ReplayPieces.{replays_all}
 use Rattle.vme_engines.proofs.replays.replay_trace.Goals as goal
 

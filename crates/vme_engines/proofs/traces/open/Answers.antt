@@ -1,8 +1,8 @@
 use Rattle.std.proofs.Common.{◌≡◌, ◌-◌, ◌+◌, ℕ, [], None, Some, inl, refl, sym, ◌∙◌, arith, subst}
 use Rattle.vme_engines.proofs.TraceReads.{IsReading, came, opens_more}
 use Rattle.std.proofs.KnownBytes.{Consumes-nil}
-use Rattle.vme_engines.proofs.Known.{none_known}
-use Rattle.vme_engines.proofs.Going.{can_go_on}
+use Rattle.vme_engines.proofs.TraceSoFar.{none_known}
+use Rattle.vme_engines.proofs.CanGoOn.{can_go_on}
 use Rattle.vme_engines.proofs.traces.open.Goals as goal
 
 pub returns-then-is_settled : goal.returns-then-is_settled

@@ -1,6 +1,6 @@
 use Rattle.std.proofs.Common.{◌∙◌, ap, sym}
 use Rattle.vme_scenario.specs.Format.{read_as}
-use Rattle.vme_scenario.proofs.Texts.{document-utf8, document-other}
+use Rattle.vme_scenario.proofs.Documents.{document-utf8, document-other}
 use Rattle.vme_scenario.proofs.scenario.document.Goals as goal
 
 pub returns-in_default-clause-fault : goal.returns-in_default-clause-fault

@@ -1,5 +1,5 @@
 use Rattle.std.proofs.Common.{sym}
-use Rattle.vme_trace.proofs.Firsts.{no_driver, no_wire, no_sign, no_value, missed, if_none}
+use Rattle.vme_trace.proofs.FrontEdge.{no_driver, no_wire, no_sign, no_value, missed, if_none}
 use Rattle.vme_trace.proofs.front.edge_at.Goals as goal
 
 pub returns-in_err-driver-clause-missed : goal.returns-in_err-driver-clause-missed

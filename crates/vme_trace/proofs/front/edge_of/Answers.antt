@@ -1,5 +1,5 @@
 use Rattle.std.proofs.Common.{rules, arith, ◌≡◌, ◌++◌, ◌∷◌, []}
-use Rattle.vme_trace.proofs.Spelled.{long_line, no_front, whole_front, part_front}
+use Rattle.vme_trace.proofs.OneSpelling.{long_line, no_front, whole_front, part_front}
 use Rattle.vme_trace.proofs.front.edge_of.Goals as goal
 
 pub returns-then-line-ge-LINE : goal.returns-then-line-ge-LINE

@@ -1,6 +1,6 @@
 use Rattle.std.proofs.Common.{sym, ◌∙◌}
 use Rattle.std.proofs.lemmas.Result.{err_from_is_err_and}
-use Rattle.vme_trace.proofs.Feeding.{pumped_end, pumped_end_fault, pumped_fault}
+use Rattle.vme_trace.proofs.FedReader.{pumped_end, pumped_end_fault, pumped_fault}
 use Rattle.vme_trace.proofs.input.pump.Goals as goal
 
 pub returns-in_err-finish-clause-reads : goal.returns-in_err-finish-clause-reads

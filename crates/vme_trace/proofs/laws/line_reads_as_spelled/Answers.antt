@@ -1,4 +1,4 @@
-use Rattle.vme_trace.proofs.Spelled.{reads, spelled}
+use Rattle.vme_trace.proofs.OneSpelling.{reads, spelled}
 use Rattle.vme_trace.proofs.laws.line_reads_as_spelled.Goals as goal
 
 pub returns : goal.returns

@@ -1,4 +1,4 @@
-use Rattle.vme_trace.proofs.Texts.{text_read}
+use Rattle.vme_trace.proofs.ReadBack.{text_read}
 use Rattle.vme_trace.proofs.laws.text_reads_as_written.Goals as goal
 
 pub returns : goal.returns

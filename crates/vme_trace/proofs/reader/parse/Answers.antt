@@ -1,6 +1,6 @@
 use Rattle.std.proofs.Common.{sym, ◌∙◌, ap, [], Err, is_some}
 use Rattle.std.proofs.lemmas.Result.{err_from_is_err_and}
-use Rattle.vme_trace.proofs.Feeding.{parsed_fault, parsed_edges, parsed_front, read_edges, read_front, answered, answered_none, named_version, named_fault, on_any}
+use Rattle.vme_trace.proofs.FedReader.{parsed_fault, parsed_edges, parsed_front, read_edges, read_front, answered, answered_none, named_version, named_fault, on_any}
 use Rattle.vme_trace.proofs.reader.parse.Goals as goal
 
 pub returns-in_err-feed-clause-fault : goal.returns-in_err-feed-clause-fault

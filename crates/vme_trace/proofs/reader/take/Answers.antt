@@ -1,8 +1,8 @@
 use Rattle.std.proofs.Common.{rules, arith, ◌≡◌, true, [], is_some}
 use Rattle.std.proofs.lemmas.Result.{err_from_is_err_and}
 use Rattle.vme_trace.proofs.Lines.{no_bytes}
-use Rattle.vme_trace.proofs.Reading.{lines_taken, lines_faulty}
-use Rattle.vme_trace.proofs.Stepping.{taken_none, taken_more, taken_all, taken_fault}
+use Rattle.vme_trace.proofs.LinesInPlace.{lines_taken, lines_faulty}
+use Rattle.vme_trace.proofs.ReaderSteps.{taken_none, taken_more, taken_all, taken_fault}
 use Rattle.vme_trace.proofs.reader.take.Goals as goal
 
 pub returns-in_err-rest-clause-fault : goal.returns-in_err-rest-clause-fault

@@ -1,7 +1,7 @@
 use Rattle.std.proofs.Common.{length}
 use Rattle.vme_trace.specs.Reading.{IsPart}
 use Rattle.vme_trace.specs.Taking.{place}
-use Rattle.vme_trace.proofs.Stepping.{Taken}
+use Rattle.vme_trace.proofs.ReaderSteps.{Taken}
 use Rattle.vme_trace.proofs.reader.take.Given as goal
 
 abbrev pub invariant-lines : goal.invariant-lines

@@ -1,5 +1,5 @@
 use Rattle.std.proofs.Common.{rules, ◌≡◌, ◌++◌, ◌∷◌, [], arith}
-use Rattle.vme_trace.proofs.Reading.{front_taken, front_lost, front_shorter}
+use Rattle.vme_trace.proofs.LinesInPlace.{front_taken, front_lost, front_shorter}
 use Rattle.vme_trace.proofs.reader.take_edges.Goals as goal
 
 pub returns-then-is_err-clause-fault : goal.returns-then-is_err-clause-fault

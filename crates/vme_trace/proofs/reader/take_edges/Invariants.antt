@@ -1,7 +1,7 @@
 use Rattle.std.proofs.Common.{◌≤◌, [], Some, length}
 use Rattle.vme_model.specs.declared.signals.Version.{Version}
 use Rattle.vme_trace.specs.Taking.{place}
-use Rattle.vme_trace.proofs.Stepping.{Taken}
+use Rattle.vme_trace.proofs.ReaderSteps.{Taken}
 use Rattle.vme_trace.proofs.reader.take_edges.Given as goal
 
 abbrev pub invariant-lines : goal.invariant-lines

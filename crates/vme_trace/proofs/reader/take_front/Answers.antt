@@ -1,7 +1,7 @@
 use Rattle.std.proofs.Common.{rules, arith, ◌≡◌, ◌++◌, [], length-append, sym, append-nil}
 use Rattle.std.proofs.lemmas.Result.{err_from_is_err_and}
 use Rattle.vme_trace.proofs.Lines.{IsOneLine-append, IsOneLine-front, IsOneLine-whole, cut, nothing_behind}
-use Rattle.vme_trace.proofs.Stepping.{too_long_at, fault_before, kept}
+use Rattle.vme_trace.proofs.ReaderSteps.{too_long_at, fault_before, kept}
 use Rattle.vme_trace.proofs.reader.take_front.Goals as goal
 
 pub take_joined-requires-clause-tail : goal.take_joined-requires-clause-tail

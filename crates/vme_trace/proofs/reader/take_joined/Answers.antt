@@ -1,6 +1,6 @@
 use Rattle.std.proofs.Common.{rules, arith, ◌≡◌, ◌++◌, ◌∷◌, [], length-append, refl}
 use Rattle.vme_trace.proofs.Lines.{IsOneLine-append}
-use Rattle.vme_trace.proofs.Stepping.{too_long_at, from_part, from_part_fault, on_ok_map, if_err_map}
+use Rattle.vme_trace.proofs.ReaderSteps.{too_long_at, from_part, from_part_fault, on_ok_map, if_err_map}
 use Rattle.vme_trace.proofs.reader.take_joined.Goals as goal
 
 pub returns-then-is_err-clause-fault : goal.returns-then-is_err-clause-fault

@@ -1,5 +1,5 @@
 use Rattle.std.proofs.Common.{rules, arith, sym, ◌∙◌, ◌≡◌, refl, ◌++◌, [], ◌∷◌}
-use Rattle.vme_trace.proofs.Stepping.{too_long_at, header_read, header_refused, edge_read, edge_refused, edge_lost}
+use Rattle.vme_trace.proofs.ReaderSteps.{too_long_at, header_read, header_refused, edge_read, edge_refused, edge_lost}
 use Rattle.vme_trace.proofs.reader.take_line.Goals as goal
 use Rattle.vme_trace.proofs.reader.take_line.Goals.{in-None+in-Some-header_of, in-Some+in-Some-edge_of+else-is_err}
 

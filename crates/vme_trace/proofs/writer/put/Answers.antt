@@ -1,4 +1,4 @@
-use Rattle.vme_trace.proofs.Written.{wrote_more}
+use Rattle.vme_trace.proofs.WrittenLines.{wrote_more}
 use Rattle.vme_trace.proofs.writer.put.Goals as goal
 
 pub writes-preserved : goal.writes-preserved

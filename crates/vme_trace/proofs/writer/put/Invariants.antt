@@ -1,5 +1,5 @@
 use Rattle.std.proofs.Common.{length}
-use Rattle.vme_trace.proofs.Written.{Wrote}
+use Rattle.vme_trace.proofs.WrittenLines.{Wrote}
 use Rattle.vme_trace.proofs.writer.put.Given as goal
 
 abbrev pub invariant-writes : goal.invariant-writes

@@ -1,6 +1,6 @@
 use Rattle.std.proofs.Common.{◌∷◌, [], ◌++◌, sym}
 use Rattle.vme_model.specs.Text.{header, edge_lines}
-use Rattle.vme_trace.proofs.Written.{on_err, on_err_map, first_front, second_front}
+use Rattle.vme_trace.proofs.WrittenLines.{on_err, on_err_map, first_front, second_front}
 use Rattle.vme_trace.proofs.writer.write.Goals as goal
 
 pub returns-in_err-put-clause-front : goal.returns-in_err-put-clause-front

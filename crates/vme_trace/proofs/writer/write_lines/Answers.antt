@@ -1,5 +1,5 @@
 use Rattle.std.proofs.Common.{arith, ◌∙◌}
-use Rattle.vme_trace.proofs.Written.{on_err, line_more, line_front}
+use Rattle.vme_trace.proofs.WrittenLines.{on_err, line_more, line_front}
 use Rattle.vme_trace.proofs.writer.write_lines.Goals as goal
 
 pub returns-in_err-put-clause-front : goal.returns-in_err-put-clause-front

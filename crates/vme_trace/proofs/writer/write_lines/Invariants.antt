@@ -1,6 +1,6 @@
 use Rattle.std.proofs.Common.{drop}
 use Rattle.vme_model.specs.Text.{edge_lines}
-use Rattle.vme_trace.proofs.Written.{Wrote}
+use Rattle.vme_trace.proofs.WrittenLines.{Wrote}
 use Rattle.vme_trace.proofs.writer.write_lines.Given as goal
 
 abbrev pub invariant-loop-edge : goal.invariant-loop-edge

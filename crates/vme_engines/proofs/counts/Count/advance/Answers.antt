@@ -1,6 +1,6 @@
 use Rattle.std.proofs.Common.{rules}
 use Rattle.std.proofs.lemmas.Fmt.{length-decimal-le}
-use Rattle.vme_engines.proofs.Counting.{long_enough, digit_counted, digits_written}
+use Rattle.vme_engines.proofs.NextNumber.{long_enough, digit_counted, digits_written}
 use Rattle.vme_engines.proofs.counts.Count.advance.Goals as goal
 
 pub invariant_of-self : goal.invariant_of-self

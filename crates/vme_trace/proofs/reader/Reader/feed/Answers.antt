@@ -1,5 +1,5 @@
 use Rattle.std.proofs.Common.{arith}
-use Rattle.vme_trace.proofs.Feeding.{standing, fed_ok_any, fed_fault_any}
+use Rattle.vme_trace.proofs.FedReader.{standing, fed_ok_any, fed_fault_any}
 use Rattle.vme_trace.proofs.reader.Reader.feed.Goals as goal
 
 pub returns-then-is_err-clause-reads : goal.returns-then-is_err-clause-reads

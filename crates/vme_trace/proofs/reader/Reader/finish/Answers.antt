@@ -1,6 +1,6 @@
 use Rattle.std.proofs.Common.{arith, sym, ◌∙◌, ap, not}
 use Rattle.vme_trace.specs.Reading.{answer_of}
-use Rattle.vme_trace.proofs.Feeding.{standing, ends_cut, ends_none, ends_whole}
+use Rattle.vme_trace.proofs.FedReader.{standing, ends_cut, ends_none, ends_whole}
 use Rattle.vme_trace.proofs.reader.Reader.finish.Goals as goal
 
 pub returns-then-not-is_empty-clause-ends : goal.returns-then-not-is_empty-clause-ends

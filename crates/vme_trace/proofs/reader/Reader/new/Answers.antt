@@ -1,4 +1,4 @@
-use Rattle.vme_trace.proofs.Feeding.{none_read}
+use Rattle.vme_trace.proofs.FedReader.{none_read}
 use Rattle.vme_trace.proofs.reader.Reader.new.Goals as goal
 
 pub returns : goal.returns

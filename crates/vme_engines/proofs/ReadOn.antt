@@ -11,7 +11,7 @@ use Rattle.vme_engines.specs.Streams.{streams, IsInput}
 use Rattle.vme_engines.specs.Steps.{Begins, Faults, Comes}
 use Rattle.vme_engines.specs.Pieces.{IsFaulty, Stopped, Came, Taking, Answers, answered}
 use Rattle.vme_engines.proofs.TraceReads.{IsReading, reading_of, begins_more, whole_input, read_out, no_such}
-use Rattle.vme_engines.proofs.Going.{can_go_on}
+use Rattle.vme_engines.proofs.CanGoOn.{can_go_on}
 
 -- ---- what is known of a trace at a read
 

@@ -31,8 +31,8 @@ use Rattle.vme_engines.specs.declared.EngineFault.TheVariants as fault
 use Rattle.vme_scenario.specs.Format.{scenario}
 use Rattle.vme_engines.specs.Outcomes.{bench}
 use Rattle.vme_engines.specs.Driving.{driven, driven_text, Drives, DrivesSafely}
-use Rattle.vme_engines.proofs.Legal.{all_well_formed, legal_trace}
-use Rattle.vme_engines.proofs.Writing.{front_of_more, front_behind}
+use Rattle.vme_engines.proofs.LegalTrace.{all_well_formed, legal_trace}
+use Rattle.vme_engines.proofs.WrittenLines.{front_of_more, front_behind}
 
 -- ---- a turn
 

@@ -9,8 +9,8 @@ use Rattle.vme_trace.specs.declared.Fault.TheVariants.{Memory}
 use Rattle.vme_trace.specs.Reading.{Place}
 use Rattle.vme_trace.specs.Fronts.{IsFrontLine}
 use Rattle.vme_trace.specs.Taking.{place, Leads, Fails}
-use Rattle.vme_trace.proofs.Spelled.{spelled, spelling_fits}
-use Rattle.vme_trace.proofs.Stepping.{Taken, taken_more, taken_fault, fault_before, edge_read, edge_lost}
+use Rattle.vme_trace.proofs.OneSpelling.{spelled, spelling_fits}
+use Rattle.vme_trace.proofs.ReaderSteps.{Taken, taken_more, taken_fault, fault_before, edge_read, edge_lost}
 
 pub version_known : (o : Option Version) → is_some o ≡ true → (v : Version) × (o ≡ Some v)
 version_known None h = absurd (let P : Bool → Type 0 = λ b. cond b ⊥ (Unit {0}) in subst P h tt)

@@ -15,7 +15,7 @@ use Rattle.vme_engines.specs.declared.EngineFault.TheVariants as fault
 use Rattle.vme_engines.specs.Streams.{streams}
 use Rattle.vme_engines.specs.Outcomes.{Answer, Lent, lines_of, HasFault, ReplayStops, ReplaysInput}
 use Rattle.vme_engines.specs.Steps.{IsNoPlan, IsCounted, Fails, Comes, Opens}
-use Rattle.vme_engines.proofs.Known.{unknown_version}
+use Rattle.vme_engines.proofs.TraceSoFar.{unknown_version}
 use Rattle.vme_engines.proofs.TraceReads.{no_such, whole_input}
 
 -- ---- a plan

@@ -10,7 +10,7 @@ use Rattle.vme_trace.specs.Reading.{IsOneLine, rest_of, with_edges}
 use Rattle.vme_trace.specs.Taking.{place}
 use Rattle.vme_trace.specs.Texts.{whole}
 use Rattle.vme_trace.proofs.Lines.{whole_line, end_whole}
-use Rattle.vme_trace.proofs.Spelled.{spelled, spelling_fits}
+use Rattle.vme_trace.proofs.OneSpelling.{spelled, spelling_fits}
 
 lines_read : (v : Version) (n : ℕ) (es : List Edge) → All (λ e. IsTrue (is_well_formed e)) es → rest_of (Some v) (place n []) (edge_lines es) ≡ whole v es
 lines_read v n [] h = end_whole v n

@@ -11,9 +11,9 @@ use Rattle.vme_model.specs.Signals.{is_well_formed}
 use Rattle.vme_model.specs.Text.{spelling, Spells, all_edges, edge_of}
 use Rattle.vme_trace.specs.Fronts.{First, IsFrontLine}
 use Rattle.vme_trace.specs.Reading.{IsOneLine}
-use Rattle.vme_trace.proofs.Edges.{in_all, find_in, find_none, every_edge, formed}
+use Rattle.vme_trace.proofs.AllEdges.{in_all, find_in, find_none, every_edge, formed}
 use Rattle.vme_trace.proofs.Lines.{true_false, no_bytes}
-use Rattle.vme_trace.proofs.Firsts.{first_edge, front_found}
+use Rattle.vme_trace.proofs.FrontEdge.{first_edge, front_found}
 
 same_bytes : (xs ys : List ℕ) → bytes_eq xs ys ≡ true → xs ≡ ys
 same_bytes xs ys h = (bytes_eq-Decides xs ys).0 h

@@ -11,7 +11,7 @@ use Rattle.vme_trace.specs.declared.Fault.TheVariants.{Memory}
 use Rattle.vme_trace.specs.Reading.{IsPart, Place, State, fault_of, answer_of, rest_of, with_edges, HasRead, Stops, Fed, Pumped, ReadsPiece}
 use Rattle.vme_trace.specs.Taking.{place, Leads, Fails}
 use Rattle.vme_trace.proofs.Lines.{true_false, settled, end_cut, end_absent, end_present, no_bytes}
-use Rattle.vme_trace.proofs.Stepping.{behind_fault}
+use Rattle.vme_trace.proofs.ReaderSteps.{behind_fault}
 
 abbrev pub state : Option Version → Option Place → State
 state v p = record { version = v; place = p }

@@ -14,7 +14,7 @@ use Rattle.vme_model.specs.Signals.{is_slot, has_wire, has_value, is_well_formed
 use Rattle.vme_model.specs.Plan.{up_to}
 use Rattle.vme_model.specs.Text.{driver_text, wire_text, sign, argument, spelling}
 use Rattle.vme_trace.specs.Fronts.{First, IsFrontLine, first_driver, first_control_wire, first_bus_wire, first_transfer_wire, first_interrupt_wire, first_board_wire, first_wire, first_sign, first_level, first_slot, first_cycle, first_end, as_value, first_value}
-use Rattle.vme_trace.proofs.Edges.{In, in_slots, in_levels, edge}
+use Rattle.vme_trace.proofs.AllEdges.{In, in_slots, in_levels, edge}
 use Rattle.vme_trace.proofs.Lines.{true_false}
 
 -- P holds of each
