@@ -64,7 +64,7 @@ Answers {S} takes v text trace s answer =
 
 -- An engine whose trace is read on behind a first read answers by the whole of the trace.
 abbrev pub ReadsOn :
-    {S A : Type 0} → Taking S A → trace.State → List Edge → Result Bool Fault → ℕ
+    {S A : Type 0} → Taking S A → trace.ReaderState → List Edge → Result Bool Fault → ℕ
     → Option (List ℕ) → Option (List ℕ) → Option (List ℕ) → Option (List ℕ)
     → Result A Fault → Type 0
 ReadsOn takes reader es first left at to old new answer =

@@ -18,21 +18,21 @@ use Rattle.vme_model.specs.declared.conditions.Condition.TheVariants.{Acknowledg
 use Rattle.vme_model.specs.Guards.{asks, ◌⊓◌}
 use Rattle.vme_model.specs.Rules.{guard, pass_guard, answer_guard, is_passed_by, may_answer}
 use Rattle.vme_model.specs.Verdict.{Judgement, check, is_other_state, ruling, ruling_on}
-use Rattle.vme_interrupter.specs.Local.{Noted, State, edges, state_of, is_own, local, over}
+use Rattle.vme_interrupter.specs.Local.{Noted, InterrupterState, edges, interrupter_of, is_interrupters, local, over}
 
 abbrev edge : Driver → Wire → Bool → Option Cycle → Edge
 edge d w f v = record { driver = d; wire = w; fall = f; value = v }
 
 -- whatever is shown, it is passed on alike
 passed_alike : (s : ℕ) (row : Option InterrupterRow) (noted : List Noted) (pins : Pins) (shown : Option Cycle) →
-    is_passed_by (local (state_of s row noted) pins) shown ≡ is_passed_by (over s row noted pins) shown
+    is_passed_by (local (interrupter_of s row noted) pins) shown ≡ is_passed_by (over s row noted pins) shown
 passed_alike s row noted pins None = refl
 passed_alike s row noted pins (Some (Acknowledge level)) = refl
 passed_alike s row noted pins (Some (Access t)) = refl
 
 -- and answered
 answered_alike : (s : ℕ) (row : Option InterrupterRow) (noted : List Noted) (pins : Pins) (shown : Option Cycle) →
-    may_answer (local (state_of s row noted) pins) shown ≡ may_answer (over s row noted pins) shown
+    may_answer (local (interrupter_of s row noted) pins) shown ≡ may_answer (over s row noted pins) shown
 answered_alike s row noted pins None = refl
 answered_alike s row noted pins (Some (Acknowledge level)) = refl
 answered_alike s row noted pins (Some (Access t)) = refl
@@ -41,8 +41,8 @@ abbrev after : ℕ → List Noted → Wire → Judgement → Judgement
 after s noted w rest = check (is_other_state (drive (edges noted) (Slot s) w) true) AlreadyThere rest
 
 -- one rule names a wire and a direction, in both versions
-by_parts : (version : Version) (s : ℕ) (row : Option InterrupterRow) (noted : List Noted) (pins : Pins) (d : Driver) (w : Wire) (f : Bool) (v : Option Cycle) → is_own w ≡ true →
-    ruling One (local (state_of s row noted) pins) (edge d w f v) ≡ ruling version (over s row noted pins) (edge d w f v)
+by_parts : (version : Version) (s : ℕ) (row : Option InterrupterRow) (noted : List Noted) (pins : Pins) (d : Driver) (w : Wire) (f : Bool) (v : Option Cycle) → is_interrupters w ≡ true →
+    ruling One (local (interrupter_of s row noted) pins) (edge d w f v) ≡ ruling version (over s row noted pins) (edge d w f v)
 by_parts version s row noted pins d Irq true v own = refl
 by_parts version s row noted pins d Irq false v own = refl
 by_parts version s row noted pins d IackOut true v own =
@@ -54,14 +54,14 @@ by_parts version s row noted pins d Dtack false v own = refl
 by_parts version s row noted pins d w f v own = absurd (cc)
 
 -- a state that a list leads to answers as the list says
-pub answers_over : (version : Version) (state : State) (noted : List Noted) (pins : Pins) (e : Edge) → state ≡ state_of state.slot state.row noted → is_own e.wire ≡ true →
+pub answers_over : (version : Version) (state : InterrupterState) (noted : List Noted) (pins : Pins) (e : Edge) → state ≡ interrupter_of state.slot state.row noted → is_interrupters e.wire ≡ true →
     ruling One (local state pins) e ≡ ruling version (over state.slot state.row noted pins) e
 answers_over version state noted pins e same own =
-    let P : State → Type 0 = λ i. ruling One (local i pins) e ≡ ruling version (over state.slot state.row noted pins) e in
+    let P : InterrupterState → Type 0 = λ i. ruling One (local i pins) e ≡ ruling version (over state.slot state.row noted pins) e in
     subst P (sym same) (by_parts version state.slot state.row noted pins e.driver e.wire e.fall e.value own)
 
 -- the same of an edge of the wire x, which is w
-pub rules_over : (version : Version) (state : State) (noted : List Noted) (pins : Pins) (d : Driver) (w x : Wire) (f : Bool) (v : Option Cycle) → state ≡ state_of state.slot state.row noted → w ≡ x → is_own x ≡ true →
+pub rules_over : (version : Version) (state : InterrupterState) (noted : List Noted) (pins : Pins) (d : Driver) (w x : Wire) (f : Bool) (v : Option Cycle) → state ≡ interrupter_of state.slot state.row noted → w ≡ x → is_interrupters x ≡ true →
     ruling_on One (local state pins) x f v ≡ ruling_on version (over state.slot state.row noted pins) w f v
 rules_over version state noted pins d w x f v same is own =
     answers_over version state noted pins (edge d x f v) same own
@@ -69,19 +69,19 @@ rules_over version state noted pins d w x f v same is own =
 
 -- the guards that read what is shown
 pass_guards : (s : ℕ) (row : Option InterrupterRow) (noted : List Noted) (pins : Pins) (shown : Option Cycle) →
-    pass_guard (local (state_of s row noted) pins) shown ≡ pass_guard (over s row noted pins) shown
+    pass_guard (local (interrupter_of s row noted) pins) shown ≡ pass_guard (over s row noted pins) shown
 pass_guards s row noted pins None = refl
 pass_guards s row noted pins (Some (Acknowledge level)) = refl
 pass_guards s row noted pins (Some (Access t)) = refl
 
 answer_guards : (s : ℕ) (row : Option InterrupterRow) (noted : List Noted) (pins : Pins) (shown : Option Cycle) →
-    answer_guard (local (state_of s row noted) pins) shown ≡ answer_guard (over s row noted pins) shown
+    answer_guard (local (interrupter_of s row noted) pins) shown ≡ answer_guard (over s row noted pins) shown
 answer_guards s row noted pins None = refl
 answer_guards s row noted pins (Some (Acknowledge level)) = refl
 answer_guards s row noted pins (Some (Access t)) = refl
 
-guards_by_parts : (version : Version) (s : ℕ) (row : Option InterrupterRow) (noted : List Noted) (pins : Pins) (w : Wire) (f : Bool) (v : Option Cycle) → is_own w ≡ true →
-    (guard One (local (state_of s row noted) pins) w f v).1 ≡ (guard version (over s row noted pins) w f v).1
+guards_by_parts : (version : Version) (s : ℕ) (row : Option InterrupterRow) (noted : List Noted) (pins : Pins) (w : Wire) (f : Bool) (v : Option Cycle) → is_interrupters w ≡ true →
+    (guard One (local (interrupter_of s row noted) pins) w f v).1 ≡ (guard version (over s row noted pins) w f v).1
 guards_by_parts version s row noted pins Irq true v own = refl
 guards_by_parts version s row noted pins Irq false v own = refl
 guards_by_parts version s row noted pins IackOut true v own =
@@ -93,9 +93,9 @@ guards_by_parts version s row noted pins Dtack false v own = refl
 guards_by_parts version s row noted pins w f v own = absurd (cc)
 
 -- the guards by the state are those over the list
-pub guards_over : (version : Version) (state : State) (noted : List Noted) (pins : Pins) (w x : Wire) (f : Bool) (v : Option Cycle) → state ≡ state_of state.slot state.row noted → w ≡ x → is_own x ≡ true →
+pub guards_over : (version : Version) (state : InterrupterState) (noted : List Noted) (pins : Pins) (w x : Wire) (f : Bool) (v : Option Cycle) → state ≡ interrupter_of state.slot state.row noted → w ≡ x → is_interrupters x ≡ true →
     (guard One (local state pins) x f v).1 ≡ (guard version (over state.slot state.row noted pins) w f v).1
 guards_over version state noted pins w x f v same is own =
-    let P : State → Type 0 = λ i. (guard One (local i pins) x f v).1 ≡ (guard version (over state.slot state.row noted pins) x f v).1 in
+    let P : InterrupterState → Type 0 = λ i. (guard One (local i pins) x f v).1 ≡ (guard version (over state.slot state.row noted pins) x f v).1 in
     subst P (sym same) (guards_by_parts version state.slot state.row noted pins x f v own)
     ∙ ap (λ y. (guard version (over state.slot state.row noted pins) y f v).1) (sym is)

@@ -8,9 +8,9 @@ use Rattle.vme_model.specs.declared.signals.Edge.{Edge}
 use Rattle.vme_model.specs.declared.signals.Wire.TheVariants.{Bbsy}
 use Rattle.vme_model.specs.Plan.{Plan}
 use Rattle.vme_model.specs.Rules.{guard}
-use Rattle.vme_requester.specs.Local.{State as RequesterState, state_of as requester_of, is_own as is_requesters, guard_over}
-use Rattle.vme_master.specs.Local.{State as MasterState, state_of as master_of, is_own as is_masters, over as master_over}
-use Rattle.vme_interrupter.specs.Local.{State as InterrupterState, state_of as interrupter_of, is_own as is_interrupters, over as interrupter_over, seen}
+use Rattle.vme_requester.specs.Local.{RequesterState, requester_of, is_requesters, guard_over}
+use Rattle.vme_master.specs.Local.{MasterState, master_of, is_masters, over as master_over}
+use Rattle.vme_interrupter.specs.Local.{InterrupterState, interrupter_of, is_interrupters, over as interrupter_over, seen}
 use Rattle.vme_wiring.specs.Asked.{asked_guard, IsAsked}
 use Rattle.vme_wiring.specs.Boards.{parts_of, low_of}
 use Rattle.vme_wiring.specs.declared.boards.Board.{Board}
