@@ -22,7 +22,7 @@ use Rattle.vme_model.specs.Rules.{pick, is_pick, is_highest, guard, failing}
 use Rattle.vme_model.proofs.Picks.{one_pick}
 use Rattle.vme_model.specs.Verdict.{ruling}
 use Rattle.vme_rules.specs.Room.{most}
-use Rattle.vme_arbiter.specs.Local.{State, state_of, is_own, local, over, over_pick}
+use Rattle.vme_arbiter.specs.Local.{ControllerState, controller_of, is_controllers, local, over, over_pick}
 
 abbrev edge : Driver → Wire → Bool → Option Cycle → Edge
 edge d w f v = record { driver = d; wire = w; fall = f; value = v }
@@ -56,8 +56,8 @@ lone_pick (Some k) last n =
 abbrev pub as_asked : Readings → (ℕ → Bool) → ArbiterKind → Readings
 as_asked r request asked = record r { request = request; arbiter = asked }
 
-by_parts : (kind asked : ArbiterKind) (request : ℕ → Bool) (version : Version) (noted : List Edge) (pins : Pins) (d : Driver) (w : Wire) (f : Bool) (v : Option Cycle) → is_own w ≡ true →
-    ruling version (as_asked (local (state_of kind version noted) pins) request asked) (edge d w f v) ≡ ruling version (as_asked (over kind noted pins) request asked) (edge d w f v)
+by_parts : (kind asked : ArbiterKind) (request : ℕ → Bool) (version : Version) (noted : List Edge) (pins : Pins) (d : Driver) (w : Wire) (f : Bool) (v : Option Cycle) → is_controllers w ≡ true →
+    ruling version (as_asked (local (controller_of kind version noted) pins) request asked) (edge d w f v) ≡ ruling version (as_asked (over kind noted pins) request asked) (edge d w f v)
 by_parts kind asked request version noted pins d (Bg zero) true v own = refl
 by_parts kind asked request version noted pins d (Bg zero) false v own = refl
 by_parts kind asked request version noted pins d (Bg (suc zero)) true v own = refl
@@ -77,21 +77,21 @@ by_parts kind asked request version noted pins d Berr false v own = refl
 by_parts kind asked request version noted pins d w f v own = absurd (cc)
 
 -- a state that a list leads to answers as the list says
-pub answers_over : (kind : ArbiterKind) (version : Version) (noted : List Edge) (state : State) (pins : Pins) (e : Edge) → state ≡ state_of kind version noted → is_own e.wire ≡ true →
+pub answers_over : (kind : ArbiterKind) (version : Version) (noted : List Edge) (state : ControllerState) (pins : Pins) (e : Edge) → state ≡ controller_of kind version noted → is_controllers e.wire ≡ true →
     ruling state.version (local state pins) e ≡ ruling version (over kind noted pins) e
 answers_over kind version noted state pins e same own =
-    let P : State → Type 0 = λ c. ruling c.version (local c pins) e ≡ ruling version (over kind noted pins) e in
+    let P : ControllerState → Type 0 = λ c. ruling c.version (local c pins) e ≡ ruling version (over kind noted pins) e in
     subst P (sym same) (by_parts kind kind (has_bus_level pins.requests) version noted pins e.driver e.wire e.fall e.value own)
 
 -- the same of a grant, by a policy's pick of the level last granted
-pub grants_over : (kind : ArbiterKind) (version : Version) (noted : List Edge) (state : State) (pins : Pins) (e : Edge) (picked : ℕ → Option ℕ) → state ≡ state_of kind version noted → is_own e.wire ≡ true →
+pub grants_over : (kind : ArbiterKind) (version : Version) (noted : List Edge) (state : ControllerState) (pins : Pins) (e : Edge) (picked : ℕ → Option ℕ) → state ≡ controller_of kind version noted → is_controllers e.wire ≡ true →
     ruling state.version (as_asked (local state pins) (alone (picked state.last_level)) Pri) e ≡ ruling version (over_pick (picked (last_level noted)) noted pins) e
 grants_over kind version noted state pins e picked same own =
-    let P : State → Type 0 = λ c. ruling c.version (as_asked (local c pins) (alone (picked c.last_level)) Pri) e ≡ ruling version (over_pick (picked (last_level noted)) noted pins) e in
+    let P : ControllerState → Type 0 = λ c. ruling c.version (as_asked (local c pins) (alone (picked c.last_level)) Pri) e ≡ ruling version (over_pick (picked (last_level noted)) noted pins) e in
     subst P (sym same) (by_parts kind Pri (alone (picked (last_level noted))) version noted pins e.driver e.wire e.fall e.value own)
 
 -- a grant's level is one of the four
-level_small : (w : Wire) → is_own w ≡ true → is_grant_wire w ≡ true → grant_level w < 4
+level_small : (w : Wire) → is_controllers w ≡ true → is_grant_wire w ≡ true → grant_level w < 4
 level_small (Bg n) own grant = grind arith
 level_small w own grant = absurd (cc)
 
@@ -100,7 +100,7 @@ grant_wire true g grant = grant
 grant_wire false g grant = absurd (cc)
 
 -- whether a grant is of the picked level
-pub pick_alike : (kind : ArbiterKind) (requests : BusLevels) (last : ℕ) (e : Edge) {picked : Option ℕ} {is_picked : Bool} → is_own e.wire ≡ true →
+pub pick_alike : (kind : ArbiterKind) (requests : BusLevels) (last : ℕ) (e : Edge) {picked : Option ℕ} {is_picked : Bool} → is_controllers e.wire ≡ true →
     picked ≡ pick kind (has_bus_level requests) last → is_picked ≡ (is_grant e && option_map_or (λ m. m == grant_level e.wire) picked false) → is_grant e ≡ true →
     is_picked ≡ is_pick kind (has_bus_level requests) last (grant_level e.wire)
 pick_alike kind requests last e {picked} own picks is grant =
@@ -110,10 +110,10 @@ pick_alike kind requests last e {picked} own picks is grant =
     ∙ sym (one_pick kind (has_bus_level requests) last (grant_level e.wire) (level_small e.wire own (grant_wire e.fall (is_grant_wire e.wire) grant)))
 
 -- a policy's pick, by the state
-pub pick_of : (state : State) (kind : ArbiterKind) (version : Version) (noted : List Edge) (picked : ℕ → Option ℕ) (requests : BusLevels) → state ≡ state_of kind version noted →
+pub pick_of : (state : ControllerState) (kind : ArbiterKind) (version : Version) (noted : List Edge) (picked : ℕ → Option ℕ) (requests : BusLevels) → state ≡ controller_of kind version noted →
     picked (last_level noted) ≡ pick kind (has_bus_level requests) (last_level noted) → picked state.last_level ≡ pick state.kind (has_bus_level requests) state.last_level
 pick_of state kind version noted picked requests same picks =
-    let P : State → Type 0 = λ c. picked c.last_level ≡ pick c.kind (has_bus_level requests) c.last_level in
+    let P : ControllerState → Type 0 = λ c. picked c.last_level ≡ pick c.kind (has_bus_level requests) c.last_level in
     subst P (sym same) picks
 
 same_level : (picked : Option ℕ) (level : ℕ) → option_map_or (λ m. m == level) picked false ≡ true → picked ≡ Some level
@@ -136,8 +136,8 @@ pick_alone last e picked is grant =
     ∙ sym (lone_pick picked last (grant_level e.wire))
 
 -- what fails by the state is what fails by the list
-fails_by_parts : (kind asked : ArbiterKind) (request : ℕ → Bool) (version : Version) (noted : List Edge) (pins : Pins) (w : Wire) (f : Bool) (v : Option Cycle) → is_own w ≡ true →
-    failing version (as_asked (local (state_of kind version noted) pins) request asked) w f v ≡ failing version (as_asked (over kind noted pins) request asked) w f v
+fails_by_parts : (kind asked : ArbiterKind) (request : ℕ → Bool) (version : Version) (noted : List Edge) (pins : Pins) (w : Wire) (f : Bool) (v : Option Cycle) → is_controllers w ≡ true →
+    failing version (as_asked (local (controller_of kind version noted) pins) request asked) w f v ≡ failing version (as_asked (over kind noted pins) request asked) w f v
 fails_by_parts kind asked request version noted pins (Bg n) true v own = refl
 fails_by_parts kind asked request version noted pins (Bg n) false v own = refl
 fails_by_parts kind asked request version noted pins Bclr true v own = refl
@@ -148,21 +148,21 @@ fails_by_parts kind asked request version noted pins Berr true v own = refl
 fails_by_parts kind asked request version noted pins Berr false v own = refl
 fails_by_parts kind asked request version noted pins w f v own = absurd (cc)
 
-pub fails_over : (kind : ArbiterKind) (version : Version) (noted : List Edge) (state : State) (pins : Pins) (e : Edge) → state ≡ state_of kind version noted → is_own e.wire ≡ true →
+pub fails_over : (kind : ArbiterKind) (version : Version) (noted : List Edge) (state : ControllerState) (pins : Pins) (e : Edge) → state ≡ controller_of kind version noted → is_controllers e.wire ≡ true →
     failing state.version (local state pins) e.wire e.fall e.value ≡ failing version (over kind noted pins) e.wire e.fall e.value
 fails_over kind version noted state pins e same own =
-    let P : State → Type 0 = λ c. failing c.version (local c pins) e.wire e.fall e.value ≡ failing version (over kind noted pins) e.wire e.fall e.value in
+    let P : ControllerState → Type 0 = λ c. failing c.version (local c pins) e.wire e.fall e.value ≡ failing version (over kind noted pins) e.wire e.fall e.value in
     subst P (sym same) (fails_by_parts kind kind (has_bus_level pins.requests) version noted pins e.wire e.fall e.value own)
 
 -- the same of a grant, by a policy's pick of the level last granted
-pub grant_fails_over : (kind : ArbiterKind) (version : Version) (noted : List Edge) (state : State) (pins : Pins) (e : Edge) (picked : ℕ → Option ℕ) → state ≡ state_of kind version noted → is_own e.wire ≡ true →
+pub grant_fails_over : (kind : ArbiterKind) (version : Version) (noted : List Edge) (state : ControllerState) (pins : Pins) (e : Edge) (picked : ℕ → Option ℕ) → state ≡ controller_of kind version noted → is_controllers e.wire ≡ true →
     failing state.version (as_asked (local state pins) (alone (picked state.last_level)) Pri) e.wire e.fall e.value ≡ failing version (over_pick (picked (last_level noted)) noted pins) e.wire e.fall e.value
 grant_fails_over kind version noted state pins e picked same own =
-    let P : State → Type 0 = λ c. failing c.version (as_asked (local c pins) (alone (picked c.last_level)) Pri) e.wire e.fall e.value ≡ failing version (over_pick (picked (last_level noted)) noted pins) e.wire e.fall e.value in
+    let P : ControllerState → Type 0 = λ c. failing c.version (as_asked (local c pins) (alone (picked c.last_level)) Pri) e.wire e.fall e.value ≡ failing version (over_pick (picked (last_level noted)) noted pins) e.wire e.fall e.value in
     subst P (sym same) (fails_by_parts kind Pri (alone (picked (last_level noted))) version noted pins e.wire e.fall e.value own)
 
 -- a list of five has room for the conditions of its rules
-pub guard_fits : (version : Version) (r : Readings) (w : Wire) (f : Bool) (v : Option Cycle) → is_own w ≡ true → most (guard version r w f v).1 ≤ 5
+pub guard_fits : (version : Version) (r : Readings) (w : Wire) (f : Bool) (v : Option Cycle) → is_controllers w ≡ true → most (guard version r w f v).1 ≤ 5
 guard_fits version r (Bg n) true v own = omega arith
 guard_fits version r (Bg n) false v own = omega arith
 guard_fits version r Bclr true v own = omega arith

@@ -16,7 +16,7 @@ use Rattle.vme_model.specs.Readings.{Readings}
 use Rattle.vme_model.specs.Rules.{bus_numbers, is_pick, is_pri, are_grants_high, is_bus_clear_due}
 use Rattle.vme_model.specs.Verdict.{check, is_other_state, ruling_on}
 use Rattle.vme_model.proofs.Picks.{laws_of}
-use Rattle.vme_arbiter.specs.Local.{is_own, readings, SayWhatIsTold}
+use Rattle.vme_arbiter.specs.Local.{is_controllers, controller_readings, SayWhatIsTold}
 
 alike : (o p b c fall : Bool) (n : ℕ) → o ≡ p → b ≡ c → check (is_other_state o fall) AlreadyThere (check b (Rule n) (Ok tt)) ≡ check (is_other_state p fall) AlreadyThere (check c (Rule n) (Ok tt))
 alike o p b c fall n e f = cc
@@ -32,7 +32,7 @@ any_alike last low high same = cc (same 0, same 1, same 2, same 3)
 
 module _ (version : Version) (kind : ArbiterKind) (own : Wire → Bool) (last_level : ℕ) (pins : Pins) (r : Readings) (says : SayWhatIsTold kind own last_level pins r) where
   abbrev t : Readings
-  t = readings kind own last_level pins
+  t = controller_readings kind own last_level pins
 
   grants_alike : are_grants_high t ≡ are_grants_high r
   grants_alike = cc (says.own_wires (Bg 0) refl, says.own_wires (Bg 1) refl, says.own_wires (Bg 2) refl, says.own_wires (Bg 3) refl)
@@ -54,7 +54,7 @@ module _ (version : Version) (kind : ArbiterKind) (own : Wire → Bool) (last_le
   acknowledge_alike : is_acknowledge pins.shown ≡ is_acknowledge r.shown
   acknowledge_alike = ap is_acknowledge (sym says.shown)
 
-  pub reads_told : (w : Wire) (fall : Bool) (value : Option Cycle) → is_own w ≡ true → ruling_on version t w fall value ≡ ruling_on version r w fall value
+  pub reads_told : (w : Wire) (fall : Bool) (value : Option Cycle) → is_controllers w ≡ true → ruling_on version t w fall value ≡ ruling_on version r w fall value
   reads_told (Bg n) true v own =
       alike _ _ _ _ true 1 (sym (says.own_wires (Bg n) own)) (cc (grants_alike, says.bbsy, pick_so n))
   reads_told (Bg n) false v own = alike _ _ _ _ false 2 (sym (says.own_wires (Bg n) own)) (cc says.bbsy)

@@ -17,7 +17,7 @@ use Rattle.vme_model.specs.Readings.{Readings, readings_of_pins}
 
 -- what a controller keeps: its kind, the version of its rules, which of its wires are low, and the
 -- level last granted
-pub record State : Type 0 where
+pub record ControllerState : Type 0 where
   pub kind : ArbiterKind
   pub version : Version
   pub bg0 : Bool
@@ -30,8 +30,8 @@ pub record State : Type 0 where
   pub last_level : ℕ
 
 -- the state after a list of noted edges
-abbrev pub state_of : ArbiterKind → Version → List Edge → State
-state_of kind version noted = record {
+abbrev pub controller_of : ArbiterKind → Version → List Edge → ControllerState
+controller_of kind version noted = record {
   kind = kind;
   version = version;
   bg0 = drive noted Controller (Bg 0);
@@ -45,11 +45,11 @@ state_of kind version noted = record {
 }
 
 -- the wires that a controller drives
-abbrev pub is_own : Wire → Bool
-is_own w = has_wire Controller w
+abbrev pub is_controllers : Wire → Bool
+is_controllers w = has_wire Controller w
 
 -- the wires by the state
-abbrev pub low : State → Wire → Bool
+abbrev pub low : ControllerState → Wire → Bool
 low c (Bg n) =
     if n == 0 then c.bg0
     else (if n == 1 then c.bg1 else (if n == 2 then c.bg2 else (if n == 3 then c.bg3 else false)))
@@ -59,20 +59,20 @@ low c Berr = c.berr
 low c _ = false
 
 -- what its rules read: its own wires, its pins, its kind, and the level last granted
-abbrev pub readings : ArbiterKind → (Wire → Bool) → ℕ → Pins → Readings
-readings kind own last_level pins = record (readings_of_pins pins) {
+abbrev pub controller_readings : ArbiterKind → (Wire → Bool) → ℕ → Pins → Readings
+controller_readings kind own last_level pins = record (readings_of_pins pins) {
   own = own;
   last_level = last_level;
   arbiter = kind;
 }
 
 -- what its rules read, by the state
-abbrev pub local : State → Pins → Readings
-local c pins = readings c.kind (low c) c.last_level pins
+abbrev pub local : ControllerState → Pins → Readings
+local c pins = controller_readings c.kind (low c) c.last_level pins
 
 -- what its rules read, over the edges that were noted
 abbrev pub over : ArbiterKind → List Edge → Pins → Readings
-over kind noted pins = readings kind (drive noted Controller) (last_level noted) pins
+over kind noted pins = controller_readings kind (drive noted Controller) (last_level noted) pins
 
 -- the same with a policy's own pick in the place of its kind's: priority picks it where nothing
 -- else is requested
@@ -84,7 +84,7 @@ over_pick picked noted pins =
 pub record SayWhatIsTold
     (kind : ArbiterKind) (own : Wire → Bool) (last_level : ℕ) (pins : Pins) (r : Readings)
     : Type 0 where
-  pub own_wires : (w : Wire) → is_own w ≡ true → r.own w ≡ own w
+  pub own_wires : (w : Wire) → is_controllers w ≡ true → r.own w ≡ own w
   pub arbiter : r.arbiter ≡ kind
   pub last : r.last_level ≡ last_level
   pub requests : (n : ℕ) → r.request n ≡ has_bus_level pins.requests n

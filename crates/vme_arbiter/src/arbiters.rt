@@ -13,7 +13,7 @@ ghost use Rattle.vme_model.specs.History.{last_level};
 ghost use Rattle.vme_model.specs.Readings.{Readings};
 ghost use Rattle.vme_model.specs.Rules.{bus_numbers, pick, is_pick, are_grants_high, clear_guard, bg_falls, iack_falls, failing, guard};
 ghost use Rattle.vme_model.specs.Verdict.{ruling};
-ghost use Rattle.vme_arbiter.specs.Local.{state_of, is_own, low, local, over, over_pick};
+ghost use Rattle.vme_arbiter.specs.Local.{controller_of, is_controllers, low, local, over, over_pick};
 
 use crate::policies::Policy;
 use arrayvec::ArrayVec;
@@ -40,9 +40,9 @@ struct Controller {
 }
 
 impl Model for Controller {
-    ghost use Rattle.vme_arbiter.specs.Local.{State};
+    ghost use Rattle.vme_arbiter.specs.Local.{ControllerState};
 
-    ghost Value = { State };
+    ghost Value = { ControllerState };
 
     ghost view = { λ c. record { kind = c.kind; version = c.version; bg0 = c.bg0; bg1 = c.bg1; bg2 = c.bg2; bg3 = c.bg3; bclr = c.bclr; iack = c.iack; berr = c.berr; last_level = c.last_level } };
 
@@ -52,7 +52,7 @@ impl Model for Controller {
 impl Controller {
     /// A controller before any edge.
     fn new(kind: ArbiterKind, version: Version) -> Controller
-        ensures { result ≡ state_of kind version [] }
+        ensures { result ≡ controller_of kind version [] }
     {
         Controller {
             kind,
@@ -127,17 +127,17 @@ impl Controller {
     /// or does not.
     #[inline(always)]
     fn rule<A: Outcome>(&self, edge: Edge, pins: Pins, is_picked: bool) -> (u8, A)
-        ensures number { (r : Readings) → is_own edge.wire ≡ true →
+        ensures number { (r : Readings) → is_controllers edge.wire ≡ true →
             result.0 ≡ (guard self.now.version r edge.wire edge.fall edge.value).0 }
         ensures picked { is_grant edge ≡ true →
             A.tells result.1 (bg_falls (are_grants_high (local self.now pins)) pins.bbsy is_picked) }
-        ensures rows { is_own edge.wire ≡ true →
+        ensures rows { is_controllers edge.wire ≡ true →
             (is_grant edge ≡ true → is_picked ≡ is_pick self.now.kind (has_bus_level pins.requests)
             self.now.last_level (grant_level edge.wire)) →
             A.tells result.1
             (guard self.now.version (local self.now pins) edge.wire edge.fall edge.value).1 }
         ensures grants { (kind : KindValue) (request : ℕ → Bool) →
-            is_own edge.wire ≡ true → is_grant edge ≡ true →
+            is_controllers edge.wire ≡ true → is_grant edge ≡ true →
             is_picked ≡ is_pick kind request self.now.last_level (grant_level edge.wire) →
             A.tells result.1
             (guard self.now.version (record (local self.now pins) { request = request; arbiter = kind })
@@ -162,12 +162,12 @@ impl Controller {
     #[inline(always)]
     fn judge(&self, edge: Edge, pins: Pins, is_picked: bool) -> Result<(), Refused>
         ensures picked { is_grant edge ≡ true → is_ok result ≡ true → is_picked ≡ true }
-        ensures rows { is_own edge.wire ≡ true →
+        ensures rows { is_controllers edge.wire ≡ true →
             (is_grant edge ≡ true → is_picked ≡ is_pick self.now.kind (has_bus_level pins.requests)
             self.now.last_level (grant_level edge.wire)) →
             result ≡ ruling self.now.version (local self.now pins) edge }
         ensures grants { (kind : KindValue) (request : ℕ → Bool) →
-            is_own edge.wire ≡ true → is_grant edge ≡ true →
+            is_controllers edge.wire ≡ true → is_grant edge ≡ true →
             is_picked ≡ is_pick kind request self.now.last_level (grant_level edge.wire) →
             result ≡ ruling self.now.version
             (record (local self.now pins) { request = request; arbiter = kind }) edge }
@@ -187,7 +187,9 @@ impl Controller {
 
     /// Takes in an edge that was made.
     fn note(&mut self, edge: Edge)
-        ensures { (kind : KindValue) (version : VersionValue) (noted : List EdgeValue) → self.old ≡ state_of kind version noted → self.new ≡ state_of kind version (edge ∷ noted) }
+        ensures { (kind : KindValue) (version : VersionValue) (noted : List EdgeValue)
+            → self.old ≡ controller_of kind version noted
+            → self.new ≡ controller_of kind version (edge ∷ noted) }
     {
         if edge.is_grant() {
             self.last_level = edge.wire.grant_level();
@@ -217,9 +219,9 @@ pub struct Arbiter<P> {
 }
 
 impl<P> Model for Arbiter<P> {
-    ghost use Rattle.vme_arbiter.specs.Local.{State};
+    ghost use Rattle.vme_arbiter.specs.Local.{ControllerState};
 
-    ghost Value = { P × State };
+    ghost Value = { P × ControllerState };
 
     ghost view = { λ a. (a.policy, a.controller) };
 
@@ -230,7 +232,7 @@ impl<P: Policy> Arbiter<P> {
     /// The arbiter over a policy before any edge, under that version of the rules. Its kind says whether it drives
     /// BCLR*, as a priority arbiter alone does.
     pub fn new(policy: P, kind: ArbiterKind, version: Version) -> Arbiter<P>
-        ensures { result ≡ (policy, state_of kind version []) }
+        ensures { result ≡ (policy, controller_of kind version []) }
     {
         Arbiter {
             policy,
@@ -275,14 +277,14 @@ impl<P: Policy> Arbiter<P> {
         ensures picked { is_grant edge ≡ true → is_ok result ≡ true →
             P.picked self.now.0 pins.requests self.now.1.last_level ≡ Some (grant_level edge.wire) }
         ensures rows { (kind : KindValue) (version : VersionValue) (noted : List EdgeValue) →
-            self.now.1 ≡ state_of kind version noted →
-            is_own edge.wire ≡ true →
+            self.now.1 ≡ controller_of kind version noted →
+            is_controllers edge.wire ≡ true →
             (is_grant edge ≡ true → P.picked self.now.0 pins.requests (last_level noted)
             ≡ pick kind (has_bus_level pins.requests) (last_level noted)) →
             result ≡ ruling version (over kind noted pins) edge }
         ensures grants { (kind : KindValue) (version : VersionValue) (noted : List EdgeValue) →
-            self.now.1 ≡ state_of kind version noted →
-            is_own edge.wire ≡ true → is_grant edge ≡ true →
+            self.now.1 ≡ controller_of kind version noted →
+            is_controllers edge.wire ≡ true → is_grant edge ≡ true →
             result ≡ ruling version
             (over_pick (P.picked self.now.0 pins.requests (last_level noted)) noted pins) edge }
     {
@@ -294,15 +296,15 @@ impl<P: Policy> Arbiter<P> {
     /// a grant with the policy's pick in the place of its kind's. It is told its pins.
     pub fn failing(&self, edge: Edge, pins: Pins) -> ArrayVec<Condition, 5>
         ensures rows { (kind : KindValue) (version : VersionValue) (noted : List EdgeValue) →
-            self.now.1 ≡ state_of kind version noted →
-            is_own edge.wire ≡ true →
+            self.now.1 ≡ controller_of kind version noted →
+            is_controllers edge.wire ≡ true →
             (is_grant edge ≡ true → P.picked self.now.0 pins.requests (last_level noted)
             ≡ pick kind (has_bus_level pins.requests) (last_level noted)) →
             result.items ≡
             failing version (over kind noted pins) edge.wire edge.fall edge.value }
         ensures grants { (kind : KindValue) (version : VersionValue) (noted : List EdgeValue) →
-            self.now.1 ≡ state_of kind version noted →
-            is_own edge.wire ≡ true → is_grant edge ≡ true →
+            self.now.1 ≡ controller_of kind version noted →
+            is_controllers edge.wire ≡ true → is_grant edge ≡ true →
             result.items ≡ failing version
             (over_pick (P.picked self.now.0 pins.requests (last_level noted)) noted pins)
             edge.wire edge.fall edge.value }
@@ -315,7 +317,9 @@ impl<P: Policy> Arbiter<P> {
     /// Takes in an edge that was made; one of another driver changes no wire of the controller's.
     pub fn note(&mut self, edge: Edge)
         ensures policy { self.new.0 ≡ self.old.0 }
-        ensures state { (kind : KindValue) (version : VersionValue) (noted : List EdgeValue) → self.old.1 ≡ state_of kind version noted → self.new.1 ≡ state_of kind version (edge ∷ noted) }
+        ensures state { (kind : KindValue) (version : VersionValue) (noted : List EdgeValue)
+            → self.old.1 ≡ controller_of kind version noted
+            → self.new.1 ≡ controller_of kind version (edge ∷ noted) }
     {
         self.controller.note(edge);
     }

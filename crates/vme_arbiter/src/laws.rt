@@ -9,7 +9,7 @@ ghost use Rattle.vme_model.specs.declared.signals.Wire.{Wire};
 ghost use Rattle.vme_model.specs.Readings.{Readings};
 ghost use Rattle.vme_model.specs.Rules.{is_pick, pick};
 ghost use Rattle.vme_model.specs.Verdict.{ruling_on};
-ghost use Rattle.vme_arbiter.specs.Local.{is_own, readings, SayWhatIsTold};
+ghost use Rattle.vme_arbiter.specs.Local.{is_controllers, controller_readings, SayWhatIsTold};
 
 /// The level that a rule tests for is the one that is picked: there are never two.
 pub fn picks_one()
@@ -23,7 +23,7 @@ pub fn picks_one()
 pub fn reads_what_it_is_told()
     ensures { (version : Version) (kind : ArbiterKind) (own : Wire → Bool) (last_level : ℕ)
         (pins : Pins) (r : Readings) (w : Wire) (fall : Bool) (value : Option Cycle) →
-        SayWhatIsTold kind own last_level pins r → is_own w ≡ true →
-        ruling_on version (readings kind own last_level pins) w fall value ≡
+        SayWhatIsTold kind own last_level pins r → is_controllers w ≡ true →
+        ruling_on version (controller_readings kind own last_level pins) w fall value ≡
         ruling_on version r w fall value }
 {}

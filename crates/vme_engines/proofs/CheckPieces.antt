@@ -137,10 +137,10 @@ refusal_unknown p es w e = rw e refl
 
 -- no edge before a fault of a trace is refused
 module _ (p : Plan) (all : List ℕ) (from to : Option (List ℕ)) (es : List Edge) (version : Option Version) (none : refusal_of p version es ≡ None) where
-  at_fault : (f : Fault) → f ≢ Memory → trace.HasFault (read_of all) version es f → HasFault all f × IsUnrefused p (read_of all)
+  at_fault : (f : Fault) → f ≢ Memory → trace.HasFaultAfter (read_of all) version es f → HasFault all f × IsUnrefused p (read_of all)
   at_fault f ne h = (h.fault_is ne, ap (λ w. refusal_of p w (read_of all).edges) h.version_is ∙ ap (refusal_of p version) (h.edges_are ne) ∙ none)
 
-  stops : (f : Fault) → trace.HasFault (read_of all) version es f → FindsNothing p all (streams from to None None) f
+  stops : (f : Fault) → trace.HasFaultAfter (read_of all) version es f → FindsNothing p all (streams from to None None) f
   stops Header h = at_fault Header (λ e. cc) h
   stops (Line n) h = at_fault (Line n) (λ e. cc) h
   stops (TooLong n) h = at_fault (TooLong n) (λ e. cc) h
@@ -154,11 +154,11 @@ module _ (p : Plan) (all : List ℕ) (from to : Option (List ℕ)) (es : List Ed
   pub read_failed : (bytes : List ℕ) → Consumes from to bytes → CanGoOn bytes → version ≡ (read_of bytes).version → (read_of bytes).edges ≡ es → FindsNothing p all (streams from to None None) Read
   read_failed bytes taken on known edges = (bytes, taken, on, ap (λ w. refusal_of p w (read_of bytes).edges) (sym known) ∙ ap (refusal_of p version) edges ∙ none)
 
-  pub faulted : (f : Fault) (later : List ℕ) (reader : trace.State) → reader.version ≡ version → Consumes from to later → all ≡ later ++ unwrap_or to [] → Faults to later reader es f
+  pub faulted : (f : Fault) (later : List ℕ) (reader : trace.ReaderState) → reader.version ≡ version → Consumes from to later → all ≡ later ++ unwrap_or to [] → Faults to later reader es f
       → FindsNothing p all (streams from to None None) f
   faulted f later reader known taken is which = elim which [
     | inl failed ↦ subst (FindsNothing p all (streams from to None None)) (sym failed.0) (read_failed later taken failed.1.goes_on (sym known ∙ failed.1.version) failed.1.edges)
-    | inr stopped ↦ stops f (subst (λ (w : Option Version). trace.HasFault (read_of all) w es f) known (subst (λ (l : List ℕ). trace.HasFault (read_of l) reader.version es f) (sym is) stopped))
+    | inr stopped ↦ stops f (subst (λ (w : Option Version). trace.HasFaultAfter (read_of all) w es f) known (subst (λ (l : List ℕ). trace.HasFaultAfter (read_of l) reader.version es f) (sym is) stopped))
   ]
 
 -- what is found in a whole trace
@@ -214,7 +214,7 @@ finds_all state count p v trace s b judged answer is none h =
 
 -- ---- without a header line
 
-module _ (p : Plan) (from to : Option (List ℕ)) (reader : trace.State) (es : List Edge) (left : ℕ) (unknown : reader.version ≡ None) where
+module _ (p : Plan) (from to : Option (List ℕ)) (reader : trace.ReaderState) (es : List Edge) (left : ℕ) (unknown : reader.version ≡ None) where
   pub unopened : (f : Fault) → Opens from to reader es (Err f, left) → FindsInput p from to (Err f)
   unopened f h = (
     h.0.0 ++ unwrap_or to [],

@@ -6,7 +6,7 @@ use Rattle.vme_model.specs.declared.signals.Version.{Version}
 use Rattle.vme_model.specs.declared.signals.Version.TheVariants.{One}
 use Rattle.vme_model.specs.declared.signals.Edge.{Edge}
 use Rattle.vme_model.specs.Text.{TextFault, no_header, too_long, cut_off, begin_line, split_lines, behind_header, read_from_header, is_too_long, version_of, unread, read_of}
-use Rattle.vme_trace.specs.Reading.{State, IsPart, HasRead, rest_of, with_edges}
+use Rattle.vme_trace.specs.Reading.{ReaderState, IsPart, HasRead, rest_of, with_edges}
 use Rattle.vme_trace.specs.Taking.{place}
 use Rattle.vme_trace.proofs.Lines.{end_cut, end_absent, end_present}
 use Rattle.vme_engines.specs.Outcomes.{CanGoOn}
@@ -112,5 +112,5 @@ from_here (Some v) n [] bytes es h others =
     inl (ap (λ l. (read_of l).fault) (sym (append-nil bytes)) ∙ ap (λ r. r.fault) (others []) ∙ end_present (Some v) n refl)
 from_here None n [] bytes es h others = inr (inr (none_read n bytes es others))
 
-pub can_go_on : (r : State) (bytes : List ℕ) (es : List Edge) → HasRead r bytes es → CanGoOn bytes
+pub can_go_on : (r : ReaderState) (bytes : List ℕ) (es : List Edge) → HasRead r bytes es → CanGoOn bytes
 can_go_on r bytes es h = from_here r.version h.place.line h.place.part bytes es h.part h.others

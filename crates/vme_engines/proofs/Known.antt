@@ -3,7 +3,7 @@ use Rattle.std.proofs.Common.{◌≡◌, ◌≢◌, ℕ, ◌≤◌, List, [], �
 use Rattle.vme_model.specs.declared.signals.Version.{Version}
 use Rattle.vme_model.specs.declared.signals.Edge.{Edge}
 use Rattle.vme_model.specs.Text.{TextFault, no_header, too_long, cut_off, split_lines, read_lines, before_others, behind_header, read_from_header, is_too_long, version_of, edge_of, next_number, unread, read_of}
-use Rattle.vme_trace.specs.Reading.{State, HasRead, rest_of}
+use Rattle.vme_trace.specs.Reading.{ReaderState, HasRead, rest_of}
 
 -- ---- without a version
 
@@ -37,13 +37,13 @@ unknown_version bytes h = no_version 1 (split_lines bytes).0 (split_lines bytes)
 
 -- ---- as more is read
 
-version_stays : (v : Version) (r : State) (bytes : List ℕ) (es : List Edge) (h : HasRead r bytes es) (w : Option Version) → r.version ≡ w → w ≡ Some v
+version_stays : (v : Version) (r : ReaderState) (bytes : List ℕ) (es : List Edge) (h : HasRead r bytes es) (w : Option Version) → r.version ≡ w → w ≡ Some v
     → (more : List ℕ) → (rest_of w h.place more).version ≡ Some v
 version_stays v r bytes es h None e f more = absurd cc
 version_stays v r bytes es h (Some w) e f more = f
 
 -- whatever is read behind, the edges stay the first ones, and the version stays
-pub reads_on : (v : Version) (r : State) (bytes : List ℕ) (es : List Edge) → HasRead r bytes es → r.version ≡ Some v → (more : List ℕ)
+pub reads_on : (v : Version) (r : ReaderState) (bytes : List ℕ) (es : List Edge) → HasRead r bytes es → r.version ≡ Some v → (more : List ℕ)
     → (others : List Edge) × ((read_of (bytes ++ more)).edges ≡ es ++ others) × ((read_of (bytes ++ more)).version ≡ Some v)
 reads_on v r bytes es h known more = (
   (rest_of r.version h.place more).edges,
@@ -106,6 +106,6 @@ unfolding read_of
 few_edges bytes = omega (arith, header_bound 1 (split_lines bytes).0 (split_lines bytes).1, lines_bound bytes)
 
 -- a reader before the first byte knows no version
-pub none_known : (r : State) → HasRead r [] [] → r.version ≡ None
+pub none_known : (r : ReaderState) → HasRead r [] [] → r.version ≡ None
 unfolding read_of split_lines
 none_known r h = sym h.version

@@ -14,7 +14,7 @@ use Rattle.vme_engines.specs.declared.EngineFault.{EngineFault}
 use Rattle.vme_engines.specs.declared.EngineFault.TheVariants as fault
 use Rattle.vme_engines.specs.Streams.{streams}
 use Rattle.vme_engines.specs.Outcomes.{Answer, Lent, lines_of, HasFault, ReplayStops, ReplaysInput}
-use Rattle.vme_engines.specs.Steps.{IsNoPlan, IsCounted, Fails, Comes, Opens}
+use Rattle.vme_engines.specs.Steps.{IsNoPlan, IsCounted, ReadFails, Comes, Opens}
 use Rattle.vme_engines.proofs.Known.{unknown_version}
 use Rattle.vme_engines.proofs.TraceReads.{no_such, whole_input}
 
@@ -29,7 +29,7 @@ no_plan text nothing Runs fault.NoMemory h done = absurd h
 
 -- ---- the first reads
 
-pub counted_first : (from to : Option (List ℕ)) (text head : List ℕ) (reader : trace.State) (es : List Edge) (first : Result Bool Fault) (left : ℕ)
+pub counted_first : (from to : Option (List ℕ)) (text head : List ℕ) (reader : trace.ReaderState) (es : List Edge) (first : Result Bool Fault) (left : ℕ)
     → Comes from to text head left reader es first → first ≡ Ok true → IsCounted reader left (length es)
 counted_first from to text head reader es first left came is =
     let h = subst (λ (a : Result Bool Fault). Comes from to text head left reader es a) is came in
@@ -42,11 +42,11 @@ report_unknown p r w e = rw e refl
 lines_unknown : (p : Plan) (es : List Edge) (w : Option Version) → w ≡ None → lines_of p w es ≡ []
 lines_unknown p es w e = rw e refl
 
-module _ (p : Plan) (all : List ℕ) (from to old : Option (List ℕ)) (reader : trace.State) (es : List Edge) (unknown : reader.version ≡ None) where
-  at_fault : (f : Fault) → f ≢ Memory → trace.HasFault (read_of all) reader.version es f → HasFault all f × Appends old old (report p all)
+module _ (p : Plan) (all : List ℕ) (from to old : Option (List ℕ)) (reader : trace.ReaderState) (es : List Edge) (unknown : reader.version ≡ None) where
+  at_fault : (f : Fault) → f ≢ Memory → trace.HasFaultAfter (read_of all) reader.version es f → HasFault all f × Appends old old (report p all)
   at_fault f ne h = (h.fault_is ne, rw (report_unknown p (read_of all) (read_of all).version (h.version_is ∙ unknown)) (Appends-nil old))
 
-  stops_unknown : (f : Fault) → trace.HasFault (read_of all) reader.version es f → ReplayStops p [] all (streams from to old old) f
+  stops_unknown : (f : Fault) → trace.HasFaultAfter (read_of all) reader.version es f → ReplayStops p [] all (streams from to old old) f
   stops_unknown Header h = at_fault Header (λ e. cc) h
   stops_unknown (Line n) h = at_fault (Line n) (λ e. cc) h
   stops_unknown (TooLong n) h = at_fault (TooLong n) (λ e. cc) h
@@ -56,12 +56,12 @@ module _ (p : Plan) (all : List ℕ) (from to old : Option (List ℕ)) (reader :
   stops_unknown Failed h = absurd (no_such (read_of all).fault Failed (h.fault_is (λ e. cc)) (inr (inr (inl refl))))
   stops_unknown Write h = absurd (no_such (read_of all).fault Write (h.fault_is (λ e. cc)) (inr (inr (inr refl))))
 
-failed_unknown : (p : Plan) (all bytes : List ℕ) (from to old : Option (List ℕ)) (reader : trace.State) (es : List Edge) → Consumes from to bytes → reader.version ≡ None → Fails to bytes reader es
+failed_unknown : (p : Plan) (all bytes : List ℕ) (from to old : Option (List ℕ)) (reader : trace.ReaderState) (es : List Edge) → Consumes from to bytes → reader.version ≡ None → ReadFails to bytes reader es
     → ReplayStops p [] all (streams from to old old) Read
 failed_unknown p all bytes from to old reader es taken unknown h =
     (bytes, taken, h.goes_on, rw (lines_unknown p (read_of bytes).edges (read_of bytes).version (sym h.version ∙ unknown)) (Appends-nil old))
 
-module _ (p : Plan) (from to old : Option (List ℕ)) (reader : trace.State) (es : List Edge) (left : ℕ) (unknown : reader.version ≡ None) where
+module _ (p : Plan) (from to old : Option (List ℕ)) (reader : trace.ReaderState) (es : List Edge) (left : ℕ) (unknown : reader.version ≡ None) where
   pub unopened : (f : Fault) → Opens from to reader es (Err f, left) → ReplaysInput (streams from to old old) p (Err (fault.Trace f))
   unopened f h = (
     h.0.0 ++ unwrap_or to [],

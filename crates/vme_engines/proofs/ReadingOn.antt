@@ -15,7 +15,7 @@ use Rattle.vme_engines.proofs.Going.{can_go_on}
 
 -- ---- what is known of a trace at a read
 
-module _ (v : Version) (from to : Option (List ℕ)) (text head : List ℕ) (left : ℕ) (reader : trace.State) (es : List Edge) (known : reader.version ≡ Some v) where
+module _ (v : Version) (from to : Option (List ℕ)) (text head : List ℕ) (left : ℕ) (reader : trace.ReaderState) (es : List Edge) (known : reader.version ≡ Some v) where
   all_is : (later : List ℕ) → (head ++ later) ++ unwrap_or to [] ≡ head ++ (later ++ unwrap_or to [])
   all_is later = append_assoc head later (unwrap_or to [])
 
@@ -23,10 +23,10 @@ module _ (v : Version) (from to : Option (List ℕ)) (text head : List ℕ) (lef
   is_input later taken = subst (λ (l : List ℕ). IsInput from (text ++ l)) (all_is later) (whole_input from to text (head ++ later) taken)
 
   -- a fault of the trace
-  faulty : (all : List ℕ) (f : Fault) → f ≢ Memory → trace.HasFault (read_of all) reader.version es f → IsFaulty all es f
+  faulty : (all : List ℕ) (f : Fault) → f ≢ Memory → trace.HasFaultAfter (read_of all) reader.version es f → IsFaulty all es f
   faulty all f ne h = (h.fault_is ne, h.edges_are ne)
 
-  stopped : (all : List ℕ) (f : Fault) → trace.HasFault (read_of all) reader.version es f → Stopped v text all from to es f
+  stopped : (all : List ℕ) (f : Fault) → trace.HasFaultAfter (read_of all) reader.version es f → Stopped v text all from to es f
   stopped all Header h = faulty all Header (λ e. cc) h
   stopped all (Line n) h = faulty all (Line n) (λ e. cc) h
   stopped all (TooLong n) h = faulty all (TooLong n) (λ e. cc) h
@@ -48,7 +48,7 @@ module _ (v : Version) (from to : Option (List ℕ)) (text head : List ℕ) (lef
     | inl failed ↦ subst (Stopped v text (head ++ (later ++ unwrap_or to [])) from to es) (sym failed.0)
         (head ++ later, taken, failed.1.goes_on, sym failed.1.version ∙ known, failed.1.edges)
     | inr stops ↦ stopped (head ++ (later ++ unwrap_or to [])) f
-        (subst (λ (l : List ℕ). trace.HasFault (read_of l) reader.version es f) (all_is later) stops)
+        (subst (λ (l : List ℕ). trace.HasFaultAfter (read_of l) reader.version es f) (all_is later) stops)
   ]
 
   pub came_is : (more : Result Bool Fault) → Comes from to text head left reader es more
@@ -89,13 +89,13 @@ came_begins v text trace from to es (Err f) h = h.0
 -- ---- the loop
 
 -- The engine goes on: it has taken the edges of the trace so far.
-pub record IsUnderWay {S A : Type 0} (takes : Taking S A) (v : Version) (text head : List ℕ) (from at old mid : Option (List ℕ)) (judge : S) (reader : trace.State) (left : ℕ) : Type 0 where
+pub record IsUnderWay {S A : Type 0} (takes : Taking S A) (v : Version) (text head : List ℕ) (from at old mid : Option (List ℕ)) (judge : S) (reader : trace.ReaderState) (left : ℕ) : Type 0 where
   pub es : List Edge
   pub reading : IsReading text head from at reader left es
   pub known : reader.version ≡ Some v
   pub taken : takes es (Ok true) old mid judge (Ok None)
 
-module _ {S A : Type 0} (takes : Taking S A) (v : Version) (text head : List ℕ) (from to old new : Option (List ℕ)) (left : ℕ) (reader : trace.State) (es : List Edge) (known : reader.version ≡ Some v) where
+module _ {S A : Type 0} (takes : Taking S A) (v : Version) (text head : List ℕ) (from to old new : Option (List ℕ)) (left : ℕ) (reader : trace.ReaderState) (es : List Edge) (known : reader.version ≡ Some v) where
   -- what it answers is of the whole trace
   pub answers_so : (more : Result Bool Fault) (now : S) (answer : Result A Fault) → Comes from to text head left reader es more → takes es more old new now (answered answer)
       → (rest : List ℕ) × IsInput from (text ++ (head ++ rest)) × Answers takes v text (head ++ rest) (streams from to old new) answer

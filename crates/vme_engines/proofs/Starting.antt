@@ -41,17 +41,17 @@ header_version One more = refl
 header_version Two more = refl
 
 -- the header line is refused: what stands behind it changes nothing
-pub started_not : (v : Version) (rest : List ℕ) (es new : List Edge) (reader : trace.State) (f : Fault) → trace.Fed (header v ++ 10 ∷ []) [] es new reader (Err f) → es ≡ []
+pub started_not : (v : Version) (rest : List ℕ) (es new : List Edge) (reader : trace.ReaderState) (f : Fault) → trace.Fed (header v ++ 10 ∷ []) [] es new reader (Err f) → es ≡ []
     → Starts ((header v ++ 10 ∷ []) ++ rest) reader new (Err f) × (reader.version ≡ Some v)
 started_not v rest es new reader f h none =
     let same : new ≡ h.0 = h.1 ∙ ap (λ l. l ++ h.0) none in
-    let all : (more : List ℕ) → trace.HasFault (read_of ((header v ++ 10 ∷ []) ++ more)) reader.version h.0 f = λ more. (h.2 more).1 in (
-      λ more. rw same (subst (λ (l : List ℕ). trace.HasFault (read_of l) reader.version h.0 f) (sym (append_assoc (header v ++ 10 ∷ []) rest more)) (all (rest ++ more))),
+    let all : (more : List ℕ) → trace.HasFaultAfter (read_of ((header v ++ 10 ∷ []) ++ more)) reader.version h.0 f = λ more. (h.2 more).1 in (
+      λ more. rw same (subst (λ (l : List ℕ). trace.HasFaultAfter (read_of l) reader.version h.0 f) (sym (append_assoc (header v ++ 10 ∷ []) rest more)) (all (rest ++ more))),
       sym (all []).version_is ∙ header_version v [],
     )
 
 -- the header line was taken, and then the rest
-pub started_on : (v : Version) (rest : List ℕ) (es mid new : List Edge) (reader next : trace.State) (f : Fault) → trace.Fed (header v ++ 10 ∷ []) [] es mid reader (Ok tt) → es ≡ []
+pub started_on : (v : Version) (rest : List ℕ) (es mid new : List Edge) (reader next : trace.ReaderState) (f : Fault) → trace.Fed (header v ++ 10 ∷ []) [] es mid reader (Ok tt) → es ≡ []
     → (h : (fs : List Edge) → trace.HasRead reader (header v ++ 10 ∷ []) fs → mid ≡ fs → trace.Fed ((header v ++ 10 ∷ []) ++ rest) fs mid new next (Err f))
     → Starts ((header v ++ 10 ∷ []) ++ rest) next new (Err f) × (next.version ≡ Some v)
 started_on v rest es mid new reader next f first none h =
@@ -60,7 +60,7 @@ started_on v rest es mid new reader next f first none h =
     let whole : new ≡ first.0 ++ then.0 = then.1 ∙ ap (λ l. l ++ then.0) same in
     (λ more. rw whole (then.2 more).1, sym (then.2 []).1.version_is ∙ ap (λ l. (read_of l).version) (append_assoc (header v ++ 10 ∷ []) rest []) ∙ header_version v (rest ++ []))
 
-pub started : (v : Version) (rest : List ℕ) (es mid new : List Edge) (reader next : trace.State) → trace.Fed (header v ++ 10 ∷ []) [] es mid reader (Ok tt) → es ≡ []
+pub started : (v : Version) (rest : List ℕ) (es mid new : List Edge) (reader next : trace.ReaderState) → trace.Fed (header v ++ 10 ∷ []) [] es mid reader (Ok tt) → es ≡ []
     → (h : (fs : List Edge) → trace.HasRead reader (header v ++ 10 ∷ []) fs → mid ≡ fs → trace.Fed ((header v ++ 10 ∷ []) ++ rest) fs mid new next (Ok tt))
     → Starts ((header v ++ 10 ∷ []) ++ rest) next new (Ok true) × (next.version ≡ Some v)
 started v rest es mid new reader next first none h =
@@ -74,14 +74,14 @@ bounded One rest left short few = let n = length-append (header One ++ 10 ∷ []
 bounded Two rest left short few = let n = length-append (header Two ++ 10 ∷ []) rest in omega (arith, n)
 
 -- what `start` answered, as a first read
-pub came_start : (v : Version) (from at : Option (List ℕ)) (before rest : List ℕ) (left : ℕ) (reader : trace.State) (es : List Edge) (first : Result Bool Fault)
+pub came_start : (v : Version) (from at : Option (List ℕ)) (before rest : List ℕ) (left : ℕ) (reader : trace.ReaderState) (es : List Edge) (first : Result Bool Fault)
     → Consumes from at (before ++ ((header v ++ 10 ∷ []) ++ rest)) → length rest ≤ 512 → left < 16777216 → Starts ((header v ++ 10 ∷ []) ++ rest) reader es first
     → Comes from at before (header v ++ 10 ∷ []) left reader es first
 came_start v from at before rest left reader es (Ok true) taken short few h = (rest, taken, bounded v rest left short few, h)
 came_start v from at before rest left reader es (Ok false) taken short few h = absurd h
 came_start v from at before rest left reader es (Err f) taken short few h = (rest, taken, inr (h (unwrap_or at [])))
 
-pub counted_start : (v : Version) (rest : List ℕ) (left : ℕ) (reader : trace.State) (es : List Edge) (first : Result Bool Fault)
+pub counted_start : (v : Version) (rest : List ℕ) (left : ℕ) (reader : trace.ReaderState) (es : List Edge) (first : Result Bool Fault)
     → Starts ((header v ++ 10 ∷ []) ++ rest) reader es first → first ≡ Ok true → length rest ≤ 512 → left < 16777216 → IsCounted reader left (length es)
 counted_start v rest left reader es first starts is short few =
     let read = subst (λ (a : Result Bool Fault). Starts ((header v ++ 10 ∷ []) ++ rest) reader es a) is starts in

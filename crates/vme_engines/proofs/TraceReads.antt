@@ -24,18 +24,18 @@ use Rattle.vme_engines.proofs.Going.{can_go_on}
 -- ---- reading
 
 -- A trace that is being read: it stands in the input behind a text, begins with a head, and these are its edges so far.
-pub record IsReading (text head : List ℕ) (from at : Option (List ℕ)) (reader : trace.State) (left : ℕ) (es : List Edge) : Type 0 where
+pub record IsReading (text head : List ℕ) (from at : Option (List ℕ)) (reader : trace.ReaderState) (left : ℕ) (es : List Edge) : Type 0 where
   pub later : List ℕ
   pub taken : Consumes from at (text ++ (head ++ later))
   pub bounded : IsBounded (head ++ later) left
   pub read : trace.HasRead reader (head ++ later) es
 
-pub reading_of : (text head : List ℕ) (from to : Option (List ℕ)) (reader : trace.State) (left : ℕ) (es : List Edge)
+pub reading_of : (text head : List ℕ) (from to : Option (List ℕ)) (reader : trace.ReaderState) (left : ℕ) (es : List Edge)
     → Comes from to text head left reader es (Ok true) → IsReading text head from to reader left es
 reading_of text head from to reader left es h = record { later = h.0; taken = h.1; bounded = h.2; read = h.3 }
 
 -- the edges of a trace that is being read are few
-pub few : (text head : List ℕ) (from at : Option (List ℕ)) (reader : trace.State) (left : ℕ) (es : List Edge)
+pub few : (text head : List ℕ) (from at : Option (List ℕ)) (reader : trace.ReaderState) (left : ℕ) (es : List Edge)
     → IsReading text head from at reader left es → length es ≤ 2 ^ 34
 few text head from at reader left es r =
     let bound : length (read_of (head ++ r.later)).edges ≤ length (head ++ r.later) = few_edges (head ++ r.later) in
@@ -43,12 +43,12 @@ few text head from at reader left es r =
     let bounded : length (head ++ r.later) + 512 * left ≤ 2 ^ 34 = r.bounded in
     omega arith
 
-pub begins_more : (v : Version) (r : trace.State) (bytes : List ℕ) (es : List Edge) → trace.HasRead r bytes es → r.version ≡ Some v → (more : List ℕ) → Begins (read_of (bytes ++ more)) v es
+pub begins_more : (v : Version) (r : trace.ReaderState) (bytes : List ℕ) (es : List Edge) → trace.HasRead r bytes es → r.version ≡ Some v → (more : List ℕ) → Begins (read_of (bytes ++ more)) v es
 begins_more v r bytes es h known more =
     let on = reads_on v r bytes es h known more in record { version = on.2; others = on.0; edges = on.1 }
 
 -- what one more read brings
-module _ (text head : List ℕ) (from at to : Option (List ℕ)) (reader next : trace.State) (left : ℕ) (es new : List Edge)
+module _ (text head : List ℕ) (from at to : Option (List ℕ)) (reader next : trace.ReaderState) (left : ℕ) (es new : List Edge)
     (r : IsReading text head from at reader (left + 1) es) where
   joined : (piece : List ℕ) → Consumes at to piece → Consumes from to (text ++ (head ++ (r.later ++ piece)))
   joined piece h =
@@ -91,10 +91,10 @@ module _ (text head : List ℕ) (from at to : Option (List ℕ)) (reader next : 
   came_fault : (f : Fault) → trace.StopsWithin at to (head ++ r.later) es [] new next f → Comes from to text head left next (es ++ new) (Err f)
   came_fault f h =
       let same : new ≡ h.1 = h.4 in
-      let stops : trace.HasFault (read_of (((head ++ r.later) ++ h.0) ++ unwrap_or to [])) next.version (es ++ new) f = rw same h.5.1 in (
+      let stops : trace.HasFaultAfter (read_of (((head ++ r.later) ++ h.0) ++ unwrap_or to [])) next.version (es ++ new) f = rw same h.5.1 in (
         r.later ++ h.0,
         joined h.0 h.3,
-        inr (subst (λ (l : List ℕ). trace.HasFault (read_of (l ++ unwrap_or to [])) next.version (es ++ new) f) (behind h.0) stops),
+        inr (subst (λ (l : List ℕ). trace.HasFaultAfter (read_of (l ++ unwrap_or to [])) next.version (es ++ new) f) (behind h.0) stops),
       )
 
   pub came : (answer : Result Bool Fault) → trace.Pumped at to (head ++ r.later) es [] new next answer → Comes from to text head left next (es ++ new) answer
@@ -112,7 +112,7 @@ module _ (text head : List ℕ) (from at to : Option (List ℕ)) (reader next : 
         ∙ (reads_on v reader (head ++ r.later) es r.read known (stopped.0 ++ unwrap_or to [])).2
   ]
 
-pub counted_few : (reader : trace.State) (left judged : ℕ) → IsCounted reader left judged → judged ≤ 2 ^ 34
+pub counted_few : (reader : trace.ReaderState) (left judged : ℕ) → IsCounted reader left judged → judged ≤ 2 ^ 34
 counted_few reader left judged r =
     let bound : length (read_of r.bytes).edges ≤ length r.bytes = few_edges r.bytes in
     let all : length (read_of r.bytes).edges ≡ length r.es = ap length r.read.edges in
@@ -120,7 +120,7 @@ counted_few reader left judged r =
     let count : judged ≡ length r.es = r.count in
     omega arith
 
-pub counted_more : (at to : Option (List ℕ)) (reader next : trace.State) (left judged : ℕ) (new : List Edge) (r : IsCounted reader (left + 1) judged)
+pub counted_more : (at to : Option (List ℕ)) (reader next : trace.ReaderState) (left judged : ℕ) (new : List Edge) (r : IsCounted reader (left + 1) judged)
     → trace.Pumped at to r.bytes r.es [] new next (Ok true) → IsCounted next left (judged + length new)
 counted_more at to reader next left judged new r h =
     let same : new ≡ h.4.0 = h.4.1 in
@@ -132,7 +132,7 @@ counted_more at to reader next left judged new r h =
     record { bytes = r.bytes ++ h.0; es = r.es ++ new; read = rw same h.4.2; bounded = omega (arith, longer); count = omega (arith, more) }
 
 -- a read before the header line
-pub opens_more : (from at to : Option (List ℕ)) (reader next : trace.State) (left : ℕ) (new : List Edge) (r : IsReading [] [] from at reader (left + 1) [])
+pub opens_more : (from at to : Option (List ℕ)) (reader next : trace.ReaderState) (left : ℕ) (new : List Edge) (r : IsReading [] [] from at reader (left + 1) [])
     → trace.Pumped at to r.later [] [] new next (Ok true) → next.version ≡ None → IsReading [] [] from to next left [] × (new ≡ [])
 opens_more from at to reader next left new r h unknown =
     let all : IsReading [] [] from to next left new = reading_of [] [] from to next left new (came [] [] from at to reader next left [] new r (Ok true) h) in

@@ -15,7 +15,7 @@ use Rattle.vme_engines.specs.declared.Status.TheVariants.{Done, SomeRefused}
 use Rattle.vme_engines.specs.declared.EngineFault.TheVariants as fault
 use Rattle.vme_engines.specs.declared.checks.Finding.{Finding}
 use Rattle.vme_engines.specs.declared.checks.Finding.TheVariants.{Legal, Illegal}
-use Rattle.vme_engines.specs.Streams.{Streams, IsInput, HasRead, IsReadOut, Wrote, WroteFront, WroteNothing}
+use Rattle.vme_engines.specs.Streams.{Streams, IsInput, HasConsumed, IsReadOut, Wrote, WroteFront, WroteNothing}
 use Rattle.vme_engines.specs.Outcomes.{Answer, bench, HasFault, CanGoOn}
 
 -- ---- the first refusal
@@ -71,7 +71,7 @@ FindsNothing p trace s Header = HasFault trace Header × IsUnrefused p (read_of 
 FindsNothing p trace s (Line n) = HasFault trace (Line n) × IsUnrefused p (read_of trace)
 FindsNothing p trace s (TooLong n) = HasFault trace (TooLong n) × IsUnrefused p (read_of trace)
 FindsNothing p trace s CutOff = HasFault trace CutOff × IsUnrefused p (read_of trace)
-FindsNothing p trace s Read = (bytes : List ℕ) × HasRead s bytes × CanGoOn bytes × IsUnrefused p (read_of bytes)
+FindsNothing p trace s Read = (bytes : List ℕ) × HasConsumed s bytes × CanGoOn bytes × IsUnrefused p (read_of bytes)
 FindsNothing p trace s Memory = (es : List Edge) × (others : List Edge) × ((read_of trace).edges ≡ es ++ others) × (refusal_of p (read_of trace).version es ≡ None)
 FindsNothing p trace s Failed = ⊥
 FindsNothing p trace s Write = ⊥

@@ -61,10 +61,10 @@ abbrev pub IsTextOf : List ℕ → List ℕ → Type 0
 IsTextOf before text = (text ≡ before) ⊎ ((scenario_limit < length text) × (scenario_limit < length before))
 
 -- A reader took in the header line and the rest of the piece after it.
-abbrev pub Starts : List ℕ → trace.State → List Edge → Result Bool Fault → Type 0
+abbrev pub Starts : List ℕ → trace.ReaderState → List Edge → Result Bool Fault → Type 0
 Starts bytes reader es (Ok true) = trace.HasRead reader bytes es
 Starts bytes reader es (Ok false) = ⊥
-Starts bytes reader es (Err f) = (more : List ℕ) → trace.HasFault (read_of (bytes ++ more)) reader.version es f
+Starts bytes reader es (Err f) = (more : List ℕ) → trace.HasFaultAfter (read_of (bytes ++ more)) reader.version es f
 
 -- What stands after the text of a scenario was replayed: its header line, what was read after it, and the rest.
 abbrev pub JoinsBehind : Front → Version → List ℕ → Option (List ℕ) → Option (List ℕ) → Option (List ℕ) → Option (List ℕ) → Answer → Type 0

@@ -15,7 +15,7 @@ use Rattle.vme_engines.specs.declared.Status.{Status}
 use Rattle.vme_engines.specs.declared.Status.TheVariants.{Done, SomeRefused}
 use Rattle.vme_engines.specs.declared.EngineFault.{EngineFault}
 use Rattle.vme_engines.specs.declared.EngineFault.TheVariants as fault
-use Rattle.vme_engines.specs.Streams.{Streams, IsInput, HasRead, IsReadOut, Wrote, WroteFront}
+use Rattle.vme_engines.specs.Streams.{Streams, IsInput, HasConsumed, IsReadOut, Wrote, WroteFront}
 
 abbrev pub Answer : Type 0
 Answer = Result Status EngineFault
@@ -70,7 +70,7 @@ ReplayStops p text trace s Header = HasFault trace Header × Wrote s (report p t
 ReplayStops p text trace s (Line n) = HasFault trace (Line n) × Wrote s (report p trace)
 ReplayStops p text trace s (TooLong n) = HasFault trace (TooLong n) × Wrote s (report p trace)
 ReplayStops p text trace s CutOff = HasFault trace CutOff × Wrote s (report p trace)
-ReplayStops p text trace s Read = (bytes : List ℕ) × HasRead s (text ++ bytes) × CanGoOn bytes × Wrote s (lines_of p (read_of bytes).version (read_of bytes).edges)
+ReplayStops p text trace s Read = (bytes : List ℕ) × HasConsumed s (text ++ bytes) × CanGoOn bytes × Wrote s (lines_of p (read_of bytes).version (read_of bytes).edges)
 ReplayStops p text trace s Memory = (es : List Edge) × (others : List Edge) × ((read_of trace).edges ≡ es ++ others) × Wrote s (lines_of p (read_of trace).version es)
 ReplayStops p text trace s Failed = ⊥
 ReplayStops p text trace s Write = WroteFront s (report p trace)

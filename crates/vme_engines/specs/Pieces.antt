@@ -46,7 +46,7 @@ Answers {S} takes v text trace s answer =
     (es : List Edge) × (more : Result Bool Fault) × (now : S) × Came v text trace s.from s.to es more × takes es more s.old s.new now (answered answer)
 
 -- An engine whose trace is read on behind a first read answers by the whole of the trace.
-abbrev pub ReadsOn : {S A : Type 0} → Taking S A → trace.State → List Edge → Result Bool Fault → ℕ → Option (List ℕ) → Option (List ℕ) → Option (List ℕ) → Option (List ℕ) → Result A Fault → Type 0
+abbrev pub ReadsOn : {S A : Type 0} → Taking S A → trace.ReaderState → List Edge → Result Bool Fault → ℕ → Option (List ℕ) → Option (List ℕ) → Option (List ℕ) → Option (List ℕ) → Result A Fault → Type 0
 ReadsOn takes reader es first left at to old new answer =
     (version : Version) (from : Option (List ℕ)) (text head : List ℕ) → reader.version ≡ Some version → Comes from at text head left reader es first
     → (rest : List ℕ) × IsInput from (text ++ (head ++ rest)) × Answers takes version text (head ++ rest) (streams from to old new) answer

@@ -42,20 +42,20 @@ pub record Begins (r : Reading) (v : Version) (es : List Edge) : Type 0 where
   pub edges : r.edges ≡ es ++ others
 
 -- A read failed behind these bytes of a trace, which can go on, and these edges of it.
-pub record Fails (to : Option (List ℕ)) (bytes : List ℕ) (reader : trace.State) (es : List Edge) : Type 0 where
+pub record ReadFails (to : Option (List ℕ)) (bytes : List ℕ) (reader : trace.ReaderState) (es : List Edge) : Type 0 where
   pub version : reader.version ≡ (read_of bytes).version
   pub edges : (read_of bytes).edges ≡ es
   pub goes_on : CanGoOn bytes
   pub begins : (v : Version) → reader.version ≡ Some v → Begins (read_of (bytes ++ unwrap_or to [])) v es
 
 -- A fault came from the input: a read failed, or the trace has a fault.
-abbrev pub Faults : Option (List ℕ) → List ℕ → trace.State → List Edge → Fault → Type 0
+abbrev pub Faults : Option (List ℕ) → List ℕ → trace.ReaderState → List Edge → Fault → Type 0
 Faults to bytes reader es f =
-    ((f ≡ Read) × Fails to bytes reader es) ⊎ trace.HasFault (read_of (bytes ++ unwrap_or to [])) reader.version es f
+    ((f ≡ Read) × ReadFails to bytes reader es) ⊎ trace.HasFaultAfter (read_of (bytes ++ unwrap_or to [])) reader.version es f
 
 -- A read came, and what it answered. The trace stands in the input behind a text, and begins with a head; `es` are its
 -- edges up to here.
-abbrev pub Comes : Option (List ℕ) → Option (List ℕ) → List ℕ → List ℕ → ℕ → trace.State → List Edge → Result Bool Fault → Type 0
+abbrev pub Comes : Option (List ℕ) → Option (List ℕ) → List ℕ → List ℕ → ℕ → trace.ReaderState → List Edge → Result Bool Fault → Type 0
 Comes from to text head left reader es (Ok true) =
     (later : List ℕ) × Consumes from to (text ++ (head ++ later)) × IsBounded (head ++ later) left × trace.HasRead reader (head ++ later) es
 Comes from to text head left reader es (Ok false) =
@@ -65,7 +65,7 @@ Comes from to text head left reader es (Err f) =
     (later : List ℕ) × Consumes from to (text ++ (head ++ later)) × Faults to (head ++ later) reader es f
 
 -- The reader has read a trace whose edges are few enough to be counted while so many reads are left.
-pub record IsCounted (reader : trace.State) (left judged : ℕ) : Type 0 where
+pub record IsCounted (reader : trace.ReaderState) (left judged : ℕ) : Type 0 where
   pub bytes : List ℕ
   pub es : List Edge
   pub read : trace.HasRead reader bytes es
@@ -73,7 +73,7 @@ pub record IsCounted (reader : trace.State) (left judged : ℕ) : Type 0 where
   pub count : judged ≡ length es
 
 -- What the reads up to the header line leave: its version is known, or there is a fault.
-abbrev pub Opens : Option (List ℕ) → Option (List ℕ) → trace.State → List Edge → Result Bool Fault × ℕ → Type 0
+abbrev pub Opens : Option (List ℕ) → Option (List ℕ) → trace.ReaderState → List Edge → Result Bool Fault × ℕ → Type 0
 Opens from to reader es (answer, left) = Comes from to [] [] left reader es answer × (answer ≡ Ok true → reader.version ≢ None)
 
 -- ---- replay

@@ -19,8 +19,8 @@ IsInput None all = Unit {0}
 IsInput (Some bytes) all = bytes ≡ all
 
 -- these bytes were read
-abbrev pub HasRead : Streams → List ℕ → Type 0
-HasRead s bytes = Consumes s.from s.to bytes
+abbrev pub HasConsumed : Streams → List ℕ → Type 0
+HasConsumed s bytes = Consumes s.from s.to bytes
 
 -- the input was read to its end
 abbrev pub IsReadOut : Streams → Type 0

@@ -16,21 +16,21 @@ use Rattle.vme_model.specs.declared.signals.Edge.{Edge}
 use Rattle.vme_model.specs.History.{drive}
 use Rattle.vme_model.specs.Rules.{is_passed_by, may_answer}
 use Rattle.vme_model.specs.Verdict.{Judgement, check, is_other_state, ruling, ruling_on}
-use Rattle.vme_interrupter.specs.Local.{Noted, State, edges, state_of, is_own, local, over}
+use Rattle.vme_interrupter.specs.Local.{Noted, InterrupterState, edges, interrupter_of, is_interrupters, local, over}
 
 abbrev edge : Driver → Wire → Bool → Option Cycle → Edge
 edge d w f v = record { driver = d; wire = w; fall = f; value = v }
 
 -- whatever is shown, it is passed on alike
 passed_alike : (s : ℕ) (row : Option InterrupterRow) (noted : List Noted) (pins : Pins) (shown : Option Cycle) →
-    is_passed_by (local (state_of s row noted) pins) shown ≡ is_passed_by (over s row noted pins) shown
+    is_passed_by (local (interrupter_of s row noted) pins) shown ≡ is_passed_by (over s row noted pins) shown
 passed_alike s row noted pins None = refl
 passed_alike s row noted pins (Some (Acknowledge level)) = refl
 passed_alike s row noted pins (Some (Access t)) = refl
 
 -- and answered
 answered_alike : (s : ℕ) (row : Option InterrupterRow) (noted : List Noted) (pins : Pins) (shown : Option Cycle) →
-    may_answer (local (state_of s row noted) pins) shown ≡ may_answer (over s row noted pins) shown
+    may_answer (local (interrupter_of s row noted) pins) shown ≡ may_answer (over s row noted pins) shown
 answered_alike s row noted pins None = refl
 answered_alike s row noted pins (Some (Acknowledge level)) = refl
 answered_alike s row noted pins (Some (Access t)) = refl
@@ -39,8 +39,8 @@ abbrev after : ℕ → List Noted → Wire → Judgement → Judgement
 after s noted w rest = check (is_other_state (drive (edges noted) (Slot s) w) true) AlreadyThere rest
 
 -- one rule names a wire and a direction, in both versions
-by_parts : (version : Version) (s : ℕ) (row : Option InterrupterRow) (noted : List Noted) (pins : Pins) (d : Driver) (w : Wire) (f : Bool) (v : Option Cycle) → is_own w ≡ true →
-    ruling One (local (state_of s row noted) pins) (edge d w f v) ≡ ruling version (over s row noted pins) (edge d w f v)
+by_parts : (version : Version) (s : ℕ) (row : Option InterrupterRow) (noted : List Noted) (pins : Pins) (d : Driver) (w : Wire) (f : Bool) (v : Option Cycle) → is_interrupters w ≡ true →
+    ruling One (local (interrupter_of s row noted) pins) (edge d w f v) ≡ ruling version (over s row noted pins) (edge d w f v)
 by_parts version s row noted pins d Irq true v own = refl
 by_parts version s row noted pins d Irq false v own = refl
 by_parts version s row noted pins d IackOut true v own =
@@ -52,14 +52,14 @@ by_parts version s row noted pins d Dtack false v own = refl
 by_parts version s row noted pins d w f v own = absurd (cc)
 
 -- a state that a list leads to answers as the list says
-pub answers_over : (version : Version) (state : State) (noted : List Noted) (pins : Pins) (e : Edge) → state ≡ state_of state.slot state.row noted → is_own e.wire ≡ true →
+pub answers_over : (version : Version) (state : InterrupterState) (noted : List Noted) (pins : Pins) (e : Edge) → state ≡ interrupter_of state.slot state.row noted → is_interrupters e.wire ≡ true →
     ruling One (local state pins) e ≡ ruling version (over state.slot state.row noted pins) e
 answers_over version state noted pins e same own =
-    let P : State → Type 0 = λ i. ruling One (local i pins) e ≡ ruling version (over state.slot state.row noted pins) e in
+    let P : InterrupterState → Type 0 = λ i. ruling One (local i pins) e ≡ ruling version (over state.slot state.row noted pins) e in
     subst P (sym same) (by_parts version state.slot state.row noted pins e.driver e.wire e.fall e.value own)
 
 -- the same of an edge of the wire x, which is w
-pub rules_over : (version : Version) (state : State) (noted : List Noted) (pins : Pins) (d : Driver) (w x : Wire) (f : Bool) (v : Option Cycle) → state ≡ state_of state.slot state.row noted → w ≡ x → is_own x ≡ true →
+pub rules_over : (version : Version) (state : InterrupterState) (noted : List Noted) (pins : Pins) (d : Driver) (w x : Wire) (f : Bool) (v : Option Cycle) → state ≡ interrupter_of state.slot state.row noted → w ≡ x → is_interrupters x ≡ true →
     ruling_on One (local state pins) x f v ≡ ruling_on version (over state.slot state.row noted pins) w f v
 rules_over version state noted pins d w x f v same is own =
     answers_over version state noted pins (edge d x f v) same own

@@ -3,15 +3,15 @@ use Rattle.std.specs.Prelude.{◌==◌, ◌&&◌, Bool, false, not, Option, Some
 use Rattle.std.specs.Option.{option_map_or}
 use Rattle.vme_model.specs.declared.signals.Cycle.{Cycle}
 use Rattle.vme_model.specs.declared.signals.Cycle.TheVariants.{Acknowledge, Access}
-use Rattle.vme_interrupter.specs.Local.{State}
+use Rattle.vme_interrupter.specs.Local.{InterrupterState}
 
 -- by the state it asks at the level of the acknowledge that is shown
-abbrev pub asks_at : State → Option Cycle → Bool
+abbrev pub asks_at : InterrupterState → Option Cycle → Bool
 asks_at i (Some (Acknowledge level)) =
     option_map_or (λ r. r.level == level) i.row false && i.irq && not i.is_served
 asks_at i _ = false
 
 -- an access to its slot is shown
-abbrev pub is_accessed : State → Option Cycle → Bool
+abbrev pub is_accessed : InterrupterState → Option Cycle → Bool
 is_accessed i (Some (Access s)) = i.slot == s
 is_accessed i _ = false

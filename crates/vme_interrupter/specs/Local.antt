@@ -34,7 +34,7 @@ served (n ∷ noted) d row =
     else (is_fall_of d Dtack n.0 && serves_board row n.1) || served noted d row
 
 -- what an interrupter keeps: where it stands, which of its wires are low, and whether its request was served
-pub record State : Type 0 where
+pub record InterrupterState : Type 0 where
   pub slot : ℕ
   pub row : Option InterrupterRow
   pub irq : Bool
@@ -43,8 +43,8 @@ pub record State : Type 0 where
   pub is_served : Bool
 
 -- the state after a list of noted edges
-abbrev pub state_of : ℕ → Option InterrupterRow → List Noted → State
-state_of s row noted = record {
+abbrev pub interrupter_of : ℕ → Option InterrupterRow → List Noted → InterrupterState
+interrupter_of s row noted = record {
   slot = s;
   row = row;
   irq = drive (edges noted) (Slot s) Irq;
@@ -54,39 +54,40 @@ state_of s row noted = record {
 }
 
 -- the wires that an interrupter drives
-abbrev pub is_own : Wire → Bool
-is_own Irq = true
-is_own IackOut = true
-is_own Dtack = true
-is_own _ = false
+abbrev pub is_interrupters : Wire → Bool
+is_interrupters Irq = true
+is_interrupters IackOut = true
+is_interrupters Dtack = true
+is_interrupters _ = false
 
 -- the wires by the state
-abbrev pub low : State → Wire → Bool
+abbrev pub low : InterrupterState → Wire → Bool
 low i Irq = i.irq
 low i IackOut = i.iackout
 low i Dtack = i.dtack
 low i _ = false
 
 -- what its rules read: its own wires, whether it was served, its pins, and its row
-abbrev pub readings : ℕ → Option InterrupterRow → (Wire → Bool) → Bool → Pins → Readings
-readings s row own is_served pins = record (readings_of_pins pins) {
+abbrev pub interrupter_readings : ℕ → Option InterrupterRow → (Wire → Bool) → Bool → Pins → Readings
+interrupter_readings s row own is_served pins = record (readings_of_pins pins) {
   own = own;
   served_since_request = is_served;
   board = Some (record { slot = s; requester = None; interrupter = row; handler = no_levels });
 }
 
 -- what its rules read, by the state
-abbrev pub local : State → Pins → Readings
-local i pins = readings i.slot i.row (low i) i.is_served pins
+abbrev pub local : InterrupterState → Pins → Readings
+local i pins = interrupter_readings i.slot i.row (low i) i.is_served pins
 
 -- what its rules read, over the edges that were noted
 abbrev pub over : ℕ → Option InterrupterRow → List Noted → Pins → Readings
-over s row noted pins = readings s row (drive (edges noted) (Slot s)) (served noted (Slot s) row) pins
+over s row noted pins =
+    interrupter_readings s row (drive (edges noted) (Slot s)) (served noted (Slot s) row) pins
 
 -- readings that say what an interrupter is told, whatever they say of all else
 pub record SayWhatIsTold (s : ℕ) (row : Option InterrupterRow) (own : Wire → Bool)
     (is_served : Bool) (pins : Pins) (r : Readings) : Type 0 where
-  pub own_wires : (w : Wire) → is_own w ≡ true → r.own w ≡ own w
+  pub own_wires : (w : Wire) → is_interrupters w ≡ true → r.own w ≡ own w
   pub served : r.served_since_request ≡ is_served
   pub address_strobe : r.address_strobe ≡ pins.address_strobe
   pub data_strobe : r.data_strobe ≡ pins.data_strobe

@@ -10,7 +10,7 @@ ghost use Rattle.vme_model.specs.declared.signals.Version.TheVariants.{One};
 ghost use Rattle.vme_model.specs.Readings.{is_pending};
 ghost use Rattle.vme_model.specs.Rules.{failing, guard};
 ghost use Rattle.vme_model.specs.Verdict.{ruling, ruling_on};
-ghost use Rattle.vme_interrupter.specs.Local.{Noted, state_of, serves_board, is_own, low, local, over};
+ghost use Rattle.vme_interrupter.specs.Local.{Noted, interrupter_of, serves_board, is_interrupters, low, local, over};
 ghost use Rattle.vme_interrupter.specs.Address.{asks_at, is_accessed};
 
 use arrayvec::ArrayVec;
@@ -34,9 +34,9 @@ pub struct Interrupter {
 }
 
 impl Model for Interrupter {
-    ghost use Rattle.vme_interrupter.specs.Local.{State};
+    ghost use Rattle.vme_interrupter.specs.Local.{InterrupterState};
 
-    ghost Value = { State };
+    ghost Value = { InterrupterState };
 
     ghost view = { λ i. record { slot = i.slot; row = i.row; irq = i.irq; iackout = i.iackout; dtack = i.dtack; is_served = i.is_served } };
 
@@ -58,7 +58,7 @@ impl Interrupter {
     /// The interrupter of the board in a slot, before any edge; with no row the board has none, and answers accesses
     /// alone.
     pub fn new(slot: u8, row: Option<InterrupterRow>) -> Interrupter
-        ensures { result ≡ state_of slot row [] }
+        ensures { result ≡ interrupter_of slot row [] }
     {
         Interrupter {
             slot,
@@ -87,7 +87,7 @@ impl Interrupter {
     /// that serves it since it requested.
     pub fn is_pending(&self, level: u8) -> bool
         ensures { (noted : List Noted) (pins : PinsValue) →
-            self.now ≡ state_of self.now.slot self.now.row noted →
+            self.now ≡ interrupter_of self.now.slot self.now.row noted →
             result ≡ is_pending (over self.now.slot self.now.row noted pins) level }
     {
         self.asks(level)
@@ -235,8 +235,8 @@ impl Interrupter {
     #[inline(always)]
     pub fn may(&self, edge: Edge, pins: Pins) -> Result<(), Refused>
         ensures { (version : Version) (noted : List Noted) →
-            self.now ≡ state_of self.now.slot self.now.row noted →
-            is_own edge.wire ≡ true →
+            self.now ≡ interrupter_of self.now.slot self.now.row noted →
+            is_interrupters edge.wire ≡ true →
             result ≡ ruling version (over self.now.slot self.now.row noted pins) edge }
     {
         match edge.wire {
@@ -251,8 +251,8 @@ impl Interrupter {
     /// guard. It is told its pins.
     pub fn failing(&self, edge: Edge, pins: Pins) -> ArrayVec<Condition, 5>
         ensures { (version : Version) (noted : List Noted) →
-            self.now ≡ state_of self.now.slot self.now.row noted →
-            is_own edge.wire ≡ true →
+            self.now ≡ interrupter_of self.now.slot self.now.row noted →
+            is_interrupters edge.wire ≡ true →
             result.items ≡ failing version (over self.now.slot self.now.row noted pins)
             edge.wire edge.fall edge.value }
     {
@@ -278,8 +278,8 @@ impl Interrupter {
     #[inline(always)]
     pub fn note(&mut self, edge: Edge, shown: Option<Cycle>)
         ensures { (s : ℕ) (row : OptionValue RowValue) (noted : List Noted) →
-            self.old ≡ state_of s row noted →
-            self.new ≡ state_of s row ((edge, shown) ∷ noted) }
+            self.old ≡ interrupter_of s row noted →
+            self.new ≡ interrupter_of s row ((edge, shown) ∷ noted) }
     {
         if edge.driver.is_same(Driver::Slot(self.slot)) {
             match (edge.wire, edge.fall) {

@@ -15,7 +15,7 @@ ghost use Rattle.vme_model.specs.Plan.{Plan, board_of};
 ghost use Rattle.vme_model.specs.Readings.{Readings, is_served};
 ghost use Rattle.vme_model.specs.Verdict.{ruling_on};
 ghost use Rattle.std.specs.Prelude.{Some};
-ghost use Rattle.vme_interrupter.specs.Local.{Noted, edges, served, state_of, seen, is_own, readings, SayWhatIsTold};
+ghost use Rattle.vme_interrupter.specs.Local.{Noted, edges, served, interrupter_of, seen, is_interrupters, interrupter_readings, SayWhatIsTold};
 
 /// Noted as they are made, the edges are the history.
 pub fn notes_history()
@@ -34,7 +34,7 @@ pub fn reads_shown_at_answers()
     ensures { (s : ℕ) (row : Option InterrupterRow) (e : Edge) (one other : Option Cycle)
         (noted : List Noted) →
         is_fall_of (Slot s) Dtack e ≡ false →
-        state_of s row ((e, one) ∷ noted) ≡ state_of s row ((e, other) ∷ noted) }
+        interrupter_of s row ((e, one) ∷ noted) ≡ interrupter_of s row ((e, other) ∷ noted) }
 {}
 
 /// Whatever readings say what an interrupter is told have the same answer: its rules read its own wires, whether it was
@@ -44,7 +44,7 @@ pub fn reads_what_it_is_told()
         (is_served : Bool) (pins : Pins) (r : Readings) (w : Wire) (fall : Bool)
         (value : Option Cycle) →
         SayWhatIsTold s row own is_served pins r →
-        is_own w ≡ true →
-        ruling_on version (readings s row own is_served pins) w fall value
+        is_interrupters w ≡ true →
+        ruling_on version (interrupter_readings s row own is_served pins) w fall value
         ≡ ruling_on version r w fall value }
 {}

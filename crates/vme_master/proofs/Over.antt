@@ -15,13 +15,13 @@ use Rattle.vme_model.specs.declared.signals.Edge.{Edge}
 use Rattle.vme_model.specs.History.{cycles}
 use Rattle.vme_master.proofs.Counts.{below_burst}
 use Rattle.vme_model.specs.Verdict.{ruling, ruling_on}
-use Rattle.vme_master.specs.Local.{State, state_of, is_own, local, over}
+use Rattle.vme_master.specs.Local.{MasterState, master_of, is_masters, local, over}
 
 abbrev edge : Driver → Wire → Bool → Option Cycle → Edge
 edge d w f v = record { driver = d; wire = w; fall = f; value = v }
 
-by_parts : (version : Version) (s : ℕ) (row : RequesterRow) (handler : Levels) (noted : List Edge) (pins : Pins) (holds_bus : Bool) (d : Driver) (w : Wire) (f : Bool) (v : Option Cycle) → is_own w ≡ true →
-    ruling One (local (state_of s row handler noted) pins holds_bus) (edge d w f v) ≡ ruling version (over s row handler noted pins holds_bus) (edge d w f v)
+by_parts : (version : Version) (s : ℕ) (row : RequesterRow) (handler : Levels) (noted : List Edge) (pins : Pins) (holds_bus : Bool) (d : Driver) (w : Wire) (f : Bool) (v : Option Cycle) → is_masters w ≡ true →
+    ruling One (local (master_of s row handler noted) pins holds_bus) (edge d w f v) ≡ ruling version (over s row handler noted pins holds_bus) (edge d w f v)
 by_parts version s row handler noted pins holds_bus d Addr true v own = rw (below_burst (cycles noted (Slot s)) row.release) refl
 by_parts version s row handler noted pins holds_bus d Addr false v own = refl
 by_parts version s row handler noted pins holds_bus d AddressStrobe true v own = refl
@@ -31,14 +31,14 @@ by_parts version s row handler noted pins holds_bus d DataStrobe false v own = r
 by_parts version s row handler noted pins holds_bus d w f v own = absurd (cc)
 
 -- a state that a list leads to answers as the list says
-pub answers_over : (version : Version) (state : State) (noted : List Edge) (pins : Pins) (holds_bus : Bool) (e : Edge) → state ≡ state_of state.slot state.row state.handler noted → is_own e.wire ≡ true →
+pub answers_over : (version : Version) (state : MasterState) (noted : List Edge) (pins : Pins) (holds_bus : Bool) (e : Edge) → state ≡ master_of state.slot state.row state.handler noted → is_masters e.wire ≡ true →
     ruling One (local state pins holds_bus) e ≡ ruling version (over state.slot state.row state.handler noted pins holds_bus) e
 answers_over version state noted pins holds_bus e same own =
-    let P : State → Type 0 = λ m. ruling One (local m pins holds_bus) e ≡ ruling version (over state.slot state.row state.handler noted pins holds_bus) e in
+    let P : MasterState → Type 0 = λ m. ruling One (local m pins holds_bus) e ≡ ruling version (over state.slot state.row state.handler noted pins holds_bus) e in
     subst P (sym same) (by_parts version state.slot state.row state.handler noted pins holds_bus e.driver e.wire e.fall e.value own)
 
 -- the same of an edge of the wire x, which is w
-pub rules_over : (version : Version) (state : State) (noted : List Edge) (pins : Pins) (holds_bus : Bool) (d : Driver) (w x : Wire) (f : Bool) (v : Option Cycle) → state ≡ state_of state.slot state.row state.handler noted → w ≡ x → is_own x ≡ true →
+pub rules_over : (version : Version) (state : MasterState) (noted : List Edge) (pins : Pins) (holds_bus : Bool) (d : Driver) (w x : Wire) (f : Bool) (v : Option Cycle) → state ≡ master_of state.slot state.row state.handler noted → w ≡ x → is_masters x ≡ true →
     ruling_on One (local state pins holds_bus) x f v ≡ ruling_on version (over state.slot state.row state.handler noted pins holds_bus) w f v
 rules_over version state noted pins holds_bus d w x f v same is own =
     answers_over version state noted pins holds_bus (edge d x f v) same own

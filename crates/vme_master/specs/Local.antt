@@ -15,7 +15,7 @@ use Rattle.vme_model.specs.History.{drive, cycles, has_strobed}
 use Rattle.vme_model.specs.Readings.{Readings, readings_of_pins}
 
 -- what a master keeps: where it stands, which of its wires are low (the address group: on), its cycles, and its data strobe
-pub record State : Type 0 where
+pub record MasterState : Type 0 where
   pub slot : ℕ
   pub row : RequesterRow
   pub handler : Levels
@@ -33,8 +33,8 @@ most_cycles (Done burst) = burst
 most_cycles Request = 0
 
 -- the state after a list of noted edges
-abbrev pub state_of : ℕ → RequesterRow → Levels → List Edge → State
-state_of s row handler noted = record {
+abbrev pub master_of : ℕ → RequesterRow → Levels → List Edge → MasterState
+master_of s row handler noted = record {
   slot = s;
   row = row;
   handler = handler;
@@ -46,14 +46,14 @@ state_of s row handler noted = record {
 }
 
 -- the wires that a master drives
-abbrev pub is_own : Wire → Bool
-is_own Addr = true
-is_own AddressStrobe = true
-is_own DataStrobe = true
-is_own _ = false
+abbrev pub is_masters : Wire → Bool
+is_masters Addr = true
+is_masters AddressStrobe = true
+is_masters DataStrobe = true
+is_masters _ = false
 
 -- the wires by the state
-abbrev pub low : State → Wire → Bool
+abbrev pub low : MasterState → Wire → Bool
 low m Addr = m.addr
 low m AddressStrobe = m.address_strobe
 low m DataStrobe = m.data_strobe
@@ -65,8 +65,10 @@ told own holds_bus Bbsy = holds_bus
 told own holds_bus w = own w
 
 -- what its rules read: its own wires, its pins, its board, its cycles, its data strobe, and what it is told
-abbrev pub readings : ℕ → RequesterRow → Levels → (Wire → Bool) → ℕ → Bool → Pins → Bool → Readings
-readings s row handler own cycles has_strobed pins holds_bus = record (readings_of_pins pins) {
+abbrev pub master_readings :
+    ℕ → RequesterRow → Levels → (Wire → Bool) → ℕ → Bool → Pins → Bool → Readings
+master_readings s row handler own cycles has_strobed pins holds_bus =
+    record (readings_of_pins pins) {
   own = told own holds_bus;
   cycles = cycles;
   has_strobed = has_strobed;
@@ -74,20 +76,20 @@ readings s row handler own cycles has_strobed pins holds_bus = record (readings_
 }
 
 -- what its rules read, by the state
-abbrev pub local : State → Pins → Bool → Readings
+abbrev pub local : MasterState → Pins → Bool → Readings
 local m pins holds_bus =
-    readings m.slot m.row m.handler (low m) m.cycles m.has_strobed pins holds_bus
+    master_readings m.slot m.row m.handler (low m) m.cycles m.has_strobed pins holds_bus
 
 -- what its rules read, over the edges that were noted
 abbrev pub over : ℕ → RequesterRow → Levels → List Edge → Pins → Bool → Readings
 over s row handler noted pins holds_bus =
-    readings s row handler (drive noted (Slot s)) (cycles noted (Slot s))
+    master_readings s row handler (drive noted (Slot s)) (cycles noted (Slot s))
     (has_strobed noted (Slot s)) pins holds_bus
 
 -- readings that say what a master is told, whatever they say of all else
 pub record SayWhatIsTold (row : RequesterRow) (handler : Levels) (own : Wire → Bool)
     (cycles : ℕ) (has_strobed : Bool) (pins : Pins) (holds_bus : Bool) (r : Readings) : Type 0 where
-  pub own_wires : (w : Wire) → is_own w ≡ true → r.own w ≡ own w
+  pub own_wires : (w : Wire) → is_masters w ≡ true → r.own w ≡ own w
   pub bbsy : r.own Bbsy ≡ holds_bus
   pub tenure : r.cycles ≡ cycles
   pub strobed : r.has_strobed ≡ has_strobed

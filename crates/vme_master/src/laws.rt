@@ -8,7 +8,7 @@ ghost use Rattle.vme_model.specs.declared.signals.Version.{Version};
 ghost use Rattle.vme_model.specs.declared.signals.Wire.{Wire};
 ghost use Rattle.vme_model.specs.Readings.{Readings};
 ghost use Rattle.vme_model.specs.Verdict.{ruling_on};
-ghost use Rattle.vme_master.specs.Local.{is_own, readings, SayWhatIsTold};
+ghost use Rattle.vme_master.specs.Local.{is_masters, master_readings, SayWhatIsTold};
 
 /// Whatever readings say what a master is told have the same answer: its rules read its own wires and cycles, the
 /// interrupt lines, AS*, DTACK* and BERR*, its row, its handler and whether its board holds the bus, and nothing else.
@@ -17,7 +17,8 @@ pub fn reads_what_it_is_told()
         (cycles : ℕ) (has_strobed : Bool) (pins : Pins) (holds_bus : Bool) (r : Readings) (w : Wire)
         (fall : Bool) (value : Option Cycle) →
         SayWhatIsTold row handler own cycles has_strobed pins holds_bus r →
-        is_own w ≡ true →
-        ruling_on version (readings s row handler own cycles has_strobed pins holds_bus) w fall value
+        is_masters w ≡ true →
+        ruling_on version
+        (master_readings s row handler own cycles has_strobed pins holds_bus) w fall value
         ≡ ruling_on version r w fall value }
 {}

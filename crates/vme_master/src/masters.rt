@@ -8,7 +8,7 @@ ghost use Rattle.vme_model.specs.declared.signals.Cycle.{Cycle as CycleValue};
 ghost use Rattle.vme_model.specs.declared.signals.Edge.{Edge as EdgeValue};
 ghost use Rattle.vme_model.specs.Rules.{failing, guard};
 ghost use Rattle.vme_model.specs.Verdict.{ruling, ruling_on};
-ghost use Rattle.vme_master.specs.Local.{state_of, most_cycles, is_own, low, local, over};
+ghost use Rattle.vme_master.specs.Local.{master_of, most_cycles, is_masters, low, local, over};
 
 use arrayvec::ArrayVec;
 use std::marker::Model;
@@ -34,9 +34,9 @@ pub struct Master {
 }
 
 impl Model for Master {
-    ghost use Rattle.vme_master.specs.Local.{State};
+    ghost use Rattle.vme_master.specs.Local.{MasterState};
 
-    ghost Value = { State };
+    ghost Value = { MasterState };
 
     ghost view = { λ m. record { slot = m.slot; row = m.row; handler = m.handler; addr = m.addr; address_strobe = m.address_strobe; data_strobe = m.data_strobe; cycles = m.cycles; has_strobed = m.has_strobed } };
 
@@ -47,7 +47,7 @@ impl Master {
     /// The master of the board in a slot, with its requester's row and the interrupt levels that the board handles,
     /// before any edge.
     pub fn new(slot: u8, row: RequesterRow, handler: Levels) -> Master
-        ensures { result ≡ state_of slot row handler [] }
+        ensures { result ≡ master_of slot row handler [] }
     {
         Master {
             slot,
@@ -201,8 +201,8 @@ impl Master {
     #[inline(always)]
     pub fn may(&self, edge: Edge, pins: Pins, holds_bus: bool) -> Result<(), Refused>
         ensures { (version : Version) (noted : List EdgeValue) →
-            self.now ≡ state_of self.now.slot self.now.row self.now.handler noted →
-            is_own edge.wire ≡ true →
+            self.now ≡ master_of self.now.slot self.now.row self.now.handler noted →
+            is_masters edge.wire ≡ true →
             result ≡ ruling version
             (over self.now.slot self.now.row self.now.handler noted pins holds_bus) edge }
     {
@@ -218,8 +218,8 @@ impl Master {
     /// guard. It is told what `may` is.
     pub fn failing(&self, edge: Edge, pins: Pins, holds_bus: bool) -> ArrayVec<Condition, 5>
         ensures { (version : Version) (noted : List EdgeValue) →
-            self.now ≡ state_of self.now.slot self.now.row self.now.handler noted →
-            is_own edge.wire ≡ true →
+            self.now ≡ master_of self.now.slot self.now.row self.now.handler noted →
+            is_masters edge.wire ≡ true →
             result.items ≡ failing version
             (over self.now.slot self.now.row self.now.handler noted pins holds_bus)
             edge.wire edge.fall edge.value }
@@ -239,8 +239,8 @@ impl Master {
     #[inline(always)]
     pub fn note(&mut self, edge: Edge)
         ensures { (s : ℕ) (row : RowValue) (handler : LevelsValue) (noted : List EdgeValue) →
-            self.old ≡ state_of s row handler noted →
-            self.new ≡ state_of s row handler (edge ∷ noted) }
+            self.old ≡ master_of s row handler noted →
+            self.new ≡ master_of s row handler (edge ∷ noted) }
     {
         if edge.driver.is_same(Driver::Slot(self.slot)) {
             match (edge.wire, edge.fall) {

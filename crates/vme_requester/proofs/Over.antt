@@ -11,10 +11,10 @@ use Rattle.vme_model.specs.declared.signals.Cycle.{Cycle}
 use Rattle.vme_model.specs.declared.signals.Edge.{Edge}
 use Rattle.vme_model.specs.History.{drive}
 use Rattle.vme_model.specs.Verdict.{ruling_on}
-use Rattle.vme_requester.specs.Local.{State, state_of, is_own, low, readings}
+use Rattle.vme_requester.specs.Local.{RequesterState, requester_of, is_requesters, low, requester_readings}
 
-by_parts : (s : ℕ) (row : RequesterRow) (version : Version) (noted : List Edge) (pins : Pins) (free : Bool) (w : Wire) (f : Bool) (v : Option Cycle) → is_own w ≡ true →
-    ruling_on version (readings s row (low (state_of s row version noted)) pins free) w f v ≡ ruling_on version (readings s row (drive noted (Slot s)) pins free) w f v
+by_parts : (s : ℕ) (row : RequesterRow) (version : Version) (noted : List Edge) (pins : Pins) (free : Bool) (w : Wire) (f : Bool) (v : Option Cycle) → is_requesters w ≡ true →
+    ruling_on version (requester_readings s row (low (requester_of s row version noted)) pins free) w f v ≡ ruling_on version (requester_readings s row (drive noted (Slot s)) pins free) w f v
 by_parts s row version noted pins free Br true v own = refl
 by_parts s row version noted pins free Br false v own = refl
 by_parts s row version noted pins free BgOut true v own = refl
@@ -24,9 +24,9 @@ by_parts s row version noted pins free Bbsy false v own = refl
 by_parts s row version noted pins free w f v own = absurd (cc)
 
 -- a state that a list leads to answers as the list says, to an edge of the wire x, which is w
-pub answers_over : (state : State) (noted : List Edge) (pins : Pins) (free : Bool) (w x : Wire) (f : Bool) (v : Option Cycle) → state ≡ state_of state.slot state.row state.version noted → w ≡ x → is_own x ≡ true →
-    ruling_on state.version (readings state.slot state.row (low state) pins free) x f v ≡ ruling_on state.version (readings state.slot state.row (drive noted (Slot state.slot)) pins free) w f v
+pub answers_over : (state : RequesterState) (noted : List Edge) (pins : Pins) (free : Bool) (w x : Wire) (f : Bool) (v : Option Cycle) → state ≡ requester_of state.slot state.row state.version noted → w ≡ x → is_requesters x ≡ true →
+    ruling_on state.version (requester_readings state.slot state.row (low state) pins free) x f v ≡ ruling_on state.version (requester_readings state.slot state.row (drive noted (Slot state.slot)) pins free) w f v
 answers_over state noted pins free w x f v same is own =
-    let P : State → Type 0 = λ q. ruling_on state.version (readings state.slot state.row (low q) pins free) x f v ≡ ruling_on state.version (readings state.slot state.row (drive noted (Slot state.slot)) pins free) x f v in
+    let P : RequesterState → Type 0 = λ q. ruling_on state.version (requester_readings state.slot state.row (low q) pins free) x f v ≡ ruling_on state.version (requester_readings state.slot state.row (drive noted (Slot state.slot)) pins free) x f v in
     subst P (sym same) (by_parts state.slot state.row state.version noted pins free x f v own)
-    ∙ ap (λ y. ruling_on state.version (readings state.slot state.row (drive noted (Slot state.slot)) pins free) y f v) (sym is)
+    ∙ ap (λ y. ruling_on state.version (requester_readings state.slot state.row (drive noted (Slot state.slot)) pins free) y f v) (sym is)

@@ -16,7 +16,7 @@ use Rattle.vme_model.specs.Rules.{failing}
 use Rattle.vme_model.specs.Verdict.{Judgement, ruling}
 
 -- what a requester keeps: where it stands, the version of its rules, and which of its wires are low
-pub record State : Type 0 where
+pub record RequesterState : Type 0 where
   pub slot : ℕ
   pub row : RequesterRow
   pub version : Version
@@ -25,8 +25,8 @@ pub record State : Type 0 where
   pub bbsy : Bool
 
 -- the state after a list of noted edges
-abbrev pub state_of : ℕ → RequesterRow → Version → List Edge → State
-state_of s row version noted = record {
+abbrev pub requester_of : ℕ → RequesterRow → Version → List Edge → RequesterState
+requester_of s row version noted = record {
   slot = s;
   row = row;
   version = version;
@@ -36,14 +36,14 @@ state_of s row version noted = record {
 }
 
 -- the wires that a requester drives
-abbrev pub is_own : Wire → Bool
-is_own Br = true
-is_own BgOut = true
-is_own Bbsy = true
-is_own _ = false
+abbrev pub is_requesters : Wire → Bool
+is_requesters Br = true
+is_requesters BgOut = true
+is_requesters Bbsy = true
+is_requesters _ = false
 
 -- the wires by the state
-abbrev pub low : State → Wire → Bool
+abbrev pub low : RequesterState → Wire → Bool
 low r Br = r.br
 low r BgOut = r.bgout
 low r Bbsy = r.bbsy
@@ -56,20 +56,20 @@ told own is_address_free AddressStrobe = is_address_free
 told own is_address_free w = own w
 
 -- what its rules read: its own wires, its pins, its row, and what it is told
-abbrev pub readings : ℕ → RequesterRow → (Wire → Bool) → Pins → Bool → Readings
-readings s row own pins is_address_free = record (readings_of_pins pins) {
+abbrev pub requester_readings : ℕ → RequesterRow → (Wire → Bool) → Pins → Bool → Readings
+requester_readings s row own pins is_address_free = record (readings_of_pins pins) {
   own = told own is_address_free;
   board = Some (record { slot = s; requester = Some row; interrupter = None; handler = no_levels });
 }
 
 -- what its rules read, by the state
-abbrev pub local : State → Pins → Bool → Readings
-local r pins is_address_free = readings r.slot r.row (low r) pins is_address_free
+abbrev pub local : RequesterState → Pins → Bool → Readings
+local r pins is_address_free = requester_readings r.slot r.row (low r) pins is_address_free
 
 -- readings that say what a requester is told, whatever they say of all else
 pub record SayWhatIsTold (row : RequesterRow) (own : Wire → Bool) (pins : Pins)
     (is_address_free : Bool) (r : Readings) : Type 0 where
-  pub own_wires : (w : Wire) → is_own w ≡ true → r.own w ≡ own w
+  pub own_wires : (w : Wire) → is_requesters w ≡ true → r.own w ≡ own w
   pub address_free : (not (r.own Addr) || r.own AddressStrobe) ≡ is_address_free
   pub requests : (n : ℕ) → r.request n ≡ has_bus_level pins.requests n
   pub grant_in : r.grant_in ≡ pins.grant_in
@@ -78,11 +78,11 @@ pub record SayWhatIsTold (row : RequesterRow) (own : Wire → Bool) (pins : Pins
 -- the answer to an edge of its own by its rows of the table, read over the edges that were noted
 abbrev pub answer_over : ℕ → RequesterRow → Version → List Edge → Pins → Bool → Edge → Judgement
 answer_over s row version noted pins is_address_free e =
-    ruling version (readings s row (drive noted (Slot s)) pins is_address_free) e
+    ruling version (requester_readings s row (drive noted (Slot s)) pins is_address_free) e
 
 -- the conditions that fail of the rule that names an edge of its own, read so
 abbrev pub failing_over : ℕ → RequesterRow → Version → List Edge → Pins → Bool → Edge →
     List Condition
 failing_over s row version noted pins is_address_free e =
-    failing version (readings s row (drive noted (Slot s)) pins is_address_free)
+    failing version (requester_readings s row (drive noted (Slot s)) pins is_address_free)
     e.wire e.fall e.value

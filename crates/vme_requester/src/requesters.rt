@@ -10,7 +10,7 @@ ghost use Rattle.vme_model.specs.Signals.{is_two};
 ghost use Rattle.vme_model.specs.Sets.{has_bus_level};
 ghost use Rattle.vme_model.specs.Rules.{bus_numbers, guard};
 ghost use Rattle.vme_model.specs.Verdict.{ruling_on};
-ghost use Rattle.vme_requester.specs.Local.{state_of, is_own, low, local, answer_over, failing_over};
+ghost use Rattle.vme_requester.specs.Local.{requester_of, is_requesters, low, local, answer_over, failing_over};
 
 use arrayvec::ArrayVec;
 use std::marker::Model;
@@ -32,9 +32,9 @@ pub struct Requester {
 }
 
 impl Model for Requester {
-    ghost use Rattle.vme_requester.specs.Local.{State};
+    ghost use Rattle.vme_requester.specs.Local.{RequesterState};
 
-    ghost Value = { State };
+    ghost Value = { RequesterState };
 
     ghost view = { λ r. record { slot = r.slot; row = r.row; version = r.version; br = r.br; bgout = r.bgout; bbsy = r.bbsy } };
 
@@ -51,7 +51,7 @@ fn is_any(requests: BusLevels) -> bool
 impl Requester {
     /// The requester of the board in a slot, before any edge, under that version of the rules.
     pub fn new(slot: u8, row: RequesterRow, version: Version) -> Requester
-        ensures { result ≡ state_of slot row version [] }
+        ensures { result ≡ requester_of slot row version [] }
     {
         Requester {
             slot,
@@ -209,8 +209,8 @@ impl Requester {
     #[inline(always)]
     pub fn may(&self, edge: Edge, pins: Pins, is_address_free: bool) -> Result<(), Refused>
         ensures { (noted : List EdgeValue) →
-            self.now ≡ state_of self.now.slot self.now.row self.now.version noted →
-            is_own edge.wire ≡ true →
+            self.now ≡ requester_of self.now.slot self.now.row self.now.version noted →
+            is_requesters edge.wire ≡ true →
             result ≡ answer_over self.now.slot self.now.row self.now.version noted pins
             is_address_free edge }
     {
@@ -227,8 +227,8 @@ impl Requester {
     /// It is told what `may` is.
     pub fn failing(&self, edge: Edge, pins: Pins, is_address_free: bool) -> ArrayVec<Condition, 5>
         ensures { (noted : List EdgeValue) →
-            self.now ≡ state_of self.now.slot self.now.row self.now.version noted →
-            is_own edge.wire ≡ true →
+            self.now ≡ requester_of self.now.slot self.now.row self.now.version noted →
+            is_requesters edge.wire ≡ true →
             result.items ≡ failing_over self.now.slot self.now.row self.now.version noted pins
             is_address_free edge }
     {
@@ -246,8 +246,8 @@ impl Requester {
     #[inline(always)]
     pub fn note(&mut self, edge: Edge)
         ensures { (s : ℕ) (row : RowValue) (version : VersionValue) (noted : List EdgeValue) →
-            self.old ≡ state_of s row version noted →
-            self.new ≡ state_of s row version (edge ∷ noted) }
+            self.old ≡ requester_of s row version noted →
+            self.new ≡ requester_of s row version (edge ∷ noted) }
     {
         if edge.driver.is_same(Driver::Slot(self.slot)) {
             match edge.wire {

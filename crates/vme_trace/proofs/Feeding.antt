@@ -8,12 +8,12 @@ use Rattle.vme_model.specs.declared.signals.Edge.{Edge}
 use Rattle.vme_model.specs.Text.{TextFault, no_header, cut_off, read_of}
 use Rattle.vme_trace.specs.declared.Fault.{Fault}
 use Rattle.vme_trace.specs.declared.Fault.TheVariants.{Memory}
-use Rattle.vme_trace.specs.Reading.{IsPart, Place, State, fault_of, answer_of, rest_of, with_edges, HasRead, Stops, Fed, Pumped, ReadsPiece}
+use Rattle.vme_trace.specs.Reading.{IsPart, Place, ReaderState, fault_of, answer_of, rest_of, with_edges, HasRead, Stops, Fed, Pumped, ReadsPiece}
 use Rattle.vme_trace.specs.Taking.{place, Leads, Fails}
 use Rattle.vme_trace.proofs.Lines.{true_false, settled, end_cut, end_absent, end_present, no_bytes}
 use Rattle.vme_trace.proofs.Stepping.{behind_fault}
 
-abbrev pub state : Option Version → Option Place → State
+abbrev pub state : Option Version → Option Place → ReaderState
 state v p = record { version = v; place = p }
 
 -- what stands after the bytes is the rest of all
@@ -37,7 +37,7 @@ unfolding read_of
 none_read = made None 1 [] [] [] (record { one_line = tt; short = omega arith }) (λ more. refl)
 
 -- a reader that is not used up stands somewhere
-pub standing : (v : Option Version) (p : Place) (used_up : Bool) (reader : State) (bytes : List ℕ) (es : List Edge)
+pub standing : (v : Option Version) (p : Place) (used_up : Bool) (reader : ReaderState) (bytes : List ℕ) (es : List Edge)
     → state v (cond used_up None (Some p)) ≡ reader → used_up ≡ false → HasRead reader bytes es → HasRead (state v (Some p)) bytes es
 standing v p used_up reader bytes es is not read = rw (sym is, not) at read
 
@@ -94,7 +94,7 @@ module _ (v : Option Version) (n : ℕ) (part bytes : List ℕ) (es : List Edge)
 
 -- ---- a whole trace at once
 
-module _ (bytes : List ℕ) (old new : List Edge) (reader : State) (f : Fault) (fed : Fed bytes [] old new reader (Err f)) where
+module _ (bytes : List ℕ) (old new : List Edge) (reader : ReaderState) (f : Fault) (fed : Fed bytes [] old new reader (Err f)) where
   at_end : Stops reader (read_of bytes) fed.0 f
   at_end = let P : List ℕ → Type 0 = λ l. Stops reader (read_of l) fed.0 f in subst P (append-nil bytes) (fed.2 [])
 
@@ -107,7 +107,7 @@ module _ (bytes : List ℕ) (old new : List Edge) (reader : State) (f : Fault) (
   pub parsed_front : (front : List Edge) × (others : List Edge) × ((read_of bytes).edges ≡ front ++ others) × (new ≡ old ++ front)
   parsed_front = (fed.0, at_end.1.front.0, at_end.1.front.1, fed.1)
 
-module _ (bytes : List ℕ) (old new : List Edge) (reader : State) (fed : Fed bytes [] old new reader (Ok tt)) where
+module _ (bytes : List ℕ) (old new : List Edge) (reader : ReaderState) (fed : Fed bytes [] old new reader (Ok tt)) where
   pub read_edges : new ≡ old ++ (read_of bytes).edges
   read_edges = fed.1 ∙ ap (λ l. old ++ l) (sym fed.2.edges)
 
@@ -153,8 +153,8 @@ kept_none None b h = tt
 kept_none (Some xs) None h = h
 kept_none (Some xs) (Some ys) h = sym h
 
-module _ (from to : Option (List ℕ)) (bytes : List ℕ) (es : List Edge) (buffer : List ℕ) (count : ℕ) (piece : ReadsPiece from to buffer count) (reader : State) (read : HasRead reader bytes es) where
-  pub pumped_end : (old : List Edge) (after : State) (none : count ≡ 0) → Ok tt ≡ answer_of (read_of bytes).fault → after.place ≡ None → after.version ≡ reader.version
+module _ (from to : Option (List ℕ)) (bytes : List ℕ) (es : List Edge) (buffer : List ℕ) (count : ℕ) (piece : ReadsPiece from to buffer count) (reader : ReaderState) (read : HasRead reader bytes es) where
+  pub pumped_end : (old : List Edge) (after : ReaderState) (none : count ≡ 0) → Ok tt ≡ answer_of (read_of bytes).fault → after.place ≡ None → after.version ≡ reader.version
       → Pumped from to bytes es old old after (Ok false)
   pumped_end old after none answer used_up same = (
     piece.2 none,
@@ -165,7 +165,7 @@ module _ (from to : Option (List ℕ)) (bytes : List ℕ) (es : List Edge) (buff
     answered_none (read_of bytes).fault answer,
   )
 
-  pub pumped_end_fault : (old : List Edge) (after : State) (f : Fault) (none : count ≡ 0) → Err f ≡ answer_of (read_of bytes).fault → after.place ≡ None
+  pub pumped_end_fault : (old : List Edge) (after : ReaderState) (f : Fault) (none : count ≡ 0) → Err f ≡ answer_of (read_of bytes).fault → after.place ≡ None
       → after.version ≡ reader.version → Pumped from to bytes es old old after (Err f)
   pumped_end_fault old after f none answer used_up same =
       let all : (bytes ++ []) ++ unwrap_or to [] ≡ bytes = ap (λ l. (bytes ++ []) ++ l) (no_rest to (piece.2 none)) ∙ append-nil (bytes ++ []) ∙ append-nil bytes in
@@ -190,6 +190,6 @@ module _ (from to : Option (List ℕ)) (bytes : List ℕ) (es : List Edge) (buff
   short : length (take count buffer) ≤ 512
   short = let h : count ≤ 512 = piece.0 in let k = length-take count buffer in omega (arith, k)
 
-  pub pumped_fault : (old new : List Edge) (after : State) (f : Fault) → Fed (bytes ++ take count buffer) es old new after (Err f) → Pumped from to bytes es old new after (Err f)
+  pub pumped_fault : (old new : List Edge) (after : ReaderState) (f : Fault) → Fed (bytes ++ take count buffer) es old new after (Err f) → Pumped from to bytes es old new after (Err f)
   pumped_fault old new after f given =
       inr (take count buffer, given.0, short, piece.1, given.1, given.2 (unwrap_or to []))

@@ -5,7 +5,7 @@ use Rattle.vme_model.specs.declared.signals.Edge.{Edge}
 use Rattle.vme_model.specs.Text.{TextFault, no_header, no_edge, too_long, Reading, split_lines, next_number, read_lines, version_of, edge_of}
 use Rattle.vme_trace.specs.declared.Fault.{Fault}
 use Rattle.vme_trace.specs.declared.Fault.TheVariants.{Header, Line, TooLong, Memory}
-use Rattle.vme_trace.specs.Reading.{IsOneLine, Place, fault_of, rest_of, with_edges, HasFault}
+use Rattle.vme_trace.specs.Reading.{IsOneLine, Place, fault_of, rest_of, with_edges, HasFaultAfter}
 use Rattle.vme_trace.specs.Taking.{place, Leads, Fails}
 use Rattle.vme_trace.proofs.Lines.{faulty, whole_line, long_front, rest_part}
 
@@ -18,11 +18,11 @@ if_err_map (Ok a) P Q f h = tt
 if_err_map (Err e) P Q f h = f e h
 
 -- a trace with a fault and no edge before it
-pub has_fault : (r : Reading) (v : Option Version) (t : TextFault) → r ≡ faulty v t → HasFault r v [] (fault_of t)
+pub has_fault : (r : Reading) (v : Option Version) (t : TextFault) → r ≡ faulty v t → HasFaultAfter r v [] (fault_of t)
 has_fault r v t h = rw h (record { version_is = refl; front = ([], refl); edges_are = λ _. refl; fault_is = λ _. refl })
 
 -- the same after other edges
-pub behind_fault : (r : Reading) (v : Option Version) (es fs : List Edge) (f : Fault) → HasFault r v fs f → HasFault (with_edges es r) v (es ++ fs) f
+pub behind_fault : (r : Reading) (v : Option Version) (es fs : List Edge) (f : Fault) → HasFaultAfter r v fs f → HasFaultAfter (with_edges es r) v (es ++ fs) f
 behind_fault r v es fs f h = record {
   version_is = h.version_is;
   front = (h.front.0, ap (λ l. es ++ l) h.front.1 ∙ sym (append_assoc es fs h.front.0));

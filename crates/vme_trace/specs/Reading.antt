@@ -29,7 +29,7 @@ pub record Place : Type 0 where
   pub part : List ℕ
 
 -- a reader: the version, once the header line was read, and where it stands; nowhere once it is used up
-pub record State : Type 0 where
+pub record ReaderState : Type 0 where
   pub version : Option Version
   pub place : Option Place
 
@@ -45,7 +45,7 @@ with_edges es r = record { version = r.version; edges = es ++ r.edges; fault = r
 
 -- The reader has read these bytes, and its version and these edges are theirs: whatever bytes follow, from where it
 -- stands they say what is left of the whole. It keeps no more than a part of one line, so that no fault stands in the bytes.
-pub record HasRead (reader : State) (bytes : List ℕ) (es : List Edge) : Type 0 where
+pub record HasRead (reader : ReaderState) (bytes : List ℕ) (es : List Edge) : Type 0 where
   pub place : Place
   pub stands : reader.place ≡ Some place
   pub part : IsPart place.part
@@ -55,18 +55,18 @@ pub record HasRead (reader : State) (bytes : List ℕ) (es : List Edge) : Type 0
 
 -- A trace of this version has a fault after these edges. Where memory was refused they are the first ones, else all
 -- up to the fault.
-pub record HasFault (trace : Reading) (version : Option Version) (es : List Edge) (fault : Fault) : Type 0 where
+pub record HasFaultAfter (trace : Reading) (version : Option Version) (es : List Edge) (fault : Fault) : Type 0 where
   pub version_is : trace.version ≡ version
   pub front : (others : List Edge) × (trace.edges ≡ es ++ others)
   pub edges_are : fault ≢ Memory → trace.edges ≡ es
   pub fault_is : fault ≢ Memory → option_map fault_of trace.fault ≡ Some fault
 
 -- The reader is used up by a fault of the trace after these edges.
-abbrev pub Stops : State → Reading → List Edge → Fault → Type 0
-Stops reader trace es fault = (reader.place ≡ None) × HasFault trace reader.version es fault
+abbrev pub Stops : ReaderState → Reading → List Edge → Fault → Type 0
+Stops reader trace es fault = (reader.place ≡ None) × HasFaultAfter trace reader.version es fault
 
 -- A reader took in the last piece of these bytes, after these edges: the list grew by those of its lines.
-abbrev pub Fed : List ℕ → List Edge → List Edge → List Edge → State → Result (Unit {0}) Fault → Type 0
+abbrev pub Fed : List ℕ → List Edge → List Edge → List Edge → ReaderState → Result (Unit {0}) Fault → Type 0
 Fed bytes es old new reader (Ok _) = (fs : List Edge) × (new ≡ old ++ fs) × HasRead reader bytes (es ++ fs)
 Fed bytes es old new reader (Err fault) =
     (fs : List Edge) × (new ≡ old ++ fs) × ((more : List ℕ) → Stops reader (read_of (bytes ++ more)) (es ++ fs) fault)
@@ -77,18 +77,18 @@ answer_of None = Ok tt
 answer_of (Some fault) = Err (fault_of fault)
 
 -- A read failed: nothing was taken in.
-abbrev pub FailsToRead : Option (List ℕ) → Option (List ℕ) → List ℕ → List Edge → List Edge → State → Fault → Type 0
+abbrev pub FailsToRead : Option (List ℕ) → Option (List ℕ) → List ℕ → List Edge → List Edge → ReaderState → Fault → Type 0
 FailsToRead from to bytes old new reader fault =
     (fault ≡ Read) × Keeps from to × (new ≡ old) × (reader.place ≡ None) × (reader.version ≡ (read_of bytes).version)
 
 -- A fault of the trace stands in the piece that was read, or at the end of the input.
-abbrev pub StopsWithin : Option (List ℕ) → Option (List ℕ) → List ℕ → List Edge → List Edge → List Edge → State → Fault → Type 0
+abbrev pub StopsWithin : Option (List ℕ) → Option (List ℕ) → List ℕ → List Edge → List Edge → List Edge → ReaderState → Fault → Type 0
 StopsWithin from to bytes es old new reader fault =
     (piece : List ℕ) × (fs : List Edge) × (length piece ≤ 512) × Consumes from to piece × (new ≡ old ++ fs)
     × Stops reader (read_of ((bytes ++ piece) ++ unwrap_or to [])) (es ++ fs) fault
 
 -- A reader took in one read of the input, after these bytes and edges: a piece, or the end.
-abbrev pub Pumped : Option (List ℕ) → Option (List ℕ) → List ℕ → List Edge → List Edge → List Edge → State → Result Bool Fault → Type 0
+abbrev pub Pumped : Option (List ℕ) → Option (List ℕ) → List ℕ → List Edge → List Edge → List Edge → ReaderState → Result Bool Fault → Type 0
 Pumped from to bytes es old new reader (Ok true) =
     (piece : List ℕ) × (0 < length piece) × (length piece ≤ 512) × Consumes from to piece × Fed (bytes ++ piece) es old new reader (Ok tt)
 Pumped from to bytes es old new reader (Ok false) =

@@ -3,7 +3,7 @@ use Rattle.std.specs.Prelude.{◌≡◌, ℕ, List, ◌++◌, Option}
 use Rattle.vme_model.specs.declared.signals.Version.{Version}
 use Rattle.vme_model.specs.declared.signals.Edge.{Edge}
 use Rattle.vme_trace.specs.declared.Fault.{Fault}
-use Rattle.vme_trace.specs.Reading.{Place, rest_of, with_edges, HasFault}
+use Rattle.vme_trace.specs.Reading.{Place, rest_of, with_edges, HasFaultAfter}
 
 abbrev pub place : ℕ → List ℕ → Place
 place n part = record { line = n; part = part }
@@ -18,4 +18,4 @@ pub record Leads (v : Option Version) (p : Place) (bytes : List ℕ) (old new : 
 pub record Fails (v : Option Version) (p : Place) (bytes : List ℕ) (old new : List Edge) (w : Option Version) (fault : Fault) : Type 0 where
   pub es : List Edge
   pub appended : new ≡ old ++ es
-  pub has_fault : (more : List ℕ) → HasFault (rest_of v p (bytes ++ more)) w es fault
+  pub has_fault : (more : List ℕ) → HasFaultAfter (rest_of v p (bytes ++ more)) w es fault

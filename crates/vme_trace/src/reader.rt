@@ -31,10 +31,10 @@ pub struct Reader {
 
 impl Model for Reader {
     ghost use Rattle.std.specs.Prelude.{Some, None, if◌then◌else◌};
-    ghost use Rattle.vme_trace.specs.Reading.{IsPart, State};
+    ghost use Rattle.vme_trace.specs.Reading.{IsPart, ReaderState};
     ghost use Rattle.vme_trace.specs.Taking.{place};
 
-    ghost Value = { State };
+    ghost Value = { ReaderState };
 
     ghost view = { λ r. record { version = r.version; place = if r.used_up then None else Some (place r.line r.part.items) } };
 

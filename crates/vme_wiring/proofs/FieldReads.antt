@@ -27,11 +27,11 @@ use Rattle.vme_chain.specs.Segments.{segments_of, input, is_past_end, is_clear}
 use Rattle.vme_chain.proofs.History.{reads_inputs, reads_the_end, reads_clearness}
 use Rattle.vme_wiring.specs.Counts.{passes_grant}
 use Rattle.vme_wiring.proofs.PullCounts.{no_pulls_left}
-use Rattle.vme_arbiter.specs.Local.{State as ControllerState, state_of as controller_of, low}
+use Rattle.vme_arbiter.specs.Local.{ControllerState, controller_of, low}
 use Rattle.vme_arbiter.specs.declared.policies.AnyPolicy.{AnyPolicy}
 use Rattle.vme_model.specs.declared.boards.ArbiterKind.{ArbiterKind}
-use Rattle.vme_requester.specs.Local.{state_of as requester_of}
-use Rattle.vme_master.specs.Local.{state_of as master_of}
+use Rattle.vme_requester.specs.Local.{requester_of}
+use Rattle.vme_master.specs.Local.{master_of}
 use Rattle.vme_interrupter.specs.Local.{seen, edges}
 use Rattle.vme_interrupter.proofs.Seen.{edges_seen}
 use Rattle.vme_wiring.specs.Boards.{parts_of, place, low_of}

@@ -22,7 +22,7 @@ use Rattle.vme_model.specs.History.{drive, addressing}
 use Rattle.vme_model.specs.Verdict.{verdict_but_full}
 use Rattle.vme_model.proofs.AllowedEdges.{all_passed}
 use Rattle.vme_arbiter.specs.declared.policies.AnyPolicy.{AnyPolicy}
-use Rattle.vme_arbiter.specs.Local.{State as ControllerState, state_of as controller_of}
+use Rattle.vme_arbiter.specs.Local.{ControllerState, controller_of}
 use Rattle.vme_wiring.specs.Boards.{parts_of, place}
 use Rattle.vme_wiring.specs.Counts.{IsLines, lines_after, shared_after, shared_after_controller, addressing_after, is_movable, count_of}
 use Rattle.vme_wiring.specs.Chained.{after_board, after_controller, CanMove, CanMoveHead}

@@ -29,7 +29,7 @@ use Rattle.vme_model.specs.Settling.{settling}
 use Rattle.vme_model.specs.Verdict.{Judgement, check, is_other_state, settled, IsLegal}
 use Rattle.vme_model.specs.Views.{pins}
 use Rattle.vme_model.specs.Offers.{turned, considered, cycles_of, going_on}
-use Rattle.vme_interrupter.specs.Local.{seen, served, edges, over as interrupter_over, state_of as interrupter_of}
+use Rattle.vme_interrupter.specs.Local.{seen, served, edges, over as interrupter_over, interrupter_of}
 use Rattle.vme_interrupter.proofs.Seen.{served_seen}
 use Rattle.vme_wiring.specs.Boards.{parts_of, place, low_of}
 use Rattle.vme_wiring.specs.Asked.{seen_by}

@@ -14,9 +14,9 @@ use Rattle.vme_model.specs.declared.signals.Edge.{Edge}
 use Rattle.vme_model.specs.Signals.{is_same_driver, is_same_wire, is_edge_of, is_fall_of}
 use Rattle.vme_model.specs.Plan.{Plan}
 use Rattle.vme_model.specs.History.{drive, cycles, has_strobed, shown}
-use Rattle.vme_requester.specs.Local.{state_of as requester_of, State as RequesterState}
-use Rattle.vme_master.specs.Local.{state_of as master_of, State as MasterState}
-use Rattle.vme_interrupter.specs.Local.{state_of as interrupter_of, State as InterrupterState, seen, edges, served, serves_board}
+use Rattle.vme_requester.specs.Local.{requester_of, RequesterState}
+use Rattle.vme_master.specs.Local.{master_of, MasterState}
+use Rattle.vme_interrupter.specs.Local.{interrupter_of, InterrupterState, seen, edges, served, serves_board}
 use Rattle.vme_model.proofs.Bools.{same_number, is_false}
 use Rattle.vme_wiring.specs.Boards.{parts_of}
 use Rattle.vme_wiring.specs.declared.boards.Board.{Board}

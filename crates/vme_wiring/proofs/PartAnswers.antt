@@ -15,11 +15,11 @@ use Rattle.vme_model.specs.declared.signals.Edge.{Edge}
 use Rattle.vme_model.specs.Plan.{Plan}
 use Rattle.vme_model.specs.Rules.{is_passed_by, may_answer}
 use Rattle.vme_model.specs.Verdict.{Judgement, check, is_other_state, ruling, ruling_on}
-use Rattle.vme_requester.specs.Local.{State as RequesterState, state_of as requester_of, is_own as is_requesters, low as requester_low, readings as requester_readings, answer_over}
+use Rattle.vme_requester.specs.Local.{RequesterState, requester_of, is_requesters, low as requester_low, requester_readings, answer_over}
 use Rattle.vme_requester.proofs.Over.{answers_over as requester_over}
-use Rattle.vme_master.specs.Local.{State as MasterState, state_of as master_of, is_own as is_masters, local as master_local, over as master_over}
+use Rattle.vme_master.specs.Local.{MasterState, master_of, is_masters, local as master_local, over as master_over}
 use Rattle.vme_master.proofs.Over.{rules_over as master_rules_over}
-use Rattle.vme_interrupter.specs.Local.{State as InterrupterState, state_of as interrupter_of, is_own as is_interrupters, local as interrupter_local, over as interrupter_over, seen}
+use Rattle.vme_interrupter.specs.Local.{InterrupterState, interrupter_of, is_interrupters, local as interrupter_local, over as interrupter_over, seen}
 use Rattle.vme_interrupter.proofs.Over.{rules_over as interrupter_rules_over}
 use Rattle.vme_wiring.specs.Asked.{asked, IsAsked}
 use Rattle.vme_wiring.specs.Boards.{parts_of, low_of}

@@ -11,8 +11,8 @@ use Rattle.vme_model.specs.declared.signals.Wire.{Wire}
 use Rattle.vme_model.specs.declared.signals.Wire.TheVariants.{Br, BgOut, Bbsy, Addr, AddressStrobe, DataStrobe, Irq, IackOut, Dtack}
 use Rattle.vme_model.specs.Plan.{Plan, drives}
 use Rattle.vme_model.specs.History.{drive}
-use Rattle.vme_requester.specs.Local.{state_of as requester_of}
-use Rattle.vme_master.specs.Local.{state_of as master_of}
+use Rattle.vme_requester.specs.Local.{requester_of}
+use Rattle.vme_master.specs.Local.{master_of}
 use Rattle.vme_interrupter.specs.Local.{seen, edges}
 use Rattle.vme_interrupter.proofs.Seen.{edges_seen}
 use Rattle.vme_wiring.specs.Boards.{parts_of, low_of, place}

@@ -31,9 +31,9 @@ use Rattle.vme_model.specs.Views.{pins}
 use Rattle.vme_model.proofs.Picks.{laws_of}
 use Rattle.vme_model.proofs.PinSets.{has_bus, has_irq}
 use Rattle.vme_model.proofs.Bools.{and_left, and_right}
-use Rattle.vme_requester.specs.Local.{is_own as is_requesters, told as requester_told, readings as requester_readings, answer_over}
-use Rattle.vme_master.specs.Local.{is_own as is_masters, told as master_told, over as master_over}
-use Rattle.vme_interrupter.specs.Local.{is_own as is_interrupters, seen, served, readings as interrupter_readings, over as interrupter_over}
+use Rattle.vme_requester.specs.Local.{is_requesters, told as requester_told, requester_readings, answer_over}
+use Rattle.vme_master.specs.Local.{is_masters, told as master_told, over as master_over}
+use Rattle.vme_interrupter.specs.Local.{is_interrupters, seen, served, interrupter_readings, over as interrupter_over}
 use Rattle.vme_interrupter.proofs.Seen.{edges_seen, served_seen}
 use Rattle.vme_arbiter.specs.Local.{over as controller_over}
 use Rattle.vme_wiring.specs.Asked.{asked, IsAsked}

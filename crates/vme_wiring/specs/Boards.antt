@@ -7,9 +7,9 @@ use Rattle.vme_model.specs.declared.signals.Edge.{Edge}
 use Rattle.vme_model.specs.declared.signals.Wire.{Wire}
 use Rattle.vme_model.specs.declared.signals.Wire.TheVariants.{Br, BgOut, Bbsy, Addr, AddressStrobe, DataStrobe, Irq, IackOut, Dtack}
 use Rattle.vme_model.specs.Plan.{Plan}
-use Rattle.vme_requester.specs.Local.{state_of as requester_of}
-use Rattle.vme_master.specs.Local.{state_of as master_of}
-use Rattle.vme_interrupter.specs.Local.{state_of as interrupter_of, seen}
+use Rattle.vme_requester.specs.Local.{requester_of}
+use Rattle.vme_master.specs.Local.{master_of}
+use Rattle.vme_interrupter.specs.Local.{interrupter_of, seen}
 use Rattle.vme_wiring.specs.declared.boards.Board.{Board}
 
 -- each part noted the edges that were made

@@ -9,7 +9,7 @@ use Rattle.vme_model.specs.Accepted.{IsAccepted}
 use Rattle.vme_model.specs.History.{addressing}
 use Rattle.vme_model.specs.Verdict.{IsLegal, verdict_but_full}
 use Rattle.vme_model.specs.Views.{pins}
-use Rattle.vme_arbiter.specs.Local.{state_of as controller_of}
+use Rattle.vme_arbiter.specs.Local.{controller_of}
 use Rattle.vme_wiring.specs.Boards.{parts_of, place}
 use Rattle.vme_wiring.specs.Counts.{IsLines, request_level, interrupt_level, is_movable, count_of}
 use Rattle.vme_wiring.specs.Chained.{chains_of, CanMove}

@@ -6,9 +6,9 @@ ghost use Rattle.vme_model.specs.declared.signals.Edge.{Edge as EdgeValue};
 ghost use Rattle.vme_model.specs.declared.signals.Version.{Version as VersionValue};
 ghost use Rattle.vme_model.specs.Plan.{Plan};
 ghost use Rattle.vme_model.specs.History.{shown as shown_after};
-ghost use Rattle.vme_requester.specs.Local.{state_of as requester_of, is_own as is_requesters};
-ghost use Rattle.vme_master.specs.Local.{state_of as master_of, is_own as is_masters};
-ghost use Rattle.vme_interrupter.specs.Local.{is_own as is_interrupters};
+ghost use Rattle.vme_requester.specs.Local.{requester_of, is_requesters};
+ghost use Rattle.vme_master.specs.Local.{master_of, is_masters};
+ghost use Rattle.vme_interrupter.specs.Local.{is_interrupters};
 ghost use Rattle.vme_wiring.specs.Asked.{asked, seen_by, IsAsked};
 ghost use Rattle.vme_wiring.specs.declared.chains.Chains.{Chains as ChainsValue};
 
