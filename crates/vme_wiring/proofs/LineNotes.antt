@@ -23,7 +23,7 @@ use Rattle.vme_model.specs.Accepted.{IsAccepted}
 use Rattle.vme_model.specs.History.{pulls_line, pulls_request, pulls_interrupt, drive, request_line, interrupt_line, shown}
 use Rattle.vme_model.specs.Views.{pins}
 use Rattle.vme_model.proofs.Bools.{same_number}
-use Rattle.vme_wiring.specs.Counts.{pulls, IsLines, moved, is_movable, request_level, interrupt_level, count_of, lines_after, shared_after, shared_after_controller}
+use Rattle.vme_wiring.specs.Counts.{pulls, passes_grant, IsLines, moved, is_movable, request_level, interrupt_level, count_of, lines_after, shared_after, shared_after_controller}
 use Rattle.vme_wiring.specs.declared.lines.Lines.{Lines}
 use Rattle.vme_wiring.proofs.PullCounts.{any_pulls, IsSameElsewhere, IsMoved, pulls_move, pulls_stay}
 use Rattle.vme_wiring.proofs.Others.{drive_same}
@@ -89,27 +89,37 @@ one_is_movable : (fall : Bool) → is_movable 1 fall ≡ true
 one_is_movable true = refl
 one_is_movable false = refl
 
+-- the fields in their order
+lines_by : {p : Plan} {h : List Edge} {l : Lines} → length l.br ≡ 4 → length l.irq ≡ 8 → ((n : ℕ) → n < 4 → get_or l.br n 0 ≡ pulls (pulls_request h n) p.rows) → ((n : ℕ) → n < 8 → get_or l.irq n 0 ≡ pulls (pulls_interrupt h n) p.rows) →
+    l.bgout ≡ pulls (passes_grant h) p.rows → l.bbsy ≡ pulls (pulls_line h Bbsy) p.rows → l.address_strobe ≡ pulls (pulls_line h AddressStrobe) p.rows → l.data_strobe ≡ pulls (pulls_line h DataStrobe) p.rows → l.dtack ≡ pulls (pulls_line h Dtack) p.rows →
+    IsLines p h l
+lines_by {p} {h} {l} br_room irq_room br irq bgout bbsy address_strobe data_strobe dtack = record {
+  br_room = br_room;
+  irq_room = irq_room;
+  br = br;
+  irq = irq;
+  bgout = bgout;
+  bbsy = bbsy;
+  address_strobe = address_strobe;
+  data_strobe = data_strobe;
+  dtack = dtack;
+}
+
+-- a line with one count: what it is then, and that it can be so
+one_count : (rows : List Row) (f g : Row → Bool) (fall : Bool) (n : ℕ) → n ≡ pulls f rows → IsMoved f g rows fall → (moved n fall ≡ pulls g rows) × (is_movable n fall ≡ true)
+one_count rows f g fall n old one = (ap (λ m. moved m fall) old ∙ sym one.count, ap (λ m. is_movable m fall) old ∙ one.can)
+
 pub counted : (p : Plan) (h : List Edge) (s : ℕ) (r : Row) (w : Wire) (fall : Bool) (v : Option Cycle) (l : Lines) → IsAccepted p → Stands p s r → IsDriven p h s r w fall v → IsLines p h l → IsCounted p h s r w fall v l
 counted p h s r Br fall v l ok k d old =
     let level = request_level r in
-    let room = old.br_room in
     let gate = λ (n : ℕ). on_level r.requester n d.drives in
     let one = moves p h s r Br fall v (requests_on level) ok k d.before (gate level ∙ self level) in
     let count = λ (n : ℕ). pulls (pulls_request h n) p.rows in
     let after = λ (n : ℕ). pulls (pulls_request (at s Br fall v ∷ h) n) p.rows in
+    let room = length-set l.br level (moved (get_or l.br level 0) fall) ∙ old.br_room in
+    let br = λ (n : ℕ) (low : n < 4). by_level l.br 4 level n count after fall (level == n) refl old.br_room k.request low old.br one.count (λ is. stays p h s r Br fall v (requests_on n) ok k (gate n ∙ is)) in
     record {
-      lines = record {
-        br_room = length-set l.br level (moved (get_or l.br level 0) fall) ∙ old.br_room;
-        irq_room = old.irq_room;
-        br = λ n low. by_level l.br 4 level n count after fall (level == n) refl old.br_room k.request low old.br one.count
-            (λ is. stays p h s r Br fall v (requests_on n) ok k (gate n ∙ is));
-        irq = old.irq;
-        bgout = old.bgout;
-        bbsy = old.bbsy;
-        address_strobe = old.address_strobe;
-        data_strobe = old.data_strobe;
-        dtack = old.dtack;
-      };
+      lines = lines_by room old.irq_room br old.irq old.bgout old.bbsy old.address_strobe old.data_strobe old.dtack;
       can = ap (λ n. is_movable n fall) (old.br level k.request) ∙ one.can;
     }
 counted p h s r Irq fall v l ok k d old =
@@ -118,177 +128,37 @@ counted p h s r Irq fall v l ok k d old =
     let one = moves p h s r Irq fall v (interrupts_on level) ok k d.before (gate level ∙ self level) in
     let count = λ (n : ℕ). pulls (pulls_interrupt h n) p.rows in
     let after = λ (n : ℕ). pulls (pulls_interrupt (at s Irq fall v ∷ h) n) p.rows in
+    let room = length-set l.irq level (moved (get_or l.irq level 0) fall) ∙ old.irq_room in
+    let irq = λ (n : ℕ) (low : n < 8). by_level l.irq 8 level n count after fall (level == n) refl old.irq_room k.interrupt low old.irq one.count (λ is. stays p h s r Irq fall v (interrupts_on n) ok k (gate n ∙ is)) in
     record {
-      lines = record {
-        br_room = old.br_room;
-        irq_room = length-set l.irq level (moved (get_or l.irq level 0) fall) ∙ old.irq_room;
-        br = old.br;
-        irq = λ n low. by_level l.irq 8 level n count after fall (level == n) refl old.irq_room k.interrupt low old.irq one.count
-            (λ is. stays p h s r Irq fall v (interrupts_on n) ok k (gate n ∙ is));
-        bgout = old.bgout;
-        bbsy = old.bbsy;
-        address_strobe = old.address_strobe;
-        data_strobe = old.data_strobe;
-        dtack = old.dtack;
-      };
+      lines = lines_by old.br_room room old.br irq old.bgout old.bbsy old.address_strobe old.data_strobe old.dtack;
       can = ap (λ n. is_movable n fall) (old.irq level k.interrupt) ∙ one.can;
     }
 counted p h s r BgOut fall v l ok k d old =
-    let one = moves p h s r BgOut fall v (λ q. true) ok k d.before refl in
-    record {
-      lines = record {
-        br_room = old.br_room;
-        irq_room = old.irq_room;
-        br = old.br;
-        irq = old.irq;
-        bgout = ap (λ n. moved n fall) old.bgout ∙ sym one.count;
-        bbsy = old.bbsy;
-        address_strobe = old.address_strobe;
-        data_strobe = old.data_strobe;
-        dtack = old.dtack;
-      };
-      can = ap (λ n. is_movable n fall) old.bgout ∙ one.can;
-    }
+    let one = one_count p.rows _ _ fall l.bgout old.bgout (moves p h s r BgOut fall v (λ q. true) ok k d.before refl) in
+    record { lines = lines_by old.br_room old.irq_room old.br old.irq one.0 old.bbsy old.address_strobe old.data_strobe old.dtack; can = one.1 }
 counted p h s r Bbsy fall v l ok k d old =
-    let one = moves p h s r Bbsy fall v (drives Bbsy) ok k d.before d.drives in
-    record {
-      lines = record {
-        br_room = old.br_room;
-        irq_room = old.irq_room;
-        br = old.br;
-        irq = old.irq;
-        bgout = old.bgout;
-        bbsy = ap (λ n. moved n fall) old.bbsy ∙ sym one.count;
-        address_strobe = old.address_strobe;
-        data_strobe = old.data_strobe;
-        dtack = old.dtack;
-      };
-      can = ap (λ n. is_movable n fall) old.bbsy ∙ one.can;
-    }
+    let one = one_count p.rows _ _ fall l.bbsy old.bbsy (moves p h s r Bbsy fall v (drives Bbsy) ok k d.before d.drives) in
+    record { lines = lines_by old.br_room old.irq_room old.br old.irq old.bgout one.0 old.address_strobe old.data_strobe old.dtack; can = one.1 }
 counted p h s r AddressStrobe fall v l ok k d old =
-    let one = moves p h s r AddressStrobe fall v (drives AddressStrobe) ok k d.before d.drives in
-    record {
-      lines = record {
-        br_room = old.br_room;
-        irq_room = old.irq_room;
-        br = old.br;
-        irq = old.irq;
-        bgout = old.bgout;
-        bbsy = old.bbsy;
-        address_strobe = ap (λ n. moved n fall) old.address_strobe ∙ sym one.count;
-        data_strobe = old.data_strobe;
-        dtack = old.dtack;
-      };
-      can = ap (λ n. is_movable n fall) old.address_strobe ∙ one.can;
-    }
+    let one = one_count p.rows _ _ fall l.address_strobe old.address_strobe (moves p h s r AddressStrobe fall v (drives AddressStrobe) ok k d.before d.drives) in
+    record { lines = lines_by old.br_room old.irq_room old.br old.irq old.bgout old.bbsy one.0 old.data_strobe old.dtack; can = one.1 }
 counted p h s r DataStrobe fall v l ok k d old =
-    let one = moves p h s r DataStrobe fall v (drives DataStrobe) ok k d.before d.drives in
-    record {
-      lines = record {
-        br_room = old.br_room;
-        irq_room = old.irq_room;
-        br = old.br;
-        irq = old.irq;
-        bgout = old.bgout;
-        bbsy = old.bbsy;
-        address_strobe = old.address_strobe;
-        data_strobe = ap (λ n. moved n fall) old.data_strobe ∙ sym one.count;
-        dtack = old.dtack;
-      };
-      can = ap (λ n. is_movable n fall) old.data_strobe ∙ one.can;
-    }
+    let one = one_count p.rows _ _ fall l.data_strobe old.data_strobe (moves p h s r DataStrobe fall v (drives DataStrobe) ok k d.before d.drives) in
+    record { lines = lines_by old.br_room old.irq_room old.br old.irq old.bgout old.bbsy old.address_strobe one.0 old.dtack; can = one.1 }
 counted p h s r Dtack fall v l ok k d old =
-    let one = moves p h s r Dtack fall v (drives Dtack) ok k d.before d.drives in
-    record {
-      lines = record {
-        br_room = old.br_room;
-        irq_room = old.irq_room;
-        br = old.br;
-        irq = old.irq;
-        bgout = old.bgout;
-        bbsy = old.bbsy;
-        address_strobe = old.address_strobe;
-        data_strobe = old.data_strobe;
-        dtack = ap (λ n. moved n fall) old.dtack ∙ sym one.count;
-      };
-      can = ap (λ n. is_movable n fall) old.dtack ∙ one.can;
-    }
-counted p h s r Addr fall v l ok k d old = record {
-  lines = record {
-    br_room = old.br_room;
-    irq_room = old.irq_room;
-    br = old.br;
-    irq = old.irq;
-    bgout = old.bgout;
-    bbsy = old.bbsy;
-    address_strobe = old.address_strobe;
-    data_strobe = old.data_strobe;
-    dtack = old.dtack;
-  };
-  can = one_is_movable fall;
-}
-counted p h s r IackOut fall v l ok k d old = record {
-  lines = record {
-    br_room = old.br_room;
-    irq_room = old.irq_room;
-    br = old.br;
-    irq = old.irq;
-    bgout = old.bgout;
-    bbsy = old.bbsy;
-    address_strobe = old.address_strobe;
-    data_strobe = old.data_strobe;
-    dtack = old.dtack;
-  };
-  can = one_is_movable fall;
-}
+    let one = one_count p.rows _ _ fall l.dtack old.dtack (moves p h s r Dtack fall v (drives Dtack) ok k d.before d.drives) in
+    record { lines = lines_by old.br_room old.irq_room old.br old.irq old.bgout old.bbsy old.address_strobe old.data_strobe one.0; can = one.1 }
+counted p h s r Addr fall v l ok k d old = record { lines = lines_by old.br_room old.irq_room old.br old.irq old.bgout old.bbsy old.address_strobe old.data_strobe old.dtack; can = one_is_movable fall }
+counted p h s r IackOut fall v l ok k d old = record { lines = lines_by old.br_room old.irq_room old.br old.irq old.bgout old.bbsy old.address_strobe old.data_strobe old.dtack; can = one_is_movable fall }
 counted p h s r w fall v l ok k d old = let none = d.drives in absurd (cc)
 
 -- the controller pulls none of them
 pub uncounted : (p : Plan) (h : List Edge) (w : Wire) (fall : Bool) (v : Option Cycle) (l : Lines) → has_wire Controller w ≡ true → IsLines p h l → IsLines p (at_head w fall v ∷ h) l
-uncounted p h (Bg n) fall v l has old = record {
-  br_room = old.br_room;
-  irq_room = old.irq_room;
-  br = old.br;
-  irq = old.irq;
-  bgout = old.bgout;
-  bbsy = old.bbsy;
-  address_strobe = old.address_strobe;
-  data_strobe = old.data_strobe;
-  dtack = old.dtack;
-}
-uncounted p h Bclr fall v l has old = record {
-  br_room = old.br_room;
-  irq_room = old.irq_room;
-  br = old.br;
-  irq = old.irq;
-  bgout = old.bgout;
-  bbsy = old.bbsy;
-  address_strobe = old.address_strobe;
-  data_strobe = old.data_strobe;
-  dtack = old.dtack;
-}
-uncounted p h Iack fall v l has old = record {
-  br_room = old.br_room;
-  irq_room = old.irq_room;
-  br = old.br;
-  irq = old.irq;
-  bgout = old.bgout;
-  bbsy = old.bbsy;
-  address_strobe = old.address_strobe;
-  data_strobe = old.data_strobe;
-  dtack = old.dtack;
-}
-uncounted p h Berr fall v l has old = record {
-  br_room = old.br_room;
-  irq_room = old.irq_room;
-  br = old.br;
-  irq = old.irq;
-  bgout = old.bgout;
-  bbsy = old.bbsy;
-  address_strobe = old.address_strobe;
-  data_strobe = old.data_strobe;
-  dtack = old.dtack;
-}
+uncounted p h (Bg n) fall v l has old = lines_by old.br_room old.irq_room old.br old.irq old.bgout old.bbsy old.address_strobe old.data_strobe old.dtack
+uncounted p h Bclr fall v l has old = lines_by old.br_room old.irq_room old.br old.irq old.bgout old.bbsy old.address_strobe old.data_strobe old.dtack
+uncounted p h Iack fall v l has old = lines_by old.br_room old.irq_room old.br old.irq old.bgout old.bbsy old.address_strobe old.data_strobe old.dtack
+uncounted p h Berr fall v l has old = lines_by old.br_room old.irq_room old.br old.irq old.bgout old.bbsy old.address_strobe old.data_strobe old.dtack
 uncounted p h w fall v l has old = absurd (cc)
 
 -- what all drivers see, by the counts

@@ -32,9 +32,9 @@ use Rattle.vme_model.specs.Offers.{turned, considered, cycles_of, going_on}
 use Rattle.vme_interrupter.specs.Local.{seen, served, edges, over as interrupter_over, interrupter_of}
 use Rattle.vme_interrupter.proofs.Seen.{served_seen}
 use Rattle.vme_wiring.specs.Boards.{parts_of, place, low_of}
-use Rattle.vme_wiring.specs.Asked.{seen_by}
+use Rattle.vme_wiring.specs.Asked.{seen_by, read_by}
 use Rattle.vme_wiring.specs.Offered.{is_open, offered_on, offered_but_full, requester_wires, master_wires, interrupter_wires}
-use Rattle.vme_wiring.specs.Waits.{waits_for_grant, waits_for_bus, waits_for_cycle, is_access_to, is_unserved, board_waits, is_waiting, read_by}
+use Rattle.vme_wiring.specs.Waits.{waits_for_grant, waits_for_bus, waits_for_cycle, is_access_to, is_unserved, board_waits, is_waiting}
 use Rattle.vme_wiring.specs.Wired.{IsWiringOf}
 use Rattle.vme_wiring.specs.declared.boards.Board.{Board}
 use Rattle.vme_wiring.specs.declared.wirings.Wiring.{Wiring}
@@ -71,21 +71,21 @@ two_closed : {A : Type 0} (test : A → Bool) (a b : A) → test a ≡ false →
 two_closed {A} test a b na nb = rw (na, nb)
 
 -- the parts of a test
-five : (a b c d e : Bool) → (not a && b && not c && not d && not e) ≡ true → (a ≡ false) × (b ≡ true) × (c ≡ false) × (d ≡ false) × (e ≡ false)
-five false true false false false holds = (refl, refl, refl, refl, refl)
+five : (a b c d e : Bool) → ((a && not b && not c) && (not d && not e)) ≡ true → (a ≡ true) × (b ≡ false) × (c ≡ false) × (d ≡ false) × (e ≡ false)
+five true false false false false holds = (refl, refl, refl, refl, refl)
 five a b c d e holds = absurd (cc)
 
 four : (a b c d : Bool) → (not a && not b && not c && not d) ≡ true → (a ≡ false) × (b ≡ false) × (c ≡ false) × (d ≡ false)
 four false false false false holds = (refl, refl, refl, refl)
 four a b c d holds = absurd (cc)
 
-two_and : (a b c : Bool) → (not a && not b && c) ≡ true → (a ≡ false) × (b ≡ false) × (c ≡ true)
-two_and false false c holds = (refl, refl, holds)
-two_and a b c holds = absurd (cc)
+two_and_two : (a b c d : Bool) → ((not a && b) && (not c && d)) ≡ true → (a ≡ false) × (b ≡ true) × (c ≡ false) × (d ≡ true)
+two_and_two false true false true holds = (refl, refl, refl, refl)
+two_and_two a b c d holds = absurd (cc)
 
-both_high : (a b : Bool) → (not a && not b) ≡ true → (a ≡ false) × (b ≡ false)
-both_high false false holds = (refl, refl)
-both_high a b holds = absurd (cc)
+is_high : (a : Bool) → not a ≡ true → a ≡ false
+is_high false holds = refl
+is_high true holds = absurd (cc)
 
 low_and_high : (a b : Bool) → (a && not b) ≡ true → (a ≡ true) × (b ≡ false)
 low_and_high true false holds = (refl, refl)
@@ -253,13 +253,13 @@ module _ (version : Version) (p : Plan) (h : List Edge) (s : ℕ) (r : Row) (fou
   requester_none waits = by_part r.requester refl waits
     where
       by_part : (o : Option RequesterRow) → r.requester ≡ o →
-          option_map_or (λ (q : RequesterRow). not (is_two version) && drive h (Slot s) Br && not (drive h (Slot s) BgOut) && not (drive h (Slot s) Bbsy) && not (grant_in p h (Slot s))) o true ≡ true →
+          (option_map_or (λ (q : RequesterRow). drive h (Slot s) Br && not (drive h (Slot s) BgOut) && not (drive h (Slot s) Bbsy)) o true && option_map_or (λ (q : RequesterRow). not (is_two version) && not (grant_in p h (Slot s))) o true) ≡ true →
           offered_on version p h (Slot s) requester_wires ≡ []
       by_part None e waits =
           requester_lacking version p h s (ap (λ (x : Option Row). is_some (option_and_then (λ r. r.requester) x)) found ∙ ap (λ (x : Option RequesterRow). is_some x) e)
       by_part (Some q) e waits =
-          let t = five (is_two version) (drive h (Slot s) Br) (drive h (Slot s) BgOut) (drive h (Slot s) Bbsy) (grant_in p h (Slot s)) waits in
-          requester_closed version p h s t.1 t.2 t.3 t.0 t.4
+          let t = five (drive h (Slot s) Br) (drive h (Slot s) BgOut) (drive h (Slot s) Bbsy) (is_two version) (grant_in p h (Slot s)) waits in
+          requester_closed version p h s t.0 t.1 t.2 t.3 t.4
 
   pub master_none : waits_for_bus (readings p h (Slot s)) ≡ true → offered_on version p h (Slot s) master_wires ≡ []
   master_none waits =
@@ -267,24 +267,25 @@ module _ (version : Version) (p : Plan) (h : List Edge) (s : ℕ) (r : Row) (fou
       master_closed version p h s t.0 t.1 t.2 t.3
 
   interrupter_by : (o : Option InterrupterRow) → r.interrupter ≡ o → drive h (Slot s) Dtack ≡ false → is_access_to r.slot (shown p h) ≡ false →
-      option_map_or (λ (i : InterrupterRow). not (drive h (Slot s) IackOut) && not (iack_in p h (Slot s))) o true ≡ true →
+      option_map_or (λ (i : InterrupterRow). not (drive h (Slot s) IackOut)) o true ≡ true → option_map_or (λ (i : InterrupterRow). not (iack_in p h (Slot s))) o true ≡ true →
       option_map_or (λ (i : InterrupterRow). drive h (Slot s) Irq && not (is_served p h (Slot s))) o true ≡ true →
       offered_on version p h (Slot s) interrupter_wires ≡ []
-  interrupter_by None e dtack access quiet unserved =
+  interrupter_by None e dtack access quiet unreached unserved =
       let none : iack_in p h (Slot s) ≡ false =
       ap (λ (o : Option Row). option_map_or (λ x. is_some x.interrupter && input_after p h chain.Iack x.slot) o false) found
       ∙ ap (λ (o : Option InterrupterRow). is_some o && input_after p h chain.Iack r.slot) e in
       interrupter_lacking version p h s r found e (answer_closed version p h s r found dtack access none)
-  interrupter_by (Some i) e dtack access quiet unserved =
-      let t = both_high (drive h (Slot s) IackOut) (iack_in p h (Slot s)) quiet in
+  interrupter_by (Some i) e dtack access quiet unreached unserved =
+      let none = is_high (iack_in p h (Slot s)) unreached in
       let u = low_and_high (drive h (Slot s) Irq) (is_served p h (Slot s)) unserved in
-      interrupter_closed version p h s (answer_closed version p h s r found dtack access t.1) u.0 u.1 t.0 t.1
+      interrupter_closed version p h s (answer_closed version p h s r found dtack access none) u.0 u.1 (is_high (drive h (Slot s) IackOut) quiet) none
 
   pub interrupter_none : waits_for_cycle (readings p h (Slot s)) r ≡ true → is_unserved (readings p h (Slot s)) r ≡ true → offered_on version p h (Slot s) interrupter_wires ≡ []
   interrupter_none waits unserved =
-      let quiet = option_map_or (λ (i : InterrupterRow). not (drive h (Slot s) IackOut) && not (iack_in p h (Slot s))) r.interrupter true in
-      let t = two_and (drive h (Slot s) Dtack) (is_access_to r.slot (shown p h)) quiet waits in
-      interrupter_by r.interrupter refl t.0 t.1 t.2 unserved
+      let quiet = option_map_or (λ (i : InterrupterRow). not (drive h (Slot s) IackOut)) r.interrupter true in
+      let unreached = option_map_or (λ (i : InterrupterRow). not (iack_in p h (Slot s))) r.interrupter true in
+      let t = two_and_two (drive h (Slot s) Dtack) quiet (is_access_to r.slot (shown p h)) unreached waits in
+      interrupter_by r.interrupter refl t.0 t.2 t.1 t.3 unserved
 
   board_none : board_waits version (readings p h (Slot s)) r ≡ true → offered_but_full version p h (Slot s) ≡ []
   board_none waits =
@@ -326,7 +327,7 @@ module _ (version : Version) (p : Plan) (h : List Edge) (w : Wiring) (s : ℕ) (
 
   pub reads_grant : waits_for_grant w.version (read_by w b) b.row ≡ waits_for_grant version (readings p h (Slot s)) b.row
   reads_grant =
-      let f : Bool → Bool → Bool → Bool → Bool → Bool = λ two br out bbsy grant. option_map_or (λ (q : RequesterRow). not two && br && not out && not bbsy && not grant) b.row.requester true in
+      let f : Bool → Bool → Bool → Bool → Bool → Bool = λ two br out bbsy grant. option_map_or (λ (q : RequesterRow). br && not out && not bbsy) b.row.requester true && option_map_or (λ (q : RequesterRow). not two && not grant) b.row.requester true in
       same_five f _ _ _ _ _ _ _ _ _ _ (ap is_two is.rules) (own_is Br) (own_is BgOut) (own_is Bbsy) (ap (λ (x : Pins). x.grant_in) its_pins)
 
   pub reads_bus : waits_for_bus (read_by w b) ≡ waits_for_bus (readings p h (Slot s))
@@ -336,8 +337,8 @@ module _ (version : Version) (p : Plan) (h : List Edge) (w : Wiring) (s : ℕ) (
 
   pub reads_cycle : waits_for_cycle (read_by w b) b.row ≡ waits_for_cycle (readings p h (Slot s)) b.row
   reads_cycle =
-      let f : Bool → Bool → Bool → Bool → Bool = λ dtack access out iack. not dtack && not access && option_map_or (λ (i : InterrupterRow). not out && not iack) b.row.interrupter true in
-      same_four f _ _ _ _ _ _ _ _ (own_is Dtack) (ap (λ (x : Pins). is_access_to b.row.slot x.shown) its_pins) (own_is IackOut) (ap (λ (x : Pins). x.iack_in) its_pins)
+      let f : Bool → Bool → Bool → Bool → Bool = λ dtack out access iack. (not dtack && option_map_or (λ (i : InterrupterRow). not out) b.row.interrupter true) && (not access && option_map_or (λ (i : InterrupterRow). not iack) b.row.interrupter true) in
+      same_four f _ _ _ _ _ _ _ _ (own_is Dtack) (own_is IackOut) (ap (λ (x : Pins). is_access_to b.row.slot x.shown) its_pins) (ap (λ (x : Pins). x.iack_in) its_pins)
 
   pub reads_service : is_unserved (read_by w b) b.row ≡ is_unserved (readings p h (Slot s)) b.row
   reads_service =

@@ -1,5 +1,5 @@
 -- A board's parts, by the history of its backplane.
-use Rattle.std.specs.Prelude.{◌≡◌, ◌&&◌, not, ℕ, Bool, true, false, Option, Some, List, option_map, slice_get}
+use Rattle.std.specs.Prelude.{◌≡◌, ℕ, Bool, false, Option, Some, List, option_map, slice_get}
 use Rattle.std.specs.Option.{option_and_then, option_map_or}
 use Rattle.vme_model.specs.declared.boards.Row.{Row}
 use Rattle.vme_model.specs.declared.signals.Version.{Version}
@@ -47,24 +47,3 @@ low_of b Irq = b.interrupter.irq
 low_of b IackOut = b.interrupter.iackout
 low_of b Dtack = b.interrupter.dtack
 low_of b _ = false
-
--- the requester, if there is one, requests the bus, and has nothing to undo
-abbrev pub is_requester_quiet : Board → Bool
-is_requester_quiet b =
-    option_map_or (λ q. low_of b Br && not (low_of b BgOut) && not (low_of b Bbsy))
-    b.row.requester true
-
--- the board does not hold the bus, and its address group and strobes are off
-abbrev pub is_master_quiet : Board → Bool
-is_master_quiet b =
-    not (low_of b Bbsy) && not (low_of b Addr)
-    && not (low_of b AddressStrobe) && not (low_of b DataStrobe)
-
--- its interrupter, if there is one, passes no acknowledge on
-abbrev pub is_interrupter_quiet : Board → Bool
-is_interrupter_quiet b = option_map_or (λ i. not (low_of b IackOut)) b.row.interrupter true
-
--- none of its own wires keeps the board from waiting
-abbrev pub is_quiet : Board → Bool
-is_quiet b =
-    is_requester_quiet b && is_master_quiet b && not (low_of b Dtack) && is_interrupter_quiet b

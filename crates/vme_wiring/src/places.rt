@@ -2,16 +2,17 @@
 ghost use Rattle.std.specs.Prelude.{◌≡◌, ◌&&◌, ◌∷◌, [], true, not};
 ghost use Rattle.vme_model.specs.Plan.{Plan};
 ghost use Rattle.vme_model.specs.History.{shown as shown_after};
-ghost use Rattle.vme_wiring.specs.Boards.{OfParts, parts_of, is_quiet, is_requester_quiet, is_master_quiet, is_interrupter_quiet};
+ghost use Rattle.vme_wiring.specs.Boards.{OfParts, parts_of, low_of};
+ghost use Rattle.vme_wiring.specs.Waits.{is_quiet, is_requester_quiet, is_master_quiet, is_interrupter_quiet};
 
 use crate::boards::Board;
 use std::marker::Model;
 use vme_model::{Cycle, Edge, Row, Version, Wire};
 
-/// Whether the board's requester, if it has one, requests the bus, and has nothing to undo.
+/// Whether the board's requester, if it has one, requests the bus, passes no grant on and does not hold the bus.
 #[inline(always)]
-fn is_requester_quiet(board: &Board) -> bool
-    ensures { result ≡ is_requester_quiet board.now }
+pub fn is_requester_quiet(board: &Board) -> bool
+    ensures { result ≡ is_requester_quiet (low_of board.now) board.now.row }
 {
     match board.row.requester {
         Some(_) => {
@@ -24,7 +25,7 @@ fn is_requester_quiet(board: &Board) -> bool
 /// Whether the board does not hold the bus, and its address group and strobes are off.
 #[inline(always)]
 pub fn is_master_quiet(board: &Board) -> bool
-    ensures { result ≡ is_master_quiet board.now }
+    ensures { result ≡ is_master_quiet (low_of board.now) }
 {
     !board.is_low(Wire::Bbsy)
         && !board.is_low(Wire::Addr)
@@ -32,26 +33,24 @@ pub fn is_master_quiet(board: &Board) -> bool
         && !board.is_low(Wire::DataStrobe)
 }
 
-/// Whether the board's interrupter, if it has one, passes no acknowledge on.
+/// Whether the board answers nothing, and its interrupter, if it has one, passes no acknowledge on.
 #[inline(always)]
-fn is_interrupter_quiet(board: &Board) -> bool
-    ensures { result ≡ is_interrupter_quiet board.now }
+pub fn is_interrupter_quiet(board: &Board) -> bool
+    ensures { result ≡ is_interrupter_quiet (low_of board.now) board.now.row }
 {
-    match board.row.interrupter {
-        Some(_) => !board.is_low(Wire::IackOut),
-        None => true,
-    }
+    !board.is_low(Wire::Dtack)
+        && match board.row.interrupter {
+            Some(_) => !board.is_low(Wire::IackOut),
+            None => true,
+        }
 }
 
 /// Whether none of the board's own wires keeps it from waiting.
 #[inline(always)]
 fn is_quiet(board: &Board) -> bool
-    ensures { result ≡ is_quiet board.now }
+    ensures { result ≡ is_quiet (low_of board.now) board.now.row }
 {
-    is_requester_quiet(board)
-        && is_master_quiet(board)
-        && !board.is_low(Wire::Dtack)
-        && is_interrupter_quiet(board)
+    is_requester_quiet(board) && is_master_quiet(board) && is_interrupter_quiet(board)
 }
 
 /// A board, and whether it is quiet.
@@ -67,15 +66,16 @@ impl Model for Placed {
     ghost use Rattle.std.specs.Prelude.{◌≡◌};
     ghost use Rattle.std.proofs.Common.{sym};
     ghost use Rattle.vme_wiring.specs.declared.boards.Board.{Board as BoardValue};
-    ghost use Rattle.vme_wiring.specs.Boards.{is_quiet};
+    ghost use Rattle.vme_wiring.specs.Boards.{low_of};
+    ghost use Rattle.vme_wiring.specs.Waits.{is_quiet};
 
     ghost Value = { BoardValue };
 
     ghost view = { λ x. x.board };
 
-    ghost invariant = { λ x. x.quiet ≡ is_quiet x.board };
+    ghost invariant = { λ x. x.quiet ≡ is_quiet (low_of x.board) x.board.row };
 
-    ghost inverse = { λ b. record { board = b; quiet = is_quiet b } };
+    ghost inverse = { λ b. record { board = b; quiet = is_quiet (low_of b) b.row } };
 
     ghost inverse_ok = { λ x h i. record { board = x.board; quiet = sym h i } };
 }
@@ -101,7 +101,7 @@ impl Placed {
     /// Whether none of the board's own wires keeps it from waiting.
     #[inline(always)]
     pub fn is_quiet(&self) -> bool
-        ensures { result ≡ is_quiet self.now }
+        ensures { result ≡ is_quiet (low_of self.now) self.now.row }
     {
         self.quiet
     }

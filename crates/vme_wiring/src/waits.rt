@@ -3,13 +3,14 @@ ghost use Rattle.std.specs.Prelude.{◌≡◌, ◌&&◌, true, [], Some};
 ghost use Rattle.vme_model.specs.declared.signals.Driver.TheVariants.{Slot};
 ghost use Rattle.vme_model.specs.Readings.{readings};
 ghost use Rattle.vme_wiring.specs.Boards.{OfParts};
-ghost use Rattle.vme_wiring.specs.Waits.{is_access_to, is_unserved, read_by, waits_for_bus};
+ghost use Rattle.vme_wiring.specs.Asked.{seen_by, read_by};
+ghost use Rattle.vme_wiring.specs.Waits.{is_access_to, is_unserved};
 ghost use Rattle.vme_wiring.specs.declared.wirings.Wiring.{Wiring as WiringValue};
 
 use crate::boards::Board;
-use crate::places::{Placed, is_master_quiet};
+use crate::places::{Placed, is_interrupter_quiet, is_master_quiet, is_requester_quiet};
 use crate::wirings::Wiring;
-use vme_model::{ChainId, Cycle, Driver, Version, Wire};
+use vme_model::{Cycle, Driver};
 
 /// Whether an access to the slot is shown.
 fn is_access_to(slot: u8, shown: Option<Cycle>) -> bool
@@ -19,13 +20,6 @@ fn is_access_to(slot: u8, shown: Option<Cycle>) -> bool
         Some(Cycle::Access(target)) => slot == target,
         _ => false,
     }
-}
-
-/// Whether the board does not hold the bus, and its address group and strobes are off.
-fn waits_for_bus(board: &Board) -> bool
-    ensures { (w : WiringValue) → result ≡ waits_for_bus (read_by w board.now) }
-{
-    is_master_quiet(board)
 }
 
 /// Whether the board's interrupter, if it has one, requests and was not served.
@@ -41,44 +35,49 @@ fn is_unserved(board: &Board) -> bool
 
 impl Wiring {
     ghost use Rattle.vme_wiring.specs.Wired.{OfHistory, OfPlaced};
-    ghost use Rattle.vme_wiring.specs.Boards.{is_quiet};
-    ghost use Rattle.vme_wiring.specs.Quiet.{is_ungranted, is_unaddressed};
+    ghost use Rattle.vme_wiring.specs.Boards.{low_of};
+    ghost use Rattle.vme_wiring.specs.Chained.{grant_in, iack_in};
     ghost use Rattle.vme_wiring.specs.Offered.{offered_on, offered_but_full, requester_wires, master_wires, interrupter_wires};
-    ghost use Rattle.vme_wiring.specs.Waits.{is_waiting, waits_for_cycle, waits_for_grant};
+    ghost use Rattle.vme_wiring.specs.Waits.{is_quiet, is_ungranted, is_unaddressed, is_left_alone, is_waiting, waits_for_bus, waits_for_cycle, waits_for_grant};
 
-    /// Whether the board's requester, if it has one, requests the bus, may not withdraw, and no grant has reached it.
-    fn waits_for_grant(&self, board: &Board) -> bool
-        ensures { result
-            ≡ waits_for_grant self.now.version (read_by self.now board.now) board.now.row }
+    /// Whether the board's requester, if it has one, may not withdraw, and no grant has reached it.
+    #[inline(always)]
+    fn is_ungranted(&self, board: &Board) -> bool
+        ensures { result ≡ is_ungranted self.now.version
+            (grant_in self.now.chains board.now.row) board.now.row }
     {
         match board.row.requester {
-            Some(requester) => {
-                matches!(self.version, Version::One)
-                    && board.is_low(Wire::Br)
-                    && !board.is_low(Wire::BgOut)
-                    && !board.is_low(Wire::Bbsy)
-                    && !self
-                        .chains
-                        .input(ChainId::of_grant(requester.level), board.row.slot)
-            }
+            Some(_) => !self.version.is_two() && !self.chains.grant_in(&board.row),
             None => true,
         }
     }
 
-    /// Whether the board has nothing to answer: no access to it is shown, and no acknowledge has reached its
-    /// interrupter, if it has one.
+    /// Whether no access to the board is shown, and no acknowledge has reached its interrupter, if it has one.
+    #[inline(always)]
+    fn is_unaddressed(&self, board: &Board) -> bool
+        ensures { result ≡ is_unaddressed self.now.shared.shown
+            (iack_in self.now.chains board.now.row) board.now.row }
+    {
+        !is_access_to(board.row.slot, self.shared.shown)
+            && match board.row.interrupter {
+                Some(_) => !self.chains.iack_in(&board.row),
+                None => true,
+            }
+    }
+
+    /// Whether the board's requester, if it has one, waits for its grant.
+    fn waits_for_grant(&self, board: &Board) -> bool
+        ensures { result
+            ≡ waits_for_grant self.now.version (read_by self.now board.now) board.now.row }
+    {
+        is_requester_quiet(board) && self.is_ungranted(board)
+    }
+
+    /// Whether the board has nothing to answer or to pass on.
     fn waits_for_cycle(&self, board: &Board) -> bool
         ensures { result ≡ waits_for_cycle (read_by self.now board.now) board.now.row }
     {
-        !board.is_low(Wire::Dtack)
-            && !is_access_to(board.row.slot, self.shared.shown)
-            && match board.row.interrupter {
-                Some(_) => {
-                    !board.is_low(Wire::IackOut)
-                        && !self.chains.input(ChainId::Iack, board.row.slot)
-                }
-                None => true,
-            }
+        is_interrupter_quiet(board) && self.is_unaddressed(board)
     }
 
     /// Whether the requester of a slot's board has no edge to make. Where it answers false, there may be none either.
@@ -98,7 +97,7 @@ impl Wiring {
         ensures none { OfPlaced self.now board.now (λ version p h s. result ≡ true
             → offered_on version p h (Slot s) master_wires ≡ []) }
     {
-        waits_for_bus(board)
+        is_master_quiet(board)
     }
 
     /// The same of its interrupter and its answers.
@@ -112,44 +111,24 @@ impl Wiring {
         self.waits_for_cycle(board) && is_unserved(board)
     }
 
-    /// Whether the board's requester, if it has one, may not withdraw, and no grant has reached it.
+    /// Whether nothing has come to the board.
     #[inline(always)]
-    fn is_ungranted(&self, board: &Board) -> bool
-        ensures { result ≡ is_ungranted self.now board.now }
+    fn is_left_alone(&self, board: &Board) -> bool
+        ensures { result ≡ is_left_alone self.now.version
+            (seen_by self.now.chains self.now.shared board.now.row) board.now.row }
     {
-        match board.row.requester {
-            Some(requester) => {
-                !self.version.is_two()
-                    && !self
-                        .chains
-                        .input(ChainId::of_grant(requester.level), board.row.slot)
-            }
-            None => true,
-        }
+        self.is_ungranted(board) && self.is_unaddressed(board)
     }
 
-    /// Whether no access to the board is shown, and no acknowledge has reached its interrupter, if it has one.
-    #[inline(always)]
-    fn is_unaddressed(&self, board: &Board) -> bool
-        ensures { result ≡ is_unaddressed self.now board.now }
-    {
-        !is_access_to(board.row.slot, self.shared.shown)
-            && match board.row.interrupter {
-                Some(_) => !self.chains.input(ChainId::Iack, board.row.slot),
-                None => true,
-            }
-    }
-
-    /// Whether the board is quiet, and nothing has come to it. Then its requester and its master wait, and it has nothing
-    /// to answer; that is so of most boards in most turns.
+    /// Whether the board is quiet and left alone. Then its requester and its master wait, and it has nothing to answer;
+    /// that is so of most boards in most turns.
     #[inline(always)]
     fn is_board_waiting(&self, placed: &Placed) -> bool
-        ensures { result ≡ (is_quiet placed.now
-            && is_ungranted self.now placed.now && is_unaddressed self.now placed.now) }
+        ensures { result ≡ (is_quiet (low_of placed.now) placed.now.row
+            && is_left_alone self.now.version
+            (seen_by self.now.chains self.now.shared placed.now.row) placed.now.row) }
     {
-        placed.is_quiet()
-            && self.is_ungranted(placed.board())
-            && self.is_unaddressed(placed.board())
+        placed.is_quiet() && self.is_left_alone(placed.board())
     }
 
     /// Whether the driver waits for an edge of another: each part of its board waits, the requester for a grant, the
