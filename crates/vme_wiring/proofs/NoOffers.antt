@@ -32,9 +32,9 @@ use Rattle.vme_model.specs.Offers.{turned, considered, cycles_of, going_on}
 use Rattle.vme_interrupter.specs.Local.{seen, served, edges, over as interrupter_over, interrupter_of}
 use Rattle.vme_interrupter.proofs.Seen.{served_seen}
 use Rattle.vme_wiring.specs.Boards.{parts_of, place, low_of}
-use Rattle.vme_wiring.specs.Asked.{seen_by}
+use Rattle.vme_wiring.specs.Asked.{seen_by, read_by}
 use Rattle.vme_wiring.specs.Offered.{is_open, offered_on, offered_but_full, requester_wires, master_wires, interrupter_wires}
-use Rattle.vme_wiring.specs.Waits.{waits_for_grant, waits_for_bus, waits_for_cycle, is_access_to, is_unserved, board_waits, is_waiting, read_by}
+use Rattle.vme_wiring.specs.Waits.{waits_for_grant, waits_for_bus, waits_for_cycle, is_access_to, is_unserved, board_waits, is_waiting}
 use Rattle.vme_wiring.specs.Wired.{IsWiringOf}
 use Rattle.vme_wiring.specs.declared.boards.Board.{Board}
 use Rattle.vme_wiring.specs.declared.wirings.Wiring.{Wiring}

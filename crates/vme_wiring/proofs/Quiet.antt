@@ -17,8 +17,9 @@ use Rattle.vme_model.specs.Offers.{turned}
 use Rattle.vme_arbiter.specs.Local.{low}
 use Rattle.vme_wiring.specs.Boards.{low_of, place}
 use Rattle.vme_wiring.specs.Chained.{grant_in, iack_in}
+use Rattle.vme_wiring.specs.Asked.{read_by}
 use Rattle.vme_wiring.specs.Offered.{is_open}
-use Rattle.vme_wiring.specs.Waits.{is_quiet, is_requester_quiet, is_master_quiet, is_interrupter_quiet, is_ungranted, is_unaddressed, waits_for_grant, waits_for_bus, waits_for_cycle, read_by}
+use Rattle.vme_wiring.specs.Waits.{is_quiet, is_requester_quiet, is_master_quiet, is_interrupter_quiet, is_ungranted, is_unaddressed, waits_for_grant, waits_for_bus, waits_for_cycle}
 use Rattle.vme_wiring.specs.Quiet.{may_grant}
 use Rattle.vme_wiring.specs.Wired.{IsWiringOf}
 use Rattle.vme_wiring.specs.declared.boards.Board.{Board}

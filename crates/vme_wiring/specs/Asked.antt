@@ -7,11 +7,14 @@ use Rattle.vme_model.specs.declared.signals.Version.{Version}
 use Rattle.vme_model.specs.declared.signals.Edge.{Edge}
 use Rattle.vme_model.specs.Signals.{is_well_formed}
 use Rattle.vme_model.specs.Plan.{Plan, board, drives, has_driver}
-use Rattle.vme_model.specs.Readings.{readings}
+use Rattle.vme_model.specs.Readings.{Readings, readings, readings_of_pins}
 use Rattle.vme_model.specs.Verdict.{Judgement, ruling}
 use Rattle.vme_model.specs.Views.{pins}
 use Rattle.vme_wiring.specs.Chained.{grant_in, iack_in}
+use Rattle.vme_wiring.specs.Boards.{low_of}
+use Rattle.vme_wiring.specs.declared.boards.Board.{Board}
 use Rattle.vme_wiring.specs.declared.chains.Chains.{Chains}
+use Rattle.vme_wiring.specs.declared.wirings.Wiring.{Wiring}
 
 -- E1 does not apply: the edge is well formed, and there is such a driver
 abbrev pub exists : Plan → Edge → Bool
@@ -23,6 +26,13 @@ asked version p h e = ruling version (readings p h e.driver) e
 -- a board's pins, by the chains and the lines that all drivers see alike
 abbrev pub seen_by : Chains → Pins → Row → Pins
 seen_by chains shared r = record shared { grant_in = grant_in chains r; iack_in = iack_in chains r }
+
+-- what a board's rules read, as far as its stored fields say it
+abbrev pub read_by : Wiring → Board → Readings
+read_by w b = record (readings_of_pins (seen_by w.chains w.shared b.row)) {
+  own = low_of b;
+  served_since_request = b.interrupter.is_served;
+}
 
 -- a board is asked for an edge of a wire that it drives, with its pins
 pub record IsAsked (p : Plan) (h : List Edge) (r : Row) (seen : Pins) (e : Edge) : Type 0 where

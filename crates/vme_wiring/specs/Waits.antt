@@ -12,11 +12,7 @@ use Rattle.vme_model.specs.declared.signals.Cycle.TheVariants.{Access}
 use Rattle.vme_model.specs.declared.signals.Edge.{Edge}
 use Rattle.vme_model.specs.Signals.{is_two}
 use Rattle.vme_model.specs.Plan.{Plan, board}
-use Rattle.vme_model.specs.Readings.{Readings, readings, readings_of_pins}
-use Rattle.vme_wiring.specs.Asked.{seen_by}
-use Rattle.vme_wiring.specs.Boards.{low_of}
-use Rattle.vme_wiring.specs.declared.boards.Board.{Board}
-use Rattle.vme_wiring.specs.declared.wirings.Wiring.{Wiring}
+use Rattle.vme_model.specs.Readings.{Readings, readings}
 
 -- Of its own wires: a requester, if there is one, requests the bus, passes no grant on and does not
 -- hold the bus (chapter 3)
@@ -82,10 +78,3 @@ abbrev pub is_waiting : Version → Plan → List Edge → Driver → Bool
 is_waiting version p h Controller = false
 is_waiting version p h (Slot s) =
     option_map_or (board_waits version (readings p h (Slot s))) (board p s) true
-
--- what of that a board's stored fields say
-abbrev pub read_by : Wiring → Board → Readings
-read_by w b = record (readings_of_pins (seen_by w.chains w.shared b.row)) {
-  own = low_of b;
-  served_since_request = b.interrupter.is_served;
-}

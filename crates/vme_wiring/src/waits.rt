@@ -3,7 +3,8 @@ ghost use Rattle.std.specs.Prelude.{◌≡◌, ◌&&◌, true, [], Some};
 ghost use Rattle.vme_model.specs.declared.signals.Driver.TheVariants.{Slot};
 ghost use Rattle.vme_model.specs.Readings.{readings};
 ghost use Rattle.vme_wiring.specs.Boards.{OfParts};
-ghost use Rattle.vme_wiring.specs.Waits.{is_access_to, is_unserved, read_by};
+ghost use Rattle.vme_wiring.specs.Asked.{read_by};
+ghost use Rattle.vme_wiring.specs.Waits.{is_access_to, is_unserved};
 ghost use Rattle.vme_wiring.specs.declared.wirings.Wiring.{Wiring as WiringValue};
 
 use crate::boards::Board;

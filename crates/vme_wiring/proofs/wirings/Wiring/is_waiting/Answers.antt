@@ -3,7 +3,8 @@ use Rattle.std.specs.Option.{option_copied}
 use Rattle.vme_model.specs.declared.signals.Driver.{Driver}
 use Rattle.vme_model.specs.declared.signals.Driver.TheVariants.{Slot}
 use Rattle.vme_model.specs.Readings.{readings}
-use Rattle.vme_wiring.specs.Waits.{is_waiting, is_unserved, read_by, waits_for_bus, waits_for_cycle, waits_for_grant}
+use Rattle.vme_wiring.specs.Asked.{read_by}
+use Rattle.vme_wiring.specs.Waits.{is_waiting, is_unserved, waits_for_bus, waits_for_cycle, waits_for_grant}
 use Rattle.vme_wiring.specs.declared.boards.Board.{Board}
 use Rattle.vme_wiring.proofs.LongerHistory.{placed_board}
 use Rattle.vme_wiring.proofs.Quiet.{quiet_reads, all_but_last, one_moves}
