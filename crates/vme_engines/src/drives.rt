@@ -12,32 +12,11 @@ ghost use Rattle.vme_engines.specs.Driving.{Drives, DrivesSafely};
 
 use crate::plans::{history_region, history_room, plan_of};
 use crate::{EngineFault, Status};
-use arrayvec::ArrayVec;
 use std::alloc::Global;
 use std::io::Write;
 use vme_backplane::Backplane;
 use vme_model::{Driver, Version};
-use vme_slots::Plan;
 use vme_trace::{Fault, flush, header_line, line_of, put};
-
-/// The most drivers of a plan: the controller and 21 boards.
-const DRIVERS: usize = 22;
-
-/// The drivers of a plan: the controller, then each board by slot.
-fn drivers_of(plan: &Plan) -> ArrayVec<Driver, DRIVERS>
-    ensures { result.items ≡ drivers plan.now }
-{
-    plan.accepted();
-    let mut drivers = ArrayVec::new();
-    drivers.push(Driver::Controller);
-    for below in 0..plan.slots() {
-        let slot = below + 1;
-        if plan.has_board(slot) {
-            drivers.push(Driver::Slot(slot));
-        }
-    }
-    drivers
-}
 
 /// A driver's turn: it makes an offer, unless there is none or enough edges were made.
 fn take_turn(backplane: &mut Backplane, round: u32, edges: u32, driver: Driver)
@@ -140,7 +119,7 @@ pub fn drive<W: Write>(
     let plan = plan_of(alloc, scenario)?;
     let mut region = history_region(alloc)?;
     let room = history_room(alloc, &mut region)?;
-    let all = drivers_of(&plan);
+    let all = plan.drivers();
     let mut backplane = Backplane::new(plan, room, version);
     take_rounds(&mut backplane, edges, &all);
     backplane.laws();

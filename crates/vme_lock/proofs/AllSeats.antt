@@ -1,11 +1,13 @@
 -- The drivers of a plan, whose edges make up each legal history.
-use Rattle.std.proofs.Common.{◌≡◌, ℕ, zero, suc, ◌+◌, ◌<◌, ◌≤◌, List, [], ◌∷◌, ◌++◌, length, map, length-append, append-nil, Bool, true, false, Option, Some, None, refl, sym, ap, ◌∙◌, subst, arith}
+use Rattle.std.proofs.Common.{◌≡◌, ℕ, zero, suc, ◌+◌, ◌<◌, ◌≤◌, List, [], ◌∷◌, ◌++◌, length, map, take, get_or, length-append, Bool, true, false, Option, Some, None, refl, sym, ap, ◌∙◌, subst, arith}
 use Rattle.std.specs.Prelude.{count_by, sum_by, filter, is_some, ◌==◌, if◌then◌else◌}
 use Rattle.std.specs.Option.{option_map_or}
 use Rattle.std.proofs.lemmas.Bool.Decides.{nat_tests}
 use Rattle.std.proofs.lemmas.List.Sums.{sum_by-cons, sum_by-append, sum_by_push}
-use Rattle.std.proofs.lemmas.List.Elements.{filter-append}
-use Rattle.std.proofs.lemmas.List.{map-append}
+use Rattle.std.specs.List.{All}
+use Rattle.std.proofs.lemmas.List.Elements.{filter-append, All-nil, All-cons, All-append, All-map, All-filter, All-get_or}
+use Rattle.std.proofs.lemmas.List.{map-append, take_more}
+use Rattle.std.proofs.Math.Seq.{take-length}
 use Rattle.vme_model.specs.declared.boards.Row.{Row}
 use Rattle.vme_model.specs.declared.refusals.Refused.TheVariants.{NoSuchDriver}
 use Rattle.vme_model.specs.declared.signals.Driver.{Driver}
@@ -24,10 +26,6 @@ use Rattle.vme_model.proofs.AllowedEdges.{checked}
 use Rattle.vme_model.proofs.Ranges.{IsInRange, IsRowInRange, in_range}
 use Rattle.vme_lock.specs.Seats.{Place, can_sit, seat_of, drivers_of}
 use Rattle.vme_lock.proofs.DeskCounts.{one_if, count-made}
-
--- the controller, and each board up to a slot
-abbrev pub drivers_below : Plan → ℕ → List Driver
-drivers_below p n = Controller ∷ map (λ s. Slot s) (filter (λ s. is_some (board p s)) (up_to n))
 
 -- how often a number stands among those that pass
 abbrev times : (ℕ → Bool) → ℕ → ℕ → ℕ
@@ -143,75 +141,55 @@ all_counted version p (e ∷ h) accepted legal =
     let more = all_counted version p h accepted legal.1 in
     sum-made h e (drivers p) ∙ omega (arith, here, more)
 
--- the seats of the controller and of the boards up to a slot
-pub record AreSeated (b : State) (n : ℕ) (seats : List Place) (total parts : ℕ) : Type 0 where
-  pub placed : seats ≡ map (seat_of b) (drivers_below b.plan n)
-  pub summed : total ≡ sum_by (λ d. count b.history d) (drivers_below b.plan n)
-  pub left : parts + length (drivers_below b.plan n) ≡ 22
-  pub few : length (drivers_below b.plan n) ≤ n + 1
+-- the seats of some drivers, and the parts that are left
+pub record AreSeated (b : State) (ds : List Driver) (seats : List Place) (total parts : ℕ) : Type 0 where
+  pub placed : seats ≡ map (seat_of b) ds
+  pub summed : total ≡ sum_by (λ d. count b.history d) ds
+  pub left : parts + length ds ≡ 22
 
-pub seated_first : (b : State) (old new : List Place) (made before total parts all : ℕ) → old ≡ [] → before ≡ 0 → all ≡ 22 → new ≡ old ++ record { driver = Controller; made = made } ∷ [] → made ≡ count b.history Controller → total ≡ before + made → parts + 1 ≡ all → AreSeated b 0 new total parts
-seated_first b old new made before total parts all none nought whole is counted more rest =
-    let place : Place → List Place = λ s. s ∷ [] in
+pub seated_none : (b : State) (seats : List Place) (total parts : ℕ) → seats ≡ [] → total ≡ 0 → parts ≡ 22 → AreSeated b [] seats total parts
+seated_none b seats total parts none nought whole = record { placed = none; summed = nought; left = omega (arith, whole) }
+
+-- one driver more
+pub seated_more : (b : State) (ds : List Driver) (n : ℕ) (d : Driver) (old new : List Place) (made before total parts all : ℕ) → n < length ds → get_or ds n Controller ≡ d → AreSeated b (take n ds) old before all → new ≡ old ++ record { driver = d; made = made } ∷ [] → made ≡ count b.history d → total ≡ before + made → parts + 1 ≡ all → AreSeated b (take (n + 1) ds) new total parts
+seated_more b ds n d old new made before total parts all within here seated is counted more rest =
+    let next : take (n + 1) ds ≡ take n ds ++ d ∷ [] = take_more ds n Controller within ∙ ap (λ (x : Driver). take n ds ++ x ∷ []) here in
+    let longer : length (take (n + 1) ds) ≡ length (take n ds) + 1 = omega (arith, ap length next, length-append (take n ds) (d ∷ [])) in
+    let last : map (seat_of b) (take n ds) ++ seat_of b d ∷ [] ≡ map (seat_of b) (take (n + 1) ds) = sym (ap (map (seat_of b)) next ∙ map-append (seat_of b) (take n ds) (d ∷ [])) in
     record {
-      placed = is ∙ ap (λ (l : List Place). l ++ record { driver = Controller; made = made } ∷ []) none ∙ ap (λ (n : ℕ). place (record { driver = Controller; made = n })) counted;
-      summed = omega (arith, nought, more, counted, sum_by-cons (λ d. count b.history d) Controller []);
-      left = omega (arith, rest, whole);
-      few = omega arith;
-    }
-
-up_to-next : (n : ℕ) → up_to (n + 1) ≡ up_to n ++ (n + 1) ∷ []
-up_to-next n = let same : n + 1 ≡ suc n = omega arith in ap up_to same ∙ ap (λ (m : ℕ). up_to n ++ m ∷ []) (sym same)
-
-below-next : (p : Plan) (n : ℕ) → drivers_below p (n + 1) ≡ drivers_below p n ++ map (λ s. Slot s) (filter (λ s. is_some (board p s)) ((n + 1) ∷ []))
-below-next p n =
-    let f : ℕ → Driver = λ s. Slot s in
-    let test : ℕ → Bool = λ s. is_some (board p s) in
-    ap (λ (l : List ℕ). Controller ∷ map f (filter test l)) (up_to-next n)
-    ∙ (ap (λ (l : List ℕ). Controller ∷ map f l) (filter-append test (up_to n) ((n + 1) ∷ []))
-    ∙ ap (λ (l : List Driver). Controller ∷ l) (map-append f (filter test (up_to n)) (filter test ((n + 1) ∷ []))))
-
-below-more : (p : Plan) (n : ℕ) → is_some (board p (n + 1)) ≡ true → drivers_below p (n + 1) ≡ drivers_below p n ++ Slot (n + 1) ∷ []
-below-more p n some =
-    below-next p n ∙ ap (λ (x : Bool). drivers_below p n ++ map (λ s. Slot s) (if x then (n + 1) ∷ [] else [])) some
-
-below-same : (p : Plan) (n : ℕ) → is_some (board p (n + 1)) ≡ false → drivers_below p (n + 1) ≡ drivers_below p n
-below-same p n none =
-    below-next p n ∙ (ap (λ (x : Bool). drivers_below p n ++ map (λ s. Slot s) (if x then (n + 1) ∷ [] else [])) none ∙ append-nil (drivers_below p n))
-
--- one board more
-pub seated_more : (b : State) (n : ℕ) (old new : List Place) (made before total parts all : ℕ) → AreSeated b n old before all → is_some (board b.plan (n + 1)) ≡ true → new ≡ old ++ record { driver = Slot (n + 1); made = made } ∷ [] → made ≡ count b.history (Slot (n + 1)) → total ≡ before + made → parts + 1 ≡ all → AreSeated b (n + 1) new total parts
-seated_more b n old new made before total parts all seated some is counted more rest =
-    let ds = drivers_below b.plan n in
-    let next = below-more b.plan n some in
-    let longer : length (drivers_below b.plan (n + 1)) ≡ length ds + 1 = omega (arith, ap length next, length-append ds (Slot (n + 1) ∷ [])) in
-    let last : map (seat_of b) ds ++ seat_of b (Slot (n + 1)) ∷ [] ≡ map (seat_of b) (drivers_below b.plan (n + 1)) = sym (ap (map (seat_of b)) next ∙ map-append (seat_of b) ds (Slot (n + 1) ∷ [])) in
-    record {
-      placed = is ∙ ((λ i. seated.placed i ++ record { driver = Slot (n + 1); made = counted i } ∷ []) ∙ last);
-      summed = omega (arith, seated.summed, more, counted, ap (sum_by (λ d. count b.history d)) next, sum_by_push (λ d. count b.history d) ds (Slot (n + 1)));
+      placed = is ∙ ((λ i. seated.placed i ++ record { driver = d; made = counted i } ∷ []) ∙ last);
+      summed = omega (arith, seated.summed, more, counted, ap (sum_by (λ d. count b.history d)) next, sum_by_push (λ d. count b.history d) (take n ds) d);
       left = omega (arith, seated.left, rest, longer);
-      few = omega (arith, seated.few, longer);
-    }
-
--- an empty slot
-pub seated_same : (b : State) (n : ℕ) (seats : List Place) (total parts : ℕ) → AreSeated b n seats total parts → is_some (board b.plan (n + 1)) ≡ false → AreSeated b (n + 1) seats total parts
-seated_same b n seats total parts seated none =
-    let same = sym (below-same b.plan n none) in
-    record {
-      placed = seated.placed ∙ ap (map (seat_of b)) same;
-      summed = seated.summed ∙ ap (sum_by (λ d. count b.history d)) same;
-      left = omega (arith, seated.left, ap length same);
-      few = omega (arith, seated.few, ap length same);
     }
 
 -- all seats
-pub seated_all : (b : State) (n : ℕ) (seats : List Place) (total parts : ℕ) → AreSeated b n seats total parts → n ≡ b.plan.slots → AreSeated b b.plan.slots seats total parts
-seated_all b n seats total parts seated whole = subst (λ m. AreSeated b m seats total parts) whole seated
+pub seated_all : (b : State) (ds : List Driver) (n : ℕ) (seats : List Place) (total parts : ℕ) → AreSeated b (take n ds) seats total parts → n ≡ length ds → ds ≡ drivers b.plan → AreSeated b (drivers b.plan) seats total parts
+seated_all b ds n seats total parts seated whole is =
+    subst (λ (l : List Driver). AreSeated b l seats total parts) (ap (λ m. take m ds) whole ∙ take-length ds ∙ is) seated
 
 pub drivers-seats_of : (b : State) (ds : List Driver) → drivers_of (map (seat_of b) ds) ≡ ds
 drivers-seats_of b [] = refl
 drivers-seats_of b (d ∷ ds) = ap (λ (l : List Driver). d ∷ l) (drivers-seats_of b ds)
 
--- the board of a slot may sit
-pub board_sits : (p : Plan) (s : ℕ) → IsAccepted p → 1 ≤ s → s ≤ p.slots → can_sit (Slot s) ≡ true
-board_sits p s accepted low high = let most = (in_range p accepted).most in grind (arith, nat_tests)
+-- each driver of a plan can sit
+slot_sits : (s : ℕ) → 1 ≤ s → s ≤ 21 → can_sit (Slot s) ≡ true
+slot_sits s low high = grind (arith, nat_tests)
+
+slots_sit : (n : ℕ) → n ≤ 21 → All (λ s. can_sit (Slot s) ≡ true) (up_to n)
+slots_sit zero few = All-nil (λ s. can_sit (Slot s) ≡ true)
+slots_sit (suc n) few =
+    let sits : ℕ → Type 0 = λ s. can_sit (Slot s) ≡ true in
+    All-append sits (up_to n) (suc n ∷ []) (slots_sit n (omega arith)) (All-cons sits (suc n) [] (slot_sits (suc n) (omega arith) few) (All-nil sits))
+
+all_sit : (p : Plan) → IsAccepted p → All (λ d. can_sit d ≡ true) (drivers p)
+all_sit p accepted =
+    let sits : Driver → Type 0 = λ d. can_sit d ≡ true in
+    let some : ℕ → Bool = λ s. is_some (board p s) in
+    let slots = slots_sit p.slots (in_range p accepted).most in
+    All-cons sits Controller (map (λ s. Slot s) (filter some (up_to p.slots))) refl
+    (All-map sits (λ s. Slot s) (filter some (up_to p.slots)) (All-filter some (λ s. can_sit (Slot s) ≡ true) (up_to p.slots) slots))
+
+pub driver_sits : (p : Plan) (ds : List Driver) (n : ℕ) (d : Driver) → IsAccepted p → ds ≡ drivers p → n < length ds → get_or ds n Controller ≡ d → can_sit d ≡ true
+driver_sits p ds n d accepted is within here =
+    let all : All (λ d. can_sit d ≡ true) ds = subst (λ (l : List Driver). All (λ d. can_sit d ≡ true) l) (sym is) (all_sit p accepted) in
+    subst (λ (x : Driver). can_sit x ≡ true) here (All-get_or (λ d. can_sit d ≡ true) ds n Controller within all)

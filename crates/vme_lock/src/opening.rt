@@ -5,16 +5,14 @@ ghost use Rattle.vme_model.specs.Counts.{count};
 ghost use Rattle.vme_lock.specs.Seats.{AreCounts, can_sit, seats_of, drivers_of};
 
 use crate::held::Held;
-use crate::seats::{Rig, Seat, Seats, desk_of};
+use crate::seats::{Rig, Seat, Seats, desk, desk_of};
 use crate::shared::Shared;
 use std::alloc::Global;
 use std::sync::Mutex;
 use std::sync::ledger::{Blank, Book, Share};
 use vme_backplane::Backplane;
 use vme_model::Driver;
-
-/// The parts of a ledger, one for each driver that there can be.
-const PARTS: usize = 22;
+use vme_slots::DRIVERS;
 
 impl<'r, L: Rig> Shared<'r, L> {
     /// The backplane under a lock, with the seats at it.
@@ -32,7 +30,7 @@ impl<'r, L: Rig> Shared<'r, L> {
             (λ b. b ≡ backplane.entry) }
         ensures drivers { IfOk result (λ r. drivers_of r.1.items ≡ drivers backplane.entry.plan) }
     {
-        let Ok(seats) = Vec::with_capacity(alloc, PARTS) else {
+        let Ok(seats) = Vec::with_capacity(alloc, DRIVERS) else {
             return Err(backplane);
         };
         backplane.laws();
@@ -80,7 +78,7 @@ impl<L: Rig> Opening<L> {
         self.seats.push_reserved(Seat::new(driver, made, share));
     }
 
-    /// Gives a seat to the controller, and to each board.
+    /// Gives a seat to each driver.
     fn seat_all(&mut self, backplane: &Backplane<'_>, counts: &[u32; 22])
         requires counts { AreCounts counts.now backplane.now.history }
         requires empty { (self.old.seats.items ≡ []) × (22 ≤ vec_capacity self.old.seats)
@@ -92,13 +90,9 @@ impl<L: Rig> Opening<L> {
             × (self.new.rest.amount ≡ 0) }
     {
         backplane.laws();
-        self.seat(Driver::Controller, counts[0]);
-        let plan = backplane.plan();
-        for below in 0..plan.slots() {
-            let slot = below + 1;
-            if plan.has_board(slot) {
-                self.seat(Driver::Slot(slot), counts[usize::from(slot)]);
-            }
+        let all = backplane.plan().drivers();
+        for driver in all.as_slice() {
+            self.seat(*driver, counts[desk(*driver)]);
         }
     }
 }

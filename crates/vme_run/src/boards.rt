@@ -21,9 +21,7 @@ use vme_engines::EngineFault;
 use vme_lock::{
     Bounds, Closed, Log, LogMismatch, OpenGate, Rig, Room, Seats, Shared, log_bytes, run_boards,
 };
-
-/// The most drivers of a plan, and the parts of a ledger.
-const DRIVERS: u64 = 22;
+use vme_slots::DRIVERS;
 
 /// Memory for so many boards, each of which makes so many edges at most.
 fn region_for(alloc: Global, boards: usize, edges: u32) -> Result<Region, AllocError>
@@ -79,7 +77,7 @@ pub(crate) fn play<'r, R: Threads + Wait + Sync>(
         (IsPlayed bounds.turns backplane.entry)
         (IsNotPlayed bounds.turns backplane.entry) }
 {
-    play_on::<Brand, R>(rt, alloc, Blank::new(DRIVERS), backplane, bounds)
+    play_on::<Brand, R>(rt, alloc, Blank::new(DRIVERS as u64), backplane, bounds)
 }
 
 fn play_on<'r, L: Rig + Send + Sync, R: Threads + Wait + Sync>(

@@ -7,5 +7,5 @@ mod faults;
 mod plans;
 mod ranges;
 
-pub use plans::Plan;
+pub use plans::{DRIVERS, Plan};
 pub use vme_model::{Field, PlanError};

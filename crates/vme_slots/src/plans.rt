@@ -5,9 +5,13 @@ ghost use Rattle.vme_model.specs.Accepted.{IsAccepted};
 
 use crate::boards::{active_slots, row_in};
 use crate::faults::Draft;
+use arrayvec::ArrayVec;
 use std::alloc::{AllocError, Global};
 use std::marker::Model;
-use vme_model::{ArbiterKind, ChainId, Jumper, PlanError, Row};
+use vme_model::{ArbiterKind, ChainId, Driver, Jumper, PlanError, Row};
+
+/// The most drivers of a plan: the controller, and a board in each of 21 slots.
+pub const DRIVERS: usize = 22;
 
 /// An accepted plan: its slots, boards, jumpers and arbiter, and which slots work each daisy chain.
 #[derive(Drop)]
@@ -60,7 +64,7 @@ impl Model for Plan {
 }
 
 impl Plan {
-    ghost use Rattle.vme_model.specs.Plan.{active, upstream, last_active, board};
+    ghost use Rattle.vme_model.specs.Plan.{active, upstream, last_active, board, drivers};
     ghost use Rattle.vme_model.specs.Accepted.{IsAccepted, plan_fault};
 
     /// The plan of these boards and jumpers, or the first fault, in the order P2, P8, P1, P3, P4,
@@ -140,6 +144,22 @@ impl Plan {
         ensures { result ≡ is_some (board self.now slot) }
     {
         self.row(slot).is_some()
+    }
+
+    /// The drivers of the backplane: the controller, then each board by slot.
+    pub fn drivers(&self) -> ArrayVec<Driver, DRIVERS>
+        ensures { result.items ≡ drivers self.now }
+    {
+        self.accepted();
+        let mut drivers = ArrayVec::new();
+        drivers.push(Driver::Controller);
+        for below in 0..self.slots() {
+            let slot = below + 1;
+            if self.has_board(slot) {
+                drivers.push(Driver::Slot(slot));
+            }
+        }
+        drivers
     }
 
     /// The slots whose board works the chain, ascending.
