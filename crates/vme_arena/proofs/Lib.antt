@@ -8,6 +8,8 @@ pub mod Cells
 pub mod Homes
 -- what all granules own goes out for the rest of a borrow: `Granules::lend`
 pub mod LentGranules
+-- the same of a region: `Region::lend`
+pub mod LentRegion
 -- the slots of a signature, and what runs after a part of a body: all that is walked by hand
 pub mod Parts
 -- the two cases of a block that was to be resized: the allocator's `grow` and `shrink`

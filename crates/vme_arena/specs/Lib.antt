@@ -3,6 +3,8 @@
 
 -- words: the stretch of a lease's granules
 pub mod Held
+-- believe: what a region is once what it lent is gone
+pub mod Lending
 -- words: what granules, pieces and blocks own
 pub mod Ownership
 -- believe: stretches, and which of them are apart

@@ -1,5 +1,6 @@
 -- What a clause reads of a region, of its rest and of a lease.
 use Rattle.std.specs.Prelude.{ℕ, ◌+◌}
+use base.Fml.{GName}
 use Rattle.vme_arena.specs.Stretch.{Stretch}
 use Rattle.vme_arena.specs.declared.region.Region.{Region}
 use Rattle.vme_arena.specs.declared.region.Rest.{Rest}
@@ -7,7 +8,7 @@ use Rattle.vme_arena.specs.declared.lease.Lease.{Lease}
 
 -- the number of bytes that the region was made with
 abbrev pub region_size : Region → ℕ
-region_size r = r.size
+region_size r = r.origin.size
 
 -- where the rest begins in the region
 abbrev pub rest_start : Rest → ℕ
@@ -16,6 +17,10 @@ rest_start r = r.start
 -- the bytes from there to the end of the region
 abbrev pub rest_left : Rest → ℕ
 rest_left r = r.left
+
+-- the name of the region's borrow
+abbrev pub rest_name : Rest → GName
+rest_name r = r.loan.name
 
 -- the rest, as a stretch of the region's block
 abbrev pub rest_stretch : Rest → Stretch

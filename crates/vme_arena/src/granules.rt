@@ -13,8 +13,8 @@ use std::marker::{Model, PhantomData};
 
 #[derive(Drop)]
 pub(crate) struct Granules {
-    bytes: *mut u8,
-    tags: *mut u8,
+    pub(crate) bytes: *mut u8,
+    pub(crate) tags: *mut u8,
     // Those whose tag is written. The `blank` granules after them have none yet.
     ghost count: { ℕ },
     ghost blank: { ℕ },

@@ -9,6 +9,7 @@ use crate::loan::Loan;
 use crate::memory::{Deed, Memory, UNIT};
 use core::mem::replace_with;
 use std::alloc::{AllocError, Global};
+use std::marker::PhantomData;
 use thiserror::Error;
 
 /// A stretch was asked for that is longer than what is left.
@@ -26,17 +27,23 @@ pub struct Full {
 /// The block goes back when the region is dropped. Where a block of a lease was never given back,
 /// as after a `mem::forget`, it stays away for good, and the drop leaks the region's block.
 pub struct Region {
+    // All bytes, with their tags.
+    granules: Granules,
+    origin: Origin,
+    ghost counted: { (granules.count ≡ origin.count) × (granules.blank ≡ 0) × (0 < origin.count) × (origin.size ≤ origin.count * 16) },
+    ghost roomy: { (origin.room ≡ origin.count * 16 + rounded origin.count) × (origin.room < 2 ^ 63) },
+    ghost placed: { (granules.spot.at ≡ 0) × (granules.spot.tag ≡ origin.count * 16) },
+    ghost owned: { (origin.deed.alloc ≡ origin.alloc) × (origin.deed.ptr ≡ block_ptr granules.spot.block 0) × (origin.deed.size ≡ origin.room) },
+}
+
+// What a region was made with. It stays while the granules are lent.
+struct Origin {
     size: usize,
     // The granules of 16 bytes, and with their tags the block.
     count: usize,
     room: usize,
-    granules: Granules,
     deed: Deed<Global>,
     alloc: Global,
-    ghost counted: { (granules.count ≡ count) × (granules.blank ≡ 0) × (0 < count) × (size ≤ count * 16) × (count * 16 ≤ size + 16) },
-    ghost roomy: { (room ≡ count * 16 + rounded count) × (room < 2 ^ 63) },
-    ghost placed: { (granules.spot.at ≡ 0) × (granules.spot.tag ≡ count * 16) },
-    ghost owned: { (deed.alloc ≡ alloc) × (deed.ptr ≡ block_ptr granules.spot.block 0) × (deed.size ≡ room) },
 }
 
 /// What has not been carved yet. It ends where the region does, and begins after what was carved.
@@ -66,7 +73,9 @@ impl Granules {
 }
 
 impl Region {
-    ghost use Rattle.vme_arena.specs.Words.{region_size, rest_start, rest_left};
+    ghost use Rattle.std.specs.Borrow.{sem};
+    ghost use Rattle.vme_arena.specs.Lending.{EndsAsItWas};
+    ghost use Rattle.vme_arena.specs.Words.{region_size, rest_start, rest_left, rest_name};
 
     /// A region of `bytes` bytes, in one block that is aligned to 16. Beside the bytes, rounded up
     /// to 16, the block has one byte for each 16 of them.
@@ -82,26 +91,40 @@ impl Region {
             return Err(AllocError);
         };
         let (granules, deed) = Granules::made(memory, deed, count);
-        Ok(Region {
+        let origin = Origin {
             size: bytes,
             count,
             room,
-            granules,
             deed,
             alloc,
-        })
+        };
+        Ok(Region { granules, origin })
     }
 
-    /// All of the region, to be carved anew.
+    /// All of the region, to be carved anew. Whatever comes of it, the region is the same afterwards.
     pub fn rest<'r>(&'r mut self) -> Rest<'r>
         ensures rest { (rest_start result ≡ 0) × (rest_left result ≡ region_size self.entry.now) }
+        ensures* same { sem 𝓛 (EndsAsItWas self.entry (rest_name result)) }
     {
-        let left = self.size;
-        let loan = self.granules.lend();
+        let left = self.origin.size;
+        let loan = self.lend();
         Rest {
             start: 0,
             left,
             loan,
+        }
+    }
+
+    // Its granules, as they lend themselves.
+    fn lend<'r>(&'r mut self) -> Loan<'r>
+        ensures count { result.count ≡ self.entry.now.granules.count }
+        ensures spot { result.spot ≡ self.entry.now.granules.spot }
+        ensures* same { sem 𝓛 (EndsAsItWas self.entry result.name) }
+    {
+        Loan {
+            bytes: self.granules.bytes,
+            tags: self.granules.tags,
+            marker: PhantomData,
         }
     }
 }
@@ -145,14 +168,14 @@ impl<'r> Rest<'r> {
 
 impl Drop for Region {
     fn drop(self) {
-        let Region {
+        let Region { granules, origin } = self;
+        let Origin {
             size: _,
             count,
             room,
-            granules,
             deed,
             alloc,
-        } = self;
+        } = origin;
         let mut granules = granules;
         let (_, bytes) = granules.lend().take_run(0, count);
         if let Ok(bytes) = bytes {

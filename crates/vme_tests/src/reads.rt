@@ -4,12 +4,12 @@ use std::io::{self, ErrorKind, Read, Write};
 use std::process::Abort;
 use vme_engines::{EngineFault, Status, check, joined, replay};
 use vme_model::Edge;
-use vme_trace::{Fault, Reader, pump, read_piece};
+use vme_trace::{Fault, Patient, Reader, flush, pump, put, read_piece};
 
 /// The most reads of one input.
 const MOST: u32 = 16_777_216;
 
-/// The most tries of a read that is interrupted.
+/// The most tries of a call that is interrupted.
 const TRIES: u32 = 65_536;
 
 /// A reader that gives a byte a read: a head, and after it some lines again and again, so many bytes in all.
@@ -140,19 +140,51 @@ fn a_long_trace_is_read_to_its_end(rt: HostRuntime) {
     assert_same(&rt, out.as_slice(), b"legal 60000\n".as_slice());
 }
 
-/// A reader whose first reads are interrupted, so many of them, before the end of the input.
+/// A text behind a reader or a writer whose first calls are interrupted, so many of them.
 #[derive(Drop)]
-struct Interrupted {
+struct Interrupted<'a> {
     left: u32,
+    /// What is to be read.
+    text: &'a [u8],
+    /// How many bytes were written.
+    bytes: usize,
 }
 
-impl Read for Interrupted {
-    fn read(&mut self, _buf: &mut [u8]) -> io::Result<usize> {
+impl<'a> Interrupted<'a> {
+    fn new(left: u32, text: &'a [u8]) -> Interrupted<'a> {
+        Interrupted {
+            left,
+            text,
+            bytes: 0,
+        }
+    }
+
+    /// Whether the next call goes through.
+    fn goes_through(&mut self) -> io::Result<()> {
         if self.left > 0 {
             self.left -= 1;
             return Err(io::Error::from(ErrorKind::Interrupted));
         }
-        Ok(0)
+        Ok(())
+    }
+}
+
+impl<'a> Read for Interrupted<'a> {
+    fn read(&mut self, buf: &mut [u8]) -> io::Result<usize> {
+        self.goes_through()?;
+        self.text.read(buf)
+    }
+}
+
+impl<'a> Write for Interrupted<'a> {
+    fn write(&mut self, buf: &[u8]) -> io::Result<usize> {
+        self.goes_through()?;
+        self.bytes = self.bytes.saturating_add(buf.len());
+        Ok(buf.len())
+    }
+
+    fn flush(&mut self) -> io::Result<()> {
+        self.goes_through()
     }
 }
 
@@ -167,10 +199,93 @@ const INTERRUPTED: [(u32, Result<usize, Fault>, u32); 4] = [
 #[test]
 fn an_interrupted_read_is_tried_so_often(rt: HostRuntime) {
     for (times, want, left) in INTERRUPTED {
-        let mut input = Interrupted { left: times };
+        let mut input = Interrupted::new(times, b"");
         let answer = read_piece(&mut input, &mut [0; 512]);
         assert_same(&rt, (answer, input.left), (want, left));
     }
+}
+
+/// How often a write is interrupted, what it answers, how many interruptions are left, and how many bytes were taken.
+const INTERRUPTED_WRITES: [(u32, Result<(), Fault>, u32, usize); 4] = [
+    (0, Ok(()), 0, 5),
+    (TRIES - 1, Ok(()), 0, 5),
+    (TRIES, Err(Fault::Write), 0, 0),
+    (u32::MAX, Err(Fault::Write), u32::MAX - TRIES, 0),
+];
+
+#[test]
+fn an_interrupted_write_is_tried_so_often(rt: HostRuntime) {
+    for (times, want, left, bytes) in INTERRUPTED_WRITES {
+        let mut out = Patient(Interrupted::new(times, b""));
+        let answer = put(&mut out, b"1 ok\n");
+        assert_same(&rt, (answer, out.0.left, out.0.bytes), (want, left, bytes));
+    }
+}
+
+// A flush takes no byte. It is tried so often whether the writer is patient or not.
+#[test]
+fn an_interrupted_flush_is_tried_so_often(rt: HostRuntime) {
+    for (times, want, left, _) in INTERRUPTED_WRITES {
+        let mut out = Interrupted::new(times, b"");
+        let answer = flush(&mut out);
+        assert_same(&rt, (answer, out.left, out.bytes), (want, left, 0));
+        let mut out = Patient(Interrupted::new(times, b""));
+        let answer = flush(&mut out);
+        assert_same(&rt, (answer, out.0.left, out.0.bytes), (want, left, 0));
+    }
+}
+
+/// The report of one tenure on a writer that is interrupted so often: the answer, the interruptions left, the bytes taken.
+fn reported(rt: &impl AllocGlobal, times: u32) -> (Result<Status, EngineFault>, u32, usize) {
+    let mut trace = Drops::new(b"vme 1\n", TENURE, 48);
+    let mut out = Patient(Interrupted::new(times, b""));
+    let answer = replay(rt.alloc(), ONE_BOARD, &mut trace, &mut out);
+    (answer, out.0.left, out.0.bytes)
+}
+
+// Six lines of five bytes, and `accepted 6 refused 0` with its line feed.
+#[test]
+fn an_interrupted_report_is_tried_so_often(rt: HostRuntime) {
+    let (answer, left, bytes) = reported(&rt, TRIES - 1);
+    assert!(&rt; matches!(answer, Ok(Status::Done)));
+    assert_same(&rt, (left, bytes), (0, 51));
+    let (answer, left, bytes) = reported(&rt, u32::MAX);
+    assert!(&rt; matches!(answer, Err(EngineFault::Trace(Fault::Write))));
+    assert_same(&rt, (left, bytes), (u32::MAX - TRIES, 0));
+}
+
+// The text of a scenario is read to its end.
+#[test]
+fn an_interrupted_scenario_is_tried_so_often(rt: HostRuntime) {
+    let mut text = Vec::new(rt.alloc());
+    let mut input = Patient(Interrupted::new(TRIES - 1, ONE_BOARD));
+    let answer = input.read_to_end(&mut text);
+    assert!(&rt; matches!(answer, Ok(100)));
+    assert_same(&rt, text.as_slice(), ONE_BOARD);
+    let mut text = Vec::new(rt.alloc());
+    let mut input = Patient(Interrupted::new(u32::MAX, ONE_BOARD));
+    let answer = input.read_to_end(&mut text);
+    assert!(&rt; matches!(answer, Err(error) if error.kind() == ErrorKind::TimedOut));
+    assert_same(&rt, (input.0.left, text.len()), (u32::MAX - TRIES, 0));
+}
+
+/// What an input of a scenario and a header line answers that is interrupted so often, and how many bytes are written.
+fn joined_so(rt: &impl AllocGlobal, times: u32) -> (Result<Status, EngineFault>, u64) {
+    let mut input = Interrupted::new(times, BOARD_AND_HEADER);
+    let mut out = Counting { bytes: 0 };
+    let answer = joined(rt.alloc(), &mut input, &mut out);
+    (answer, out.bytes)
+}
+
+// `accepted 0 refused 0` and a line feed are 21 bytes.
+#[test]
+fn an_interrupted_input_is_tried_so_often(rt: HostRuntime) {
+    let (answer, bytes) = joined_so(&rt, TRIES - 1);
+    assert!(&rt; matches!(answer, Ok(Status::Done)));
+    assert_same(&rt, bytes, 21);
+    let (answer, bytes) = joined_so(&rt, TRIES);
+    assert!(&rt; matches!(answer, Err(EngineFault::CannotRead)));
+    assert_same(&rt, bytes, 0);
 }
 
 /// What a read of a trace answers that is interrupted so often: it has no header line.
@@ -178,7 +293,7 @@ fn pumped(rt: &impl AllocGlobal, times: u32) -> Result<bool, Fault> {
     let mut edges: Vec<Edge> = Vec::new(rt.alloc());
     pump(
         &mut Reader::new(),
-        &mut Interrupted { left: times },
+        &mut Interrupted::new(times, b""),
         &mut edges,
     )
 }
