@@ -1,6 +1,6 @@
 -- What is told of an edge fails exactly where the edge is refused.
-use Rattle.std.proofs.Common.{◌≡◌, ◌∙◌, ℕ, Bool, true, false, List, [], ◌∷◌, ◌++◌, Option, Ok, Err, refl, sym, ap, ap₂}
-use Rattle.std.specs.Prelude.{◌&&◌, map, is_ok}
+use Rattle.std.proofs.Common.{◌≡◌, ◌∙◌, ℕ, Bool, true, false, List, ◌++◌, Ok, refl, sym}
+use Rattle.std.specs.Prelude.{◌&&◌, is_ok}
 use Rattle.std.specs.List.{list_all}
 use Rattle.std.proofs.lemmas.List.Folds.{list_all-map}
 use Rattle.vme_model.specs.declared.conditions.Condition.{Condition}
@@ -8,13 +8,13 @@ use Rattle.vme_model.specs.declared.refusals.Refused.TheVariants.{NoSuchDriver, 
 use Rattle.vme_model.specs.declared.signals.Edge.{Edge}
 use Rattle.vme_model.specs.History.{drive}
 use Rattle.vme_model.specs.Readings.{readings}
-use Rattle.vme_model.specs.Guards.{Guard, holds, conditions}
+use Rattle.vme_model.specs.Guards.{holds, conditions}
 use Rattle.vme_model.specs.Rules.{guard}
 use Rattle.vme_model.specs.Settling.{settling_guard}
 use Rattle.vme_model.specs.Verdict.{State, check, verdict, driver_guard, state_guard, room_guard}
 use Rattle.vme_model.specs.Numbered.{Numbered}
 use Rattle.vme_model.specs.Witnesses.{witnesses_of}
-use Rattle.vme_model.specs.Why.{Reason, ruled_by, settled_by, tests_of, why}
+use Rattle.vme_model.specs.Why.{ruled_by, settled_by, tests_of, why}
 use Rattle.vme_model.proofs.Guards.{all_conditions, all_append}
 
 abbrev all : List (Condition × Bool) → Bool
