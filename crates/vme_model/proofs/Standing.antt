@@ -1,9 +1,9 @@
 -- Where the bus is told to stand, it does, and accesses are open together.
-use Rattle.std.proofs.Common.{◌≡◌, ◌∙◌, ℕ, zero, suc, ◌<◌, ◌≤◌, Bool, true, false, List, [], ◌∷◌, ◌++◌, Option, Some, None, refl, sym, ap, subst, arith}
+use Rattle.std.proofs.Common.{◌≡◌, ◌∙◌, ℕ, zero, suc, ◌<◌, ◌≤◌, Bool, true, false, List, [], ◌∷◌, ◌++◌, Option, Some, None, Ok, refl, sym, ap, subst, arith}
 use Rattle.std.specs.Prelude.{◌&&◌, not, if◌then◌else◌, find, map}
 use Rattle.std.specs.List.{All, Contains, flat_map}
 use Rattle.std.proofs.lemmas.List.Elements.{All-contains, All-append, All-cons, All-nil, Contains-append_right}
-use Rattle.vme_model.specs.declared.refusals.Refused.TheVariants.{NoSuchDriver}
+use Rattle.vme_model.specs.declared.refusals.Refused.TheVariants.{NoSuchDriver, NotSettled, TraceFull}
 use Rattle.vme_model.specs.declared.conditions.Condition.TheVariants.{HasDriver}
 use Rattle.vme_model.specs.declared.signals.Driver.{Driver}
 use Rattle.vme_model.specs.declared.signals.Driver.TheVariants.{Slot}
@@ -16,8 +16,9 @@ use Rattle.vme_model.specs.History.{drive, input}
 use Rattle.vme_model.specs.Readings.{readings}
 use Rattle.vme_model.specs.Guards.{asks, holds}
 use Rattle.vme_model.specs.Rules.{bus_numbers}
+use Rattle.vme_model.specs.Settling.{settling}
 use Rattle.vme_model.specs.GrantSafety.{Travels, Holds}
-use Rattle.vme_model.specs.Verdict.{State, check, verdict}
+use Rattle.vme_model.specs.Verdict.{State, check, ruled, settled, room_guard, verdict}
 use Rattle.vme_model.specs.Open.{showing}
 use Rattle.vme_model.specs.Stands.{holder, is_granted_at, grant_places, grant_at}
 use Rattle.vme_model.proofs.Bools.{and_left, and_right, never}
@@ -65,8 +66,8 @@ at_level p n = map (λ s. (n, s)) (active p (grant_chain n))
 
 all_places : (p : Plan) → All (IsPlace p) (grant_places p)
 all_places p =
-    All-append (IsPlace p) (at_level p 0) (at_level p 1 ++ at_level p 2 ++ at_level p 3 ++ []) (chain_places p 0 (omega arith))
-    (All-append (IsPlace p) (at_level p 1) (at_level p 2 ++ at_level p 3 ++ []) (chain_places p 1 (omega arith))
+    All-append (IsPlace p) (at_level p 0) (at_level p 1 ++ (at_level p 2 ++ (at_level p 3 ++ []))) (chain_places p 0 (omega arith))
+    (All-append (IsPlace p) (at_level p 1) (at_level p 2 ++ (at_level p 3 ++ [])) (chain_places p 1 (omega arith))
     (All-append (IsPlace p) (at_level p 2) (at_level p 3 ++ []) (chain_places p 2 (omega arith))
     (All-append (IsPlace p) (at_level p 3) [] (chain_places p 3 (omega arith)) (All-nil (IsPlace p)))))
 
@@ -108,4 +109,7 @@ none_travels p h e n s t =
 -- the verdict on an access asks of its slot only that there can be such a one
 pub accesses_alike : (b : State) (d : Driver) (s t : ℕ) → is_slot s ≡ true → is_slot t ≡ true → verdict b (showing d (Access s)) ≡ verdict b (showing d (Access t))
 accesses_alike b d s t hs ht =
-    ap (λ x. check (holds (asks HasDriver ((has_wire d Addr && x) && has_driver b.plan d Addr))) NoSuchDriver _) (hs ∙ sym ht)
+    ap (λ x. check (holds (asks HasDriver ((has_wire d Addr && x) && has_driver b.plan d Addr))) NoSuchDriver
+    (ruled b.version (readings b.plan b.history d) Addr true (Some (Access s))
+    (check (settled b.version b.plan b.history (showing d (Access s))) (NotSettled (settling b.version b.plan b.history Addr true).0)
+    (check (holds (room_guard b)) TraceFull (Ok tt))))) (hs ∙ sym ht)
