@@ -1,5 +1,5 @@
 -- The controller's answer by the fields is the answer over the edges that were noted.
-use Rattle.std.proofs.Common.{◌≡◌, ◌∙◌, ◌<◌, ◌≤◌, refl, sym, ap, subst, ℕ, zero, suc, Bool, true, false, List, arith}
+use Rattle.std.proofs.Common.{◌≡◌, ◌∙◌, ◌<◌, refl, sym, ap, subst, ℕ, zero, suc, Bool, true, false, List, arith}
 use Rattle.std.specs.Prelude.{◌==◌, ◌&&◌, ◌||◌, not, nat_le, Option, Some, None}
 use Rattle.std.specs.Option.{option_map_or}
 use Rattle.std.proofs.lemmas.Bool.{ltb-true}
@@ -18,10 +18,9 @@ use Rattle.vme_model.specs.Signals.{is_grant, is_grant_wire, grant_level}
 use Rattle.vme_model.specs.Sets.{has_bus_level}
 use Rattle.vme_model.specs.History.{last_level}
 use Rattle.vme_model.specs.Readings.{Readings}
-use Rattle.vme_model.specs.Rules.{pick, is_pick, is_highest, guard, failing}
+use Rattle.vme_model.specs.Rules.{pick, is_pick, is_highest, guard}
 use Rattle.vme_model.proofs.Picks.{one_pick}
 use Rattle.vme_model.specs.Verdict.{ruling}
-use Rattle.vme_rules.specs.Room.{most}
 use Rattle.vme_arbiter.specs.Local.{State, state_of, is_own, local, over, over_pick}
 
 abbrev edge : Driver → Wire → Bool → Option Cycle → Edge
@@ -135,40 +134,28 @@ pick_alone last e picked is grant =
     ∙ ap (λ g. g && option_map_or (λ m. m == grant_level e.wire) picked false) grant
     ∙ sym (lone_pick picked last (grant_level e.wire))
 
--- what fails by the state is what fails by the list
-fails_by_parts : (kind asked : ArbiterKind) (request : ℕ → Bool) (version : Version) (noted : List Edge) (pins : Pins) (w : Wire) (f : Bool) (v : Option Cycle) → is_own w ≡ true →
-    failing version (as_asked (local (state_of kind version noted) pins) request asked) w f v ≡ failing version (as_asked (over kind noted pins) request asked) w f v
-fails_by_parts kind asked request version noted pins (Bg n) true v own = refl
-fails_by_parts kind asked request version noted pins (Bg n) false v own = refl
-fails_by_parts kind asked request version noted pins Bclr true v own = refl
-fails_by_parts kind asked request version noted pins Bclr false v own = refl
-fails_by_parts kind asked request version noted pins Iack true v own = refl
-fails_by_parts kind asked request version noted pins Iack false v own = refl
-fails_by_parts kind asked request version noted pins Berr true v own = refl
-fails_by_parts kind asked request version noted pins Berr false v own = refl
-fails_by_parts kind asked request version noted pins w f v own = absurd (cc)
+-- a guard by the state is the guard by the list
+guards_by_parts : (kind asked : ArbiterKind) (request : ℕ → Bool) (version : Version) (noted : List Edge) (pins : Pins) (w : Wire) (f : Bool) (v : Option Cycle) → is_own w ≡ true →
+    (guard version (as_asked (local (state_of kind version noted) pins) request asked) w f v).1 ≡ (guard version (as_asked (over kind noted pins) request asked) w f v).1
+guards_by_parts kind asked request version noted pins (Bg n) true v own = refl
+guards_by_parts kind asked request version noted pins (Bg n) false v own = refl
+guards_by_parts kind asked request version noted pins Bclr true v own = refl
+guards_by_parts kind asked request version noted pins Bclr false v own = refl
+guards_by_parts kind asked request version noted pins Iack true v own = refl
+guards_by_parts kind asked request version noted pins Iack false v own = refl
+guards_by_parts kind asked request version noted pins Berr true v own = refl
+guards_by_parts kind asked request version noted pins Berr false v own = refl
+guards_by_parts kind asked request version noted pins w f v own = absurd (cc)
 
-pub fails_over : (kind : ArbiterKind) (version : Version) (noted : List Edge) (state : State) (pins : Pins) (e : Edge) → state ≡ state_of kind version noted → is_own e.wire ≡ true →
-    failing state.version (local state pins) e.wire e.fall e.value ≡ failing version (over kind noted pins) e.wire e.fall e.value
-fails_over kind version noted state pins e same own =
-    let P : State → Type 0 = λ c. failing c.version (local c pins) e.wire e.fall e.value ≡ failing version (over kind noted pins) e.wire e.fall e.value in
-    subst P (sym same) (fails_by_parts kind kind (has_bus_level pins.requests) version noted pins e.wire e.fall e.value own)
+pub guards_over : (kind : ArbiterKind) (version : Version) (noted : List Edge) (state : State) (pins : Pins) (e : Edge) → state ≡ state_of kind version noted → is_own e.wire ≡ true →
+    (guard state.version (local state pins) e.wire e.fall e.value).1 ≡ (guard version (over kind noted pins) e.wire e.fall e.value).1
+guards_over kind version noted state pins e same own =
+    let P : State → Type 0 = λ c. (guard c.version (local c pins) e.wire e.fall e.value).1 ≡ (guard version (over kind noted pins) e.wire e.fall e.value).1 in
+    subst P (sym same) (guards_by_parts kind kind (has_bus_level pins.requests) version noted pins e.wire e.fall e.value own)
 
 -- the same of a grant, by a policy's pick of the level last granted
-pub grant_fails_over : (kind : ArbiterKind) (version : Version) (noted : List Edge) (state : State) (pins : Pins) (e : Edge) (picked : ℕ → Option ℕ) → state ≡ state_of kind version noted → is_own e.wire ≡ true →
-    failing state.version (as_asked (local state pins) (alone (picked state.last_level)) Pri) e.wire e.fall e.value ≡ failing version (over_pick (picked (last_level noted)) noted pins) e.wire e.fall e.value
-grant_fails_over kind version noted state pins e picked same own =
-    let P : State → Type 0 = λ c. failing c.version (as_asked (local c pins) (alone (picked c.last_level)) Pri) e.wire e.fall e.value ≡ failing version (over_pick (picked (last_level noted)) noted pins) e.wire e.fall e.value in
-    subst P (sym same) (fails_by_parts kind Pri (alone (picked (last_level noted))) version noted pins e.wire e.fall e.value own)
-
--- a list of five has room for the conditions of its rules
-pub guard_fits : (version : Version) (r : Readings) (w : Wire) (f : Bool) (v : Option Cycle) → is_own w ≡ true → most (guard version r w f v).1 ≤ 5
-guard_fits version r (Bg n) true v own = omega arith
-guard_fits version r (Bg n) false v own = omega arith
-guard_fits version r Bclr true v own = omega arith
-guard_fits version r Bclr false v own = omega arith
-guard_fits version r Iack true v own = omega arith
-guard_fits version r Iack false v own = omega arith
-guard_fits version r Berr true v own = omega arith
-guard_fits version r Berr false v own = omega arith
-guard_fits version r w f v own = absurd (cc)
+pub grant_guards_over : (kind : ArbiterKind) (version : Version) (noted : List Edge) (state : State) (pins : Pins) (e : Edge) (picked : ℕ → Option ℕ) → state ≡ state_of kind version noted → is_own e.wire ≡ true →
+    (guard state.version (as_asked (local state pins) (alone (picked state.last_level)) Pri) e.wire e.fall e.value).1 ≡ (guard version (over_pick (picked (last_level noted)) noted pins) e.wire e.fall e.value).1
+grant_guards_over kind version noted state pins e picked same own =
+    let P : State → Type 0 = λ c. (guard c.version (as_asked (local c pins) (alone (picked c.last_level)) Pri) e.wire e.fall e.value).1 ≡ (guard version (over_pick (picked (last_level noted)) noted pins) e.wire e.fall e.value).1 in
+    subst P (sym same) (guards_by_parts kind Pri (alone (picked (last_level noted))) version noted pins e.wire e.fall e.value own)

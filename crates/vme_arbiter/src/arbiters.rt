@@ -22,6 +22,7 @@ use vme_model::{ArbiterKind, BusLevels, Condition, Driver, Edge, Pins, Refused, 
 use vme_rules::controllers::{
     bclr_falls, bclr_rises, berr_falls, berr_rises, bg_falls, bg_rises, iack_falls, iack_rises,
 };
+use vme_rules::laws::five_have_room;
 use vme_rules::{Outcome, allowed};
 
 /// What a controller's own edges left: which of its wires are low, and the level that it last granted.
@@ -290,6 +291,27 @@ impl<P: Policy> Arbiter<P> {
         self.controller.judge(edge, pins, is_picked)
     }
 
+    /// What the guard answers of the rule that names an edge of the controller's wires: of a grant with the policy's
+    /// pick in the place of its kind's. It is told its pins.
+    pub fn told<A: Outcome>(&self, edge: Edge, pins: Pins) -> A
+        ensures rows { (kind : KindValue) (version : VersionValue) (noted : List EdgeValue) →
+            self.now.1 ≡ state_of kind version noted →
+            is_own edge.wire ≡ true →
+            (is_grant edge ≡ true → P.picked self.now.0 pins.requests (last_level noted)
+            ≡ pick kind (has_bus_level pins.requests) (last_level noted)) →
+            A.tells result
+            (guard version (over kind noted pins) edge.wire edge.fall edge.value).1 }
+        ensures grants { (kind : KindValue) (version : VersionValue) (noted : List EdgeValue) →
+            self.now.1 ≡ state_of kind version noted →
+            is_own edge.wire ≡ true → is_grant edge ≡ true →
+            A.tells result (guard version
+            (over_pick (P.picked self.now.0 pins.requests (last_level noted)) noted pins)
+            edge.wire edge.fall edge.value).1 }
+    {
+        let is_picked = self.picks(edge, pins.requests);
+        self.controller.rule(edge, pins, is_picked).1
+    }
+
     /// The conditions that fail of the rule that names an edge of the controller's wires, in the order of its guard: of
     /// a grant with the policy's pick in the place of its kind's. It is told its pins.
     pub fn failing(&self, edge: Edge, pins: Pins) -> ArrayVec<Condition, 5>
@@ -307,9 +329,8 @@ impl<P: Policy> Arbiter<P> {
             (over_pick (P.picked self.now.0 pins.requests (last_level noted)) noted pins)
             edge.wire edge.fall edge.value }
     {
-        let is_picked = self.picks(edge, pins.requests);
-        let (_number, failed) = self.controller.rule(edge, pins, is_picked);
-        failed
+        five_have_room();
+        self.told(edge, pins)
     }
 
     /// Takes in an edge that was made; one of another driver changes no wire of the controller's.

@@ -19,6 +19,7 @@ use vme_model::{Condition, Cycle, Driver, Edge, InterrupterRow, IrqKind, Pins, R
 use vme_rules::interrupters::{
     answers, dtack_falls, dtack_rises, iackout_falls, iackout_rises, irq_falls, irq_rises, passes,
 };
+use vme_rules::laws::five_have_room;
 use vme_rules::{Outcome, allowed};
 
 /// A board's interrupter with its data transfer acknowledge, as what its own edges left: which of its wires are low,
@@ -247,6 +248,22 @@ impl Interrupter {
         }
     }
 
+    /// What the guard answers of the rule that names an edge of its own wires. It is told its pins.
+    pub fn told<A: Outcome>(&self, edge: Edge, pins: Pins) -> A
+        ensures { (version : Version) (noted : List Noted) →
+            self.now ≡ state_of self.now.slot self.now.row noted →
+            is_own edge.wire ≡ true →
+            A.tells result (guard version (over self.now.slot self.now.row noted pins)
+            edge.wire edge.fall edge.value).1 }
+    {
+        match edge.wire {
+            Wire::Irq => self.request_rule(edge.fall).1,
+            Wire::IackOut => self.pass_rule(edge.fall, &pins, pins.iack_in).1,
+            Wire::Dtack => self.answer_rule(edge.fall, &pins, pins.iack_in).1,
+            _ => A::free(),
+        }
+    }
+
     /// The conditions that fail of the rule that names an edge of its own wires, in the order of its
     /// guard. It is told its pins.
     pub fn failing(&self, edge: Edge, pins: Pins) -> ArrayVec<Condition, 5>
@@ -256,13 +273,8 @@ impl Interrupter {
             result.items ≡ failing version (over self.now.slot self.now.row noted pins)
             edge.wire edge.fall edge.value }
     {
-        let (_number, failed) = match edge.wire {
-            Wire::Irq => self.request_rule(edge.fall),
-            Wire::IackOut => self.pass_rule(edge.fall, &pins, pins.iack_in),
-            Wire::Dtack => self.answer_rule(edge.fall, &pins, pins.iack_in),
-            _ => return ArrayVec::new(),
-        };
-        failed
+        five_have_room();
+        self.told(edge, pins)
     }
 
     /// Whether an answer while this is shown serves its interrupter.

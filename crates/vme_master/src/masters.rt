@@ -15,6 +15,7 @@ use std::marker::Model;
 use vme_model::{
     Condition, Cycle, Driver, Edge, Levels, Pins, Refused, Release, RequesterRow, Wire,
 };
+use vme_rules::laws::five_have_room;
 use vme_rules::masters::{
     addr_goes_off, addr_goes_on, as_falls, as_rises, below_burst, ds_falls, ds_rises, shows,
 };
@@ -214,6 +215,23 @@ impl Master {
         }
     }
 
+    /// What the guard answers of the rule that names an edge of its own wires. It is told what `may` is.
+    pub fn told<A: Outcome>(&self, edge: Edge, pins: Pins, holds_bus: bool) -> A
+        ensures { (version : Version) (noted : List EdgeValue) →
+            self.now ≡ state_of self.now.slot self.now.row self.now.handler noted →
+            is_own edge.wire ≡ true →
+            A.tells result (guard version
+            (over self.now.slot self.now.row self.now.handler noted pins holds_bus)
+            edge.wire edge.fall edge.value).1 }
+    {
+        match edge.wire {
+            Wire::Addr => self.address_rule(edge.fall, edge.value, &pins, holds_bus).1,
+            Wire::AddressStrobe => self.address_strobe_rule(edge.fall, &pins).1,
+            Wire::DataStrobe => self.data_strobe_rule(edge.fall, &pins).1,
+            _ => A::free(),
+        }
+    }
+
     /// The conditions that fail of the rule that names an edge of its own wires, in the order of its
     /// guard. It is told what `may` is.
     pub fn failing(&self, edge: Edge, pins: Pins, holds_bus: bool) -> ArrayVec<Condition, 5>
@@ -224,13 +242,8 @@ impl Master {
             (over self.now.slot self.now.row self.now.handler noted pins holds_bus)
             edge.wire edge.fall edge.value }
     {
-        let (_number, failed) = match edge.wire {
-            Wire::Addr => self.address_rule(edge.fall, edge.value, &pins, holds_bus),
-            Wire::AddressStrobe => self.address_strobe_rule(edge.fall, &pins),
-            Wire::DataStrobe => self.data_strobe_rule(edge.fall, &pins),
-            _ => return ArrayVec::new(),
-        };
-        failed
+        five_have_room();
+        self.told(edge, pins, holds_bus)
     }
 
     /// Takes in an edge that was made: its own, or its board's `bbsy-`, which begins a tenure. Any other changes

@@ -3,6 +3,7 @@ use Rattle.std.proofs.Common.{◌≡◌, ◌∙◌, Bool, true, false, List, [],
 use Rattle.std.specs.Prelude.{◌&&◌, ◌||◌, ◌↔◌, not, if◌then◌else◌, map, filter}
 use Rattle.std.specs.List.{list_all}
 use Rattle.vme_model.specs.declared.conditions.Condition.{Condition}
+use Rattle.vme_model.specs.declared.conditions.Tested.{Tested}
 use Rattle.vme_model.specs.Guards.{Guard, free, asks, ◌⊓◌, unless, holds, conditions, failed}
 use Rattle.vme_model.proofs.Bools.{and_left, and_right}
 
@@ -57,40 +58,40 @@ and_assoc : (a b c : Bool) → ((a && b) && c) ≡ (a && (b && c))
 and_assoc true b c = refl
 and_assoc false b c = refl
 
-pub all_append : (xs ys : List (Condition × Bool)) → (list_all (λ c. c.1) xs && list_all (λ c. c.1) ys) ≡ list_all (λ c. c.1) (xs ++ ys)
+pub all_append : (xs ys : List Tested) → (list_all (λ c. c.holds) xs && list_all (λ c. c.holds) ys) ≡ list_all (λ c. c.holds) (xs ++ ys)
 all_append [] ys = refl
-all_append (x ∷ xs) ys = and_assoc x.1 (list_all (λ c. c.1) xs) (list_all (λ c. c.1) ys) ∙ ap (λ b. x.1 && b) (all_append xs ys)
+all_append (x ∷ xs) ys = and_assoc x.holds (list_all (λ c. c.holds) xs) (list_all (λ c. c.holds) ys) ∙ ap (λ b. x.holds && b) (all_append xs ys)
 
-all_where_bound : (b x : Bool) (xs : List (Condition × Bool)) → x ≡ list_all (λ c. c.1) xs → (b || x) ≡ list_all (λ c. c.1) (if b then [] else xs)
+all_where_bound : (b x : Bool) (xs : List Tested) → x ≡ list_all (λ c. c.holds) xs → (b || x) ≡ list_all (λ c. c.holds) (if b then [] else xs)
 all_where_bound true x xs e = refl
 all_where_bound false x xs e = e
 
-pub all_conditions : (g : Guard) → holds g ≡ list_all (λ c. c.1) (conditions g)
+pub all_conditions : (g : Guard) → holds g ≡ list_all (λ c. c.holds) (conditions g)
 all_conditions free = refl
 all_conditions (asks c b) = one_all b
 all_conditions (g ⊓ k) = ap₂ ◌&&◌ (all_conditions g) (all_conditions k) ∙ all_append (conditions g) (conditions k)
 all_conditions (unless b g) = all_where_bound b (holds g) (conditions g) (all_conditions g)
 
-abbrev names : List (Condition × Bool) → List Condition
-names cs = map (λ c. c.0) (filter (λ c. not c.1) cs)
+abbrev names : List Tested → List Condition
+names cs = map (λ c. c.condition) (filter (λ c. not c.holds) cs)
 
-one_name : (c : Condition) (b : Bool) → (if b then [] else c ∷ []) ≡ names ((c, b) ∷ [])
+one_name : (c : Condition) (b : Bool) → (if b then [] else c ∷ []) ≡ names (record { condition = c; holds = b } ∷ [])
 one_name c true = refl
 one_name c false = refl
 
-one_more : (c : Condition) (b : Bool) (xs ys : List (Condition × Bool)) → names xs ++ names ys ≡ names (xs ++ ys) → names ((c, b) ∷ xs) ++ names ys ≡ names ((c, b) ∷ (xs ++ ys))
+one_more : (c : Condition) (b : Bool) (xs ys : List Tested) → names xs ++ names ys ≡ names (xs ++ ys) → names (record { condition = c; holds = b } ∷ xs) ++ names ys ≡ names (record { condition = c; holds = b } ∷ (xs ++ ys))
 one_more c true xs ys e = e
 one_more c false xs ys e = ap (λ l. c ∷ l) e
 
-names_append : (xs ys : List (Condition × Bool)) → names xs ++ names ys ≡ names (xs ++ ys)
+names_append : (xs ys : List Tested) → names xs ++ names ys ≡ names (xs ++ ys)
 names_append [] ys = refl
-names_append (x ∷ xs) ys = one_more x.0 x.1 xs ys (names_append xs ys)
+names_append (x ∷ xs) ys = one_more x.condition x.holds xs ys (names_append xs ys)
 
-names_where_bound : (b : Bool) (l : List Condition) (xs : List (Condition × Bool)) → l ≡ names xs → (if b then [] else l) ≡ names (if b then [] else xs)
+names_where_bound : (b : Bool) (l : List Condition) (xs : List Tested) → l ≡ names xs → (if b then [] else l) ≡ names (if b then [] else xs)
 names_where_bound true l xs e = refl
 names_where_bound false l xs e = e
 
-pub failed_names : (g : Guard) → failed g ≡ map (λ c. c.0) (filter (λ c. not c.1) (conditions g))
+pub failed_names : (g : Guard) → failed g ≡ map (λ c. c.condition) (filter (λ c. not c.holds) (conditions g))
 failed_names free = refl
 failed_names (asks c b) = one_name c b
 failed_names (g ⊓ k) = ap₂ ◌++◌ (failed_names g) (failed_names k) ∙ names_append (conditions g) (conditions k)

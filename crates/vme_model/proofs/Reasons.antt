@@ -3,7 +3,7 @@ use Rattle.std.proofs.Common.{◌≡◌, ◌∙◌, ℕ, Bool, true, false, List
 use Rattle.std.specs.Prelude.{◌&&◌, is_ok}
 use Rattle.std.specs.List.{list_all}
 use Rattle.std.proofs.lemmas.List.Folds.{list_all-map}
-use Rattle.vme_model.specs.declared.conditions.Condition.{Condition}
+use Rattle.vme_model.specs.declared.conditions.Tested.{Tested}
 use Rattle.vme_model.specs.declared.refusals.Refused.TheVariants.{NoSuchDriver, AlreadyThere, Rule, NotSettled, TraceFull}
 use Rattle.vme_model.specs.declared.signals.Edge.{Edge}
 use Rattle.vme_model.specs.History.{drive}
@@ -17,8 +17,8 @@ use Rattle.vme_model.specs.Witnesses.{witnesses_of}
 use Rattle.vme_model.specs.Why.{ruled_by, settled_by, tests_of, why}
 use Rattle.vme_model.proofs.Guards.{all_conditions, all_append}
 
-abbrev all : List (Condition × Bool) → Bool
-all cs = list_all (λ c. c.1) cs
+abbrev all : List Tested → Bool
+all cs = list_all (λ c. c.holds) cs
 
 both : (a b : Bool) → a ≡ true → (a && b) ≡ b
 both true b h = refl
@@ -42,7 +42,7 @@ tells b e n m true true true true false hx hs hg ht hr =
 tells b e n m true true true true true hx hs hg ht hr =
     ht ∙ sym (both (all (ruled_by b e)) (all (settled_by b e)) (sym hg)) ∙ all_append (ruled_by b e) (settled_by b e)
 
-pub why_tells_verdict : (b : State) (k : Numbered) (e : Edge) → is_ok (verdict b e) ≡ list_all (λ r. r.holds) (why b k e)
+pub why_tells_verdict : (b : State) (k : Numbered) (e : Edge) → is_ok (verdict b e) ≡ list_all (λ r. r.tested.holds) (why b k e)
 why_tells_verdict b k e =
     tells b e (guard b.version (readings b.plan b.history e.driver) e.wire e.fall e.value).0 (settling_guard b.version b.plan b.history e.wire e.fall).0
     (holds (driver_guard b.plan e)) (holds (state_guard (drive b.history e.driver e.wire) e.fall))
@@ -51,4 +51,4 @@ why_tells_verdict b k e =
     (all_conditions (driver_guard b.plan e)) (all_conditions (state_guard (drive b.history e.driver e.wire) e.fall))
     (all_conditions (guard b.version (readings b.plan b.history e.driver) e.wire e.fall e.value).1)
     (all_conditions (settling_guard b.version b.plan b.history e.wire e.fall).1) (all_conditions (room_guard b))
-    ∙ sym (list_all-map (λ r. r.holds) (λ t. record { condition = t.0; holds = t.1; witnesses = witnesses_of b k e t.0 }) (tests_of b e (verdict b e)))
+    ∙ sym (list_all-map (λ r. r.tested.holds) (λ t. record { tested = t; witnesses = witnesses_of b k e t.condition }) (tests_of b e (verdict b e)))

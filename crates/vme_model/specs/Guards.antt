@@ -2,6 +2,7 @@
 use Rattle.std.specs.Prelude.{◌&&◌, ◌||◌, ℕ, Bool, true, Option, Some, None, List, [], ◌∷◌, ◌++◌, if◌then◌else◌, codes}
 use Rattle.vme_model.specs.declared.conditions.Condition.{Condition}
 use Rattle.vme_model.specs.declared.conditions.Condition.TheVariants as condition
+use Rattle.vme_model.specs.declared.conditions.Tested.{Tested}
 
 infixl 30 ◌⊓◌
 -- a guard: none, a condition by its name and whether it holds, two guards at once, or one that does
@@ -20,9 +21,9 @@ holds (g ⊓ k) = holds g && holds k
 holds (unless b g) = b || holds g
 
 -- its conditions, each with whether it holds, in the order of the guard
-abbrev pub conditions : Guard → List (Condition × Bool)
+abbrev pub conditions : Guard → List Tested
 conditions free = []
-conditions (asks c b) = (c, b) ∷ []
+conditions (asks c b) = record { condition = c; holds = b } ∷ []
 conditions (g ⊓ k) = conditions g ++ conditions k
 conditions (unless b g) = if b then [] else conditions g
 

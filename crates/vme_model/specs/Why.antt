@@ -1,7 +1,7 @@
 -- Why an edge is accepted or refused, and the block that tells it. (Profile.)
 use Rattle.std.specs.Prelude.{ℕ, Bool, if◌then◌else◌, Option, Some, None, List, [], ◌∷◌, ◌++◌, map, decimal, codes, Ok, Err}
 use Rattle.std.specs.List.{flat_map}
-use Rattle.vme_model.specs.declared.conditions.Condition.{Condition}
+use Rattle.vme_model.specs.declared.conditions.Tested.{Tested}
 use Rattle.vme_model.specs.declared.refusals.Refused.TheVariants.{NoSuchDriver, AlreadyThere, Rule, NotSettled, TraceFull}
 use Rattle.vme_model.specs.declared.signals.Edge.{Edge}
 use Rattle.vme_model.specs.declared.witnesses.Witness.{Witness}
@@ -21,16 +21,16 @@ use Rattle.vme_model.specs.Numbered.{Numbered}
 use Rattle.vme_model.specs.Witnesses.{witnesses_of}
 
 -- the conditions of the rule that names the edge, and those of the settling rule that does
-abbrev pub ruled_by : State → Edge → List (Condition × Bool)
+abbrev pub ruled_by : State → Edge → List Tested
 ruled_by b e =
     conditions (guard b.version (readings b.plan b.history e.driver) e.wire e.fall e.value).1
 
-abbrev pub settled_by : State → Edge → List (Condition × Bool)
+abbrev pub settled_by : State → Edge → List Tested
 settled_by b e = conditions (settling_guard b.version b.plan b.history e.wire e.fall).1
 
 -- the conditions that are told of an edge with that verdict, each with whether it holds: those of
 -- each test that was made, but of E1, E2 and E5 only where they refuse it
-abbrev pub tests_of : State → Edge → Judgement → List (Condition × Bool)
+abbrev pub tests_of : State → Edge → Judgement → List Tested
 tests_of b e (Err NoSuchDriver) = conditions (driver_guard b.plan e)
 tests_of b e (Err AlreadyThere) = conditions (state_guard (drive b.history e.driver e.wire) e.fall)
 tests_of b e (Err (Rule n)) = ruled_by b e
@@ -38,16 +38,15 @@ tests_of b e (Err (NotSettled n)) = ruled_by b e ++ settled_by b e
 tests_of b e (Err TraceFull) = (ruled_by b e ++ settled_by b e) ++ conditions (room_guard b)
 tests_of b e (Ok _) = ruled_by b e ++ settled_by b e
 
--- a condition, whether it holds before the edge, and what is told of it
+-- a condition with whether it holds before the edge, and what is told of it
 pub record Reason : Type 0 where
-  pub condition : Condition
-  pub holds : Bool
+  pub tested : Tested
   pub witnesses : List Witness
 
 -- why an edge has its verdict, where k numbers the edges of b
 abbrev pub why : State → Numbered → Edge → List Reason
 why b k e =
-    map (λ t. record { condition = t.0; holds = t.1; witnesses = witnesses_of b k e t.0 })
+    map (λ t. record { tested = t; witnesses = witnesses_of b k e t.condition })
     (tests_of b e (verdict b e))
 
 -- the number of an edge, where there is one
@@ -87,8 +86,9 @@ outcome_text holds = if holds then codes "holds " else codes "fails "
 -- a line for a condition of an edge, and one for each of its witnesses
 abbrev pub reason_lines : State → Edge → Reason → List ℕ
 reason_lines b e r =
-    ((outcome_text r.holds
-    ++ condition_text r.condition e (board_of b.plan e.driver) (shown b.plan b.history)) ++ 10 ∷ [])
+    ((outcome_text r.tested.holds
+    ++ condition_text r.tested.condition e (board_of b.plan e.driver) (shown b.plan b.history))
+    ++ 10 ∷ [])
     ++ witness_lines r.witnesses
 
 -- the first line: the number of the edge, the edge, and its verdict

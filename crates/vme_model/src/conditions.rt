@@ -109,6 +109,15 @@ pub enum Condition {
     HasRoom,
 }
 
+/// A condition of a guard, and whether it holds just before an edge.
+#[derive(Clone, Copy, PartialEq, Eq, Debug, Default)]
+pub struct Tested {
+    /// The condition.
+    pub condition: Condition,
+    /// Whether it holds.
+    pub holds: bool,
+}
+
 impl Condition {
     /// How it is spelled, where its edge, its board and what is shown have no part in it.
     pub fn fixed_text(self) -> Option<&'static str>

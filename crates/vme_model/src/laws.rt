@@ -63,9 +63,10 @@ pub fn verdict_is_local()
 /// A guard holds exactly where all its conditions do, and exactly where none fails; those that fail
 /// are, in the guard's order, those of its conditions that do not hold.
 pub fn guard_fails_by_its_conditions()
-    ensures all { (g : Guard) → holds g ≡ list_all (λ c. c.1) (conditions g) }
+    ensures all { (g : Guard) → holds g ≡ list_all (λ c. c.holds) (conditions g) }
     ensures none { (g : Guard) → (failed g ≡ []) ↔ (holds g ≡ true) }
-    ensures names { (g : Guard) → failed g ≡ map (λ c. c.0) (filter (λ c. not c.1) (conditions g)) }
+    ensures names { (g : Guard) → failed g
+        ≡ map (λ c. c.condition) (filter (λ c. not c.holds) (conditions g)) }
 {}
 
 /// No condition of the rule that names an edge fails exactly where the rule's guard holds; and so
@@ -98,7 +99,7 @@ pub fn what_is_so_has_its_edge()
 
 /// An edge is accepted exactly where every condition that is told of it holds.
 pub fn why_tells_the_verdict()
-    ensures { (b : State) (k : Numbered) (e : Edge) → is_ok (verdict b e) ≡ list_all (λ r. r.holds) (why b k e) }
+    ensures { (b : State) (k : Numbered) (e : Edge) → is_ok (verdict b e) ≡ list_all (λ r. r.tested.holds) (why b k e) }
 {}
 
 /// The slot that is told as the holder holds the bus. The grant that is told stands at its slot, which has neither passed

@@ -17,7 +17,7 @@ mod spoken;
 mod witnesses;
 
 pub use boards::{ArbiterKind, InterrupterRow, IrqKind, Jumper, Release, RequesterRow, Row};
-pub use conditions::Condition;
+pub use conditions::{Condition, Tested};
 pub use deliveries::Delivery;
 pub use pins::Pins;
 pub use refusals::{Field, PlanError, Refused};

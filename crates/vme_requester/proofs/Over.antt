@@ -10,6 +10,7 @@ use Rattle.vme_model.specs.declared.signals.Wire.TheVariants.{Br, BgOut, Bbsy}
 use Rattle.vme_model.specs.declared.signals.Cycle.{Cycle}
 use Rattle.vme_model.specs.declared.signals.Edge.{Edge}
 use Rattle.vme_model.specs.History.{drive}
+use Rattle.vme_model.specs.Rules.{guard}
 use Rattle.vme_model.specs.Verdict.{ruling_on}
 use Rattle.vme_requester.specs.Local.{State, state_of, is_own, low, readings}
 
@@ -30,3 +31,21 @@ answers_over state noted pins free w x f v same is own =
     let P : State → Type 0 = λ q. ruling_on state.version (readings state.slot state.row (low q) pins free) x f v ≡ ruling_on state.version (readings state.slot state.row (drive noted (Slot state.slot)) pins free) x f v in
     subst P (sym same) (by_parts state.slot state.row state.version noted pins free x f v own)
     ∙ ap (λ y. ruling_on state.version (readings state.slot state.row (drive noted (Slot state.slot)) pins free) y f v) (sym is)
+
+guards_by_parts : (s : ℕ) (row : RequesterRow) (version : Version) (noted : List Edge) (pins : Pins) (free : Bool) (w : Wire) (f : Bool) (v : Option Cycle) → is_own w ≡ true →
+    (guard version (readings s row (low (state_of s row version noted)) pins free) w f v).1 ≡ (guard version (readings s row (drive noted (Slot s)) pins free) w f v).1
+guards_by_parts s row version noted pins free Br true v own = refl
+guards_by_parts s row version noted pins free Br false v own = refl
+guards_by_parts s row version noted pins free BgOut true v own = refl
+guards_by_parts s row version noted pins free BgOut false v own = refl
+guards_by_parts s row version noted pins free Bbsy true v own = refl
+guards_by_parts s row version noted pins free Bbsy false v own = refl
+guards_by_parts s row version noted pins free w f v own = absurd (cc)
+
+-- so do their guards
+pub guards_over : (state : State) (noted : List Edge) (pins : Pins) (free : Bool) (w x : Wire) (f : Bool) (v : Option Cycle) → state ≡ state_of state.slot state.row state.version noted → w ≡ x → is_own x ≡ true →
+    (guard state.version (readings state.slot state.row (low state) pins free) x f v).1 ≡ (guard state.version (readings state.slot state.row (drive noted (Slot state.slot)) pins free) w f v).1
+guards_over state noted pins free w x f v same is own =
+    let P : State → Type 0 = λ q. (guard state.version (readings state.slot state.row (low q) pins free) x f v).1 ≡ (guard state.version (readings state.slot state.row (drive noted (Slot state.slot)) pins free) x f v).1 in
+    subst P (sym same) (guards_by_parts state.slot state.row state.version noted pins free x f v own)
+    ∙ ap (λ y. (guard state.version (readings state.slot state.row (drive noted (Slot state.slot)) pins free) y f v).1) (sym is)

@@ -12,7 +12,8 @@ use Rattle.vme_model.specs.declared.signals.Edge.{Edge}
 use Rattle.vme_model.specs.Sets.{no_levels, has_bus_level}
 use Rattle.vme_model.specs.History.{drive}
 use Rattle.vme_model.specs.Readings.{Readings, readings_of_pins}
-use Rattle.vme_model.specs.Rules.{failing}
+use Rattle.vme_model.specs.Guards.{Guard, failed}
+use Rattle.vme_model.specs.Rules.{guard}
 use Rattle.vme_model.specs.Verdict.{Judgement, ruling}
 
 -- what a requester keeps: where it stands, the version of its rules, and which of its wires are low
@@ -80,9 +81,14 @@ abbrev pub answer_over : ℕ → RequesterRow → Version → List Edge → Pins
 answer_over s row version noted pins is_address_free e =
     ruling version (readings s row (drive noted (Slot s)) pins is_address_free) e
 
--- the conditions that fail of the rule that names an edge of its own, read so
+-- the guard of the rule that names an edge of its own, read so
+abbrev pub guard_over : ℕ → RequesterRow → Version → List Edge → Pins → Bool → Edge → Guard
+guard_over s row version noted pins is_address_free e =
+    (guard version (readings s row (drive noted (Slot s)) pins is_address_free)
+    e.wire e.fall e.value).1
+
+-- its conditions that fail
 abbrev pub failing_over : ℕ → RequesterRow → Version → List Edge → Pins → Bool → Edge →
     List Condition
 failing_over s row version noted pins is_address_free e =
-    failing version (readings s row (drive noted (Slot s)) pins is_address_free)
-    e.wire e.fall e.value
+    failed (guard_over s row version noted pins is_address_free e)

@@ -10,11 +10,12 @@ ghost use Rattle.vme_model.specs.Signals.{is_two};
 ghost use Rattle.vme_model.specs.Sets.{has_bus_level};
 ghost use Rattle.vme_model.specs.Rules.{bus_numbers, guard};
 ghost use Rattle.vme_model.specs.Verdict.{ruling_on};
-ghost use Rattle.vme_requester.specs.Local.{state_of, is_own, low, local, answer_over, failing_over};
+ghost use Rattle.vme_requester.specs.Local.{state_of, is_own, low, local, answer_over, guard_over, failing_over};
 
 use arrayvec::ArrayVec;
 use std::marker::Model;
 use vme_model::{BusLevels, Condition, Driver, Edge, Pins, Refused, RequesterRow, Version, Wire};
+use vme_rules::laws::five_have_room;
 use vme_rules::requesters::{
     bbsy_falls, bbsy_rises, bgout_falls, bgout_rises, br_falls, br_rises, released,
 };
@@ -222,6 +223,26 @@ impl Requester {
         }
     }
 
+    /// What the guard answers of the rule that names an edge of its own wires.
+    ///
+    /// It is told what `may` is.
+    pub fn told<A: Outcome>(&self, edge: Edge, pins: Pins, is_address_free: bool) -> A
+        ensures { (noted : List EdgeValue) →
+            self.now ≡ state_of self.now.slot self.now.row self.now.version noted →
+            is_own edge.wire ≡ true →
+            A.tells result (guard_over self.now.slot self.now.row self.now.version noted pins
+            is_address_free edge) }
+    {
+        match edge.wire {
+            Wire::Br => self.request_rule(edge.fall).1,
+            Wire::BgOut => self.pass_rule(edge.fall, pins.grant_in).1,
+            Wire::Bbsy => self
+                .hold_rule(edge.fall, &pins, pins.grant_in, is_address_free)
+                .1,
+            _ => A::free(),
+        }
+    }
+
     /// The conditions that fail of the rule that names an edge of its own wires, in the order of its guard.
     ///
     /// It is told what `may` is.
@@ -232,14 +253,8 @@ impl Requester {
             result.items ≡ failing_over self.now.slot self.now.row self.now.version noted pins
             is_address_free edge }
     {
-        match edge.wire {
-            Wire::Br => self.request_rule(edge.fall).1,
-            Wire::BgOut => self.pass_rule(edge.fall, pins.grant_in).1,
-            Wire::Bbsy => self
-                .hold_rule(edge.fall, &pins, pins.grant_in, is_address_free)
-                .1,
-            _ => ArrayVec::new(),
-        }
+        five_have_room();
+        self.told(edge, pins, is_address_free)
     }
 
     /// Takes in an edge that was made; one of another driver or wire changes nothing.

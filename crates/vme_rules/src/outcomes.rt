@@ -1,13 +1,13 @@
 //! What a guard answers.
-ghost use Rattle.std.specs.Prelude.{◌≡◌, ◌≤◌, Ok};
-ghost use Rattle.vme_model.specs.Guards.{Guard, free, asks, ◌⊓◌, unless, holds, failed};
+ghost use Rattle.std.specs.Prelude.{◌≡◌, ◌≤◌, ◌+◌, ◌++◌, [], length, if◌then◌else◌, Ok};
+ghost use Rattle.vme_model.specs.Guards.{Guard, free, asks, ◌⊓◌, unless, holds, conditions, failed};
 ghost use Rattle.vme_model.specs.Verdict.{check};
 ghost use Rattle.vme_rules.specs.Room.{most};
 
 use arrayvec::ArrayVec;
-use vme_model::{Condition, Refused};
+use vme_model::{Condition, Refused, Tested};
 
-/// What is asked of a guard: whether it holds, or which of its conditions fail.
+/// What is asked of a guard: whether it holds, which of its conditions fail, or what each of them is.
 ///
 /// A rule is written once, for each of them: by a function for each way to make a guard.
 pub trait Outcome {
@@ -56,6 +56,22 @@ impl Outcome for bool {
     }
 }
 
+/// Two lists of conditions, the second after the first, where five have room for both.
+fn joined<T: Copy + Default>(mut first: ArrayVec<T, 5>, second: ArrayVec<T, 5>) -> ArrayVec<T, 5>
+    ensures { length first.items + length second.items ≤ 5
+        → result.items ≡ first.items ++ second.items }
+{
+    let _fits = first.try_extend_from_slice(second.as_slice()).is_ok();
+    first
+}
+
+/// A list of conditions where they bind, and else none.
+fn bound<T: Copy + Default>(list: ArrayVec<T, 5>, is_free: bool) -> ArrayVec<T, 5>
+    ensures { result.items ≡ if is_free then [] else list.items }
+{
+    if is_free { ArrayVec::new() } else { list }
+}
+
 /// Which of the guard's conditions fail, in the guard's order, where it has at most five.
 impl Outcome for ArrayVec<Condition, 5> {
     ghost tells = { λ result g. most g ≤ 5 → result.items ≡ failed g };
@@ -72,13 +88,36 @@ impl Outcome for ArrayVec<Condition, 5> {
         failed
     }
 
-    fn and(mut self, other: ArrayVec<Condition, 5>) -> ArrayVec<Condition, 5> {
-        let _fits = self.try_extend_from_slice(other.as_slice()).is_ok();
-        self
+    fn and(self, other: ArrayVec<Condition, 5>) -> ArrayVec<Condition, 5> {
+        joined(self, other)
     }
 
     fn unless(self, is_free: bool) -> ArrayVec<Condition, 5> {
-        if is_free { ArrayVec::new() } else { self }
+        bound(self, is_free)
+    }
+}
+
+/// All conditions of the guard, each with whether it holds, in the guard's order, where it has at
+/// most five.
+impl Outcome for ArrayVec<Tested, 5> {
+    ghost tells = { λ result g. most g ≤ 5 → result.items ≡ conditions g };
+
+    fn free() -> ArrayVec<Tested, 5> {
+        ArrayVec::new()
+    }
+
+    fn asks(condition: Condition, holds: bool) -> ArrayVec<Tested, 5> {
+        let mut conditions = ArrayVec::new();
+        conditions.push(Tested { condition, holds });
+        conditions
+    }
+
+    fn and(self, other: ArrayVec<Tested, 5>) -> ArrayVec<Tested, 5> {
+        joined(self, other)
+    }
+
+    fn unless(self, is_free: bool) -> ArrayVec<Tested, 5> {
+        bound(self, is_free)
     }
 }
 
