@@ -44,3 +44,5 @@ pub mod PinSets
 pub mod Numbers
 -- `why_tells_the_verdict`
 pub mod Reasons
+-- `bus_stands_where_it_is_told` and `accesses_are_open_alike`
+pub mod Standing

@@ -26,19 +26,19 @@ other : (a fall : Bool) → (if fall then not a else a) ≡ true → a ≡ not f
 other a true e = not_true a e
 other a false e = e
 
-here : {X : Type 0} (x : X) (xs : List X) → Contains (x ∷ xs) x
+pub here : {X : Type 0} (x : X) (xs : List X) → Contains (x ∷ xs) x
 here x xs = (0, omega arith, refl)
 
-there : {X : Type 0} (y x : X) (xs : List X) → Contains xs x → Contains (y ∷ xs) x
+pub there : {X : Type 0} (y x : X) (xs : List X) → Contains xs x → Contains (y ∷ xs) x
 there y x xs c = Contains-append_right (y ∷ []) xs x c
 
 -- what a list has, stands in what is made of it
-by_map : {X Y : Type 0} (f : X → Y) (xs : List X) (x : X) → Contains xs x → Contains (map f xs) (f x)
+pub by_map : {X Y : Type 0} (f : X → Y) (xs : List X) (x : X) → Contains xs x → Contains (map f xs) (f x)
 by_map f [] x c = let lt = c.1 in absurd (omega arith)
 by_map f (y ∷ xs) x (zero, lt, is) = subst (λ z. Contains (f y ∷ map f xs) (f z)) is (here (f y) (map f xs))
 by_map f (y ∷ xs) x (suc k, lt, is) = there (f y) (f x) (map f xs) (by_map f xs x (k, omega arith, is))
 
-by_flat_map : {X Y : Type 0} (f : X → List Y) (xs : List X) (x : X) (y : Y) → Contains xs x → Contains (f x) y → Contains (flat_map f xs) y
+pub by_flat_map : {X Y : Type 0} (f : X → List Y) (xs : List X) (x : X) (y : Y) → Contains xs x → Contains (f x) y → Contains (flat_map f xs) y
 by_flat_map f [] x y c d = let lt = c.1 in absurd (omega arith)
 by_flat_map f (z ∷ xs) x y (zero, lt, is) d = Contains-append_left (f z) (flat_map f xs) y (subst (λ t. Contains (f t) y) (sym is) d)
 by_flat_map f (z ∷ xs) x y (suc k, lt, is) d = Contains-append_right (f z) (flat_map f xs) y (by_flat_map f xs x y (k, omega arith, is) d)

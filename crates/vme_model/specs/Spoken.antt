@@ -1,5 +1,5 @@
 -- How a condition is spelled of an edge. (Profile.)
-use Rattle.std.specs.Prelude.{ℕ, Bool, true, false, not, Option, Some, None, List, [], ◌++◌, codes, decimal, unwrap_or}
+use Rattle.std.specs.Prelude.{ℕ, Bool, true, false, not, Option, Some, List, [], ◌++◌, codes, decimal, unwrap_or}
 use Rattle.std.specs.Option.{option_map_or, option_and_then}
 use Rattle.vme_model.specs.declared.boards.Row.{Row}
 use Rattle.vme_model.specs.declared.boards.IrqKind.{IrqKind}

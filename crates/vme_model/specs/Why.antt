@@ -1,19 +1,15 @@
 -- Why an edge is accepted or refused, and the block that tells it. (Profile.)
-use Rattle.std.specs.Prelude.{ℕ, Bool, if◌then◌else◌, Option, Some, None, List, [], ◌∷◌, ◌++◌, map, decimal, codes, Result, Ok, Err}
+use Rattle.std.specs.Prelude.{ℕ, Bool, if◌then◌else◌, Option, Some, None, List, [], ◌∷◌, ◌++◌, map, decimal, codes, Ok, Err}
 use Rattle.std.specs.List.{flat_map}
-use Rattle.std.specs.Option.{option_map_or}
-use Rattle.vme_model.specs.declared.conditions.Condition.{Condition}
 use Rattle.vme_model.specs.declared.conditions.Tested.{Tested}
 use Rattle.vme_model.specs.declared.refusals.Refused.TheVariants.{NoSuchDriver, AlreadyThere, Rule, NotSettled, TraceFull}
-use Rattle.vme_model.specs.declared.signals.Wire.{Wire}
-use Rattle.vme_model.specs.declared.signals.Cycle.{Cycle}
 use Rattle.vme_model.specs.declared.signals.Edge.{Edge}
 use Rattle.vme_model.specs.declared.witnesses.Witness.{Witness}
 use Rattle.vme_model.specs.declared.witnesses.Witness.TheVariants.{Wire as wire_is, Granted, Picks, Cycles, Served, Strobed}
 use Rattle.vme_model.specs.Plan.{board_of}
 use Rattle.vme_model.specs.History.{drive, shown}
 use Rattle.vme_model.specs.Readings.{readings}
-use Rattle.vme_model.specs.Guards.{Guard, conditions}
+use Rattle.vme_model.specs.Guards.{conditions}
 use Rattle.vme_model.specs.Rules.{guard}
 use Rattle.vme_model.specs.Settling.{settling_guard}
 use Rattle.vme_model.specs.Verdict.{State}
@@ -25,21 +21,15 @@ use Rattle.vme_model.specs.Spoken.{driver_name, state_text, condition_text}
 use Rattle.vme_model.specs.Numbered.{Numbered}
 use Rattle.vme_model.specs.Witnesses.{witnesses_of}
 
--- a condition, whether it holds before the edge, and what is told of it
+-- a condition with whether it holds before the edge, and what is told of it
 pub record Reason : Type 0 where
-  pub condition : Condition
-  pub holds : Bool
+  pub tested : Tested
   pub witnesses : List Witness
 
 -- why an edge has its verdict, where k numbers the edges of b
 abbrev pub why : State → Numbered → Edge → List Reason
 why b k e =
-    map
-    (λ t. record {
-      condition = t.condition;
-      holds = t.holds;
-      witnesses = witnesses_of b k e t.condition;
-    })
+    map (λ t. record { tested = t; witnesses = witnesses_of b k e t.condition })
     (conditions (tested b e))
 
 -- the number of an edge, where there is one
@@ -79,8 +69,9 @@ outcome_text holds = if holds then codes "holds " else codes "fails "
 -- a line for a condition of an edge, and one for each of its witnesses
 abbrev pub reason_lines : State → Edge → Reason → List ℕ
 reason_lines b e r =
-    ((outcome_text r.holds
-    ++ condition_text r.condition e (board_of b.plan e.driver) (shown b.plan b.history)) ++ 10 ∷ [])
+    ((outcome_text r.tested.holds
+    ++ condition_text r.tested.condition e (board_of b.plan e.driver) (shown b.plan b.history))
+    ++ 10 ∷ [])
     ++ witness_lines r.witnesses
 
 -- the first line: the number of the edge, the edge, and its verdict

@@ -1,24 +1,28 @@
 //! What holds of every legal list of edges of every accepted plan, and of every guard.
 //!
 //! The functions do nothing: each is a theorem over the definitions, stated by its contract.
-ghost use Rattle.std.specs.Prelude.{◌≡◌, ◌↔◌, true, not, Bool, List, [], Ok, Option, map, filter, is_ok, is_some};
+ghost use Rattle.std.specs.Prelude.{◌≡◌, ◌↔◌, ℕ, Some, None, true, not, Bool, List, [], Ok, Option, map, filter, is_ok, is_some};
 ghost use Rattle.std.specs.List.{All, list_all};
 ghost use Rattle.vme_model.specs.Accepted.{IsAccepted};
 ghost use Rattle.vme_model.specs.Failing.{all_asked, first_failed, tested, tested_but_full, unmet, unmet_but_full};
+ghost use Rattle.vme_model.specs.GrantSafety.{Holds, Travels};
 ghost use Rattle.vme_model.specs.Guards.{Guard, holds, conditions, failed};
 ghost use Rattle.vme_model.specs.History.{drive, has_strobed, served_since_request};
 ghost use Rattle.vme_model.specs.Locality.{AreWellFormed, IsLocal};
 ghost use Rattle.vme_model.specs.Numbered.{Numbered, IsNth, edges_in, numbered, served_since, since, strobed_at};
-ghost use Rattle.vme_model.specs.Open.{open_edges, IsAllThatIsAllowed};
+ghost use Rattle.vme_model.specs.Open.{open_edges, showing, IsAllThatIsAllowed};
 ghost use Rattle.vme_model.specs.Plan.{Plan};
 ghost use Rattle.vme_model.specs.Readings.{Readings};
 ghost use Rattle.vme_model.specs.Rules.{failing, rule};
 ghost use Rattle.vme_model.specs.Safe.{IsOrderly, IsSafe};
 ghost use Rattle.vme_model.specs.Settling.{settling, unsettled};
+ghost use Rattle.vme_model.specs.Signals.{is_slot};
+ghost use Rattle.vme_model.specs.Stands.{grant_at, holder};
 ghost use Rattle.vme_model.specs.Verdict.{IsLegal, State, kept, verdict, verdict_but_full};
 ghost use Rattle.vme_model.specs.Why.{why};
 ghost use Rattle.vme_model.specs.declared.boards.IrqKind.{IrqKind};
 ghost use Rattle.vme_model.specs.declared.signals.Cycle.{Cycle};
+ghost use Rattle.vme_model.specs.declared.signals.Cycle.TheVariants.{Access};
 ghost use Rattle.vme_model.specs.declared.signals.Driver.{Driver};
 ghost use Rattle.vme_model.specs.declared.signals.Edge.{Edge};
 ghost use Rattle.vme_model.specs.declared.signals.Version.TheVariants.{One, Two};
@@ -114,5 +118,19 @@ pub fn what_is_so_has_its_edge()
 /// An edge is accepted exactly where every condition that is told of it holds.
 pub fn why_tells_the_verdict()
     ensures { (b : State) (k : Numbered) (e : Edge) →
-        is_ok (verdict b e) ≡ list_all (λ r. r.holds) (why b k e) }
+        is_ok (verdict b e) ≡ list_all (λ r. r.tested.holds) (why b k e) }
+{}
+
+/// The slot that is told as the holder holds the bus. The grant that is told stands at its slot, which has neither passed
+/// it on nor taken it, and where none is told none stands anywhere.
+pub fn bus_stands_where_it_is_told()
+    ensures holder { (p : Plan) (h : List Edge) (s : ℕ) → holder p h ≡ Some s → Holds h s }
+    ensures grant { (p : Plan) (h : List Edge) (n s : ℕ) → grant_at p h ≡ Some (n, s) → Travels p h n s }
+    ensures none { (p : Plan) (h : List Edge) → grant_at p h ≡ None → (n s : ℕ) → Travels p h n s → ⊥ }
+{}
+
+/// Of a driver's accesses all are open or none, so that one word tells them.
+pub fn accesses_are_open_alike()
+    ensures { (b : State) (d : Driver) (s t : ℕ) → is_slot s ≡ true → is_slot t ≡ true →
+        verdict b (showing d (Access s)) ≡ verdict b (showing d (Access t)) }
 {}

@@ -72,7 +72,12 @@ fn service_text(board: Option<Row>) -> &'static str
     ensures short { length result.now ≤ 48 }
 {
     match board {
-        Some(Row { interrupter: Some(interrupter), .. }) => match interrupter.kind {
+        Some(
+            Row {
+                interrupter: Some(interrupter),
+                ..
+            },
+        ) => match interrupter.kind {
             IrqKind::Roak => "the request was served by an acknowledge",
             IrqKind::Rora => "the request was served by an access",
         },

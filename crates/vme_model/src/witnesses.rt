@@ -21,13 +21,28 @@ pub enum Witness {
         since: Option<u64>,
     },
     /// The level last granted, 0 to 3, and its grant; level 0 where there was none.
-    Granted { level: u8, since: Option<u64> },
+    Granted {
+        level: u8,
+        since: Option<u64>,
+    },
     /// The level that the arbiter's policy picks, of those requested.
-    Picks { level: Option<u8> },
+    Picks {
+        level: Option<u8>,
+    },
     /// How many cycles a board began in this tenure, and its burst.
-    Cycles { driver: Driver, made: u64, burst: u8 },
+    Cycles {
+        driver: Driver,
+        made: u64,
+        burst: u8,
+    },
     /// The board's first answer since its `irq-` that serves its interrupter.
-    Served { driver: Driver, since: u64 },
+    Served {
+        driver: Driver,
+        since: u64,
+    },
     /// The board's `ds-` of this cycle.
-    Strobed { driver: Driver, at: u64 },
+    Strobed {
+        driver: Driver,
+        at: u64,
+    },
 }

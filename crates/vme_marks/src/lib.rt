@@ -1,0 +1,7 @@
+//! The edges of a trace since which a bus is as it is, by their numbers.
+#![tactic(auto)]
+
+mod marks;
+mod places;
+
+pub use marks::Marks;
