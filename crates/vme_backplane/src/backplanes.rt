@@ -171,7 +171,7 @@ impl<'r> Backplane<'r> {
     pub fn told<A: Outcome>(&self, edge: Edge) -> A
         ensures { A.tells result (tested self.now edge) }
     {
-        let tested = self.told_but_full(edge);
+        let tested: A = self.told_but_full(edge);
         if self.lacks_room(edge) {
             tested.and(A::asks(Condition::HasRoom, false))
         } else {

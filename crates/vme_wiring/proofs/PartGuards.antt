@@ -1,6 +1,6 @@
 -- The guard that a part reads by its own fields is the one that the whole backplane reads.
-use Rattle.std.proofs.Common.{◌≡◌, ◌∙◌, refl, sym, ap, subst, Bool, true, false, List}
-use Rattle.std.specs.Prelude.{◌||◌, not, Some, is_some}
+use Rattle.std.proofs.Common.{◌≡◌, ◌∙◌, refl, sym, ap, subst, Bool, true, List}
+use Rattle.std.specs.Prelude.{Some, is_some}
 use Rattle.vme_model.specs.declared.boards.Row.{Row}
 use Rattle.vme_model.specs.declared.pins.Pins.{Pins}
 use Rattle.vme_model.specs.declared.signals.Version.{Version}

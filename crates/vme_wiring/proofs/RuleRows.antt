@@ -6,8 +6,6 @@ use Rattle.std.specs.Option.{option_map_or, option_and_then}
 use Rattle.std.proofs.lemmas.Bool.Decides.{nat_tests}
 use Rattle.vme_model.specs.declared.boards.Row.{Row}
 use Rattle.vme_model.specs.declared.boards.RequesterRow.{RequesterRow}
-use Rattle.vme_model.specs.declared.boards.Release.{Release}
-use Rattle.vme_model.specs.declared.boards.Release.TheVariants.{Done, Request}
 use Rattle.vme_model.specs.declared.boards.ArbiterKind.{ArbiterKind}
 use Rattle.vme_model.specs.declared.pins.Pins.{Pins}
 use Rattle.vme_model.specs.declared.refusals.Refused.TheVariants.{AlreadyThere, Rule}
@@ -113,7 +111,7 @@ requester_row version p h s q BgOut true v e own = refl
 requester_row version p h s q BgOut false v e own = refl
 requester_row version p h s q Bbsy true v e own = refl
 requester_row version p h s q Bbsy false v e own =
-    let row = λ (a : Bool) (k : Guard). (14, bbsy_rises (drive h (Slot s) Br) (grant_in p h (Slot s)) a k) in
+    let row : Bool → Guard → ℕ × Guard = λ a k. (14, bbsy_rises (drive h (Slot s) Br) (grant_in p h (Slot s)) a k) in
     ap (λ a. row a (release_guard (requester_sees p h s q))) (twice_not (drive h (Slot s) Addr) (drive h (Slot s) AddressStrobe))
     ∙ ap (λ k. row (is_free h s) k) (released p h s q e)
 requester_row version p h s q w f v e own = absurd (cc)
@@ -168,7 +166,7 @@ showing p h r q None found formed = refl
 master_row : (version : Version) (p : Plan) (h : List Edge) (r : Row) (q : RequesterRow) (w : Wire) (f : Bool) (v : Option Cycle) → board p r.slot ≡ Some r → option_and_then (λ b. b.requester) (board p r.slot) ≡ Some q → has_value w f v ≡ true → is_masters w ≡ true →
     guard version (master_sees p h r q) w f v ≡ guard version (readings p h (Slot r.slot)) w f v
 master_row version p h r q Addr true v found e formed own =
-    let row = λ (a b : Guard). (15, addr_goes_on (drive h (Slot r.slot) Bbsy) (line p h AddressStrobe) a b) in
+    let row : Guard → Guard → ℕ × Guard = λ a b. (15, addr_goes_on (drive h (Slot r.slot) Bbsy) (line p h AddressStrobe) a b) in
     ap (λ a. row a (show_guard (master_sees p h r q) v)) (within p h r q e)
     ∙ ap (λ b. row (burst_guard (readings p h (Slot r.slot))) b) (showing p h r q v found formed)
 master_row version p h r q Addr false v found e formed own = refl

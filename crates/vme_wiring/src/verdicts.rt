@@ -147,8 +147,9 @@ impl Wiring {
             → A.tells result
             (asked_guard version p h edge ⊓ (settling_guard version p h edge.wire edge.fall).1)) }
     {
+        let rules: A = self.told_by_rule(edge);
         let (_number, settles) = self.settling(edge);
-        self.told_by_rule(edge).and(settles)
+        rules.and(settles)
     }
 
     /// What is tested of an edge that is refused, up to the condition that refuses it.

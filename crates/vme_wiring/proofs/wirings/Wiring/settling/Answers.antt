@@ -1,8 +1,8 @@
-use Rattle.std.proofs.Common.{◌∙◌, sym, ap, subst, ℕ, true, false}
-use Rattle.vme_model.specs.declared.sets.ChainId.{ChainId}
+use Rattle.std.proofs.Common.{◌∙◌, ap, subst, ℕ, true, false}
+use Rattle.std.specs.Prelude.{not}
 use Rattle.vme_model.specs.declared.signals.Wire.TheVariants.{Bg, Berr, AddressStrobe}
 use Rattle.vme_model.specs.Guards.{Guard}
-use Rattle.vme_model.specs.Settling.{as_settles, berr_settles}
+use Rattle.vme_model.specs.Settling.{as_settles, berr_settles, bg_rise_settles, bg_fall_settles}
 use Rattle.vme_chain.specs.Segments.{is_past_end}
 use Rattle.vme_wiring.specs.Chained.{chain_at}
 use Rattle.vme_wiring.proofs.FieldReads.{settling_at, acknowledge_clear, grant_seen, grant_gone}
@@ -29,11 +29,14 @@ returns-in-Bg-false-clause-answer g c = λ version p h is.
     let tells = g.A.Outcome.tells c.bg_rise_settles.result in
     subst (λ (k : ℕ × Guard). tells k.1)
     (settling_at version p h c.args.edge.wire (Bg n) c.args.edge.fall false c.in-Bg-false.is-0 c.in-Bg-false.is-1)
-    (subst tells (grant_seen version p h w n is) c.bg_rise_settles.ensures)
+    (subst tells
+    (ap (bg_rise_settles w.version w.shared.bbsy) (c.is_past_end-is_past.ensures ∙ ap (λ x. is_past_end (chain_at x w.chains)) c.of_grant.ensures) ∙ grant_seen version p h w n is)
+    c.bg_rise_settles.ensures)
 
 pub returns-in-Bg-true-clause-answer : goal.returns-in-Bg-true-clause-answer
 returns-in-Bg-true-clause-answer g c = λ version p h is.
+    let w = c.args.self.now in
     let tells = g.A.Outcome.tells c.bg_fall_settles.result in
     subst (λ (k : ℕ × Guard). tells k.1)
     (settling_at version p h c.args.edge.wire (Bg c.in-Bg-true.field-0-0) c.args.edge.fall true c.in-Bg-true.is-0 c.in-Bg-true.is-1)
-    (subst tells (grant_gone version p h c.args.self.now is) c.bg_fall_settles.ensures)
+    (subst tells (ap (λ b. bg_fall_settles w.version (not b)) c.is_low-are_through.ensures ∙ grant_gone version p h w is) c.bg_fall_settles.ensures)
