@@ -11,7 +11,6 @@ ghost use Rattle.vme_model.specs.Deliveries.{answer, delivered, delivery};
 ghost use Rattle.vme_model.specs.Offers.{offered};
 ghost use Rattle.vme_model.specs.Open.{open_edges, IsAllThatIsAllowed};
 ghost use Rattle.vme_wiring.specs.Offered.{offered_but_full};
-ghost use Rattle.vme_wiring.specs.Opens.{open_but_full};
 ghost use Rattle.vme_wiring.specs.Waits.{is_waiting};
 ghost use Rattle.vme_model.specs.Accepted.{IsAccepted};
 ghost use Rattle.vme_model.specs.Report.{at_power_up, trace_limit};
@@ -331,16 +330,8 @@ impl<'r> Backplane<'r> {
         if self.is_full() {
             ArrayVec::new()
         } else {
-            self.open_but_full(driver)
+            self.wiring.open_edges(driver)
         }
-    }
-
-    /// The same, but for the end of the trace.
-    fn open_but_full(&self, driver: Driver) -> ArrayVec<Edge, 36>
-        ensures { result.items
-            ≡ open_but_full self.now.version self.now.plan self.now.history driver }
-    {
-        self.wiring.open_edges(driver)
     }
 
     /// Whether the driver waits for an edge of another. It then has no offer; where it answers false, there may be none either.
