@@ -117,8 +117,8 @@ impl Region {
 
     // Its granules, as they lend themselves.
     fn lend<'r>(&'r mut self) -> Loan<'r>
-        ensures count { result.count ≡ self.entry.now.granules.count }
-        ensures spot { result.spot ≡ self.entry.now.granules.spot }
+        ensures loan { (result.count ≡ self.entry.now.granules.count)
+            × (result.spot ≡ self.entry.now.granules.spot) }
         ensures* same { sem 𝓛 (EndsAsItWas self.entry result.name) }
     {
         Loan {

@@ -63,14 +63,37 @@ fn in_short(delimiter: u8, byte: u8) -> Mode
     }
 }
 
-/// The mode after a byte in a string over several lines that is no delimiter.
-fn in_long(delimiter: u8, byte: u8) -> Mode
-    ensures { result ≡ spec.in_long delimiter byte }
+/// The mode after a byte in a string over several lines, after so many of its delimiters.
+fn in_long(delimiter: u8, run: u8, byte: u8) -> Mode
+    ensures { result ≡ spec.in_long delimiter run byte }
 {
-    if byte == b'\\' && delimiter == b'"' {
+    if byte == delimiter {
+        Mode::Long(delimiter, if 3 <= run { 3 } else { run + 1 })
+    } else if 3 <= run {
+        mode_behind(byte)
+    } else if byte == b'\\' && delimiter == b'"' {
         Mode::LongEscape
     } else {
         Mode::Long(delimiter, 0)
+    }
+}
+
+/// The mode after one more byte.
+fn mode_after(mode: Mode, byte: u8) -> Mode
+    ensures { result ≡ spec.mode_after mode byte }
+{
+    match mode {
+        Mode::Plain => mode_behind(byte),
+        Mode::Comment if byte == b'\n' => Mode::Plain,
+        Mode::Comment => Mode::Comment,
+        Mode::Opened(delimiter) if byte == delimiter => Mode::Doubled(delimiter),
+        Mode::Opened(delimiter) => in_short(delimiter, byte),
+        Mode::Doubled(delimiter) if byte == delimiter => Mode::Long(delimiter, 0),
+        Mode::Doubled(_) => mode_behind(byte),
+        Mode::Short(delimiter) => in_short(delimiter, byte),
+        Mode::ShortEscape => Mode::Short(b'"'),
+        Mode::Long(delimiter, run) => in_long(delimiter, run, byte),
+        Mode::LongEscape => Mode::Long(b'"', 0),
     }
 }
 
@@ -105,7 +128,7 @@ impl Place {
     }
 
     fn close(&mut self)
-        ensures { placed self.new ≡ spec.closed (placed self.old) }
+        ensures { placed self.new ≡ spec.closed_to (placed self.old) (placed self.old).outer }
     {
         if !self.outer.is_empty() {
             self.held = self.outer.remove(0);
@@ -128,7 +151,7 @@ impl Place {
 
     fn bracket(&mut self)
         requires { (self.old.here ≤ 80) × (array_vec_len self.old.outer ≤ 80) }
-        ensures { placed self.new ≡ spec.bracketed (placed self.old) self.old.keyed }
+        ensures { placed self.new ≡ spec.bracketed (placed self.old) }
     {
         if self.keyed {
             self.open();
@@ -141,9 +164,8 @@ impl Place {
     /// Takes a byte outside of strings and comments.
     fn take_outside(&mut self, byte: u8)
         requires { (self.old.here ≤ 80) × (array_vec_len self.old.outer ≤ 80) }
-        ensures { placed self.new ≡ spec.outside (placed self.old) byte }
+        ensures { placed self.new ≡ spec.structured (placed self.old) byte }
     {
-        self.mode = mode_behind(byte);
         match byte {
             b'.' => self.here += 1,
             b'=' => self.keyed = true,
@@ -156,37 +178,14 @@ impl Place {
         }
     }
 
-    /// Takes a byte of a string over several lines, after so many of its delimiters.
-    fn take_long(&mut self, delimiter: u8, run: u8, byte: u8)
-        requires { (self.old.here ≤ 80) × (array_vec_len self.old.outer ≤ 80) }
-        ensures { placed self.new ≡ spec.in_run (placed self.old) delimiter run byte }
-    {
-        if byte == delimiter {
-            self.mode = Mode::Long(delimiter, if 3 <= run { 3 } else { run + 1 });
-        } else if 3 <= run {
-            self.take_outside(byte);
-        } else {
-            self.mode = in_long(delimiter, byte);
-        }
-    }
-
     /// Takes the next byte.
     fn take(&mut self, byte: u8)
         requires { (self.old.here ≤ 80) × (array_vec_len self.old.outer ≤ 80) }
         ensures { placed self.new ≡ spec.behind (placed self.old) byte }
     {
-        match self.mode {
-            Mode::Plain => self.take_outside(byte),
-            Mode::Comment if byte == b'\n' => self.take_outside(byte),
-            Mode::Comment => {}
-            Mode::Opened(delimiter) if byte == delimiter => self.mode = Mode::Doubled(delimiter),
-            Mode::Opened(delimiter) => self.mode = in_short(delimiter, byte),
-            Mode::Doubled(delimiter) if byte == delimiter => self.mode = Mode::Long(delimiter, 0),
-            Mode::Doubled(_) => self.take_outside(byte),
-            Mode::Short(delimiter) => self.mode = in_short(delimiter, byte),
-            Mode::ShortEscape => self.mode = Mode::Short(b'"'),
-            Mode::Long(delimiter, run) => self.take_long(delimiter, run, byte),
-            Mode::LongEscape => self.mode = Mode::Long(b'"', 0),
+        self.mode = mode_after(self.mode, byte);
+        if matches!(self.mode, Mode::Plain) {
+            self.take_outside(byte);
         }
     }
 }

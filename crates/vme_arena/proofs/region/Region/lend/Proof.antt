@@ -6,7 +6,7 @@ use denote.Follow.{follows, follows_said}
 use denote.Memory.{cell_at}
 use denote.Shadow.{pure_l}
 use denote.Steps.{opens}
-use Rattle.vme_arena.proofs.Values.{granules_val, granules_own, granules_told, granules_made, granules_type, loan_val, loan_own, loan_made}
+use Rattle.vme_arena.proofs.Values.{granules_val, granules_own, granules_told, granules_made, loan_val, loan_own, loan_made}
 use mir.Val.{vstruct, of_list}
 use types.Kit.{fpick, feq_l}
 use Rattle.vme_arena.proofs.LentRegion.{lends, region_type, region_val}
