@@ -1,6 +1,5 @@
 -- What an engine did to its reader and its writer, as far as their bytes are known.
 use Rattle.std.specs.Prelude.{◌≡◌, ℕ, List, Option, Some, None}
-use Rattle.std.specs.Borrow.{MutBor}
 use Rattle.std.specs.Io.KnownBytes.{Appends, Consumes, IsAtEnd, Keeps}
 use Rattle.vme_trace.specs.Writing.{AppendsFront}
 
@@ -13,14 +12,6 @@ pub record Streams : Type 0 where
 
 abbrev pub streams : Option (List ℕ) → Option (List ℕ) → Option (List ℕ) → Option (List ℕ) → Streams
 streams from to old new = record { from = from; to = to; old = old; new = new }
-
--- the same of a reader and a writer that were lent, where `remaining` tells what a reader has left,
--- and `contents` what a writer holds
-abbrev pub streams_of :
-    {R W : Type 0} → (R → Option (List ℕ)) → MutBor R → (W → Option (List ℕ)) → MutBor W
-    → Streams
-streams_of remaining input contents out =
-    streams (remaining input.old) (remaining input.new) (contents out.old) (contents out.new)
 
 -- these are all the bytes that the reader had to give
 abbrev pub IsInput : Option (List ℕ) → List ℕ → Type 0

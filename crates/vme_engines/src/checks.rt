@@ -5,7 +5,7 @@ ghost use Rattle.std.specs.Io.KnownBytes.{Keeps};
 ghost use Rattle.std.proofs.KnownBytes.{Keeps-refl};
 ghost use Rattle.vme_model.specs.Verdict.{kept};
 ghost use Rattle.vme_model.specs.Report.{trace_limit};
-ghost use Rattle.vme_engines.specs.Streams.{streams_of, ReadNothing, WroteNothing};
+ghost use Rattle.vme_engines.specs.Streams.{streams, ReadNothing, WroteNothing};
 ghost use Rattle.vme_engines.specs.Outcomes.{Lent};
 ghost use Rattle.vme_engines.specs.Checking.{ChecksInput, first_refusal, finding_status};
 ghost use Rattle.vme_engines.specs.Steps.{ChecksPiece, FindsInput};
@@ -180,7 +180,8 @@ pub fn check<R: Read, W: Write>(
     trace: &mut R,
     out: &mut W,
 ) -> Result<Status, EngineFault>
-    ensures { let s = streams_of R.remaining trace W.contents out in
+    ensures { let s = streams (R.remaining trace.old) (R.remaining trace.new)
+        (W.contents out.old) (W.contents out.new) in
         Lent scenario.now (ReadNothing s × WroteNothing s) (ChecksInput s) result }
 {
     let plan = plan_of(alloc, scenario)?;

@@ -2,7 +2,7 @@
 ghost use Rattle.std.specs.Prelude.{◌≡◌, ◌≢◌, ◌+◌, ◌<◌, ◌≤◌, ◌++◌, ◌∷◌, ℕ, List, [], length, take, drop, Some, None, Ok, Err, OnOk, OnErr};
 ghost use Rattle.vme_model.specs.Text.{header};
 ghost use Rattle.vme_trace.specs.Reading.{HasRead};
-ghost use Rattle.vme_engines.specs.Streams.{streams_of};
+ghost use Rattle.vme_engines.specs.Streams.{streams};
 ghost use Rattle.vme_engines.specs.Joining.{Joins};
 ghost use Rattle.vme_engines.specs.Front.{header_line, IsHeld, IsFront, IsTextOf, Takes, Finds, Starts, JoinsBehind};
 
@@ -192,7 +192,10 @@ pub fn joined<R: Read, W: Write>(
     input: &mut R,
     out: &mut W,
 ) -> Result<Status, EngineFault>
-    ensures { Joins (streams_of R.remaining input W.contents out) result }
+    ensures { Joins
+        (streams (R.remaining input.old) (R.remaining input.new)
+        (W.contents out.old) (W.contents out.new))
+        result }
 {
     let mut front = Front::new(alloc);
     let mut buffer = [0u8; 512];

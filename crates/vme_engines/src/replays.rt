@@ -3,7 +3,7 @@ ghost use Rattle.std.specs.Prelude.{◌≡◌, ◌+◌, ◌<◌, ◌^◌, length
 ghost use Rattle.std.proofs.Common.{arith};
 ghost use Rattle.std.proofs.KnownBytes.{Appends-nil};
 ghost use Rattle.vme_model.specs.Report.{trace_limit};
-ghost use Rattle.vme_engines.specs.Streams.{streams_of, ReadNothing, WroteNothing};
+ghost use Rattle.vme_engines.specs.Streams.{streams, ReadNothing, WroteNothing};
 ghost use Rattle.vme_engines.specs.Outcomes.{Lent, ReplaysInput, status_with};
 ghost use Rattle.vme_engines.specs.Steps.{TakesPiece, traced};
 
@@ -113,7 +113,10 @@ fn replay_trace<R: Read, W: Write>(
     out: &mut W,
 ) -> Result<Status, Fault>
     requires { room ≡ trace_limit }
-    ensures { ReplaysInput (streams_of R.remaining trace W.contents out) plan (traced result) }
+    ensures { ReplaysInput
+        (streams (R.remaining trace.old) (R.remaining trace.new)
+        (W.contents out.old) (W.contents out.new))
+        plan (traced result) }
 {
     let mut reader = Reader::new();
     let mut edges = Vec::new(alloc);
@@ -151,7 +154,8 @@ pub fn replay<R: Read, W: Write>(
     trace: &mut R,
     out: &mut W,
 ) -> Result<Status, EngineFault>
-    ensures { let s = streams_of R.remaining trace W.contents out in
+    ensures { let s = streams (R.remaining trace.old) (R.remaining trace.new)
+        (W.contents out.old) (W.contents out.new) in
         Lent scenario.now (ReadNothing s × WroteNothing s) (ReplaysInput s) result }
 {
     let plan = plan_of(alloc, scenario)?;
