@@ -71,7 +71,7 @@ two_closed : {A : Type 0} (test : A → Bool) (a b : A) → test a ≡ false →
 two_closed {A} test a b na nb = rw (na, nb)
 
 -- the parts of a test
-five : (a b c d e : Bool) → ((a && not b && not c) && not d && not e) ≡ true → (a ≡ true) × (b ≡ false) × (c ≡ false) × (d ≡ false) × (e ≡ false)
+five : (a b c d e : Bool) → ((a && not b && not c) && (not d && not e)) ≡ true → (a ≡ true) × (b ≡ false) × (c ≡ false) × (d ≡ false) × (e ≡ false)
 five true false false false false holds = (refl, refl, refl, refl, refl)
 five a b c d e holds = absurd (cc)
 
@@ -79,7 +79,7 @@ four : (a b c d : Bool) → (not a && not b && not c && not d) ≡ true → (a �
 four false false false false holds = (refl, refl, refl, refl)
 four a b c d holds = absurd (cc)
 
-two_and_two : (a b c d : Bool) → ((not a && b) && not c && d) ≡ true → (a ≡ false) × (b ≡ true) × (c ≡ false) × (d ≡ true)
+two_and_two : (a b c d : Bool) → ((not a && b) && (not c && d)) ≡ true → (a ≡ false) × (b ≡ true) × (c ≡ false) × (d ≡ true)
 two_and_two false true false true holds = (refl, refl, refl, refl)
 two_and_two a b c d holds = absurd (cc)
 
@@ -337,7 +337,7 @@ module _ (version : Version) (p : Plan) (h : List Edge) (w : Wiring) (s : ℕ) (
 
   pub reads_cycle : waits_for_cycle (read_by w b) b.row ≡ waits_for_cycle (readings p h (Slot s)) b.row
   reads_cycle =
-      let f : Bool → Bool → Bool → Bool → Bool = λ dtack out access iack. (not dtack && option_map_or (λ (i : InterrupterRow). not out) b.row.interrupter true) && not access && option_map_or (λ (i : InterrupterRow). not iack) b.row.interrupter true in
+      let f : Bool → Bool → Bool → Bool → Bool = λ dtack out access iack. (not dtack && option_map_or (λ (i : InterrupterRow). not out) b.row.interrupter true) && (not access && option_map_or (λ (i : InterrupterRow). not iack) b.row.interrupter true) in
       same_four f _ _ _ _ _ _ _ _ (own_is Dtack) (own_is IackOut) (ap (λ (x : Pins). is_access_to b.row.slot x.shown) its_pins) (ap (λ (x : Pins). x.iack_in) its_pins)
 
   pub reads_service : is_unserved (read_by w b) b.row ≡ is_unserved (readings p h (Slot s)) b.row

@@ -16,10 +16,9 @@ use Rattle.vme_model.specs.Rules.{bus_numbers, is_pick}
 use Rattle.vme_model.specs.Offers.{turned}
 use Rattle.vme_arbiter.specs.Local.{low}
 use Rattle.vme_wiring.specs.Boards.{low_of, place}
-use Rattle.vme_wiring.specs.Chained.{grant_in, iack_in}
-use Rattle.vme_wiring.specs.Asked.{read_by}
+use Rattle.vme_wiring.specs.Asked.{seen_by, read_by}
 use Rattle.vme_wiring.specs.Offered.{is_open}
-use Rattle.vme_wiring.specs.Waits.{is_quiet, is_requester_quiet, is_master_quiet, is_interrupter_quiet, is_ungranted, is_unaddressed, waits_for_grant, waits_for_bus, waits_for_cycle}
+use Rattle.vme_wiring.specs.Waits.{is_quiet, is_requester_quiet, is_master_quiet, is_interrupter_quiet, is_ungranted, is_unaddressed, is_left_alone, waits_for_grant, waits_for_bus, waits_for_cycle}
 use Rattle.vme_wiring.specs.Quiet.{may_grant}
 use Rattle.vme_wiring.specs.Wired.{IsWiringOf}
 use Rattle.vme_wiring.specs.declared.boards.Board.{Board}
@@ -27,8 +26,8 @@ use Rattle.vme_wiring.specs.declared.wirings.Wiring.{Wiring}
 use Rattle.vme_wiring.proofs.FieldReads.{own_of_controller}
 use Rattle.vme_wiring.proofs.NoOffers.{closed, reads_grant, reads_bus, reads_cycle}
 
--- part by part, or what the wires say before what has come
-by_parts : (r m i u a : Bool) → ((r && m && i) && u && a) ≡ ((r && u) && m && (i && a))
+-- part by part, or what its wires say and then what has come to it
+by_parts : (r m i u a : Bool) → ((r && m && i) && (u && a)) ≡ ((r && u) && m && (i && a))
 by_parts true true true true a = refl
 by_parts true true true false a = refl
 by_parts true true false true a = refl
@@ -38,11 +37,12 @@ by_parts true false i false a = refl
 by_parts false m i u a = refl
 
 pub quiet_waits : (w : Wiring) (b : Board) →
-    (is_quiet (low_of b) b.row && is_ungranted w.version (grant_in w.chains b.row) b.row && is_unaddressed w.shared.shown (iack_in w.chains b.row) b.row)
+    (is_quiet (low_of b) b.row && is_left_alone w.version (seen_by w.chains w.shared b.row) b.row)
     ≡ (waits_for_grant w.version (read_by w b) b.row && waits_for_bus (read_by w b) && waits_for_cycle (read_by w b) b.row)
 quiet_waits w b =
+    let seen = seen_by w.chains w.shared b.row in
     by_parts (is_requester_quiet (low_of b) b.row) (is_master_quiet (low_of b)) (is_interrupter_quiet (low_of b) b.row)
-    (is_ungranted w.version (grant_in w.chains b.row) b.row) (is_unaddressed w.shared.shown (iack_in w.chains b.row) b.row)
+    (is_ungranted w.version seen.grant_in b.row) (is_unaddressed seen.shown seen.iack_in b.row)
 
 -- with a fourth part
 pub all_but_last : (a b c d : Bool) → (a && b && c) ≡ true → d ≡ (a && b && (c && d))
@@ -82,7 +82,7 @@ module _ (version : Version) (p : Plan) (h : List Edge) (w : Wiring) (is : IsWir
 module _ (version : Version) (p : Plan) (h : List Edge) (w : Wiring) (s : ℕ) (b : Board) (is : IsWiringOf version p h w) (here : Some b ≡ place w.boards s) where
   -- what the fields say of a board in its place, by what its rules read
   pub quiet_reads :
-      (is_quiet (low_of b) b.row && is_ungranted w.version (grant_in w.chains b.row) b.row && is_unaddressed w.shared.shown (iack_in w.chains b.row) b.row)
+      (is_quiet (low_of b) b.row && is_left_alone w.version (seen_by w.chains w.shared b.row) b.row)
       ≡ (waits_for_grant version (readings p h (Slot s)) b.row && waits_for_bus (readings p h (Slot s)) && waits_for_cycle (readings p h (Slot s)) b.row)
   quiet_reads =
       quiet_waits w b

@@ -2,6 +2,7 @@
 use Rattle.std.specs.Prelude.{◌&&◌, ◌==◌, not, ℕ, Bool, true, false, Option, Some, List}
 use Rattle.std.specs.Option.{option_map_or}
 use Rattle.vme_model.specs.declared.boards.Row.{Row}
+use Rattle.vme_model.specs.declared.pins.Pins.{Pins}
 use Rattle.vme_model.specs.declared.signals.Version.{Version}
 use Rattle.vme_model.specs.declared.signals.Driver.{Driver}
 use Rattle.vme_model.specs.declared.signals.Driver.TheVariants.{Controller, Slot}
@@ -51,6 +52,11 @@ is_access_to s _ = false
 abbrev pub is_unaddressed : Option Cycle → Bool → Row → Bool
 is_unaddressed cycle iack_in b =
     not (is_access_to b.slot cycle) && option_map_or (λ i. not iack_in) b.interrupter true
+
+-- nothing has come to a board that sees these pins
+abbrev pub is_left_alone : Version → Pins → Row → Bool
+is_left_alone version seen b =
+    is_ungranted version seen.grant_in b && is_unaddressed seen.shown seen.iack_in b
 
 -- Both: a requester, if there is one, waits for its grant
 abbrev pub waits_for_grant : Version → Readings → Row → Bool

@@ -3,7 +3,7 @@ ghost use Rattle.std.specs.Prelude.{◌≡◌, ◌&&◌, true, [], Some};
 ghost use Rattle.vme_model.specs.declared.signals.Driver.TheVariants.{Slot};
 ghost use Rattle.vme_model.specs.Readings.{readings};
 ghost use Rattle.vme_wiring.specs.Boards.{OfParts};
-ghost use Rattle.vme_wiring.specs.Asked.{read_by};
+ghost use Rattle.vme_wiring.specs.Asked.{seen_by, read_by};
 ghost use Rattle.vme_wiring.specs.Waits.{is_access_to, is_unserved};
 ghost use Rattle.vme_wiring.specs.declared.wirings.Wiring.{Wiring as WiringValue};
 
@@ -38,7 +38,7 @@ impl Wiring {
     ghost use Rattle.vme_wiring.specs.Boards.{low_of};
     ghost use Rattle.vme_wiring.specs.Chained.{grant_in, iack_in};
     ghost use Rattle.vme_wiring.specs.Offered.{offered_on, offered_but_full, requester_wires, master_wires, interrupter_wires};
-    ghost use Rattle.vme_wiring.specs.Waits.{is_quiet, is_ungranted, is_unaddressed, is_waiting, waits_for_bus, waits_for_cycle, waits_for_grant};
+    ghost use Rattle.vme_wiring.specs.Waits.{is_quiet, is_ungranted, is_unaddressed, is_left_alone, is_waiting, waits_for_bus, waits_for_cycle, waits_for_grant};
 
     /// Whether the board's requester, if it has one, may not withdraw, and no grant has reached it.
     #[inline(always)]
@@ -111,18 +111,24 @@ impl Wiring {
         self.waits_for_cycle(board) && is_unserved(board)
     }
 
-    /// Whether the board is quiet, and nothing has come to it. Then its requester and its master wait, and it has nothing
-    /// to answer; that is so of most boards in most turns.
+    /// Whether nothing has come to the board.
+    #[inline(always)]
+    fn is_left_alone(&self, board: &Board) -> bool
+        ensures { result ≡ is_left_alone self.now.version
+            (seen_by self.now.chains self.now.shared board.now.row) board.now.row }
+    {
+        self.is_ungranted(board) && self.is_unaddressed(board)
+    }
+
+    /// Whether the board is quiet and left alone. Then its requester and its master wait, and it has nothing to answer;
+    /// that is so of most boards in most turns.
     #[inline(always)]
     fn is_board_waiting(&self, placed: &Placed) -> bool
         ensures { result ≡ (is_quiet (low_of placed.now) placed.now.row
-            && is_ungranted self.now.version (grant_in self.now.chains placed.now.row) placed.now.row
-            && is_unaddressed self.now.shared.shown
-            (iack_in self.now.chains placed.now.row) placed.now.row) }
+            && is_left_alone self.now.version
+            (seen_by self.now.chains self.now.shared placed.now.row) placed.now.row) }
     {
-        placed.is_quiet()
-            && self.is_ungranted(placed.board())
-            && self.is_unaddressed(placed.board())
+        placed.is_quiet() && self.is_left_alone(placed.board())
     }
 
     /// Whether the driver waits for an edge of another: each part of its board waits, the requester for a grant, the
