@@ -3,7 +3,7 @@ ghost use Rattle.std.specs.Prelude.{◌≡◌, ◌+◌, ◌<◌, length, map, su
 ghost use Rattle.vme_model.specs.Plan.{drivers};
 ghost use Rattle.vme_model.specs.Counts.{only};
 ghost use Rattle.vme_lock.specs.Seats.{drivers_of};
-ghost use Rattle.vme_lock.specs.Closing.{IsClosing, AreLogs, DiffersAt, FirstDiffers, IsFound};
+ghost use Rattle.vme_lock.specs.Closing.{IsClosing, AreLogs, DiffersAt, FirstDiffers, IsFirstDifference};
 
 use crate::following::{are_logs, stands_at};
 use crate::held::Held;
@@ -87,7 +87,7 @@ fn find_difference<L: Rig>(
     logs: &[Log<'_>],
 ) -> Option<(Driver, u32)>
     requires { length logs.now ≡ length seats.now }
-    ensures { IsFound backplane.now.history (drivers_of seats.now) logs.now result }
+    ensures { IsFirstDifference backplane.now.history (drivers_of seats.now) logs.now result }
 {
     if are_logs(backplane, seats, logs) {
         None
@@ -103,7 +103,7 @@ fn first_difference<L: Rig>(
     logs: &[Log<'_>],
 ) -> Option<(Driver, u32)>
     requires { length logs.now ≡ length seats.now }
-    ensures { IsFound backplane.now.history (drivers_of seats.now) logs.now result }
+    ensures { IsFirstDifference backplane.now.history (drivers_of seats.now) logs.now result }
 {
     match (seats, logs) {
         ([seat, seats @ ..], [log, logs @ ..]) => {
