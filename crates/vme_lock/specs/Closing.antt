@@ -1,5 +1,5 @@
 -- A history compared with the logs of its drivers.
-use Rattle.std.specs.Prelude.{◌≡◌, ◌≢◌, ◌⊎◌, ℕ, ◌≤◌, List, [], ◌∷◌, length, take, slice_get, sum_by}
+use Rattle.std.specs.Prelude.{◌≡◌, ◌≢◌, ◌⊎◌, ℕ, ◌≤◌, Option, Some, None, List, [], ◌∷◌, length, take, slice_get, sum_by}
 use Rattle.vme_model.specs.declared.signals.Driver.{Driver}
 use Rattle.vme_model.specs.declared.signals.Edge.{Edge}
 use Rattle.vme_model.specs.Verdict.{State, IsLegal}
@@ -31,3 +31,8 @@ FirstDiffers h (d ∷ drivers) (log ∷ logs) driver at =
     ((d ≡ driver) × DiffersAt (only h d) log at)
     ⊎ ((only h d ≡ log) × FirstDiffers h drivers logs driver at)
 FirstDiffers h _ _ driver at = ⊥
+
+-- what is found of a history beside the logs: that they are its, or the first driver and place
+abbrev pub IsFirstDifference : List Edge → List Driver → List (List Edge) → Option (Driver × ℕ) → Type 0
+IsFirstDifference h drivers logs None = AreLogs h drivers logs
+IsFirstDifference h drivers logs (Some found) = FirstDiffers h drivers logs found.0 found.1

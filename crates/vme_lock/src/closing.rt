@@ -3,7 +3,7 @@ ghost use Rattle.std.specs.Prelude.{◌≡◌, ◌+◌, ◌<◌, length, map, su
 ghost use Rattle.vme_model.specs.Plan.{drivers};
 ghost use Rattle.vme_model.specs.Counts.{only};
 ghost use Rattle.vme_lock.specs.Seats.{drivers_of};
-ghost use Rattle.vme_lock.specs.Closing.{IsClosing, AreLogs, DiffersAt, FirstDiffers};
+ghost use Rattle.vme_lock.specs.Closing.{IsClosing, AreLogs, DiffersAt, FirstDiffers, IsFirstDifference};
 
 use crate::following::{are_logs, stands_at};
 use crate::held::Held;
@@ -87,9 +87,7 @@ fn find_difference<L: Rig>(
     logs: &[Log<'_>],
 ) -> Option<(Driver, u32)>
     requires { length logs.now ≡ length seats.now }
-    ensures { MatchOption result
-        (AreLogs backplane.now.history (drivers_of seats.now) logs.now)
-        (λ d. FirstDiffers backplane.now.history (drivers_of seats.now) logs.now d.0 d.1) }
+    ensures { IsFirstDifference backplane.now.history (drivers_of seats.now) logs.now result }
 {
     if are_logs(backplane, seats, logs) {
         None
@@ -105,9 +103,7 @@ fn first_difference<L: Rig>(
     logs: &[Log<'_>],
 ) -> Option<(Driver, u32)>
     requires { length logs.now ≡ length seats.now }
-    ensures { MatchOption result
-        (AreLogs backplane.now.history (drivers_of seats.now) logs.now)
-        (λ d. FirstDiffers backplane.now.history (drivers_of seats.now) logs.now d.0 d.1) }
+    ensures { IsFirstDifference backplane.now.history (drivers_of seats.now) logs.now result }
 {
     match (seats, logs) {
         ([seat, seats @ ..], [log, logs @ ..]) => {

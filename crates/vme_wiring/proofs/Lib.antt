@@ -26,7 +26,7 @@ pub mod JudgedParts
 pub mod Fresh
 -- what the fields say of the edges that are considered: `Wiring::next_board`, `wanted`
 pub mod ConsideredReads
--- what a part answers by its own fields: `Board::ask_requester`, `ask_master`, `ask_interrupter`
+-- what a part answers by its own fields: `Board::may`
 pub mod PartAnswers
 -- who waits has no edge that the rules allow: `Wiring::is_waiting` and the parts of it
 pub mod NoOffers

@@ -10,7 +10,6 @@ ghost use Rattle.vme_requester.specs.Local.{requester_of, is_requesters};
 ghost use Rattle.vme_master.specs.Local.{master_of, is_masters};
 ghost use Rattle.vme_interrupter.specs.Local.{is_interrupters};
 ghost use Rattle.vme_wiring.specs.Asked.{asked, asked_guard, seen_by, IsAsked};
-ghost use Rattle.vme_wiring.specs.declared.chains.Chains.{Chains as ChainsValue};
 
 use crate::chains::Chains;
 use vme_interrupter::Interrupter;
@@ -121,81 +120,39 @@ impl Board {
         !self.is_low(Wire::Addr) || self.is_low(Wire::AddressStrobe)
     }
 
-    /// E2 and E3 for an edge of its requester's.
-    #[inline(always)]
-    fn ask_requester(&self, edge: Edge, pins: &Pins, chains: &Chains) -> Result<(), Refused>
-        ensures { OfParts self.now (λ version p h r.
-            IsAsked p h r (seen_by chains.now pins.now self.now.row) edge
-            → is_requesters edge.wire ≡ true → result ≡ asked version p h edge) }
-    {
-        match &self.requester {
-            Some(requester) => match edge.wire {
-                Wire::Br => requester.may_request(edge.fall),
-                Wire::BgOut => requester.may_pass(edge.fall, chains.grant_in(&self.row)),
-                Wire::Bbsy => {
-                    let grant_in = chains.grant_in(&self.row);
-                    requester.may_hold(edge.fall, pins, grant_in, self.is_address_free())
-                }
-                _ => Err(Refused::NoSuchDriver),
-            },
-            None => Err(Refused::NoSuchDriver),
-        }
-    }
-
-    /// E2 and E3 for an edge of its master's.
-    #[inline(always)]
-    fn ask_master(&self, edge: Edge, pins: &Pins) -> Result<(), Refused>
-        ensures { OfParts self.now (λ version p h r. (chains : ChainsValue)
-            → IsAsked p h r (seen_by chains pins.now self.now.row) edge
-            → is_masters edge.wire ≡ true → result ≡ asked version p h edge) }
-    {
-        match &self.master {
-            Some(master) => match edge.wire {
-                Wire::Addr => {
-                    let holds_bus = self.is_low(Wire::Bbsy);
-                    master.may_address(edge.fall, edge.value, pins, holds_bus)
-                }
-                Wire::AddressStrobe => master.may_strobe_address(edge.fall, pins),
-                Wire::DataStrobe => master.may_strobe_data(edge.fall, pins),
-                _ => Err(Refused::NoSuchDriver),
-            },
-            None => Err(Refused::NoSuchDriver),
-        }
-    }
-
-    /// E2 and E3 for an edge of its interrupter's.
-    #[inline(always)]
-    fn ask_interrupter(&self, edge: Edge, pins: &Pins, chains: &Chains) -> Result<(), Refused>
-        ensures { OfParts self.now (λ version p h r.
-            IsAsked p h r (seen_by chains.now pins.now self.now.row) edge
-            → is_interrupters edge.wire ≡ true → result ≡ asked version p h edge) }
-    {
-        match edge.wire {
-            Wire::Irq => self.interrupter.may_request(edge.fall),
-            Wire::IackOut => {
-                let iack_in = chains.iack_in(&self.row);
-                self.interrupter.may_pass(edge.fall, pins, iack_in)
-            }
-            Wire::Dtack => {
-                let iack_in = chains.iack_in(&self.row);
-                self.interrupter.may_answer(edge.fall, pins, iack_in)
-            }
-            _ => Err(Refused::NoSuchDriver),
-        }
-    }
-
-    /// E2 and E3 for an edge of one of its wires, by the part that drives it.
+    /// E2 and E3 for an edge of one of its wires, by the part that drives it. E1 comes first, so that it is asked for no
+    /// other.
     #[inline(always)]
     pub fn may(&self, edge: Edge, pins: &Pins, chains: &Chains) -> Result<(), Refused>
         ensures { OfParts self.now (λ version p h r.
             IsAsked p h r (seen_by chains.now pins.now self.now.row) edge
             → result ≡ asked version p h edge) }
     {
-        match edge.wire {
-            Wire::Br | Wire::BgOut | Wire::Bbsy => self.ask_requester(edge, pins, chains),
-            Wire::Addr | Wire::AddressStrobe | Wire::DataStrobe => self.ask_master(edge, pins),
-            Wire::Irq | Wire::IackOut | Wire::Dtack => self.ask_interrupter(edge, pins, chains),
-            Wire::Bg(_) | Wire::Bclr | Wire::Iack | Wire::Berr => Err(Refused::NoSuchDriver),
+        match (edge.wire, &self.requester, &self.master) {
+            (Wire::Br, Some(requester), _) => requester.may_request(edge.fall),
+            (Wire::BgOut, Some(requester), _) => {
+                requester.may_pass(edge.fall, chains.grant_in(&self.row))
+            }
+            (Wire::Bbsy, Some(requester), _) => {
+                let grant_in = chains.grant_in(&self.row);
+                requester.may_hold(edge.fall, pins, grant_in, self.is_address_free())
+            }
+            (Wire::Addr, _, Some(master)) => {
+                let holds_bus = self.is_low(Wire::Bbsy);
+                master.may_address(edge.fall, edge.value, pins, holds_bus)
+            }
+            (Wire::AddressStrobe, _, Some(master)) => master.may_strobe_address(edge.fall, pins),
+            (Wire::DataStrobe, _, Some(master)) => master.may_strobe_data(edge.fall, pins),
+            (Wire::Irq, _, _) => self.interrupter.may_request(edge.fall),
+            (Wire::IackOut, _, _) => {
+                let iack_in = chains.iack_in(&self.row);
+                self.interrupter.may_pass(edge.fall, pins, iack_in)
+            }
+            (Wire::Dtack, _, _) => {
+                let iack_in = chains.iack_in(&self.row);
+                self.interrupter.may_answer(edge.fall, pins, iack_in)
+            }
+            _ => Err(Refused::NoSuchDriver),
         }
     }
 

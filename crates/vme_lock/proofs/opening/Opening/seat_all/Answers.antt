@@ -1,4 +1,5 @@
-use Rattle.std.proofs.Common.{◌≡◌, arith, ap, ◌∙◌, length}
+use Rattle.std.proofs.Common.{◌≡◌, arith, ap, ◌∙◌, refl, length, get_or, slice_index}
+use Rattle.vme_model.specs.declared.signals.Driver.TheVariants.{Controller}
 use Rattle.vme_lock.proofs.AllSeats.{seated_none, seated_more, seated_all, all_counted, driver_sits}
 use Rattle.vme_lock.proofs.opening.Opening.seat_all.Goals as goal
 
