@@ -78,36 +78,45 @@ pub fn rule_fails_by_its_conditions()
         (unsettled version p h w fall ≡ []) ↔ ((settling version p h w fall).1 ≡ true) }
 {}
 
-/// The open edges of a driver are all edges of it that would be accepted after the history, and no others.
+/// The open edges of a driver are all edges of it that would be accepted after the history, and no
+/// others.
 pub fn open_edges_are_all_that_is_allowed()
     ensures { (b : State) (d : Driver) → IsAllThatIsAllowed b d (open_edges b d) }
 {}
 
-/// The numbered edges of a trace are those that are kept of it, and each is the edge of the trace that has its number.
+/// The numbered edges of a trace are those that are kept of it, and each is the edge of the trace
+/// that has its number.
 pub fn numbered_edges_are_kept()
-    ensures kept { (b : State) (es : List Edge) → b.history ≡ [] → edges_in (numbered b es) ≡ (kept b es).history }
+    ensures kept { (b : State) (es : List Edge) → b.history ≡ []
+        → edges_in (numbered b es) ≡ (kept b es).history }
     ensures numbers { (b : State) (es : List Edge) → All (λ m. IsNth es m.0 m.1) (numbered b es) }
 {}
 
-/// A wire that is low has an edge since which it is; an interrupt request was served, and a data strobe fell in this
-/// cycle, exactly where an edge is told.
+/// A wire that is low has an edge since which it is; an interrupt request was served, and a data
+/// strobe fell in this cycle, exactly where an edge is told.
 pub fn what_is_so_has_its_edge()
-    ensures low { (k : Numbered) (d : Driver) (w : Wire) → drive (edges_in k) d w ≡ true → is_some (since k d w) ≡ true }
-    ensures served { (p : Plan) (k : Numbered) (d : Driver) (kind : IrqKind) → is_some (served_since p k d kind) ≡ served_since_request p (edges_in k) d kind }
-    ensures strobed { (k : Numbered) (d : Driver) → is_some (strobed_at k d) ≡ has_strobed (edges_in k) d }
+    ensures low { (k : Numbered) (d : Driver) (w : Wire) → drive (edges_in k) d w ≡ true
+        → is_some (since k d w) ≡ true }
+    ensures served { (p : Plan) (k : Numbered) (d : Driver) (kind : IrqKind) →
+        is_some (served_since p k d kind) ≡ served_since_request p (edges_in k) d kind }
+    ensures strobed { (k : Numbered) (d : Driver) →
+        is_some (strobed_at k d) ≡ has_strobed (edges_in k) d }
 {}
 
 /// An edge is accepted exactly where every condition that is told of it holds.
 pub fn why_tells_the_verdict()
-    ensures { (b : State) (k : Numbered) (e : Edge) → is_ok (verdict b e) ≡ list_all (λ r. r.tested.holds) (why b k e) }
+    ensures { (b : State) (k : Numbered) (e : Edge) →
+        is_ok (verdict b e) ≡ list_all (λ r. r.tested.holds) (why b k e) }
 {}
 
-/// The slot that is told as the holder holds the bus. The grant that is told stands at its slot, which has neither passed
-/// it on nor taken it, and where none is told none stands anywhere.
+/// The slot that is told as the holder holds the bus. The grant that is told stands at its slot,
+/// which has neither passed it on nor taken it, and where none is told none stands anywhere.
 pub fn bus_stands_where_it_is_told()
     ensures holder { (p : Plan) (h : List Edge) (s : ℕ) → holder p h ≡ Some s → Holds h s }
-    ensures grant { (p : Plan) (h : List Edge) (n s : ℕ) → grant_at p h ≡ Some (n, s) → Travels p h n s }
-    ensures none { (p : Plan) (h : List Edge) → grant_at p h ≡ None → (n s : ℕ) → Travels p h n s → ⊥ }
+    ensures grant { (p : Plan) (h : List Edge) (n s : ℕ) →
+        grant_at p h ≡ Some (n, s) → Travels p h n s }
+    ensures none { (p : Plan) (h : List Edge) →
+        grant_at p h ≡ None → (n s : ℕ) → Travels p h n s → ⊥ }
 {}
 
 /// Of a driver's accesses all are open or none, so that one word tells them.
