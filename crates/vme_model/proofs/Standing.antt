@@ -1,8 +1,8 @@
 -- Where the bus is told to stand, it does, and accesses are open together.
-use Rattle.std.proofs.Common.{◌≡◌, ◌∙◌, ℕ, zero, suc, ◌<◌, ◌≤◌, Bool, true, false, List, [], ◌∷◌, ◌++◌, Option, Some, None, Ok, refl, sym, ap, subst, arith}
+use Rattle.std.proofs.Common.{◌≡◌, ◌∙◌, ℕ, zero, suc, ◌<◌, Bool, true, false, List, [], ◌∷◌, ◌++◌, Some, None, Ok, refl, sym, ap, subst, arith}
 use Rattle.std.specs.Prelude.{◌&&◌, not, if◌then◌else◌, find, map}
-use Rattle.std.specs.List.{All, Contains, flat_map}
-use Rattle.std.proofs.lemmas.List.Elements.{All-contains, All-append, All-cons, All-nil, Contains-append_right}
+use Rattle.std.specs.List.{All, Contains}
+use Rattle.std.proofs.lemmas.List.Elements.{All-contains, All-append, All-cons, All-nil}
 use Rattle.vme_model.specs.declared.refusals.Refused.TheVariants.{NoSuchDriver, NotSettled, TraceFull}
 use Rattle.vme_model.specs.declared.conditions.Condition.TheVariants.{HasDriver}
 use Rattle.vme_model.specs.declared.signals.Driver.{Driver}

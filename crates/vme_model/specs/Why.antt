@@ -77,7 +77,8 @@ reason_lines b e r =
 -- the first line: the number of the edge, the edge, and its verdict
 abbrev pub edge_verdict : ℕ → State → Edge → List ℕ
 edge_verdict n b e =
-    ((((decimal n ++ codes " ") ++ spelling e) ++ codes " ") ++ verdict_text (answer b e)) ++ 10 ∷ []
+    ((((decimal n ++ codes " ") ++ spelling e) ++ codes " ") ++ verdict_text (answer b e))
+    ++ 10 ∷ []
 
 -- the block of the n-th edge of a trace, where k numbers the accepted edges before it
 abbrev pub why_text : ℕ → State → Numbered → Edge → List ℕ

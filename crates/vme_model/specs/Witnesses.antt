@@ -61,7 +61,8 @@ low b k w = map (λ d. seen b k d w) (filter (holds_low b w) (drivers b.plan))
 -- the controller's grants that are low (chapter 3)
 abbrev pub low_grants : State → Numbered → List Witness
 low_grants b k =
-    map (λ n. seen b k Controller (Bg n)) (filter (λ n. drive b.history Controller (Bg n)) bus_numbers)
+    map (λ n. seen b k Controller (Bg n))
+    (filter (λ n. drive b.history Controller (Bg n)) bus_numbers)
 
 -- who requests the bus, each with its level (chapter 3)
 abbrev pub requests : State → Numbered → List Witness
@@ -82,7 +83,8 @@ picked b =
 abbrev pub interrupts : State → Numbered → ℕ → List Witness
 interrupts b k level =
     map (λ d. seen b k d Irq)
-    (filter (λ d. option_map_or (interrupts_on level) (board_of b.plan d) false && drive b.history d Irq)
+    (filter
+    (λ d. option_map_or (interrupts_on level) (board_of b.plan d) false && drive b.history d Irq)
     (drivers b.plan))
 
 -- a segment of a daisy chain: the controller's, or that of a slot (chapters 3 and 4)
@@ -93,14 +95,16 @@ segment_at b k c (Some s) = seen b k (Slot s) (out_wire c)
 -- the segment at the board's input of its grant chain, and of the acknowledge chain
 abbrev pub grant_input : State → Numbered → Driver → List Witness
 grant_input b k d =
-    option_to_list (option_and_then (λ r. option_map (λ q.
-    segment_at b k (grant_chain q.level) (upstream b.plan (grant_chain q.level) r.slot)) r.requester)
+    option_to_list (option_and_then (λ r. option_map
+    (λ q. segment_at b k (grant_chain q.level) (upstream b.plan (grant_chain q.level) r.slot))
+    r.requester)
     (board_of b.plan d))
 
 abbrev pub acknowledge_input : State → Numbered → Driver → List Witness
 acknowledge_input b k d =
-    option_to_list (option_and_then (λ r. option_map (λ i.
-    segment_at b k chain.Iack (upstream b.plan chain.Iack r.slot)) r.interrupter)
+    option_to_list (option_and_then (λ r. option_map
+    (λ i. segment_at b k chain.Iack (upstream b.plan chain.Iack r.slot))
+    r.interrupter)
     (board_of b.plan d))
 
 -- the last segment of a chain

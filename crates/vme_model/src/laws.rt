@@ -97,15 +97,16 @@ pub fn open_edges_are_all_that_is_allowed()
     ensures { (b : State) (d : Driver) → IsAllThatIsAllowed b d (open_edges b d) }
 {}
 
-/// The numbered edges of a trace are those that are kept of it, and each is the edge of the trace that has its number.
+/// The numbered edges of a trace are those that are kept of it, and each is the edge of the trace
+/// that has its number.
 pub fn numbered_edges_are_kept()
     ensures kept { (b : State) (es : List Edge) → b.history ≡ [] →
         edges_in (numbered b es) ≡ (kept b es).history }
     ensures numbers { (b : State) (es : List Edge) → All (λ m. IsNth es m.0 m.1) (numbered b es) }
 {}
 
-/// A wire that is low has an edge since which it is; an interrupt request was served, and a data strobe fell in this
-/// cycle, exactly where an edge is told.
+/// A wire that is low has an edge since which it is; an interrupt request was served, and a data
+/// strobe fell in this cycle, exactly where an edge is told.
 pub fn what_is_so_has_its_edge()
     ensures low { (k : Numbered) (d : Driver) (w : Wire) →
         drive (edges_in k) d w ≡ true → is_some (since k d w) ≡ true }
@@ -121,12 +122,14 @@ pub fn why_tells_the_verdict()
         is_ok (verdict b e) ≡ list_all (λ r. r.tested.holds) (why b k e) }
 {}
 
-/// The slot that is told as the holder holds the bus. The grant that is told stands at its slot, which has neither passed
-/// it on nor taken it, and where none is told none stands anywhere.
+/// The slot that is told as the holder holds the bus. The grant that is told stands at its slot,
+/// which has neither passed it on nor taken it, and where none is told none stands anywhere.
 pub fn bus_stands_where_it_is_told()
     ensures holder { (p : Plan) (h : List Edge) (s : ℕ) → holder p h ≡ Some s → Holds h s }
-    ensures grant { (p : Plan) (h : List Edge) (n s : ℕ) → grant_at p h ≡ Some (n, s) → Travels p h n s }
-    ensures none { (p : Plan) (h : List Edge) → grant_at p h ≡ None → (n s : ℕ) → Travels p h n s → ⊥ }
+    ensures grant { (p : Plan) (h : List Edge) (n s : ℕ) →
+        grant_at p h ≡ Some (n, s) → Travels p h n s }
+    ensures none { (p : Plan) (h : List Edge) →
+        grant_at p h ≡ None → (n s : ℕ) → Travels p h n s → ⊥ }
 {}
 
 /// Of a driver's accesses all are open or none, so that one word tells them.

@@ -115,7 +115,8 @@ fn moved_text(edge: &Edge) -> ArrayVec<u8, TEXT>
 }
 
 impl Condition {
-    /// How it is spelled of a well-formed edge, by the board in the edge's slot and by what is shown before the edge.
+    /// How it is spelled of a well-formed edge, by the board in the edge's slot and by what is shown
+    /// before the edge.
     pub fn text(self, edge: &Edge, board: Option<Row>, shown: Option<Cycle>) -> ArrayVec<u8, TEXT>
         requires { IsTrue (is_well_formed edge.now) }
         ensures { result.items ≡ condition_text self edge.now board shown }

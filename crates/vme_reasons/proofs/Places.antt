@@ -10,7 +10,7 @@ use Rattle.vme_model.specs.declared.signals.Edge.{Edge}
 use Rattle.vme_model.specs.Signals.{is_same_driver, is_same_wire, is_edge_of, has_wire, is_slot}
 use Rattle.vme_model.specs.Offers.{wires}
 use Rattle.vme_model.proofs.Bools.{same_number}
-use Rattle.vme_marks.specs.Marks.{driver_place, wire_place, place}
+use Rattle.vme_reasons.specs.Marks.{driver_place, wire_place, place}
 
 grant_there : (level : ℕ) → has_wire Controller (Bg level) ≡ true → get_or (wires Controller) level Br ≡ Bg level
 grant_there zero h = refl

@@ -1,7 +1,7 @@
 //! Where a driver's wire has its number.
 ghost use Rattle.std.specs.Prelude.{◌≡◌, ◌<◌, IsTrue};
 ghost use Rattle.vme_model.specs.Signals.{has_wire};
-ghost use Rattle.vme_marks.specs.Marks.{driver_place, wire_place, place};
+ghost use Rattle.vme_reasons.specs.Marks.{driver_place, wire_place, place};
 
 use vme_model::{Driver, Wire};
 

@@ -1,11 +1,11 @@
 //! The numbers, moved at each accepted edge.
-ghost use Rattle.std.specs.Prelude.{◌≡◌, ◌<◌, ◌∷◌, [], ℕ, IsTrue, slice_index_or, set, None};
+ghost use Rattle.std.specs.Prelude.{◌≡◌, ◌<◌, ◌^◌, ◌∷◌, [], ℕ, IsTrue, slice_index_or, set, None};
 ghost use Rattle.vme_model.specs.declared.signals.Driver.TheVariants.{Slot};
 ghost use Rattle.vme_model.specs.Signals.{has_wire, is_well_formed};
 ghost use Rattle.vme_model.specs.Plan.{Plan};
-ghost use Rattle.vme_model.specs.History.{serves, shown};
+ghost use Rattle.vme_model.specs.History.{cycles, serves, shown};
 ghost use Rattle.vme_model.specs.Numbered.{Numbered, edges_in, since, granted_since, served_since, strobed_at};
-ghost use Rattle.vme_marks.specs.Marks.{strobe_after, served_after};
+ghost use Rattle.vme_reasons.specs.Marks.{strobe_after, served_after, made_after};
 
 use crate::places::{WIRES, place};
 use vme_model::{Cycle, Driver, Edge, IrqKind, Wire};
@@ -27,6 +27,8 @@ pub struct Marks {
     // by slot, the first answer since the last `irq-` to an acknowledge, and to an access
     pub(crate) acknowledged: [Option<u64>; DRIVERS],
     pub(crate) accessed: [Option<u64>; DRIVERS],
+    // by slot, the `as-` since the last `bbsy-`
+    pub(crate) made: [u64; DRIVERS],
 }
 
 /// The `ds-` of a board's cycle after a fall of one of its wires.
@@ -67,8 +69,19 @@ fn served_after(
     }
 }
 
+/// The cycles of a board's tenure after a fall of one of its wires.
+fn made_after(wire: Wire, before: u64) -> u64
+    ensures { result ≡ made_after wire before }
+{
+    match wire {
+        Wire::Bbsy => 0,
+        Wire::AddressStrobe => before.saturating_add(1),
+        _ => before,
+    }
+}
+
 impl Marks {
-    ghost use Rattle.vme_marks.specs.Marked.{IsMarksOf, OfNumbered};
+    ghost use Rattle.vme_reasons.specs.Marked.{IsMarksOf, OfNumbered};
 
     /// Those of a trace before its first edge.
     pub fn new() -> Marks
@@ -80,6 +93,7 @@ impl Marks {
             strobes: [None; DRIVERS],
             acknowledged: [None; DRIVERS],
             accessed: [None; DRIVERS],
+            made: [0; DRIVERS],
         }
     }
 
@@ -93,12 +107,14 @@ impl Marks {
             (served_after IrqKind.Roak wire n shown (slice_index_or self.old.acknowledged slot None)) }
         ensures accessed { self.new.accessed ≡ set self.old.accessed slot
             (served_after IrqKind.Rora wire n shown (slice_index_or self.old.accessed slot None)) }
+        ensures made { self.new.made ≡ set self.old.made slot (made_after wire (slice_index_or self.old.made slot 0)) }
     {
         let slot = usize::from(slot);
         self.strobes[slot] = strobe_after(wire, n, self.strobes[slot]);
         self.acknowledged[slot] =
             served_after(IrqKind::Roak, wire, n, shown, self.acknowledged[slot]);
         self.accessed[slot] = served_after(IrqKind::Rora, wire, n, shown, self.accessed[slot]);
+        self.made[slot] = made_after(wire, self.made[slot]);
     }
 
     /// Takes in an accepted edge with its number in the trace, and what is shown just before it.
@@ -148,5 +164,13 @@ impl Marks {
         ensures { OfNumbered self.now (λ _ k. result ≡ strobed_at k (Slot slot)) }
     {
         self.strobes[usize::from(slot)]
+    }
+
+    /// How many cycles a slot below 22 began since its last `bbsy-`, where they are below 2^64.
+    pub fn made(&self, slot: u8) -> u64
+        requires { slot < 22 }
+        ensures { OfNumbered self.now (λ _ k. cycles (edges_in k) (Slot slot) < 2 ^ 64 → result ≡ cycles (edges_in k) (Slot slot)) }
+    {
+        self.made[usize::from(slot)]
     }
 }

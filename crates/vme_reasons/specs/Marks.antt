@@ -1,5 +1,5 @@
 -- Where each number stands, and how a fall of a board's wire moves those of its board.
-use Rattle.std.specs.Prelude.{◌+◌, ◌*◌, ℕ, if◌then◌else◌, Option, Some, None}
+use Rattle.std.specs.Prelude.{◌+◌, ◌-◌, ◌*◌, ◌^◌, min, ℕ, if◌then◌else◌, Option, Some, None}
 use Rattle.std.specs.Option.{option_or}
 use Rattle.vme_model.specs.declared.boards.IrqKind.{IrqKind}
 use Rattle.vme_model.specs.declared.signals.Driver.{Driver}
@@ -43,3 +43,9 @@ abbrev pub served_after : IrqKind → Wire → ℕ → Option Cycle → Option �
 served_after kind Irq n v before = None
 served_after kind Dtack n v before = option_or before (if serves kind v then Some n else None)
 served_after kind w n v before = before
+
+-- how many cycles the board has begun in its tenure; a count stays at its greatest value
+abbrev pub made_after : Wire → ℕ → ℕ
+made_after Bbsy made = 0
+made_after AddressStrobe made = min (made + 1) (2 ^ 64 - 1)
+made_after w made = made
