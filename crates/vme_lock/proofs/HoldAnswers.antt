@@ -16,7 +16,7 @@ use Rattle.vme_lock.specs.declared.views.View.{View}
 use Rattle.vme_lock.specs.declared.views.Turn.{Turn}
 use Rattle.vme_lock.specs.declared.views.EdgeRefused.TheVariants as refused
 use Rattle.vme_lock.specs.Seats.{Place}
-use Rattle.vme_lock.specs.Holds.{is_lost, lost, view_of, look_answer, turn_of, turn_answer, edge_answer, by_step}
+use Rattle.vme_lock.specs.Holds.{is_lost, loss_of, view_of, look_answer, turn_of, turn_answer, edge_answer, by_step}
 
 other : (a b : ℕ) → a ≢ b → (a == b) ≡ false
 other a b apart = grind (arith, nat_tests)
@@ -31,7 +31,7 @@ is_lost-same b s same = ap not (eq-eqb (count b.history s.driver) s.made same)
 pub look_lost : (b : State) (s : Place) (own : ℕ) → own ≡ count b.history s.driver → own ≢ s.made → Err (record { own = own }) ≡ look_answer b s
 look_lost b s own is apart =
     let read : is_lost b s ≡ true = is_lost-other b s (λ same. apart (is ∙ same)) in
-    let found : look_answer b s ≡ Err (lost b s) = ap (λ (x : Bool). if x then Err (lost b s) else Ok (view_of b s.driver)) read in
+    let found : look_answer b s ≡ Err (loss_of b s) = ap (λ (x : Bool). if x then Err (loss_of b s) else Ok (view_of b s.driver)) read in
     sym (found ∙ ap (λ (n : ℕ). Err (record { own = n })) (sym is))
 
 pub seen_is : (b : State) (d : Driver) (v : View) → v.pins ≡ pins b.plan b.history d → v.offers.items ≡ offered b d → v.own ≡ count b.history d → v.total ≡ length b.history → v ≡ view_of b d
@@ -40,14 +40,14 @@ seen_is b d v pins offers own total = λ i. record { pins = pins i; offers = rec
 -- the seat's number
 pub look_seen : (b : State) (s : Place) (v : View) → v ≡ view_of b s.driver → count b.history s.driver ≡ s.made → Ok v ≡ look_answer b s
 look_seen b s v is same =
-    let found : look_answer b s ≡ Ok (view_of b s.driver) = ap (λ (x : Bool). if x then Err (lost b s) else Ok (view_of b s.driver)) (is_lost-same b s same) in
+    let found : look_answer b s ≡ Ok (view_of b s.driver) = ap (λ (x : Bool). if x then Err (loss_of b s) else Ok (view_of b s.driver)) (is_lost-same b s same) in
     ap (λ (x : View). Ok x) is ∙ sym found
 
 -- the same of a turn
 pub turn_lost : (b : State) (s : Place) (t own : ℕ) → own ≡ count b.history s.driver → own ≢ s.made → Err (record { own = own }) ≡ turn_answer b s t
 turn_lost b s t own is apart =
     let read : is_lost b s ≡ true = is_lost-other b s (λ same. apart (is ∙ same)) in
-    let found : turn_answer b s t ≡ Err (lost b s) = ap (λ (x : Bool). if x then Err (lost b s) else Ok (turn_of b s.driver t)) read in
+    let found : turn_answer b s t ≡ Err (loss_of b s) = ap (λ (x : Bool). if x then Err (loss_of b s) else Ok (turn_of b s.driver t)) read in
     sym (found ∙ ap (λ (n : ℕ). Err (record { own = n })) (sym is))
 
 pub turn_is : (b : State) (d : Driver) (t : ℕ) (v : Turn) → v.offer ≡ slice_get (offered b d) (t % length (offered b d)) → v.total ≡ length b.history → v ≡ turn_of b d t
@@ -55,7 +55,7 @@ turn_is b d t v offer total = λ i. record { offer = offer i; total = total i }
 
 pub turn_seen : (b : State) (s : Place) (t : ℕ) (v : Turn) → v ≡ turn_of b s.driver t → count b.history s.driver ≡ s.made → Ok v ≡ turn_answer b s t
 turn_seen b s t v is same =
-    let found : turn_answer b s t ≡ Ok (turn_of b s.driver t) = ap (λ (x : Bool). if x then Err (lost b s) else Ok (turn_of b s.driver t)) (is_lost-same b s same) in
+    let found : turn_answer b s t ≡ Ok (turn_of b s.driver t) = ap (λ (x : Bool). if x then Err (loss_of b s) else Ok (turn_of b s.driver t)) (is_lost-same b s same) in
     ap (λ (x : Turn). Ok x) is ∙ sym found
 
 -- a driver's edges are no more than all
@@ -66,7 +66,7 @@ own_within b d = count_by-le-length (λ e. is_same_driver e.driver d) b.history
 pub seen : (b : State) (s : Place) (v : View) → Ok v ≡ look_answer b s → (v.own ≡ s.made) × (v.own ≤ v.total)
 seen b s v is = go (count b.history s.driver == s.made) refl is
   where
-    go : (x : Bool) → (count b.history s.driver == s.made) ≡ x → Ok v ≡ (if not x then Err (lost b s) else Ok (view_of b s.driver)) → (v.own ≡ s.made) × (v.own ≤ v.total)
+    go : (x : Bool) → (count b.history s.driver == s.made) ≡ x → Ok v ≡ (if not x then Err (loss_of b s) else Ok (view_of b s.driver)) → (v.own ≡ s.made) × (v.own ≤ v.total)
     go true same is =
         let here : v ≡ view_of b s.driver = cc in
         let number : count b.history s.driver ≡ s.made = grind (arith, nat_tests) in
@@ -77,7 +77,7 @@ seen b s v is = go (count b.history s.driver == s.made) refl is
 pub turn_within : (b : State) (s : Place) (t : ℕ) (v : Turn) → Ok v ≡ turn_answer b s t → s.made ≤ v.total
 turn_within b s t v is = go (count b.history s.driver == s.made) refl is
   where
-    go : (x : Bool) → (count b.history s.driver == s.made) ≡ x → Ok v ≡ (if not x then Err (lost b s) else Ok (turn_of b s.driver t)) → s.made ≤ v.total
+    go : (x : Bool) → (count b.history s.driver == s.made) ≡ x → Ok v ≡ (if not x then Err (loss_of b s) else Ok (turn_of b s.driver t)) → s.made ≤ v.total
     go true same is =
         let here : v ≡ turn_of b s.driver t = cc in
         let number : count b.history s.driver ≡ s.made = grind (arith, nat_tests) in
@@ -87,17 +87,17 @@ turn_within b s t v is = go (count b.history s.driver == s.made) refl is
 -- another driver's edge
 pub edge_not_yours : (b : State) (s : Place) (e : Edge) → is_same_driver e.driver s.driver ≡ false → Err refused.NotYours ≡ edge_answer b s e
 edge_not_yours b s e other =
-    sym (ap (λ (x : Bool). if not x then Err refused.NotYours else (if is_lost b s then Err (refused.Lost (lost b s)) else by_step (answer b e))) other)
+    sym (ap (λ (x : Bool). if not x then Err refused.NotYours else (if is_lost b s then Err (refused.Lost (loss_of b s)) else by_step (answer b e))) other)
 
-own_edge : (b : State) (s : Place) (e : Edge) → is_same_driver e.driver s.driver ≡ true → edge_answer b s e ≡ (if is_lost b s then Err (refused.Lost (lost b s)) else by_step (answer b e))
+own_edge : (b : State) (s : Place) (e : Edge) → is_same_driver e.driver s.driver ≡ true → edge_answer b s e ≡ (if is_lost b s then Err (refused.Lost (loss_of b s)) else by_step (answer b e))
 own_edge b s e same =
-    ap (λ (x : Bool). if not x then Err refused.NotYours else (if is_lost b s then Err (refused.Lost (lost b s)) else by_step (answer b e))) same
+    ap (λ (x : Bool). if not x then Err refused.NotYours else (if is_lost b s then Err (refused.Lost (loss_of b s)) else by_step (answer b e))) same
 
 pub edge_lost : (b : State) (s : Place) (e : Edge) (own : ℕ) → is_same_driver e.driver s.driver ≡ true → own ≡ count b.history s.driver → own ≢ s.made → Err (refused.Lost (record { own = own })) ≡ edge_answer b s e
 edge_lost b s e own same is apart =
     let read : is_lost b s ≡ true = is_lost-other b s (λ same. apart (is ∙ same)) in
-    sym (own_edge b s e same ∙ (ap (λ (x : Bool). if x then Err (refused.Lost (lost b s)) else by_step (answer b e)) read ∙ ap (λ (n : ℕ). Err (refused.Lost (record { own = n }))) (sym is)))
+    sym (own_edge b s e same ∙ (ap (λ (x : Bool). if x then Err (refused.Lost (loss_of b s)) else by_step (answer b e)) read ∙ ap (λ (n : ℕ). Err (refused.Lost (record { own = n }))) (sym is)))
 
 pub edge_stepped : (b : State) (s : Place) (e : Edge) → is_same_driver e.driver s.driver ≡ true → count b.history s.driver ≡ s.made → by_step (answer b e) ≡ edge_answer b s e
 edge_stepped b s e same number =
-    sym (own_edge b s e same ∙ ap (λ (x : Bool). if x then Err (refused.Lost (lost b s)) else by_step (answer b e)) (is_lost-same b s number))
+    sym (own_edge b s e same ∙ ap (λ (x : Bool). if x then Err (refused.Lost (loss_of b s)) else by_step (answer b e)) (is_lost-same b s number))

@@ -5,24 +5,24 @@ use Rattle.std.specs.Option.{option_map_or}
 use Rattle.std.proofs.lemmas.List.{take_more, take-append-drop}
 use Rattle.std.proofs.lemmas.Option.{slice_get-get_or}
 use Rattle.vme_model.specs.declared.signals.Edge.{Edge}
-use Rattle.vme_lock.specs.Logs.{joined, room_of}
+use Rattle.vme_lock.specs.Logs.{edges_in, room_of}
 
-pub joined-append : (xs ys : List (List Edge)) → joined (xs ++ ys) ≡ joined xs ++ joined ys
+pub joined-append : (xs ys : List (List Edge)) → edges_in (xs ++ ys) ≡ edges_in xs ++ edges_in ys
 joined-append [] ys = refl
-joined-append (x ∷ xs) ys = ap (λ (l : List Edge). x ++ l) (joined-append xs ys) ∙ sym (append_assoc x (joined xs) (joined ys))
+joined-append (x ∷ xs) ys = ap (λ (l : List Edge). x ++ l) (joined-append xs ys) ∙ sym (append_assoc x (edges_in xs) (edges_in ys))
 
 -- an empty page more
-pub joined_page : (pages : List (List Edge)) → joined (pages ++ [] ∷ []) ≡ joined pages
-joined_page pages = joined-append pages ([] ∷ []) ∙ append-nil (joined pages)
+pub joined_page : (pages : List (List Edge)) → edges_in (pages ++ [] ∷ []) ≡ edges_in pages
+joined_page pages = joined-append pages ([] ∷ []) ∙ append-nil (edges_in pages)
 
 -- one edge more in the last page
-pub joined-set : (pages : List (List Edge)) (n : ℕ) (page : List Edge) (e : Edge) → n + 1 ≡ length pages → get_or pages n page ≡ page → joined (set pages n (page ++ e ∷ [])) ≡ joined pages ++ e ∷ []
+pub joined-set : (pages : List (List Edge)) (n : ℕ) (page : List Edge) (e : Edge) → n + 1 ≡ length pages → get_or pages n page ≡ page → edges_in (set pages n (page ++ e ∷ [])) ≡ edges_in pages ++ e ∷ []
 joined-set [] n page e last is = absurd (omega arith)
 joined-set (x ∷ []) zero page e last is =
     append-nil (page ++ e ∷ []) ∙ (ap (λ (l : List Edge). l ++ e ∷ []) (sym is) ∙ ap (λ (l : List Edge). l ++ e ∷ []) (sym (append-nil x)))
 joined-set (x ∷ y ∷ pages) zero page e last is = absurd (omega arith)
 joined-set (x ∷ pages) (suc n) page e last is =
-    ap (λ (l : List Edge). x ++ l) (joined-set pages n page e (omega arith) is) ∙ sym (append_assoc x (joined pages) (e ∷ []))
+    ap (λ (l : List Edge). x ++ l) (joined-set pages n page e (omega arith) is) ∙ sym (append_assoc x (edges_in pages) (e ∷ []))
 
 -- the room of an empty page after the others
 pub room_page : (pages : List (List Edge)) → room_of (pages ++ [] ∷ []) ≡ 256
@@ -48,12 +48,12 @@ some_page [] room = absurd (omega arith)
 some_page (x ∷ pages) room = omega arith
 
 -- the next page
-pub joined-next : (pages : List (List Edge)) (i : ℕ) (page : List Edge) → i < length pages → page ≡ get_or pages i page → joined (take (i + 1) pages) ≡ joined (take i pages) ++ page
+pub joined-next : (pages : List (List Edge)) (i : ℕ) (page : List Edge) → i < length pages → page ≡ get_or pages i page → edges_in (take (i + 1) pages) ≡ edges_in (take i pages) ++ page
 joined-next pages i page lt is =
-    ap joined (take_more pages i page lt) ∙ (joined-append (take i pages) (get_or pages i page ∷ []) ∙ (ap (λ (l : List Edge). joined (take i pages) ++ l) (append-nil (get_or pages i page)) ∙ ap (λ (l : List Edge). joined (take i pages) ++ l) (sym is)))
+    ap edges_in (take_more pages i page lt) ∙ (joined-append (take i pages) (get_or pages i page ∷ []) ∙ (ap (λ (l : List Edge). edges_in (take i pages) ++ l) (append-nil (get_or pages i page)) ∙ ap (λ (l : List Edge). edges_in (take i pages) ++ l) (sym is)))
 
-pub joined-front : (pages : List (List Edge)) (i : ℕ) (page : List Edge) → i < length pages → page ≡ get_or pages i page → length (joined (take i pages)) + length page ≤ length (joined pages)
+pub joined-front : (pages : List (List Edge)) (i : ℕ) (page : List Edge) → i < length pages → page ≡ get_or pages i page → length (edges_in (take i pages)) + length page ≤ length (edges_in pages)
 joined-front pages i page lt is =
-    let front = ap length (joined-next pages i page lt is) ∙ length-append (joined (take i pages)) page in
-    let whole = ap length (sym (ap joined (take-append-drop (i + 1) pages)) ∙ joined-append (take (i + 1) pages) (drop (i + 1) pages)) ∙ length-append (joined (take (i + 1) pages)) (joined (drop (i + 1) pages)) in
+    let front = ap length (joined-next pages i page lt is) ∙ length-append (edges_in (take i pages)) page in
+    let whole = ap length (sym (ap edges_in (take-append-drop (i + 1) pages)) ∙ joined-append (take (i + 1) pages) (drop (i + 1) pages)) ∙ length-append (edges_in (take (i + 1) pages)) (edges_in (drop (i + 1) pages)) in
     omega (arith, front, whole)

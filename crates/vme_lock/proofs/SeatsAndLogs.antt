@@ -3,9 +3,9 @@ use Rattle.std.proofs.Common.{◌≡◌, ◌<◌, ℕ, List, [], ◌∷◌, ◌+
 use Rattle.std.proofs.Math.Seq.{map-set_same}
 use Rattle.vme_model.specs.declared.signals.Driver.{Driver}
 use Rattle.vme_model.specs.declared.signals.Edge.{Edge}
-use Rattle.vme_lock.specs.Seats.{Place, worked, AllWorked, drivers_of}
+use Rattle.vme_lock.specs.Seats.{Place, seat_after, AllWorked, drivers_of}
 
-pub AllWorked-push : (seats after : List Place) (logs : List (List Edge)) (s t : Place) (log : List Edge) → AllWorked seats after logs → t ≡ worked s log → AllWorked (seats ++ s ∷ []) (after ++ t ∷ []) (logs ++ log ∷ [])
+pub AllWorked-push : (seats after : List Place) (logs : List (List Edge)) (s t : Place) (log : List Edge) → AllWorked seats after logs → t ≡ seat_after s log → AllWorked (seats ++ s ∷ []) (after ++ t ∷ []) (logs ++ log ∷ [])
 AllWorked-push [] [] [] s t log all is = (is, tt)
 AllWorked-push (x ∷ seats) (y ∷ after) (z ∷ logs) s t log all is = (all.0, AllWorked-push seats after logs s t log all.1 is)
 AllWorked-push [] [] (z ∷ logs) s t log all is = absurd all

@@ -33,12 +33,12 @@ abbrev pub is_lost : State → Place → Bool
 is_lost b s = not (count b.history s.driver == s.made)
 
 -- L5, with the driver's number of edges
-abbrev pub lost : State → Place → Lost
-lost b s = record { own = count b.history s.driver }
+abbrev pub loss_of : State → Place → Lost
+loss_of b s = record { own = count b.history s.driver }
 
 -- the answer to a look
 abbrev pub look_answer : State → Place → Result View Lost
-look_answer b s = if is_lost b s then Err (lost b s) else Ok (view_of b s.driver)
+look_answer b s = if is_lost b s then Err (loss_of b s) else Ok (view_of b s.driver)
 
 -- what a turn shows a driver: the offer at the place of the turn among all
 abbrev pub turn_of : State → Driver → ℕ → Turn
@@ -49,7 +49,7 @@ turn_of b d t = record {
 
 -- the answer to it
 abbrev pub turn_answer : State → Place → ℕ → Result Turn Lost
-turn_answer b s t = if is_lost b s then Err (lost b s) else Ok (turn_of b s.driver t)
+turn_answer b s t = if is_lost b s then Err (loss_of b s) else Ok (turn_of b s.driver t)
 
 -- what a worker makes of the answer to a turn: it ends as lost
 abbrev pub ending : Result Turn Lost → Result Turn Spent
@@ -70,7 +70,7 @@ pub record IsOwn (b : State) (s : Place) (e : Edge) : Type 0 where
 abbrev pub edge_answer : State → Place → Edge → Result (Option Delivery) EdgeRefused
 edge_answer b s e =
     if not (is_same_driver e.driver s.driver) then Err refused.NotYours
-    else if is_lost b s then Err (refused.Lost (lost b s))
+    else if is_lost b s then Err (refused.Lost (loss_of b s))
     else by_step (answer b e)
 
 -- it holds of some backplane with a legal history, which began as the one that was opened

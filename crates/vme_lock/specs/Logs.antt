@@ -12,9 +12,9 @@ pub record Filling : Type 0 where
   pub room : ℕ
 
 -- the edges of all pages
-abbrev pub joined : List (List Edge) → List Edge
-joined [] = []
-joined (page ∷ pages) = page ++ joined pages
+abbrev pub edges_in : List (List Edge) → List Edge
+edges_in [] = []
+edges_in (page ∷ pages) = page ++ edges_in pages
 
 -- what fits in the last page of 256 edges; 0 without a page
 abbrev pub room_of : List (List Edge) → ℕ

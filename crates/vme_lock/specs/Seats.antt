@@ -31,13 +31,13 @@ abbrev pub one_more : Place → Place
 one_more s = record { driver = s.driver; made = s.made + 1 }
 
 -- the seat after the edges of a log
-abbrev pub worked : Place → List Edge → Place
-worked s log = record { driver = s.driver; made = s.made + length log }
+abbrev pub seat_after : Place → List Edge → Place
+seat_after s log = record { driver = s.driver; made = s.made + length log }
 
 -- each seat worked its log
 abbrev pub AllWorked : List Place → List Place → List (List Edge) → Type 0
 AllWorked [] [] [] = Unit {0}
-AllWorked (s ∷ seats) (t ∷ after) (log ∷ logs) = (t ≡ worked s log) × AllWorked seats after logs
+AllWorked (s ∷ seats) (t ∷ after) (log ∷ logs) = (t ≡ seat_after s log) × AllWorked seats after logs
 AllWorked _ _ _ = ⊥
 
 -- no more edges than turns, nor than the history may have

@@ -119,11 +119,11 @@ pub(crate) struct Pages<'s, 'r> {
 }
 
 impl<'s, 'r> Model for Pages<'s, 'r> {
-    ghost use Rattle.vme_lock.specs.Logs.{Filling, joined, room_of};
+    ghost use Rattle.vme_lock.specs.Logs.{Filling, edges_in, room_of};
 
     ghost Value = { Filling };
 
-    ghost view = { λ p. record { edges = joined p.pages.items; room = room_of p.pages.items } };
+    ghost view = { λ p. record { edges = edges_in p.pages.items; room = room_of p.pages.items } };
 }
 
 impl<'s, 'r> Pages<'s, 'r> {

@@ -1,7 +1,7 @@
 //! One thread for each board.
 ghost use Rattle.std.specs.Prelude.{◌≡◌, ◌≤◌, [], All, IfOk, vec_len, vec_capacity};
 ghost use Rattle.std.specs.Thread.{IsSync};
-ghost use Rattle.vme_lock.specs.Seats.{worked, AllWorked, IsWithin, drivers_of};
+ghost use Rattle.vme_lock.specs.Seats.{seat_after, AllWorked, IsWithin, drivers_of};
 
 use crate::logs::{Log, Room};
 use crate::seats::{Rig, Seat, Seats};
@@ -69,7 +69,7 @@ fn run_all<'r, L: Rig + Send + Sync, G: Gate + Sync, R: Threads + Wait + Sync>(
     let ((seat, log, _), (mut seats, mut logs)) = join(
         rt,
         move || -> (Seat<L>, Log, Spent)
-            ensures worked { result.0 ≡ worked seat result.1 }
+            ensures worked { result.0 ≡ seat_after seat result.1 }
             ensures most { IsWithin bounds.turns bounds.edges result.1 }
         { work_board(rt, shared, seat, gate, bounds, room) },
         move || -> (Seats<L>, Vec<Log>)

@@ -1,6 +1,6 @@
 //! A worker: one driver's turns, in each of which it asks for one offer and makes one edge at most.
 ghost use Rattle.std.specs.Prelude.{◌≡◌, ◌≢◌, ◌+◌, ◌<◌, ◌≤◌, [], IfErr, IfOk, OnOk, length, min, true};
-ghost use Rattle.vme_lock.specs.Seats.{worked, IsWithin};
+ghost use Rattle.vme_lock.specs.Seats.{seat_after, IsWithin};
 ghost use Rattle.vme_lock.specs.Holds.{OfSome, ending, turn_answer};
 
 use crate::logs::{Log, Pages, Room};
@@ -196,7 +196,7 @@ pub fn work_board<'r, L: Rig, G: Gate, R: Wait>(
     bounds: Bounds,
     room: Room<'r>,
 ) -> (Seat<L>, Log<'r>, Spent)
-    ensures seat { result.0 ≡ worked seat result.1 }
+    ensures seat { result.0 ≡ seat_after seat result.1 }
     ensures most { IsWithin bounds.turns bounds.edges result.1 }
 {
     let Room { scratch, log } = room;

@@ -1,6 +1,6 @@
 use Rattle.std.proofs.Common.{◌<◌, ◌-◌, ◌++◌, ◌∷◌, [], arith, sym, ap, ◌∙◌, set}
 use Rattle.std.specs.Prelude.{vec_len}
-use Rattle.vme_lock.specs.Logs.{joined, room_of}
+use Rattle.vme_lock.specs.Logs.{edges_in, room_of}
 use Rattle.vme_lock.proofs.OneEdge.{never}
 use Rattle.vme_lock.proofs.LogPages.{fits, some_page, joined-set}
 use Rattle.vme_lock.proofs.logs.Pages.push.Goals as goal
@@ -21,7 +21,7 @@ returns c =
     let n = vec_len pages - 1 in
     elim c.match-last_mut.branch [
       | in-Some w ↦
-          rw w.self-inside-is (ap (λ p. joined (set pages.items n p)) w.push.ensures
+          rw w.self-inside-is (ap (λ p. edges_in (set pages.items n p)) w.push.ensures
           ∙ (joined-set pages.items n w.in-Some.page.now c.args.edge (omega (arith, some, pages.ok)) (sym w.in-Some.ensures.value)
           ∙ ap (λ f. f.edges ++ c.args.edge ∷ []) c.self.view_is))
       | in-None w ↦ absurd (never (sym (w.in-None.ensures.variant.1 (omega (arith, some, pages.ok)))))
