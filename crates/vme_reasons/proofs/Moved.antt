@@ -226,12 +226,12 @@ marks_of_other p k n e m after has of moves leaves no_own = record {
 
 pub nothing : (p : Plan) (m : Marks) → m.moves ≡ replicate 198 None → m.grant ≡ None → m.strobes ≡ replicate 22 None → m.acknowledged ≡ replicate 22 None → m.accessed ≡ replicate 22 None → m.made ≡ replicate 22 0 → IsMarksOf p [] m
 nothing p m moves grant strobes acknowledged accessed made = record {
-  wires = ap length moves ∙ length-replicate 198 None;
-  boards = (ap length strobes ∙ length-replicate 22 None, ap length acknowledged ∙ length-replicate 22 None, ap length accessed ∙ length-replicate 22 None, ap length made ∙ length-replicate 22 0);
-  moves = λ d w h. ap (λ xs. get_or xs (place d w) None) moves ∙ get_or-replicate 198 (place d w) None None (place_below d w h);
+  wires = ap length moves ∙ length-replicate {A = Option ℕ} 198 None;
+  boards = (ap length strobes ∙ length-replicate {A = Option ℕ} 22 None, ap length acknowledged ∙ length-replicate {A = Option ℕ} 22 None, ap length accessed ∙ length-replicate {A = Option ℕ} 22 None, ap length made ∙ length-replicate {A = ℕ} 22 0);
+  moves = λ d w h. ap (λ xs. get_or xs (place d w) None) moves ∙ get_or-replicate {A = Option ℕ} 198 (place d w) None None (place_below d w h);
   grant = grant;
-  strobes = λ s lt. ap (λ xs. get_or xs s None) strobes ∙ get_or-replicate 22 s None None lt;
-  acknowledged = λ s lt. ap (λ xs. get_or xs s None) acknowledged ∙ get_or-replicate 22 s None None lt;
-  accessed = λ s lt. ap (λ xs. get_or xs s None) accessed ∙ get_or-replicate 22 s None None lt;
-  made = λ s lt below. ap (λ xs. get_or xs s 0) made ∙ get_or-replicate 22 s 0 0 lt;
+  strobes = λ s lt. ap (λ xs. get_or xs s None) strobes ∙ get_or-replicate {A = Option ℕ} 22 s None None lt;
+  acknowledged = λ s lt. ap (λ xs. get_or xs s None) acknowledged ∙ get_or-replicate {A = Option ℕ} 22 s None None lt;
+  accessed = λ s lt. ap (λ xs. get_or xs s None) accessed ∙ get_or-replicate {A = Option ℕ} 22 s None None lt;
+  made = λ s lt below. ap (λ xs. get_or xs s 0) made ∙ get_or-replicate {A = ℕ} 22 s 0 0 lt;
 }
