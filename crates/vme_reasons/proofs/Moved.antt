@@ -1,8 +1,8 @@
 -- One more edge moves the marks as it moves what they stand for.
-use Rattle.std.proofs.Common.{◌≡◌, ◌∙◌, ℕ, ◌+◌, ◌-◌, ◌^◌, ◌<◌, min, Bool, true, false, List, ◌∷◌, length, get_or, set, Option, Some, None, refl, sym, ap, ap₂, subst, arith}
+use Rattle.std.proofs.Common.{◌≡◌, ◌∙◌, ℕ, ◌+◌, ◌-◌, ◌^◌, ◌<◌, min, Bool, true, false, List, [], ◌∷◌, length, get_or, set, replicate, Option, Some, None, refl, sym, ap, ap₂, subst, arith}
 use Rattle.std.specs.Prelude.{◌==◌, ◌&&◌, if◌then◌else◌}
 use Rattle.std.specs.Option.{option_or}
-use Rattle.std.proofs.lemmas.List.{get_or-set_same, get_or-set_other, length-set}
+use Rattle.std.proofs.lemmas.List.{get_or-set_same, get_or-set_other, length-set, get_or-replicate, length-replicate}
 use Rattle.vme_model.specs.declared.boards.IrqKind.{IrqKind}
 use Rattle.vme_model.specs.declared.boards.IrqKind.TheVariants.{Roak, Rora}
 use Rattle.vme_model.specs.declared.signals.Driver.{Driver}
@@ -19,7 +19,7 @@ use Rattle.vme_model.proofs.Bools.{and_left, and_right, same_number, never}
 use Rattle.vme_reasons.specs.Marks.{place, strobe_after, served_after, made_after}
 use Rattle.vme_reasons.specs.Marked.{IsMarksOf}
 use Rattle.vme_reasons.specs.declared.marks.Marks.{Marks}
-use Rattle.vme_reasons.proofs.Places.{place_below, one_place, one_wire, same_drivers, wire_is, driver_is, number_is}
+use Rattle.vme_reasons.proofs.OnePlace.{place_below, one_place, one_wire, same_drivers, wire_is, driver_is, number_is}
 
 edge_is : (e : Edge) (d : Driver) (w : Wire) → (e.driver ≡ d) × (e.wire ≡ w) → is_edge_of d w e ≡ true
 edge_is e d w same =
@@ -222,4 +222,16 @@ marks_of_other p k n e m after has of moves leaves no_own = record {
   made = λ s lt below.
       let stay = cycles_stay (edges_in k) s e (no_own s) in
       ap (λ xs. get_or xs s 0) leaves.made ∙ of.made s lt (subst (λ c. c < 2 ^ 64) stay below) ∙ sym stay;
+}
+
+pub nothing : (p : Plan) (m : Marks) → m.moves ≡ replicate 198 None → m.grant ≡ None → m.strobes ≡ replicate 22 None → m.acknowledged ≡ replicate 22 None → m.accessed ≡ replicate 22 None → m.made ≡ replicate 22 0 → IsMarksOf p [] m
+nothing p m moves grant strobes acknowledged accessed made = record {
+  wires = ap length moves ∙ length-replicate {A = Option ℕ} 198 None;
+  boards = (ap length strobes ∙ length-replicate {A = Option ℕ} 22 None, ap length acknowledged ∙ length-replicate {A = Option ℕ} 22 None, ap length accessed ∙ length-replicate {A = Option ℕ} 22 None, ap length made ∙ length-replicate {A = ℕ} 22 0);
+  moves = λ d w h. ap (λ xs. get_or xs (place d w) None) moves ∙ get_or-replicate {A = Option ℕ} 198 (place d w) None None (place_below d w h);
+  grant = grant;
+  strobes = λ s lt. ap (λ xs. get_or xs s None) strobes ∙ get_or-replicate {A = Option ℕ} 22 s None None lt;
+  acknowledged = λ s lt. ap (λ xs. get_or xs s None) acknowledged ∙ get_or-replicate {A = Option ℕ} 22 s None None lt;
+  accessed = λ s lt. ap (λ xs. get_or xs s None) accessed ∙ get_or-replicate {A = Option ℕ} 22 s None None lt;
+  made = λ s lt below. ap (λ xs. get_or xs s 0) made ∙ get_or-replicate {A = ℕ} 22 s 0 0 lt;
 }

@@ -98,36 +98,41 @@ impl Marks {
     }
 
     /// Takes in a fall of a board's wire.
-    fn note_fall(&mut self, slot: u8, wire: Wire, n: u64, shown: Option<Cycle>)
+    fn note_fall(&mut self, slot: u8, wire: Wire, n: u64, showing: Option<Cycle>)
         requires { slot < 22 }
         ensures moves { self.new.moves ≡ self.old.moves }
         ensures grant { self.new.grant ≡ self.old.grant }
         ensures strobes { self.new.strobes ≡ set self.old.strobes slot (strobe_after wire n (slice_index_or self.old.strobes slot None)) }
         ensures acknowledged { self.new.acknowledged ≡ set self.old.acknowledged slot
-            (served_after IrqKind.Roak wire n shown (slice_index_or self.old.acknowledged slot None)) }
+            (served_after IrqKind.Roak wire n showing (slice_index_or self.old.acknowledged slot None)) }
         ensures accessed { self.new.accessed ≡ set self.old.accessed slot
-            (served_after IrqKind.Rora wire n shown (slice_index_or self.old.accessed slot None)) }
+            (served_after IrqKind.Rora wire n showing (slice_index_or self.old.accessed slot None)) }
         ensures made { self.new.made ≡ set self.old.made slot (made_after wire (slice_index_or self.old.made slot 0)) }
     {
         let slot = usize::from(slot);
         self.strobes[slot] = strobe_after(wire, n, self.strobes[slot]);
-        self.acknowledged[slot] =
-            served_after(IrqKind::Roak, wire, n, shown, self.acknowledged[slot]);
-        self.accessed[slot] = served_after(IrqKind::Rora, wire, n, shown, self.accessed[slot]);
+        self.acknowledged[slot] = served_after(
+            IrqKind::Roak,
+            wire,
+            n,
+            showing,
+            self.acknowledged[slot],
+        );
+        self.accessed[slot] = served_after(IrqKind::Rora, wire, n, showing, self.accessed[slot]);
         self.made[slot] = made_after(wire, self.made[slot]);
     }
 
     /// Takes in an accepted edge with its number in the trace, and what is shown just before it.
-    pub fn note(&mut self, edge: &Edge, n: u64, shown: Option<Cycle>)
+    pub fn note(&mut self, edge: &Edge, n: u64, showing: Option<Cycle>)
         requires { IsTrue (is_well_formed edge.now) }
-        ensures { OfNumbered self.old (λ p k. shown ≡ shown p (edges_in k) → IsMarksOf p ((n, edge.now) ∷ k) self.new) }
+        ensures { OfNumbered self.old (λ p k. showing ≡ shown p (edges_in k) → IsMarksOf p ((n, edge.now) ∷ k) self.new) }
     {
         self.moves[place(edge.driver, edge.wire)] = Some(n);
         if edge.is_grant() {
             self.grant = Some(n);
         }
         match edge.driver {
-            Driver::Slot(slot) if edge.fall => self.note_fall(slot, edge.wire, n, shown),
+            Driver::Slot(slot) if edge.fall => self.note_fall(slot, edge.wire, n, showing),
             _ => {}
         }
     }

@@ -111,7 +111,7 @@ one_place d b w v h g e =
     let driver : d ≡ b = one_driver d b w v h g s.0 in
     (driver, sym (there d w h) ∙ ap₂ (λ x n. get_or (wires x) n Br) driver s.1 ∙ there b v g)
 
-number_is : (n : ℕ) → (n == n) ≡ true
+pub number_is : (n : ℕ) → (n == n) ≡ true
 number_is n = grind (nat_tests, arith)
 
 pub driver_is : (d : Driver) → is_same_driver d d ≡ true
