@@ -1,5 +1,5 @@
--- The rules of edges, as one table. (Chapters 2 to 4, with guards that are this project's profile:
--- see `rule`.)
+-- The rules of edges: the guards, each with its source and its reason, and one table of them.
+-- (Chapters 2 to 4, and this project's profile.)
 use Rattle.std.specs.Prelude.{◌==◌, ◌&&◌, ◌||◌, ◌+◌, ◌-◌, ◌%◌, ℕ, Bool, true, false, not, Option, Some, None, List, [], ◌∷◌, nat_lt, nat_le, find}
 use Rattle.std.specs.List.{list_any, list_all}
 use Rattle.std.specs.Option.{option_map_or, option_and_then}
@@ -131,7 +131,7 @@ abbrev pub bbsy_falls : Bool → Bool → Bool → Guard
 bbsy_falls grant_in bgout br =
     asks GrantInLow grant_in ⊓ asks OwnGrantOutHigh (not bgout) ⊓ asks OwnRequestLow br
 
--- RWD waits for nothing, ROR for a low BR line
+-- G14's last condition, chapter 3: RWD waits for nothing, ROR for a low BR line
 abbrev pub released : Bool → Release → Guard
 released is_asked (Done burst) = free
 released is_asked Request = asks Asked is_asked
@@ -143,12 +143,14 @@ bbsy_rises br grant_in is_address_free releasing =
     asks OwnRequestHigh (not br) ⊓ asks GrantInHigh (not grant_in)
     ⊓ asks AddressFree is_address_free ⊓ releasing
 
--- RWD has fewer cycles than its burst, ROR as many as it will
+-- G15's third condition, profile: RWD has fewer cycles than its burst, so that a tenure ends; ROR
+-- has as many as it will
 abbrev pub below_burst : ℕ → Release → Guard
 below_burst cycles (Done burst) = asks WithinBurst (nat_lt cycles burst)
 below_burst cycles Request = free
 
--- an acknowledge is of a level that the board handles and whose line is low
+-- G15's last conditions: an acknowledge is of a level that the board handles (chapter 4) and whose
+-- line is low (profile), so that a master acknowledges only what is asked of it
 abbrev pub shows : (ℕ → Bool) → (ℕ → Bool) → Option Cycle → Guard
 shows handles irq (Some (Acknowledge level)) =
     asks Handled (handles level) ⊓ asks InterruptLow (irq level)
@@ -193,7 +195,7 @@ irq_falls = free
 abbrev pub irq_rises : Bool → Guard
 irq_rises is_served = asks Served is_served
 
--- an acknowledge is shown that the board does not answer
+-- G23's last condition, chapter 4: an acknowledge is shown that the board does not answer
 abbrev pub passes : (ℕ → Bool) → Option Cycle → Guard
 passes pending (Some (Acknowledge level)) = asks NotPending (not (pending level))
 passes pending _ = asks AcknowledgeShown false
@@ -208,7 +210,8 @@ iackout_falls iack_in dtack data_strobe passing =
 abbrev pub iackout_rises : Bool → Guard
 iackout_rises address_strobe = asks AddressStrobeHigh (not address_strobe)
 
--- an acknowledge that reached the board while it is pending, or an access to its slot
+-- G25's last conditions: an acknowledge that reached the board while it is pending (chapter 4), or
+-- an access to its slot (chapter 2)
 abbrev pub answers : Bool → Bool → (ℕ → Bool) → (ℕ → Bool) → Option Cycle → Guard
 answers iack_in iackout pending is_own (Some (Acknowledge level)) =
     asks AcknowledgeInLow iack_in ⊓ asks OwnAcknowledgeOutHigh (not iackout)
@@ -226,7 +229,8 @@ dtack_falls data_strobe address_strobe answering =
 abbrev pub dtack_rises : Bool → Guard
 dtack_rises data_strobe = asks DataStrobeHigh (not data_strobe)
 
--- What they read of a driver's readings.
+-- What the guards read of a driver's readings: the same conditions, over the record of all that a
+-- rule may read.
 
 -- a PRI arbiter has the bus cleared for a request above the level last granted
 abbrev pub clear_guard : Readings → Guard
@@ -285,8 +289,9 @@ answer_guard r v =
 abbrev pub may_answer : Readings → Option Cycle → Bool
 may_answer r v = holds (answer_guard r v)
 
--- The number of the rule that names a wire and a direction, and its guard.
--- `true` is a fall, and for the address group going on; `v` is what it then shows.
+-- The table: the number of the rule that names a wire and a direction, and its guard, whose source
+-- and reason stand above it. `true` is a fall, and for the address group going on; `v` is what it
+-- then shows.
 abbrev pub guard : Version → Readings → Wire → Bool → Option Cycle → ℕ × Guard
 guard version r (Bg n) true v =
     (1, bg_falls (are_grants_high r) r.bbsy (is_pick r.arbiter r.request r.last_level n))
