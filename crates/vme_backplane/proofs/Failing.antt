@@ -1,12 +1,10 @@
 -- What an edge fails with the end of the trace, from what it fails without.
-use Rattle.std.proofs.Common.{◌≡◌, ◌∙◌, refl, sym, ap, Bool, true, false, [], ◌∷◌, List, length}
+use Rattle.std.proofs.Common.{◌≡◌, ◌∙◌, refl, sym, ap, Bool, true, false, [], ◌∷◌, length}
 use Rattle.std.specs.Prelude.{◌==◌, ◌&&◌, not, Ok, Err, is_ok}
-use Rattle.vme_model.specs.declared.conditions.Condition.{Condition}
 use Rattle.vme_model.specs.declared.conditions.Condition.TheVariants.{HasRoom}
-use Rattle.vme_model.specs.declared.refusals.Refused.{Refused}
 use Rattle.vme_model.specs.declared.refusals.Refused.TheVariants.{TraceFull}
 use Rattle.vme_model.specs.declared.signals.Edge.{Edge}
-use Rattle.vme_model.specs.Guards.{Guard, asks, ◌⊓◌}
+use Rattle.vme_model.specs.Guards.{asks, ◌⊓◌}
 use Rattle.vme_model.specs.Verdict.{State, Judgement, check, judged, verdict, verdict_but_full}
 use Rattle.vme_model.specs.Failing.{refused_for, tested_for, tested, tested_but_full, unmet, unmet_but_full}
 use Rattle.vme_backplane.proofs.Judged.{refused, passed}
