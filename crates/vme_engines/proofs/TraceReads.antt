@@ -1,23 +1,16 @@
 -- A trace, read by read.
-use Rattle.std.proofs.Common.{◌≡◌, ◌≢◌, ◌⊎◌, inl, inr, ℕ, ◌+◌, ◌-◌, ◌*◌, ◌^◌, ◌≤◌, List, [], ◌++◌, length, Bool, true, false, Option, Some, None, unwrap_or, Result, Ok, Err, refl, sym, ◌∙◌, ap, append_assoc, append-nil, subst, arith, option_map}
+use Rattle.std.proofs.Common.{◌≡◌, ◌⊎◌, inl, inr, ℕ, ◌+◌, ◌*◌, ◌^◌, ◌≤◌, List, [], ◌++◌, length, Bool, true, false, Option, Some, None, unwrap_or, Result, Ok, Err, sym, ◌∙◌, ap, append_assoc, append-nil, subst, arith, option_map}
 use Rattle.std.proofs.Math.ListN.{length-append}
-use Rattle.std.specs.Io.KnownBytes.{Appends, Consumes, IsAtEnd, Keeps}
-use Rattle.std.proofs.KnownBytes.{Appends-trans, Appends-kept, Consumes-trans, Consumes-kept}
+use Rattle.std.specs.Io.KnownBytes.{Consumes, IsAtEnd}
+use Rattle.std.proofs.KnownBytes.{Consumes-trans, Consumes-kept}
 use Rattle.vme_model.specs.declared.signals.Version.{Version}
 use Rattle.vme_model.specs.declared.signals.Edge.{Edge}
-use Rattle.vme_model.specs.Plan.{Plan}
-use Rattle.vme_model.specs.Verdict.{State, kept}
-use Rattle.vme_model.specs.Text.{Reading, TextFault, no_header, no_edge, too_long, cut_off, read_of}
-use Rattle.vme_model.specs.Report.{report, report_of, verdict_lines, closing_text, closing, accepted_count}
+use Rattle.vme_model.specs.Text.{TextFault, no_header, no_edge, too_long, cut_off, read_of}
 use Rattle.vme_trace.specs.declared.Fault.{Fault}
-use Rattle.vme_trace.specs.declared.Fault.TheVariants.{Header, Line, TooLong, CutOff, Read, Memory, Failed, Write}
+use Rattle.vme_trace.specs.declared.Fault.TheVariants.{Read, Memory, Failed, Write}
 use Rattle.vme_trace.specs.Reading as trace
-use Rattle.vme_trace.specs.Writing.{AppendsFront}
-use Rattle.vme_engines.specs.declared.Status.{Status}
-use Rattle.vme_engines.specs.Streams.{Streams, streams, IsInput, Wrote}
-use Rattle.vme_engines.specs.Outcomes.{bench, lines_of, refused_count, status_with, HasFault, CanGoOn, ReplayStops, Replays}
-use Rattle.vme_engines.specs.Steps.{IsBounded, IsCounted, Begins, Faults, Comes, ending, piece_text, TakesPiece, traced}
-use Rattle.vme_engines.proofs.WrittenLines.{front_of_all, front_of_more, front_behind, lines_append, kept_append}
+use Rattle.vme_engines.specs.Streams.{IsInput}
+use Rattle.vme_engines.specs.Steps.{IsBounded, IsCounted, Begins, Comes}
 use Rattle.vme_engines.proofs.TraceSoFar.{reads_on, few_edges, unknown_version}
 use Rattle.vme_engines.proofs.CanGoOn.{can_go_on}
 

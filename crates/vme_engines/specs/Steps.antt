@@ -20,7 +20,7 @@ use Rattle.vme_engines.specs.declared.EngineFault.TheVariants as fault
 use Rattle.vme_engines.specs.Streams.{streams, IsInput}
 use Rattle.vme_engines.specs.declared.checks.Finding.{Finding}
 use Rattle.vme_engines.specs.declared.checks.Finding.TheVariants.{Legal, Illegal}
-use Rattle.vme_engines.specs.Outcomes.{Answer, scenario_limit, bench, status_with, CanGoOn, Replays}
+use Rattle.vme_engines.specs.Outcomes.{Answer, scenario_limit, status_with, CanGoOn}
 use Rattle.vme_engines.specs.Checking.{first_refusal, IsFound, FindsNothing}
 
 -- why there is no plan

@@ -1,6 +1,5 @@
-use Rattle.std.proofs.Common.{◌≡◌, ◌-◌, ◌+◌, ◌≤◌, ◌^◌, ◌++◌, ℕ, List, [], length, Some, Ok, Err, arith, refl, sym, ◌∙◌, ap, subst, append-nil}
+use Rattle.std.proofs.Common.{◌≡◌, ◌-◌, ◌+◌, ◌≤◌, ◌^◌, ◌++◌, ℕ, [], length, Ok, Err, arith, ◌∙◌, ap, subst, append-nil}
 use Rattle.std.proofs.lemmas.Result.{err_from_is_err_and}
-use Rattle.vme_model.specs.declared.signals.Edge.{Edge}
 use Rattle.vme_engines.specs.Steps.{IsCounted}
 use Rattle.vme_engines.proofs.TraceReads.{came, stays_known, counted_few, counted_more}
 use Rattle.vme_engines.proofs.ReadOn.{IsUnderWay, answers_so, answers_unread, goes_on}
