@@ -30,10 +30,13 @@ pub struct Region {
     // All bytes, with their tags.
     granules: Granules,
     origin: Origin,
-    ghost counted: { (granules.count ≡ origin.count) × (granules.blank ≡ 0) × (0 < origin.count) × (origin.size ≤ origin.count * 16) },
-    ghost roomy: { (origin.room ≡ origin.count * 16 + rounded origin.count) × (origin.room < 2 ^ 63) },
+    ghost counted: { (granules.count ≡ origin.count) × (granules.blank ≡ 0)
+        × (0 < origin.count) × (origin.size ≤ origin.count * 16) },
+    ghost roomy: { (origin.room ≡ origin.count * 16 + rounded origin.count)
+        × (origin.room < 2 ^ 63) },
     ghost placed: { (granules.spot.at ≡ 0) × (granules.spot.tag ≡ origin.count * 16) },
-    ghost owned: { (origin.deed.alloc ≡ origin.alloc) × (origin.deed.ptr ≡ block_ptr granules.spot.block 0) × (origin.deed.size ≡ origin.room) },
+    ghost owned: { (origin.deed.alloc ≡ origin.alloc) × (origin.deed.size ≡ origin.room)
+        × (origin.deed.ptr ≡ block_ptr granules.spot.block 0) },
 }
 
 // What a region was made with. It stays while the granules are lent.
@@ -101,7 +104,7 @@ impl Region {
         Ok(Region { granules, origin })
     }
 
-    /// All of the region, to be carved anew. Whatever comes of it, the region is the same afterwards.
+    /// All of the region, to be carved anew. The region is the same once that is gone, whatever came of it.
     pub fn rest<'r>(&'r mut self) -> Rest<'r>
         ensures rest { (rest_start result ≡ 0) × (rest_left result ≡ region_size self.entry.now) }
         ensures* same { sem 𝓛 (EndsAsItWas self.entry (rest_name result)) }

@@ -57,7 +57,8 @@ bracketed p = if p.keyed then opened p else record p { here = 0; held = 0 }
 
 -- after a line feed: a pair has ended, or else a header, whose key stays; within a table or array it is as a comma
 abbrev pub broken_in : Place → List ℕ → Place
-broken_in p [] = if p.keyed then record p { keyed = false; here = p.held } else record p { held = p.here }
+broken_in p [] =
+    if p.keyed then record p { keyed = false; here = p.held } else record p { held = p.here }
 broken_in p (_ ∷ _) = record p { here = p.held }
 
 -- after a byte outside of strings and comments
