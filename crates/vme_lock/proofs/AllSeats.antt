@@ -6,7 +6,7 @@ use Rattle.std.proofs.lemmas.Bool.Decides.{nat_tests}
 use Rattle.std.proofs.lemmas.List.Sums.{sum_by-cons, sum_by-append, sum_by_push}
 use Rattle.std.specs.List.{All}
 use Rattle.std.proofs.lemmas.List.Elements.{filter-append, All-nil, All-cons, All-append, All-map, All-filter, All-get_or}
-use Rattle.std.proofs.lemmas.List.{map-append, take_more, length-map, length-take-le}
+use Rattle.std.proofs.lemmas.List.{map-append, take_more}
 use Rattle.std.proofs.Math.Seq.{take-length}
 use Rattle.vme_model.specs.declared.boards.Row.{Row}
 use Rattle.vme_model.specs.declared.refusals.Refused.TheVariants.{NoSuchDriver}
@@ -161,13 +161,6 @@ seated_more b ds n d old new made before total parts all within here seated is c
       summed = omega (arith, seated.summed, more, counted, ap (sum_by (λ d. count b.history d)) next, sum_by_push (λ d. count b.history d) (take n ds) d);
       left = omega (arith, seated.left, rest, longer);
     }
-
--- there is room for one more, and a part for it
-pub seat_free : (b : State) (ds : List Driver) (n : ℕ) (seats : List Place) (total parts : ℕ) → AreSeated b (take n ds) seats total parts → n < length ds → length ds ≤ 22 → (length seats < 22) × (0 < parts)
-seat_free b ds n seats total parts seated within few =
-    let made = ap length seated.placed ∙ length-map (seat_of b) (take n ds) in
-    let taken = length-take-le n ds (omega (arith, within)) in
-    (omega (arith, made, taken, within, few), omega (arith, seated.left, taken, within, few))
 
 -- all seats
 pub seated_all : (b : State) (ds : List Driver) (n : ℕ) (seats : List Place) (total parts : ℕ) → AreSeated b (take n ds) seats total parts → n ≡ length ds → ds ≡ drivers b.plan → AreSeated b (drivers b.plan) seats total parts
