@@ -1,4 +1,2 @@
--- each driver's wire has a place of its own
-pub mod OnePlace
--- one more edge moves the marks as it moves what they stand for
-pub mod Moved
+-- `Marks::new`: each driver's wire has a place, and before the first edge no number stands there
+pub mod Fresh

@@ -149,7 +149,8 @@ impl Marks {
     pub fn granted_since(&self) -> Option<u64>
         ensures { OfNumbered self.now (λ _ k. result ≡ granted_since k) }
     {
-        self.grant
+        let Marks { grant, .. } = self;
+        *grant
     }
 
     /// The first answer of a slot below 22, since its last `irq-`, that serves an interrupter of the kind.

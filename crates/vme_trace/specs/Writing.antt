@@ -1,8 +1,6 @@
 -- What is written.
-use Rattle.std.specs.Prelude.{◌≡◌, ◌<◌, ℕ, List, ◌∷◌, [], ◌++◌, Option}
+use Rattle.std.specs.Prelude.{◌≡◌, ℕ, List, ◌∷◌, [], ◌++◌, Option}
 use Rattle.std.specs.Io.KnownBytes.{Appends}
-use Rattle.vme_model.specs.declared.signals.Wire.{Wire}
-use Rattle.vme_model.specs.declared.signals.Wire.TheVariants.{Bg}
 use Rattle.vme_model.specs.declared.signals.Edge.{Edge}
 use Rattle.vme_model.specs.Text.{spelling}
 
@@ -14,8 +12,3 @@ edge_line e = spelling e ++ 10 ∷ []
 abbrev pub AppendsFront : Option (List ℕ) → Option (List ℕ) → List ℕ → Type 0
 AppendsFront old new bytes =
     (front : List ℕ) × (others : List ℕ) × (bytes ≡ front ++ others) × Appends old new front
-
--- a grant has a word for its level
-abbrev pub HasText : Wire → Type 0
-HasText (Bg n) = n < 4
-HasText _ = Unit {0}

@@ -3,15 +3,15 @@ ghost use Rattle.std.specs.Prelude.{◌≡◌, ◌+◌, ◌<◌, ◌≤◌, ◌+
 ghost use Rattle.std.specs.Io.KnownBytes.{Appends, Keeps};
 ghost use Rattle.arrayvec.specs.ArrayVec.{array_vec_len};
 ghost use Rattle.vme_model.specs.Signals.{is_well_formed};
-ghost use Rattle.vme_model.specs.Text.{wire_text, number, spelling, text, edge_lines};
-ghost use Rattle.vme_trace.specs.Writing.{AppendsFront, HasText, edge_line};
+ghost use Rattle.vme_model.specs.Text.{number, spelling, text, edge_lines};
+ghost use Rattle.vme_trace.specs.Writing.{AppendsFront, edge_line};
 
 use crate::Fault;
 use crate::headers::header_line;
 use crate::patience::flush_patiently;
 use arrayvec::ArrayVec;
 use std::io::Write;
-use vme_model::{Cycle, Driver, Edge, Version, Wire};
+use vme_model::{Cycle, Driver, Edge, Version};
 
 /// Room for any line of a trace: the longest has 12 bytes and a line feed.
 pub(crate) const LINE: usize = 16;
@@ -50,32 +50,6 @@ pub fn flush<W: Write>(out: &mut W) -> Result<(), Fault>
     }
 }
 
-/// The word of a wire; a grant's level is below 4.
-fn word_of(wire: Wire) -> &'static [u8]
-    requires { HasText wire }
-    ensures text { result.now ≡ wire_text wire }
-    ensures short { length result.now ≤ 7 }
-{
-    match wire {
-        Wire::Bg(0) => b"bg0",
-        Wire::Bg(1) => b"bg1",
-        Wire::Bg(2) => b"bg2",
-        Wire::Bg(_) => b"bg3",
-        Wire::Bclr => b"bclr",
-        Wire::Iack => b"iack",
-        Wire::Berr => b"berr",
-        Wire::Br => b"br",
-        Wire::BgOut => b"bgout",
-        Wire::Bbsy => b"bbsy",
-        Wire::Addr => b"addr",
-        Wire::AddressStrobe => b"as",
-        Wire::DataStrobe => b"ds",
-        Wire::Irq => b"irq",
-        Wire::IackOut => b"iackout",
-        Wire::Dtack => b"dtack",
-    }
-}
-
 /// Appends a number in decimal.
 fn push_number(line: &mut ArrayVec<u8, LINE>, n: u8)
     requires small { n < 100 }
@@ -110,7 +84,7 @@ fn spelling_of(edge: &Edge) -> ArrayVec<u8, LINE>
         Driver::Slot(slot) => push_number(&mut line, slot),
     }
     line.push(b' ');
-    push_text(&mut line, word_of(edge.wire));
+    push_text(&mut line, edge.wire.word().as_bytes());
     line.push(if edge.fall { b'-' } else { b'+' });
     match edge.value {
         None => {}

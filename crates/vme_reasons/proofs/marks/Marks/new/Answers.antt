@@ -1,5 +1,5 @@
 use Rattle.std.proofs.Common.{refl}
-use Rattle.vme_reasons.proofs.Moved.{nothing}
+use Rattle.vme_reasons.proofs.Fresh.{nothing}
 use Rattle.vme_reasons.proofs.marks.Marks.new.Goals as goal
 
 pub returns : goal.returns
