@@ -14,14 +14,23 @@ use Rattle.vme_reasons.specs.Marks.{place}
 -- each field is that look back through the edges
 pub record IsMarksOf (p : Plan) (k : Numbered) (m : Marks) : Type 0 where
   pub wires : length m.moves ≡ 198
-  pub boards : (length m.strobes ≡ 22) × (length m.acknowledged ≡ 22) × (length m.accessed ≡ 22) × (length m.made ≡ 22)
-  pub moves : (d : Driver) (w : Wire) → has_wire d w ≡ true → slice_index_or m.moves (place d w) None ≡ since k d w
+  pub boards :
+      (length m.strobes ≡ 22) × (length m.acknowledged ≡ 22) × (length m.accessed ≡ 22)
+      × (length m.made ≡ 22)
+  pub moves :
+      (d : Driver) (w : Wire) → has_wire d w ≡ true
+      → slice_index_or m.moves (place d w) None ≡ since k d w
   pub grant : m.grant ≡ granted_since k
   pub strobes : (s : ℕ) → s < 22 → slice_index_or m.strobes s None ≡ strobed_at k (Slot s)
-  pub acknowledged : (s : ℕ) → s < 22 → slice_index_or m.acknowledged s None ≡ served_since p k (Slot s) Roak
-  pub accessed : (s : ℕ) → s < 22 → slice_index_or m.accessed s None ≡ served_since p k (Slot s) Rora
+  pub acknowledged :
+      (s : ℕ) → s < 22
+      → slice_index_or m.acknowledged s None ≡ served_since p k (Slot s) Roak
+  pub accessed :
+      (s : ℕ) → s < 22 → slice_index_or m.accessed s None ≡ served_since p k (Slot s) Rora
   -- a count below 2^64
-  pub made : (s : ℕ) → s < 22 → cycles (edges_in k) (Slot s) < 2 ^ 64 → slice_index_or m.made s 0 ≡ cycles (edges_in k) (Slot s)
+  pub made :
+      (s : ℕ) → s < 22 → cycles (edges_in k) (Slot s) < 2 ^ 64
+      → slice_index_or m.made s 0 ≡ cycles (edges_in k) (Slot s)
 
 -- what holds of all numbered edges that the marks are of
 abbrev pub OfNumbered : Marks → (Plan → Numbered → Type 0) → Type 0

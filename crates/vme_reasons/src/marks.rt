@@ -13,8 +13,9 @@ use vme_model::{Cycle, Driver, Edge, IrqKind, Wire};
 /// Places for the controller and 21 slots.
 const DRIVERS: usize = 22;
 
-/// Of the accepted edges of a trace the last of each wire, the last grant, and for each board the edges that served its
-/// request and that strobed data, each by its number in the trace.
+/// Of the accepted edges of a trace the last of each wire, the last grant, and for each board the
+/// edges that served its request and that strobed data, each by its number in the trace; and how
+/// many cycles a board has begun in its tenure.
 ///
 /// They stand in places of fixed number, and an edge moves a few of them.
 #[derive(Drop)]
@@ -102,12 +103,16 @@ impl Marks {
         requires { slot < 22 }
         ensures moves { self.new.moves ≡ self.old.moves }
         ensures grant { self.new.grant ≡ self.old.grant }
-        ensures strobes { self.new.strobes ≡ set self.old.strobes slot (strobe_after wire n (slice_index_or self.old.strobes slot None)) }
+        ensures strobes { self.new.strobes ≡ set self.old.strobes slot
+            (strobe_after wire n (slice_index_or self.old.strobes slot None)) }
         ensures acknowledged { self.new.acknowledged ≡ set self.old.acknowledged slot
-            (served_after IrqKind.Roak wire n showing (slice_index_or self.old.acknowledged slot None)) }
+            (served_after IrqKind.Roak wire n showing
+            (slice_index_or self.old.acknowledged slot None)) }
         ensures accessed { self.new.accessed ≡ set self.old.accessed slot
-            (served_after IrqKind.Rora wire n showing (slice_index_or self.old.accessed slot None)) }
-        ensures made { self.new.made ≡ set self.old.made slot (made_after wire (slice_index_or self.old.made slot 0)) }
+            (served_after IrqKind.Rora wire n showing
+            (slice_index_or self.old.accessed slot None)) }
+        ensures made { self.new.made ≡ set self.old.made slot
+            (made_after wire (slice_index_or self.old.made slot 0)) }
     {
         let slot = usize::from(slot);
         self.strobes[slot] = strobe_after(wire, n, self.strobes[slot]);
@@ -125,7 +130,8 @@ impl Marks {
     /// Takes in an accepted edge with its number in the trace, and what is shown just before it.
     pub fn note(&mut self, edge: &Edge, n: u64, showing: Option<Cycle>)
         requires { IsTrue (is_well_formed edge.now) }
-        ensures { OfNumbered self.old (λ p k. showing ≡ shown p (edges_in k) → IsMarksOf p ((n, edge.now) ∷ k) self.new) }
+        ensures { OfNumbered self.old (λ p k. showing ≡ shown p (edges_in k)
+            → IsMarksOf p ((n, edge.now) ∷ k) self.new) }
     {
         self.moves[place(edge.driver, edge.wire)] = Some(n);
         if edge.is_grant() {
@@ -153,7 +159,8 @@ impl Marks {
         *grant
     }
 
-    /// The first answer of a slot below 22, since its last `irq-`, that serves an interrupter of the kind.
+    /// The first answer of a slot below 22, since its last `irq-`, that serves an interrupter of the
+    /// kind.
     pub fn served_since(&self, slot: u8, kind: IrqKind) -> Option<u64>
         requires { slot < 22 }
         ensures { OfNumbered self.now (λ p k. result ≡ served_since p k (Slot slot) kind) }
@@ -175,7 +182,8 @@ impl Marks {
     /// How many cycles a slot below 22 began since its last `bbsy-`, where they are below 2^64.
     pub fn made(&self, slot: u8) -> u64
         requires { slot < 22 }
-        ensures { OfNumbered self.now (λ _ k. cycles (edges_in k) (Slot slot) < 2 ^ 64 → result ≡ cycles (edges_in k) (Slot slot)) }
+        ensures { OfNumbered self.now (λ _ k. cycles (edges_in k) (Slot slot) < 2 ^ 64
+            → result ≡ cycles (edges_in k) (Slot slot)) }
     {
         self.made[usize::from(slot)]
     }
