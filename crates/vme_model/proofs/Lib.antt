@@ -46,3 +46,5 @@ pub mod Numbers
 pub mod Reasons
 -- `bus_stands_where_it_is_told` and `accesses_are_open_alike`
 pub mod Standing
+-- what is told of edges and of a bus, to the byte: examples, computed
+pub mod TextExamples
