@@ -95,7 +95,8 @@ impl Controller {
 
     /// Whether a level above the one last granted is requested.
     fn is_outranked(&self, requests: BusLevels) -> bool
-        ensures { result ≡ list_any (λ m. nat_lt self.now.last_level m && has_bus_level requests m) bus_numbers }
+        ensures { result
+            ≡ list_any (λ m. nat_lt self.now.last_level m && has_bus_level requests m) bus_numbers }
     {
         let last = self.last_level;
         [0, 1, 2, 3]
@@ -188,7 +189,9 @@ impl Controller {
 
     /// Takes in an edge that was made.
     fn note(&mut self, edge: Edge)
-        ensures { (kind : KindValue) (version : VersionValue) (noted : List EdgeValue) → self.old ≡ controller_of kind version noted → self.new ≡ controller_of kind version (edge ∷ noted) }
+        ensures { (kind : KindValue) (version : VersionValue) (noted : List EdgeValue)
+            → self.old ≡ controller_of kind version noted
+            → self.new ≡ controller_of kind version (edge ∷ noted) }
     {
         if edge.is_grant() {
             self.last_level = edge.wire.grant_level();
@@ -249,14 +252,16 @@ impl<P: Policy> Arbiter<P> {
 
     /// Whether an edge is a grant of the level that the policy picks of those requested.
     fn picks(&self, edge: Edge, requests: BusLevels) -> bool
-        ensures { result ≡ (is_grant edge && option_map_or (λ m. m == grant_level edge.wire) (P.picked self.now.0 requests self.now.1.last_level) false) }
+        ensures { result ≡ (is_grant edge && option_map_or (λ m. m == grant_level edge.wire)
+            (P.picked self.now.0 requests self.now.1.last_level) false) }
     {
         edge.is_grant() && self.is_pick(edge.wire.grant_level(), requests)
     }
 
     /// Whether the policy picks the level of those requested.
     fn is_pick(&self, level: u8, requests: BusLevels) -> bool
-        ensures { result ≡ option_map_or (λ m. m == level) (P.picked self.now.0 requests self.now.1.last_level) false }
+        ensures { result ≡ option_map_or (λ m. m == level)
+            (P.picked self.now.0 requests self.now.1.last_level) false }
     {
         self.policy
             .pick(requests, self.controller.last_level())
@@ -336,7 +341,9 @@ impl<P: Policy> Arbiter<P> {
     /// Takes in an edge that was made; one of another driver changes no wire of the controller's.
     pub fn note(&mut self, edge: Edge)
         ensures policy { self.new.0 ≡ self.old.0 }
-        ensures state { (kind : KindValue) (version : VersionValue) (noted : List EdgeValue) → self.old.1 ≡ controller_of kind version noted → self.new.1 ≡ controller_of kind version (edge ∷ noted) }
+        ensures state { (kind : KindValue) (version : VersionValue) (noted : List EdgeValue)
+            → self.old.1 ≡ controller_of kind version noted
+            → self.new.1 ≡ controller_of kind version (edge ∷ noted) }
     {
         self.controller.note(edge);
     }

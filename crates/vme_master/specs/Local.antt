@@ -67,13 +67,15 @@ told own holds_bus w = own w
 
 -- what its rules read: its own wires, its pins, its board, its cycles, its data strobe, and what it
 -- is told
-abbrev pub master_readings : ℕ → RequesterRow → Levels → (Wire → Bool) → ℕ → Bool → Pins → Bool → Readings
-master_readings s row handler own cycles has_strobed pins holds_bus = record (readings_of_pins pins) {
-  own = told own holds_bus;
-  cycles = cycles;
-  has_strobed = has_strobed;
-  board = Some (record { slot = s; requester = Some row; interrupter = None; handler = handler });
-}
+abbrev pub master_readings :
+    ℕ → RequesterRow → Levels → (Wire → Bool) → ℕ → Bool → Pins → Bool → Readings
+master_readings s row handler own cycles has_strobed pins holds_bus =
+    record (readings_of_pins pins) {
+      own = told own holds_bus;
+      cycles = cycles;
+      has_strobed = has_strobed;
+      board = Some (record { slot = s; requester = Some row; interrupter = None; handler = handler });
+    }
 
 -- what its rules read, by the state
 abbrev pub local : MasterState → Pins → Bool → Readings

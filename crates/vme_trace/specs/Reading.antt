@@ -60,7 +60,8 @@ pub record HasRead (reader : ReaderState) (bytes : List ℕ) (es : List Edge) : 
 
 -- A trace of this version has a fault after these edges. Where memory was refused they are the
 -- first ones, else all up to the fault.
-pub record HasFaultAfter (trace : Reading) (version : Option Version) (es : List Edge) (fault : Fault)
+pub record HasFaultAfter
+    (trace : Reading) (version : Option Version) (es : List Edge) (fault : Fault)
     : Type 0 where
   pub version_is : trace.version ≡ version
   pub front : (others : List Edge) × (trace.edges ≡ es ++ others)
