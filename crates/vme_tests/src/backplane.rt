@@ -206,10 +206,7 @@ const AN_ACCESS: [(Edge, &[Condition]); 8] = [
     (fall!(FIRST, Wire::Addr, Some(Cycle::Access(1))), &[]),
     (fall!(FIRST, Wire::AddressStrobe), &[]),
     (fall!(FIRST, Wire::DataStrobe), &[]),
-    (
-        fall!(CONTROLLER, Wire::Berr),
-        &[Condition::NobodyCanAnswer],
-    ),
+    (fall!(CONTROLLER, Wire::Berr), &[Condition::NobodyCanAnswer]),
     (rise!(FIRST, Wire::DataStrobe), &[Condition::Answered]),
 ];
 
@@ -230,10 +227,7 @@ const WITHDRAWN: [(Edge, &[Condition]); 10] = [
     ),
     (rise!(CONTROLLER, Wire::Bg(3)), &[]),
     (fall!(FIRST, Wire::Br), &[]),
-    (
-        fall!(CONTROLLER, Wire::Bg(3)),
-        &[Condition::GrantsThrough],
-    ),
+    (fall!(CONTROLLER, Wire::Bg(3)), &[Condition::GrantsThrough]),
 ];
 
 /// A master that handles level 4.
