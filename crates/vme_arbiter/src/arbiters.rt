@@ -9,6 +9,7 @@ ghost use Rattle.vme_model.specs.declared.signals.Wire.TheVariants.{Bg};
 ghost use Rattle.vme_model.specs.declared.signals.Edge.{Edge as EdgeValue};
 ghost use Rattle.vme_model.specs.Signals.{is_grant, grant_level, is_acknowledge};
 ghost use Rattle.vme_model.specs.Sets.{has_bus_level};
+ghost use Rattle.vme_model.specs.Guards.{holds};
 ghost use Rattle.vme_model.specs.History.{last_level};
 ghost use Rattle.vme_model.specs.Readings.{Readings};
 ghost use Rattle.vme_model.specs.Rules.{bus_numbers, pick, is_pick, are_grants_high, clear_guard, bg_falls, iack_falls, failing, guard};
@@ -248,6 +249,14 @@ impl<P: Policy> Arbiter<P> {
         ensures { result ≡ low self.now.1 wire }
     {
         self.controller.is_low(wire)
+    }
+
+    /// Whether a grant may fall, were it of the level that the policy picks (G1): the grants are high, and the bus is free.
+    #[inline(always)]
+    pub fn may_grant(&self, pins: Pins) -> bool
+        ensures { result ≡ holds (bg_falls (are_grants_high (local self.now.1 pins)) pins.bbsy true) }
+    {
+        bg_falls(self.controller.are_grants_high(pins), pins.bbsy, true)
     }
 
     /// Whether an edge is a grant of the level that the policy picks of those requested.

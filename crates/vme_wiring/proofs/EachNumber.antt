@@ -1,5 +1,5 @@
 -- A list that grows by each number's edge.
-use Rattle.std.proofs.Common.{◌≡◌, ◌∙◌, refl, sym, ap, ◌≤◌, ◌+◌, ◌-◌, ℕ, zero, suc, Bool, List, [], ◌∷◌, ◌++◌, map, filter, arith}
+use Rattle.std.proofs.Common.{◌≡◌, ◌∙◌, sym, ap, ◌≤◌, ◌+◌, ◌-◌, ℕ, zero, suc, Bool, List, [], ◌∷◌, ◌++◌, map, filter, arith}
 use Rattle.std.proofs.lemmas.List.{map-append}
 use Rattle.vme_model.specs.Plan.{up_to}
 use Rattle.vme_wiring.proofs.More.{one_more}

@@ -246,11 +246,7 @@ impl Wiring {
     fn may_grant(&self) -> bool
         ensures { result ≡ may_grant self.now }
     {
-        !self.arbiter.is_low(Wire::Bg(0))
-            && !self.arbiter.is_low(Wire::Bg(1))
-            && !self.arbiter.is_low(Wire::Bg(2))
-            && !self.arbiter.is_low(Wire::Bg(3))
-            && !self.shared.bbsy
+        self.arbiter.may_grant(self.shared)
     }
 
     /// Puts the edge of a level's grant after the others where the rules allow it: none falls but where it may.

@@ -1,4 +1,4 @@
-use Rattle.std.proofs.Common.{◌≡◌, ◌∙◌, ap, arith, ℕ, ◌-◌, ◌++◌, ◌∷◌, [], filter, map}
+use Rattle.std.proofs.Common.{◌≡◌, ◌∙◌, ap, arith, ◌-◌, ◌++◌, ◌∷◌, [], filter, map}
 use Rattle.vme_model.specs.declared.signals.Driver.TheVariants.{Slot}
 use Rattle.vme_model.specs.declared.signals.Cycle.TheVariants.{Acknowledge}
 use Rattle.vme_model.specs.Plan.{up_to}

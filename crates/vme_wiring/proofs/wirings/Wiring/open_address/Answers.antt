@@ -1,4 +1,4 @@
-use Rattle.std.proofs.Common.{◌≡◌, ◌∙◌, sym, ap, Bool, true, false, ◌++◌, ◌∷◌, [], List, filter, map}
+use Rattle.std.proofs.Common.{◌∙◌, sym, ap, Bool, ◌++◌, ◌∷◌, [], List, filter, map}
 use Rattle.std.specs.Prelude.{if◌then◌else◌}
 use Rattle.std.proofs.lemmas.List.{map-append}
 use Rattle.vme_model.specs.declared.signals.Driver.TheVariants.{Slot}
