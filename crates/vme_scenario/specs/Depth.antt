@@ -1,5 +1,6 @@
--- How deep the tables and arrays of a text go, told byte by byte: each bracket or brace that is open is one deeper, and so is
--- each dot of a key, also of the keys of the tables around it, up to the last header's.
+-- How deep the tables and arrays of a text go, told byte by byte: each bracket or brace that is
+-- open is one deeper, and so is each dot of a key, also of the keys of the tables around it, up to
+-- the last header's.
 use Rattle.std.specs.Prelude.{ℕ, ◌+◌, Bool, true, false, ◌&&◌, ◌||◌, ◌==◌, nat_le, if◌then◌else◌, List, [], ◌∷◌, length}
 use Rattle.vme_scenario.specs.declared.depth.Mode.{Mode}
 use Rattle.vme_scenario.specs.declared.depth.Mode.TheVariants.{Plain, Comment, Opened, Doubled, Short, ShortEscape, Long, LongEscape}
@@ -8,11 +9,13 @@ use Rattle.vme_scenario.specs.declared.depth.Mode.TheVariants.{Plain, Comment, O
 abbrev pub mode_behind : ℕ → Mode
 mode_behind c = if c == 34 || c == 39 then Opened c else if c == 35 then Comment else Plain
 
--- after a byte of a string on one line with the delimiter d; a backslash, 92, escapes between quotes alone
+-- after a byte of a string on one line with the delimiter d; a backslash, 92, escapes between
+-- quotes alone
 abbrev pub in_short : ℕ → ℕ → Mode
 in_short d c = if c == d then Plain else if c == 92 && d == 34 then ShortEscape else Short d
 
--- of one over several lines, after n delimiters: three end it, and after them up to two more belong to it
+-- of one over several lines, after n delimiters: three end it, and after them up to two more belong
+-- to it
 abbrev pub in_long : ℕ → ℕ → ℕ → Mode
 in_long d n c =
     if c == d then Long d (if nat_le 3 n then 3 else n + 1)
@@ -30,8 +33,8 @@ mode_after ShortEscape c = Short 34
 mode_after (Long d n) c = in_long d n c
 mode_after LongEscape c = Long 34 0
 
--- Where the next byte stands: whether its line has a `=` yet; how deep it is, and how deep the table or array that it stands in;
--- and how deep are those around that one, from the inside out.
+-- Where the next byte stands: whether its line has a `=` yet; how deep it is, and how deep the
+-- table or array that it stands in; and how deep are those around that one, from the inside out.
 pub record Place : Type 0 where
   pub mode : Mode
   pub keyed : Bool
@@ -55,7 +58,8 @@ closed_to p (depth ∷ outer) = record p { here = depth; held = depth; outer = o
 abbrev pub bracketed : Place → Place
 bracketed p = if p.keyed then opened p else record p { here = 0; held = 0 }
 
--- after a line feed: a pair has ended, or else a header, whose key stays; within a table or array it is as a comma
+-- after a line feed: a pair has ended, or else a header, whose key stays; within a table or array
+-- it is as a comma
 abbrev pub broken_in : Place → List ℕ → Place
 broken_in p [] =
     if p.keyed then record p { keyed = false; here = p.held } else record p { held = p.here }
@@ -64,13 +68,13 @@ broken_in p (_ ∷ _) = record p { here = p.held }
 -- after a byte outside of strings and comments
 abbrev pub structured : Place → ℕ → Place
 structured p c =
-    if c == 46 then record p { here = p.here + 1 } -- `.`
-    else if c == 61 then record p { keyed = true } -- `=`
-    else if c == 91 then bracketed p -- `[`
-    else if c == 123 then opened p -- `{`
-    else if c == 93 || c == 125 then closed_to p p.outer -- `]` and `}`
-    else if c == 44 then record p { here = p.held } -- `,`, before which the key has ended
-    else if c == 10 then broken_in p p.outer -- the line feed
+    if c == 46 then record p { here = p.here + 1 }  -- `.`
+    else if c == 61 then record p { keyed = true }  -- `=`
+    else if c == 91 then bracketed p  -- `[`
+    else if c == 123 then opened p  -- `{`
+    else if c == 93 || c == 125 then closed_to p p.outer  -- `]` and `}`
+    else if c == 44 then record p { here = p.held }  -- `,`, before which the key has ended
+    else if c == 10 then broken_in p p.outer  -- the line feed
     else p
 
 -- after any byte; one that is in a string or a comment, or begins one, changes the mode alone
