@@ -8,8 +8,9 @@ use Rattle.vme_model.specs.declared.signals.Wire.TheVariants.{Bg, Bclr, Iack, Be
 use Rattle.vme_model.specs.Signals.{has_wire, is_slot}
 use Rattle.std.proofs.lemmas.List.{get_or-replicate, length-replicate}
 use Rattle.vme_model.specs.Plan.{Plan}
-use Rattle.vme_reasons.specs.Marked.{IsMarksOf}
+use Rattle.vme_reasons.specs.Marked.{IsMarksOf, never}
 use Rattle.vme_reasons.specs.declared.marks.Marks.{Marks}
+use Rattle.vme_reasons.specs.declared.marks.Moved.{Moved}
 use Rattle.vme_reasons.specs.Marks.{driver_place, wire_place, place}
 
 grant_below : (level : ℕ) → has_wire Controller (Bg level) ≡ true → level < 4
@@ -59,12 +60,13 @@ pub place_below : (d : Driver) (w : Wire) → has_wire d w ≡ true → place d 
 place_below d w h = let a = driver_below d w h in let b = below_nine d w h in omega (arith, a, b)
 
 -- before the first edge there is no number
-pub nothing : (p : Plan) (m : Marks) → m.moves ≡ replicate 198 None → m.grant ≡ None → m.strobes ≡ replicate 22 None → m.acknowledged ≡ replicate 22 None → m.accessed ≡ replicate 22 None → m.made ≡ replicate 22 0 → IsMarksOf p [] m
-nothing p m moves grant strobes acknowledged accessed made = record {
-  wires = ap length moves ∙ length-replicate {A = Option ℕ} 198 None;
+pub nothing : (p : Plan) (m : Marks) → m.moves ≡ replicate 198 never → m.grant ≡ None → m.level ≡ 0 → m.strobes ≡ replicate 22 None → m.acknowledged ≡ replicate 22 None → m.accessed ≡ replicate 22 None → m.made ≡ replicate 22 0 → IsMarksOf p [] m
+nothing p m moves grant level strobes acknowledged accessed made = record {
+  wires = ap length moves ∙ length-replicate {A = Moved} 198 never;
   boards = (ap length strobes ∙ length-replicate {A = Option ℕ} 22 None, ap length acknowledged ∙ length-replicate {A = Option ℕ} 22 None, ap length accessed ∙ length-replicate {A = Option ℕ} 22 None, ap length made ∙ length-replicate {A = ℕ} 22 0);
-  moves = λ d w h. ap (λ xs. get_or xs (place d w) None) moves ∙ get_or-replicate {A = Option ℕ} 198 (place d w) None None (place_below d w h);
+  moves = λ d w h. ap (λ xs. get_or xs (place d w) never) moves ∙ get_or-replicate {A = Moved} 198 (place d w) never never (place_below d w h);
   grant = grant;
+  level = level;
   strobes = λ s lt. ap (λ xs. get_or xs s None) strobes ∙ get_or-replicate {A = Option ℕ} 22 s None None lt;
   acknowledged = λ s lt. ap (λ xs. get_or xs s None) acknowledged ∙ get_or-replicate {A = Option ℕ} 22 s None None lt;
   accessed = λ s lt. ap (λ xs. get_or xs s None) accessed ∙ get_or-replicate {A = Option ℕ} 22 s None None lt;

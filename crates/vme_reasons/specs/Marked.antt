@@ -1,15 +1,20 @@
 -- Which marks numbered edges lead to.
-use Rattle.std.specs.Prelude.{◌≡◌, ◌<◌, ◌^◌, ℕ, true, None, length, slice_index_or}
+use Rattle.std.specs.Prelude.{◌≡◌, ◌<◌, ◌^◌, ℕ, true, false, None, length, slice_index_or}
 use Rattle.vme_model.specs.declared.boards.IrqKind.TheVariants.{Roak, Rora}
 use Rattle.vme_model.specs.declared.signals.Driver.{Driver}
 use Rattle.vme_model.specs.declared.signals.Driver.TheVariants.{Slot}
 use Rattle.vme_model.specs.declared.signals.Wire.{Wire}
 use Rattle.vme_model.specs.Signals.{has_wire}
 use Rattle.vme_model.specs.Plan.{Plan}
-use Rattle.vme_model.specs.History.{cycles}
+use Rattle.vme_model.specs.History.{drive, last_level, cycles}
 use Rattle.vme_model.specs.Numbered.{Numbered, edges_in, since, granted_since, served_since, strobed_at}
 use Rattle.vme_reasons.specs.declared.marks.Marks.{Marks}
+use Rattle.vme_reasons.specs.declared.marks.Moved.{Moved}
 use Rattle.vme_reasons.specs.Marks.{place}
+
+-- a wire that never moved
+abbrev pub never : Moved
+never = record { at = None; low = false }
 
 -- each field is that look back through the edges
 pub record IsMarksOf (p : Plan) (k : Numbered) (m : Marks) : Type 0 where
@@ -19,8 +24,10 @@ pub record IsMarksOf (p : Plan) (k : Numbered) (m : Marks) : Type 0 where
       × (length m.made ≡ 22)
   pub moves :
       (d : Driver) (w : Wire) → has_wire d w ≡ true
-      → slice_index_or m.moves (place d w) None ≡ since k d w
+      → slice_index_or m.moves (place d w) never
+      ≡ record { at = since k d w; low = drive (edges_in k) d w }
   pub grant : m.grant ≡ granted_since k
+  pub level : m.level ≡ last_level (edges_in k)
   pub strobes : (s : ℕ) → s < 22 → slice_index_or m.strobes s None ≡ strobed_at k (Slot s)
   pub acknowledged :
       (s : ℕ) → s < 22
