@@ -9,6 +9,12 @@ pub mod Outcomes
 pub mod Joining
 -- believe, for `check` and `drive`: what is found in a trace, and what a check leaves
 pub mod Checking
+-- believe, for `explain` and `state`: a fault of a trace before what they wait for
+pub mod Waiting
+-- believe, for `explain` alone: which edge is explained, and what that leaves
+pub mod Explaining
+-- believe, for `state` alone: which place is told, and what that leaves
+pub mod Stating
 -- believe, for `drive` alone: what the drivers make, and what is written of it
 pub mod Driving
 -- words, but for `IsNoPlan`, which `plan_of` answers by: what the reads and the pieces of a trace
@@ -16,6 +22,9 @@ pub mod Driving
 pub mod Steps
 -- words: what the one loop over a trace leaves
 pub mod Pieces
+-- words: what the edges of a trace do to `explain` and `state`
+pub mod Followed
+pub mod Traced
 -- words: the input before its trace, byte by byte
 pub mod Front
 -- words: a number as it stands in a verdict line

@@ -35,6 +35,9 @@ Lent text nothing Runs (Err fault.NoMemory) =
 Lent text nothing Runs (Err (fault.Trace f)) =
     (p : Plan) × (length text ≤ scenario_limit) × (scenario text ≡ Ok p)
     × Runs p (Err (fault.Trace f))
+Lent text nothing Runs (Err (fault.Beyond edges)) =
+    (p : Plan) × (length text ≤ scenario_limit) × (scenario text ≡ Ok p)
+    × Runs p (Err (fault.Beyond edges))
 Lent text nothing Runs (Err fault.CannotRead) = ⊥
 Lent text nothing Runs (Ok status) =
     (p : Plan) × (length text ≤ scenario_limit) × (scenario text ≡ Ok p) × Runs p (Ok status)

@@ -3,9 +3,11 @@
 //! They are generic over the reader and the writer. `specs/Outcomes.antt` says what each leaves behind and answers.
 #![tactic(auto)]
 
+mod blocks;
 mod checks;
 mod counts;
 mod drives;
+mod following;
 mod joins;
 pub mod laws;
 mod lines;
@@ -58,4 +60,7 @@ pub enum EngineFault {
     /// No memory for the engine's own lists.
     #[error("F3 no memory")]
     NoMemory,
+    /// The trace ends before the edge that was asked for: it has so many edges.
+    #[error("X9 the trace has {0} edges")]
+    Beyond(u64),
 }

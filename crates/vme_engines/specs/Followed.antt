@@ -1,0 +1,151 @@
+-- What the edges of a trace do to an engine that follows it, up to the one that it waits for.
+use Rattle.std.specs.Prelude.{◌≡◌, ◌⊎◌, ◌<◌, ◌≤◌, ◌+◌, ◌++◌, ◌∷◌, [], ℕ, Bool, true, false, List, length, is_ok, Option, Some, None, Result, Ok, Err}
+use Rattle.std.specs.Io.KnownBytes.{Appends, Keeps}
+use Rattle.vme_model.specs.declared.signals.Edge.{Edge}
+use Rattle.vme_model.specs.Verdict.{State, verdict, kept}
+use Rattle.vme_model.specs.Numbered.{Numbered, edges_in, numbered_on}
+use Rattle.vme_model.specs.Why.{why_text}
+use Rattle.vme_model.specs.Stands.{stands_text}
+use Rattle.vme_reasons.specs.Marked.{IsMarksOf}
+use Rattle.vme_trace.specs.declared.Fault.{Fault}
+use Rattle.vme_trace.specs.declared.Fault.TheVariants.{Write}
+use Rattle.vme_trace.specs.Writing.{AppendsFront}
+use Rattle.vme_engines.specs.declared.Status.{Status}
+use Rattle.vme_engines.specs.declared.Status.TheVariants.{Done}
+use Rattle.vme_engines.specs.declared.following.Following.{Following}
+use Rattle.vme_engines.specs.declared.following.Told.{Told}
+use Rattle.vme_engines.specs.declared.following.Told.TheVariants.{Block, Beyond}
+use Rattle.vme_engines.specs.declared.checks.Finding.TheVariants.{Legal}
+use Rattle.vme_engines.specs.Checking.{first_refusal, finding_line}
+use Rattle.vme_engines.specs.Explaining.{edge_status}
+use Rattle.vme_engines.specs.Traced.{OfTrace}
+
+-- these edges were followed
+pub record Follows (first : Following) (es : List Edge) (now : Following) : Type 0 where
+  pub backplane : now.backplane ≡ kept first.backplane es
+  pub judged : now.judged ≡ first.judged + length es
+  pub marks : OfTrace first.backplane first.marks
+      (λ k. IsMarksOf first.backplane.plan
+      (numbered_on first.backplane first.judged k es) now.marks)
+
+-- ---- explain
+
+-- behind n edges and this front, the edge is the one that is asked for
+abbrev pub IsNext : Option ℕ → State → ℕ → List Edge → Edge → Type 0
+IsNext (Some asked) b n front e = asked ≡ (n + length front) + 1
+IsNext None b n front e =
+    (first_refusal (n + 1) b front ≡ None) × (is_ok (verdict (kept b front) e) ≡ false)
+
+-- none of the edges behind the first n is asked for
+abbrev pub IsMissing : Option ℕ → State → ℕ → List Edge → Type 0
+IsMissing (Some asked) b n es = n < asked → n + length es < asked
+IsMissing None b n es = first_refusal (n + 1) b es ≡ None
+
+-- the edge that is asked for is one of these; those before it were followed
+pub record ComesTo
+    (edge : Option ℕ) (first : Following) (es : List Edge) (e : Edge) (now : Following)
+    : Type 0 where
+  pub front : List Edge
+  pub rest : List Edge
+  pub split : es ≡ front ++ e ∷ rest
+  pub asked : IsNext edge first.backplane first.judged front e
+  pub follows : Follows first front now
+
+-- the edge that is asked for is told by its block
+pub record TellsEdge
+    (edge : Option ℕ) (first : Following) (es : List Edge) (status : Status)
+    (Writes : List ℕ → Type 0)
+    : Type 0 where
+  pub front : List Edge
+  pub e : Edge
+  pub rest : List Edge
+  pub split : es ≡ front ++ e ∷ rest
+  pub asked : IsNext edge first.backplane first.judged front e
+  pub ends : status ≡ edge_status (kept first.backplane front) e
+  pub block : OfTrace first.backplane first.marks
+      (λ k. Writes (why_text ((first.judged + length front) + 1) (kept first.backplane front)
+      (numbered_on first.backplane first.judged k front) e))
+
+-- no number is asked for, and at the end of the trace no edge is refused
+abbrev pub TellsLegal :
+    Option ℕ → Following → List Edge → Result Bool Fault → Status → (List ℕ → Type 0) → Type 0
+TellsLegal edge first es more status Writes =
+    (edge ≡ None) × (more ≡ Ok false)
+    × (first_refusal (first.judged + 1) first.backplane es ≡ None) × (status ≡ Done)
+    × Writes (finding_line (Legal (first.judged + length es)))
+
+abbrev pub Tells :
+    Option ℕ → Following → List Edge → Result Bool Fault → Status → (List ℕ → Type 0) → Type 0
+Tells edge first es more status Writes =
+    TellsEdge edge first es status Writes ⊎ TellsLegal edge first es more status Writes
+
+-- What the edges of a piece do to an explanation: `more` is what the read answered.
+abbrev pub ExplainsPiece :
+    Option ℕ → Following → List Edge → Result Bool Fault → Option (List ℕ) → Option (List ℕ)
+    → Following → Result (Option Told) Fault → Type 0
+ExplainsPiece edge first es more old new now (Ok None) =
+    (more ≡ Ok true) × Keeps old new
+    × IsMissing edge first.backplane first.judged es × Follows first es now
+ExplainsPiece edge first es more old new now (Ok (Some (Block status))) =
+    Tells edge first es more status (Appends old new)
+ExplainsPiece edge first es more old new now (Ok (Some (Beyond edges))) =
+    (more ≡ Ok false) × Keeps old new
+    × IsMissing edge first.backplane first.judged es × (edges ≡ first.judged + length es)
+    × (asked : ℕ) × (edge ≡ Some asked)
+ExplainsPiece edge first es more old new now (Err f) =
+    ((more ≡ Err f) × Keeps old new × IsMissing edge first.backplane first.judged es)
+    ⊎ ((f ≡ Write) × (status : Status)
+    × Tells edge first es more status (AppendsFront old new))
+
+-- ---- state
+
+-- behind n edges, this front ends at the place that is asked for
+abbrev pub IsPlace : Option ℕ → ℕ → List Edge → List Edge → Result Bool Fault → Type 0
+IsPlace (Some after) n front rest more = after ≡ n + length front
+IsPlace None n front rest more = (rest ≡ []) × (more ≡ Ok false)
+
+-- the place is behind these edges, and not at their end
+abbrev pub IsBehind : Option ℕ → ℕ → List Edge → Type 0
+IsBehind (Some after) n es = n ≤ after → n + length es < after
+IsBehind None n es = Unit {0}
+
+-- it is at their end at the least
+abbrev pub IsNotBefore : Option ℕ → ℕ → List Edge → Type 0
+IsNotBefore (Some after) n es = n ≤ after → n + length es ≤ after
+IsNotBefore None n es = Unit {0}
+
+-- whether it was reached, behind a front that was followed; else all edges were followed
+abbrev pub Reaches : Option ℕ → Following → List Edge → Following → Bool → Type 0
+Reaches after first es now true =
+    (n : ℕ) × (after ≡ Some n) × (front : List Edge) × (rest : List Edge) × (es ≡ front ++ rest)
+    × (n ≡ first.judged + length front) × Follows first front now
+Reaches after first es now false = IsBehind after first.judged es × Follows first es now
+
+-- where the bus stands is told by its block
+pub record TellsPlace
+    (after : Option ℕ) (first : Following) (es : List Edge) (more : Result Bool Fault)
+    (Writes : List ℕ → Type 0)
+    : Type 0 where
+  pub front : List Edge
+  pub rest : List Edge
+  pub split : es ≡ front ++ rest
+  pub reached : IsPlace after first.judged front rest more
+  pub block : OfTrace first.backplane first.marks
+      (λ k. Writes (stands_text (first.judged + length front) (kept first.backplane front)
+      (numbered_on first.backplane first.judged k front)))
+
+-- What the edges of a piece do to an engine that tells where the bus stands.
+abbrev pub StatesPiece :
+    Option ℕ → Following → List Edge → Result Bool Fault → Option (List ℕ) → Option (List ℕ)
+    → Following → Result (Option Told) Fault → Type 0
+StatesPiece after first es more old new now (Ok None) =
+    (more ≡ Ok true) × Keeps old new × IsNotBefore after first.judged es × Follows first es now
+StatesPiece after first es more old new now (Ok (Some (Block status))) =
+    TellsPlace after first es more (Appends old new) × (status ≡ Done)
+StatesPiece after first es more old new now (Ok (Some (Beyond edges))) =
+    (more ≡ Ok false) × Keeps old new
+    × IsBehind after first.judged es × (edges ≡ first.judged + length es)
+    × (wanted : ℕ) × (after ≡ Some wanted)
+StatesPiece after first es more old new now (Err f) =
+    ((more ≡ Err f) × Keeps old new × IsBehind after first.judged es)
+    ⊎ ((f ≡ Write) × TellsPlace after first es more (AppendsFront old new))

@@ -1,0 +1,157 @@
+//! A trace that is followed edge by edge, up to the one that an engine waits for.
+ghost use Rattle.std.specs.Prelude.{◌≡◌, ◌+◌, ◌<◌, ◌≤◌, ◌^◌, ◌∷◌, [], length, is_ok, IfSome, IfNone};
+ghost use Rattle.vme_model.specs.Plan.{Plan};
+ghost use Rattle.vme_model.specs.Verdict.{verdict, after};
+ghost use Rattle.vme_model.specs.Numbered.{numbered_with};
+ghost use Rattle.vme_reasons.specs.Marked.{IsMarksOf};
+ghost use Rattle.vme_engines.specs.Traced.{OfTrace};
+ghost use Rattle.vme_engines.specs.Followed.{Follows, IsMissing, ComesTo, Reaches};
+
+use crate::Status;
+use vme_backplane::Backplane;
+use vme_model::{Driver, Edge};
+use vme_reasons::Marks;
+
+/// What an engine answers that tells one block.
+#[derive(Clone, Copy, PartialEq, Eq, Debug)]
+pub(crate) enum Told {
+    /// The block was written.
+    Block(Status),
+    /// The whole trace has so many edges, too few.
+    Beyond(u64),
+}
+
+/// A trace under way: the backplane, and the numbers of the edges that it accepted.
+#[derive(Drop)]
+pub(crate) struct Following<'r> {
+    pub(crate) backplane: Backplane<'r>,
+    pub(crate) marks: Marks,
+    /// How many edges were judged.
+    pub(crate) judged: u64,
+}
+
+/// How many of `len` edges behind the first `judged` are among the first `n`, where no others are.
+fn count_up_to(n: u64, judged: u64, len: usize) -> Option<usize>
+    ensures some { IfSome result (λ count. (n ≡ judged + count) × (count ≤ len)) }
+    ensures none { IfNone result (judged ≤ n → judged + len < n) }
+{
+    let count = n.checked_sub(judged)?;
+    if count <= len as u64 {
+        Some(count as usize)
+    } else {
+        None
+    }
+}
+
+/// The place of the n-th edge, counted from 1, among `len` behind the first `judged`.
+fn place_of(n: u64, judged: u64, len: usize) -> Option<usize>
+    ensures some { IfSome result (λ place. (n ≡ (judged + place) + 1) × (place < len)) }
+    ensures none { IfNone result (judged < n → judged + len < n) }
+{
+    let place = count_up_to(n.checked_sub(1)?, judged, len)?;
+    if place < len { Some(place) } else { None }
+}
+
+impl<'r> Following<'r> {
+    /// Before the first edge.
+    pub(crate) fn new(backplane: Backplane<'r>) -> Following<'r>
+        ensures backplane { result.backplane ≡ backplane.entry }
+        ensures marks { (p : Plan) → IsMarksOf p [] result.marks }
+        ensures judged { result.judged ≡ 0 }
+    {
+        Following {
+            backplane,
+            marks: Marks::new(),
+            judged: 0,
+        }
+    }
+
+    /// Makes the next edge where it is accepted, and answers whether it was. It is not yet counted.
+    fn step(&mut self, edge: &Edge) -> bool
+        requires { self.old.judged + 1 < 2 ^ 64 }
+        ensures accepted { result ≡ is_ok (verdict self.old.backplane edge.now) }
+        ensures backplane { self.new.backplane ≡ after self.old.backplane edge.now }
+        ensures judged { self.new.judged ≡ self.old.judged }
+        ensures marks { OfTrace self.old.backplane self.old.marks
+            (λ k. IsMarksOf self.old.backplane.plan
+            (numbered_with self.old.backplane (self.old.judged + 1) edge.now k) self.new.marks) }
+    {
+        let shown = self.backplane.pins(Driver::Controller).shown;
+        match self.backplane.step(*edge) {
+            Ok(_) => {
+                self.marks.note(edge, self.judged + 1, shown);
+                true
+            }
+            Err(_) => false,
+        }
+    }
+
+    /// Follows all the edges, past those that are refused.
+    fn follow(&mut self, edges: &[Edge])
+        requires { self.old.judged + length edges.now < 2 ^ 64 }
+        ensures { Follows self.old edges.now self.new }
+    {
+        for edge in edges {
+            self.step(edge);
+            self.judged += 1;
+        }
+    }
+
+    /// Follows the edges up to the first that is refused, which it gives.
+    pub(crate) fn follow_to_refused(&mut self, edges: &[Edge]) -> Option<Edge>
+        requires { self.old.judged + length edges.now < 2 ^ 64 }
+        ensures some { IfSome result (λ e. ComesTo None self.old edges.now e self.new) }
+        ensures none { IfNone result
+            (IsMissing None self.old.backplane self.old.judged edges.now
+            × Follows self.old edges.now self.new) }
+    {
+        for edge in edges {
+            if !self.step(edge) {
+                return Some(*edge);
+            }
+            self.judged += 1;
+        }
+        None
+    }
+
+    /// Follows the edges up to the n-th of the trace, which it gives.
+    pub(crate) fn follow_to_number(&mut self, n: u64, edges: &[Edge]) -> Option<Edge>
+        requires { self.old.judged + length edges.now < 2 ^ 64 }
+        ensures some { IfSome result (λ e. ComesTo (Some n) self.old edges.now e self.new) }
+        ensures none { IfNone result
+            (IsMissing (Some n) self.old.backplane self.old.judged edges.now
+            × Follows self.old edges.now self.new) }
+    {
+        match place_of(n, self.judged, edges.len()) {
+            Some(place) => {
+                self.follow(&edges[..place]);
+                Some(edges[place])
+            }
+            None => {
+                self.follow(edges);
+                None
+            }
+        }
+    }
+
+    /// Follows the edges among the first `n` of the trace, or all. Whether the n-th was the last.
+    pub(crate) fn follow_through(&mut self, n: Option<u64>, edges: &[Edge]) -> bool
+        requires { self.old.judged + length edges.now < 2 ^ 64 }
+        ensures { Reaches n self.old edges.now self.new result }
+    {
+        let count = match n {
+            Some(n) => count_up_to(n, self.judged, edges.len()),
+            None => None,
+        };
+        match count {
+            Some(count) => {
+                self.follow(&edges[..count]);
+                true
+            }
+            None => {
+                self.follow(edges);
+                false
+            }
+        }
+    }
+}
