@@ -26,6 +26,7 @@ no_plan_of before text (fault.Scenario e) which h = elim which [ inl same ↦ rw
 no_plan_of before text (fault.Trace f) which h = absurd h
 no_plan_of before text fault.CannotRead which h = absurd h
 no_plan_of before text fault.NoMemory which h = absurd h
+no_plan_of before text (fault.Beyond n) which h = absurd h
 
 pub plan_of_text : (before text : List ℕ) (p : Plan) → IsTextOf before text → length text ≤ scenario_limit → scenario text ≡ Ok p → (length before ≤ scenario_limit) × (scenario before ≡ Ok p)
 plan_of_text before text p which short is = elim which [

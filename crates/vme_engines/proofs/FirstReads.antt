@@ -26,6 +26,7 @@ no_plan text nothing Runs (fault.Scenario e) h done = (h.0, h.1, done)
 no_plan text nothing Runs (fault.Trace f) h done = absurd h
 no_plan text nothing Runs fault.CannotRead h done = absurd h
 no_plan text nothing Runs fault.NoMemory h done = absurd h
+no_plan text nothing Runs (fault.Beyond n) h done = absurd h
 
 -- ---- the first reads
 

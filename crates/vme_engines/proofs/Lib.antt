@@ -10,6 +10,8 @@ pub mod TraceSoFar
 pub mod CanGoOn
 -- a trace, read by read: `traces::open`, `pieces::read_on`
 pub mod TraceReads
+-- every edge of a trace is well formed: `pieces::read_on` and its callers
+pub mod FormedEdges
 -- the loop over the pieces of a trace: `pieces::read_on`
 pub mod ReadOn
 -- a replay, piece by piece: src/replays.rt, `joins::replay_behind`
@@ -24,6 +26,12 @@ pub mod FirstReads
 pub mod AfterScenario
 -- a check, piece by piece: src/checks.rt
 pub mod CheckPieces
+-- a trace that is followed edge by edge: src/following.rt
+pub mod FollowedEdges
+-- what is told of a trace, piece by piece: src/explains.rt, src/states.rt
+pub mod ToldPieces
+-- what is told of the whole trace: `explains::explain_trace`, `states::state_trace`
+pub mod ToldTraces
 -- the trace of a legal list is what a check calls legal: src/laws.rt, `drives::drive`
 pub mod LegalTrace
 -- the rounds of a drive, and the lines of what it made: src/drives.rt

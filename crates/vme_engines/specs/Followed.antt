@@ -16,9 +16,17 @@ use Rattle.vme_engines.specs.declared.following.Following.{Following}
 use Rattle.vme_engines.specs.declared.following.Told.{Told}
 use Rattle.vme_engines.specs.declared.following.Told.TheVariants.{Block, Beyond}
 use Rattle.vme_engines.specs.declared.checks.Finding.TheVariants.{Legal}
+use Rattle.vme_engines.specs.declared.EngineFault.TheVariants as fault
+use Rattle.vme_engines.specs.Outcomes.{Answer}
 use Rattle.vme_engines.specs.Checking.{first_refusal, finding_line}
 use Rattle.vme_engines.specs.Explaining.{edge_status}
 use Rattle.vme_engines.specs.Traced.{OfTrace}
+
+-- the answer of an engine that is to tell a block
+abbrev pub told_answer : Result Told Fault → Answer
+told_answer (Ok (Block status)) = Ok status
+told_answer (Ok (Beyond edges)) = Err (fault.Beyond edges)
+told_answer (Err f) = Err (fault.Trace f)
 
 -- these edges were followed
 pub record Follows (first : Following) (es : List Edge) (now : Following) : Type 0 where
@@ -38,8 +46,9 @@ IsNext None b n front e =
 
 -- none of the edges behind the first n is asked for
 abbrev pub IsMissing : Option ℕ → State → ℕ → List Edge → Type 0
-IsMissing (Some asked) b n es = n < asked → n + length es < asked
-IsMissing None b n es = first_refusal (n + 1) b es ≡ None
+IsMissing edge b n es =
+    ((asked : ℕ) → edge ≡ Some asked → n < asked → n + length es < asked)
+    × (edge ≡ None → first_refusal (n + 1) b es ≡ None)
 
 -- the edge that is asked for is one of these; those before it were followed
 pub record ComesTo
@@ -79,6 +88,17 @@ abbrev pub Tells :
 Tells edge first es more status Writes =
     TellsEdge edge first es status Writes ⊎ TellsLegal edge first es more status Writes
 
+-- At the end of a trace without the edge that is asked for, behind n edges: it is told that all are
+-- legal, or nothing.
+abbrev pub EndsMissing :
+    Option ℕ → ℕ → Option (List ℕ) → Option (List ℕ) → Result Told Fault → Type 0
+EndsMissing edge n old new (Ok (Block status)) =
+    (edge ≡ None) × (status ≡ Done) × Appends old new (finding_line (Legal n))
+EndsMissing edge n old new (Ok (Beyond edges)) =
+    (edges ≡ n) × Keeps old new × (asked : ℕ) × (edge ≡ Some asked)
+EndsMissing edge n old new (Err f) =
+    (f ≡ Write) × (edge ≡ None) × AppendsFront old new (finding_line (Legal n))
+
 -- What the edges of a piece do to an explanation: `more` is what the read answered.
 abbrev pub ExplainsPiece :
     Option ℕ → Following → List Edge → Result Bool Fault → Option (List ℕ) → Option (List ℕ)
@@ -106,13 +126,13 @@ IsPlace None n front rest more = (rest ≡ []) × (more ≡ Ok false)
 
 -- the place is behind these edges, and not at their end
 abbrev pub IsBehind : Option ℕ → ℕ → List Edge → Type 0
-IsBehind (Some after) n es = n ≤ after → n + length es < after
-IsBehind None n es = Unit {0}
+IsBehind after n es =
+    (wanted : ℕ) → after ≡ Some wanted → n ≤ wanted → n + length es < wanted
 
 -- it is at their end at the least
 abbrev pub IsNotBefore : Option ℕ → ℕ → List Edge → Type 0
-IsNotBefore (Some after) n es = n ≤ after → n + length es ≤ after
-IsNotBefore None n es = Unit {0}
+IsNotBefore after n es =
+    (wanted : ℕ) → after ≡ Some wanted → n ≤ wanted → n + length es ≤ wanted
 
 -- whether it was reached, behind a front that was followed; else all edges were followed
 abbrev pub Reaches : Option ℕ → Following → List Edge → Following → Bool → Type 0

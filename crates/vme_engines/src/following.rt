@@ -5,12 +5,13 @@ ghost use Rattle.vme_model.specs.Verdict.{verdict, after};
 ghost use Rattle.vme_model.specs.Numbered.{numbered_with};
 ghost use Rattle.vme_reasons.specs.Marked.{IsMarksOf};
 ghost use Rattle.vme_engines.specs.Traced.{OfTrace};
-ghost use Rattle.vme_engines.specs.Followed.{Follows, IsMissing, ComesTo, Reaches};
+ghost use Rattle.vme_engines.specs.Followed.{Follows, IsMissing, ComesTo, Reaches, told_answer};
 
-use crate::Status;
+use crate::{EngineFault, Status};
 use vme_backplane::Backplane;
 use vme_model::{Driver, Edge};
 use vme_reasons::Marks;
+use vme_trace::Fault;
 
 /// What an engine answers that tells one block.
 #[derive(Clone, Copy, PartialEq, Eq, Debug)]
@@ -28,6 +29,17 @@ pub(crate) struct Following<'r> {
     pub(crate) marks: Marks,
     /// How many edges were judged.
     pub(crate) judged: u64,
+}
+
+/// The answer of an engine that is to tell a block of a trace.
+pub(crate) fn answer_of(told: Result<Told, Fault>) -> Result<Status, EngineFault>
+    ensures { result ≡ told_answer told }
+{
+    match told {
+        Ok(Told::Block(status)) => Ok(status),
+        Ok(Told::Beyond(edges)) => Err(EngineFault::Beyond(edges)),
+        Err(fault) => Err(EngineFault::Trace(fault)),
+    }
 }
 
 /// How many of `len` edges behind the first `judged` are among the first `n`, where no others are.
@@ -98,7 +110,7 @@ impl<'r> Following<'r> {
     }
 
     /// Follows the edges up to the first that is refused, which it gives.
-    pub(crate) fn follow_to_refused(&mut self, edges: &[Edge]) -> Option<Edge>
+    fn follow_to_refused(&mut self, edges: &[Edge]) -> Option<Edge>
         requires { self.old.judged + length edges.now < 2 ^ 64 }
         ensures some { IfSome result (λ e. ComesTo None self.old edges.now e self.new) }
         ensures none { IfNone result
@@ -115,7 +127,7 @@ impl<'r> Following<'r> {
     }
 
     /// Follows the edges up to the n-th of the trace, which it gives.
-    pub(crate) fn follow_to_number(&mut self, n: u64, edges: &[Edge]) -> Option<Edge>
+    fn follow_to_number(&mut self, n: u64, edges: &[Edge]) -> Option<Edge>
         requires { self.old.judged + length edges.now < 2 ^ 64 }
         ensures some { IfSome result (λ e. ComesTo (Some n) self.old edges.now e self.new) }
         ensures none { IfNone result
@@ -131,6 +143,20 @@ impl<'r> Following<'r> {
                 self.follow(edges);
                 None
             }
+        }
+    }
+
+    /// Follows the edges up to the one that is asked for, which it gives: that of a number, or the first that is refused.
+    pub(crate) fn follow_to(&mut self, edge: Option<u64>, edges: &[Edge]) -> Option<Edge>
+        requires { self.old.judged + length edges.now < 2 ^ 64 }
+        ensures some { IfSome result (λ e. ComesTo edge self.old edges.now e self.new) }
+        ensures none { IfNone result
+            (IsMissing edge self.old.backplane self.old.judged edges.now
+            × Follows self.old edges.now self.new) }
+    {
+        match edge {
+            Some(n) => self.follow_to_number(n, edges),
+            None => self.follow_to_refused(edges),
         }
     }
 

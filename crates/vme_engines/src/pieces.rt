@@ -1,6 +1,7 @@
 //! The one loop over a trace: an engine takes its edges piece by piece, until it has an answer.
 ghost use Rattle.std.specs.Prelude.{◌≡◌, ◌+◌, ◌<◌, ◌^◌, ◌++◌, ℕ, List, [], Option, None, Bool, Result, Ok, true, length};
 ghost use Rattle.vme_model.specs.declared.signals.Edge.{Edge};
+ghost use Rattle.vme_model.specs.Locality.{AreWellFormed};
 ghost use Rattle.vme_trace.specs.declared.Fault.{Fault};
 ghost use Rattle.vme_engines.specs.Steps.{IsCounted};
 ghost use Rattle.vme_engines.specs.Pieces.{ReadsOn};
@@ -31,7 +32,8 @@ pub(crate) trait Judge {
         more: Result<bool, Fault>,
         out: &mut W,
     ) -> Result<Option<Self::Answer>, Fault>
-        requires { count self.old + length edges.now < 2 ^ 64 }
+        requires count { count self.old + length edges.now < 2 ^ 64 }
+        requires well_formed { AreWellFormed edges.now }
         ensures { (first : Self) (es : List Edge) (old : Option (List ℕ))
             → takes first es (Ok true) old (W.contents out.old) self.old (Ok None)
             → takes first (es ++ edges.now) more old (W.contents out.new) self.new result };
@@ -58,6 +60,7 @@ pub(crate) fn read_on<J: Judge, R: Read, W: Write>(
     out: &mut W,
 ) -> Result<J::Answer, Fault>
     requires counted { first ≡ Ok true → IsCounted reader.old reads (length edges.old.items) }
+    requires well_formed { AreWellFormed edges.old.items }
     requires begun { J.count judge.old ≡ 0 }
     ensures { ReadsOn (J.takes judge.old) reader.old edges.old.items first reads
         (R.remaining input.old) (R.remaining input.new)

@@ -10,6 +10,7 @@ use Rattle.vme_engines.specs.Steps.{IsNoPlan}
 use Rattle.vme_engines.proofs.FirstReads.{no_plan}
 use Rattle.vme_engines.proofs.ReplayPieces.{replays_all}
 use Rattle.vme_engines.proofs.AfterScenario.{no_plan_of, plan_of_text, came_start, counted_start, input_behind}
+use Rattle.vme_engines.proofs.FormedEdges.{formed_start}
 use Rattle.vme_engines.proofs.joins.replay_behind.Goals as goal
 
 pub returns-in_err-plan : goal.returns-in_err-plan
@@ -46,6 +47,7 @@ pub read_on-requires : goal.read_on-requires
 read_on-requires g c = record {
   counted = λ first. counted_start c.args.version c.args.rest.now c.args.reads _ _ _ c.start-first.ensures.starts first c.requires.rest c.requires.reads;
   begun = c.new-replay.ensures.judged;
+  well_formed = formed_start _ _ _ _ c.start-first.ensures.starts;
 }
 
 pub returns-in-Ok : goal.returns-in-Ok

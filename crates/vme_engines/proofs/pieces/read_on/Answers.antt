@@ -1,8 +1,9 @@
-use Rattle.std.proofs.Common.{◌≡◌, ◌-◌, ◌+◌, ◌≤◌, ◌^◌, ◌++◌, ℕ, [], length, Ok, Err, arith, ◌∙◌, ap, subst, append-nil}
+use Rattle.std.proofs.Common.{◌≡◌, ◌-◌, ◌+◌, ◌≤◌, ◌^◌, ◌++◌, ℕ, [], length, Ok, Err, arith, refl, ◌∙◌, ap, subst, append-nil}
 use Rattle.std.proofs.lemmas.Result.{err_from_is_err_and}
 use Rattle.vme_engines.specs.Steps.{IsCounted}
 use Rattle.vme_engines.proofs.TraceReads.{came, stays_known, counted_few, counted_more}
 use Rattle.vme_engines.proofs.ReadOn.{IsUnderWay, answers_so, answers_unread, goes_on}
+use Rattle.vme_engines.proofs.FormedEdges.{formed_piece}
 use Rattle.vme_engines.proofs.pieces.read_on.Goals as goal
 
 pub returns-in_err-answer : goal.returns-in_err-answer
@@ -37,7 +38,12 @@ pub take-requires-in-reads : goal.take-requires-in-reads
 take-requires-in-reads g c =
     let few : g.J.Judge.count c.reads.judge ≤ 2 ^ 34 = counted_few _ _ _ c.reads.invariant.counted in
     let same = ap length c.deref-in-reads.ensures.value in
-    omega (arith, same, c.pump-more.new.edges.small, c.pump-more.new.edges.ok.0, c.pump-more.new.edges.ok.1)
+    record {
+      count = omega (arith, same, c.pump-more.new.edges.small, c.pump-more.new.edges.ok.0, c.pump-more.new.edges.ok.1);
+      well_formed = rw c.deref-in-reads.ensures.value
+          (let counted = c.reads.invariant.counted in
+          formed_piece _ _ counted.bytes c.pump-more.new.reader counted.es c.pump-more.new.edges.items c.pump-more.result (rw c.clear.ensures.items at (c.pump-more.ensures.reads counted.bytes counted.es counted.read)));
+    }
 
 pub returns-in_err-answer-2 : goal.returns-in_err-answer-2
 returns-in_err-answer-2 g c =
@@ -85,7 +91,7 @@ reads-preserved g c =
 pub take-requires-2 : goal.take-requires-2
 take-requires-2 g c =
     let few : g.J.Judge.count c.reads.judge ≤ 2 ^ 34 = counted_few _ _ _ c.reads.invariant.counted in
-    omega (arith, few)
+    record { count = omega (arith, few); well_formed = refl }
 
 pub returns-in_err-answer-3 : goal.returns-in_err-answer-3
 returns-in_err-answer-3 g c =

@@ -3,7 +3,11 @@ use Rattle.vme_trace.specs.declared.Fault.{Fault}
 use Rattle.vme_engines.specs.Steps.{Opens}
 use Rattle.vme_engines.proofs.FirstReads.{unopened, never_unopened}
 use Rattle.vme_engines.proofs.ReplayPieces.{replays_all}
+use Rattle.vme_engines.proofs.FormedEdges.{formed_first}
 use Rattle.vme_engines.proofs.replays.replay_trace.Goals as goal
+
+pub read_on-requires-clause-well_formed : goal.read_on-requires-clause-well_formed
+read_on-requires-clause-well_formed g c = formed_first _ _ [] [] c.open-first.result.1 c.open-first.new.reader _ _ c.open-first.ensures.0
 
 pub returns-in-Some : goal.returns-in-Some
 returns-in-Some g c =

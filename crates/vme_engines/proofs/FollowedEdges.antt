@@ -1,0 +1,191 @@
+-- A trace that is followed edge by edge.
+use Rattle.std.proofs.Common.{◌≡◌, ℕ, ◌+◌, ◌<◌, ◌≤◌, List, [], ◌∷◌, ◌++◌, length, Bool, true, false, Option, Some, None, Result, Ok, Err, is_ok, get_or, take, drop, if◌then◌else◌, refl, sym, ◌∙◌, ap, subst, arith, append_assoc, take-append-drop}
+use Rattle.std.proofs.Math.ListN.{length-append}
+use Rattle.std.proofs.lemmas.Bool.{and_parts}
+use Rattle.std.proofs.lemmas.List.{take_more, drop_more, length-take-le}
+use Rattle.std.specs.Prelude.{◌&&◌}
+use Rattle.vme_model.specs.declared.deliveries.Delivery.{Delivery}
+use Rattle.vme_model.specs.declared.refusals.Refused.{Refused}
+use Rattle.vme_model.specs.declared.refusals.Refused.TheVariants.{NoSuchDriver}
+use Rattle.vme_model.specs.declared.signals.Cycle.{Cycle}
+use Rattle.vme_model.specs.declared.signals.Edge.{Edge}
+use Rattle.vme_model.specs.Signals.{is_well_formed}
+use Rattle.vme_model.specs.Plan.{Plan, has_driver}
+use Rattle.vme_model.specs.History.{shown}
+use Rattle.vme_model.specs.Verdict.{State, Judgement, check, verdict, made, after, kept}
+use Rattle.vme_model.specs.Deliveries.{answer, delivery, with_delivery}
+use Rattle.vme_model.specs.Numbered.{Numbered, edges_in, numbered_with, numbered_on}
+use Rattle.vme_reasons.specs.declared.marks.Marks.{Marks}
+use Rattle.vme_reasons.specs.Marked.{IsMarksOf}
+use Rattle.vme_engines.specs.declared.following.Following.{Following}
+use Rattle.vme_engines.specs.Checking.{or_refusal, first_refusal}
+use Rattle.vme_engines.specs.Traced.{OfTrace}
+use Rattle.vme_engines.specs.Followed.{Follows, IsMissing, ComesTo}
+use Rattle.vme_engines.proofs.WrittenLines.{kept_append}
+use Rattle.vme_engines.proofs.CheckPieces.{refusal_behind}
+
+-- ---- an edge that is made is well formed
+
+-- what the first test lets through
+first_test : (b : Bool) (rest : Judgement) (x d : Option Delivery) → with_delivery (check b NoSuchDriver rest) x ≡ Ok d → b ≡ true
+first_test true rest x d is = refl
+first_test false rest x d is = absurd (cc)
+
+pub made_is_well_formed : (b : State) (e : Edge) (d : Option Delivery) → answer b e ≡ Ok d → is_well_formed e ≡ true
+made_is_well_formed b e d is =
+    (and_parts (is_well_formed e) (has_driver b.plan e.driver e.wire) (first_test (is_well_formed e && has_driver b.plan e.driver e.wire) _ (delivery b.plan b.history e) d is)).0
+
+-- ---- what stays, and what the numbered edges are
+
+plan_by : (t : Bool) (b : State) (e : Edge) → (if t then made b e else b).plan ≡ b.plan
+plan_by true b e = refl
+plan_by false b e = refl
+
+pub kept_plan : (b : State) (es : List Edge) → (kept b es).plan ≡ b.plan
+kept_plan b [] = refl
+kept_plan b (e ∷ es) = kept_plan (after b e) es ∙ plan_by (is_ok (verdict b e)) b e
+
+edges_by : (t : Bool) (b : State) (n : ℕ) (e : Edge) (k : Numbered) → edges_in k ≡ b.history → edges_in (if t then (n, e) ∷ k else k) ≡ (if t then made b e else b).history
+edges_by true b n e k is = ap (λ h. e ∷ h) is
+edges_by false b n e k is = is
+
+pub edges_on : (b : State) (n : ℕ) (k : Numbered) (es : List Edge) → edges_in k ≡ b.history → edges_in (numbered_on b n k es) ≡ (kept b es).history
+edges_on b n k [] is = is
+edges_on b n k (e ∷ es) is = edges_on (after b e) (n + 1) (numbered_with b (n + 1) e k) es (edges_by (is_ok (verdict b e)) b (n + 1) e k is)
+
+pub numbered_append : (b : State) (n : ℕ) (k : Numbered) (es fs : List Edge) → numbered_on b n k (es ++ fs) ≡ numbered_on (kept b es) (n + length es) (numbered_on b n k es) fs
+numbered_append b n k [] fs = ap (λ m. numbered_on b m k fs) (omega arith)
+numbered_append b n k (e ∷ es) fs =
+    numbered_append (after b e) (n + 1) (numbered_with b (n + 1) e k) es fs
+    ∙ ap (λ m. numbered_on (kept (after b e) es) m (numbered_on (after b e) (n + 1) (numbered_with b (n + 1) e k) es) fs) (omega arith)
+
+-- ---- edges behind others
+
+pub follows_none : (f : Following) → Follows f [] f
+follows_none f = record { backplane = refl; judged = omega arith; marks = λ k is of. of }
+
+module _ (first mid : Following) (es : List Edge) (one : Follows first es mid) where
+  mid_plan : mid.backplane.plan ≡ first.backplane.plan
+  mid_plan = ap (λ s. s.plan) one.backplane ∙ kept_plan first.backplane es
+
+  -- what holds of the numbered edges behind these
+  pub of_trace_behind : (P : Numbered → Type 0) → OfTrace mid.backplane mid.marks P → OfTrace first.backplane first.marks (λ k. P (numbered_on first.backplane first.judged k es))
+  of_trace_behind P h =
+      λ k is of.
+      h (numbered_on first.backplane first.judged k es)
+      (edges_on first.backplane first.judged k es is ∙ ap (λ s. s.history) (sym one.backplane))
+      (subst (λ (p : Plan). IsMarksOf p (numbered_on first.backplane first.judged k es) mid.marks) (sym mid_plan) (one.marks k is of))
+
+  pub kept_behind : (fs : List Edge) → kept first.backplane (es ++ fs) ≡ kept mid.backplane fs
+  kept_behind fs = kept_append first.backplane es fs ∙ ap (λ s. kept s fs) (sym one.backplane)
+
+  pub numbered_behind : (k : Numbered) (fs : List Edge) → numbered_on first.backplane first.judged k (es ++ fs) ≡ numbered_on mid.backplane mid.judged (numbered_on first.backplane first.judged k es) fs
+  numbered_behind k fs =
+      numbered_append first.backplane first.judged k es fs
+      ∙ ap (λ s. numbered_on s (first.judged + length es) (numbered_on first.backplane first.judged k es) fs) (sym one.backplane)
+      ∙ ap (λ n. numbered_on mid.backplane n (numbered_on first.backplane first.judged k es) fs) (sym one.judged)
+
+  pub count_behind : (fs : List Edge) → first.judged + length (es ++ fs) ≡ mid.judged + length fs
+  count_behind fs = let is = length-append es fs in let here = one.judged in omega (arith, is, here)
+
+  pub follows_more : (fs : List Edge) (now : Following) → Follows mid fs now → Follows first (es ++ fs) now
+  follows_more fs now two = record {
+    backplane = two.backplane ∙ sym (kept_behind fs);
+    judged = two.judged ∙ sym (count_behind fs);
+    marks = λ k is of.
+        subst (λ (p : Plan). IsMarksOf p (numbered_on first.backplane first.judged k (es ++ fs)) now.marks) mid_plan
+        (subst (λ (m : Numbered). IsMarksOf mid.backplane.plan m now.marks) (sym (numbered_behind k fs))
+        (of_trace_behind (λ m. IsMarksOf mid.backplane.plan (numbered_on mid.backplane mid.judged m fs) now.marks) two.marks k is of));
+  }
+
+-- ---- one edge
+
+with_by : (t : Bool) (n : ℕ) (e : Edge) (k : Numbered) → t ≡ true → (if t then (n, e) ∷ k else k) ≡ (n, e) ∷ k
+with_by t n e k is = rw is refl
+
+-- an accepted edge was noted
+pub noted : (b : State) (n : ℕ) (e : Edge) (old new : Marks) (v : Option Cycle) → is_ok (verdict b e) ≡ true → v ≡ shown b.plan b.history
+    → ((p : Plan) (k : Numbered) → IsMarksOf p k old → v ≡ shown p (edges_in k) → IsMarksOf p ((n, e) ∷ k) new)
+    → OfTrace b old (λ k. IsMarksOf b.plan (numbered_with b n e k) new)
+noted b n e old new v accepted is h =
+    λ k edges of.
+    subst (λ (m : Numbered). IsMarksOf b.plan m new) (sym (with_by (is_ok (verdict b e)) n e k accepted))
+    (h b.plan k of (is ∙ ap (shown b.plan) (sym edges)))
+
+pub not_noted : (b : State) (n : ℕ) (e : Edge) (m : Marks) → is_ok (verdict b e) ≡ false → OfTrace b m (λ k. IsMarksOf b.plan (numbered_with b n e k) m)
+not_noted b n e m refused = λ k edges of. rw refused of
+
+pub follows_one : (first now : Following) (e : Edge) → now.backplane ≡ after first.backplane e → now.judged ≡ first.judged + 1
+    → OfTrace first.backplane first.marks (λ k. IsMarksOf first.backplane.plan (numbered_with first.backplane (first.judged + 1) e k) now.marks) → Follows first (e ∷ []) now
+follows_one first now e is count marks = record { backplane = is; judged = omega (arith, count); marks = marks }
+
+after_refused : (t : Bool) (b : State) (e : Edge) → t ≡ false → (if t then made b e else b) ≡ b
+after_refused t b e is = rw is refl
+
+numbered_refused : (t : Bool) (n : ℕ) (e : Edge) (k : Numbered) → t ≡ false → (if t then (n, e) ∷ k else k) ≡ k
+numbered_refused t n e k is = rw is refl
+
+-- a refused edge leaves what was followed
+pub follows_refused : (first mid now : Following) (es : List Edge) (e : Edge) → Follows first es mid → is_ok (verdict mid.backplane e) ≡ false
+    → now.backplane ≡ after mid.backplane e → now.judged ≡ mid.judged
+    → OfTrace mid.backplane mid.marks (λ k. IsMarksOf mid.backplane.plan (numbered_with mid.backplane (mid.judged + 1) e k) now.marks) → Follows first es now
+follows_refused first mid now es e one refused is count marks = record {
+  backplane = is ∙ after_refused (is_ok (verdict mid.backplane e)) mid.backplane e refused ∙ one.backplane;
+  judged = count ∙ one.judged;
+  marks = λ k edges of.
+      subst (λ (p : Plan). IsMarksOf p (numbered_on first.backplane first.judged k es) now.marks) (mid_plan first mid es one)
+      (of_trace_behind first mid es one (λ m. IsMarksOf mid.backplane.plan m now.marks)
+      (λ m e2 of2. subst (λ (l : Numbered). IsMarksOf mid.backplane.plan l now.marks) (numbered_refused (is_ok (verdict mid.backplane e)) (mid.judged + 1) e m refused) (marks m e2 of2)) k edges of);
+}
+
+-- ---- in the loops over edges
+
+pub followed_more : (first mid now : Following) (es : List Edge) (i : ℕ) (d : Edge) → i < length es → Follows first (take i es) mid
+    → now.backplane ≡ after mid.backplane (get_or es i d) → now.judged ≡ mid.judged + 1
+    → OfTrace mid.backplane mid.marks (λ k. IsMarksOf mid.backplane.plan (numbered_with mid.backplane (mid.judged + 1) (get_or es i d) k) now.marks)
+    → Follows first (take (i + 1) es) now
+followed_more first mid now es i d h one is count marks =
+    subst (λ (l : List Edge). Follows first l now) (sym (take_more es i d h))
+    (follows_more first mid (take i es) one (get_or es i d ∷ []) now (follows_one mid now (get_or es i d) is count marks))
+
+ok_none : (n : ℕ) (j : Judgement) → is_ok j ≡ true → or_refusal n j None ≡ None
+ok_none n (Ok u) h = refl
+ok_none n (Err r) h = absurd cc
+
+-- none is refused, with the next one
+pub none_more : (first mid : Following) (es : List Edge) (i : ℕ) (d : Edge) → i < length es → Follows first (take i es) mid
+    → first_refusal (first.judged + 1) first.backplane (take i es) ≡ None → is_ok (verdict mid.backplane (get_or es i d)) ≡ true
+    → first_refusal (first.judged + 1) first.backplane (take (i + 1) es) ≡ None
+none_more first mid es i d h one none accepted =
+    ap (first_refusal (first.judged + 1) first.backplane) (take_more es i d h)
+    ∙ refusal_behind (first.judged + 1) first.backplane (take i es) (get_or es i d ∷ []) none
+    ∙ ap (λ s. first_refusal ((first.judged + 1) + length (take i es)) s (get_or es i d ∷ [])) (sym one.backplane)
+    ∙ ok_none ((first.judged + 1) + length (take i es)) (verdict mid.backplane (get_or es i d)) accepted
+
+split_at : (es : List Edge) (i : ℕ) (d : Edge) → i < length es → es ≡ take i es ++ (get_or es i d ∷ drop (i + 1) es)
+split_at es i d h = sym (take-append-drop i es) ∙ ap (λ l. take i es ++ l) (drop_more es i d h)
+
+-- the first that is refused
+pub comes_to_refused : (first mid now : Following) (es : List Edge) (i : ℕ) (d : Edge) → i < length es → Follows first (take i es) mid
+    → first_refusal (first.judged + 1) first.backplane (take i es) ≡ None → is_ok (verdict mid.backplane (get_or es i d)) ≡ false
+    → now.backplane ≡ after mid.backplane (get_or es i d) → now.judged ≡ mid.judged
+    → OfTrace mid.backplane mid.marks (λ k. IsMarksOf mid.backplane.plan (numbered_with mid.backplane (mid.judged + 1) (get_or es i d) k) now.marks)
+    → ComesTo None first es (get_or es i d) now
+comes_to_refused first mid now es i d h one none refused is count marks = record {
+  front = take i es;
+  rest = drop (i + 1) es;
+  split = split_at es i d h;
+  asked = (none, ap (λ s. is_ok (verdict s (get_or es i d))) (sym one.backplane) ∙ refused);
+  follows = follows_refused first mid now (take i es) (get_or es i d) one refused is count marks;
+}
+
+-- the n-th of the trace
+pub comes_to_number : (n : ℕ) (first now : Following) (es : List Edge) (i : ℕ) (d : Edge) → i < length es → n ≡ (first.judged + i) + 1 → Follows first (take i es) now
+    → ComesTo (Some n) first es (get_or es i d) now
+comes_to_number n first now es i d h is one = record {
+  front = take i es;
+  rest = drop (i + 1) es;
+  split = split_at es i d h;
+  asked = is ∙ ap (λ m. (first.judged + m) + 1) (sym (length-take-le i es (omega arith)));
+  follows = one;
+}

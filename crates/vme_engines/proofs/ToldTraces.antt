@@ -1,0 +1,2 @@
+-- What is told of the whole trace.
+use Rattle.std.proofs.Common.{◌≡◌}

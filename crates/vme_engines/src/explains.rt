@@ -1,0 +1,215 @@
+//! Explaining an edge of a trace: why it is accepted or refused.
+ghost use Rattle.std.specs.Prelude.{◌≡◌, ◌+◌, ◌<◌, ◌^◌, length, refl, IsTrue, OnOk, OnErr, IfOk, IfErr};
+ghost use Rattle.std.specs.Io.KnownBytes.{Appends};
+ghost use Rattle.vme_model.specs.Signals.{is_well_formed};
+ghost use Rattle.vme_model.specs.Locality.{AreWellFormed};
+ghost use Rattle.vme_model.specs.Report.{trace_limit};
+ghost use Rattle.vme_model.specs.Why.{why_text};
+ghost use Rattle.vme_trace.specs.Writing.{AppendsFront};
+ghost use Rattle.vme_engines.specs.Streams.{streams, ReadNothing, WroteNothing};
+ghost use Rattle.vme_engines.specs.Outcomes.{Lent};
+ghost use Rattle.vme_engines.specs.Explaining.{ExplainsInput, edge_status};
+ghost use Rattle.vme_engines.specs.Followed.{EndsMissing, ExplainsPiece, told_answer};
+ghost use Rattle.vme_engines.specs.Traced.{OfTrace};
+ghost use Rattle.std.proofs.Common.{arith};
+ghost use Rattle.std.proofs.KnownBytes.{Keeps-refl};
+
+use crate::blocks::write_why;
+use crate::checks::Finding;
+use crate::following::{Following, Told, answer_of};
+use crate::lines::write_finding;
+use crate::pieces::{Judge, read_on};
+use crate::plans::{history_region, history_room, plan_of};
+use crate::traces::open;
+use crate::{EngineFault, Status};
+use std::alloc::Global;
+use std::io::{Read, Write};
+use vme_backplane::{Backplane, Trace};
+use vme_model::Edge;
+use vme_slots::Plan;
+use vme_trace::{Fault, Reader, flush};
+
+/// Writes the block of the next edge, and has the writer hand on what it holds back. The status says whether the edge
+/// is refused.
+fn tell_edge<W: Write>(
+    following: &mut Following,
+    edge: &Edge,
+    out: &mut W,
+) -> Result<Status, Fault>
+    requires room { following.old.judged + 1 < 2 ^ 64 }
+    requires well_formed { IsTrue (is_well_formed edge.now) }
+    ensures status { IfOk result
+        (λ status. status ≡ edge_status following.old.backplane edge.now) }
+    ensures ok { OnOk result (OfTrace following.old.backplane following.old.marks
+        (λ k. Appends (W.contents out.old) (W.contents out.new)
+        (why_text (following.old.judged + 1) following.old.backplane k edge.now))) }
+    ensures front { OnErr result (OfTrace following.old.backplane following.old.marks
+        (λ k. AppendsFront (W.contents out.old) (W.contents out.new)
+        (why_text (following.old.judged + 1) following.old.backplane k edge.now))) }
+    ensures fault { IfErr result (λ fault. fault ≡ Fault.Write) }
+{
+    write_why(
+        following.judged + 1,
+        &following.backplane,
+        &following.marks,
+        edge,
+        out,
+    )?;
+    flush(out)?;
+    match following.backplane.step(*edge) {
+        Ok(_) => Ok(Status::Done),
+        Err(_) => Ok(Status::SomeRefused),
+    }
+}
+
+/// Ends a trace of so many edges that has not the one that is asked for: where that is the first that is refused, all
+/// are legal, and that is written.
+fn end<W: Write>(edge: Option<u64>, edges: u64, out: &mut W) -> Result<Told, Fault>
+    ensures { EndsMissing edge edges (W.contents out.old) (W.contents out.new) result }
+{
+    match edge {
+        Some(_) => Ok(Told::Beyond(edges)),
+        None => {
+            write_finding(Finding::Legal { edges }, out)?;
+            Ok(Told::Block(Status::Done))
+        }
+    }
+}
+
+/// Follows the edges of a piece, and tells of the one that is asked for once it comes, before it is made.
+///
+/// `more` is what the read of the piece answered. None where the trace goes on.
+fn explain_piece<W: Write>(
+    following: &mut Following,
+    edge: Option<u64>,
+    edges: &[Edge],
+    more: Result<bool, Fault>,
+    out: &mut W,
+) -> Result<Option<Told>, Fault>
+    requires room { following.old.judged + length edges.now < 2 ^ 64 }
+    requires well_formed { AreWellFormed edges.now }
+    ensures { ExplainsPiece edge following.old edges.now more
+        (W.contents out.old) (W.contents out.new) following.new result }
+{
+    match following.follow_to(edge, edges) {
+        Some(found) => {
+            let status = tell_edge(following, &found, out)?;
+            return Ok(Some(Told::Block(status)));
+        }
+        None => {}
+    }
+    match more {
+        Ok(true) => Ok(None),
+        Ok(false) => Ok(Some(end(edge, following.judged, out)?)),
+        Err(fault) => Err(fault),
+    }
+}
+
+/// An explanation under way.
+#[derive(Drop)]
+struct Explaining<'r> {
+    following: Following<'r>,
+    /// The number of the edge that is asked for; without one the first that is refused.
+    edge: Option<u64>,
+}
+
+impl<'r> Explaining<'r> {
+    /// Before the first edge.
+    fn new(following: Following<'r>, edge: Option<u64>) -> Explaining<'r>
+        ensures following { result.following ≡ following.entry }
+        ensures edge { result.edge ≡ edge }
+    {
+        Explaining { following, edge }
+    }
+}
+
+impl Judge for Explaining<'_> {
+    type Answer = Told;
+
+    ghost count = { λ now. now.following.judged };
+
+    ghost takes = { λ first es more old new now answer.
+        (now.edge ≡ first.edge)
+        × ExplainsPiece first.edge first.following es more old new now.following answer };
+
+    fn take<W: Write>(
+        &mut self,
+        edges: &[Edge],
+        more: Result<bool, Fault>,
+        out: &mut W,
+    ) -> Result<Option<Told>, Fault> {
+        explain_piece(&mut self.following, self.edge, edges, more, out)
+    }
+
+    ghost begins = { λ first old. (refl, refl, Keeps-refl old,
+        (λ asked is low. omega arith, λ none. refl),
+        record { backplane = refl; judged = omega arith; marks = λ k is of. of }) };
+
+    ghost goes_on = { λ first es more old new now h. (h.1.0, h.1.3.judged) };
+}
+
+/// Explains an edge of a trace that stands alone, on a plan.
+fn explain_trace<R: Read, W: Write>(
+    alloc: Global,
+    plan: Plan,
+    room: Trace,
+    trace: &mut R,
+    edge: Option<u64>,
+    out: &mut W,
+) -> Result<Told, Fault>
+    requires { room ≡ trace_limit }
+    ensures { ExplainsInput edge
+        (streams (R.remaining trace.old) (R.remaining trace.new)
+        (W.contents out.old) (W.contents out.new))
+        plan (told_answer result) }
+{
+    let mut reader = Reader::new();
+    let mut edges = Vec::new(alloc);
+    let (first, reads) = open(&mut reader, trace, &mut edges);
+    match reader.version() {
+        Some(version) => {
+            let following = Following::new(Backplane::new(plan, room, version));
+            let mut explanation = Explaining::new(following, edge);
+            read_on(
+                &mut explanation,
+                &mut reader,
+                &mut edges,
+                first,
+                reads,
+                trace,
+                out,
+            )
+        }
+        None => match first {
+            Ok(_) => Err(Fault::Read),
+            Err(fault) => Err(fault),
+        },
+    }
+}
+
+/// Explains an edge of a trace on the plan of a scenario: the one with the number `edge`, counted from 1, or without one
+/// the first that is refused.
+///
+/// Writes the edge with its verdict, and the conditions of its rule, each with whether it holds and since when. The
+/// status is `SomeRefused` where the edge is refused, and else `Done`. Without a number, where no edge is refused, it
+/// writes `legal N`. Behind that edge it judges none. It makes at most 16,777,216 reads.
+///
+/// Errors: F2 and the faults of the scenario and F3, before anything is read or written; those of the trace before the
+/// edge, and X9 where a trace without fault has fewer edges, or the number is 0: then nothing is written; X8 where the
+/// output cannot be written.
+pub fn explain<R: Read, W: Write>(
+    alloc: Global,
+    scenario: &[u8],
+    trace: &mut R,
+    edge: Option<u64>,
+    out: &mut W,
+) -> Result<Status, EngineFault>
+    ensures { let s = streams (R.remaining trace.old) (R.remaining trace.new)
+        (W.contents out.old) (W.contents out.new) in
+        Lent scenario.now (ReadNothing s × WroteNothing s) (ExplainsInput edge s) result }
+{
+    let plan = plan_of(alloc, scenario)?;
+    let mut region = history_region(alloc)?;
+    let room = history_room(alloc, &mut region)?;
+    answer_of(explain_trace(alloc, plan, room, trace, edge, out))
+}

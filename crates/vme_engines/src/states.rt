@@ -1,0 +1,179 @@
+//! Telling where the bus stands behind a trace, or behind a front of it.
+ghost use Rattle.std.specs.Prelude.{◌≡◌, ◌+◌, ◌<◌, ◌^◌, length, refl, OnOk, OnErr, IfOk, IfErr};
+ghost use Rattle.std.specs.Io.KnownBytes.{Appends};
+ghost use Rattle.vme_model.specs.Report.{trace_limit};
+ghost use Rattle.vme_model.specs.Stands.{stands_text};
+ghost use Rattle.vme_trace.specs.Writing.{AppendsFront};
+ghost use Rattle.vme_engines.specs.Streams.{streams, ReadNothing, WroteNothing};
+ghost use Rattle.vme_engines.specs.Outcomes.{Lent};
+ghost use Rattle.vme_engines.specs.Stating.{StatesInput};
+ghost use Rattle.vme_engines.specs.Followed.{StatesPiece, told_answer};
+ghost use Rattle.vme_engines.specs.Traced.{OfTrace};
+ghost use Rattle.std.proofs.Common.{arith};
+ghost use Rattle.std.proofs.KnownBytes.{Keeps-refl};
+
+use crate::blocks::write_stands;
+use crate::following::{Following, Told, answer_of};
+use crate::pieces::{Judge, read_on};
+use crate::plans::{history_region, history_room, plan_of};
+use crate::traces::open;
+use crate::{EngineFault, Status};
+use std::alloc::Global;
+use std::io::{Read, Write};
+use vme_backplane::{Backplane, Trace};
+use vme_model::Edge;
+use vme_slots::Plan;
+use vme_trace::{Fault, Reader, flush};
+
+/// Writes where the bus stands, and has the writer hand on what it holds back.
+fn tell_place<W: Write>(following: &Following, out: &mut W) -> Result<Told, Fault>
+    ensures told { IfOk result (λ told. told ≡ Told.Block Status.Done) }
+    ensures ok { OnOk result (OfTrace following.now.backplane following.now.marks
+        (λ k. Appends (W.contents out.old) (W.contents out.new)
+        (stands_text following.now.judged following.now.backplane k))) }
+    ensures front { OnErr result (OfTrace following.now.backplane following.now.marks
+        (λ k. AppendsFront (W.contents out.old) (W.contents out.new)
+        (stands_text following.now.judged following.now.backplane k))) }
+    ensures fault { IfErr result (λ fault. fault ≡ Fault.Write) }
+{
+    write_stands(
+        following.judged,
+        &following.backplane,
+        &following.marks,
+        out,
+    )?;
+    flush(out)?;
+    Ok(Told::Block(Status::Done))
+}
+
+/// Follows the edges of a piece, and tells where the bus stands once the place that is asked for is reached.
+///
+/// `more` is what the read of the piece answered. None where the trace goes on.
+fn state_piece<W: Write>(
+    following: &mut Following,
+    after: Option<u64>,
+    edges: &[Edge],
+    more: Result<bool, Fault>,
+    out: &mut W,
+) -> Result<Option<Told>, Fault>
+    requires { following.old.judged + length edges.now < 2 ^ 64 }
+    ensures { StatesPiece after following.old edges.now more
+        (W.contents out.old) (W.contents out.new) following.new result }
+{
+    if following.follow_through(after, edges) {
+        return Ok(Some(tell_place(following, out)?));
+    }
+    match (more, after) {
+        (Ok(true), _) => Ok(None),
+        (Ok(false), None) => Ok(Some(tell_place(following, out)?)),
+        (Ok(false), Some(_)) => Ok(Some(Told::Beyond(following.judged))),
+        (Err(fault), _) => Err(fault),
+    }
+}
+
+/// A trace on the way to the place that is asked for.
+#[derive(Drop)]
+struct Stating<'r> {
+    following: Following<'r>,
+    /// How many edges stand before it; without a number all.
+    after: Option<u64>,
+}
+
+impl<'r> Stating<'r> {
+    /// Before the first edge.
+    fn new(following: Following<'r>, after: Option<u64>) -> Stating<'r>
+        ensures following { result.following ≡ following.entry }
+        ensures after { result.after ≡ after }
+    {
+        Stating { following, after }
+    }
+}
+
+impl Judge for Stating<'_> {
+    type Answer = Told;
+
+    ghost count = { λ now. now.following.judged };
+
+    ghost takes = { λ first es more old new now answer.
+        (now.after ≡ first.after)
+        × StatesPiece first.after first.following es more old new now.following answer };
+
+    fn take<W: Write>(
+        &mut self,
+        edges: &[Edge],
+        more: Result<bool, Fault>,
+        out: &mut W,
+    ) -> Result<Option<Told>, Fault> {
+        state_piece(&mut self.following, self.after, edges, more, out)
+    }
+
+    ghost begins = { λ first old. (refl, refl, Keeps-refl old, λ wanted is low. omega arith,
+        record { backplane = refl; judged = omega arith; marks = λ k is of. of }) };
+
+    ghost goes_on = { λ first es more old new now h. (h.1.0, h.1.3.judged) };
+}
+
+/// Tells where the bus stands behind a trace that stands alone, on a plan.
+fn state_trace<R: Read, W: Write>(
+    alloc: Global,
+    plan: Plan,
+    room: Trace,
+    trace: &mut R,
+    after: Option<u64>,
+    out: &mut W,
+) -> Result<Told, Fault>
+    requires { room ≡ trace_limit }
+    ensures { StatesInput after
+        (streams (R.remaining trace.old) (R.remaining trace.new)
+        (W.contents out.old) (W.contents out.new))
+        plan (told_answer result) }
+{
+    let mut reader = Reader::new();
+    let mut edges = Vec::new(alloc);
+    let (first, reads) = open(&mut reader, trace, &mut edges);
+    match reader.version() {
+        Some(version) => {
+            let following = Following::new(Backplane::new(plan, room, version));
+            let mut state = Stating::new(following, after);
+            read_on(
+                &mut state,
+                &mut reader,
+                &mut edges,
+                first,
+                reads,
+                trace,
+                out,
+            )
+        }
+        None => match first {
+            Ok(_) => Err(Fault::Read),
+            Err(fault) => Err(fault),
+        },
+    }
+}
+
+/// Tells where the bus stands behind the first `after` edges of a trace, or behind all, on the plan of a scenario.
+///
+/// Writes how many edges were accepted, who holds the bus, where the grant stands, what is shown, who asks, which
+/// interrupts are pending, which wires are low and which edges are open. The status is `Done`. Behind the first `after`
+/// edges it judges none. It makes at most 16,777,216 reads.
+///
+/// Errors: F2 and the faults of the scenario and F3, before anything is read or written; those of the trace up to that
+/// place, and X9 where a trace without fault ends before it: then nothing is written; X8 where the output cannot be
+/// written.
+pub fn state<R: Read, W: Write>(
+    alloc: Global,
+    scenario: &[u8],
+    trace: &mut R,
+    after: Option<u64>,
+    out: &mut W,
+) -> Result<Status, EngineFault>
+    ensures { let s = streams (R.remaining trace.old) (R.remaining trace.new)
+        (W.contents out.old) (W.contents out.new) in
+        Lent scenario.now (ReadNothing s × WroteNothing s) (StatesInput after s) result }
+{
+    let plan = plan_of(alloc, scenario)?;
+    let mut region = history_region(alloc)?;
+    let room = history_room(alloc, &mut region)?;
+    answer_of(state_trace(alloc, plan, room, trace, after, out))
+}
