@@ -20,7 +20,7 @@ use Rattle.vme_reasons.specs.Marked.{IsMarksOf}
 use Rattle.vme_engines.specs.declared.following.Following.{Following}
 use Rattle.vme_engines.specs.Checking.{or_refusal, first_refusal}
 use Rattle.vme_engines.specs.Traced.{OfTrace}
-use Rattle.vme_engines.specs.Followed.{Follows, IsMissing, ComesTo}
+use Rattle.vme_engines.specs.Followed.{Follows, ComesTo, Reaches}
 use Rattle.vme_engines.proofs.WrittenLines.{kept_append}
 use Rattle.vme_engines.proofs.CheckPieces.{refusal_behind}
 
@@ -189,3 +189,8 @@ comes_to_number n first now es i d h is one = record {
   asked = is ∙ ap (λ m. (first.judged + m) + 1) (sym (length-take-le i es (omega arith)));
   follows = one;
 }
+
+-- the n-th was followed
+pub reached_front : (after : Option ℕ) (first now : Following) (es : List Edge) (i : ℕ) → i ≤ length es → after ≡ Some (first.judged + i) → Follows first (take i es) now
+    → Reaches after first es now true
+reached_front after first now es i h is one = (take i es, drop i es, sym (take-append-drop i es), is ∙ ap (λ m. Some (first.judged + m)) (sym (length-take-le i es h)), one)

@@ -1,8 +1,12 @@
 -- What is told of a trace, piece by piece.
-use Rattle.std.proofs.Common.{◌≡◌, ◌⊎◌, inl, inr, ℕ, ◌+◌, ◌<◌, ◌≤◌, List, [], ◌∷◌, ◌++◌, length, Bool, true, false, Option, Some, None, Result, Ok, Err, is_ok, refl, sym, ◌∙◌, ap, subst, arith, append_assoc, append-nil}
+use Rattle.std.proofs.Common.{◌≡◌, ◌⊎◌, inl, inr, ℕ, ◌+◌, ◌<◌, ◌≤◌, List, [], ◌∷◌, ◌++◌, length, Bool, true, false, Option, Some, None, Result, Ok, Err, OnErr, is_ok, refl, sym, ◌∙◌, ap, subst, arith, append_assoc, append-nil}
 use Rattle.std.specs.Io.KnownBytes.{Keeps, Appends}
 use Rattle.std.proofs.KnownBytes.{Keeps-trans, Appends-kept}
 use Rattle.vme_model.specs.declared.signals.Edge.{Edge}
+use Rattle.std.specs.List.{list_all}
+use Rattle.std.proofs.lemmas.Bool.{and_parts}
+use Rattle.vme_model.specs.Signals.{is_well_formed}
+use Rattle.vme_model.specs.Locality.{AreWellFormed}
 use Rattle.vme_model.specs.Verdict.{State, verdict, kept}
 use Rattle.vme_model.specs.Numbered.{Numbered, numbered_on}
 use Rattle.vme_model.specs.Why.{why_text}
@@ -10,7 +14,9 @@ use Rattle.vme_model.specs.Stands.{stands_text}
 use Rattle.vme_trace.specs.declared.Fault.{Fault}
 use Rattle.vme_trace.specs.declared.Fault.TheVariants.{Write}
 use Rattle.vme_trace.specs.Writing.{AppendsFront}
+use Rattle.vme_reasons.specs.declared.marks.Marks.{Marks}
 use Rattle.vme_engines.specs.declared.Status.{Status}
+use Rattle.vme_engines.specs.declared.Status.TheVariants.{Done}
 use Rattle.vme_engines.specs.declared.following.Following.{Following}
 use Rattle.vme_engines.specs.declared.following.Told.{Told}
 use Rattle.vme_engines.specs.declared.following.Told.TheVariants.{Block, Beyond}
@@ -18,7 +24,10 @@ use Rattle.vme_engines.specs.declared.checks.Finding.TheVariants.{Legal}
 use Rattle.vme_engines.specs.Checking.{first_refusal, finding_line}
 use Rattle.vme_engines.specs.Explaining.{edge_status}
 use Rattle.vme_engines.specs.Traced.{OfTrace}
-use Rattle.vme_engines.specs.Followed.{Follows, IsNext, IsMissing, ComesTo, TellsEdge, TellsLegal, Tells, EndsMissing, ExplainsPiece, IsPlace, IsBehind, IsNotBefore, TellsPlace, Reaches, StatesPiece}
+use Rattle.vme_engines.specs.Followed.{Follows, IsNext, IsMissing, ComesTo, TellsEdge, TellsLegal, Tells, EndsMissing, ExplainsPiece, IsPlace, IsBehind, IsNotBefore, TellsPlace, Reaches, EndsBehind, StatesPiece}
+use Rattle.vme_engines.specs.Pieces.{answered}
+use Rattle.vme_engines.proofs.FormedEdges.{formed_both}
+use Rattle.vme_engines.proofs.WrittenLines.{on_err}
 use Rattle.vme_engines.proofs.CheckPieces.{refusal_behind}
 use Rattle.vme_engines.proofs.FollowedEdges.{follows_more, of_trace_behind, kept_behind, numbered_behind, count_behind}
 
@@ -35,6 +44,11 @@ front_after a b c bs p q = (q.0, q.1, q.2, appends_behind a b c q.0 p q.3)
 
 pub front_then : (a b c : Option (List ℕ)) (bs : List ℕ) → Appends a b bs → Keeps b c → AppendsFront a c bs
 front_then a b c bs p q = (bs, [], sym (append-nil bs), Appends-kept a b c bs p q)
+
+-- a block was written, but not handed on
+pub flushed_front : {A : Type 0} (r : Result A Fault) (s : State) (m : Marks) (T : Numbered → List ℕ) (a b c : Option (List ℕ)) → OfTrace s m (λ k. Appends a b (T k)) → Keeps b c
+    → OnErr r (OfTrace s m (λ k. AppendsFront a c (T k)))
+flushed_front r s m T a b c w kept = on_err r (OfTrace s m (λ k. AppendsFront a c (T k))) (λ k is of. front_then a b c (T k) (w k is of) kept)
 
 -- ---- a block that tells of the numbered edges behind others
 
@@ -170,23 +184,41 @@ edge_told edge first mid es e status W here ends block = record {
 pub place_told : (after : Option ℕ) (first mid : Following) (es : List Edge) (more : Result Bool Fault) (W : List ℕ → Type 0) (h : Reaches after first es mid true)
     → OfTrace mid.backplane mid.marks (λ k. W (stands_text mid.judged mid.backplane k)) → TellsPlace after first es more W
 place_told after first mid es more W h block = record {
-  front = h.2;
-  rest = h.3;
-  split = h.4;
-  reached = subst (λ (a : Option ℕ). IsPlace a first.judged h.2 h.3 more) (sym h.1) h.5;
-  block = block_here first mid h.2 h.6 stands_text W block;
+  front = h.0;
+  rest = h.1;
+  split = h.2;
+  reached = subst (λ (a : Option ℕ). IsPlace a first.judged h.0 h.1 more) (sym h.3) refl;
+  block = block_here first mid h.0 h.4 stands_text W block;
 }
 
 -- the end of the trace is told
-pub end_told : (first mid : Following) (es : List Edge) (more : Result Bool Fault) (W : List ℕ → Type 0) → more ≡ Ok false → Follows first es mid
-    → OfTrace mid.backplane mid.marks (λ k. W (stands_text mid.judged mid.backplane k)) → TellsPlace None first es more W
-end_told first mid es more W is h block = record {
+end_told : (after : Option ℕ) (first mid : Following) (es : List Edge) (more : Result Bool Fault) (W : List ℕ → Type 0) → after ≡ None → more ≡ Ok false → Follows first es mid
+    → OfTrace mid.backplane mid.marks (λ k. W (stands_text mid.judged mid.backplane k)) → TellsPlace after first es more W
+end_told after first mid es more W none is h block = record {
   front = es;
   rest = [];
   split = sym (append-nil es);
-  reached = (refl, is);
+  reached = subst (λ (a : Option ℕ). IsPlace a first.judged es [] more) (sym none) (refl, is);
   block = block_here first mid es h stands_text W block;
 }
+
+pub states_end : (after : Option ℕ) (first mid : Following) (es : List Edge) (more : Result Bool Fault) (old new : Option (List ℕ)) (r : Result Told Fault) → more ≡ Ok false
+    → IsBehind after first.judged es → Follows first es mid → EndsBehind after mid old new r → StatesPiece after first es more old new mid (answered r)
+states_end after first mid es more old new (Ok (Block status)) is behind h end = (end_told after first mid es more (Appends old new) end.0 is h end.2, end.1)
+states_end after first mid es more old new (Ok (Beyond n)) is behind h end = (is, end.1, behind, end.0 ∙ h.judged, end.2, end.3)
+states_end after first mid es more old new (Err f) is behind h end = inr (end.0, end_told after first mid es more (AppendsFront old new) end.1 is h end.2)
+
+pub explains_end : (edge : Option ℕ) (first mid : Following) (es : List Edge) (more : Result Bool Fault) (old new : Option (List ℕ)) (r : Result Told Fault) → more ≡ Ok false
+    → IsMissing edge first.backplane first.judged es → Follows first es mid → EndsMissing edge mid.judged old new r → ExplainsPiece edge first es more old new mid (answered r)
+explains_end edge first mid es more old new (Ok (Block status)) is missing h end =
+    inr (end.0, is, missing.1 end.0, end.1, subst (λ (n : ℕ). Appends old new (finding_line (Legal n))) h.judged end.2)
+explains_end edge first mid es more old new (Ok (Beyond n)) is missing h end = (is, end.1, missing, end.0 ∙ h.judged, end.2, end.3)
+explains_end edge first mid es more old new (Err f) is missing h end =
+    inr (end.0, Done, inr (end.1, is, missing.1 end.1, refl, subst (λ (n : ℕ). AppendsFront old new (finding_line (Legal n))) h.judged end.2))
+
+-- an edge that stands among others is as well formed as they
+pub found_is_well_formed : (es front rest : List Edge) (e : Edge) → es ≡ front ++ (e ∷ rest) → AreWellFormed es → is_well_formed e ≡ true
+found_is_well_formed es front rest e is h = (and_parts (is_well_formed e) (list_all is_well_formed rest) (formed_both front (e ∷ rest) (subst AreWellFormed is h)).1).0
 
 pub not_before : (after : Option ℕ) (n : ℕ) (es : List Edge) → IsBehind after n es → IsNotBefore after n es
 not_before after n es h = λ wanted given low. let high = h wanted given low in omega (arith, high)

@@ -137,8 +137,8 @@ IsNotBefore after n es =
 -- whether it was reached, behind a front that was followed; else all edges were followed
 abbrev pub Reaches : Option ℕ → Following → List Edge → Following → Bool → Type 0
 Reaches after first es now true =
-    (n : ℕ) × (after ≡ Some n) × (front : List Edge) × (rest : List Edge) × (es ≡ front ++ rest)
-    × (n ≡ first.judged + length front) × Follows first front now
+    (front : List Edge) × (rest : List Edge) × (es ≡ front ++ rest)
+    × (after ≡ Some (first.judged + length front)) × Follows first front now
 Reaches after first es now false = IsBehind after first.judged es × Follows first es now
 
 -- where the bus stands is told by its block
@@ -153,6 +153,21 @@ pub record TellsPlace
   pub block : OfTrace first.backplane first.marks
       (λ k. Writes (stands_text (first.judged + length front) (kept first.backplane front)
       (numbered_on first.backplane first.judged k front)))
+
+-- At the end of a trace that was followed: where the bus stands is told, or nothing, where a place
+-- further on was asked for.
+abbrev pub EndsBehind :
+    Option ℕ → Following → Option (List ℕ) → Option (List ℕ) → Result Told Fault → Type 0
+EndsBehind after now old new (Ok (Block status)) =
+    (after ≡ None) × (status ≡ Done)
+    × OfTrace now.backplane now.marks
+    (λ k. Appends old new (stands_text now.judged now.backplane k))
+EndsBehind after now old new (Ok (Beyond edges)) =
+    (edges ≡ now.judged) × Keeps old new × (wanted : ℕ) × (after ≡ Some wanted)
+EndsBehind after now old new (Err f) =
+    (f ≡ Write) × (after ≡ None)
+    × OfTrace now.backplane now.marks
+    (λ k. AppendsFront old new (stands_text now.judged now.backplane k))
 
 -- What the edges of a piece do to an engine that tells where the bus stands.
 abbrev pub StatesPiece :

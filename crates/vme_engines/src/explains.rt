@@ -141,9 +141,9 @@ impl Judge for Explaining<'_> {
         explain_piece(&mut self.following, self.edge, edges, more, out)
     }
 
-    ghost begins = { λ first old. (refl, refl, Keeps-refl old,
+    ghost begins = { λ first old. (refl, (refl, Keeps-refl old,
         (λ asked is low. omega arith, λ none. refl),
-        record { backplane = refl; judged = omega arith; marks = λ k is of. of }) };
+        record { backplane = refl; judged = omega arith; marks = λ k is of. of })) };
 
     ghost goes_on = { λ first es more old new now h. (h.1.0, h.1.3.judged) };
 }

@@ -1,5 +1,5 @@
 //! A trace that is followed edge by edge, up to the one that an engine waits for.
-ghost use Rattle.std.specs.Prelude.{◌≡◌, ◌+◌, ◌<◌, ◌≤◌, ◌^◌, ◌∷◌, [], length, is_ok, IfSome, IfNone};
+ghost use Rattle.std.specs.Prelude.{◌≡◌, ◌+◌, ◌<◌, ◌≤◌, ◌^◌, ◌∷◌, [], ℕ, length, is_ok, Some, IfSome, IfNone};
 ghost use Rattle.vme_model.specs.Plan.{Plan};
 ghost use Rattle.vme_model.specs.Verdict.{verdict, after};
 ghost use Rattle.vme_model.specs.Numbered.{numbered_with};
@@ -42,12 +42,13 @@ pub(crate) fn answer_of(told: Result<Told, Fault>) -> Result<Status, EngineFault
     }
 }
 
-/// How many of `len` edges behind the first `judged` are among the first `n`, where no others are.
-fn count_up_to(n: u64, judged: u64, len: usize) -> Option<usize>
-    ensures some { IfSome result (λ count. (n ≡ judged + count) × (count ≤ len)) }
-    ensures none { IfNone result (judged ≤ n → judged + len < n) }
+/// How many of `len` edges behind the first `judged` are among the first `n`, unless all are and more.
+fn count_up_to(n: Option<u64>, judged: u64, len: usize) -> Option<usize>
+    ensures some { IfSome result (λ count. (n ≡ Some (judged + count)) × (count ≤ len)) }
+    ensures none { IfNone result
+        ((wanted : ℕ) → n ≡ Some wanted → judged ≤ wanted → judged + len < wanted) }
 {
-    let count = n.checked_sub(judged)?;
+    let count = n?.checked_sub(judged)?;
     if count <= len as u64 {
         Some(count as usize)
     } else {
@@ -60,7 +61,7 @@ fn place_of(n: u64, judged: u64, len: usize) -> Option<usize>
     ensures some { IfSome result (λ place. (n ≡ (judged + place) + 1) × (place < len)) }
     ensures none { IfNone result (judged < n → judged + len < n) }
 {
-    let place = count_up_to(n.checked_sub(1)?, judged, len)?;
+    let place = count_up_to(n.checked_sub(1), judged, len)?;
     if place < len { Some(place) } else { None }
 }
 
@@ -165,11 +166,7 @@ impl<'r> Following<'r> {
         requires { self.old.judged + length edges.now < 2 ^ 64 }
         ensures { Reaches n self.old edges.now self.new result }
     {
-        let count = match n {
-            Some(n) => count_up_to(n, self.judged, edges.len()),
-            None => None,
-        };
-        match count {
+        match count_up_to(n, self.judged, edges.len()) {
             Some(count) => {
                 self.follow(&edges[..count]);
                 true

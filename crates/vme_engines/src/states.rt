@@ -7,7 +7,7 @@ ghost use Rattle.vme_trace.specs.Writing.{AppendsFront};
 ghost use Rattle.vme_engines.specs.Streams.{streams, ReadNothing, WroteNothing};
 ghost use Rattle.vme_engines.specs.Outcomes.{Lent};
 ghost use Rattle.vme_engines.specs.Stating.{StatesInput};
-ghost use Rattle.vme_engines.specs.Followed.{StatesPiece, told_answer};
+ghost use Rattle.vme_engines.specs.Followed.{EndsBehind, StatesPiece, told_answer};
 ghost use Rattle.vme_engines.specs.Traced.{OfTrace};
 ghost use Rattle.std.proofs.Common.{arith};
 ghost use Rattle.std.proofs.KnownBytes.{Keeps-refl};
@@ -46,6 +46,18 @@ fn tell_place<W: Write>(following: &Following, out: &mut W) -> Result<Told, Faul
     Ok(Told::Block(Status::Done))
 }
 
+/// Ends a trace that was followed and has not the place that is asked for; where that is its end, where the bus stands is
+/// told.
+fn end<W: Write>(following: &Following, after: Option<u64>, out: &mut W) -> Result<Told, Fault>
+    ensures { EndsBehind after following.now
+        (W.contents out.old) (W.contents out.new) result }
+{
+    match after {
+        Some(_) => Ok(Told::Beyond(following.judged)),
+        None => tell_place(following, out),
+    }
+}
+
 /// Follows the edges of a piece, and tells where the bus stands once the place that is asked for is reached.
 ///
 /// `more` is what the read of the piece answered. None where the trace goes on.
@@ -63,11 +75,10 @@ fn state_piece<W: Write>(
     if following.follow_through(after, edges) {
         return Ok(Some(tell_place(following, out)?));
     }
-    match (more, after) {
-        (Ok(true), _) => Ok(None),
-        (Ok(false), None) => Ok(Some(tell_place(following, out)?)),
-        (Ok(false), Some(_)) => Ok(Some(Told::Beyond(following.judged))),
-        (Err(fault), _) => Err(fault),
+    match more {
+        Ok(true) => Ok(None),
+        Ok(false) => Ok(Some(end(following, after, out)?)),
+        Err(fault) => Err(fault),
     }
 }
 
@@ -107,8 +118,8 @@ impl Judge for Stating<'_> {
         state_piece(&mut self.following, self.after, edges, more, out)
     }
 
-    ghost begins = { λ first old. (refl, refl, Keeps-refl old, λ wanted is low. omega arith,
-        record { backplane = refl; judged = omega arith; marks = λ k is of. of }) };
+    ghost begins = { λ first old. (refl, (refl, Keeps-refl old, λ wanted is low. omega arith,
+        record { backplane = refl; judged = omega arith; marks = λ k is of. of })) };
 
     ghost goes_on = { λ first es more old new now h. (h.1.0, h.1.3.judged) };
 }
