@@ -2,6 +2,8 @@
 #![tactic(auto)]
 
 mod marks;
+mod moves;
 mod places;
+mod services;
 
 pub use marks::Marks;
