@@ -6,3 +6,5 @@ pub mod OnPlan
 pub mod Told
 -- lists that grow by what passes a test
 pub mod Grown
+-- the groups together are all that is told
+pub mod Grouped

@@ -6,3 +6,5 @@ pub mod Marked
 pub mod Traced
 -- words: parts of what is told
 pub mod Told
+-- words: what is told of a condition, by groups of conditions
+pub mod Grouped

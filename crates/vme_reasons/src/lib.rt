@@ -1,8 +1,10 @@
-//! The edges of a trace since which a bus is as it is, by their numbers.
+//! The edges of a trace since which a bus is as it is, by their numbers, and what is told of a
+//! condition by them.
 #![tactic(auto)]
 
 mod boards;
 mod chains;
+mod conditions;
 mod lines;
 mod marks;
 mod moves;
@@ -11,4 +13,5 @@ mod places;
 mod services;
 mod wires;
 
+pub use conditions::witnesses;
 pub use marks::Marks;
