@@ -2,12 +2,14 @@
 //! condition by them.
 #![tactic(auto)]
 
+mod askers;
 mod boards;
 mod chains;
 mod conditions;
 mod lines;
 mod marks;
 mod moves;
+mod owns;
 mod parts;
 mod places;
 mod services;
