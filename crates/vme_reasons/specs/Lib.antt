@@ -2,3 +2,7 @@
 pub mod Marks
 -- words: which marks numbered edges lead to
 pub mod Marked
+-- words: what holds of a backplane and the marks of its trace
+pub mod Traced
+-- words: the pieces in which a block is written
+pub mod Blocks

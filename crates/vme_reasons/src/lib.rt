@@ -3,5 +3,6 @@
 
 mod marks;
 mod places;
+pub mod texts;
 
 pub use marks::Marks;
