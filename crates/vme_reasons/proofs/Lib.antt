@@ -1,2 +1,10 @@
 -- `Marks::new`: each driver's wire has a place, and before the first edge no number stands there
 pub mod Fresh
+-- every wire that is told of a condition has a word: `blocks::write_reason`
+pub mod SpokenWitnesses
+-- pieces of a text that are written one after another: src/blocks.rt
+pub mod WrittenPieces
+-- the lines of a condition, those of all, and the block: src/blocks.rt
+pub mod WrittenReasons
+-- no more than six conditions are tested of an edge: `blocks::write_why`
+pub mod SixTested
