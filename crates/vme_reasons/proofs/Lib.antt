@@ -1,5 +1,7 @@
 -- `Marks::new`: each driver's wire has a place, and before the first edge no number stands there
 pub mod Fresh
+-- a byte's value in decimal, digit by digit: `texts::push_byte`
+pub mod ByteDigits
 -- every wire that is told of a condition has a word: `blocks::write_reason`
 pub mod SpokenWitnesses
 -- pieces of a text that are written one after another: src/blocks.rt

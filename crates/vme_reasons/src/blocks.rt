@@ -11,9 +11,9 @@ ghost use Rattle.vme_trace.specs.Writing.{AppendsFront};
 ghost use Rattle.vme_reasons.specs.Blocks.{IsSpoken, condition_line, reason, reasons_text};
 ghost use Rattle.vme_reasons.specs.Traced.{OfTrace};
 
+use crate::conditions::Conditions;
 use crate::marks::Marks;
 use crate::texts::{LINE, push, push_number, push_verdict, witness_line};
-use crate::told::Told;
 use arrayvec::ArrayVec;
 use std::io::Write;
 use vme_backplane::Backplane;
@@ -21,7 +21,12 @@ use vme_model::{Condition, Cycle, Driver, Edge, Row, Tested, Witness};
 use vme_trace::{Fault, put, spelling_of};
 
 /// Stands for the one to be merged.
-fn witnesses(backplane: &Backplane, marks: &Marks, edge: &Edge, condition: Condition) -> ArrayVec<Witness, 64>
+fn witnesses(
+    backplane: &Backplane,
+    marks: &Marks,
+    edge: &Edge,
+    condition: Condition,
+) -> ArrayVec<Witness, 64>
     requires { IsTrue (is_well_formed edge.now) }
     ensures { OfTrace backplane.now marks.now (λ k. result.items ≡ witnesses_of backplane.now k edge.now condition) }
 {
@@ -66,7 +71,9 @@ fn condition_line(backplane: &Backplane, edge: &Edge, tested: Tested) -> ArrayVe
     requires { IsTrue (is_well_formed edge.now) }
     ensures { result.items ≡ condition_line backplane.now edge.now tested }
 {
-    let text = tested.condition.text(edge, board_of(backplane, edge), shown(backplane));
+    let text = tested
+        .condition
+        .text(edge, board_of(backplane, edge), shown(backplane));
     let mut line = ArrayVec::new();
     push(&mut line, if tested.holds { b"holds " } else { b"fails " });
     push(&mut line, text.as_slice());
@@ -157,6 +164,6 @@ pub fn write_why<W: Write>(
     ensures fault { IfErr result (λ fault. fault ≡ Fault.Write) }
 {
     put(out, verdict_line(n, backplane, edge).as_slice())?;
-    let told: Told = backplane.told(*edge);
+    let told: Conditions = backplane.told(*edge);
     write_reasons(backplane, marks, edge, told.as_slice(), out)
 }

@@ -2,10 +2,10 @@
 #![tactic(auto)]
 
 mod blocks;
+mod conditions;
 mod marks;
 mod places;
 pub mod texts;
-mod told;
 
 pub use blocks::write_why;
 pub use marks::Marks;

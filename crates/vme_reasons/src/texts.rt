@@ -35,14 +35,19 @@ pub fn push_number<const N: usize>(line: &mut ArrayVec<u8, N>, n: u64)
     push(line, digits.format(n).as_bytes());
 }
 
-/// Appends a byte's value in decimal: at most 3 bytes.
+/// Appends a byte's value in decimal, digit by digit: at most 3 bytes. Half the verdicts of a trace may name a rule.
 pub fn push_byte<const N: usize>(line: &mut ArrayVec<u8, N>, n: u8)
     requires { array_vec_len line.old + 3 ≤ N }
     ensures items { line.new.items ≡ line.old.items ++ decimal n }
     ensures len { array_vec_len line.new ≤ array_vec_len line.old + 3 }
 {
-    let mut digits = Buffer::new();
-    push(line, digits.format(n).as_bytes());
+    if n >= 100 {
+        line.push(b'0' + n / 100);
+    }
+    if n >= 10 {
+        line.push(b'0' + n / 10 % 10);
+    }
+    line.push(b'0' + n % 10);
 }
 
 /// Appends what is written of a delivery.
@@ -88,7 +93,7 @@ pub fn push_verdict<const N: usize>(
 }
 
 /// Appends a driver's name: at most 3 bytes.
-pub fn push_driver<const N: usize>(line: &mut ArrayVec<u8, N>, driver: Driver)
+pub(crate) fn push_driver<const N: usize>(line: &mut ArrayVec<u8, N>, driver: Driver)
     requires { array_vec_len line.old + 3 ≤ N }
     ensures items { line.new.items ≡ line.old.items ++ driver_name driver }
     ensures len { array_vec_len line.new ≤ array_vec_len line.old + 3 }
@@ -112,7 +117,7 @@ fn push_place<const N: usize>(line: &mut ArrayVec<u8, N>, n: u8)
 }
 
 /// Appends what is shown, behind a blank: at most 4 bytes.
-pub fn push_argument<const N: usize>(line: &mut ArrayVec<u8, N>, value: Option<Cycle>)
+pub(crate) fn push_argument<const N: usize>(line: &mut ArrayVec<u8, N>, value: Option<Cycle>)
     requires { array_vec_len line.old + 4 ≤ N }
     ensures items { line.new.items ≡ line.old.items ++ argument value }
     ensures len { array_vec_len line.new ≤ array_vec_len line.old + 4 }
@@ -143,7 +148,7 @@ fn push_level<const N: usize>(line: &mut ArrayVec<u8, N>, level: Option<u8>)
 }
 
 /// Appends the number of an edge, where there is one: at most 27 bytes.
-pub fn push_since<const N: usize>(line: &mut ArrayVec<u8, N>, since: Option<u64>)
+pub(crate) fn push_since<const N: usize>(line: &mut ArrayVec<u8, N>, since: Option<u64>)
     requires { array_vec_len line.old + 27 ≤ N }
     ensures items { line.new.items ≡ line.old.items ++ since_text since }
     ensures len { array_vec_len line.new ≤ array_vec_len line.old + 27 }

@@ -12,11 +12,11 @@ const MOST: usize = 6;
 
 /// Conditions, each with whether it holds, in the order of a guard.
 #[derive(Drop)]
-pub(crate) struct Told {
+pub(crate) struct Conditions {
     list: ArrayVec<Tested, MOST>,
 }
 
-impl Told {
+impl Conditions {
     /// The conditions.
     pub(crate) fn as_slice(&self) -> &[Tested]
         ensures { result.now ≡ self.now.list.items }
@@ -26,26 +26,28 @@ impl Told {
 }
 
 /// All conditions of the guard, where it has at most six.
-impl Outcome for Told {
+impl Outcome for Conditions {
     ghost tells = { λ result g. most g ≤ 6 → result.list.items ≡ conditions g };
 
-    fn free() -> Told {
-        Told { list: ArrayVec::new() }
+    fn free() -> Conditions {
+        Conditions {
+            list: ArrayVec::new(),
+        }
     }
 
-    fn asks(condition: Condition, holds: bool) -> Told {
+    fn asks(condition: Condition, holds: bool) -> Conditions {
         let mut list = ArrayVec::new();
         list.push(Tested { condition, holds });
-        Told { list }
+        Conditions { list }
     }
 
-    fn and(self, other: Told) -> Told {
-        let Told { mut list } = self;
+    fn and(self, other: Conditions) -> Conditions {
+        let Conditions { mut list } = self;
         let _fits = list.try_extend_from_slice(other.as_slice()).is_ok();
-        Told { list }
+        Conditions { list }
     }
 
-    fn unless(self, is_free: bool) -> Told {
-        if is_free { Told::free() } else { self }
+    fn unless(self, is_free: bool) -> Conditions {
+        if is_free { Conditions::free() } else { self }
     }
 }
