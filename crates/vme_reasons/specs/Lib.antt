@@ -2,7 +2,9 @@
 pub mod Marks
 -- words: which marks numbered edges lead to
 pub mod Marked
--- words: what holds of a backplane and the marks of its trace
+-- words: what holds of a backplane and the marks of its edges
 pub mod Traced
+-- words: parts of what is told
+pub mod Told
 -- words: the pieces in which a block is written
 pub mod Blocks
