@@ -6,6 +6,8 @@ pub mod OnPlan
 pub mod Told
 -- lists that grow by what passes a test
 pub mod Grown
+-- the groups together are all that is told
+pub mod Grouped
 -- a byte's value in decimal, digit by digit: `texts::push_byte`
 pub mod ByteDigits
 -- every wire that is told of a condition has a word: `blocks::write_reason`

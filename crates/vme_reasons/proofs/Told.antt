@@ -131,14 +131,26 @@ no_strobe version p h k at l =
     (never_strobed version p k (subst (λ (x : List Edge). IsLegal version p x) (sym at) l)))
 
 -- a board's strobe, and the answer that served its request
-pub strobe_is : (k : Numbered) (d : Driver) (s : ℕ) (n : Option ℕ) → d ≡ Slot s → n ≡ strobed_at k (Slot s) → option_to_list (option_map (λ m. witness.Strobed d m) n) ≡ strobe k d
-strobe_is k d s n at is = ap (λ (m : Option ℕ). option_to_list (option_map (λ m. witness.Strobed d m) m)) (is ∙ ap (λ (x : Driver). strobed_at k x) (sym at))
+pub strobe_told : (k : Numbered) (d : Driver) (s n : ℕ) → d ≡ Slot s → strobed_at k (Slot s) ≡ Some n → witness.Strobed (Slot s) n ∷ [] ≡ strobe k d
+strobe_told k d s n at is =
+    sym (ap (λ (m : Option ℕ). option_to_list (option_map (λ j. witness.Strobed (Slot s) j) m)) is)
+    ∙ sym (ap (λ (x : Driver). strobe k x) at)
 
-pub service_is : (b : State) (k : Numbered) (d : Driver) (i : InterrupterRow) (n : Option ℕ) → drive b.history d Irq ≡ true → Some i ≡ interrupter_of b d → n ≡ served_since b.plan k d i.kind → option_to_list (option_map (λ m. witness.Served d m) n) ≡ service b k d
+pub none_told : (k : Numbered) (d : Driver) (s : ℕ) → d ≡ Slot s → strobed_at k (Slot s) ≡ None → [] ≡ strobe k d
+none_told k d s at is =
+    sym (ap (λ (m : Option ℕ). option_to_list (option_map (λ j. witness.Strobed (Slot s) j) m)) is)
+    ∙ sym (ap (λ (x : Driver). strobe k x) at)
+
+service_is : (b : State) (k : Numbered) (d : Driver) (i : InterrupterRow) (n : Option ℕ) → drive b.history d Irq ≡ true → Some i ≡ interrupter_of b d → n ≡ served_since b.plan k d i.kind → option_to_list (option_map (λ m. witness.Served d m) n) ≡ service b k d
 service_is b k d i n low is at =
     ap (λ (m : Option ℕ). option_to_list (option_map (λ m. witness.Served d m) m)) at
     ∙ ap (λ (o : Option InterrupterRow). option_to_list (option_map (λ m. witness.Served d m) (option_and_then (λ j. served_since b.plan k d j.kind) o))) is
     ∙ ap (λ (t : Bool). if t then option_to_list (option_map (λ m. witness.Served d m) (option_and_then (λ j. served_since b.plan k d j.kind) (interrupter_of b d))) else []) (sym low)
+
+pub service_told : (b : State) (k : Numbered) (d : Driver) (s : ℕ) (i : InterrupterRow) (n : ℕ) → d ≡ Slot s → drive b.history d Irq ≡ true → interrupter_of b d ≡ Some i → served_since b.plan k (Slot s) i.kind ≡ Some n → witness.Served (Slot s) n ∷ [] ≡ service b k d
+service_told b k d s i n at low is e =
+    ap (λ (x : Driver). witness.Served x n ∷ []) (sym at)
+    ∙ service_is b k d i (Some n) low (sym is) (sym e ∙ ap (λ (x : Driver). served_since b.plan k x i.kind) (sym at))
 
 pub service_high : (b : State) (k : Numbered) (d : Driver) → drive b.history d Irq ≡ false → [] ≡ service b k d
 service_high b k d high =

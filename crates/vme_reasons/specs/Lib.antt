@@ -6,5 +6,7 @@ pub mod Marked
 pub mod Traced
 -- words: parts of what is told
 pub mod Told
+-- words: what is told of a condition, by groups of conditions
+pub mod Grouped
 -- words: the pieces in which a block is written
 pub mod Blocks

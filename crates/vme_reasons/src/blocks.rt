@@ -2,37 +2,22 @@
 ghost use Rattle.std.specs.Prelude.{◌≡◌, ◌++◌, IsTrue, IfErr, OnOk, OnErr, All};
 ghost use Rattle.std.specs.Io.KnownBytes.{Appends};
 ghost use Rattle.vme_model.specs.History.{shown};
-ghost use Rattle.vme_model.specs.Plan.{board_of};
 ghost use Rattle.vme_model.specs.Signals.{is_well_formed};
-ghost use Rattle.vme_model.specs.Spoken.{condition_text};
-ghost use Rattle.vme_model.specs.Why.{edge_verdict, outcome_text, reason_lines, witness_lines, why_text};
-ghost use Rattle.vme_model.specs.Witnesses.{witnesses_of};
+ghost use Rattle.vme_model.specs.Why.{edge_verdict, reason_lines, witness_lines, why_text};
 ghost use Rattle.vme_trace.specs.Writing.{AppendsFront};
 ghost use Rattle.vme_reasons.specs.Blocks.{IsSpoken, condition_line, reason, reasons_text};
 ghost use Rattle.vme_reasons.specs.Traced.{OfTrace};
 
-use crate::conditions::Conditions;
+use crate::boards::board_of;
+use crate::conditions::witnesses;
 use crate::marks::Marks;
+use crate::tested::Conditions;
 use crate::texts::{LINE, push, push_number, push_verdict, witness_line};
 use arrayvec::ArrayVec;
 use std::io::Write;
 use vme_backplane::Backplane;
-use vme_model::{Condition, Cycle, Driver, Edge, Row, Tested, Witness};
+use vme_model::{Cycle, Driver, Edge, Tested, Witness};
 use vme_trace::{Fault, put, spelling_of};
-
-/// Stands for the one to be merged.
-fn witnesses(
-    backplane: &Backplane,
-    marks: &Marks,
-    edge: &Edge,
-    condition: Condition,
-) -> ArrayVec<Witness, 64>
-    requires { IsTrue (is_well_formed edge.now) }
-    ensures { OfTrace backplane.now marks.now (λ k. result.items ≡ witnesses_of backplane.now k edge.now condition) }
-{
-    let _arguments = (backplane.len(), marks.granted_since(), edge.fall, condition);
-    unreachable!()
-}
 
 /// The first line: the number of the edge, the edge, and its verdict.
 fn verdict_line(n: u64, backplane: &Backplane, edge: &Edge) -> ArrayVec<u8, LINE>
@@ -49,16 +34,6 @@ fn verdict_line(n: u64, backplane: &Backplane, edge: &Edge) -> ArrayVec<u8, LINE
     line
 }
 
-/// The board in the edge's slot.
-fn board_of(backplane: &Backplane, edge: &Edge) -> Option<Row>
-    ensures { result ≡ board_of backplane.now.plan edge.now.driver }
-{
-    match edge.driver {
-        Driver::Controller => None,
-        Driver::Slot(slot) => backplane.plan().row(slot).copied(),
-    }
-}
-
 /// What is shown.
 fn shown(backplane: &Backplane) -> Option<Cycle>
     ensures { result ≡ shown backplane.now.plan backplane.now.history }
@@ -73,7 +48,7 @@ fn condition_line(backplane: &Backplane, edge: &Edge, tested: Tested) -> ArrayVe
 {
     let text = tested
         .condition
-        .text(edge, board_of(backplane, edge), shown(backplane));
+        .text(edge, board_of(backplane, edge.driver), shown(backplane));
     let mut line = ArrayVec::new();
     push(&mut line, if tested.holds { b"holds " } else { b"fails " });
     push(&mut line, text.as_slice());
