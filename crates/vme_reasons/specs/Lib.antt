@@ -8,3 +8,5 @@ pub mod Traced
 pub mod Told
 -- words: what is told of a condition, by groups of conditions
 pub mod Grouped
+-- words: the pieces in which a block is written
+pub mod Blocks
