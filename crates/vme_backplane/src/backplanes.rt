@@ -149,6 +149,16 @@ impl<'r> Backplane<'r> {
         }
     }
 
+    /// What `step` would answer to an edge: what it delivers, or the first that applies of E1 to E5. Nothing is made.
+    pub fn answer(&self, edge: Edge) -> Result<Option<Delivery>, Refused>
+        ensures { result ≡ answer self.now edge }
+    {
+        match self.verdict(edge) {
+            Ok(()) => Ok(self.wiring.delivery(edge)),
+            Err(refused) => Err(refused),
+        }
+    }
+
     /// Whether the edge is refused for the end of the trace alone.
     fn lacks_room(&self, edge: Edge) -> bool
         ensures { result ≡ ((length self.now.history == self.now.max)

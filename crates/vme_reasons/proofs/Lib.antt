@@ -1,2 +1,20 @@
--- `Marks::new`: each driver's wire has a place, and before the first edge no number stands there
+-- `Moves::new`, `Services::new`: each driver's wire has a place, and before the first edge no number stands there
 pub mod Fresh
+-- the slots of an accepted plan
+pub mod OnPlan
+-- what is told of a wire, of a grant, of a strobe
+pub mod Told
+-- lists that grow by what passes a test
+pub mod Grown
+-- the groups together are all that is told
+pub mod Grouped
+-- a byte's value in decimal, digit by digit: `texts::push_byte`
+pub mod ByteDigits
+-- every wire that is told of a condition has a word: `blocks::write_reason`
+pub mod SpokenWitnesses
+-- pieces of a text that are written one after another: src/blocks.rt
+pub mod WrittenPieces
+-- the lines of a condition, those of all, and the block: src/blocks.rt
+pub mod WrittenReasons
+-- no more than six conditions are tested of an edge: `blocks::write_why`
+pub mod SixTested

@@ -2,3 +2,11 @@
 pub mod Marks
 -- words: which marks numbered edges lead to
 pub mod Marked
+-- words: what holds of a backplane and the marks of its edges
+pub mod Traced
+-- words: parts of what is told
+pub mod Told
+-- words: what is told of a condition, by groups of conditions
+pub mod Grouped
+-- words: the pieces in which a block is written
+pub mod Blocks

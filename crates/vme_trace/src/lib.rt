@@ -16,7 +16,7 @@ pub use input::{pump, read_piece};
 pub use patience::Patient;
 pub use reader::{Reader, parse};
 use thiserror::Error;
-pub use writer::{flush, line_of, put, write};
+pub use writer::{flush, line_of, put, spelling_of, write};
 
 /// Why a trace could not be read or written.
 #[derive(Clone, Copy, PartialEq, Eq, Debug, Error)]

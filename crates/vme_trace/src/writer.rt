@@ -72,8 +72,8 @@ pub(crate) fn push_text(line: &mut ArrayVec<u8, LINE>, text: &[u8])
     }
 }
 
-/// The spelling of an edge.
-fn spelling_of(edge: &Edge) -> ArrayVec<u8, LINE>
+/// The spelling of an edge: its line without the line feed.
+pub fn spelling_of(edge: &Edge) -> ArrayVec<u8, LINE>
     requires { IsTrue (is_well_formed edge.now) }
     ensures text { result.items ≡ spelling edge.now }
     ensures short { array_vec_len result ≤ 12 }

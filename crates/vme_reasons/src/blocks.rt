@@ -1,0 +1,144 @@
+//! The block that tells why an edge has its verdict.
+ghost use Rattle.std.specs.Prelude.{◌≡◌, ◌++◌, IsTrue, IfErr, OnOk, OnErr, All};
+ghost use Rattle.std.specs.Io.KnownBytes.{Appends};
+ghost use Rattle.vme_model.specs.History.{shown};
+ghost use Rattle.vme_model.specs.Signals.{is_well_formed};
+ghost use Rattle.vme_model.specs.Why.{edge_verdict, reason_lines, witness_lines, why_text};
+ghost use Rattle.vme_trace.specs.Writing.{AppendsFront};
+ghost use Rattle.vme_reasons.specs.Blocks.{IsSpoken, condition_line, reason, reasons_text};
+ghost use Rattle.vme_reasons.specs.Traced.{OfTrace};
+
+use crate::boards::board_of;
+use crate::conditions::witnesses;
+use crate::marks::Marks;
+use crate::tested::Conditions;
+use crate::texts::{LINE, push, push_number, push_verdict, witness_line};
+use arrayvec::ArrayVec;
+use std::io::Write;
+use vme_backplane::Backplane;
+use vme_model::{Cycle, Driver, Edge, Tested, Witness};
+use vme_trace::{Fault, put, spelling_of};
+
+/// The first line: the number of the edge, the edge, and its verdict.
+fn verdict_line(n: u64, backplane: &Backplane, edge: &Edge) -> ArrayVec<u8, LINE>
+    requires { IsTrue (is_well_formed edge.now) }
+    ensures { result.items ≡ edge_verdict n backplane.now edge.now }
+{
+    let mut line = ArrayVec::new();
+    push_number(&mut line, n);
+    push(&mut line, b" ");
+    push(&mut line, spelling_of(edge).as_slice());
+    push(&mut line, b" ");
+    push_verdict(&mut line, &backplane.answer(*edge));
+    push(&mut line, b"\n");
+    line
+}
+
+/// What is shown.
+fn shown(backplane: &Backplane) -> Option<Cycle>
+    ensures { result ≡ shown backplane.now.plan backplane.now.history }
+{
+    backplane.pins(Driver::Controller).shown
+}
+
+/// The line of a condition.
+fn condition_line(backplane: &Backplane, edge: &Edge, tested: Tested) -> ArrayVec<u8, LINE>
+    requires { IsTrue (is_well_formed edge.now) }
+    ensures { result.items ≡ condition_line backplane.now edge.now tested }
+{
+    let text = tested
+        .condition
+        .text(edge, board_of(backplane, edge.driver), shown(backplane));
+    let mut line = ArrayVec::new();
+    push(&mut line, if tested.holds { b"holds " } else { b"fails " });
+    push(&mut line, text.as_slice());
+    push(&mut line, b"\n");
+    line
+}
+
+/// Writes the lines of the witnesses. Nothing is known of them where one has no text.
+fn write_witnesses<W: Write>(witnesses: &[Witness], out: &mut W) -> Result<(), Fault>
+    ensures ok { OnOk result (All IsSpoken witnesses.now
+        → Appends (W.contents out.old) (W.contents out.new) (witness_lines witnesses.now)) }
+    ensures front { OnErr result (All IsSpoken witnesses.now
+        → AppendsFront (W.contents out.old) (W.contents out.new) (witness_lines witnesses.now)) }
+    ensures fault { IfErr result (λ fault. fault ≡ Fault.Write) }
+{
+    for witness in witnesses {
+        put(out, witness_line(witness).as_slice())?;
+    }
+    Ok(())
+}
+
+/// Writes the line of a condition, and one for each of its witnesses.
+fn write_reason<W: Write>(
+    backplane: &Backplane,
+    marks: &Marks,
+    edge: &Edge,
+    tested: Tested,
+    out: &mut W,
+) -> Result<(), Fault>
+    requires { IsTrue (is_well_formed edge.now) }
+    ensures ok { OnOk result (OfTrace backplane.now marks.now
+        (λ k. Appends (W.contents out.old) (W.contents out.new)
+        (reason_lines backplane.now edge.now (reason backplane.now k edge.now tested)))) }
+    ensures front { OnErr result (OfTrace backplane.now marks.now
+        (λ k. AppendsFront (W.contents out.old) (W.contents out.new)
+        (reason_lines backplane.now edge.now (reason backplane.now k edge.now tested)))) }
+    ensures fault { IfErr result (λ fault. fault ≡ Fault.Write) }
+{
+    put(out, condition_line(backplane, edge, tested).as_slice())?;
+    let found = witnesses(backplane, marks, edge, tested.condition);
+    write_witnesses(found.as_slice(), out)
+}
+
+/// Writes the lines of the tested conditions.
+fn write_reasons<W: Write>(
+    backplane: &Backplane,
+    marks: &Marks,
+    edge: &Edge,
+    told: &[Tested],
+    out: &mut W,
+) -> Result<(), Fault>
+    requires { IsTrue (is_well_formed edge.now) }
+    ensures ok { OnOk result (OfTrace backplane.now marks.now
+        (λ k. Appends (W.contents out.old) (W.contents out.new)
+        (reasons_text backplane.now k edge.now told.now))) }
+    ensures front { OnErr result (OfTrace backplane.now marks.now
+        (λ k. AppendsFront (W.contents out.old) (W.contents out.new)
+        (reasons_text backplane.now k edge.now told.now))) }
+    ensures fault { IfErr result (λ fault. fault ≡ Fault.Write) }
+{
+    for tested in told {
+        write_reason(backplane, marks, edge, *tested, out)?;
+    }
+    Ok(())
+}
+
+/// Writes why an edge has its verdict: a line with its number `n`, the edge and the verdict, and for each condition that
+/// is tested of it a line, with one behind it for each of its witnesses.
+///
+/// The marks are those of the backplane's trace, and the edge is well formed. Nothing is made of it.
+///
+/// # Errors
+/// X8 where the output cannot be written; a prefix of the block was then written.
+pub fn write_why<W: Write>(
+    n: u64,
+    backplane: &Backplane,
+    marks: &Marks,
+    edge: &Edge,
+    out: &mut W,
+) -> Result<(), Fault>
+    requires { IsTrue (is_well_formed edge.now) }
+    ensures ok { OnOk result (OfTrace backplane.now marks.now
+        (λ k. Appends (W.contents out.old) (W.contents out.new)
+        (why_text n backplane.now k edge.now))) }
+    ensures front { OnErr result (OfTrace backplane.now marks.now
+        (λ k. AppendsFront (W.contents out.old) (W.contents out.new)
+        (why_text n backplane.now k edge.now))) }
+    ensures fault { IfErr result (λ fault. fault ≡ Fault.Write) }
+{
+    put(out, verdict_line(n, backplane, edge).as_slice())?;
+    let told: Conditions = backplane.told(*edge);
+    write_reasons(backplane, marks, edge, told.as_slice(), out)
+}
