@@ -2,3 +2,7 @@
 pub mod Marks
 -- words: which marks numbered edges lead to
 pub mod Marked
+-- words: what holds of a backplane and of the marks of its edges
+pub mod Traced
+-- words: what a line tells of a driver, and the lines of some drivers
+pub mod Standing

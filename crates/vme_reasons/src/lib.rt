@@ -1,7 +1,10 @@
 //! The edges of a trace since which a bus is as it is, by their numbers.
 #![tactic(auto)]
 
+mod drivers;
+mod grants;
 mod marks;
 mod places;
+mod stands;
 
 pub use marks::Marks;

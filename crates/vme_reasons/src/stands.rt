@@ -1,0 +1,306 @@
+//! Where a bus stands, and the block that tells it.
+ghost use Rattle.std.specs.Prelude.{◌≡◌, ◌+◌, ◌<◌, ◌≤◌, ◌++◌, ◌∷◌, [], ℕ, List, codes, decimal, filter, length, map, not, ◌&&◌, IfErr, OnOk, OnErr, nat_lt};
+ghost use Rattle.std.specs.Io.KnownBytes.{Appends};
+ghost use Rattle.arrayvec.specs.ArrayVec.{array_vec_len};
+ghost use Rattle.vme_model.specs.declared.signals.Wire.TheVariants.{Addr};
+ghost use Rattle.vme_model.specs.Signals.{has_wire, is_same_wire};
+ghost use Rattle.vme_model.specs.Offers.{wires};
+ghost use Rattle.vme_model.specs.Plan.{drivers};
+ghost use Rattle.vme_model.specs.Spoken.{driver_name};
+ghost use Rattle.vme_model.specs.Text.{HasWord, argument, number, sign, wire_text};
+ghost use Rattle.vme_model.specs.Why.{since_text};
+ghost use Rattle.vme_model.specs.Stands.{after_text, asks_text, at_level, grant_text, holder_text, is_later_access, listed, low_text, open_line, open_text, pending_text, shown_text, stands_text};
+ghost use Rattle.vme_trace.specs.Writing.{AppendsFront};
+ghost use Rattle.vme_reasons.specs.Traced.{OfTrace};
+ghost use Rattle.vme_reasons.specs.Standing.{line_of, lines_for, topic_text};
+
+use crate::Marks;
+use crate::drivers::{
+    addressing, holder, holds_low, interrupter_of, is_low, is_pending, requester_of, since,
+};
+use crate::grants::grant_at;
+use arrayvec::ArrayVec;
+use itoa::Buffer;
+use std::io::Write;
+use vme_backplane::Backplane;
+use vme_model::{Cycle, Driver, Edge, Wire};
+use vme_trace::{Fault, put};
+
+/// Room for any line: a driver's has a word of at most 13 bytes, with what stands between two, for
+/// each of its 36 open edges.
+const LINE: usize = 576;
+
+/// A line, as far as it was put together.
+type Line = ArrayVec<u8, LINE>;
+
+/// Room for the word of an edge.
+const WORD: usize = 16;
+
+/// The controller's wires, in the order in which they are told.
+const CONTROLLERS: [Wire; 7] = [
+    Wire::Bg(0),
+    Wire::Bg(1),
+    Wire::Bg(2),
+    Wire::Bg(3),
+    Wire::Bclr,
+    Wire::Iack,
+    Wire::Berr,
+];
+
+/// A board's wires, in that order.
+const BOARDS: [Wire; 9] = [
+    Wire::Br,
+    Wire::BgOut,
+    Wire::Bbsy,
+    Wire::Addr,
+    Wire::AddressStrobe,
+    Wire::DataStrobe,
+    Wire::Irq,
+    Wire::IackOut,
+    Wire::Dtack,
+];
+
+/// What a line tells of a driver.
+#[derive(Clone, Copy)]
+enum Topic {
+    /// It requests the bus.
+    Asks,
+    /// Its interrupter is pending.
+    Pending,
+    /// The wires that it holds low.
+    Low,
+    /// The edges that it can make.
+    Open,
+}
+
+/// Appends a text that has room.
+fn push<const N: usize>(line: &mut ArrayVec<u8, N>, text: &str)
+    requires { array_vec_len line.old + length text.now ≤ N }
+    ensures items { line.new.items ≡ line.old.items ++ text.now }
+    ensures len { array_vec_len line.new ≡ array_vec_len line.old + length text.now }
+{
+    if line.try_extend_from_slice(text.as_bytes()).is_err() {
+        unreachable!()
+    }
+}
+
+/// Appends a number in decimal.
+fn push_number(line: &mut Line, n: u64)
+    requires { array_vec_len line.old + 20 ≤ 576 }
+    ensures items { line.new.items ≡ line.old.items ++ decimal n }
+    ensures len { array_vec_len line.new ≤ array_vec_len line.old + 20 }
+{
+    let mut digits = Buffer::new();
+    push(line, digits.format(n));
+}
+
+/// Appends a driver's name.
+fn push_driver(line: &mut Line, driver: Driver)
+    requires { array_vec_len line.old + 20 ≤ 576 }
+    ensures items { line.new.items ≡ line.old.items ++ driver_name driver }
+    ensures len { array_vec_len line.new ≤ array_vec_len line.old + 20 }
+{
+    match driver {
+        Driver::Controller => push(line, "c"),
+        Driver::Slot(slot) => push_number(line, u64::from(slot)),
+    }
+}
+
+/// Appends the number of an edge, where there is one.
+fn push_since(line: &mut Line, since: Option<u64>)
+    requires { array_vec_len line.old + 27 ≤ 576 }
+    ensures items { line.new.items ≡ line.old.items ++ since_text since }
+    ensures len { array_vec_len line.new ≤ array_vec_len line.old + 27 }
+{
+    match since {
+        None => {}
+        Some(n) => {
+            push(line, " since ");
+            push_number(line, n);
+        }
+    }
+}
+
+/// Appends a level or a slot, as a trace spells it.
+fn push_digits<const N: usize>(line: &mut ArrayVec<u8, N>, n: u8)
+    requires { array_vec_len line.old + 2 ≤ N }
+    ensures items { line.new.items ≡ line.old.items ++ number n }
+    ensures len { array_vec_len line.new ≤ array_vec_len line.old + 2 }
+{
+    if n >= 10 {
+        line.push(b'0' + n / 10);
+        line.push(b'0' + n % 10);
+    } else {
+        line.push(b'0' + n);
+    }
+}
+
+/// Appends what an edge shows, as a trace spells it.
+fn push_argument<const N: usize>(line: &mut ArrayVec<u8, N>, value: Option<Cycle>)
+    requires { array_vec_len line.old + 4 ≤ N }
+    ensures items { line.new.items ≡ line.old.items ++ argument value }
+    ensures len { array_vec_len line.new ≤ array_vec_len line.old + 4 }
+{
+    match value {
+        None => {}
+        Some(Cycle::Acknowledge(level)) => {
+            push(line, " i");
+            push_digits(line, level);
+        }
+        Some(Cycle::Access(slot)) => {
+            push(line, " r");
+            push_digits(line, slot);
+        }
+    }
+}
+
+/// How many edges there are, and how many were accepted.
+fn after_line(n: u64, accepted: u32) -> Line
+    ensures { result.items ≡ after_text n accepted }
+{
+    let mut line = ArrayVec::new();
+    push(&mut line, "after ");
+    push_number(&mut line, n);
+    push(&mut line, " accepted ");
+    push_number(&mut line, u64::from(accepted));
+    line
+}
+
+/// Who holds the bus.
+fn holder_line(backplane: &Backplane, marks: &Marks) -> Line
+    ensures { OfTrace backplane.now marks.now (λ k. result.items ≡ holder_text backplane.now k) }
+{
+    let mut line = ArrayVec::new();
+    match holder(backplane, marks) {
+        None => push(&mut line, "holder none"),
+        Some(slot) => {
+            push(&mut line, "holder ");
+            push_number(&mut line, u64::from(slot));
+            push_since(
+                &mut line,
+                since(backplane, marks, Driver::Slot(slot), Wire::Bbsy),
+            );
+        }
+    }
+    line
+}
+
+/// Where the grant travels.
+fn grant_line(backplane: &Backplane, marks: &Marks) -> Line
+    ensures { OfTrace backplane.now marks.now (λ _. result.items ≡ grant_text backplane.now) }
+{
+    let mut line = ArrayVec::new();
+    match grant_at(backplane, marks) {
+        None => push(&mut line, "grant none"),
+        Some(grant) => {
+            push(&mut line, "grant bg");
+            push_number(&mut line, u64::from(grant.level));
+            push(&mut line, " at ");
+            push_number(&mut line, u64::from(grant.slot));
+        }
+    }
+    line
+}
+
+/// What is shown, and who shows it.
+fn shown_line(backplane: &Backplane, marks: &Marks) -> Line
+    ensures { OfTrace backplane.now marks.now (λ k. result.items ≡ shown_text backplane.now k) }
+{
+    let mut line = ArrayVec::new();
+    match addressing(backplane, marks) {
+        None => push(&mut line, "shown none"),
+        Some(slot) => {
+            push(&mut line, "shown");
+            push_argument(&mut line, backplane.pins(Driver::Controller).shown);
+            push(&mut line, " by ");
+            push_number(&mut line, u64::from(slot));
+            push_since(
+                &mut line,
+                since(backplane, marks, Driver::Slot(slot), Wire::Addr),
+            );
+        }
+    }
+    line
+}
+
+/// A driver with a level, and since when.
+fn level_line(first: &str, driver: Driver, level: u8, since: Option<u64>) -> Line
+    requires { length first.now ≤ 8 }
+    ensures { result.items ≡ at_level first.now driver level since }
+{
+    let mut line = ArrayVec::new();
+    push(&mut line, first);
+    push_driver(&mut line, driver);
+    push(&mut line, " level ");
+    push_number(&mut line, u64::from(level));
+    push_since(&mut line, since);
+    line
+}
+
+/// Whether the driver requests the bus.
+fn asks_line(backplane: &Backplane, marks: &Marks, driver: Driver) -> Line
+    ensures { OfTrace backplane.now marks.now (λ k. result.items
+        ≡ asks_text backplane.now k driver) }
+{
+    match requester_of(backplane, driver) {
+        Some(requester) if is_low(backplane, marks, driver, Wire::Br) => level_line(
+            "asks ",
+            driver,
+            requester.level,
+            since(backplane, marks, driver, Wire::Br),
+        ),
+        _ => ArrayVec::new(),
+    }
+}
+
+/// Whether the driver's interrupter is pending.
+fn pending_line(backplane: &Backplane, marks: &Marks, driver: Driver) -> Line
+    ensures { OfTrace backplane.now marks.now (λ k. result.items
+        ≡ pending_text backplane.now k driver) }
+{
+    match interrupter_of(backplane, driver) {
+        Some(interrupter) if is_pending(backplane, marks, driver, interrupter) => level_line(
+            "pending ",
+            driver,
+            interrupter.level,
+            since(backplane, marks, driver, Wire::Irq),
+        ),
+        _ => ArrayVec::new(),
+    }
+}
+
+/// Appends a word to a list of them, which begins with `first` and the driver where there are any.
+fn push_word(line: &mut Line, first: &str, driver: Driver, word: &str)
+    requires room { array_vec_len line.old + 26 + length word.now ≤ 576 }
+    requires short { length first.now ≤ 5 }
+    requires named { 0 < length first.now }
+    ensures items { (ws : List (List ℕ)) → line.old.items ≡ listed first.now driver ws
+        → line.new.items ≡ listed first.now driver (ws ++ word.now ∷ []) }
+    ensures len { array_vec_len line.new ≤ array_vec_len line.old + 26 + length word.now }
+{
+    if line.is_empty() {
+        push(line, first);
+        push_driver(line, driver);
+        push(line, " ");
+    } else {
+        push(line, ", ");
+    }
+    push(line, word);
+}
+
+/// The word of a driver's edge that can be made.
+fn word_of(edge: &Edge) -> ArrayVec<u8, WORD>
+    requires { HasWord edge.now.wire }
+    ensures text { result.items ≡ open_text edge.now }
+    ensures short { array_vec_len result ≤ 13 }
+{
+    let mut word = ArrayVec::new();
+    push(&mut word, edge.wire.word());
+    push(&mut word, if edge.fall { "-" } else { "+" });
+    match edge.value {
+        // all accesses are open, or none
+        Some(Cycle::Access(_)) => push(&mut word, " r1..r21"),
+        value => push_argument(&mut word, value),
+    }
+    word
+}
