@@ -6,3 +6,5 @@ pub mod Wires
 pub mod Found
 -- `drivers`: an interrupter is pending while its request is low and was not served
 pub mod Pending
+-- `stands`: the words of a line, as far as they were told
+pub mod Listed

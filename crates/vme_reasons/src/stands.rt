@@ -1,5 +1,5 @@
 //! Where a bus stands, and the block that tells it.
-ghost use Rattle.std.specs.Prelude.{◌≡◌, ◌+◌, ◌<◌, ◌≤◌, ◌++◌, ◌∷◌, [], ℕ, List, codes, decimal, filter, length, map, not, ◌&&◌, IfErr, OnOk, OnErr, nat_lt};
+ghost use Rattle.std.specs.Prelude.{◌≡◌, ◌+◌, ◌<◌, ◌≤◌, ◌++◌, ◌∷◌, [], ℕ, List, codes, decimal, filter, length, map, max, not, ◌&&◌, IfErr, OnOk, OnErr, nat_lt};
 ghost use Rattle.std.specs.Io.KnownBytes.{Appends};
 ghost use Rattle.arrayvec.specs.ArrayVec.{array_vec_len};
 ghost use Rattle.vme_model.specs.declared.signals.Wire.TheVariants.{Addr};
@@ -26,14 +26,14 @@ use vme_backplane::Backplane;
 use vme_model::{Cycle, Driver, Edge, Wire};
 use vme_trace::{Fault, put};
 
-/// Room for any line: a driver's has a word of at most 13 bytes, with what stands between two, for
-/// each of its 36 open edges.
-const LINE: usize = 576;
+/// Room for any line: a driver's has a word, with a comma and a blank, for each of its open edges, of
+/// which there are 36 at most.
+const LINE: usize = 680;
 
 /// A line, as far as it was put together.
 type Line = ArrayVec<u8, LINE>;
 
-/// Room for the word of an edge.
+/// Room for the word of an edge: the longest has 13 bytes.
 const WORD: usize = 16;
 
 /// The controller's wires, in the order in which they are told.
@@ -74,48 +74,48 @@ enum Topic {
 }
 
 /// Appends a text that has room.
-fn push<const N: usize>(line: &mut ArrayVec<u8, N>, text: &str)
+fn push<const N: usize>(line: &mut ArrayVec<u8, N>, text: &[u8])
     requires { array_vec_len line.old + length text.now ≤ N }
     ensures items { line.new.items ≡ line.old.items ++ text.now }
     ensures len { array_vec_len line.new ≡ array_vec_len line.old + length text.now }
 {
-    if line.try_extend_from_slice(text.as_bytes()).is_err() {
+    if line.try_extend_from_slice(text).is_err() {
         unreachable!()
     }
 }
 
 /// Appends a number in decimal.
 fn push_number(line: &mut Line, n: u64)
-    requires { array_vec_len line.old + 20 ≤ 576 }
+    requires { array_vec_len line.old + 20 ≤ 680 }
     ensures items { line.new.items ≡ line.old.items ++ decimal n }
     ensures len { array_vec_len line.new ≤ array_vec_len line.old + 20 }
 {
     let mut digits = Buffer::new();
-    push(line, digits.format(n));
+    push(line, digits.format(n).as_bytes());
 }
 
 /// Appends a driver's name.
 fn push_driver(line: &mut Line, driver: Driver)
-    requires { array_vec_len line.old + 20 ≤ 576 }
+    requires { array_vec_len line.old + 20 ≤ 680 }
     ensures items { line.new.items ≡ line.old.items ++ driver_name driver }
     ensures len { array_vec_len line.new ≤ array_vec_len line.old + 20 }
 {
     match driver {
-        Driver::Controller => push(line, "c"),
+        Driver::Controller => push(line, b"c"),
         Driver::Slot(slot) => push_number(line, u64::from(slot)),
     }
 }
 
 /// Appends the number of an edge, where there is one.
 fn push_since(line: &mut Line, since: Option<u64>)
-    requires { array_vec_len line.old + 27 ≤ 576 }
+    requires { array_vec_len line.old + 27 ≤ 680 }
     ensures items { line.new.items ≡ line.old.items ++ since_text since }
     ensures len { array_vec_len line.new ≤ array_vec_len line.old + 27 }
 {
     match since {
         None => {}
         Some(n) => {
-            push(line, " since ");
+            push(line, b" since ");
             push_number(line, n);
         }
     }
@@ -144,11 +144,11 @@ fn push_argument<const N: usize>(line: &mut ArrayVec<u8, N>, value: Option<Cycle
     match value {
         None => {}
         Some(Cycle::Acknowledge(level)) => {
-            push(line, " i");
+            push(line, b" i");
             push_digits(line, level);
         }
         Some(Cycle::Access(slot)) => {
-            push(line, " r");
+            push(line, b" r");
             push_digits(line, slot);
         }
     }
@@ -159,9 +159,9 @@ fn after_line(n: u64, accepted: u32) -> Line
     ensures { result.items ≡ after_text n accepted }
 {
     let mut line = ArrayVec::new();
-    push(&mut line, "after ");
+    push(&mut line, b"after ");
     push_number(&mut line, n);
-    push(&mut line, " accepted ");
+    push(&mut line, b" accepted ");
     push_number(&mut line, u64::from(accepted));
     line
 }
@@ -172,9 +172,9 @@ fn holder_line(backplane: &Backplane, marks: &Marks) -> Line
 {
     let mut line = ArrayVec::new();
     match holder(backplane, marks) {
-        None => push(&mut line, "holder none"),
+        None => push(&mut line, b"holder none"),
         Some(slot) => {
-            push(&mut line, "holder ");
+            push(&mut line, b"holder ");
             push_number(&mut line, u64::from(slot));
             push_since(
                 &mut line,
@@ -191,11 +191,11 @@ fn grant_line(backplane: &Backplane, marks: &Marks) -> Line
 {
     let mut line = ArrayVec::new();
     match grant_at(backplane, marks) {
-        None => push(&mut line, "grant none"),
+        None => push(&mut line, b"grant none"),
         Some(grant) => {
-            push(&mut line, "grant bg");
+            push(&mut line, b"grant bg");
             push_number(&mut line, u64::from(grant.level));
-            push(&mut line, " at ");
+            push(&mut line, b" at ");
             push_number(&mut line, u64::from(grant.slot));
         }
     }
@@ -208,11 +208,11 @@ fn shown_line(backplane: &Backplane, marks: &Marks) -> Line
 {
     let mut line = ArrayVec::new();
     match addressing(backplane, marks) {
-        None => push(&mut line, "shown none"),
+        None => push(&mut line, b"shown none"),
         Some(slot) => {
-            push(&mut line, "shown");
+            push(&mut line, b"shown");
             push_argument(&mut line, backplane.pins(Driver::Controller).shown);
-            push(&mut line, " by ");
+            push(&mut line, b" by ");
             push_number(&mut line, u64::from(slot));
             push_since(
                 &mut line,
@@ -229,9 +229,9 @@ fn level_line(first: &str, driver: Driver, level: u8, since: Option<u64>) -> Lin
     ensures { result.items ≡ at_level first.now driver level since }
 {
     let mut line = ArrayVec::new();
-    push(&mut line, first);
+    push(&mut line, first.as_bytes());
     push_driver(&mut line, driver);
-    push(&mut line, " level ");
+    push(&mut line, b" level ");
     push_number(&mut line, u64::from(level));
     push_since(&mut line, since);
     line
@@ -270,37 +270,118 @@ fn pending_line(backplane: &Backplane, marks: &Marks, driver: Driver) -> Line
 }
 
 /// Appends a word to a list of them, which begins with `first` and the driver where there are any.
-fn push_word(line: &mut Line, first: &str, driver: Driver, word: &str)
-    requires room { array_vec_len line.old + 26 + length word.now ≤ 576 }
+fn push_word(line: &mut Line, first: &str, driver: Driver, word: &[u8])
+    requires room { max (array_vec_len line.old) 26 + 2 + length word.now ≤ 680 }
     requires short { length first.now ≤ 5 }
     requires named { 0 < length first.now }
     ensures items { (ws : List (List ℕ)) → line.old.items ≡ listed first.now driver ws
         → line.new.items ≡ listed first.now driver (ws ++ word.now ∷ []) }
-    ensures len { array_vec_len line.new ≤ array_vec_len line.old + 26 + length word.now }
+    ensures len { array_vec_len line.new ≤ max (array_vec_len line.old) 26 + 2 + length word.now }
 {
     if line.is_empty() {
-        push(line, first);
+        push(line, first.as_bytes());
         push_driver(line, driver);
-        push(line, " ");
+        push(line, b" ");
     } else {
-        push(line, ", ");
+        push(line, b", ");
     }
     push(line, word);
+}
+
+/// Appends whether an edge is a fall.
+fn push_sign(word: &mut ArrayVec<u8, WORD>, fall: bool)
+    requires { array_vec_len word.old + 1 ≤ 16 }
+    ensures items { word.new.items ≡ word.old.items ++ sign fall }
+    ensures len { array_vec_len word.new ≡ array_vec_len word.old + 1 }
+{
+    word.push(if fall { b'-' } else { b'+' });
 }
 
 /// The word of a driver's edge that can be made.
 fn word_of(edge: &Edge) -> ArrayVec<u8, WORD>
     requires { HasWord edge.now.wire }
     ensures text { result.items ≡ open_text edge.now }
-    ensures short { array_vec_len result ≤ 13 }
+    ensures short { array_vec_len result ≤ 16 }
 {
     let mut word = ArrayVec::new();
-    push(&mut word, edge.wire.word());
-    push(&mut word, if edge.fall { "-" } else { "+" });
+    push(&mut word, edge.wire.word().as_bytes());
+    push_sign(&mut word, edge.fall);
     match edge.value {
         // all accesses are open, or none
-        Some(Cycle::Access(_)) => push(&mut word, " r1..r21"),
+        Some(Cycle::Access(_)) => push(&mut word, b" r1..r21"),
         value => push_argument(&mut word, value),
     }
     word
+}
+
+/// A driver's wires, in the order in which they are told.
+fn wires(driver: Driver) -> &'static [Wire]
+    ensures { result.now ≡ wires driver }
+{
+    match driver {
+        Driver::Controller => &CONTROLLERS,
+        Driver::Slot(_) => &BOARDS,
+    }
+}
+
+/// The wires that the driver holds low; of its address group `shown` tells.
+fn low_line(backplane: &Backplane, marks: &Marks, driver: Driver) -> Line
+    ensures { OfTrace backplane.now marks.now (λ _. result.items ≡ low_text backplane.now driver) }
+{
+    let mut line = ArrayVec::new();
+    for wire in wires(driver) {
+        if !wire.is_same(Wire::Addr) && holds_low(backplane, marks, driver, *wire) {
+            push_word(&mut line, "low ", driver, wire.word().as_bytes());
+        }
+    }
+    line
+}
+
+/// Whether an edge shows an access to another slot than the first.
+fn is_later_access(value: Option<Cycle>) -> bool
+    ensures { result ≡ is_later_access value }
+{
+    matches!(value, Some(Cycle::Access(slot)) if slot > 1)
+}
+
+/// The edges that the driver can make.
+fn open_line(backplane: &Backplane, driver: Driver) -> Line
+    ensures { result.items ≡ open_line backplane.now driver }
+{
+    let mut line = ArrayVec::new();
+    for edge in backplane.open_edges(driver).as_slice() {
+        if !is_later_access(edge.value) {
+            push_word(&mut line, "open ", driver, &word_of(edge));
+        }
+    }
+    line
+}
+
+/// What is told of a driver; nothing, where there is nothing to tell.
+fn topic_line(backplane: &Backplane, marks: &Marks, topic: Topic, driver: Driver) -> Line
+    ensures { OfTrace backplane.now marks.now (λ k. result.items
+        ≡ topic_text topic backplane.now k driver) }
+{
+    match topic {
+        Topic::Asks => asks_line(backplane, marks, driver),
+        Topic::Pending => pending_line(backplane, marks, driver),
+        Topic::Low => low_line(backplane, marks, driver),
+        Topic::Open => open_line(backplane, driver),
+    }
+}
+
+/// Writes a line, where there is something to tell.
+fn put_line<W: Write>(mut line: Line, out: &mut W) -> Result<(), Fault>
+    requires { array_vec_len line < 680 }
+    ensures ok { OnOk result
+        (Appends (W.contents out.old) (W.contents out.new) (line_of line.items)) }
+    ensures front { OnErr result
+        (AppendsFront (W.contents out.old) (W.contents out.new) (line_of line.items)) }
+    ensures fault { IfErr result (λ fault. fault ≡ Fault.Write) }
+{
+    if line.is_empty() {
+        return Ok(());
+    }
+    line.push(b'\n');
+    put(out, line.as_slice())
 }
