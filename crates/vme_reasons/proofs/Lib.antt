@@ -8,3 +8,5 @@ pub mod Found
 pub mod Pending
 -- `stands`: the words of a line, as far as they were told
 pub mod Listed
+-- `stands`: texts that are written one after the other
+pub mod Written

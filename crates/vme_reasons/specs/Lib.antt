@@ -4,5 +4,5 @@ pub mod Marks
 pub mod Marked
 -- words: what holds of a backplane and of the marks of its edges
 pub mod Traced
--- words: what a line tells of a driver, and the lines of some drivers
+-- words: the parts of the block that tells where a bus stands
 pub mod Standing

@@ -8,3 +8,4 @@ mod places;
 mod stands;
 
 pub use marks::Marks;
+pub use stands::write_stands;

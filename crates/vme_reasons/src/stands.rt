@@ -12,7 +12,7 @@ ghost use Rattle.vme_model.specs.Why.{since_text};
 ghost use Rattle.vme_model.specs.Stands.{after_text, asks_text, at_level, grant_text, holder_text, is_later_access, listed, low_text, open_line, open_text, pending_text, shown_text, stands_text};
 ghost use Rattle.vme_trace.specs.Writing.{AppendsFront};
 ghost use Rattle.vme_reasons.specs.Traced.{OfTrace};
-ghost use Rattle.vme_reasons.specs.Standing.{line_of, lines_for, topic_text};
+ghost use Rattle.vme_reasons.specs.Standing.{bus_text, drivers_text, lines_for, topic_text};
 
 use crate::Marks;
 use crate::drivers::{
@@ -370,18 +370,99 @@ fn topic_line(backplane: &Backplane, marks: &Marks, topic: Topic, driver: Driver
     }
 }
 
-/// Writes a line, where there is something to tell.
-fn put_line<W: Write>(mut line: Line, out: &mut W) -> Result<(), Fault>
-    requires { array_vec_len line < 680 }
+/// Writes a line, and its line feed.
+fn write_line<W: Write>(line: &Line, out: &mut W) -> Result<(), Fault>
     ensures ok { OnOk result
-        (Appends (W.contents out.old) (W.contents out.new) (line_of line.items)) }
+        (Appends (W.contents out.old) (W.contents out.new) (line.now.items ++ 10 ∷ [])) }
     ensures front { OnErr result
-        (AppendsFront (W.contents out.old) (W.contents out.new) (line_of line.items)) }
+        (AppendsFront (W.contents out.old) (W.contents out.new) (line.now.items ++ 10 ∷ [])) }
     ensures fault { IfErr result (λ fault. fault ≡ Fault.Write) }
 {
-    if line.is_empty() {
-        return Ok(());
+    put(out, line.as_slice())?;
+    put(out, b"\n")
+}
+
+/// Writes what is told of the whole bus.
+fn write_bus<W: Write>(
+    n: u64,
+    backplane: &Backplane,
+    marks: &Marks,
+    out: &mut W,
+) -> Result<(), Fault>
+    ensures ok { OnOk result (OfTrace backplane.now marks.now (λ k.
+        Appends (W.contents out.old) (W.contents out.new) (bus_text n backplane.now k))) }
+    ensures front { OnErr result (OfTrace backplane.now marks.now (λ k.
+        AppendsFront (W.contents out.old) (W.contents out.new) (bus_text n backplane.now k))) }
+    ensures fault { IfErr result (λ fault. fault ≡ Fault.Write) }
+{
+    write_line(&after_line(n, backplane.len()), out)?;
+    write_line(&holder_line(backplane, marks), out)?;
+    write_line(&grant_line(backplane, marks), out)?;
+    write_line(&shown_line(backplane, marks), out)
+}
+
+/// Writes a line for each of the drivers of which there is something to tell.
+fn write_lines<W: Write>(
+    backplane: &Backplane,
+    marks: &Marks,
+    topic: Topic,
+    drivers: &[Driver],
+    out: &mut W,
+) -> Result<(), Fault>
+    ensures ok { OnOk result (OfTrace backplane.now marks.now (λ k.
+        Appends (W.contents out.old) (W.contents out.new)
+        (lines_for (topic_text topic backplane.now k) drivers.now))) }
+    ensures front { OnErr result (OfTrace backplane.now marks.now (λ k.
+        AppendsFront (W.contents out.old) (W.contents out.new)
+        (lines_for (topic_text topic backplane.now k) drivers.now))) }
+    ensures fault { IfErr result (λ fault. fault ≡ Fault.Write) }
+{
+    for driver in drivers {
+        let line = topic_line(backplane, marks, topic, *driver);
+        if !line.is_empty() {
+            write_line(&line, out)?;
+        }
     }
-    line.push(b'\n');
-    put(out, line.as_slice())
+    Ok(())
+}
+
+/// Writes what is told of the drivers.
+fn write_drivers<W: Write>(
+    backplane: &Backplane,
+    marks: &Marks,
+    out: &mut W,
+) -> Result<(), Fault>
+    ensures ok { OnOk result (OfTrace backplane.now marks.now (λ k.
+        Appends (W.contents out.old) (W.contents out.new) (drivers_text backplane.now k))) }
+    ensures front { OnErr result (OfTrace backplane.now marks.now (λ k.
+        AppendsFront (W.contents out.old) (W.contents out.new) (drivers_text backplane.now k))) }
+    ensures fault { IfErr result (λ fault. fault ≡ Fault.Write) }
+{
+    let drivers = backplane.plan().drivers();
+    write_lines(backplane, marks, Topic::Asks, &drivers, out)?;
+    write_lines(backplane, marks, Topic::Pending, &drivers, out)?;
+    write_lines(backplane, marks, Topic::Low, &drivers, out)?;
+    write_lines(backplane, marks, Topic::Open, &drivers, out)
+}
+
+/// Writes where the bus stands behind the first `n` edges of a trace, of which the backplane took in
+/// those that were accepted, and the marks are of these: how many there are, who holds the bus, where
+/// the grant travels and what is shown; and of the drivers, the controller first and then by slot, who
+/// asks, whose interrupter is pending, the wires that each holds low, and the edges that each can make.
+///
+/// Errors: X8 where a write failed or took no byte; a front of the block was then written.
+pub fn write_stands<W: Write>(
+    n: u64,
+    backplane: &Backplane,
+    marks: &Marks,
+    out: &mut W,
+) -> Result<(), Fault>
+    ensures ok { OnOk result (OfTrace backplane.now marks.now (λ k.
+        Appends (W.contents out.old) (W.contents out.new) (stands_text n backplane.now k))) }
+    ensures front { OnErr result (OfTrace backplane.now marks.now (λ k.
+        AppendsFront (W.contents out.old) (W.contents out.new) (stands_text n backplane.now k))) }
+    ensures fault { IfErr result (λ fault. fault ≡ Fault.Write) }
+{
+    write_bus(n, backplane, marks, out)?;
+    write_drivers(backplane, marks, out)
 }
