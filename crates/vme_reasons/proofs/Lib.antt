@@ -10,3 +10,5 @@ pub mod Pending
 pub mod Listed
 -- `stands`: texts that are written one after the other
 pub mod Written
+-- `stands`: the whole block is what is told of the bus and of the drivers
+pub mod Block

@@ -9,10 +9,10 @@ ghost use Rattle.vme_model.specs.Plan.{drivers};
 ghost use Rattle.vme_model.specs.Spoken.{driver_name};
 ghost use Rattle.vme_model.specs.Text.{HasWord, argument, number, sign, wire_text};
 ghost use Rattle.vme_model.specs.Why.{since_text};
-ghost use Rattle.vme_model.specs.Stands.{after_text, asks_text, at_level, grant_text, holder_text, is_later_access, listed, low_text, open_line, open_text, pending_text, shown_text, stands_text};
+ghost use Rattle.vme_model.specs.Stands.{after_text, asks_text, at_level, grant_text, holder_text, is_later_access, lines_of, listed, low_text, open_line, open_text, pending_text, shown_text, stands_text};
 ghost use Rattle.vme_trace.specs.Writing.{AppendsFront};
 ghost use Rattle.vme_reasons.specs.Traced.{OfTrace};
-ghost use Rattle.vme_reasons.specs.Standing.{bus_text, drivers_text, lines_for, topic_text};
+ghost use Rattle.vme_reasons.specs.Standing.{bus_text, drivers_text, topic_text};
 
 use crate::Marks;
 use crate::drivers::{
@@ -401,23 +401,23 @@ fn write_bus<W: Write>(
     write_line(&shown_line(backplane, marks), out)
 }
 
-/// Writes a line for each of the drivers of which there is something to tell.
+/// Writes a line for each driver of which there is something to tell.
 fn write_lines<W: Write>(
     backplane: &Backplane,
     marks: &Marks,
     topic: Topic,
-    drivers: &[Driver],
     out: &mut W,
 ) -> Result<(), Fault>
     ensures ok { OnOk result (OfTrace backplane.now marks.now (λ k.
         Appends (W.contents out.old) (W.contents out.new)
-        (lines_for (topic_text topic backplane.now k) drivers.now))) }
+        (lines_of backplane.now (topic_text topic backplane.now k)))) }
     ensures front { OnErr result (OfTrace backplane.now marks.now (λ k.
         AppendsFront (W.contents out.old) (W.contents out.new)
-        (lines_for (topic_text topic backplane.now k) drivers.now))) }
+        (lines_of backplane.now (topic_text topic backplane.now k)))) }
     ensures fault { IfErr result (λ fault. fault ≡ Fault.Write) }
 {
-    for driver in drivers {
+    let drivers = backplane.plan().drivers();
+    for driver in drivers.as_slice() {
         let line = topic_line(backplane, marks, topic, *driver);
         if !line.is_empty() {
             write_line(&line, out)?;
@@ -438,11 +438,10 @@ fn write_drivers<W: Write>(
         AppendsFront (W.contents out.old) (W.contents out.new) (drivers_text backplane.now k))) }
     ensures fault { IfErr result (λ fault. fault ≡ Fault.Write) }
 {
-    let drivers = backplane.plan().drivers();
-    write_lines(backplane, marks, Topic::Asks, &drivers, out)?;
-    write_lines(backplane, marks, Topic::Pending, &drivers, out)?;
-    write_lines(backplane, marks, Topic::Low, &drivers, out)?;
-    write_lines(backplane, marks, Topic::Open, &drivers, out)
+    write_lines(backplane, marks, Topic::Asks, out)?;
+    write_lines(backplane, marks, Topic::Pending, out)?;
+    write_lines(backplane, marks, Topic::Low, out)?;
+    write_lines(backplane, marks, Topic::Open, out)
 }
 
 /// Writes where the bus stands behind the first `n` edges of a trace, of which the backplane took in
