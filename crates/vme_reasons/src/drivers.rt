@@ -26,12 +26,7 @@ pub(crate) fn is_low(backplane: &Backplane, marks: &Marks, driver: Driver, wire:
 }
 
 /// The last edge of a driver's wire; none where it never moved, and of one that no driver has.
-pub(crate) fn since(
-    backplane: &Backplane,
-    marks: &Marks,
-    driver: Driver,
-    wire: Wire,
-) -> Option<u64>
+pub(crate) fn since(backplane: &Backplane, marks: &Marks, driver: Driver, wire: Wire) -> Option<u64>
     ensures { OfTrace backplane.now marks.now (λ k. result ≡ since_in k driver wire) }
 {
     backplane.laws();

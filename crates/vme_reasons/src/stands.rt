@@ -427,11 +427,7 @@ fn write_lines<W: Write>(
 }
 
 /// Writes what is told of the drivers.
-fn write_drivers<W: Write>(
-    backplane: &Backplane,
-    marks: &Marks,
-    out: &mut W,
-) -> Result<(), Fault>
+fn write_drivers<W: Write>(backplane: &Backplane, marks: &Marks, out: &mut W) -> Result<(), Fault>
     ensures ok { OnOk result (OfTrace backplane.now marks.now (λ k.
         Appends (W.contents out.old) (W.contents out.new) (drivers_text backplane.now k))) }
     ensures front { OnErr result (OfTrace backplane.now marks.now (λ k.

@@ -29,20 +29,20 @@ pub returns-clause-ok : goal.returns-clause-ok
 returns-clause-ok g c =
     at_ok c.write_line-4.result (Appends (g.W.Write.contents c.write_line-3.new.out) (g.W.Write.contents c.write_line-4.new.out) (c.shown_line.result.items ++ 10 ∷ [])) _
     (λ w k same marks. let b = c.args.backplane.now in
-        Appends-trans _ _ _ (((after_text c.args.n (length b.history) ++ 10 ∷ []) ++ (holder_text b k ++ 10 ∷ [])) ++ (grant_text b ++ 10 ∷ [])) (shown_text b k ++ 10 ∷ [])
-        (all_three _ _ _ _ (after_text c.args.n (length b.history) ++ 10 ∷ []) (holder_text b k ++ 10 ∷ []) (grant_text b ++ 10 ∷ [])
-        (rw (c.after_line.ensures, c.len.ensures) at c.in_ok-write_line.ensures.ok) (rw (c.holder_line.ensures k same marks) at c.in_ok-write_line-2.ensures.ok)
-        (rw (c.grant_line.ensures k same marks) at c.in_ok-write_line-3.ensures.ok))
-        (rw (c.shown_line.ensures k same marks) at w))
+    Appends-trans _ _ _ (((after_text c.args.n (length b.history) ++ 10 ∷ []) ++ (holder_text b k ++ 10 ∷ [])) ++ (grant_text b ++ 10 ∷ [])) (shown_text b k ++ 10 ∷ [])
+    (all_three _ _ _ _ (after_text c.args.n (length b.history) ++ 10 ∷ []) (holder_text b k ++ 10 ∷ []) (grant_text b ++ 10 ∷ [])
+    (rw (c.after_line.ensures, c.len.ensures) at c.in_ok-write_line.ensures.ok) (rw (c.holder_line.ensures k same marks) at c.in_ok-write_line-2.ensures.ok)
+    (rw (c.grant_line.ensures k same marks) at c.in_ok-write_line-3.ensures.ok))
+    (rw (c.shown_line.ensures k same marks) at w))
     c.write_line-4.ensures.ok
 
 pub returns-clause-front : goal.returns-clause-front
 returns-clause-front g c =
     at_err c.write_line-4.result (AppendsFront (g.W.Write.contents c.write_line-3.new.out) (g.W.Write.contents c.write_line-4.new.out) (c.shown_line.result.items ++ 10 ∷ [])) _
     (λ w k same marks. let b = c.args.backplane.now in
-        front_behind _ _ _ (((after_text c.args.n (length b.history) ++ 10 ∷ []) ++ (holder_text b k ++ 10 ∷ [])) ++ (grant_text b ++ 10 ∷ [])) (shown_text b k ++ 10 ∷ [])
-        (all_three _ _ _ _ (after_text c.args.n (length b.history) ++ 10 ∷ []) (holder_text b k ++ 10 ∷ []) (grant_text b ++ 10 ∷ [])
-        (rw (c.after_line.ensures, c.len.ensures) at c.in_ok-write_line.ensures.ok) (rw (c.holder_line.ensures k same marks) at c.in_ok-write_line-2.ensures.ok)
-        (rw (c.grant_line.ensures k same marks) at c.in_ok-write_line-3.ensures.ok))
-        (rw (c.shown_line.ensures k same marks) at w))
+    front_behind _ _ _ (((after_text c.args.n (length b.history) ++ 10 ∷ []) ++ (holder_text b k ++ 10 ∷ [])) ++ (grant_text b ++ 10 ∷ [])) (shown_text b k ++ 10 ∷ [])
+    (all_three _ _ _ _ (after_text c.args.n (length b.history) ++ 10 ∷ []) (holder_text b k ++ 10 ∷ []) (grant_text b ++ 10 ∷ [])
+    (rw (c.after_line.ensures, c.len.ensures) at c.in_ok-write_line.ensures.ok) (rw (c.holder_line.ensures k same marks) at c.in_ok-write_line-2.ensures.ok)
+    (rw (c.grant_line.ensures k same marks) at c.in_ok-write_line-3.ensures.ok))
+    (rw (c.shown_line.ensures k same marks) at w))
     c.write_line-4.ensures.front

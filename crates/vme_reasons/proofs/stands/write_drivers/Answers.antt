@@ -32,22 +32,22 @@ pub returns-clause-ok : goal.returns-clause-ok
 returns-clause-ok g c =
     at_ok c.write_lines-4.result (OfTrace c.args.backplane.now c.args.marks.now (λ k. Appends (g.W.Write.contents c.write_lines-3.new.out) (g.W.Write.contents c.write_lines-4.new.out) (lines_of c.args.backplane.now (open_line c.args.backplane.now)))) _
     (λ w k same marks. let b = c.args.backplane.now in
-        Appends-trans _ _ _ ((lines_of b (asks_text b k) ++ lines_of b (pending_text b k)) ++ lines_of b (low_text b)) (lines_of b (open_line b))
-        (all_three _ _ _ _ (lines_of b (asks_text b k)) (lines_of b (pending_text b k)) (lines_of b (low_text b))
-        (c.in_ok-write_lines.ensures.ok k same marks)
-        (c.in_ok-write_lines-2.ensures.ok k same marks)
-        (c.in_ok-write_lines-3.ensures.ok k same marks))
-        (w k same marks))
+    Appends-trans _ _ _ ((lines_of b (asks_text b k) ++ lines_of b (pending_text b k)) ++ lines_of b (low_text b)) (lines_of b (open_line b))
+    (all_three _ _ _ _ (lines_of b (asks_text b k)) (lines_of b (pending_text b k)) (lines_of b (low_text b))
+    (c.in_ok-write_lines.ensures.ok k same marks)
+    (c.in_ok-write_lines-2.ensures.ok k same marks)
+    (c.in_ok-write_lines-3.ensures.ok k same marks))
+    (w k same marks))
     c.write_lines-4.ensures.ok
 
 pub returns-clause-front : goal.returns-clause-front
 returns-clause-front g c =
     at_err c.write_lines-4.result (OfTrace c.args.backplane.now c.args.marks.now (λ k. AppendsFront (g.W.Write.contents c.write_lines-3.new.out) (g.W.Write.contents c.write_lines-4.new.out) (lines_of c.args.backplane.now (open_line c.args.backplane.now)))) _
     (λ w k same marks. let b = c.args.backplane.now in
-        front_behind _ _ _ ((lines_of b (asks_text b k) ++ lines_of b (pending_text b k)) ++ lines_of b (low_text b)) (lines_of b (open_line b))
-        (all_three _ _ _ _ (lines_of b (asks_text b k)) (lines_of b (pending_text b k)) (lines_of b (low_text b))
-        (c.in_ok-write_lines.ensures.ok k same marks)
-        (c.in_ok-write_lines-2.ensures.ok k same marks)
-        (c.in_ok-write_lines-3.ensures.ok k same marks))
-        (w k same marks))
+    front_behind _ _ _ ((lines_of b (asks_text b k) ++ lines_of b (pending_text b k)) ++ lines_of b (low_text b)) (lines_of b (open_line b))
+    (all_three _ _ _ _ (lines_of b (asks_text b k)) (lines_of b (pending_text b k)) (lines_of b (low_text b))
+    (c.in_ok-write_lines.ensures.ok k same marks)
+    (c.in_ok-write_lines-2.ensures.ok k same marks)
+    (c.in_ok-write_lines-3.ensures.ok k same marks))
+    (w k same marks))
     c.write_lines-4.ensures.front
