@@ -46,3 +46,9 @@ pub enum Witness {
         at: u64,
     },
 }
+
+impl Default for Witness {
+    fn default() -> Witness {
+        Witness::Picks { level: None }
+    }
+}

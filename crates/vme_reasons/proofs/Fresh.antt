@@ -8,9 +8,10 @@ use Rattle.vme_model.specs.declared.signals.Wire.TheVariants.{Bg, Bclr, Iack, Be
 use Rattle.vme_model.specs.Signals.{has_wire, is_slot}
 use Rattle.std.proofs.lemmas.List.{get_or-replicate, length-replicate}
 use Rattle.vme_model.specs.Plan.{Plan}
-use Rattle.vme_reasons.specs.Marked.{IsMarksOf, never}
-use Rattle.vme_reasons.specs.declared.marks.Marks.{Marks}
-use Rattle.vme_reasons.specs.declared.marks.Moved.{Moved}
+use Rattle.vme_reasons.specs.Marked.{IsMovesOf, IsServicesOf, never}
+use Rattle.vme_reasons.specs.declared.moves.Moved.{Moved}
+use Rattle.vme_reasons.specs.declared.moves.Moves.{Moves}
+use Rattle.vme_reasons.specs.declared.services.Services.{Services}
 use Rattle.vme_reasons.specs.Marks.{driver_place, wire_place, place}
 
 grant_below : (level : ℕ) → has_wire Controller (Bg level) ≡ true → level < 4
@@ -59,14 +60,19 @@ driver_below (Slot s) w h = let r = slot_range s (slot_of s w h) in omega (arith
 pub place_below : (d : Driver) (w : Wire) → has_wire d w ≡ true → place d w < 198
 place_below d w h = let a = driver_below d w h in let b = below_nine d w h in omega (arith, a, b)
 
--- before the first edge there is no number
-pub nothing : (p : Plan) (m : Marks) → m.moves ≡ replicate 198 never → m.grant ≡ None → m.level ≡ 0 → m.strobes ≡ replicate 22 None → m.acknowledged ≡ replicate 22 None → m.accessed ≡ replicate 22 None → m.made ≡ replicate 22 0 → IsMarksOf p [] m
-nothing p m moves grant level strobes acknowledged accessed made = record {
-  wires = ap length moves ∙ length-replicate {A = Moved} 198 never;
-  boards = (ap length strobes ∙ length-replicate {A = Option ℕ} 22 None, ap length acknowledged ∙ length-replicate {A = Option ℕ} 22 None, ap length accessed ∙ length-replicate {A = Option ℕ} 22 None, ap length made ∙ length-replicate {A = ℕ} 22 0);
-  moves = λ d w h. ap (λ xs. get_or xs (place d w) never) moves ∙ get_or-replicate {A = Moved} 198 (place d w) never never (place_below d w h);
+-- before the first edge no wire has moved
+pub nothing_moved : (m : Moves) → m.wires ≡ replicate 198 never → m.grant ≡ None → m.level ≡ 0 → IsMovesOf [] m
+nothing_moved m wires grant level = record {
+  places = ap length wires ∙ length-replicate {A = Moved} 198 never;
+  wires = λ d w h. ap (λ xs. get_or xs (place d w) never) wires ∙ get_or-replicate {A = Moved} 198 (place d w) never never (place_below d w h);
   grant = grant;
   level = level;
+}
+
+-- nor is any request served
+pub nothing_served : (p : Plan) (m : Services) → m.strobes ≡ replicate 22 None → m.acknowledged ≡ replicate 22 None → m.accessed ≡ replicate 22 None → m.made ≡ replicate 22 0 → IsServicesOf p [] m
+nothing_served p m strobes acknowledged accessed made = record {
+  boards = (ap length strobes ∙ length-replicate {A = Option ℕ} 22 None, ap length acknowledged ∙ length-replicate {A = Option ℕ} 22 None, ap length accessed ∙ length-replicate {A = Option ℕ} 22 None, ap length made ∙ length-replicate {A = ℕ} 22 0);
   strobes = λ s lt. ap (λ xs. get_or xs s None) strobes ∙ get_or-replicate {A = Option ℕ} 22 s None None lt;
   acknowledged = λ s lt. ap (λ xs. get_or xs s None) acknowledged ∙ get_or-replicate {A = Option ℕ} 22 s None None lt;
   accessed = λ s lt. ap (λ xs. get_or xs s None) accessed ∙ get_or-replicate {A = Option ℕ} 22 s None None lt;

@@ -1,7 +1,15 @@
--- `Marks::new`: each driver's wire has a place, and before the first edge no number stands there
+-- `Moves::new`, `Services::new`: each driver's wire has a place, and before the first edge no number stands there
 pub mod Fresh
+-- the slots of an accepted plan
+pub mod OnPlan
+-- what is told of a wire, of a grant, of a strobe
+pub mod Told
+-- lists that grow by what passes a test
+pub mod Grown
+-- the groups together are all that is told
+pub mod Grouped
 -- `drivers`: no edge is of a wire that no driver has
-pub mod Wires
+pub mod NoSuchWire
 -- `drivers`, `grants`: a search, as far as it has come
 pub mod Found
 -- `drivers`: an interrupter is pending while its request is low and was not served

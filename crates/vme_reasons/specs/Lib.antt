@@ -2,7 +2,11 @@
 pub mod Marks
 -- words: which marks numbered edges lead to
 pub mod Marked
--- words: what holds of a backplane and of the marks of its edges
+-- words: what holds of a backplane and the marks of its edges
 pub mod Traced
+-- words: parts of what is told
+pub mod Told
+-- words: what is told of a condition, by groups of conditions
+pub mod Grouped
 -- words: the parts of the block that tells where a bus stands
 pub mod Standing

@@ -9,7 +9,9 @@ use Rattle.vme_model.specs.Plan.{Plan}
 use Rattle.vme_model.specs.History.{drive, last_level, cycles}
 use Rattle.vme_model.specs.Numbered.{Numbered, edges_in, since, granted_since, served_since, strobed_at}
 use Rattle.vme_reasons.specs.declared.marks.Marks.{Marks}
-use Rattle.vme_reasons.specs.declared.marks.Moved.{Moved}
+use Rattle.vme_reasons.specs.declared.moves.Moved.{Moved}
+use Rattle.vme_reasons.specs.declared.moves.Moves.{Moves}
+use Rattle.vme_reasons.specs.declared.services.Services.{Services}
 use Rattle.vme_reasons.specs.Marks.{place}
 
 -- a wire that never moved
@@ -17,17 +19,19 @@ abbrev pub never : Moved
 never = record { at = None; low = false }
 
 -- each field is that look back through the edges
-pub record IsMarksOf (p : Plan) (k : Numbered) (m : Marks) : Type 0 where
-  pub wires : length m.moves ≡ 198
-  pub boards :
-      (length m.strobes ≡ 22) × (length m.acknowledged ≡ 22) × (length m.accessed ≡ 22)
-      × (length m.made ≡ 22)
-  pub moves :
+pub record IsMovesOf (k : Numbered) (m : Moves) : Type 0 where
+  pub places : length m.wires ≡ 198
+  pub wires :
       (d : Driver) (w : Wire) → has_wire d w ≡ true
-      → slice_index_or m.moves (place d w) never
+      → slice_index_or m.wires (place d w) never
       ≡ record { at = since k d w; low = drive (edges_in k) d w }
   pub grant : m.grant ≡ granted_since k
   pub level : m.level ≡ last_level (edges_in k)
+
+pub record IsServicesOf (p : Plan) (k : Numbered) (m : Services) : Type 0 where
+  pub boards :
+      (length m.strobes ≡ 22) × (length m.acknowledged ≡ 22) × (length m.accessed ≡ 22)
+      × (length m.made ≡ 22)
   pub strobes : (s : ℕ) → s < 22 → slice_index_or m.strobes s None ≡ strobed_at k (Slot s)
   pub acknowledged :
       (s : ℕ) → s < 22
@@ -38,6 +42,11 @@ pub record IsMarksOf (p : Plan) (k : Numbered) (m : Marks) : Type 0 where
   pub made :
       (s : ℕ) → s < 22 → cycles (edges_in k) (Slot s) < 2 ^ 64
       → slice_index_or m.made s 0 ≡ cycles (edges_in k) (Slot s)
+
+-- both parts are those of the same edges
+pub record IsMarksOf (p : Plan) (k : Numbered) (m : Marks) : Type 0 where
+  pub moves : IsMovesOf k m.moves
+  pub services : IsServicesOf p k m.services
 
 -- what holds of all numbered edges that the marks are of
 abbrev pub OfNumbered : Marks → (Plan → Numbered → Type 0) → Type 0

@@ -15,10 +15,10 @@ ghost use Rattle.vme_reasons.specs.Traced.{OfTrace};
 ghost use Rattle.vme_reasons.specs.Standing.{bus_text, drivers_text, topic_text};
 
 use crate::Marks;
-use crate::drivers::{
-    addressing, holder, holds_low, interrupter_of, is_low, is_pending, requester_of, since,
-};
+use crate::boards::{interrupter_of, requester_of};
+use crate::drivers::{addressing, holder, is_low, is_pending, since};
 use crate::grants::grant_at;
+use crate::wires::holds_low;
 use arrayvec::ArrayVec;
 use itoa::Buffer;
 use std::io::Write;
@@ -330,7 +330,7 @@ fn low_line(backplane: &Backplane, marks: &Marks, driver: Driver) -> Line
 {
     let mut line = ArrayVec::new();
     for wire in wires(driver) {
-        if !wire.is_same(Wire::Addr) && holds_low(backplane, marks, driver, *wire) {
+        if !wire.is_same(Wire::Addr) && holds_low(backplane, marks, *wire, driver) {
             push_word(&mut line, "low ", driver, wire.word().as_bytes());
         }
     }

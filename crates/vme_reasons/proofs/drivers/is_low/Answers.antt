@@ -1,6 +1,6 @@
 use Rattle.std.proofs.Common.{◌≡◌, ◌∙◌, sym, ap}
 use Rattle.vme_model.specs.History.{drive}
-use Rattle.vme_reasons.proofs.Wires.{never_low}
+use Rattle.vme_reasons.proofs.NoSuchWire.{never_low}
 use Rattle.vme_reasons.proofs.drivers.is_low.Goals as goal
 
 pub returns-then-has_wire-clause-low : goal.returns-then-has_wire-clause-low

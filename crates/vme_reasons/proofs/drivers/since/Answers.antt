@@ -1,5 +1,5 @@
 use Rattle.std.proofs.Common.{sym, ◌∙◌}
-use Rattle.vme_reasons.proofs.Wires.{never_moved, legal_in}
+use Rattle.vme_reasons.proofs.NoSuchWire.{never_moved, legal_in}
 use Rattle.vme_reasons.proofs.drivers.since.Goals as goal
 
 pub returns-then-has_wire : goal.returns-then-has_wire

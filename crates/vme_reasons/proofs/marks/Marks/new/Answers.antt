@@ -1,6 +1,4 @@
-use Rattle.std.proofs.Common.{refl}
-use Rattle.vme_reasons.proofs.Fresh.{nothing}
 use Rattle.vme_reasons.proofs.marks.Marks.new.Goals as goal
 
 pub returns : goal.returns
-returns c = λ p. nothing p _ refl refl refl refl refl refl refl
+returns c = λ p. record { moves = c.new.ensures; services = c.new-2.ensures p }

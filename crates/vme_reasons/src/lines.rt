@@ -1,0 +1,197 @@
+//! Who holds a line low.
+ghost use Rattle.std.specs.Prelude.{◌≡◌, ◌≤◌, ◌<◌, ◌+◌, ◌++◌, ◌∷◌, [], true, length, map, filter, option_map};
+ghost use Rattle.std.specs.Option.{option_to_list};
+ghost use Rattle.vme_model.specs.declared.signals.Driver.TheVariants.{Controller};
+ghost use Rattle.vme_model.specs.declared.signals.Wire.TheVariants.{Bg, Br, Irq};
+ghost use Rattle.vme_model.specs.Signals.{has_wire};
+ghost use Rattle.vme_model.specs.History.{drive};
+ghost use Rattle.vme_model.specs.Witnesses.{seen, wire_at, holds_low, low, low_grants, requester_of, requests, granted, picked, interrupts};
+ghost use Rattle.vme_reasons.specs.Traced.{OfTrace};
+ghost use Rattle.vme_reasons.specs.Told.{asks_at};
+
+use crate::boards::{board_of, interrupts_on, requester_of};
+use crate::marks::Marks;
+use crate::wires::{holds_low, seen, wire_at};
+use arrayvec::ArrayVec;
+use vme_arbiter::{AnyPolicy, Policy};
+use vme_backplane::Backplane;
+use vme_model::{Driver, Wire, Witness};
+
+/// Room for what is told of any condition: at most two lines of 22 drivers, four grants and two
+/// facts more.
+pub(crate) const ROOM: usize = 64;
+
+/// Puts the driver's wire behind the others where it is low.
+fn tell_holder(
+    backplane: &Backplane,
+    marks: &Marks,
+    wire: Wire,
+    driver: Driver,
+    told: &mut ArrayVec<Witness, ROOM>,
+)
+    requires { length told.old.items < 64 }
+    ensures told { OfTrace backplane.now marks.now (λ k. told.new.items ≡ told.old.items
+        ++ map (λ d. seen backplane.now k d wire) (filter (holds_low backplane.now wire) (driver ∷ []))) }
+    ensures few { length told.new.items ≤ length told.old.items + 1 }
+{
+    if holds_low(backplane, marks, wire, driver) {
+        told.push(seen(backplane, marks, driver, wire));
+    }
+}
+
+/// Puts who holds the wire low behind the others, the controller first, then by slot.
+pub(crate) fn tell_low(
+    backplane: &Backplane,
+    marks: &Marks,
+    wire: Wire,
+    told: &mut ArrayVec<Witness, ROOM>,
+)
+    requires { length told.old.items + 22 ≤ 64 }
+    ensures told { OfTrace backplane.now marks.now (λ k.
+        told.new.items ≡ told.old.items ++ low backplane.now k wire) }
+    ensures few { length told.new.items ≤ length told.old.items + 22 }
+{
+    for driver in backplane.plan().drivers().as_slice() {
+        tell_holder(backplane, marks, wire, *driver, told);
+    }
+}
+
+/// Puts the controller's grant of that level behind the others where it is low.
+fn tell_grant(
+    backplane: &Backplane,
+    marks: &Marks,
+    level: u8,
+    told: &mut ArrayVec<Witness, ROOM>,
+)
+    requires level { level < 4 }
+    requires room { length told.old.items < 64 }
+    ensures told { OfTrace backplane.now marks.now (λ k. told.new.items ≡ told.old.items
+        ++ map (λ n. seen backplane.now k Controller (Bg n))
+        (filter (λ n. drive backplane.now.history Controller (Bg n)) (level ∷ []))) }
+    ensures few { length told.new.items ≤ length told.old.items + 1 }
+{
+    if marks.is_low(Driver::Controller, Wire::Bg(level)) {
+        told.push(seen(backplane, marks, Driver::Controller, Wire::Bg(level)));
+    }
+}
+
+/// Puts the controller's grants that are low behind the others.
+pub(crate) fn tell_low_grants(
+    backplane: &Backplane,
+    marks: &Marks,
+    told: &mut ArrayVec<Witness, ROOM>,
+)
+    requires { length told.old.items + 4 ≤ 64 }
+    ensures told { OfTrace backplane.now marks.now (λ k.
+        told.new.items ≡ told.old.items ++ low_grants backplane.now k) }
+    ensures few { length told.new.items ≤ length told.old.items + 4 }
+{
+    tell_grant(backplane, marks, 0, told);
+    tell_grant(backplane, marks, 1, told);
+    tell_grant(backplane, marks, 2, told);
+    tell_grant(backplane, marks, 3, told);
+}
+
+/// Puts the driver's bus request with its level behind the others where it is low.
+fn tell_request(
+    backplane: &Backplane,
+    marks: &Marks,
+    driver: Driver,
+    told: &mut ArrayVec<Witness, ROOM>,
+)
+    requires { length told.old.items < 64 }
+    ensures told { OfTrace backplane.now marks.now (λ k. told.new.items ≡ told.old.items
+        ++ map (λ d. wire_at backplane.now k d Br
+        (option_map (λ q. q.level) (requester_of backplane.now d)))
+        (filter (holds_low backplane.now Br) (driver ∷ []))) }
+    ensures few { length told.new.items ≤ length told.old.items + 1 }
+{
+    if holds_low(backplane, marks, Wire::Br, driver) {
+        let level = requester_of(backplane, driver).map(|requester| requester.level);
+        told.push(wire_at(backplane, marks, driver, Wire::Br, level));
+    }
+}
+
+/// Puts who requests the bus behind the others, each with its level.
+pub(crate) fn tell_requests(
+    backplane: &Backplane,
+    marks: &Marks,
+    told: &mut ArrayVec<Witness, ROOM>,
+)
+    requires { length told.old.items + 22 ≤ 64 }
+    ensures told { OfTrace backplane.now marks.now (λ k.
+        told.new.items ≡ told.old.items ++ requests backplane.now k) }
+    ensures few { length told.new.items ≤ length told.old.items + 22 }
+{
+    for driver in backplane.plan().drivers().as_slice() {
+        tell_request(backplane, marks, *driver, told);
+    }
+}
+
+/// The level last granted.
+pub(crate) fn granted(backplane: &Backplane, marks: &Marks) -> Witness
+    ensures { OfTrace backplane.now marks.now (λ k. result ≡ granted backplane.now k) }
+{
+    Witness::Granted {
+        level: marks.last_level(),
+        since: marks.granted_since(),
+    }
+}
+
+/// The level that the policy picks.
+pub(crate) fn picked(backplane: &Backplane, marks: &Marks) -> Witness
+    ensures { OfTrace backplane.now marks.now (λ _. result ≡ picked backplane.now) }
+{
+    let requests = backplane.pins(Driver::Controller).requests;
+    let policy = AnyPolicy::from(backplane.plan().arbiter());
+    Witness::Picks {
+        level: policy.pick(requests, marks.last_level()),
+    }
+}
+
+/// Whether the driver's interrupter asks for that level.
+fn asks_at(backplane: &Backplane, marks: &Marks, level: u8, driver: Driver) -> bool
+    ensures asks { OfTrace backplane.now marks.now (λ _. result ≡ asks_at backplane.now level driver) }
+    ensures wire { result ≡ true → has_wire driver Irq ≡ true }
+{
+    match board_of(backplane, driver) {
+        Some(row) => interrupts_on(&row, level) && marks.is_low(driver, Wire::Irq),
+        None => false,
+    }
+}
+
+/// Puts the driver's interrupt request behind the others where it asks for that level.
+fn tell_interrupt(
+    backplane: &Backplane,
+    marks: &Marks,
+    level: u8,
+    driver: Driver,
+    told: &mut ArrayVec<Witness, ROOM>,
+)
+    requires { length told.old.items < 64 }
+    ensures told { OfTrace backplane.now marks.now (λ k. told.new.items ≡ told.old.items
+        ++ map (λ d. seen backplane.now k d Irq)
+        (filter (asks_at backplane.now level) (driver ∷ []))) }
+    ensures few { length told.new.items ≤ length told.old.items + 1 }
+{
+    if asks_at(backplane, marks, level, driver) {
+        told.push(seen(backplane, marks, driver, Wire::Irq));
+    }
+}
+
+/// Puts who asks for that interrupt level behind the others.
+pub(crate) fn tell_interrupts(
+    backplane: &Backplane,
+    marks: &Marks,
+    level: u8,
+    told: &mut ArrayVec<Witness, ROOM>,
+)
+    requires { length told.old.items + 22 ≤ 64 }
+    ensures told { OfTrace backplane.now marks.now (λ k.
+        told.new.items ≡ told.old.items ++ interrupts backplane.now k level) }
+    ensures few { length told.new.items ≤ length told.old.items + 22 }
+{
+    for driver in backplane.plan().drivers().as_slice() {
+        tell_interrupt(backplane, marks, level, *driver, told);
+    }
+}
