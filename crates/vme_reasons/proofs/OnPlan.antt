@@ -1,6 +1,6 @@
 -- The slots of an accepted plan are ones that there can be.
-use Rattle.std.proofs.Common.{◌≡◌, ◌∙◌, sym, ap, subst, refl, ℕ, zero, suc, ◌<◌, ◌≤◌, Bool, true, false, List, [], ◌∷◌, ◌++◌, Option, Some, None, arith}
-use Rattle.std.specs.Prelude.{◌==◌, find, filter, nat_lt, nat_le, ◌&&◌, if◌then◌else◌, reverse}
+use Rattle.std.proofs.Common.{◌≡◌, sym, subst, refl, ℕ, zero, suc, ◌<◌, ◌≤◌, Bool, true, false, List, [], ◌∷◌, Option, Some, None, arith}
+use Rattle.std.specs.Prelude.{find, nat_lt, if◌then◌else◌, reverse}
 use Rattle.std.proofs.lemmas.List.{reverse-append}
 use Rattle.std.specs.List.{All}
 use Rattle.std.specs.Option.{option_map_or}
@@ -14,11 +14,11 @@ use Rattle.vme_model.specs.declared.signals.Wire.{Wire}
 use Rattle.vme_model.specs.declared.signals.Wire.TheVariants.{Bg, Bclr, Iack, Berr, Br, BgOut, Bbsy, Addr, AddressStrobe, DataStrobe, Irq, IackOut, Dtack}
 use Rattle.vme_model.specs.declared.signals.Edge.{Edge}
 use Rattle.vme_model.specs.Signals.{has_wire, is_slot}
-use Rattle.vme_model.specs.Plan.{Plan, board, row_in, drives, has_driver, up_to, active, is_active, upstream, last_active}
+use Rattle.vme_model.specs.Plan.{Plan, board, drives, has_driver, up_to, active, is_active, upstream, last_active}
 use Rattle.vme_model.specs.History.{drive, addressing}
 use Rattle.vme_model.specs.Accepted.{IsAccepted}
 use Rattle.vme_reasons.specs.Told.{is_driver}
-use Rattle.vme_model.proofs.Ranges.{IsInRange, IsRowInRange, in_range}
+use Rattle.vme_model.proofs.Ranges.{IsRowInRange, in_range}
 use Rattle.vme_model.proofs.Members.{found_row}
 
 is_within : (s : ℕ) → 1 ≤ s → s ≤ 21 → is_slot s ≡ true

@@ -1,9 +1,7 @@
 -- What is told of a wire, of a grant, of a strobe.
-use Rattle.std.proofs.Common.{◌≡◌, ◌∙◌, sym, ap, subst, refl, ℕ, zero, suc, ◌+◌, ◌<◌, ◌≤◌, Bool, true, false, List, [], ◌∷◌, ◌++◌, Option, Some, None, arith, length, map, take, get_or, append_assoc, append-nil}
-use Rattle.std.specs.Prelude.{◌&&◌, if◌then◌else◌, filter, option_map}
+use Rattle.std.proofs.Common.{◌≡◌, ◌∙◌, sym, ap, subst, refl, ℕ, ◌+◌, ◌≤◌, Bool, true, false, List, [], ◌∷◌, Option, Some, None, arith, length}
+use Rattle.std.specs.Prelude.{◌&&◌, if◌then◌else◌, option_map}
 use Rattle.std.specs.Option.{option_to_list, option_and_then}
-use Rattle.std.proofs.lemmas.List.{map-append}
-use Rattle.std.proofs.lemmas.List.Elements.{filter-append}
 use Rattle.vme_model.specs.declared.boards.ArbiterKind.{ArbiterKind}
 use Rattle.vme_model.specs.declared.boards.InterrupterRow.{InterrupterRow}
 use Rattle.vme_model.specs.declared.sets.BusLevels.{BusLevels}
@@ -14,7 +12,6 @@ use Rattle.vme_model.specs.declared.signals.Wire.{Wire}
 use Rattle.vme_model.specs.declared.signals.Wire.TheVariants.{Bg, Bclr, Iack, Berr, Br, BgOut, Bbsy, Addr, AddressStrobe, DataStrobe, Irq, IackOut, Dtack}
 use Rattle.vme_model.specs.declared.signals.Edge.{Edge}
 use Rattle.vme_model.specs.declared.refusals.Refused.TheVariants.{NoSuchDriver}
-use Rattle.vme_model.specs.declared.witnesses.Witness.{Witness}
 use Rattle.vme_model.specs.declared.witnesses.Witness.TheVariants as witness
 use Rattle.vme_model.specs.Signals.{has_wire, has_value, is_well_formed, is_same_wire, is_same_driver, is_edge_of, is_fall_of}
 use Rattle.vme_model.specs.Sets.{has_bus_level, bus_levels}

@@ -61,11 +61,7 @@ fn input_of(backplane: &Backplane, marks: &Marks, chain: ChainId, slot: u8) -> W
 }
 
 /// The segment at the board's input of its grant chain.
-pub(crate) fn grant_input(
-    backplane: &Backplane,
-    marks: &Marks,
-    driver: Driver,
-) -> Option<Witness>
+pub(crate) fn grant_input(backplane: &Backplane, marks: &Marks, driver: Driver) -> Option<Witness>
     ensures { OfTrace backplane.now marks.now (λ k.
         option_to_list result ≡ grant_input backplane.now k driver) }
 {

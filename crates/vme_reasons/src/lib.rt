@@ -2,6 +2,7 @@
 //! by them, and the block that tells why an edge has its verdict.
 #![tactic(auto)]
 
+mod askers;
 mod blocks;
 mod boards;
 mod chains;
@@ -9,6 +10,7 @@ mod conditions;
 mod lines;
 mod marks;
 mod moves;
+mod owns;
 mod parts;
 mod places;
 mod services;

@@ -17,8 +17,8 @@ use vme_arbiter::{AnyPolicy, Policy};
 use vme_backplane::Backplane;
 use vme_model::{Driver, Wire, Witness};
 
-/// Room for what is told of any condition: at most two lines of 22 drivers, four grants and two
-/// facts more.
+/// Room for what is told of any condition: of bus clear 22 that hold BBSY* low, four grants, 22
+/// requests and the level last granted; of two lines at most 22 each, and four more.
 pub(crate) const ROOM: usize = 64;
 
 /// Puts the driver's wire behind the others where it is low.
@@ -31,7 +31,8 @@ fn tell_holder(
 )
     requires { length told.old.items < 64 }
     ensures told { OfTrace backplane.now marks.now (λ k. told.new.items ≡ told.old.items
-        ++ map (λ d. seen backplane.now k d wire) (filter (holds_low backplane.now wire) (driver ∷ []))) }
+        ++ map (λ d. seen backplane.now k d wire)
+        (filter (holds_low backplane.now wire) (driver ∷ []))) }
     ensures few { length told.new.items ≤ length told.old.items + 1 }
 {
     if holds_low(backplane, marks, wire, driver) {
@@ -57,12 +58,7 @@ pub(crate) fn tell_low(
 }
 
 /// Puts the controller's grant of that level behind the others where it is low.
-fn tell_grant(
-    backplane: &Backplane,
-    marks: &Marks,
-    level: u8,
-    told: &mut ArrayVec<Witness, ROOM>,
-)
+fn tell_grant(backplane: &Backplane, marks: &Marks, level: u8, told: &mut ArrayVec<Witness, ROOM>)
     requires level { level < 4 }
     requires room { length told.old.items < 64 }
     ensures told { OfTrace backplane.now marks.now (λ k. told.new.items ≡ told.old.items
@@ -151,7 +147,8 @@ pub(crate) fn picked(backplane: &Backplane, marks: &Marks) -> Witness
 
 /// Whether the driver's interrupter asks for that level.
 fn asks_at(backplane: &Backplane, marks: &Marks, level: u8, driver: Driver) -> bool
-    ensures asks { OfTrace backplane.now marks.now (λ _. result ≡ asks_at backplane.now level driver) }
+    ensures asks { OfTrace backplane.now marks.now (λ _.
+        result ≡ asks_at backplane.now level driver) }
     ensures wire { result ≡ true → has_wire driver Irq ≡ true }
 {
     match board_of(backplane, driver) {

@@ -74,8 +74,8 @@ impl Marks {
         self.moves.granted_since()
     }
 
-    /// The first answer of a slot below 22, since its last `irq-`, that serves an interrupter of the
-    /// kind.
+    /// The first answer of a slot below 22, since its last `irq-`, that serves an interrupter of
+    /// the kind.
     pub fn served_since(&self, slot: u8, kind: IrqKind) -> Option<u64>
         requires { slot < 22 }
         ensures { OfNumbered self.now (λ p k. result ≡ served_since p k (Slot slot) kind) }

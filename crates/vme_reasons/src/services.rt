@@ -128,8 +128,8 @@ impl Services {
         }
     }
 
-    /// The first answer of a slot below 22, since its last `irq-`, that serves an interrupter of the
-    /// kind.
+    /// The first answer of a slot below 22, since its last `irq-`, that serves an interrupter of
+    /// the kind.
     pub(crate) fn served_since(&self, slot: u8, kind: IrqKind) -> Option<u64>
         requires { slot < 22 }
         ensures { (p : Plan) (k : Numbered) → IsServicesOf p k self.now

@@ -1,4 +1,4 @@
-use Rattle.std.proofs.Common.{◌≡◌, ◌∙◌, sym, ap, subst}
+use Rattle.std.proofs.Common.{◌∙◌, sym, subst}
 use Rattle.vme_model.specs.Accepted.{IsAccepted}
 use Rattle.vme_reasons.proofs.OnPlan.{driver_of_board}
 use Rattle.vme_reasons.proofs.boards.board_of.Goals as goal

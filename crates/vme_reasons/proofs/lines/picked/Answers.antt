@@ -1,7 +1,5 @@
 use Rattle.std.proofs.Common.{◌≡◌, ◌∙◌, ap, Option, ℕ}
-use Rattle.vme_model.specs.declared.boards.ArbiterKind.{ArbiterKind}
 use Rattle.vme_model.specs.declared.pins.Pins.{Pins}
-use Rattle.vme_model.specs.declared.sets.BusLevels.{BusLevels}
 use Rattle.vme_model.specs.declared.witnesses.Witness.TheVariants as witness
 use Rattle.vme_model.specs.Sets.{bus_levels}
 use Rattle.vme_model.specs.Plan.{Plan}

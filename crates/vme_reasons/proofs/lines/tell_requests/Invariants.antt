@@ -1,7 +1,6 @@
-use Rattle.std.proofs.Common.{◌≡◌, ◌≤◌, ◌+◌, ◌++◌, List, take, length, map}
+use Rattle.std.proofs.Common.{◌≡◌, ◌≤◌, ◌+◌, ◌++◌, take, length, map}
 use Rattle.std.specs.Prelude.{filter, option_map}
 use Rattle.vme_model.specs.declared.signals.Wire.TheVariants.{Br}
-use Rattle.vme_model.specs.declared.witnesses.Witness.{Witness}
 use Rattle.vme_model.specs.Numbered.{Numbered, edges_in}
 use Rattle.vme_model.specs.Witnesses.{wire_at, holds_low, requester_of}
 use Rattle.vme_reasons.specs.Marked.{IsMarksOf}

@@ -1,6 +1,5 @@
-use Rattle.std.proofs.Common.{◌≡◌, ◌∙◌, ap, sym, true, false, ℕ, List, Bool, arith}
+use Rattle.std.proofs.Common.{◌≡◌, ◌∙◌, ap, sym, true, false, arith}
 use Rattle.vme_model.specs.declared.signals.Driver.TheVariants.{Slot}
-use Rattle.vme_model.specs.declared.signals.Edge.{Edge}
 use Rattle.vme_model.specs.declared.signals.Wire.TheVariants.{Addr}
 use Rattle.vme_model.specs.Plan.{Plan}
 use Rattle.vme_model.specs.History.{drive}

@@ -1,8 +1,7 @@
-use Rattle.std.proofs.Common.{◌≡◌, ◌∙◌, ap, sym, subst, ◌<◌, ◌≤◌, ◌^◌, List, length, arith}
+use Rattle.std.proofs.Common.{◌∙◌, ap, sym, subst, ◌<◌, ◌≤◌, ◌^◌, List, length, arith}
 use Rattle.vme_model.specs.declared.signals.Driver.TheVariants.{Slot}
 use Rattle.vme_model.specs.declared.signals.Edge.{Edge}
 use Rattle.vme_model.specs.History.{cycles}
-use Rattle.vme_model.specs.Numbered.{edges_in}
 use Rattle.vme_reasons.proofs.Told.{cycles_within}
 use Rattle.vme_reasons.proofs.OnPlan.{below_22}
 use Rattle.vme_reasons.proofs.parts.made.Goals as goal

@@ -1,4 +1,4 @@
-use Rattle.std.proofs.Common.{◌≡◌, ◌∙◌, ap, sym, true, false}
+use Rattle.std.proofs.Common.{◌≡◌, ◌∙◌, sym, true, false}
 use Rattle.vme_model.specs.declared.signals.Wire.TheVariants.{Irq}
 use Rattle.vme_model.specs.History.{drive}
 use Rattle.vme_reasons.proofs.Told.{service_told, service_high}

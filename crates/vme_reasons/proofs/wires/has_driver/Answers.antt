@@ -1,4 +1,4 @@
-use Rattle.std.proofs.Common.{◌≡◌, ◌∙◌, sym, ap, Option}
+use Rattle.std.proofs.Common.{◌∙◌, sym, ap}
 use Rattle.std.specs.Option.{option_copied}
 use Rattle.vme_reasons.proofs.OnPlan.{wire_of_board}
 use Rattle.vme_reasons.proofs.wires.has_driver.Goals as goal

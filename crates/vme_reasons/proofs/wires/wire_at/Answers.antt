@@ -1,4 +1,4 @@
-use Rattle.std.proofs.Common.{◌≡◌, ◌∙◌, ap, Bool, Option, ℕ, List}
+use Rattle.std.proofs.Common.{◌≡◌, ◌∙◌, ap, Bool, List}
 use Rattle.vme_model.specs.declared.signals.Edge.{Edge}
 use Rattle.vme_model.specs.History.{drive, shown}
 use Rattle.vme_model.specs.Numbered.{since}

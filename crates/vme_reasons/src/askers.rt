@@ -1,0 +1,90 @@
+//! What is told of those that ask for the bus or for an interrupt, and of what they are granted.
+ghost use Rattle.std.specs.Prelude.{◌≡◌, ◌≤◌, ◌+◌, ◌++◌, ◌∷◌, [], length};
+ghost use Rattle.vme_model.specs.Spoken.{level_of};
+ghost use Rattle.vme_model.specs.Witnesses.{requests, granted, picked};
+ghost use Rattle.vme_reasons.specs.Traced.{OfTrace};
+ghost use Rattle.vme_reasons.specs.Grouped.{is_of_askers, askers_told};
+
+use crate::lines::{
+    ROOM, granted, picked, tell_interrupts, tell_low, tell_low_grants, tell_requests,
+};
+use crate::marks::Marks;
+use arrayvec::ArrayVec;
+use vme_backplane::Backplane;
+use vme_model::{Condition, Cycle, Edge, Wire, Witness};
+
+/// Whether a condition is told by who asks for something, or what they are granted.
+pub(crate) fn is_of_askers(condition: Condition) -> bool
+    ensures { result ≡ is_of_askers condition }
+{
+    matches!(
+        condition,
+        Condition::GrantsHigh
+            | Condition::Picked
+            | Condition::HigherAsked
+            | Condition::ClearNotDue
+            | Condition::InterruptLow
+    )
+}
+
+/// The level of an acknowledge; 0 of what is none.
+fn level_of(cycle: Option<Cycle>) -> u8
+    ensures { result ≡ level_of cycle }
+{
+    match cycle {
+        Some(Cycle::Acknowledge(level)) => level,
+        _ => 0,
+    }
+}
+
+/// Puts who requests the bus and the level last granted behind the others.
+fn tell_asked(backplane: &Backplane, marks: &Marks, told: &mut ArrayVec<Witness, ROOM>)
+    requires { length told.old.items + 23 ≤ 64 }
+    ensures told { OfTrace backplane.now marks.now (λ k. told.new.items ≡ told.old.items
+        ++ (requests backplane.now k ++ granted backplane.now k ∷ [])) }
+    ensures few { length told.new.items ≤ length told.old.items + 23 }
+{
+    tell_requests(backplane, marks, told);
+    told.push(granted(backplane, marks));
+}
+
+/// Puts who requests the bus, the level last granted and the one that the policy picks behind the
+/// others.
+fn tell_picked(backplane: &Backplane, marks: &Marks, told: &mut ArrayVec<Witness, ROOM>)
+    requires { length told.old.items + 24 ≤ 64 }
+    ensures told { OfTrace backplane.now marks.now (λ k. told.new.items ≡ told.old.items
+        ++ (requests backplane.now k ++ granted backplane.now k ∷ picked backplane.now ∷ [])) }
+    ensures few { length told.new.items ≤ length told.old.items + 24 }
+{
+    tell_requests(backplane, marks, told);
+    told.push(granted(backplane, marks));
+    told.push(picked(backplane, marks));
+}
+
+/// What is told of a condition of those that ask.
+pub(crate) fn askers(
+    backplane: &Backplane,
+    marks: &Marks,
+    edge: &Edge,
+    condition: Condition,
+) -> ArrayVec<Witness, ROOM>
+    ensures { OfTrace backplane.now marks.now (λ k.
+        result.items ≡ askers_told backplane.now k edge.now condition) }
+{
+    let mut told = ArrayVec::new();
+    match condition {
+        Condition::GrantsHigh => tell_low_grants(backplane, marks, &mut told),
+        Condition::Picked => tell_picked(backplane, marks, &mut told),
+        Condition::HigherAsked => tell_asked(backplane, marks, &mut told),
+        Condition::ClearNotDue => {
+            tell_low(backplane, marks, Wire::Bbsy, &mut told);
+            tell_low_grants(backplane, marks, &mut told);
+            tell_asked(backplane, marks, &mut told);
+        }
+        Condition::InterruptLow => {
+            tell_interrupts(backplane, marks, level_of(edge.value), &mut told);
+        }
+        _ => {}
+    }
+    told
+}

@@ -1,0 +1,74 @@
+//! What is told of the board's own wires and parts.
+ghost use Rattle.std.specs.Prelude.{◌≡◌, true};
+ghost use Rattle.std.specs.Option.{option_to_list};
+ghost use Rattle.vme_reasons.specs.Told.{is_driver};
+ghost use Rattle.vme_reasons.specs.Traced.{OfTrace};
+ghost use Rattle.vme_reasons.specs.Grouped.{own_wire, own_first, own_second};
+
+use crate::chains::{acknowledge_input, grant_input};
+use crate::marks::Marks;
+use crate::parts::{bursts, request, service, strobe};
+use crate::wires::own;
+use vme_backplane::Backplane;
+use vme_model::{Condition, Driver, Wire, Witness};
+
+/// The board's own wire that a condition speaks of, or the first of two.
+fn own_wire(condition: Condition) -> Option<Wire>
+    ensures { result ≡ own_wire condition }
+{
+    match condition {
+        Condition::OwnRequestHigh | Condition::OwnRequestLow => Some(Wire::Br),
+        Condition::OwnGrantOutHigh => Some(Wire::BgOut),
+        Condition::OwnBusyHigh | Condition::OwnBusyLow => Some(Wire::Bbsy),
+        Condition::OwnAddressOn | Condition::OwnAddressOff | Condition::AddressFree => {
+            Some(Wire::Addr)
+        }
+        Condition::OwnAddressStrobeLow => Some(Wire::AddressStrobe),
+        Condition::OwnDataStrobeHigh => Some(Wire::DataStrobe),
+        Condition::OwnAcknowledgeOutHigh => Some(Wire::IackOut),
+        Condition::OwnDtackHigh => Some(Wire::Dtack),
+        Condition::Served => Some(Wire::Irq),
+        _ => None,
+    }
+}
+
+/// The board's own wire that a condition speaks of.
+pub(crate) fn own_first(
+    backplane: &Backplane,
+    marks: &Marks,
+    driver: Driver,
+    condition: Condition,
+) -> Option<Witness>
+    requires { is_driver driver ≡ true }
+    ensures { OfTrace backplane.now marks.now (λ k.
+        option_to_list result ≡ own_first backplane.now k driver condition) }
+{
+    match condition {
+        Condition::Pending | Condition::NotPending => request(backplane, marks, driver),
+        _ => own(backplane, marks, driver, own_wire(condition)?),
+    }
+}
+
+/// What else of the board a condition speaks of.
+pub(crate) fn own_second(
+    backplane: &Backplane,
+    marks: &Marks,
+    driver: Driver,
+    condition: Condition,
+) -> Option<Witness>
+    requires { is_driver driver ≡ true }
+    ensures { OfTrace backplane.now marks.now (λ k.
+        option_to_list result ≡ own_second backplane.now k driver condition) }
+{
+    match condition {
+        Condition::GrantInHigh | Condition::GrantInLow => grant_input(backplane, marks, driver),
+        Condition::AcknowledgeInLow => acknowledge_input(backplane, marks, driver),
+        Condition::AddressFree => own(backplane, marks, driver, Wire::AddressStrobe),
+        Condition::Strobed | Condition::NotStrobed => strobe(backplane, marks, driver),
+        Condition::WithinBurst => bursts(backplane, marks, driver),
+        Condition::Served | Condition::Pending | Condition::NotPending => {
+            service(backplane, marks, driver)
+        }
+        _ => None,
+    }
+}
