@@ -56,7 +56,8 @@ fn condition_line(backplane: &Backplane, edge: &Edge, tested: Tested) -> ArrayVe
     line
 }
 
-/// Writes the lines of the witnesses. Nothing is known of them where one has no text.
+/// Writes the lines of the witnesses. What it writes is not said where one names a wire without a
+/// word.
 fn write_witnesses<W: Write>(witnesses: &[Witness], out: &mut W) -> Result<(), Fault>
     ensures ok { OnOk result (All IsSpoken witnesses.now
         → Appends (W.contents out.old) (W.contents out.new) (witness_lines witnesses.now)) }
@@ -115,10 +116,10 @@ fn write_reasons<W: Write>(
     Ok(())
 }
 
-/// Writes why an edge has its verdict: a line with its number `n`, the edge and the verdict, and for each condition that
-/// is tested of it a line, with one behind it for each of its witnesses.
+/// Writes why an edge has its verdict: a line with its number `n`, the edge and the verdict, and for
+/// each condition that is tested of it a line, with one behind it for each of its witnesses.
 ///
-/// The marks are those of the backplane's trace, and the edge is well formed. Nothing is made of it.
+/// The edge is well formed and not yet made, and the marks are of the backplane's edges.
 ///
 /// # Errors
 /// X8 where the output cannot be written; a prefix of the block was then written.

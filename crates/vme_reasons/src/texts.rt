@@ -11,7 +11,8 @@ use arrayvec::ArrayVec;
 use itoa::Buffer;
 use vme_model::{Cycle, Delivery, Driver, Refused, Wire, Witness};
 
-/// Room for any line: the longest has a number of 20 digits, an edge of 12 bytes and a verdict of 37.
+/// Room for any line: the longest has a number of 20 digits, an edge of 12 bytes, and a verdict of
+/// 37.
 pub(crate) const LINE: usize = 80;
 
 /// Appends a text to a line that has room for it.
@@ -35,7 +36,8 @@ pub fn push_number<const N: usize>(line: &mut ArrayVec<u8, N>, n: u64)
     push(line, digits.format(n).as_bytes());
 }
 
-/// Appends a byte's value in decimal, digit by digit: at most 3 bytes. Half the verdicts of a trace may name a rule.
+/// Appends a byte's value in decimal, at most 3 bytes: digit by digit, since half the verdicts of a
+/// trace may name a rule.
 pub fn push_byte<const N: usize>(line: &mut ArrayVec<u8, N>, n: u8)
     requires { array_vec_len line.old + 3 ≤ N }
     ensures items { line.new.items ≡ line.old.items ++ decimal n }
@@ -203,7 +205,8 @@ fn push_state<const N: usize>(line: &mut ArrayVec<u8, N>, driver: Driver, wire: 
 /// Appends how many cycles a board made of its burst: at most 38 bytes.
 fn push_cycles<const N: usize>(line: &mut ArrayVec<u8, N>, driver: Driver, made: u64, burst: u8)
     requires { array_vec_len line.old + 38 ≤ N }
-    ensures items { line.new.items ≡ line.old.items ++ witness_text (Witness.Cycles driver made burst) }
+    ensures items { line.new.items
+        ≡ line.old.items ++ witness_text (Witness.Cycles driver made burst) }
     ensures len { array_vec_len line.new ≤ array_vec_len line.old + 38 }
 {
     push_driver(line, driver);
@@ -213,10 +216,11 @@ fn push_cycles<const N: usize>(line: &mut ArrayVec<u8, N>, driver: Driver, made:
     push_byte(line, burst);
 }
 
-/// Appends a witness: at most 57 bytes. Nothing is known of a wire without a word.
+/// Appends a witness: at most 57 bytes. What it appends is not said of a wire without a word.
 fn push_witness<const N: usize>(line: &mut ArrayVec<u8, N>, witness: &Witness)
     requires { array_vec_len line.old + 57 ≤ N }
-    ensures items { IsSpoken witness.now → line.new.items ≡ line.old.items ++ witness_text witness.now }
+    ensures items { IsSpoken witness.now
+        → line.new.items ≡ line.old.items ++ witness_text witness.now }
     ensures len { array_vec_len line.new ≤ array_vec_len line.old + 57 }
 {
     match *witness {
