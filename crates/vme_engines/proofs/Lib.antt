@@ -2,8 +2,6 @@
 pub mod WrittenLines
 -- the digits of a number and of the next one: `Count::advance`
 pub mod NextNumber
--- a byte's value in decimal, digit by digit: `lines::push_byte`
-pub mod ByteDigits
 -- the edges and the version of a trace, as more of it is read: `TraceReads`
 pub mod TraceSoFar
 -- what a reader has read can go on, as X5 has it: `TraceReads`, `ReadOn`

@@ -11,89 +11,14 @@ ghost use Rattle.vme_engines.specs.Checking.{finding_line};
 use crate::checks::Finding;
 use crate::counts::Count;
 use arrayvec::ArrayVec;
-use itoa::Buffer;
 use std::io::Write;
 use vme_backplane::Backplane;
 use vme_model::{Delivery, Edge, Refused};
+use vme_reasons::texts::{push, push_number, push_verdict};
 use vme_trace::{Fault, flush, put};
 
 /// Room for any line: two numbers of at most 20 digits, or one and a verdict, and a few words.
 const LINE: usize = 80;
-
-/// Appends a text to a line that has room for it.
-fn push<const N: usize>(line: &mut ArrayVec<u8, N>, text: &[u8])
-    requires { array_vec_len line.old + length text.now ≤ N }
-    ensures items { line.new.items ≡ line.old.items ++ text.now }
-    ensures len { array_vec_len line.new ≡ array_vec_len line.old + length text.now }
-{
-    if line.try_extend_from_slice(text).is_err() {
-        unreachable!()
-    }
-}
-
-/// Appends a number in decimal.
-fn push_number(line: &mut ArrayVec<u8, LINE>, n: u64)
-    requires { array_vec_len line.old + 20 ≤ 80 }
-    ensures items { line.new.items ≡ line.old.items ++ decimal n }
-    ensures len { array_vec_len line.new ≤ array_vec_len line.old + 20 }
-{
-    let mut digits = Buffer::new();
-    push(line, digits.format(n).as_bytes());
-}
-
-/// Appends a byte's value in decimal, digit by digit: half the lines of a trace may name a rule.
-fn push_byte(line: &mut ArrayVec<u8, LINE>, n: u8)
-    requires { array_vec_len line.old + 3 ≤ 80 }
-    ensures items { line.new.items ≡ line.old.items ++ decimal n }
-    ensures len { array_vec_len line.new ≤ array_vec_len line.old + 3 }
-{
-    if n >= 100 {
-        line.push(b'0' + n / 100);
-    }
-    if n >= 10 {
-        line.push(b'0' + n / 10 % 10);
-    }
-    line.push(b'0' + n % 10);
-}
-
-/// Appends what is written of a delivery.
-fn push_delivery(line: &mut ArrayVec<u8, LINE>, delivery: &Delivery)
-    requires { array_vec_len line.old + 37 ≤ 80 }
-    ensures items { line.new.items ≡ line.old.items ++ delivery_text delivery.now }
-    ensures len { array_vec_len line.new ≤ array_vec_len line.old + 37 }
-{
-    push(line, b"ok irq ");
-    push_byte(line, delivery.level);
-    push(line, b" to ");
-    push_byte(line, delivery.handler);
-    push(line, b" from ");
-    push_byte(line, delivery.answered_by);
-    push(line, b" status ");
-    push_byte(line, delivery.status);
-}
-
-/// Appends what is written of an answer to an edge: at most 37 bytes.
-fn push_verdict(line: &mut ArrayVec<u8, LINE>, answer: &Result<Option<Delivery>, Refused>)
-    requires { array_vec_len line.old + 37 ≤ 80 }
-    ensures items { line.new.items ≡ line.old.items ++ verdict_text answer.now }
-    ensures len { array_vec_len line.new ≤ array_vec_len line.old + 37 }
-{
-    match answer {
-        Ok(None) => push(line, b"ok"),
-        Ok(Some(delivery)) => push_delivery(line, delivery),
-        Err(Refused::NoSuchDriver) => push(line, b"E1"),
-        Err(Refused::AlreadyThere) => push(line, b"E2"),
-        Err(Refused::Rule(rule)) => {
-            push(line, b"E3 G");
-            push_byte(line, *rule);
-        }
-        Err(Refused::NotSettled(rule)) => {
-            push(line, b"E4 S");
-            push_byte(line, *rule);
-        }
-        Err(Refused::TraceFull) => push(line, b"E5"),
-    }
-}
 
 /// The verdict line of the edge with this number. One that is not kept with the number is put together in `line`, whatever it held.
 fn verdict_line<'a>(

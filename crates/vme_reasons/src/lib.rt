@@ -16,9 +16,9 @@ mod owns;
 mod parts;
 mod places;
 mod services;
+mod stands;
 mod tested;
 pub mod texts;
-mod stands;
 mod wires;
 
 pub use blocks::write_why;

@@ -18,9 +18,9 @@ use crate::Marks;
 use crate::boards::{interrupter_of, requester_of};
 use crate::drivers::{addressing, holder, is_low, is_pending, since};
 use crate::grants::grant_at;
+use crate::texts::{push, push_argument, push_driver, push_number, push_since};
 use crate::wires::holds_low;
 use arrayvec::ArrayVec;
-use itoa::Buffer;
 use std::io::Write;
 use vme_backplane::Backplane;
 use vme_model::{Cycle, Driver, Edge, Wire};
@@ -71,87 +71,6 @@ enum Topic {
     Low,
     /// The edges that it can make.
     Open,
-}
-
-/// Appends a text that has room.
-fn push<const N: usize>(line: &mut ArrayVec<u8, N>, text: &[u8])
-    requires { array_vec_len line.old + length text.now ≤ N }
-    ensures items { line.new.items ≡ line.old.items ++ text.now }
-    ensures len { array_vec_len line.new ≡ array_vec_len line.old + length text.now }
-{
-    if line.try_extend_from_slice(text).is_err() {
-        unreachable!()
-    }
-}
-
-/// Appends a number in decimal.
-fn push_number(line: &mut Line, n: u64)
-    requires { array_vec_len line.old + 20 ≤ 680 }
-    ensures items { line.new.items ≡ line.old.items ++ decimal n }
-    ensures len { array_vec_len line.new ≤ array_vec_len line.old + 20 }
-{
-    let mut digits = Buffer::new();
-    push(line, digits.format(n).as_bytes());
-}
-
-/// Appends a driver's name.
-fn push_driver(line: &mut Line, driver: Driver)
-    requires { array_vec_len line.old + 20 ≤ 680 }
-    ensures items { line.new.items ≡ line.old.items ++ driver_name driver }
-    ensures len { array_vec_len line.new ≤ array_vec_len line.old + 20 }
-{
-    match driver {
-        Driver::Controller => push(line, b"c"),
-        Driver::Slot(slot) => push_number(line, u64::from(slot)),
-    }
-}
-
-/// Appends the number of an edge, where there is one.
-fn push_since(line: &mut Line, since: Option<u64>)
-    requires { array_vec_len line.old + 27 ≤ 680 }
-    ensures items { line.new.items ≡ line.old.items ++ since_text since }
-    ensures len { array_vec_len line.new ≤ array_vec_len line.old + 27 }
-{
-    match since {
-        None => {}
-        Some(n) => {
-            push(line, b" since ");
-            push_number(line, n);
-        }
-    }
-}
-
-/// Appends a level or a slot, as a trace spells it.
-fn push_digits<const N: usize>(line: &mut ArrayVec<u8, N>, n: u8)
-    requires { array_vec_len line.old + 2 ≤ N }
-    ensures items { line.new.items ≡ line.old.items ++ number n }
-    ensures len { array_vec_len line.new ≤ array_vec_len line.old + 2 }
-{
-    if n >= 10 {
-        line.push(b'0' + n / 10);
-        line.push(b'0' + n % 10);
-    } else {
-        line.push(b'0' + n);
-    }
-}
-
-/// Appends what an edge shows, as a trace spells it.
-fn push_argument<const N: usize>(line: &mut ArrayVec<u8, N>, value: Option<Cycle>)
-    requires { array_vec_len line.old + 4 ≤ N }
-    ensures items { line.new.items ≡ line.old.items ++ argument value }
-    ensures len { array_vec_len line.new ≤ array_vec_len line.old + 4 }
-{
-    match value {
-        None => {}
-        Some(Cycle::Acknowledge(level)) => {
-            push(line, b" i");
-            push_digits(line, level);
-        }
-        Some(Cycle::Access(slot)) => {
-            push(line, b" r");
-            push_digits(line, slot);
-        }
-    }
 }
 
 /// How many edges there are, and how many were accepted.
