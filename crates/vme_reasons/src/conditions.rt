@@ -144,7 +144,8 @@ fn others(
 }
 
 /// What is told of a condition of an edge that is well formed and not yet made: the wires that the
-/// condition speaks of, or that hold its line low, since which edges they are so, and what it counts.
+/// condition speaks of, or that hold its line low, since which edges they are so, and what it
+/// counts.
 ///
 /// The marks are to be of the edges of the backplane.
 pub fn witnesses(
