@@ -1,5 +1,5 @@
 -- No more than six conditions are tested of an edge.
-use Rattle.std.proofs.Common.{◌≤◌, ◌+◌, ℕ, Bool, true, false, List, length, arith}
+use Rattle.std.proofs.Common.{◌≤◌, ℕ, Bool, true, false, length, arith}
 use Rattle.std.specs.Prelude.{◌==◌, ◌&&◌, not, Ok}
 use Rattle.vme_model.specs.declared.refusals.Refused.TheVariants.{NoSuchDriver, AlreadyThere, Rule, NotSettled, TraceFull}
 use Rattle.vme_model.specs.declared.signals.Edge.{Edge}

@@ -1,5 +1,5 @@
 -- Every wire that is told of a condition has a word.
-use Rattle.std.proofs.Common.{◌≡◌, ◌<◌, ℕ, Bool, true, false, List, [], ◌∷◌, ◌++◌, map, filter, get_or, length, arith}
+use Rattle.std.proofs.Common.{◌≡◌, ◌<◌, ℕ, Bool, true, false, List, [], ◌∷◌, ◌++◌, map, filter, get_or, arith}
 use Rattle.std.specs.Prelude.{◌&&◌, if◌then◌else◌, Option, Some, None, option_map, nat_lt}
 use Rattle.std.specs.Option.{option_map_or, option_and_then, option_to_list}
 use Rattle.std.specs.List.{All}
@@ -30,7 +30,7 @@ use Rattle.vme_model.specs.Rules.{bus_numbers}
 use Rattle.vme_model.specs.Spoken.{level_of}
 use Rattle.vme_model.specs.Text.{HasWord}
 use Rattle.vme_model.specs.Verdict.{State}
-use Rattle.vme_model.specs.Witnesses.{requester_of, interrupter_of, wire_at, seen, own, holds_low, low, low_grants, requests, granted, picked, interrupts, segment_at, grant_input, acknowledge_input, last_segment, addressed, cycles_of, bursts, strobe, service, pending_at, own_witnesses, witnesses_of}
+use Rattle.vme_model.specs.Witnesses.{requester_of, interrupter_of, wire_at, seen, own, holds_low, low, low_grants, requests, granted, picked, interrupts, segment_at, grant_input, acknowledge_input, last_segment, addressed, cycles_of, strobe, service, pending_at, own_witnesses, witnesses_of}
 use Rattle.vme_reasons.specs.Blocks.{IsSpoken}
 
 abbrev AreSpoken : List Witness → Type 0
