@@ -34,6 +34,7 @@ told_fault name fault.TooLong = TooLong name
 told_fault name (fault.Scenario e) = Engine (fault.Scenario e)
 told_fault name (fault.Trace f) = Engine (fault.Trace f)
 told_fault name fault.NoMemory = Engine fault.NoMemory
+told_fault name (fault.Beyond edges) = Engine (fault.Beyond edges)
 
 abbrev pub told_answer : Bor (List ℕ) → Result Status EngineFault → Result Status ProgramFault
 told_answer name (Ok status) = Ok status

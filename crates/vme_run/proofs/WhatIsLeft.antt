@@ -94,6 +94,7 @@ module _ (lent : List ℕ) (version : Version) (m n turns : ℕ) (fits : m ≤ n
   not_played_from (Engine (fault.Scenario e)) none = absurd none
   not_played_from (Engine fault.CannotRead) none = absurd none
   not_played_from (Engine (fault.Trace f)) none = absurd none
+  not_played_from (Engine (fault.Beyond edges)) none = absurd none
   not_played_from NotStarted none = (p, is.short, is.read, Keeps-refl _)
   not_played_from (LogDiffers driver at) none = (p, is.short, is.read, (other_logs version p m n turns none.0 driver at fits none.1 none.2, Keeps-refl _))
   not_played_from (NotReplayed at) none = absurd none
@@ -108,6 +109,7 @@ module _ (lent : List ℕ) (version : Version) (m n turns : ℕ) (fits : m ≤ n
   written new b (Err (Engine fault.TooLong)) played none = absurd none
   written new b (Err (Engine (fault.Scenario e))) played none = absurd none
   written new b (Err (Engine fault.CannotRead)) played none = absurd none
+  written new b (Err (Engine (fault.Beyond edges))) played none = absurd none
   written new b (Err NotStarted) played none = absurd none
   written new b (Err (LogDiffers driver at)) played none = absurd none
   written new b (Err (NotReplayed at)) played none = absurd none
