@@ -19,7 +19,7 @@ use Rattle.vme_reasons.specs.declared.marks.Marks.{Marks}
 use Rattle.vme_reasons.specs.Marked.{IsMarksOf}
 use Rattle.vme_engines.specs.declared.following.Following.{Following}
 use Rattle.vme_engines.specs.Checking.{or_refusal, first_refusal}
-use Rattle.vme_engines.specs.Traced.{OfTrace}
+use Rattle.vme_reasons.specs.Traced.{OfTrace}
 use Rattle.vme_engines.specs.Followed.{Follows, ComesTo, Reaches}
 use Rattle.vme_engines.proofs.WrittenLines.{kept_append}
 use Rattle.vme_engines.proofs.CheckPieces.{refusal_behind}

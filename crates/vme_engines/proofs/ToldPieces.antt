@@ -23,7 +23,7 @@ use Rattle.vme_engines.specs.declared.following.Told.TheVariants.{Block, Beyond}
 use Rattle.vme_engines.specs.declared.checks.Finding.TheVariants.{Legal}
 use Rattle.vme_engines.specs.Checking.{first_refusal, finding_line}
 use Rattle.vme_engines.specs.Explaining.{edge_status}
-use Rattle.vme_engines.specs.Traced.{OfTrace}
+use Rattle.vme_reasons.specs.Traced.{OfTrace}
 use Rattle.vme_engines.specs.Followed.{Follows, IsNext, IsMissing, ComesTo, TellsEdge, TellsLegal, Tells, EndsMissing, ExplainsPiece, IsPlace, IsBehind, IsNotBefore, TellsPlace, Reaches, EndsBehind, StatesPiece}
 use Rattle.vme_engines.specs.Pieces.{answered}
 use Rattle.vme_engines.proofs.FormedEdges.{formed_both}

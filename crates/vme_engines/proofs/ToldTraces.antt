@@ -34,7 +34,7 @@ use Rattle.vme_engines.specs.Explaining.{IsAsked, IsUnasked, edge_status, IsExpl
 use Rattle.vme_engines.specs.Stating.{IsReached, IsAhead, stands_behind, IsStated, States, StatesInput}
 use Rattle.vme_engines.specs.Steps.{Begins, Faults, ReadFails, Opens}
 use Rattle.vme_engines.specs.Pieces.{Stopped, Came, Answers, answered}
-use Rattle.vme_engines.specs.Traced.{OfTrace}
+use Rattle.vme_reasons.specs.Traced.{OfTrace}
 use Rattle.vme_engines.specs.Followed.{told_answer, IsNext, IsMissing, TellsEdge, TellsLegal, Tells, ExplainsPiece, IsPlace, IsBehind, TellsPlace, StatesPiece}
 use Rattle.vme_engines.proofs.TraceSoFar.{unknown_version}
 use Rattle.vme_engines.proofs.TraceReads.{whole_input, no_such}

@@ -20,7 +20,7 @@ use Rattle.vme_engines.specs.declared.EngineFault.TheVariants as fault
 use Rattle.vme_engines.specs.Outcomes.{Answer}
 use Rattle.vme_engines.specs.Checking.{first_refusal, finding_line}
 use Rattle.vme_engines.specs.Explaining.{edge_status}
-use Rattle.vme_engines.specs.Traced.{OfTrace}
+use Rattle.vme_reasons.specs.Traced.{OfTrace}
 
 -- the answer of an engine that is to tell a block
 abbrev pub told_answer : Result Told Fault → Answer

@@ -24,7 +24,6 @@ pub mod Steps
 pub mod Pieces
 -- words: what the edges of a trace do to `explain` and `state`
 pub mod Followed
-pub mod Traced
 -- words: the input before its trace, byte by byte
 pub mod Front
 -- words: a number as it stands in a verdict line

@@ -10,11 +10,11 @@ ghost use Rattle.vme_engines.specs.Streams.{streams, ReadNothing, WroteNothing};
 ghost use Rattle.vme_engines.specs.Outcomes.{Lent};
 ghost use Rattle.vme_engines.specs.Explaining.{ExplainsInput, edge_status};
 ghost use Rattle.vme_engines.specs.Followed.{EndsMissing, ExplainsPiece, told_answer};
-ghost use Rattle.vme_engines.specs.Traced.{OfTrace};
+ghost use Rattle.vme_reasons.specs.Traced.{OfTrace};
 ghost use Rattle.std.proofs.Common.{arith};
 ghost use Rattle.std.proofs.KnownBytes.{Keeps-refl};
 
-use crate::blocks::write_why;
+use vme_reasons::write_why;
 use crate::checks::Finding;
 use crate::following::{Following, Told, answer_of};
 use crate::lines::write_finding;

@@ -4,7 +4,7 @@ ghost use Rattle.vme_model.specs.Plan.{Plan};
 ghost use Rattle.vme_model.specs.Verdict.{verdict, after};
 ghost use Rattle.vme_model.specs.Numbered.{numbered_with};
 ghost use Rattle.vme_reasons.specs.Marked.{IsMarksOf};
-ghost use Rattle.vme_engines.specs.Traced.{OfTrace};
+ghost use Rattle.vme_reasons.specs.Traced.{OfTrace};
 ghost use Rattle.vme_engines.specs.Followed.{Follows, IsMissing, ComesTo, Reaches, told_answer};
 
 use crate::{EngineFault, Status};

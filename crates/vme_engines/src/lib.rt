@@ -3,7 +3,6 @@
 //! They are generic over the reader and the writer. `specs/Outcomes.antt` says what each leaves behind and answers.
 #![tactic(auto)]
 
-mod blocks;
 mod checks;
 mod counts;
 mod drives;

@@ -8,11 +8,11 @@ ghost use Rattle.vme_engines.specs.Streams.{streams, ReadNothing, WroteNothing};
 ghost use Rattle.vme_engines.specs.Outcomes.{Lent};
 ghost use Rattle.vme_engines.specs.Stating.{StatesInput};
 ghost use Rattle.vme_engines.specs.Followed.{EndsBehind, StatesPiece, told_answer};
-ghost use Rattle.vme_engines.specs.Traced.{OfTrace};
+ghost use Rattle.vme_reasons.specs.Traced.{OfTrace};
 ghost use Rattle.std.proofs.Common.{arith};
 ghost use Rattle.std.proofs.KnownBytes.{Keeps-refl};
 
-use crate::blocks::write_stands;
+use vme_reasons::write_stands;
 use crate::following::{Following, Told, answer_of};
 use crate::pieces::{Judge, read_on};
 use crate::plans::{history_region, history_room, plan_of};

@@ -4,21 +4,21 @@ use Rattle.std.specs.Io.KnownBytes.{Keeps}
 use Rattle.std.specs.Borrow.{Bor}
 use Rattle.std.proofs.KnownBytes.{Keeps-refl}
 use Rattle.vme_model.specs.declared.signals.Version.{Version}
+use Rattle.vme_model.specs.Plan.{Plan}
 use Rattle.vme_engines.specs.declared.Status.{Status}
 use Rattle.vme_engines.specs.declared.EngineFault.TheVariants as fault
-use Rattle.vme_engines.specs.Streams.{ReadNothing, WroteNothing, streams}
-use Rattle.vme_engines.specs.Outcomes.{Answer, Lent, ReplaysInput}
-use Rattle.vme_engines.specs.Checking.{ChecksInput}
+use Rattle.vme_engines.specs.Streams.{Streams, ReadNothing, WroteNothing, streams}
+use Rattle.vme_engines.specs.Outcomes.{Answer, Lent}
 use Rattle.vme_engines.specs.Driving.{Drives}
 use Rattle.vme_engines.specs.Joining.{Joins}
 use Rattle.vme_run.specs.declared.RunFault.{RunFault}
 use Rattle.vme_run.specs.declared.RunFault.TheVariants as run
 use Rattle.vme_run.specs.Running.{Runs}
 use Rattle.vme_words.specs.declared.Job.{Job}
-use Rattle.vme_words.specs.declared.Job.TheVariants.{Joined, Replay, Check, Drive, Run}
+use Rattle.vme_words.specs.declared.Job.TheVariants.{Joined, Drive, Run}
 use Rattle.vme_jobs.specs.declared.faults.ProgramFault.{ProgramFault}
 use Rattle.vme_jobs.specs.declared.faults.ProgramFault.TheVariants.{CannotRead, TooLong, Engine}
-use Rattle.vme_jobs.specs.Done.{Alone, Hands, IsDone, Known}
+use Rattle.vme_jobs.specs.Done.{Alone, Hands, IsDone, Known, OnTrace}
 use Rattle.vme_jobs.specs.Names.{told_answer, told_run_answer}
 
 handed : (Does : Answer → Type 0) (nothing : Type 0) (name : Bor (List ℕ)) (answer : Answer) → Does answer
@@ -28,6 +28,7 @@ handed Does nothing name (Err fault.CannotRead) does unread long = unread does
 handed Does nothing name (Err fault.TooLong) does unread long = long does
 handed Does nothing name (Err (fault.Scenario e)) does unread long = inl does
 handed Does nothing name (Err (fault.Trace f)) does unread long = inl does
+handed Does nothing name (Err (fault.Beyond edges)) does unread long = inl does
 handed Does nothing name (Err fault.NoMemory) does unread long = inl does
 handed Does nothing name (Err (fault.Beyond edges)) does unread long = inl does
 
@@ -38,21 +39,12 @@ joined_done name from to old new answer does =
     (λ h. elim h.2 [ inl found ↦ absurd found.4 | inr none ↦ none.2 ])
     (λ h. elim h.2 [ inl found ↦ found.4.1 | inr none ↦ absurd none.3 ])
 
-pub replay_done : (scenario trace : Bor (List ℕ)) (text : List ℕ) (from to old new : Known) (answer : Answer)
-    → Lent text (ReadNothing (streams from to old new) × WroteNothing (streams from to old new)) (ReplaysInput (streams from to old new)) answer
-    → IsDone (Replay scenario trace) old new (told_answer scenario answer)
-replay_done scenario trace text from to old new answer does =
-    handed (λ a. (t : List ℕ) × (x : Known) × (y : Known)
-    × Lent t (ReadNothing (streams x y old new) × WroteNothing (streams x y old new)) (ReplaysInput (streams x y old new)) a)
-    (Keeps old new) scenario answer (text, from, to, does) (λ h. absurd h.3) (λ h. h.3.1.1)
-
-pub check_done : (scenario trace : Bor (List ℕ)) (text : List ℕ) (from to old new : Known) (answer : Answer)
-    → Lent text (ReadNothing (streams from to old new) × WroteNothing (streams from to old new)) (ChecksInput (streams from to old new)) answer
-    → IsDone (Check scenario trace) old new (told_answer scenario answer)
-check_done scenario trace text from to old new answer does =
-    handed (λ a. (t : List ℕ) × (x : Known) × (y : Known)
-    × Lent t (ReadNothing (streams x y old new) × WroteNothing (streams x y old new)) (ChecksInput (streams x y old new)) a)
-    (Keeps old new) scenario answer (text, from, to, does) (λ h. absurd h.3) (λ h. h.3.1.1)
+-- an engine on a scenario and a trace
+pub on_trace : (Ends : Streams → Plan → Answer → Type 0) (name : Bor (List ℕ)) (text : List ℕ) (from to old new : Known) (answer : Answer)
+    → Lent text (ReadNothing (streams from to old new) × WroteNothing (streams from to old new)) (Ends (streams from to old new)) answer
+    → Hands (Alone (OnTrace Ends old new)) (Keeps old new) (told_answer name answer)
+on_trace Ends name text from to old new answer does =
+    handed (OnTrace Ends old new) (Keeps old new) name answer (text, from, to, does) (λ h. absurd h.3) (λ h. h.3.1.1)
 
 pub drive_done : (scenario : Bor (List ℕ)) (text : List ℕ) (edges : ℕ) (version : Version) (old new : Known) (answer : Answer)
     → Lent text (Keeps old new) (Drives version edges old new) answer → IsDone (Drive scenario edges version) old new (told_answer scenario answer)
@@ -83,6 +75,7 @@ run_done scenario text edges turns version old new (Err (run.Engine fault.Cannot
 run_done scenario text edges turns version old new (Err (run.Engine fault.TooLong)) does = does.1
 run_done scenario text edges turns version old new (Err (run.Engine (fault.Scenario e))) does = inl (text, does)
 run_done scenario text edges turns version old new (Err (run.Engine (fault.Trace f))) does = inl (text, does)
+run_done scenario text edges turns version old new (Err (run.Engine (fault.Beyond n))) does = inl (text, does)
 run_done scenario text edges turns version old new (Err (run.Engine fault.NoMemory)) does = inl (text, does)
 run_done scenario text edges turns version old new (Err (run.Engine (fault.Beyond edges))) does = inl (text, does)
 run_done scenario text edges turns version old new (Err run.NotStarted) does = (text, does)

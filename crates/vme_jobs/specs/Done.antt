@@ -7,13 +7,15 @@ use Rattle.vme_engines.specs.declared.EngineFault.TheVariants as fault
 use Rattle.vme_engines.specs.Streams.{Streams, ReadNothing, WroteNothing, streams}
 use Rattle.vme_engines.specs.Outcomes.{Answer, Lent, ReplaysInput}
 use Rattle.vme_engines.specs.Checking.{ChecksInput}
+use Rattle.vme_engines.specs.Explaining.{ExplainsInput}
+use Rattle.vme_engines.specs.Stating.{StatesInput}
 use Rattle.vme_engines.specs.Driving.{Drives}
 use Rattle.vme_engines.specs.Joining.{Joins}
 use Rattle.vme_run.specs.declared.RunFault.{RunFault}
 use Rattle.vme_run.specs.declared.RunFault.TheVariants as run
 use Rattle.vme_run.specs.Running.{Runs}
 use Rattle.vme_words.specs.declared.Job.{Job}
-use Rattle.vme_words.specs.declared.Job.TheVariants.{Joined, Replay, Check, Drive, Run}
+use Rattle.vme_words.specs.declared.Job.TheVariants.{Joined, Replay, Check, Explain, State, Drive, Run}
 use Rattle.vme_words.specs.Asked.{Ask}
 use Rattle.vme_jobs.specs.Statuses.{exit_code}
 use Rattle.vme_jobs.specs.declared.faults.ProgramFault.{ProgramFault}
@@ -41,6 +43,8 @@ Does Joined old new =
     Alone (λ answer. (from : Known) × (to : Known) × Joins (streams from to old new) answer)
 Does (Replay scenario trace) old new = Alone (OnTrace ReplaysInput old new)
 Does (Check scenario trace) old new = Alone (OnTrace ChecksInput old new)
+Does (Explain scenario trace edge) old new = Alone (OnTrace (ExplainsInput edge) old new)
+Does (State scenario trace after) old new = Alone (OnTrace (StatesInput after) old new)
 Does (Drive scenario edges version) old new = Alone (λ answer.
     (text : List ℕ) × Lent text (Keeps old new) (Drives version edges old new) answer)
 Does (Run scenario edges turns version) old new = λ answer.

@@ -7,7 +7,7 @@ use Rattle.vme_engines.specs.declared.EngineFault.TheVariants as fault
 use Rattle.vme_run.specs.declared.RunFault.{RunFault}
 use Rattle.vme_run.specs.declared.RunFault.TheVariants as run
 use Rattle.vme_words.specs.declared.Job.{Job}
-use Rattle.vme_words.specs.declared.Job.TheVariants.{Joined, Replay, Check, Drive, Run}
+use Rattle.vme_words.specs.declared.Job.TheVariants.{Joined, Replay, Check, Explain, State, Drive, Run}
 use Rattle.vme_jobs.specs.declared.faults.ProgramFault.{ProgramFault}
 use Rattle.vme_jobs.specs.declared.faults.ProgramFault.TheVariants.{CannotRead, TooLong, Engine, Boards}
 
@@ -16,6 +16,8 @@ abbrev pub scenario_name : Job → List ℕ
 scenario_name Joined = codes "-"
 scenario_name (Replay scenario trace) = scenario.now
 scenario_name (Check scenario trace) = scenario.now
+scenario_name (Explain scenario trace edge) = scenario.now
+scenario_name (State scenario trace after) = scenario.now
 scenario_name (Drive scenario edges version) = scenario.now
 scenario_name (Run scenario edges turns version) = scenario.now
 
@@ -24,6 +26,8 @@ abbrev pub IsFileOf : Job → List ℕ → Type 0
 IsFileOf Joined name = name ≡ codes "-"
 IsFileOf (Replay scenario trace) name = (name ≡ scenario.now) ⊎ (name ≡ trace.now)
 IsFileOf (Check scenario trace) name = (name ≡ scenario.now) ⊎ (name ≡ trace.now)
+IsFileOf (Explain scenario trace edge) name = (name ≡ scenario.now) ⊎ (name ≡ trace.now)
+IsFileOf (State scenario trace after) name = (name ≡ scenario.now) ⊎ (name ≡ trace.now)
 IsFileOf (Drive scenario edges version) name = name ≡ scenario.now
 IsFileOf (Run scenario edges turns version) name = name ≡ scenario.now
 
@@ -33,6 +37,7 @@ told_fault name fault.CannotRead = CannotRead name
 told_fault name fault.TooLong = TooLong name
 told_fault name (fault.Scenario e) = Engine (fault.Scenario e)
 told_fault name (fault.Trace f) = Engine (fault.Trace f)
+told_fault name (fault.Beyond edges) = Engine (fault.Beyond edges)
 told_fault name fault.NoMemory = Engine fault.NoMemory
 told_fault name (fault.Beyond edges) = Engine (fault.Beyond edges)
 

@@ -13,7 +13,7 @@ use std::io::Write;
 use std::process::ExitCode;
 use std::sync::Wait;
 use std::thread::Threads;
-use vme_engines::{EngineFault, Status, check, drive, joined, replay};
+use vme_engines::{EngineFault, Status, check, drive, explain, joined, replay, state};
 use vme_model::Version;
 use vme_run::{RunFault, run as run_scenario};
 use vme_words::Job;
@@ -83,6 +83,42 @@ fn run_check<'a, W: Write>(
     told(scenario, check(rt.alloc(), &text, &mut input, out))
 }
 
+/// Tells why an edge of a trace has its verdict.
+#[inline(never)]
+fn run_explain<'a, W: Write>(
+    rt: &HostRuntime,
+    scenario: &'a str,
+    trace: &'a str,
+    edge: Option<u64>,
+    out: &mut W,
+) -> Result<Status, ProgramFault<'a>>
+    ensures fault { IfErr result (IsFaultOf (Job.Explain scenario.entry trace.entry edge)) }
+    ensures done { IsDone (Job.Explain scenario.entry trace.entry edge)
+        (W.contents out.old) (W.contents out.new) result }
+{
+    let text = read_scenario(rt, scenario)?;
+    let mut input = buffered(rt, open(rt, trace)?)?;
+    told(scenario, explain(rt.alloc(), &text, &mut input, edge, out))
+}
+
+/// Tells where the bus stands in a trace.
+#[inline(never)]
+fn run_state<'a, W: Write>(
+    rt: &HostRuntime,
+    scenario: &'a str,
+    trace: &'a str,
+    after: Option<u64>,
+    out: &mut W,
+) -> Result<Status, ProgramFault<'a>>
+    ensures fault { IfErr result (IsFaultOf (Job.State scenario.entry trace.entry after)) }
+    ensures done { IsDone (Job.State scenario.entry trace.entry after)
+        (W.contents out.old) (W.contents out.new) result }
+{
+    let text = read_scenario(rt, scenario)?;
+    let mut input = buffered(rt, open(rt, trace)?)?;
+    told(scenario, state(rt.alloc(), &text, &mut input, after, out))
+}
+
 /// Lets the drivers of a scenario make edges in turn.
 #[inline(never)]
 fn run_drive<'a, W: Write>(
@@ -138,6 +174,16 @@ pub fn run<'a, R: Threads + Wait + Sync, W: Write>(
         Job::Joined => run_joined(rt, out),
         Job::Replay { scenario, trace } => run_replay(rt, scenario, trace, out),
         Job::Check { scenario, trace } => run_check(rt, scenario, trace, out),
+        Job::Explain {
+            scenario,
+            trace,
+            edge,
+        } => run_explain(rt, scenario, trace, edge, out),
+        Job::State {
+            scenario,
+            trace,
+            after,
+        } => run_state(rt, scenario, trace, after, out),
         Job::Drive {
             scenario,
             edges,

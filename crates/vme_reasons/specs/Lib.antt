@@ -10,3 +10,5 @@ pub mod Told
 pub mod Grouped
 -- words: the pieces in which a block is written
 pub mod Blocks
+-- words: the parts of the block that tells where a bus stands
+pub mod Standing

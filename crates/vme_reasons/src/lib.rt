@@ -1,5 +1,5 @@
 //! The edges of a trace since which a bus is as it is, by their numbers, what is told of a condition
-//! by them, and the block that tells why an edge has its verdict.
+//! by them, the block that tells why an edge has its verdict, and that of where the bus stands.
 #![tactic(auto)]
 
 mod askers;
@@ -7,6 +7,8 @@ mod blocks;
 mod boards;
 mod chains;
 mod conditions;
+mod drivers;
+mod grants;
 mod lines;
 mod marks;
 mod moves;
@@ -16,8 +18,10 @@ mod places;
 mod services;
 mod tested;
 pub mod texts;
+mod stands;
 mod wires;
 
 pub use blocks::write_why;
 pub use conditions::witnesses;
 pub use marks::Marks;
+pub use stands::write_stands;

@@ -20,6 +20,8 @@ mod devices;
 #[cfg(test)]
 mod engines;
 #[cfg(test)]
+mod explains;
+#[cfg(test)]
 mod gates;
 #[cfg(test)]
 mod lock;

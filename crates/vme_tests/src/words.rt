@@ -31,6 +31,56 @@ fn reads_two_files(rt: HostRuntime) {
     );
 }
 
+#[test]
+fn reads_which_edge_to_explain(rt: HostRuntime) {
+    let (scenario, trace) = ("S", "T");
+    let given: [(&[&str], Option<u64>); 3] = [
+        (&["explain", "S", "T"], None),
+        (&["explain", "--edge=1", "S", "T"], Some(1)),
+        (
+            &["explain", "S", "T", "--edge", "18446744073709551615"],
+            Some(u64::MAX),
+        ),
+    ];
+    for (given, edge) in &given {
+        let edge = *edge;
+        assert_job(
+            &rt,
+            given,
+            Job::Explain {
+                scenario,
+                trace,
+                edge,
+            },
+        );
+    }
+}
+
+#[test]
+fn reads_where_the_state_is_asked(rt: HostRuntime) {
+    let (scenario, trace) = ("S", "T");
+    let given: [(&[&str], Option<u64>); 3] = [
+        (&["state", "S", "T"], None),
+        (&["state", "S", "T", "--after", "0"], Some(0)),
+        (
+            &["state", "S", "--after=18446744073709551615", "T"],
+            Some(u64::MAX),
+        ),
+    ];
+    for (given, after) in &given {
+        let after = *after;
+        assert_job(
+            &rt,
+            given,
+            Job::State {
+                scenario,
+                trace,
+                after,
+            },
+        );
+    }
+}
+
 /// What to drive with scenario `S`: the words, the edges and the version.
 const DRIVES: [(&[&str], u32, Version); 5] = [
     (&["drive", "S", "--edges", "8"], 8, Version::One),
@@ -81,7 +131,13 @@ fn reads_what_to_run(rt: HostRuntime) {
 }
 
 /// Words that mean no job.
-const REFUSED: [&[&str]; 19] = [
+const REFUSED: [&[&str]; 25] = [
+    &["explain", "S", "T", "--edge", "0"],
+    &["explain", "S", "T", "--edge", "18446744073709551616"],
+    &["explain", "S", "T", "--after", "1"],
+    &["explain", "S"],
+    &["state", "S", "T", "--after", "-1"],
+    &["state", "S", "T", "--after", "x"],
     &["run", "S", "--edges", "8"],
     &["run", "S", "--edges", "8", "--turns", "0"],
     &["run", "S", "--edges", "8", "--turns", "1000001"],
@@ -131,11 +187,13 @@ fn assert_told(rt: &(impl Abort + AllocGlobal), given: &[&str], parts: &[&str]) 
     }
 }
 
-const OVERVIEW: [&str; 8] = [
+const OVERVIEW: [&str; 10] = [
     "Usage: vmebus [COMMAND]",
-    "replay  Writes the verdict on each edge",
-    "check   Writes whether every edge",
-    "drive   Writes a trace",
+    "replay   Writes the verdict on each edge",
+    "check    Writes whether every edge",
+    "explain  Tells why an edge",
+    "state    Tells where the bus stands",
+    "drive    Writes a trace",
     "cat board.toml tenure.vme | vmebus",
     "`vme 1`",
     "2 some edge was refused",
@@ -155,6 +213,18 @@ const CHECK: [&str; 3] = [
     "  vmebus check board.toml tenure.vme\n",
 ];
 
+const EXPLAIN: [&str; 3] = [
+    "Usage: vmebus explain <SCENARIO> <TRACE> [--edge <N>]",
+    "[default: the first that is refused]",
+    "  vmebus explain board.toml tenure.vme --edge 8\n",
+];
+
+const STATE: [&str; 3] = [
+    "Usage: vmebus state <SCENARIO> <TRACE> [--after <N>]",
+    "[default: after all]",
+    "  vmebus state board.toml tenure.vme --after 4\n",
+];
+
 const DRIVE: [&str; 5] = [
     "Usage: vmebus drive <SCENARIO> --edges <N> [--version <V>]",
     "--edges <N>",
@@ -170,12 +240,14 @@ const RUN: [&str; 3] = [
 ];
 
 /// Words that ask for help, and parts of what they get.
-const HELP: [(&[&str], &[&str]); 8] = [
+const HELP: [(&[&str], &[&str]); 10] = [
     (&["--help"], &OVERVIEW),
     (&["-h"], &OVERVIEW),
     (&["help"], &OVERVIEW),
     (&["replay", "--help"], &REPLAY),
     (&["help", "check"], &CHECK),
+    (&["explain", "--help"], &EXPLAIN),
+    (&["help", "state"], &STATE),
     (&["drive", "-h"], &DRIVE),
     (&["drive", "S", "--edges", "8", "--help"], &DRIVE),
     (&["run", "--help"], &RUN),

@@ -1,8 +1,8 @@
 -- What the getters of a parse give, by the rows that it found.
-use Rattle.std.proofs.Common.{◌≡◌, ◌∙◌, ℕ, List, Option, Some, None, Result, Ok, IfSome, option_map, refl, sym, ap, unwrap_or}
+use Rattle.std.proofs.Common.{◌≡◌, ◌∙◌, ℕ, List, Option, Some, None, Result, Ok, IfSome, option_map, refl, sym, ap, subst, unwrap_or}
 use Rattle.std.specs.Str.Parse.{ParsesUnsigned, digits_value, without_leading_plus}
 use Rattle.std.specs.Borrow.{Bor}
-use Rattle.clap.specs.Words.{ReadsOne, Text, first_of, first_value, one_text, rows_of}
+use Rattle.clap.specs.Words.{ReadsOne, TriesOne, Text, first_of, first_value, one_text, rows_of}
 use Rattle.clap.specs.declared.parser.matches.Found.{Found}
 use Rattle.clap.proofs.WalkLemmas.{first_value-rows, one_text-rows}
 use Rattle.vme_words.specs.Asked.{spelled}
@@ -33,3 +33,20 @@ number_read G k f id r n parses none value is = go (one_text f id) refl
         let missing : r ≡ None = none e in
         cc
     go (Some t) e = spelled_text f id t e ∙ ap Some (sym (read G k t r n parses (value t e) is))
+
+-- a place that may be left out
+pub place_read : {E : Type 0} (G : List ℕ → Result ℕ E → Type 0) (k : ℕ) (f : Found) (id : Text) (r : Result (Option ℕ) E) (place : Option ℕ)
+    → ((u : List ℕ) (x : Result ℕ E) → G u x → ParsesUnsigned k 10 u x)
+    → (one_text f id ≡ None → r ≡ Ok None) → ((t : List ℕ) → one_text f id ≡ Some t → TriesOne G t r) → r ≡ Ok place → spelled id (rows_of f) ≡ place
+place_read {E = E} G k f id r place parses none value is = go (one_text f id) refl
+  where
+    answers : (t : Text) (p : Option ℕ) → TriesOne G t (Ok p) → Some (digits_value 10 (without_leading_plus t)) ≡ p
+    answers t None tries = absurd tries
+    answers t (Some m) tries = ap Some (sym (parses t (Ok m) tries).1)
+
+    go : (o : Option Text) → one_text f id ≡ o → spelled id (rows_of f) ≡ place
+    go None e =
+        let missing : r ≡ Ok None = none e in
+        let left_out : spelled id (rows_of f) ≡ None = ap (option_map (λ u. digits_value 10 (without_leading_plus u))) (sym (one_text-rows f id) ∙ e) in
+        left_out ∙ cc
+    go (Some t) e = spelled_text f id t e ∙ answers t place (subst (λ (x : Result (Option ℕ) E). TriesOne G t x) is (value t e))

@@ -7,7 +7,7 @@ use Rattle.vme_model.specs.declared.Version.{Version}
 use Rattle.vme_model.specs.declared.Version.TheVariants.{One, Two}
 use Rattle.vme_words.specs.Commands.{commands}
 use Rattle.vme_words.specs.declared.Job.{Job}
-use Rattle.vme_words.specs.declared.Job.TheVariants.{Joined, Replay, Check, Drive, Run}
+use Rattle.vme_words.specs.declared.Job.TheVariants.{Joined, Replay, Check, Explain, State, Drive, Run}
 
 -- the words that are lent, as texts
 abbrev pub texts_of : List (Bor Text) → List Text
@@ -17,7 +17,7 @@ texts_of words = map (λ word. word.now) words
 abbrev pub IsFile : Text → List Row → Text → Type 0
 IsFile name rows file = first_of name rows ≡ Some file
 
--- the number that the option of this name spells, in decimal digits
+-- the number that the option of this name spells, in decimal digits; none where it is not given
 abbrev pub spelled : Text → List Row → Option ℕ
 spelled name rows =
     option_map (λ text. digits_value 10 (without_leading_plus text)) (one_of name rows)
@@ -39,6 +39,12 @@ AsksFor name rows (Replay scenario trace) = (name ≡ codes "replay")
     × IsFile (codes "SCENARIO") rows scenario.now × IsFile (codes "TRACE") rows trace.now
 AsksFor name rows (Check scenario trace) = (name ≡ codes "check")
     × IsFile (codes "SCENARIO") rows scenario.now × IsFile (codes "TRACE") rows trace.now
+AsksFor name rows (Explain scenario trace edge) = (name ≡ codes "explain")
+    × IsFile (codes "SCENARIO") rows scenario.now × IsFile (codes "TRACE") rows trace.now
+    × (spelled (codes "edge") rows ≡ edge)
+AsksFor name rows (State scenario trace after) = (name ≡ codes "state")
+    × IsFile (codes "SCENARIO") rows scenario.now × IsFile (codes "TRACE") rows trace.now
+    × (spelled (codes "after") rows ≡ after)
 AsksFor name rows (Drive scenario edges version) = (name ≡ codes "drive")
     × IsFile (codes "SCENARIO") rows scenario.now × AreOptions rows edges version
 AsksFor name rows (Run scenario edges turns version) = (name ≡ codes "run")

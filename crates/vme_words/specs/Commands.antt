@@ -1,25 +1,30 @@
 -- The command line of the program: which commands it has, which files and options each takes, and
 -- which are required.
-use Rattle.std.specs.Prelude.{ℕ, List, [], ◌∷◌, Some, true, false, codes, pos}
+use Rattle.std.specs.Prelude.{◌^◌, ◌-◌, ℕ, List, [], ◌∷◌, Some, true, false, codes, pos}
 use Rattle.vme_model.specs.Report.{trace_limit}
 use Rattle.vme_words.specs.Limits.{most_turns}
 use Rattle.clap.specs.Words.{App, Rule, Shape, Text, new_rule}
 use Rattle.clap.specs.Simple.{new_shape}
 use Rattle.clap.specs.declared.builder.action.ArgAction.TheVariants.{Set}
-use Rattle.clap.specs.declared.builder.value_parser.ValueParser.TheVariants.{Signed}
+use Rattle.clap.specs.declared.builder.value_parser.ValueParser.{ValueParser}
+use Rattle.clap.specs.declared.builder.value_parser.ValueParser.TheVariants.{Signed, Unsigned}
 
 -- a word that must be given
 abbrev pub file : Text → Rule
 file name = record (new_rule name) { action = Some Set; required = true }
 
--- `--NAME` with a number from 1 to `most`
-abbrev pub option : Text → ℕ → Rule
-option name most = record (new_rule name) {
+-- `--NAME` with a value
+abbrev pub valued : Text → ValueParser → Rule
+valued name parser = record (new_rule name) {
   long = Some name;
   action = Some Set;
   value_names = 1;
-  parser = Some (Signed (pos 1) (pos most));
+  parser = Some parser;
 }
+
+-- `--NAME` with a number from 1 to `most`
+abbrev pub option : Text → ℕ → Rule
+option name most = valued name (Signed (pos 1) (pos most))
 
 -- such a number that must be given
 abbrev pub number : Text → ℕ → Rule
@@ -35,6 +40,16 @@ edges = number (codes "edges") trace_limit
 abbrev pub turns : Rule
 turns = number (codes "turns") most_turns
 
+-- `--NAME` with the place of an edge in a trace, a whole number of 64 bits from `least` on
+abbrev pub place : Text → ℕ → Rule
+place name least = valued name (Unsigned least (2 ^ 64 - 1))
+
+abbrev pub edge : Rule
+edge = place (codes "edge") 1
+
+abbrev pub after : Rule
+after = place (codes "after") 0
+
 -- a command of this name that takes a scenario, and then these
 abbrev pub leaf : Text → List Rule → App
 leaf name operands = record {
@@ -48,6 +63,12 @@ replay = (leaf (codes "replay") (file (codes "TRACE") ∷ [])).top
 abbrev pub check : Shape
 check = (leaf (codes "check") (file (codes "TRACE") ∷ [])).top
 
+abbrev pub explain : Shape
+explain = (leaf (codes "explain") (file (codes "TRACE") ∷ edge ∷ [])).top
+
+abbrev pub state : Shape
+state = (leaf (codes "state") (file (codes "TRACE") ∷ after ∷ [])).top
+
 abbrev pub drive : Shape
 drive = (leaf (codes "drive") (edges ∷ version ∷ [])).top
 
@@ -57,5 +78,5 @@ run = (leaf (codes "run") (edges ∷ turns ∷ version ∷ [])).top
 abbrev pub commands : App
 commands = record {
   top = record (new_shape (codes "vmebus")) { is_leaf = false; no_binary_name = true };
-  subs = replay ∷ check ∷ drive ∷ run ∷ [];
+  subs = replay ∷ check ∷ explain ∷ state ∷ drive ∷ run ∷ [];
 }

@@ -1,18 +1,20 @@
 -- Jobs whose numbers lie within the limits of the program.
-use Rattle.std.specs.Prelude.{◌≤◌, ℕ}
+use Rattle.std.specs.Prelude.{◌≤◌, ℕ, IfSome}
 use Rattle.vme_model.specs.Report.{trace_limit}
 use Rattle.vme_words.specs.declared.Job.{Job}
-use Rattle.vme_words.specs.declared.Job.TheVariants.{Joined, Replay, Check, Drive, Run}
+use Rattle.vme_words.specs.declared.Job.TheVariants.{Joined, Replay, Check, Explain, State, Drive, Run}
 
 abbrev pub most_turns : ℕ
 most_turns = 1000000
 
 -- `drive` and `run` make at least one edge and no more than a trace may have, and `run` gives each
--- driver 1 to 1,000,000 turns
+-- driver 1 to 1,000,000 turns; the edges of a trace are counted from 1
 abbrev pub IsWithin : Job → Type 0
 IsWithin (Drive scenario edges version) = (1 ≤ edges) × (edges ≤ trace_limit)
 IsWithin Joined = Unit {0}
 IsWithin (Replay scenario trace) = Unit {0}
 IsWithin (Check scenario trace) = Unit {0}
+IsWithin (Explain scenario trace edge) = IfSome edge (λ n. 1 ≤ n)
+IsWithin (State scenario trace after) = Unit {0}
 IsWithin (Run scenario edges turns version) =
     (1 ≤ edges) × (edges ≤ trace_limit) × (1 ≤ turns) × (turns ≤ most_turns)

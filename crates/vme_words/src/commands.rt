@@ -1,5 +1,5 @@
 //! The commands that the program offers, and their help.
-ghost use Rattle.std.specs.Prelude.{◌≡◌, ◌≤◌, [], ◌∷◌, IfOk, codes, pos, true};
+ghost use Rattle.std.specs.Prelude.{◌≡◌, ◌≤◌, ◌^◌, ◌-◌, [], ◌∷◌, IfOk, codes, pos, true};
 ghost use Rattle.clap.specs.Words.{App, Rule, Shape, app_of, new_app, rule_of, shape_of, with_rule, with_subcommand};
 ghost use Rattle.clap.specs.Simple.{on_top};
 ghost use Rattle.vme_words.specs.Commands as said;
@@ -37,7 +37,7 @@ const REPLAY_EXAMPLE: &str = "Each edge has a line with its number and its verdi
   E4 Sk   settling rule Sk does not hold
   E5      the trace is full
 The rules G1 to G26 and S1 to S4 stand in docs/RULES.md. A refused edge changes nothing, and the
-replay goes on after it. The exit status is 2 where an edge was refused.
+replay goes on after it; `vmebus explain` tells why. The exit status is 2 where an edge was refused.
 
 Example:
   vmebus replay board.toml tenure.vme";
@@ -49,11 +49,36 @@ const CHECK_USAGE: &str = "vmebus check <SCENARIO> <TRACE>";
 
 const CHECK_EXAMPLE: &str =
     "It writes `legal N`, with the number of edges, or `illegal N VERDICT` at the first refused edge, and
-reads no further. `vmebus replay --help` tells the verdicts, and docs/RULES.md the rules that they
-name. The exit status is 2 where an edge was refused.
+reads no further. `vmebus replay --help` tells the verdicts, docs/RULES.md the rules that they name, and
+`vmebus explain` why that edge is refused. The exit status is 2 where an edge was refused.
 
 Example:
   vmebus check board.toml tenure.vme";
+
+const EXPLAIN: &str = "Tells why an edge of a trace is accepted or refused";
+
+const EXPLAIN_USAGE: &str = "vmebus explain <SCENARIO> <TRACE> [--edge <N>]";
+
+const EXPLAIN_EXAMPLE: &str =
+    "It writes the number of the edge, the edge and its verdict, and then each condition that the edge has to
+meet: `holds ..` or `fails ..`, and under it the wires that it speaks of, since which edge they are so.
+Without --edge it tells the first edge that is refused, or `legal N` where none is. It reads no further
+than that edge. The exit status is 2 where the edge is refused. docs/RULES.md has the rules.
+
+Example:
+  vmebus explain board.toml tenure.vme --edge 8";
+
+const STATE: &str = "Tells where the bus stands after a trace, or after its first edges";
+
+const STATE_USAGE: &str = "vmebus state <SCENARIO> <TRACE> [--after <N>]";
+
+const STATE_EXAMPLE: &str =
+    "It writes who holds the bus, where a grant stands, what the address lines show, who asks for the bus, which
+interrupts are pending, the wires that each driver holds low, and all edges that would be accepted next.
+With --after it reads no further than the N-th edge.
+
+Example:
+  vmebus state board.toml tenure.vme --after 4";
 
 const DRIVE: &str = "Writes a trace that the drivers of a scenario make in turn";
 
@@ -141,6 +166,43 @@ fn version_option<'a>(alloc: Global) -> Arg<'a>
     option(alloc, "version", "V", 2, help).default_value("1")
 }
 
+/// What reads a whole number of 64 bits, `least` or more.
+fn place_number<'a>(least: u64) -> ValueParser<'a>
+    ensures { result ≡ ValueParser.Unsigned least (2 ^ 64 - 1) }
+{
+    ValueParser::unsigned(least, u64::MAX)
+}
+
+/// An option with such a number.
+fn place_option<'a>(alloc: Global, name: &'a str, least: u64, help: &'a str) -> Arg<'a>
+    ensures { rule_of result ≡ said.place name.entry.now least }
+{
+    Arg::new(alloc, name)
+        .long(name)
+        .value_name("N")
+        .action(ArgAction::Set)
+        .value_parser(place_number(least))
+        .help(help)
+}
+
+fn edge_option<'a>(alloc: Global) -> Arg<'a>
+    ensures { rule_of result ≡ said.edge }
+{
+    let help = "Which edge, 1 the first [default: the first that is refused]";
+    place_option(alloc, "edge", 1, help)
+}
+
+fn after_option<'a>(alloc: Global) -> Arg<'a>
+    ensures { rule_of result ≡ said.after }
+{
+    place_option(
+        alloc,
+        "after",
+        0,
+        "After how many edges [default: after all]",
+    )
+}
+
 /// A command that takes a scenario.
 fn command<'a>(
     alloc: Global,
@@ -199,6 +261,20 @@ fn check<'a>(alloc: Global) -> Result<Command<'a>, AllocError>
     command_on_trace(alloc, "check", CHECK, CHECK_USAGE, CHECK_EXAMPLE)
 }
 
+fn explain<'a>(alloc: Global) -> Result<Command<'a>, AllocError>
+    ensures { IfOk result (λ c. shape_of c ≡ said.explain) }
+{
+    let command = command_on_trace(alloc, "explain", EXPLAIN, EXPLAIN_USAGE, EXPLAIN_EXAMPLE);
+    taking(command, edge_option(alloc))
+}
+
+fn state<'a>(alloc: Global) -> Result<Command<'a>, AllocError>
+    ensures { IfOk result (λ c. shape_of c ≡ said.state) }
+{
+    let command = command_on_trace(alloc, "state", STATE, STATE_USAGE, STATE_EXAMPLE);
+    taking(command, after_option(alloc))
+}
+
 fn drive<'a>(alloc: Global) -> Result<Command<'a>, AllocError>
     ensures { IfOk result (λ c. shape_of c ≡ said.drive) }
 {
@@ -247,6 +323,8 @@ pub(crate) fn commands<'a>(alloc: Global) -> Result<Command<'a>, AllocError>
 {
     let program = offering(program(alloc), replay(alloc));
     let program = offering(program, check(alloc));
+    let program = offering(program, explain(alloc));
+    let program = offering(program, state(alloc));
     let program = offering(program, drive(alloc));
     offering(program, run(alloc))
 }

@@ -40,6 +40,24 @@ pub enum Job<'a> {
         /// The file of the edges.
         trace: &'a str,
     },
+    /// Tell why an edge of a trace has its verdict.
+    Explain {
+        /// The file of the boards.
+        scenario: &'a str,
+        /// The file of the edges.
+        trace: &'a str,
+        /// Which edge, counted from 1; the first that is refused where it is not given.
+        edge: Option<u64>,
+    },
+    /// Tell where the bus stands in a trace.
+    State {
+        /// The file of the boards.
+        scenario: &'a str,
+        /// The file of the edges.
+        trace: &'a str,
+        /// After how many edges; after all where it is not given.
+        after: Option<u64>,
+    },
     /// Let the drivers make edges in turn.
     Drive {
         /// The file of the boards.
@@ -83,6 +101,19 @@ fn number_of(operands: &ArgMatches<'_>, name: &str, most: u32) -> Option<u32>
     }
 }
 
+/// The place in a trace that the option of that name spells, where it is `least` or more; none where it is not given.
+fn place_of(operands: &ArgMatches<'_>, name: &str, least: u64) -> Option<Option<u64>>
+    ensures within { IfSome result (λ place. IfSome place (λ n. least ≤ n)) }
+    ensures spelled { IfSome result (λ place.
+        spelled name.now (rows_of (found_of operands.now)) ≡ place) }
+{
+    match operands.try_get_one::<u64>(name) {
+        Ok(None) => Some(None),
+        Ok(Some(n)) if least <= n => Some(Some(n)),
+        _ => None,
+    }
+}
+
 /// The version of the rules, where there is one of the number that `--version` spells.
 fn version_of(operands: &ArgMatches<'_>) -> Option<Version>
     ensures { IfSome result (λ version.
@@ -93,6 +124,32 @@ fn version_of(operands: &ArgMatches<'_>) -> Option<Version>
         1 => Some(Version::One),
         _ => Some(Version::Two),
     }
+}
+
+/// An explanation on the scenario, with its other operands.
+fn explain_of<'a>(scenario: &'a str, operands: &ArgMatches<'a>) -> Option<Job<'a>>
+    ensures within { IfSome result IsWithin }
+    ensures asked { IsFile (codes "SCENARIO") (rows_of (found_of operands.now)) scenario.now
+        → IfSome result (AsksFor (codes "explain") (rows_of (found_of operands.now))) }
+{
+    Some(Job::Explain {
+        scenario,
+        trace: file_of(operands, "TRACE")?,
+        edge: place_of(operands, "edge", 1)?,
+    })
+}
+
+/// The state of the scenario's bus, with its other operands.
+fn state_of<'a>(scenario: &'a str, operands: &ArgMatches<'a>) -> Option<Job<'a>>
+    ensures within { IfSome result IsWithin }
+    ensures asked { IsFile (codes "SCENARIO") (rows_of (found_of operands.now)) scenario.now
+        → IfSome result (AsksFor (codes "state") (rows_of (found_of operands.now))) }
+{
+    Some(Job::State {
+        scenario,
+        trace: file_of(operands, "TRACE")?,
+        after: place_of(operands, "after", 0)?,
+    })
 }
 
 /// A drive of the scenario, with its other operands.
@@ -137,6 +194,8 @@ fn job_of<'a>(name: &str, operands: &ArgMatches<'a>) -> Option<Job<'a>>
             scenario,
             trace: file_of(operands, "TRACE")?,
         }),
+        "explain" => explain_of(scenario, operands),
+        "state" => state_of(scenario, operands),
         "drive" => drive_of(scenario, operands),
         "run" => run_of(scenario, operands),
         _ => None,

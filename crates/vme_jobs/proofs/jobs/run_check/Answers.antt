@@ -1,6 +1,8 @@
-use Rattle.vme_jobs.proofs.Handing.{check_done}
+use Rattle.vme_engines.specs.Checking.{ChecksInput}
+use Rattle.vme_jobs.proofs.Handing.{on_trace}
 use Rattle.vme_jobs.proofs.jobs.run_check.Goals as goal
 
 pub returns-clause-done : goal.returns-clause-done
 returns-clause-done g c =
-    rw c.told.ensures (check_done c.args.scenario c.args.trace _ _ _ (g.W.Write.contents c.args.out.now) (g.W.Write.contents c.check.new.out) c.check.result c.check.ensures)
+    rw c.told.ensures
+    (on_trace ChecksInput c.args.scenario _ _ _ (g.W.Write.contents c.args.out.now) (g.W.Write.contents c.check.new.out) c.check.result c.check.ensures)

@@ -1,6 +1,8 @@
-use Rattle.vme_jobs.proofs.Handing.{replay_done}
+use Rattle.vme_engines.specs.Outcomes.{ReplaysInput}
+use Rattle.vme_jobs.proofs.Handing.{on_trace}
 use Rattle.vme_jobs.proofs.jobs.run_replay.Goals as goal
 
 pub returns-clause-done : goal.returns-clause-done
 returns-clause-done g c =
-    rw c.told.ensures (replay_done c.args.scenario c.args.trace _ _ _ (g.W.Write.contents c.args.out.now) (g.W.Write.contents c.replay.new.out) c.replay.result c.replay.ensures)
+    rw c.told.ensures
+    (on_trace ReplaysInput c.args.scenario _ _ _ (g.W.Write.contents c.args.out.now) (g.W.Write.contents c.replay.new.out) c.replay.result c.replay.ensures)
