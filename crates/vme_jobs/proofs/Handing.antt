@@ -30,7 +30,6 @@ handed Does nothing name (Err (fault.Scenario e)) does unread long = inl does
 handed Does nothing name (Err (fault.Trace f)) does unread long = inl does
 handed Does nothing name (Err (fault.Beyond edges)) does unread long = inl does
 handed Does nothing name (Err fault.NoMemory) does unread long = inl does
-handed Does nothing name (Err (fault.Beyond edges)) does unread long = inl does
 
 pub joined_done : (name : Bor (List ℕ)) (from to old new : Known) (answer : Answer) → Joins (streams from to old new) answer
     → IsDone Joined old new (told_answer name answer)
@@ -77,7 +76,6 @@ run_done scenario text edges turns version old new (Err (run.Engine (fault.Scena
 run_done scenario text edges turns version old new (Err (run.Engine (fault.Trace f))) does = inl (text, does)
 run_done scenario text edges turns version old new (Err (run.Engine (fault.Beyond n))) does = inl (text, does)
 run_done scenario text edges turns version old new (Err (run.Engine fault.NoMemory)) does = inl (text, does)
-run_done scenario text edges turns version old new (Err (run.Engine (fault.Beyond edges))) does = inl (text, does)
 run_done scenario text edges turns version old new (Err run.NotStarted) does = (text, does)
 run_done scenario text edges turns version old new (Err (run.LogDiffers driver at)) does = (text, does)
 run_done scenario text edges turns version old new (Err (run.NotReplayed at)) does = absurd does

@@ -39,7 +39,6 @@ told_fault name (fault.Scenario e) = Engine (fault.Scenario e)
 told_fault name (fault.Trace f) = Engine (fault.Trace f)
 told_fault name (fault.Beyond edges) = Engine (fault.Beyond edges)
 told_fault name fault.NoMemory = Engine fault.NoMemory
-told_fault name (fault.Beyond edges) = Engine (fault.Beyond edges)
 
 abbrev pub told_answer : Bor (List ℕ) → Result Status EngineFault → Result Status ProgramFault
 told_answer name (Ok status) = Ok status
