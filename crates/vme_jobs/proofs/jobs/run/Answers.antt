@@ -1,0 +1,9 @@
+use Rattle.std.proofs.Common.{sym, subst}
+use Rattle.vme_words.specs.declared.Job.{Job}
+use Rattle.vme_jobs.specs.Done.{IsDone}
+use Rattle.vme_jobs.proofs.jobs.run.Goals as goal
+
+pub returns-in-State-clause-done : goal.returns-in-State-clause-done
+returns-in-State-clause-done g c =
+    subst (λ (job : Job). IsDone job (g.W.Write.contents c.args.out.now) (g.W.Write.contents c.run_state.new.out) c.run_state.result)
+    (sym c.in-State.is) c.run_state.ensures.done
