@@ -107,7 +107,7 @@ pub(crate) fn push_driver<const N: usize>(line: &mut ArrayVec<u8, N>, driver: Dr
 }
 
 /// Appends a level or a slot as a trace spells it: at most 2 bytes.
-pub(crate) fn push_place<const N: usize>(line: &mut ArrayVec<u8, N>, n: u8)
+fn push_place<const N: usize>(line: &mut ArrayVec<u8, N>, n: u8)
     requires { array_vec_len line.old + 2 ≤ N }
     ensures items { line.new.items ≡ line.old.items ++ number n }
     ensures len { array_vec_len line.new ≤ array_vec_len line.old + 2 }
