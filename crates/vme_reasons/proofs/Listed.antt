@@ -1,6 +1,6 @@
 -- The words of a line, as far as they were told.
-use Rattle.std.proofs.Common.{◌≡◌, ◌∙◌, ℕ, suc, ◌+◌, ◌<◌, ◌≤◌, Bool, true, false, List, [], ◌∷◌, ◌++◌, length, take, drop, map, get_or, Ok, refl, sym, ap, arith, append-nil, take-append-drop}
-use Rattle.std.specs.Prelude.{◌==◌, ◌&&◌, if◌then◌else◌, filter, nat_lt}
+use Rattle.std.proofs.Common.{◌≡◌, ◌∙◌, ℕ, ◌+◌, ◌<◌, ◌≤◌, Bool, true, false, List, [], ◌∷◌, ◌++◌, length, take, drop, map, get_or, Ok, sym, ap, arith, append-nil, take-append-drop}
+use Rattle.std.specs.Prelude.{◌==◌, if◌then◌else◌, filter, nat_lt}
 use Rattle.std.specs.List.{flat_map}
 use Rattle.std.proofs.lemmas.Bool.Decides.{nat_tests}
 use Rattle.std.proofs.lemmas.List.{drop_more, map-append, take_all, take_more}
@@ -16,7 +16,6 @@ use Rattle.vme_model.specs.Signals.{has_wire, has_value, is_well_formed}
 use Rattle.vme_model.specs.Plan.{has_driver}
 use Rattle.vme_model.specs.Offers.{wires}
 use Rattle.vme_model.specs.Verdict.{State, verdict}
-use Rattle.vme_model.specs.Stands.{listed}
 use Rattle.vme_model.specs.Text.{HasWord}
 use Rattle.vme_model.proofs.AllowedEdges.{checked}
 use Rattle.vme_model.proofs.Bools.{and_left}

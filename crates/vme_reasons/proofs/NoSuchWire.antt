@@ -1,5 +1,5 @@
 -- In a legal list no edge is of a wire that no driver has.
-use Rattle.std.proofs.Common.{◌≡◌, ◌∙◌, ℕ, Bool, true, false, List, [], ◌∷◌, Option, Some, None, refl, sym, ap, subst}
+use Rattle.std.proofs.Common.{◌≡◌, ◌∙◌, Bool, true, false, List, [], ◌∷◌, Some, None, refl, sym, ap, subst}
 use Rattle.std.specs.Prelude.{◌&&◌, if◌then◌else◌}
 use Rattle.vme_model.specs.declared.signals.Version.{Version}
 use Rattle.vme_model.specs.declared.signals.Driver.{Driver}
@@ -10,12 +10,10 @@ use Rattle.vme_model.specs.declared.signals.Edge.{Edge}
 use Rattle.vme_model.specs.Signals.{is_same_driver, is_same_wire, is_edge_of, has_wire}
 use Rattle.vme_model.specs.Plan.{Plan}
 use Rattle.vme_model.specs.History.{drive}
-use Rattle.vme_model.specs.Verdict.{IsLegal, verdict_but_full}
+use Rattle.vme_model.specs.Verdict.{IsLegal}
 use Rattle.vme_model.specs.Numbered.{Numbered, edges_in, since}
 use Rattle.vme_model.proofs.AllowedEdges.{all_passed}
 use Rattle.vme_model.proofs.Bools.{never, same_number}
-use Rattle.vme_reasons.specs.declared.marks.Marks.{Marks}
-use Rattle.vme_reasons.specs.Marked.{IsMarksOf}
 
 same_wire : (a b : Wire) → is_same_wire a b ≡ true → a ≡ b
 same_wire (Bg m) (Bg n) e = ap (λ x. Bg x) (same_number m n e)

@@ -1,5 +1,5 @@
 -- Texts that are written one after the other.
-use Rattle.std.proofs.Common.{◌≡◌, ◌∙◌, List, ℕ, ◌++◌, Option, Result, Ok, Err, OnOk, OnErr, refl, sym, ap, subst, append_assoc}
+use Rattle.std.proofs.Common.{◌∙◌, List, ℕ, ◌++◌, Option, Result, Ok, Err, OnOk, OnErr, sym, ap, append_assoc}
 use Rattle.std.specs.Io.KnownBytes.{Appends}
 use Rattle.std.proofs.KnownBytes.{Appends-trans}
 use Rattle.vme_trace.specs.Writing.{AppendsFront}

@@ -1,7 +1,6 @@
 //! What is so of a driver of a backplane by the marks.
-ghost use Rattle.std.specs.Prelude.{◌≡◌, ◌&&◌, true, find, Some};
+ghost use Rattle.std.specs.Prelude.{◌≡◌, true, find, Some};
 ghost use Rattle.vme_model.specs.declared.signals.Driver.TheVariants.{Slot};
-ghost use Rattle.vme_model.specs.declared.signals.Wire.TheVariants.{Bbsy, Addr};
 ghost use Rattle.vme_model.specs.Signals.{has_wire};
 ghost use Rattle.vme_model.specs.Plan.{up_to};
 ghost use Rattle.vme_model.specs.History.{addressing, drive};

@@ -1,13 +1,10 @@
 //! Where a bus stands, and the block that tells it.
-ghost use Rattle.std.specs.Prelude.{◌≡◌, ◌+◌, ◌<◌, ◌≤◌, ◌++◌, ◌∷◌, [], ℕ, List, codes, decimal, filter, length, map, max, not, ◌&&◌, IfErr, OnOk, OnErr, nat_lt};
+ghost use Rattle.std.specs.Prelude.{◌≡◌, ◌+◌, ◌<◌, ◌≤◌, ◌++◌, ◌∷◌, [], ℕ, List, decimal, length, max, IfErr, OnOk, OnErr};
 ghost use Rattle.std.specs.Io.KnownBytes.{Appends};
 ghost use Rattle.arrayvec.specs.ArrayVec.{array_vec_len};
-ghost use Rattle.vme_model.specs.declared.signals.Wire.TheVariants.{Addr};
-ghost use Rattle.vme_model.specs.Signals.{has_wire, is_same_wire};
 ghost use Rattle.vme_model.specs.Offers.{wires};
-ghost use Rattle.vme_model.specs.Plan.{drivers};
 ghost use Rattle.vme_model.specs.Spoken.{driver_name};
-ghost use Rattle.vme_model.specs.Text.{HasWord, argument, number, sign, wire_text};
+ghost use Rattle.vme_model.specs.Text.{HasWord, argument, number, sign};
 ghost use Rattle.vme_model.specs.Why.{since_text};
 ghost use Rattle.vme_model.specs.Stands.{after_text, asks_text, at_level, grant_text, holder_text, is_later_access, lines_of, listed, low_text, open_line, open_text, pending_text, shown_text, stands_text};
 ghost use Rattle.vme_trace.specs.Writing.{AppendsFront};

@@ -1,6 +1,6 @@
-use Rattle.std.proofs.Common.{◌∙◌, sym, ap, find, arith, ◌≡◌}
+use Rattle.std.proofs.Common.{◌∙◌, sym, ap, arith, ◌≡◌}
 use Rattle.vme_model.specs.declared.signals.Driver.TheVariants.{Slot}
-use Rattle.vme_model.specs.Plan.{Plan, up_to}
+use Rattle.vme_model.specs.Plan.{Plan}
 use Rattle.vme_model.specs.History.{drive}
 use Rattle.vme_reasons.proofs.Found.{least_up_to, none_up_to}
 use Rattle.vme_reasons.proofs.drivers.first_low.Goals as goal

@@ -1,4 +1,4 @@
-use Rattle.std.proofs.Common.{◌≡◌, ◌∙◌, sym, ap}
+use Rattle.std.proofs.Common.{◌∙◌, sym, ap}
 use Rattle.vme_model.specs.History.{drive}
 use Rattle.vme_reasons.proofs.NoSuchWire.{never_low}
 use Rattle.vme_reasons.proofs.drivers.is_low.Goals as goal

@@ -1,4 +1,4 @@
-use Rattle.std.proofs.Common.{◌≡◌, ◌∙◌, false, None, List, subst, get_or}
+use Rattle.std.proofs.Common.{false, None, List, subst, get_or}
 use Rattle.std.proofs.lemmas.List.Elements.{Contains-get_or}
 use Rattle.std.specs.List.{Contains}
 use Rattle.vme_model.specs.declared.signals.Driver.TheVariants.{Controller}

@@ -1,4 +1,4 @@
-use Rattle.std.proofs.Common.{◌++◌, ◌∷◌, []}
+use Rattle.std.proofs.Common.{◌∷◌, []}
 use Rattle.vme_trace.specs.Writing.{AppendsFront}
 use Rattle.vme_reasons.proofs.Written.{at_err, front_behind, front_of_more, on_err}
 use Rattle.vme_reasons.proofs.stands.write_line.Goals as goal

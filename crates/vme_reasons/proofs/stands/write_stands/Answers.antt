@@ -1,8 +1,7 @@
-use Rattle.std.proofs.Common.{◌++◌, ◌∷◌, [], length}
 use Rattle.std.specs.Io.KnownBytes.{Appends}
 use Rattle.vme_trace.specs.Writing.{AppendsFront}
 use Rattle.vme_reasons.specs.Traced.{OfTrace}
-use Rattle.vme_reasons.specs.Standing.{bus_text, drivers_text}
+use Rattle.vme_reasons.specs.Standing.{drivers_text}
 use Rattle.vme_reasons.proofs.Written.{at_err, at_ok, on_err}
 use Rattle.vme_reasons.proofs.Block.{front_of_block, front_of_bus, whole_block}
 use Rattle.vme_reasons.proofs.stands.write_stands.Goals as goal
