@@ -78,14 +78,26 @@ fn explains_an_accepted_edge(rt: HostRuntime) {
 fn explains_nothing_at_a_fault(rt: HostRuntime) {
     let faults: [(&[u8], Option<u64>, EngineFault); 4] = [
         (LATE, Some(7), EngineFault::Trace(Fault::CutOff)),
-        (b"vme 1
+        (
+            b"vme 1
 4 br-
-c bg", None, EngineFault::Trace(Fault::CutOff)),
-        (b"vme 1
+c bg",
+            None,
+            EngineFault::Trace(Fault::CutOff),
+        ),
+        (
+            b"vme 1
 4 br-
-", Some(2), EngineFault::Beyond(1)),
-        (b"vme 3
-", Some(1), EngineFault::Trace(Fault::Header)),
+",
+            Some(2),
+            EngineFault::Beyond(1),
+        ),
+        (
+            b"vme 3
+",
+            Some(1),
+            EngineFault::Trace(Fault::Header),
+        ),
     ];
     for (trace, edge, fault) in faults {
         let mut trace = trace;
@@ -101,7 +113,7 @@ fn an_explanation_needs_reads_and_writes(rt: HostRuntime) {
     let mut out = Narrow::new(rt.alloc(), usize::MAX, 7);
     let answer = explain(rt.alloc(), THREE_BOARDS, &mut { LATE }, None, &mut out);
     assert!(rt; answer == Err(EngineFault::Trace(Fault::Write)));
-    assert!(rt; out.taken() == b"5 2 bbs");
+    assert!(rt; out.taken() == b"5 2 bbs".as_slice());
 }
 
 #[test]
@@ -110,8 +122,14 @@ fn all_edges_of_a_trace_may_be_legal(rt: HostRuntime) {
 4 br-
 3 br-
 ";
-    assert_explained(&rt, &mut trace, None, Ok(Status::Done), b"legal 2
-");
+    assert_explained(
+        &rt,
+        &mut trace,
+        None,
+        Ok(Status::Done),
+        b"legal 2
+",
+    );
 }
 
 const AFTER_FOUR: &[u8] = b"after 4 accepted 4
@@ -142,13 +160,7 @@ fn assert_stands<R: Read>(
 
 #[test]
 fn tells_where_the_bus_stands(rt: HostRuntime) {
-    assert_stands(
-        &rt,
-        &mut { LATE },
-        Some(4),
-        Ok(Status::Done),
-        AFTER_FOUR,
-    );
+    assert_stands(&rt, &mut { LATE }, Some(4), Ok(Status::Done), AFTER_FOUR);
 }
 
 #[test]
@@ -171,5 +183,5 @@ fn a_state_needs_room_for_its_lines(rt: HostRuntime) {
     let mut out = Narrow::new(rt.alloc(), usize::MAX, 9);
     let answer = state(rt.alloc(), THREE_BOARDS, &mut { LATE }, Some(4), &mut out);
     assert!(rt; answer == Err(EngineFault::Trace(Fault::Write)));
-    assert!(rt; out.taken() == b"after 4 a");
+    assert!(rt; out.taken() == b"after 4 a".as_slice());
 }
