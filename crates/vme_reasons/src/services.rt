@@ -1,6 +1,7 @@
 //! What each board's interrupter, strobes and cycles have come to.
 ghost use Rattle.std.specs.Prelude.{◌≡◌, ◌<◌, ◌^◌, ◌∷◌, [], ℕ, IsTrue, slice_index_or, set, None};
 ghost use Rattle.vme_model.specs.declared.signals.Driver.TheVariants.{Slot};
+ghost use Rattle.vme_model.specs.declared.signals.Wire.TheVariants.{Dtack};
 ghost use Rattle.vme_model.specs.Signals.{is_well_formed};
 ghost use Rattle.vme_model.specs.Plan.{Plan};
 ghost use Rattle.vme_model.specs.History.{cycles, serves, shown};
@@ -25,55 +26,6 @@ pub(crate) struct Services {
     pub(crate) made: [u64; DRIVERS],
 }
 
-/// The `ds-` of a board's cycle after a fall of one of its wires.
-fn strobe_after(wire: Wire, n: u64, before: Option<u64>) -> Option<u64>
-    ensures { result ≡ strobe_after wire n before }
-{
-    match wire {
-        Wire::AddressStrobe => None,
-        Wire::DataStrobe => Some(n),
-        _ => before,
-    }
-}
-
-/// Whether an answer while this is shown serves an interrupter of the kind.
-fn serves(kind: IrqKind, shown: Option<Cycle>) -> bool
-    ensures { result ≡ serves kind shown }
-{
-    matches!(
-        (kind, shown),
-        (IrqKind::Roak, Some(Cycle::Acknowledge(_))) | (IrqKind::Rora, Some(Cycle::Access(_)))
-    )
-}
-
-/// The first answer that serves a board's interrupter after a fall of one of its wires.
-fn served_after(
-    kind: IrqKind,
-    wire: Wire,
-    n: u64,
-    shown: Option<Cycle>,
-    before: Option<u64>,
-) -> Option<u64>
-    ensures { result ≡ served_after kind wire n shown before }
-{
-    match (wire, before) {
-        (Wire::Irq, _) => None,
-        (Wire::Dtack, None) if serves(kind, shown) => Some(n),
-        _ => before,
-    }
-}
-
-/// The cycles of a board's tenure after a fall of one of its wires.
-fn made_after(wire: Wire, before: u64) -> u64
-    ensures { result ≡ made_after wire before }
-{
-    match wire {
-        Wire::Bbsy => 0,
-        Wire::AddressStrobe => before.saturating_add(1),
-        _ => before,
-    }
-}
-
 impl Services {
     ghost use Rattle.vme_reasons.specs.Marked.{IsServicesOf};
 
@@ -86,6 +38,26 @@ impl Services {
             acknowledged: [None; DRIVERS],
             accessed: [None; DRIVERS],
             made: [0; DRIVERS],
+        }
+    }
+
+    /// Takes in an answer: the first that serves the board's interrupter is kept.
+    fn note_answer(&mut self, slot: usize, n: u64, showing: Option<Cycle>)
+        requires { slot < 22 }
+        ensures { self.new ≡ record self.old {
+            acknowledged = set self.old.acknowledged slot
+                (served_after IrqKind.Roak Dtack n showing
+                (slice_index_or self.old.acknowledged slot None));
+            accessed = set self.old.accessed slot
+                (served_after IrqKind.Rora Dtack n showing
+                (slice_index_or self.old.accessed slot None)) } }
+    {
+        match showing {
+            Some(Cycle::Acknowledge(_)) => {
+                self.acknowledged[slot] = self.acknowledged[slot].or(Some(n))
+            }
+            Some(Cycle::Access(_)) => self.accessed[slot] = self.accessed[slot].or(Some(n)),
+            None => {}
         }
     }
 
@@ -104,16 +76,20 @@ impl Services {
             (made_after wire (slice_index_or self.old.made slot 0)) }
     {
         let slot = usize::from(slot);
-        self.strobes[slot] = strobe_after(wire, n, self.strobes[slot]);
-        self.acknowledged[slot] = served_after(
-            IrqKind::Roak,
-            wire,
-            n,
-            showing,
-            self.acknowledged[slot],
-        );
-        self.accessed[slot] = served_after(IrqKind::Rora, wire, n, showing, self.accessed[slot]);
-        self.made[slot] = made_after(wire, self.made[slot]);
+        match wire {
+            Wire::Bbsy => self.made[slot] = 0,
+            Wire::AddressStrobe => {
+                self.strobes[slot] = None;
+                self.made[slot] = self.made[slot].saturating_add(1);
+            }
+            Wire::DataStrobe => self.strobes[slot] = Some(n),
+            Wire::Irq => {
+                self.acknowledged[slot] = None;
+                self.accessed[slot] = None;
+            }
+            Wire::Dtack => self.note_answer(slot, n, showing),
+            _ => {}
+        }
     }
 
     /// Takes in an accepted edge with its number in the trace, and what is shown just before it.
