@@ -61,9 +61,6 @@ numbered_append b n k (e ∷ es) fs =
 
 -- ---- edges behind others
 
-pub follows_none : (f : Following) → Follows f [] f
-follows_none f = record { backplane = refl; judged = omega arith; marks = λ k is of. of }
-
 module _ (first mid : Following) (es : List Edge) (one : Follows first es mid) where
   mid_plan : mid.backplane.plan ≡ first.backplane.plan
   mid_plan = ap (λ s. s.plan) one.backplane ∙ kept_plan first.backplane es
@@ -111,9 +108,6 @@ noted b n e old new v accepted is h =
     λ k edges of.
     subst (λ (m : Numbered). IsMarksOf b.plan m new) (sym (with_by (is_ok (verdict b e)) n e k accepted))
     (h b.plan k of (is ∙ ap (shown b.plan) (sym edges)))
-
-pub not_noted : (b : State) (n : ℕ) (e : Edge) (m : Marks) → is_ok (verdict b e) ≡ false → OfTrace b m (λ k. IsMarksOf b.plan (numbered_with b n e k) m)
-not_noted b n e m refused = λ k edges of. rw refused of
 
 pub follows_one : (first now : Following) (e : Edge) → now.backplane ≡ after first.backplane e → now.judged ≡ first.judged + 1
     → OfTrace first.backplane first.marks (λ k. IsMarksOf first.backplane.plan (numbered_with first.backplane (first.judged + 1) e k) now.marks) → Follows first (e ∷ []) now
