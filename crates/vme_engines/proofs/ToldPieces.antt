@@ -1,22 +1,16 @@
 -- What is told of a trace, piece by piece.
-use Rattle.std.proofs.Common.{◌≡◌, ◌⊎◌, inl, inr, ℕ, ◌+◌, ◌<◌, ◌≤◌, List, [], ◌∷◌, ◌++◌, length, Bool, true, false, Option, Some, None, Result, Ok, Err, OnErr, is_ok, refl, sym, ◌∙◌, ap, subst, arith, append_assoc, append-nil}
+use Rattle.std.proofs.Common.{◌≡◌, inl, inr, ℕ, ◌+◌, List, [], ◌∷◌, ◌++◌, length, Bool, true, false, Option, Some, None, Result, Ok, Err, OnErr, is_ok, refl, sym, ◌∙◌, ap, subst, arith, append_assoc, append-nil}
 use Rattle.std.specs.Io.KnownBytes.{Keeps, Appends}
 use Rattle.std.proofs.KnownBytes.{Keeps-trans, Appends-kept}
 use Rattle.vme_model.specs.declared.signals.Edge.{Edge}
-use Rattle.std.specs.List.{list_all}
-use Rattle.std.proofs.lemmas.Bool.{and_parts}
-use Rattle.vme_model.specs.Signals.{is_well_formed}
-use Rattle.vme_model.specs.Locality.{AreWellFormed}
 use Rattle.vme_model.specs.Verdict.{State, verdict, kept}
 use Rattle.vme_model.specs.Numbered.{Numbered, numbered_on}
 use Rattle.vme_model.specs.Why.{why_text}
 use Rattle.vme_model.specs.Stands.{stands_text}
 use Rattle.vme_trace.specs.declared.Fault.{Fault}
-use Rattle.vme_trace.specs.declared.Fault.TheVariants.{Write}
 use Rattle.vme_trace.specs.Writing.{AppendsFront}
 use Rattle.vme_reasons.specs.declared.marks.Marks.{Marks}
 use Rattle.vme_engines.specs.declared.Status.{Status}
-use Rattle.vme_engines.specs.declared.Status.TheVariants.{Done}
 use Rattle.vme_engines.specs.declared.following.Following.{Following}
 use Rattle.vme_engines.specs.declared.following.Told.{Told}
 use Rattle.vme_engines.specs.declared.following.Told.TheVariants.{Block, Beyond}
@@ -24,9 +18,8 @@ use Rattle.vme_engines.specs.declared.checks.Finding.TheVariants.{Legal}
 use Rattle.vme_engines.specs.Checking.{first_refusal, finding_line}
 use Rattle.vme_engines.specs.Explaining.{edge_status}
 use Rattle.vme_reasons.specs.Traced.{OfTrace}
-use Rattle.vme_engines.specs.Followed.{Follows, IsNext, IsMissing, ComesTo, TellsEdge, TellsLegal, Tells, EndsMissing, ExplainsPiece, IsPlace, IsBehind, IsNotBefore, TellsPlace, Reaches, EndsBehind, StatesPiece}
+use Rattle.vme_engines.specs.Followed.{Follows, IsNext, IsMissing, ComesTo, TellsEdge, TellsLegal, Tells, ExplainsPiece, IsPlace, IsBehind, IsNotBefore, TellsPlace, Reaches, EndsBehind, StatesPiece}
 use Rattle.vme_engines.specs.Pieces.{answered}
-use Rattle.vme_engines.proofs.FormedEdges.{formed_both}
 use Rattle.vme_engines.proofs.WrittenLines.{on_err}
 use Rattle.vme_engines.proofs.CheckPieces.{refusal_behind}
 use Rattle.vme_engines.proofs.FollowedEdges.{follows_more, of_trace_behind, kept_behind, numbered_behind, count_behind}
