@@ -210,7 +210,7 @@ module _ (p : Plan) (v : Version) (all : List ℕ) (s : Streams) (es : List Edge
       let r = refused_by (verdict (kept f.backplane front) e) h.1 in (
         r.0,
         ap (first_refusal 1 (bench p v)) (whole_is (read_of all).edges es front (e ∷ rest) begins.others begins.edges split)
-        ∙ first_behind (bench p v) front (rest ++ begins.others) e r.0 (sym (refusal_at front) ∙ h.0) (ap (λ b. verdict (kept b front) e) (sym is) ∙ r.1),
+            ∙ first_behind (bench p v) front (rest ++ begins.others) e r.0 (sym (refusal_at front) ∙ h.0) (ap (λ b. verdict (kept b front) e) (sym is) ∙ r.1),
       )
 
   explained : (edge : Option ℕ) (status : Status) (W : List ℕ → Type 0) → TellsEdge edge f es status W → (text : List ℕ) × IsExplained edge p (read_of all) status text × W text
