@@ -1,11 +1,10 @@
 -- A trace that is followed edge by edge.
-use Rattle.std.proofs.Common.{◌≡◌, ℕ, ◌+◌, ◌<◌, ◌≤◌, List, [], ◌∷◌, ◌++◌, length, Bool, true, false, Option, Some, None, Result, Ok, Err, is_ok, get_or, take, drop, if◌then◌else◌, refl, sym, ◌∙◌, ap, subst, arith, append_assoc, take-append-drop}
+use Rattle.std.proofs.Common.{◌≡◌, ℕ, ◌+◌, ◌<◌, ◌≤◌, List, [], ◌∷◌, ◌++◌, length, Bool, true, false, Option, Some, None, Ok, Err, is_ok, get_or, take, drop, if◌then◌else◌, refl, sym, ◌∙◌, ap, subst, arith, take-append-drop}
 use Rattle.std.proofs.Math.ListN.{length-append}
 use Rattle.std.proofs.lemmas.Bool.{and_parts}
 use Rattle.std.proofs.lemmas.List.{take_more, drop_more, length-take-le}
 use Rattle.std.specs.Prelude.{◌&&◌}
 use Rattle.vme_model.specs.declared.deliveries.Delivery.{Delivery}
-use Rattle.vme_model.specs.declared.refusals.Refused.{Refused}
 use Rattle.vme_model.specs.declared.refusals.Refused.TheVariants.{NoSuchDriver}
 use Rattle.vme_model.specs.declared.signals.Cycle.{Cycle}
 use Rattle.vme_model.specs.declared.signals.Edge.{Edge}
@@ -61,9 +60,6 @@ numbered_append b n k (e ∷ es) fs =
 
 -- ---- edges behind others
 
-pub follows_none : (f : Following) → Follows f [] f
-follows_none f = record { backplane = refl; judged = omega arith; marks = λ k is of. of }
-
 module _ (first mid : Following) (es : List Edge) (one : Follows first es mid) where
   mid_plan : mid.backplane.plan ≡ first.backplane.plan
   mid_plan = ap (λ s. s.plan) one.backplane ∙ kept_plan first.backplane es
@@ -111,9 +107,6 @@ noted b n e old new v accepted is h =
     λ k edges of.
     subst (λ (m : Numbered). IsMarksOf b.plan m new) (sym (with_by (is_ok (verdict b e)) n e k accepted))
     (h b.plan k of (is ∙ ap (shown b.plan) (sym edges)))
-
-pub not_noted : (b : State) (n : ℕ) (e : Edge) (m : Marks) → is_ok (verdict b e) ≡ false → OfTrace b m (λ k. IsMarksOf b.plan (numbered_with b n e k) m)
-not_noted b n e m refused = λ k edges of. rw refused of
 
 pub follows_one : (first now : Following) (e : Edge) → now.backplane ≡ after first.backplane e → now.judged ≡ first.judged + 1
     → OfTrace first.backplane first.marks (λ k. IsMarksOf first.backplane.plan (numbered_with first.backplane (first.judged + 1) e k) now.marks) → Follows first (e ∷ []) now

@@ -1,22 +1,16 @@
 -- What is told of a trace, piece by piece.
-use Rattle.std.proofs.Common.{◌≡◌, ◌⊎◌, inl, inr, ℕ, ◌+◌, ◌<◌, ◌≤◌, List, [], ◌∷◌, ◌++◌, length, Bool, true, false, Option, Some, None, Result, Ok, Err, OnErr, is_ok, refl, sym, ◌∙◌, ap, subst, arith, append_assoc, append-nil}
+use Rattle.std.proofs.Common.{◌≡◌, inl, inr, ℕ, ◌+◌, List, [], ◌∷◌, ◌++◌, length, Bool, true, false, Option, Some, None, Result, Ok, Err, OnErr, is_ok, refl, sym, ◌∙◌, ap, subst, arith, append_assoc, append-nil}
 use Rattle.std.specs.Io.KnownBytes.{Keeps, Appends}
 use Rattle.std.proofs.KnownBytes.{Keeps-trans, Appends-kept}
 use Rattle.vme_model.specs.declared.signals.Edge.{Edge}
-use Rattle.std.specs.List.{list_all}
-use Rattle.std.proofs.lemmas.Bool.{and_parts}
-use Rattle.vme_model.specs.Signals.{is_well_formed}
-use Rattle.vme_model.specs.Locality.{AreWellFormed}
 use Rattle.vme_model.specs.Verdict.{State, verdict, kept}
 use Rattle.vme_model.specs.Numbered.{Numbered, numbered_on}
 use Rattle.vme_model.specs.Why.{why_text}
 use Rattle.vme_model.specs.Stands.{stands_text}
 use Rattle.vme_trace.specs.declared.Fault.{Fault}
-use Rattle.vme_trace.specs.declared.Fault.TheVariants.{Write}
 use Rattle.vme_trace.specs.Writing.{AppendsFront}
 use Rattle.vme_reasons.specs.declared.marks.Marks.{Marks}
 use Rattle.vme_engines.specs.declared.Status.{Status}
-use Rattle.vme_engines.specs.declared.Status.TheVariants.{Done}
 use Rattle.vme_engines.specs.declared.following.Following.{Following}
 use Rattle.vme_engines.specs.declared.following.Told.{Told}
 use Rattle.vme_engines.specs.declared.following.Told.TheVariants.{Block, Beyond}
@@ -24,9 +18,8 @@ use Rattle.vme_engines.specs.declared.checks.Finding.TheVariants.{Legal}
 use Rattle.vme_engines.specs.Checking.{first_refusal, finding_line}
 use Rattle.vme_engines.specs.Explaining.{edge_status}
 use Rattle.vme_reasons.specs.Traced.{OfTrace}
-use Rattle.vme_engines.specs.Followed.{Follows, IsNext, IsMissing, ComesTo, TellsEdge, TellsLegal, Tells, EndsMissing, ExplainsPiece, IsPlace, IsBehind, IsNotBefore, TellsPlace, Reaches, EndsBehind, StatesPiece}
+use Rattle.vme_engines.specs.Followed.{Follows, IsNext, IsMissing, ComesTo, TellsEdge, TellsLegal, Tells, ExplainsPiece, IsPlace, IsBehind, IsNotBefore, TellsPlace, Reaches, EndsBehind, StatesPiece}
 use Rattle.vme_engines.specs.Pieces.{answered}
-use Rattle.vme_engines.proofs.FormedEdges.{formed_both}
 use Rattle.vme_engines.proofs.WrittenLines.{on_err}
 use Rattle.vme_engines.proofs.CheckPieces.{refusal_behind}
 use Rattle.vme_engines.proofs.FollowedEdges.{follows_more, of_trace_behind, kept_behind, numbered_behind, count_behind}
@@ -207,18 +200,3 @@ pub states_end : (after : Option ℕ) (first mid : Following) (es : List Edge) (
 states_end after first mid es more old new (Ok (Block status)) is behind h end = (end_told after first mid es more (Appends old new) end.0 is h end.2, end.1)
 states_end after first mid es more old new (Ok (Beyond n)) is behind h end = (is, end.1, behind, end.0 ∙ h.judged, end.2, end.3)
 states_end after first mid es more old new (Err f) is behind h end = inr (end.0, end_told after first mid es more (AppendsFront old new) end.1 is h end.2)
-
-pub explains_end : (edge : Option ℕ) (first mid : Following) (es : List Edge) (more : Result Bool Fault) (old new : Option (List ℕ)) (r : Result Told Fault) → more ≡ Ok false
-    → IsMissing edge first.backplane first.judged es → Follows first es mid → EndsMissing edge mid.judged old new r → ExplainsPiece edge first es more old new mid (answered r)
-explains_end edge first mid es more old new (Ok (Block status)) is missing h end =
-    inr (end.0, is, missing.1 end.0, end.1, subst (λ (n : ℕ). Appends old new (finding_line (Legal n))) h.judged end.2)
-explains_end edge first mid es more old new (Ok (Beyond n)) is missing h end = (is, end.1, missing, end.0 ∙ h.judged, end.2, end.3)
-explains_end edge first mid es more old new (Err f) is missing h end =
-    inr (end.0, Done, inr (end.1, is, missing.1 end.1, refl, subst (λ (n : ℕ). AppendsFront old new (finding_line (Legal n))) h.judged end.2))
-
--- an edge that stands among others is as well formed as they
-pub found_is_well_formed : (es front rest : List Edge) (e : Edge) → es ≡ front ++ (e ∷ rest) → AreWellFormed es → is_well_formed e ≡ true
-found_is_well_formed es front rest e is h = (and_parts (is_well_formed e) (list_all is_well_formed rest) (formed_both front (e ∷ rest) (subst AreWellFormed is h)).1).0
-
-pub not_before : (after : Option ℕ) (n : ℕ) (es : List Edge) → IsBehind after n es → IsNotBefore after n es
-not_before after n es h = λ wanted given low. let high = h wanted given low in omega (arith, high)

@@ -1,17 +1,16 @@
 -- What is told of the whole trace.
-use Rattle.std.proofs.Common.{◌≡◌, ◌≢◌, ◌⊎◌, inl, inr, ℕ, suc, ◌+◌, ◌<◌, ◌≤◌, List, [], ◌∷◌, ◌++◌, length, take, Bool, true, false, Option, Some, None, unwrap_or, Result, Ok, Err, is_ok, refl, sym, ◌∙◌, ap, subst, arith, append_assoc, append-nil}
+use Rattle.std.proofs.Common.{◌≡◌, ◌≢◌, inl, inr, ℕ, ◌+◌, ◌≤◌, List, [], ◌∷◌, ◌++◌, length, take, Bool, false, Option, Some, None, unwrap_or, Result, Ok, Err, is_ok, refl, sym, ◌∙◌, ap, subst, arith, append_assoc, append-nil}
 use Rattle.std.specs.Prelude.{slice_get}
 use Rattle.std.proofs.Math.ListN.{length-append}
 use Rattle.std.proofs.Math.Seq.{take-append_seam}
 use Rattle.std.specs.Io.KnownBytes.{Consumes, Keeps, Appends}
-use Rattle.std.proofs.KnownBytes.{Keeps-refl}
 use Rattle.vme_model.specs.declared.refusals.Refused.{Refused}
 use Rattle.vme_model.specs.declared.signals.Version.{Version}
 use Rattle.vme_model.specs.declared.signals.Edge.{Edge}
 use Rattle.vme_model.specs.Plan.{Plan}
 use Rattle.vme_model.specs.Verdict.{State, Judgement, verdict, after, kept}
 use Rattle.vme_model.specs.Text.{Reading, read_of}
-use Rattle.vme_model.specs.Numbered.{Numbered, numbered_on, numbered, IsNth}
+use Rattle.vme_model.specs.Numbered.{Numbered, numbered_on, numbered}
 use Rattle.vme_model.specs.Why.{why_text}
 use Rattle.vme_model.specs.Stands.{stands_text}
 use Rattle.vme_reasons.specs.Marked.{IsMarksOf}
@@ -26,13 +25,13 @@ use Rattle.vme_engines.specs.declared.following.Told.{Told}
 use Rattle.vme_engines.specs.declared.following.Told.TheVariants.{Block, Beyond}
 use Rattle.vme_engines.specs.declared.EngineFault.TheVariants as fault
 use Rattle.vme_engines.specs.declared.checks.Finding.TheVariants.{Legal}
-use Rattle.vme_engines.specs.Streams.{Streams, streams, IsInput}
-use Rattle.vme_engines.specs.Outcomes.{Answer, Lent, scenario_limit, bench, HasFault, CanGoOn}
+use Rattle.vme_engines.specs.Streams.{Streams, IsInput}
+use Rattle.vme_engines.specs.Outcomes.{Answer, Lent, scenario_limit, bench, HasFault}
 use Rattle.vme_engines.specs.Checking.{or_refusal, first_refusal, refusal_of, finding_line}
 use Rattle.vme_engines.specs.Waiting.{StopsWaiting}
 use Rattle.vme_engines.specs.Explaining.{IsAsked, IsUnasked, edge_status, IsExplained, IsAllLegal, IsTold, Explains, ExplainsInput}
-use Rattle.vme_engines.specs.Stating.{IsReached, IsAhead, stands_behind, IsStated, States, StatesInput}
-use Rattle.vme_engines.specs.Steps.{Begins, Faults, ReadFails, Opens}
+use Rattle.vme_engines.specs.Stating.{IsReached, IsAhead, IsStated, States, StatesInput}
+use Rattle.vme_engines.specs.Steps.{Begins, ReadFails, Opens}
 use Rattle.vme_engines.specs.Pieces.{Stopped, Came, Answers, answered}
 use Rattle.vme_reasons.specs.Traced.{OfTrace}
 use Rattle.vme_engines.specs.Followed.{told_answer, IsNext, IsMissing, TellsEdge, TellsLegal, Tells, ExplainsPiece, IsPlace, IsBehind, TellsPlace, StatesPiece}
@@ -211,7 +210,7 @@ module _ (p : Plan) (v : Version) (all : List ℕ) (s : Streams) (es : List Edge
       let r = refused_by (verdict (kept f.backplane front) e) h.1 in (
         r.0,
         ap (first_refusal 1 (bench p v)) (whole_is (read_of all).edges es front (e ∷ rest) begins.others begins.edges split)
-        ∙ first_behind (bench p v) front (rest ++ begins.others) e r.0 (sym (refusal_at front) ∙ h.0) (ap (λ b. verdict (kept b front) e) (sym is) ∙ r.1),
+            ∙ first_behind (bench p v) front (rest ++ begins.others) e r.0 (sym (refusal_at front) ∙ h.0) (ap (λ b. verdict (kept b front) e) (sym is) ∙ r.1),
       )
 
   explained : (edge : Option ℕ) (status : Status) (W : List ℕ → Type 0) → TellsEdge edge f es status W → (text : List ℕ) × IsExplained edge p (read_of all) status text × W text

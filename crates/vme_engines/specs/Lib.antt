@@ -7,7 +7,7 @@ pub mod Streams
 pub mod Outcomes
 -- believe, for `joined` alone: a scenario and a trace in one input
 pub mod Joining
--- believe, for `check` and `drive`: what is found in a trace, and what a check leaves
+-- believe, for `check`, `drive` and `explain`: what is found in a trace, and what a check leaves
 pub mod Checking
 -- believe, for `explain` and `state`: a fault of a trace before what they wait for
 pub mod Waiting

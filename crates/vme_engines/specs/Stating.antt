@@ -14,7 +14,8 @@ use Rattle.vme_engines.specs.Streams.{Streams, IsInput, IsReadOut, Wrote, WroteF
 use Rattle.vme_engines.specs.Outcomes.{Answer, bench}
 use Rattle.vme_engines.specs.Waiting.{StopsWaiting}
 
--- a place is asked for by the number of edges before it, or as the end of a whole trace: there are n
+-- a place is asked for by the number of edges before it, or as the end of a whole trace: there are
+-- n of them
 abbrev pub IsReached : Option ℕ → Reading → Streams → ℕ → Type 0
 IsReached (Some after) r s n = (n ≡ after) × (n ≤ length r.edges)
 IsReached None r s n = (n ≡ length r.edges) × (r.fault ≡ None) × IsReadOut s

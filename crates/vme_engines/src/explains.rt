@@ -14,7 +14,6 @@ ghost use Rattle.vme_reasons.specs.Traced.{OfTrace};
 ghost use Rattle.std.proofs.Common.{arith};
 ghost use Rattle.std.proofs.KnownBytes.{Keeps-refl};
 
-use vme_reasons::write_why;
 use crate::checks::Finding;
 use crate::following::{Following, Told, answer_of};
 use crate::lines::write_finding;
@@ -26,16 +25,13 @@ use std::alloc::Global;
 use std::io::{Read, Write};
 use vme_backplane::{Backplane, Trace};
 use vme_model::Edge;
+use vme_reasons::write_why;
 use vme_slots::Plan;
 use vme_trace::{Fault, Reader, flush};
 
 /// Writes the block of the next edge, and has the writer hand on what it holds back. The status says whether the edge
 /// is refused.
-fn tell_edge<W: Write>(
-    following: &mut Following,
-    edge: &Edge,
-    out: &mut W,
-) -> Result<Status, Fault>
+fn tell_edge<W: Write>(following: &mut Following, edge: &Edge, out: &mut W) -> Result<Status, Fault>
     requires room { following.old.judged + 1 < 2 ^ 64 }
     requires well_formed { IsTrue (is_well_formed edge.now) }
     ensures status { IfOk result
@@ -141,9 +137,15 @@ impl Judge for Explaining<'_> {
         explain_piece(&mut self.following, self.edge, edges, more, out)
     }
 
-    ghost begins = { λ first old. (refl, (refl, Keeps-refl old,
+    ghost begins = { λ first old. (
+      refl,
+      (
+        refl,
+        Keeps-refl old,
         (λ asked is low. omega arith, λ none. refl),
-        record { backplane = refl; judged = omega arith; marks = λ k is of. of })) };
+        record { backplane = refl; judged = omega arith; marks = λ k is of. of },
+      ),
+    ) };
 
     ghost goes_on = { λ first es more old new now h. (h.1.0, h.1.3.judged) };
 }

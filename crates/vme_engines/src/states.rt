@@ -12,7 +12,6 @@ ghost use Rattle.vme_reasons.specs.Traced.{OfTrace};
 ghost use Rattle.std.proofs.Common.{arith};
 ghost use Rattle.std.proofs.KnownBytes.{Keeps-refl};
 
-use vme_reasons::write_stands;
 use crate::following::{Following, Told, answer_of};
 use crate::pieces::{Judge, read_on};
 use crate::plans::{history_region, history_room, plan_of};
@@ -22,6 +21,7 @@ use std::alloc::Global;
 use std::io::{Read, Write};
 use vme_backplane::{Backplane, Trace};
 use vme_model::Edge;
+use vme_reasons::write_stands;
 use vme_slots::Plan;
 use vme_trace::{Fault, Reader, flush};
 
@@ -118,8 +118,15 @@ impl Judge for Stating<'_> {
         state_piece(&mut self.following, self.after, edges, more, out)
     }
 
-    ghost begins = { λ first old. (refl, (refl, Keeps-refl old, λ wanted is low. omega arith,
-        record { backplane = refl; judged = omega arith; marks = λ k is of. of })) };
+    ghost begins = { λ first old. (
+      refl,
+      (
+        refl,
+        Keeps-refl old,
+        λ wanted is low. omega arith,
+        record { backplane = refl; judged = omega arith; marks = λ k is of. of },
+      ),
+    ) };
 
     ghost goes_on = { λ first es more old new now h. (h.1.0, h.1.3.judged) };
 }

@@ -15,8 +15,8 @@ returns-in_err-status-in-Some g c =
       c.in_err-status-in-Some.ensures.fault,
       status,
       inl
-      (edge_told c.args.edge c.args.following.now c.follow_to.new.self c.args.edges.now c.in-Some.found status (AppendsFront (g.W.Write.contents c.args.out.now) (g.W.Write.contents c.tell_edge.new.out)) c.in-Some.ensures.some refl
-      c.in_err-status-in-Some.ensures.front),
+          (edge_told c.args.edge c.args.following.now c.follow_to.new.self c.args.edges.now c.in-Some.found status (AppendsFront (g.W.Write.contents c.args.out.now) (g.W.Write.contents c.tell_edge.new.out)) c.in-Some.ensures.some refl
+          c.in_err-status-in-Some.ensures.front),
     ))
 
 pub returns-in-Some : goal.returns-in-Some

@@ -23,8 +23,8 @@ returns-in-Some g c =
       ran.0,
       ran.1,
       rw (← c.new-explanation.ensures.edge)
-      (explains_all (λ (s : Explaining). s.following) (λ (s : Explaining). s.edge ≡ c.new-explanation.result.edge) c.args.plan c.in-Some.version ran.0 _ c.new-explanation.result.edge c.new-explanation.result.following c.read_on.result is zero
-      (λ q. subst (λ (f : Following). IsMarksOf q [] f.marks) (sym same) (c.new-following.ensures.marks q)) ran.2),
+          (explains_all (λ (s : Explaining). s.following) (λ (s : Explaining). s.edge ≡ c.new-explanation.result.edge) c.args.plan c.in-Some.version ran.0 _ c.new-explanation.result.edge c.new-explanation.result.following c.read_on.result is zero
+          (λ q. subst (λ (f : Following). IsMarksOf q [] f.marks) (sym same) (c.new-following.ensures.marks q)) ran.2),
     )
 
 pub returns-in-Ok : goal.returns-in-Ok

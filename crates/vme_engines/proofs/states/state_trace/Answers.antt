@@ -23,8 +23,8 @@ returns-in-Some g c =
       ran.0,
       ran.1,
       rw (← c.new-state.ensures.after)
-      (states_all (λ (s : Stating). s.following) (λ (s : Stating). s.after ≡ c.new-state.result.after) c.args.plan c.in-Some.version ran.0 _ c.new-state.result.after c.new-state.result.following c.read_on.result is zero
-      (λ q. subst (λ (f : Following). IsMarksOf q [] f.marks) (sym same) (c.new-following.ensures.marks q)) ran.2),
+          (states_all (λ (s : Stating). s.following) (λ (s : Stating). s.after ≡ c.new-state.result.after) c.args.plan c.in-Some.version ran.0 _ c.new-state.result.after c.new-state.result.following c.read_on.result is zero
+          (λ q. subst (λ (f : Following). IsMarksOf q [] f.marks) (sym same) (c.new-following.ensures.marks q)) ran.2),
     )
 
 pub returns-in-Ok : goal.returns-in-Ok

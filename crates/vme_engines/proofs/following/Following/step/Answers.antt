@@ -1,5 +1,5 @@
 use Rattle.std.proofs.Common.{◌+◌, sym, ap}
-use Rattle.vme_engines.proofs.FollowedEdges.{made_is_well_formed, noted, not_noted}
+use Rattle.vme_engines.proofs.FollowedEdges.{noted}
 use Rattle.vme_engines.proofs.following.Following.step.Goals as goal
 
 pub returns-in-Ok-clause-marks : goal.returns-in-Ok-clause-marks
