@@ -23,17 +23,6 @@ use Rattle.vme_engines.specs.Followed.{Follows, ComesTo, Reaches}
 use Rattle.vme_engines.proofs.WrittenLines.{kept_append}
 use Rattle.vme_engines.proofs.CheckPieces.{refusal_behind}
 
--- ---- an edge that is made is well formed
-
--- what the first test lets through
-first_test : (b : Bool) (rest : Judgement) (x d : Option Delivery) → with_delivery (check b NoSuchDriver rest) x ≡ Ok d → b ≡ true
-first_test true rest x d is = refl
-first_test false rest x d is = absurd (cc)
-
-pub made_is_well_formed : (b : State) (e : Edge) (d : Option Delivery) → answer b e ≡ Ok d → is_well_formed e ≡ true
-made_is_well_formed b e d is =
-    (and_parts (is_well_formed e) (has_driver b.plan e.driver e.wire) (first_test (is_well_formed e && has_driver b.plan e.driver e.wire) _ (delivery b.plan b.history e) d is)).0
-
 -- ---- what stays, and what the numbered edges are
 
 plan_by : (t : Bool) (b : State) (e : Edge) → (if t then made b e else b).plan ≡ b.plan

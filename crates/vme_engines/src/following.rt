@@ -80,6 +80,7 @@ impl<'r> Following<'r> {
     }
 
     /// Makes the next edge where it is accepted, and answers whether it was. It is not yet counted.
+    #[inline(always)]
     fn step(&mut self, edge: &Edge) -> bool
         requires { self.old.judged + 1 < 2 ^ 64 }
         ensures accepted { result ≡ is_ok (verdict self.old.backplane edge.now) }
