@@ -49,8 +49,8 @@ const CHECK_USAGE: &str = "vmebus check <SCENARIO> <TRACE>";
 
 const CHECK_EXAMPLE: &str =
     "It writes `legal N`, with the number of edges, or `illegal N VERDICT` at the first refused edge, and
-reads no further. `vmebus replay --help` tells the verdicts, docs/RULES.md the rules that they name, and
-`vmebus explain` why that edge is refused. The exit status is 2 where an edge was refused.
+reads no further. `vmebus replay --help` tells the verdicts, docs/RULES.md the rules that they name,
+and `vmebus explain` why that edge is refused. The exit status is 2 where an edge was refused.
 
 Example:
   vmebus check board.toml tenure.vme";
@@ -60,10 +60,11 @@ const EXPLAIN: &str = "Tells why an edge of a trace is accepted or refused";
 const EXPLAIN_USAGE: &str = "vmebus explain <SCENARIO> <TRACE> [--edge <N>]";
 
 const EXPLAIN_EXAMPLE: &str =
-    "It writes the number of the edge, the edge and its verdict, and then each condition that the edge has to
-meet: `holds ..` or `fails ..`, and under it the wires that it speaks of, since which edge they are so.
-Without --edge it tells the first edge that is refused, or `legal N` where none is. It reads no further
-than that edge. The exit status is 2 where the edge is refused. docs/RULES.md has the rules.
+    "It writes the number of the edge, the edge and its verdict, and then each condition that the edge
+has to meet: `holds ..` or `fails ..`, and under it the wires that it speaks of, since which edge they
+are so. Without --edge it tells the first edge that is refused, or `legal N` where none is. It reads
+no further than that edge. The exit status is 2 where the edge is refused. docs/RULES.md has the
+rules, and docs/FORMATS.md each line.
 
 Example:
   vmebus explain board.toml tenure.vme --edge 8";
@@ -73,9 +74,9 @@ const STATE: &str = "Tells where the bus stands after a trace, or after its firs
 const STATE_USAGE: &str = "vmebus state <SCENARIO> <TRACE> [--after <N>]";
 
 const STATE_EXAMPLE: &str =
-    "It writes who holds the bus, where a grant stands, what the address lines show, who asks for the bus, which
-interrupts are pending, the wires that each driver holds low, and all edges that would be accepted next.
-With --after it reads no further than the N-th edge.
+    "It writes who holds the bus, where a grant stands, what the address lines show, who asks for the
+bus, which interrupts are pending, the wires that each driver holds low, and all edges that would be
+accepted next. With --after it reads no further than the N-th edge. docs/FORMATS.md has each line.
 
 Example:
   vmebus state board.toml tenure.vme --after 4";
