@@ -19,7 +19,8 @@ replayed:
 
 A scenario is a TOML file that says which boards stand in which slots. A trace is the line `vme 1`
 or `vme 2`, and then one edge a line, as `1 br-` or `c bg3-`. docs/RULES.md has the rules,
-docs/FORMATS.md has scenarios, traces, reports and faults to the byte, and examples/ has some of each.
+docs/FORMATS.md has scenarios, traces, reports and faults to the byte, and examples/ has some of
+each.
 
 Exit status: 0 done, 1 a fault (one line on standard error) or a text as this one,
 2 some edge was refused, 3 the limit of edges was reached (so mind `set -e` in a script).";
@@ -61,10 +62,10 @@ const EXPLAIN_USAGE: &str = "vmebus explain <SCENARIO> <TRACE> [--edge <N>]";
 
 const EXPLAIN_EXAMPLE: &str =
     "It writes the number of the edge, the edge and its verdict, and then each condition that the edge
-has to meet: `holds ..` or `fails ..`, and under it the wires that it speaks of, since which edge they
-are so. Without --edge it tells the first edge that is refused, or `legal N` where none is. It reads
-no further than that edge. The exit status is 2 where the edge is refused. docs/RULES.md has the
-rules, and docs/FORMATS.md each line.
+has to meet: `holds ..` or `fails ..`, and under it the wires that it speaks of, since which edge
+they are so. Without --edge it tells the first edge that is refused, or `legal N` where none is. It
+reads no further than that edge. The exit status is 2 where the edge is refused. docs/RULES.md has
+the rules, and docs/FORMATS.md each line.
 
 Example:
   vmebus explain board.toml tenure.vme --edge 8";
@@ -98,8 +99,9 @@ const RUN: &str = "Writes a trace that the drivers of a scenario make at once, a
 const RUN_USAGE: &str = "vmebus run <SCENARIO> --edges <N> --turns <T> [--version <V>]";
 
 const RUN_EXAMPLE: &str =
-    "Each driver gets the given number of turns, and in a turn it tries one of the edges that are open to it. The exit status
-is 3 where as many edges were made as were asked for, and 0 where all turns were spent before: then the run is done, too.
+    "Each driver gets the given number of turns, and in a turn it tries one of the edges that are open to
+it. The exit status is 3 where as many edges were made as were asked for, and 0 where all turns were
+spent before: then the run is done, too.
 Two runs may differ; what each writes is legal.
 
 Example:
