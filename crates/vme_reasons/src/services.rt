@@ -45,12 +45,13 @@ impl Services {
     fn note_answer(&mut self, slot: usize, n: u64, showing: Option<Cycle>)
         requires { slot < 22 }
         ensures { self.new ≡ record self.old {
-            acknowledged = set self.old.acknowledged slot
-                (served_after IrqKind.Roak Dtack n showing
-                (slice_index_or self.old.acknowledged slot None));
-            accessed = set self.old.accessed slot
-                (served_after IrqKind.Rora Dtack n showing
-                (slice_index_or self.old.accessed slot None)) } }
+          acknowledged = set self.old.acknowledged slot
+              (served_after IrqKind.Roak Dtack n showing
+              (slice_index_or self.old.acknowledged slot None));
+          accessed = set self.old.accessed slot
+              (served_after IrqKind.Rora Dtack n showing
+              (slice_index_or self.old.accessed slot None));
+        } }
     {
         match showing {
             Some(Cycle::Acknowledge(_)) => {
