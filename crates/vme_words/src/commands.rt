@@ -61,11 +61,11 @@ const EXPLAIN: &str = "Tells why an edge of a trace is accepted or refused";
 const EXPLAIN_USAGE: &str = "vmebus explain <SCENARIO> <TRACE> [--edge <N>]";
 
 const EXPLAIN_EXAMPLE: &str =
-    "It writes the number of the edge, the edge and its verdict, and then each condition that the edge
-has to meet: `holds ..` or `fails ..`, and under it the wires that it speaks of, since which edge
-they are so. Without --edge it tells the first edge that is refused, or `legal N` where none is. It
-reads no further than that edge. The exit status is 2 where the edge is refused. docs/RULES.md has
-the rules, and docs/FORMATS.md each line.
+    "It writes the number of the edge, the edge and its verdict, and then each condition that was tested
+of it: `holds ..` or `fails ..`, and under it the wires that it speaks of, since which edge they are
+so. N counts refused edges too. Without --edge it tells the first edge that is refused, or `legal N`
+where none is. It reads no further than that edge. The exit status is 0 where the edge is accepted,
+2 where it is refused, and 1 at a fault. docs/FORMATS.md has each line, and docs/RULES.md the rules.
 
 Example:
   vmebus explain board.toml tenure.vme --edge 8";
@@ -77,7 +77,9 @@ const STATE_USAGE: &str = "vmebus state <SCENARIO> <TRACE> [--after <N>]";
 const STATE_EXAMPLE: &str =
     "It writes who holds the bus, where a grant stands, what the address lines show, who asks for the
 bus, which interrupts are pending, the wires that each driver holds low, and all edges that would be
-accepted next. With --after it reads no further than the N-th edge. docs/FORMATS.md has each line.
+accepted next. `since N` is the number of an edge in the trace. With --after it reads no further
+than the N-th edge; N counts refused edges too, and 0 is power-up. The exit status is 0, or 1 at a
+fault. docs/FORMATS.md has each line.
 
 Example:
   vmebus state board.toml tenure.vme --after 4";
