@@ -5,7 +5,6 @@ use crate::outcomes::Outcome;
 use vme_model::{Condition, Version};
 
 /// G1: a grant goes out.
-#[inline(always)]
 pub fn bg_falls<A: Outcome>(are_high: bool, bbsy: bool, is_picked: bool) -> A
     ensures { A.tells result (bg_falls are_high bbsy is_picked) }
 {
@@ -15,7 +14,6 @@ pub fn bg_falls<A: Outcome>(are_high: bool, bbsy: bool, is_picked: bool) -> A
 }
 
 /// G2: a grant ends.
-#[inline(always)]
 pub fn bg_rises<A: Outcome>(version: Version, bbsy: bool) -> A
     ensures { A.tells result (bg_rises version bbsy) }
 {
@@ -23,7 +21,6 @@ pub fn bg_rises<A: Outcome>(version: Version, bbsy: bool) -> A
 }
 
 /// G3: the owner is asked to clear the bus.
-#[inline(always)]
 pub fn bclr_falls<A: Outcome>(
     has_priority: bool,
     bbsy: bool,
@@ -39,7 +36,6 @@ pub fn bclr_falls<A: Outcome>(
 }
 
 /// G4: the owner is asked no longer.
-#[inline(always)]
 pub fn bclr_rises<A: Outcome>(is_due: bool) -> A
     ensures { A.tells result (bclr_rises is_due) }
 {
@@ -47,7 +43,6 @@ pub fn bclr_rises<A: Outcome>(is_due: bool) -> A
 }
 
 /// G5: the daisy chain of an acknowledge begins.
-#[inline(always)]
 pub fn iack_falls<A: Outcome>(address_strobe: bool, data_strobe: bool, is_acknowledged: bool) -> A
     ensures { A.tells result (iack_falls address_strobe data_strobe is_acknowledged) }
 {
@@ -57,7 +52,6 @@ pub fn iack_falls<A: Outcome>(address_strobe: bool, data_strobe: bool, is_acknow
 }
 
 /// G6: it ends.
-#[inline(always)]
 pub fn iack_rises<A: Outcome>(address_strobe: bool) -> A
     ensures { A.tells result (iack_rises address_strobe) }
 {
@@ -65,7 +59,6 @@ pub fn iack_rises<A: Outcome>(address_strobe: bool) -> A
 }
 
 /// G7: a cycle is timed out.
-#[inline(always)]
 pub fn berr_falls<A: Outcome>(data_strobe: bool, dtack: bool) -> A
     ensures { A.tells result (berr_falls data_strobe dtack) }
 {
@@ -73,7 +66,6 @@ pub fn berr_falls<A: Outcome>(data_strobe: bool, dtack: bool) -> A
 }
 
 /// G8: the bus error ends.
-#[inline(always)]
 pub fn berr_rises<A: Outcome>(data_strobe: bool) -> A
     ensures { A.tells result (berr_rises data_strobe) }
 {

@@ -6,7 +6,6 @@ use crate::outcomes::Outcome;
 use vme_model::{Condition, Cycle};
 
 /// G21: it asks for an interrupt, at any time.
-#[inline(always)]
 pub fn irq_falls<A: Outcome>() -> A
     ensures { A.tells result irq_falls }
 {
@@ -14,7 +13,6 @@ pub fn irq_falls<A: Outcome>() -> A
 }
 
 /// G22: it asks no longer.
-#[inline(always)]
 pub fn irq_rises<A: Outcome>(is_served: bool) -> A
     ensures { A.tells result (irq_rises is_served) }
 {
@@ -22,7 +20,6 @@ pub fn irq_rises<A: Outcome>(is_served: bool) -> A
 }
 
 /// Part of G23: an acknowledge is shown at whose level the board is not pending.
-#[inline(always)]
 pub fn passes<A: Outcome>(is_pending: bool, shown: Option<Cycle>) -> A
     ensures { A.tells result (passes (λ _. is_pending) shown) }
 {
@@ -33,7 +30,6 @@ pub fn passes<A: Outcome>(is_pending: bool, shown: Option<Cycle>) -> A
 }
 
 /// G23: it hands an acknowledge on.
-#[inline(always)]
 pub fn iackout_falls<A: Outcome>(iack_in: bool, dtack: bool, data_strobe: bool, passing: A) -> A
     ensures { (g : Guard) → A.tells passing g →
         A.tells result (iackout_falls iack_in dtack data_strobe g) }
@@ -45,7 +41,6 @@ pub fn iackout_falls<A: Outcome>(iack_in: bool, dtack: bool, data_strobe: bool, 
 }
 
 /// G24: the end of an acknowledge is handed on.
-#[inline(always)]
 pub fn iackout_rises<A: Outcome>(address_strobe: bool) -> A
     ensures { A.tells result (iackout_rises address_strobe) }
 {
@@ -53,7 +48,6 @@ pub fn iackout_rises<A: Outcome>(address_strobe: bool) -> A
 }
 
 /// Part of G25: an acknowledge that reached the board while it is pending, or an access to its slot.
-#[inline(always)]
 pub fn answers<A: Outcome>(
     iack_in: bool,
     iackout: bool,
@@ -73,7 +67,6 @@ pub fn answers<A: Outcome>(
 }
 
 /// G25: the board answers.
-#[inline(always)]
 pub fn dtack_falls<A: Outcome>(data_strobe: bool, address_strobe: bool, answering: A) -> A
     ensures { (g : Guard) → A.tells answering g →
         A.tells result (dtack_falls data_strobe address_strobe g) }
@@ -84,7 +77,6 @@ pub fn dtack_falls<A: Outcome>(data_strobe: bool, address_strobe: bool, answerin
 }
 
 /// G26: the answer ends.
-#[inline(always)]
 pub fn dtack_rises<A: Outcome>(data_strobe: bool) -> A
     ensures { A.tells result (dtack_rises data_strobe) }
 {

@@ -7,7 +7,6 @@ use crate::outcomes::Outcome;
 use vme_model::{Condition, Cycle, Levels, Release};
 
 /// Part of G15: RWD has fewer cycles than its burst, ROR as many as it will.
-#[inline(always)]
 pub fn below_burst<A: Outcome>(cycles: u8, release: Release) -> A
     ensures { A.tells result (below_burst cycles release) }
 {
@@ -18,7 +17,6 @@ pub fn below_burst<A: Outcome>(cycles: u8, release: Release) -> A
 }
 
 /// Part of G15: an acknowledge is of a level that the board handles and that is requested.
-#[inline(always)]
 pub fn shows<A: Outcome>(handler: Levels, irq: Levels, value: Option<Cycle>) -> A
     ensures { A.tells result (shows (has_level handler) (has_level irq) value) }
 {
@@ -31,7 +29,6 @@ pub fn shows<A: Outcome>(handler: Levels, irq: Levels, value: Option<Cycle>) -> 
 }
 
 /// G15: the address group goes on.
-#[inline(always)]
 pub fn addr_goes_on<A: Outcome>(bbsy: bool, address_strobe: bool, bursting: A, showing: A) -> A
     ensures { (g k : Guard) → A.tells bursting g → A.tells showing k →
         A.tells result (addr_goes_on bbsy address_strobe g k) }
@@ -43,7 +40,6 @@ pub fn addr_goes_on<A: Outcome>(bbsy: bool, address_strobe: bool, bursting: A, s
 }
 
 /// G16: the strobe says that the address is good.
-#[inline(always)]
 pub fn as_falls<A: Outcome>(addr: bool, address_strobe: bool) -> A
     ensures { A.tells result (as_falls addr address_strobe) }
 {
@@ -54,7 +50,6 @@ pub fn as_falls<A: Outcome>(addr: bool, address_strobe: bool) -> A
 }
 
 /// G17: the transfer begins.
-#[inline(always)]
 pub fn ds_falls<A: Outcome>(
     own_strobe: bool,
     addr: bool,
@@ -72,7 +67,6 @@ pub fn ds_falls<A: Outcome>(
 }
 
 /// G18: it ends.
-#[inline(always)]
 pub fn ds_rises<A: Outcome>(dtack: bool, berr: bool) -> A
     ensures { A.tells result (ds_rises dtack berr) }
 {
@@ -80,7 +74,6 @@ pub fn ds_rises<A: Outcome>(dtack: bool, berr: bool) -> A
 }
 
 /// G19: the address group goes off.
-#[inline(always)]
 pub fn addr_goes_off<A: Outcome>(own_strobe: bool, own_data_strobe: bool, has_strobed: bool) -> A
     ensures { A.tells result (addr_goes_off own_strobe own_data_strobe has_strobed) }
 {
@@ -90,7 +83,6 @@ pub fn addr_goes_off<A: Outcome>(own_strobe: bool, own_data_strobe: bool, has_st
 }
 
 /// G20: the cycle ends.
-#[inline(always)]
 pub fn as_rises<A: Outcome>(addr: bool) -> A
     ensures { A.tells result (as_rises addr) }
 {

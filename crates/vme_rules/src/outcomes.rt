@@ -35,22 +35,18 @@ pub trait Outcome {
 impl Outcome for bool {
     ghost tells = { λ result g. result ≡ holds g };
 
-    #[inline(always)]
     fn free() -> bool {
         true
     }
 
-    #[inline(always)]
     fn asks(_condition: Condition, holds: bool) -> bool {
         holds
     }
 
-    #[inline(always)]
     fn and(self, other: bool) -> bool {
         self && other
     }
 
-    #[inline(always)]
     fn unless(self, is_free: bool) -> bool {
         is_free || self
     }
@@ -125,7 +121,6 @@ impl Outcome for ArrayVec<Tested, 5> {
 ///
 /// # Errors
 /// E3 where it does not.
-#[inline(always)]
 pub fn allowed(rule: (u8, bool)) -> Result<(), Refused>
     ensures { result ≡ check rule.1 (Refused.Rule rule.0) (Ok tt) }
 {

@@ -6,7 +6,6 @@ use crate::outcomes::Outcome;
 use vme_model::{Condition, Release, Version};
 
 /// G9: the board asks for the bus.
-#[inline(always)]
 pub fn br_falls<A: Outcome>(bbsy: bool) -> A
     ensures { A.tells result (br_falls bbsy) }
 {
@@ -14,7 +13,6 @@ pub fn br_falls<A: Outcome>(bbsy: bool) -> A
 }
 
 /// G10: it asks no longer.
-#[inline(always)]
 pub fn br_rises<A: Outcome>(version: Version, bbsy: bool) -> A
     ensures { A.tells result (br_rises version bbsy) }
 {
@@ -22,7 +20,6 @@ pub fn br_rises<A: Outcome>(version: Version, bbsy: bool) -> A
 }
 
 /// G11: it hands a grant on.
-#[inline(always)]
 pub fn bgout_falls<A: Outcome>(grant_in: bool, br: bool, bbsy: bool) -> A
     ensures { A.tells result (bgout_falls grant_in br bbsy) }
 {
@@ -32,7 +29,6 @@ pub fn bgout_falls<A: Outcome>(grant_in: bool, br: bool, bbsy: bool) -> A
 }
 
 /// G12: the end of a grant is handed on.
-#[inline(always)]
 pub fn bgout_rises<A: Outcome>(grant_in: bool) -> A
     ensures { A.tells result (bgout_rises grant_in) }
 {
@@ -40,7 +36,6 @@ pub fn bgout_rises<A: Outcome>(grant_in: bool) -> A
 }
 
 /// G13: it takes the bus.
-#[inline(always)]
 pub fn bbsy_falls<A: Outcome>(grant_in: bool, bgout: bool, br: bool) -> A
     ensures { A.tells result (bbsy_falls grant_in bgout br) }
 {
@@ -50,7 +45,6 @@ pub fn bbsy_falls<A: Outcome>(grant_in: bool, bgout: bool, br: bool) -> A
 }
 
 /// Part of G14: RWD waits for nothing, ROR until another board asks.
-#[inline(always)]
 pub fn released<A: Outcome>(is_asked: bool, release: Release) -> A
     ensures { A.tells result (released is_asked release) }
 {
@@ -61,7 +55,6 @@ pub fn released<A: Outcome>(is_asked: bool, release: Release) -> A
 }
 
 /// G14: it gives the bus up.
-#[inline(always)]
 pub fn bbsy_rises<A: Outcome>(br: bool, grant_in: bool, is_address_free: bool, releasing: A) -> A
     ensures { (g : Guard) → A.tells releasing g →
         A.tells result (bbsy_rises br grant_in is_address_free g) }

@@ -5,7 +5,6 @@ use crate::outcomes::Outcome;
 use vme_model::{Condition, Version};
 
 /// S1: the address strobe waits for the acknowledge chain.
-#[inline(always)]
 pub fn as_settles<A: Outcome>(is_clear: bool) -> A
     ensures { A.tells result (as_settles is_clear) }
 {
@@ -13,7 +12,6 @@ pub fn as_settles<A: Outcome>(is_clear: bool) -> A
 }
 
 /// S2: a cycle that a board can answer is not timed out.
-#[inline(always)]
 pub fn berr_settles<A: Outcome>(is_beyond_answer: bool) -> A
     ensures { A.tells result (berr_settles is_beyond_answer) }
 {
@@ -21,7 +19,6 @@ pub fn berr_settles<A: Outcome>(is_beyond_answer: bool) -> A
 }
 
 /// S3: in the second version a grant that nobody took is timed out once it has passed every board.
-#[inline(always)]
 pub fn bg_rise_settles<A: Outcome>(version: Version, bbsy: bool, is_past: bool) -> A
     ensures { A.tells result (bg_rise_settles version bbsy is_past) }
 {
@@ -29,7 +26,6 @@ pub fn bg_rise_settles<A: Outcome>(version: Version, bbsy: bool, is_past: bool) 
 }
 
 /// S4: in the second version no grant begins before every earlier one has risen through.
-#[inline(always)]
 pub fn bg_fall_settles<A: Outcome>(version: Version, are_through: bool) -> A
     ensures { A.tells result (bg_fall_settles version are_through) }
 {
