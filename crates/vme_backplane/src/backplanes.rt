@@ -28,22 +28,25 @@ use vme_wiring::Wiring;
 
 /// Does the same with an edge in an arm for each wire. There `$edge` is a copy whose wire is a constant, so that the compiler
 /// leaves out what edges of other wires need. The contracts of the functions that call it refuse a wrong arm.
+///
+/// `$edge` is a variable of type `Edge`. A crate that calls it imports `vme_model::Wire`.
+#[macro_export]
 macro_rules! by_wire {
     ($edge:ident => $done:expr) => {
         match $edge.wire {
-            Wire::Bg(level) => by_wire!($edge, Wire::Bg(level), $done),
-            Wire::Bclr => by_wire!($edge, Wire::Bclr, $done),
-            Wire::Iack => by_wire!($edge, Wire::Iack, $done),
-            Wire::Berr => by_wire!($edge, Wire::Berr, $done),
-            Wire::Br => by_wire!($edge, Wire::Br, $done),
-            Wire::BgOut => by_wire!($edge, Wire::BgOut, $done),
-            Wire::Bbsy => by_wire!($edge, Wire::Bbsy, $done),
-            Wire::Addr => by_wire!($edge, Wire::Addr, $done),
-            Wire::AddressStrobe => by_wire!($edge, Wire::AddressStrobe, $done),
-            Wire::DataStrobe => by_wire!($edge, Wire::DataStrobe, $done),
-            Wire::Irq => by_wire!($edge, Wire::Irq, $done),
-            Wire::IackOut => by_wire!($edge, Wire::IackOut, $done),
-            Wire::Dtack => by_wire!($edge, Wire::Dtack, $done),
+            Wire::Bg(level) => $crate::by_wire!($edge, Wire::Bg(level), $done),
+            Wire::Bclr => $crate::by_wire!($edge, Wire::Bclr, $done),
+            Wire::Iack => $crate::by_wire!($edge, Wire::Iack, $done),
+            Wire::Berr => $crate::by_wire!($edge, Wire::Berr, $done),
+            Wire::Br => $crate::by_wire!($edge, Wire::Br, $done),
+            Wire::BgOut => $crate::by_wire!($edge, Wire::BgOut, $done),
+            Wire::Bbsy => $crate::by_wire!($edge, Wire::Bbsy, $done),
+            Wire::Addr => $crate::by_wire!($edge, Wire::Addr, $done),
+            Wire::AddressStrobe => $crate::by_wire!($edge, Wire::AddressStrobe, $done),
+            Wire::DataStrobe => $crate::by_wire!($edge, Wire::DataStrobe, $done),
+            Wire::Irq => $crate::by_wire!($edge, Wire::Irq, $done),
+            Wire::IackOut => $crate::by_wire!($edge, Wire::IackOut, $done),
+            Wire::Dtack => $crate::by_wire!($edge, Wire::Dtack, $done),
         }
     };
     ($edge:ident, $wire:expr, $done:expr) => {{
@@ -131,10 +134,10 @@ impl<'r> Backplane<'r> {
         self.wiring.judge(edge)
     }
 
-    /// The answer to an edge, but for what it delivers.
+    /// The answer to an edge, but for what it delivers: the first that applies of E1 to E5, or none.
     #[tactic(auto, using(crate::proofs::Judged::refused, crate::proofs::Judged::passed))]
     #[inline(always)]
-    fn verdict(&self, edge: Edge) -> Result<(), Refused>
+    pub fn verdict(&self, edge: Edge) -> Result<(), Refused>
         ensures { result ≡ verdict self.now edge }
     {
         match self.judge(edge) {
@@ -260,9 +263,9 @@ impl<'r> Backplane<'r> {
         let _edge = edge;
     }
 
-    /// Makes an edge that would be accepted.
+    /// Makes an edge that would be accepted, as `verdict` tells.
     #[inline(always)]
-    fn make(&mut self, edge: Edge)
+    pub fn make(&mut self, edge: Edge)
         requires { verdict self.old edge ≡ Ok tt }
         ensures { self.new ≡ made self.old edge }
     {
