@@ -8,6 +8,7 @@ use Rattle.vme_model.specs.declared.deliveries.Delivery.{Delivery}
 use Rattle.vme_model.specs.declared.refusals.Refused.TheVariants.{NoSuchDriver}
 use Rattle.vme_model.specs.declared.signals.Cycle.{Cycle}
 use Rattle.vme_model.specs.declared.signals.Edge.{Edge}
+use Rattle.vme_model.specs.declared.signals.Wire.TheVariants.{Dtack}
 use Rattle.vme_model.specs.Signals.{is_well_formed}
 use Rattle.vme_model.specs.Plan.{Plan, has_driver}
 use Rattle.vme_model.specs.History.{shown}
@@ -89,13 +90,13 @@ with_by : (t : Bool) (n : ℕ) (e : Edge) (k : Numbered) → t ≡ true → (if 
 with_by t n e k is = rw is refl
 
 -- an accepted edge was noted
-pub noted : (b : State) (n : ℕ) (e : Edge) (old new : Marks) (v : Option Cycle) → is_ok (verdict b e) ≡ true → v ≡ shown b.plan b.history
-    → ((p : Plan) (k : Numbered) → IsMarksOf p k old → v ≡ shown p (edges_in k) → IsMarksOf p ((n, e) ∷ k) new)
+pub noted : (b : State) (n : ℕ) (e : Edge) (old new : Marks) (v : Option Cycle) → is_ok (verdict b e) ≡ true → (e.wire ≡ Dtack → v ≡ shown b.plan b.history)
+    → ((p : Plan) (k : Numbered) → IsMarksOf p k old → (e.wire ≡ Dtack → v ≡ shown p (edges_in k)) → IsMarksOf p ((n, e) ∷ k) new)
     → OfTrace b old (λ k. IsMarksOf b.plan (numbered_with b n e k) new)
 noted b n e old new v accepted is h =
     λ k edges of.
     subst (λ (m : Numbered). IsMarksOf b.plan m new) (sym (with_by (is_ok (verdict b e)) n e k accepted))
-    (h b.plan k of (is ∙ ap (shown b.plan) (sym edges)))
+    (h b.plan k of (λ dtack. is dtack ∙ ap (shown b.plan) (sym edges)))
 
 pub follows_one : (first now : Following) (e : Edge) → now.backplane ≡ after first.backplane e → now.judged ≡ first.judged + 1
     → OfTrace first.backplane first.marks (λ k. IsMarksOf first.backplane.plan (numbered_with first.backplane (first.judged + 1) e k) now.marks) → Follows first (e ∷ []) now

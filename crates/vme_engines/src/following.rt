@@ -1,6 +1,8 @@
 //! A trace that is followed edge by edge, up to the one that an engine waits for.
-ghost use Rattle.std.specs.Prelude.{◌≡◌, ◌+◌, ◌<◌, ◌≤◌, ◌^◌, ◌∷◌, [], ℕ, length, is_ok, Some, IfSome, IfNone};
+ghost use Rattle.std.specs.Prelude.{◌≡◌, ◌+◌, ◌<◌, ◌≤◌, ◌^◌, ◌∷◌, [], ℕ, length, is_ok, Some, Ok, IfSome, IfNone};
 ghost use Rattle.vme_model.specs.Plan.{Plan};
+ghost use Rattle.vme_model.specs.declared.signals.Wire.TheVariants.{Dtack};
+ghost use Rattle.vme_model.specs.History.{shown};
 ghost use Rattle.vme_model.specs.Verdict.{verdict, after};
 ghost use Rattle.vme_model.specs.Numbered.{numbered_with};
 ghost use Rattle.vme_reasons.specs.Marked.{IsMarksOf};
@@ -8,8 +10,8 @@ ghost use Rattle.vme_reasons.specs.Traced.{OfTrace};
 ghost use Rattle.vme_engines.specs.Followed.{Follows, IsMissing, ComesTo, Reaches, told_answer};
 
 use crate::{EngineFault, Status};
-use vme_backplane::Backplane;
-use vme_model::{Driver, Edge};
+use vme_backplane::{Backplane, by_wire};
+use vme_model::{Cycle, Driver, Edge, Wire};
 use vme_reasons::Marks;
 use vme_trace::Fault;
 
@@ -79,25 +81,51 @@ impl<'r> Following<'r> {
         }
     }
 
-    /// Makes the next edge where it is accepted, and answers whether it was. It is not yet counted.
+    /// What is shown, where the edge is one of DTACK*: no other needs it.
     #[inline(always)]
-    fn step(&mut self, edge: &Edge) -> bool
-        requires { self.old.judged + 1 < 2 ^ 64 }
-        ensures accepted { result ≡ is_ok (verdict self.old.backplane edge.now) }
-        ensures backplane { self.new.backplane ≡ after self.old.backplane edge.now }
+    fn shown_at(&self, edge: Edge) -> Option<Cycle>
+        ensures { edge.wire ≡ Dtack
+            → result ≡ shown self.now.backplane.plan self.now.backplane.history }
+    {
+        match edge.wire {
+            Wire::Dtack => self.backplane.pins(Driver::Controller).shown,
+            _ => None,
+        }
+    }
+
+    /// Makes and notes the next edge, which would be accepted. It is not yet counted.
+    #[inline(always)]
+    fn make(&mut self, edge: Edge)
+        requires room { self.old.judged + 1 < 2 ^ 64 }
+        requires accepted { verdict self.old.backplane edge ≡ Ok tt }
+        ensures backplane { self.new.backplane ≡ after self.old.backplane edge }
         ensures judged { self.new.judged ≡ self.old.judged }
         ensures marks { OfTrace self.old.backplane self.old.marks
             (λ k. IsMarksOf self.old.backplane.plan
-            (numbered_with self.old.backplane (self.old.judged + 1) edge.now k) self.new.marks) }
+            (numbered_with self.old.backplane (self.old.judged + 1) edge k) self.new.marks) }
     {
-        let shown = self.backplane.pins(Driver::Controller).shown;
-        match self.backplane.step(*edge) {
-            Ok(_) => {
-                self.marks.note(edge, self.judged + 1, shown);
+        let shown = self.shown_at(edge);
+        self.marks.note(&edge, self.judged + 1, shown);
+        self.backplane.make(edge);
+    }
+
+    /// Makes the next edge where it is accepted, and answers whether it was. It is not yet counted.
+    fn step(&mut self, edge: Edge) -> bool
+        requires { self.old.judged + 1 < 2 ^ 64 }
+        ensures accepted { result ≡ is_ok (verdict self.old.backplane edge) }
+        ensures backplane { self.new.backplane ≡ after self.old.backplane edge }
+        ensures judged { self.new.judged ≡ self.old.judged }
+        ensures marks { OfTrace self.old.backplane self.old.marks
+            (λ k. IsMarksOf self.old.backplane.plan
+            (numbered_with self.old.backplane (self.old.judged + 1) edge k) self.new.marks) }
+    {
+        by_wire!(edge => match self.backplane.verdict(edge) {
+            Ok(()) => {
+                self.make(edge);
                 true
             }
             Err(_) => false,
-        }
+        })
     }
 
     /// Follows all the edges, past those that are refused.
@@ -106,7 +134,7 @@ impl<'r> Following<'r> {
         ensures { Follows self.old edges.now self.new }
     {
         for edge in edges {
-            self.step(edge);
+            self.step(*edge);
             self.judged += 1;
         }
     }
@@ -120,7 +148,7 @@ impl<'r> Following<'r> {
             × Follows self.old edges.now self.new) }
     {
         for edge in edges {
-            if !self.step(edge) {
+            if !self.step(*edge) {
                 return Some(*edge);
             }
             self.judged += 1;

@@ -1,6 +1,7 @@
 //! The numbers, moved at each accepted edge.
 ghost use Rattle.std.specs.Prelude.{◌≡◌, ◌<◌, ◌^◌, ◌∷◌, [], ℕ, IsTrue};
 ghost use Rattle.vme_model.specs.declared.signals.Driver.TheVariants.{Slot};
+ghost use Rattle.vme_model.specs.declared.signals.Wire.TheVariants.{Dtack};
 ghost use Rattle.vme_model.specs.Signals.{has_wire, is_well_formed};
 ghost use Rattle.vme_model.specs.Plan.{Plan};
 ghost use Rattle.vme_model.specs.History.{cycles, drive, last_level, shown};
@@ -34,10 +35,13 @@ impl Marks {
         }
     }
 
-    /// Takes in an accepted edge with its number in the trace, and what is shown just before it.
+    /// Takes in an accepted edge with its number in the trace, and what is shown just before it,
+    /// which only an edge of DTACK* needs.
+    #[inline(always)]
     pub fn note(&mut self, edge: &Edge, n: u64, showing: Option<Cycle>)
         requires { IsTrue (is_well_formed edge.now) }
-        ensures { OfNumbered self.old (λ p k. showing ≡ shown p (edges_in k)
+        ensures { OfNumbered self.old (λ p k.
+            (edge.now.wire ≡ Dtack → showing ≡ shown p (edges_in k))
             → IsMarksOf p ((n, edge.now) ∷ k) self.new) }
     {
         self.moves.note(edge, n);

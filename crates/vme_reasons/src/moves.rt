@@ -43,6 +43,7 @@ impl Moves {
     }
 
     /// Takes in an accepted edge with its number in the trace.
+    #[inline(always)]
     pub(crate) fn note(&mut self, edge: &Edge, n: u64)
         requires { IsTrue (is_well_formed edge.now) }
         ensures { (k : Numbered) → IsMovesOf k self.old → IsMovesOf ((n, edge.now) ∷ k) self.new }

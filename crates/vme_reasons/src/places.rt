@@ -9,6 +9,7 @@ use vme_model::{Driver, Wire};
 pub(crate) const WIRES: usize = 198;
 
 /// A driver's place, from 0.
+#[inline(always)]
 fn driver_place(driver: Driver) -> usize
     ensures { result ≡ driver_place driver }
 {
@@ -19,6 +20,7 @@ fn driver_place(driver: Driver) -> usize
 }
 
 /// A wire's place among those of its driver.
+#[inline(always)]
 fn wire_place(wire: Wire) -> usize
     ensures { result ≡ wire_place wire }
 {
@@ -40,6 +42,7 @@ fn wire_place(wire: Wire) -> usize
 }
 
 /// The place of a driver's wire among all.
+#[inline(always)]
 pub(crate) fn place(driver: Driver, wire: Wire) -> usize
     requires { IsTrue (has_wire driver wire) }
     ensures at { result ≡ place driver wire }

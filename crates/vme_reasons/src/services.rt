@@ -63,6 +63,7 @@ impl Services {
     }
 
     /// Takes in a fall of a board's wire.
+    #[inline(always)]
     fn note_fall(&mut self, slot: u8, wire: Wire, n: u64, showing: Option<Cycle>)
         requires { slot < 22 }
         ensures strobes { self.new.strobes ≡ set self.old.strobes slot
@@ -93,11 +94,14 @@ impl Services {
         }
     }
 
-    /// Takes in an accepted edge with its number in the trace, and what is shown just before it.
+    /// Takes in an accepted edge with its number in the trace, and what is shown just before it,
+    /// which only an edge of DTACK* needs.
+    #[inline(always)]
     pub(crate) fn note(&mut self, edge: &Edge, n: u64, showing: Option<Cycle>)
         requires { IsTrue (is_well_formed edge.now) }
         ensures { (p : Plan) (k : Numbered) → IsServicesOf p k self.old
-            → showing ≡ shown p (edges_in k) → IsServicesOf p ((n, edge.now) ∷ k) self.new }
+            → (edge.now.wire ≡ Dtack → showing ≡ shown p (edges_in k))
+            → IsServicesOf p ((n, edge.now) ∷ k) self.new }
     {
         match edge.driver {
             Driver::Slot(slot) if edge.fall => self.note_fall(slot, edge.wire, n, showing),
