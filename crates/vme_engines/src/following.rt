@@ -93,12 +93,12 @@ impl<'r> Following<'r> {
         }
     }
 
-    /// Makes and notes the next edge, which would be accepted. It is not yet counted.
+    /// Notes the next edge, which would be accepted, before it is made.
     #[inline(always)]
-    fn make(&mut self, edge: Edge)
+    fn note(&mut self, edge: Edge)
         requires room { self.old.judged + 1 < 2 ^ 64 }
         requires accepted { verdict self.old.backplane edge ≡ Ok tt }
-        ensures backplane { self.new.backplane ≡ after self.old.backplane edge }
+        ensures backplane { self.new.backplane ≡ self.old.backplane }
         ensures judged { self.new.judged ≡ self.old.judged }
         ensures marks { OfTrace self.old.backplane self.old.marks
             (λ k. IsMarksOf self.old.backplane.plan
@@ -106,7 +106,6 @@ impl<'r> Following<'r> {
     {
         let shown = self.shown_at(edge);
         self.marks.note(&edge, self.judged + 1, shown);
-        self.backplane.make(edge);
     }
 
     /// Makes the next edge where it is accepted, and answers whether it was. It is not yet counted.
@@ -121,7 +120,8 @@ impl<'r> Following<'r> {
     {
         by_wire!(edge => match self.backplane.verdict(edge) {
             Ok(()) => {
-                self.make(edge);
+                self.note(edge);
+                self.backplane.make(edge);
                 true
             }
             Err(_) => false,

@@ -1,7 +1,7 @@
 use Rattle.std.proofs.Common.{◌+◌, ap}
 use Rattle.std.specs.Prelude.{is_ok}
 use Rattle.vme_engines.proofs.FollowedEdges.{noted}
-use Rattle.vme_engines.proofs.following.Following.make.Goals as goal
+use Rattle.vme_engines.proofs.following.Following.note.Goals as goal
 
 pub returns-clause-marks : goal.returns-clause-marks
 returns-clause-marks c =
