@@ -46,9 +46,32 @@ impl Model for Controller {
 
     ghost Value = { ControllerState };
 
-    ghost view = { λ c. record { kind = c.kind; version = c.version; bg0 = c.bg0; bg1 = c.bg1; bg2 = c.bg2; bg3 = c.bg3; bclr = c.bclr; iack = c.iack; berr = c.berr; last_level = c.last_level } };
+    ghost view = { λ c. record {
+      kind = c.kind;
+      version = c.version;
+      bg0 = c.bg0;
+      bg1 = c.bg1;
+      bg2 = c.bg2;
+      bg3 = c.bg3;
+      bclr = c.bclr;
+      iack = c.iack;
+      berr = c.berr;
+      last_level = c.last_level;
+    } };
 
-    ghost inverse = { λ s. record { kind = s.kind; version = s.version; bg0 = s.bg0; bg1 = s.bg1; bg2 = s.bg2; bg3 = s.bg3; bclr = s.bclr; iack = s.iack; berr = s.berr; last_level = s.last_level } };
+    ghost inverse = { λ s.
+        record {
+          kind = s.kind;
+          version = s.version;
+          bg0 = s.bg0;
+          bg1 = s.bg1;
+          bg2 = s.bg2;
+          bg3 = s.bg3;
+          bclr = s.bclr;
+          iack = s.iack;
+          berr = s.berr;
+          last_level = s.last_level;
+        } };
 }
 
 impl Controller {
@@ -133,7 +156,8 @@ impl Controller {
         ensures number { (r : Readings) → is_controllers edge.wire ≡ true →
             result.0 ≡ (guard self.now.version r edge.wire edge.fall edge.value).0 }
         ensures picked { is_grant edge ≡ true →
-            A.tells result.1 (bg_falls (are_grants_high (local self.now pins)) pins.bbsy is_picked) }
+            A.tells result.1
+            (bg_falls (are_grants_high (local self.now pins)) pins.bbsy is_picked) }
         ensures rows { is_controllers edge.wire ≡ true →
             (is_grant edge ≡ true → is_picked ≡ is_pick self.now.kind (has_bus_level pins.requests)
             self.now.last_level (grant_level edge.wire)) →
@@ -143,7 +167,8 @@ impl Controller {
             is_controllers edge.wire ≡ true → is_grant edge ≡ true →
             is_picked ≡ is_pick kind request self.now.last_level (grant_level edge.wire) →
             A.tells result.1
-            (guard self.now.version (record (local self.now pins) { request = request; arbiter = kind })
+            (guard self.now.version
+            (record (local self.now pins) { request = request; arbiter = kind })
             edge.wire edge.fall edge.value).1 }
     {
         match (edge.wire, edge.fall) {
@@ -254,7 +279,8 @@ impl<P: Policy> Arbiter<P> {
     /// Whether a grant may fall, were it of the level that the policy picks (G1): the grants are high, and the bus is free.
     #[inline(always)]
     pub fn may_grant(&self, pins: Pins) -> bool
-        ensures { result ≡ holds (bg_falls (are_grants_high (local self.now.1 pins)) pins.bbsy true) }
+        ensures { result ≡ holds
+            (bg_falls (are_grants_high (local self.now.1 pins)) pins.bbsy true) }
     {
         bg_falls(self.controller.are_grants_high(pins), pins.bbsy, true)
     }

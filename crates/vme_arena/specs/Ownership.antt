@@ -32,7 +32,8 @@ pub record Spot : Type 0 where
 
 -- p and t point to the n granules of a spot and to their tags
 abbrev pub IsSpot : Spot → ℕ → Ptr → Ptr → Type 0
-IsSpot s n p t = (p ≡ block_ptr s.block s.at) × (t ≡ block_ptr s.block s.tag) × (s.at + n * 16 < 2 ^ 63) × (s.tag + n < 2 ^ 63)
+IsSpot s n p t = (p ≡ block_ptr s.block s.at) × (t ≡ block_ptr s.block s.tag)
+    × (s.at + n * 16 < 2 ^ 63) × (s.tag + n < 2 ^ 63)
 
 -- a tag: 1 for a granule that is at home
 abbrev pub bit : Bool → ℕ
@@ -47,7 +48,9 @@ only_if false P = ftrue
 module _ (b : ℕ) where
   -- a tag at y, and the 16 bytes at x that it speaks of where they are at home
   abbrev pub granule : ℕ → ℕ → Fml
-  granule x y = fex Bool (λ t. fsep (fat full_share (ty_int w8) b y (vint w8 (bit t))) (only_if t (units_at (block_ptr b x) 16)))
+  granule x y = fex Bool
+      (λ t. fsep (fat full_share (ty_int w8) b y (vint w8 (bit t)))
+      (only_if t (units_at (block_ptr b x) 16)))
 
   -- n of them
   unfoldable pub homes : ℕ → ℕ → ℕ → Fml
@@ -60,15 +63,19 @@ homes_at s n = homes s.block s.at s.tag n
 
 -- the bytes after k tags up to a multiple of 16, and the way back from all these bytes to units
 abbrev pub padding_at : Spot → ℕ → Fml
-padding_at s k = fsep (room_for (loose (rounded k - k)) (block_ptr s.block (s.tag + k))) (fwand (room_for (loose (rounded k)) (block_ptr s.block s.tag)) (units_at (block_ptr s.block s.tag) (rounded k)))
+padding_at s k = fsep (room_for (loose (rounded k - k)) (block_ptr s.block (s.tag + k)))
+    (fwand (room_for (loose (rounded k)) (block_ptr s.block s.tag))
+    (units_at (block_ptr s.block s.tag) (rounded k)))
 
 -- room for m granules and their tags, after n of them, with the padding of all tags
 abbrev pub blank_at : Spot → ℕ → ℕ → Fml
-blank_at s n m = fsep (units_at (block_ptr s.block (s.at + n * 16)) (m * 16)) (fsep (room_for (loose m) (block_ptr s.block (s.tag + n))) (padding_at s (n + m)))
+blank_at s n m = fsep (units_at (block_ptr s.block (s.at + n * 16)) (m * 16))
+    (fsep (room_for (loose m) (block_ptr s.block (s.tag + n))) (padding_at s (n + m)))
 
 -- the right to give the block for a τ at p, the place `at`, back to a lease of the stretch s
 abbrev pub token_at : Stretch → ℕ → Ty → Ptr → Fml
-token_at s at τ p = fex (LiesIn s at (block_size (size τ)) p) (λ _. fwand (room_for τ p) (units_at p (block_size (size τ))))
+token_at s at τ p = fex (LiesIn s at (block_size (size τ)) p)
+    (λ _. fwand (room_for τ p) (units_at p (block_size (size τ))))
 
 -- the same, wherever it is
 abbrev pub block_token : Stretch → Ty → Ptr → Fml
@@ -77,7 +84,9 @@ block_token s τ p = fex ℕ (λ at. token_at s at τ p)
 module _ (F : RattleType) (I : F.Denot → Fml) where
   -- fields of which I holds, in memory
   abbrev pub fields_with : ℕ → ℕ → Fml
-  fields_with b o = fex (List Val) (λ vs. fsep (cell_at full_share F.mir vs b o) (fex F.Denot (λ i. fsep (F.own_val i vs) (I i))))
+  fields_with b o = fex (List Val)
+      (λ vs. fsep (cell_at full_share F.mir vs b o)
+      (fex F.Denot (λ i. fsep (F.own_val i vs) (I i))))
 
   -- they are reached with the thread's token, and I holds again afterwards
   abbrev pub behind_a_ref : Ptr → Lft → Fml

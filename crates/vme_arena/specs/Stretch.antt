@@ -39,7 +39,8 @@ LiesIn s at n p = LiesAt s.block at n p × (s.start ≤ at) × (at + n ≤ s.end
 
 -- s is a part of t, from a multiple of 16 to one
 abbrev pub IsPart : Stretch → Stretch → Type 0
-IsPart t s = (s.block ≡ t.block) × (t.start ≤ s.start) × (s.start ≤ s.end) × (s.end ≤ t.end) × (s.start % 16 ≡ 0) × (s.end % 16 ≡ 0)
+IsPart t s = (s.block ≡ t.block) × (t.start ≤ s.start) × (s.start ≤ s.end) × (s.end ≤ t.end)
+    × (s.start % 16 ≡ 0) × (s.end % 16 ≡ 0)
 
 -- s ends before t begins, so they have no byte in common
 abbrev pub IsBefore : Stretch → Stretch → Type 0
@@ -57,7 +58,8 @@ carved s (n ∷ ns) = front (rounded n) s ∷ carved (behind (rounded n) s) ns
 
 -- whatever is carved from a rest is a part of it
 abbrev pub CarvedWithin : Type 0
-CarvedWithin = (s : Stretch) (ns : List ℕ) → s.start % 16 ≡ 0 → s.start + total ns ≤ s.end → All (IsPart s) (carved s ns)
+CarvedWithin = (s : Stretch) (ns : List ℕ) → s.start % 16 ≡ 0 → s.start + total ns ≤ s.end
+    → All (IsPart s) (carved s ns)
 
 -- and any two of the stretches are apart
 abbrev pub CarvedApart : Type 0

@@ -22,7 +22,8 @@ pub(crate) struct Block<T> {
 }
 
 impl<T> Model for Block<T> {
-    ghost also_owns = { λ b. block_with_items (token_at b.stretch b.at) T.row b.ptr b.len b.cap b.items };
+    ghost also_owns = { λ b.
+        block_with_items (token_at b.stretch b.at) T.row b.ptr b.len b.cap b.items };
 }
 
 pub(crate) fn size_of_values<T>(count: usize) -> usize
@@ -35,10 +36,15 @@ pub(crate) fn size_of_values<T>(count: usize) -> usize
 impl<T> Block<T> {
     // With the bytes that begin where its own end, it has room for `_cap` values.
     pub(crate) fn extend(self, behind: Piece, _cap: usize) -> Block<T>
-        requires beside { (behind.block ≡ self.stretch.block) × (behind.at ≡ self.at + self.cap * type_size T.row) × (block_size (self.cap * type_size T.row) ≡ self.cap * type_size T.row) }
-        requires size { (self.len ≤ self.cap) × (self.cap ≤ _cap) × (_cap * type_size T.row < 2 ^ 63) × (self.cap * type_size T.row + behind.size ≡ block_size (_cap * type_size T.row)) }
+        requires beside { (behind.block ≡ self.stretch.block)
+            × (behind.at ≡ self.at + self.cap * type_size T.row)
+            × (block_size (self.cap * type_size T.row) ≡ self.cap * type_size T.row) }
+        requires size { (self.len ≤ self.cap) × (self.cap ≤ _cap)
+            × (_cap * type_size T.row < 2 ^ 63)
+            × (self.cap * type_size T.row + behind.size ≡ block_size (_cap * type_size T.row)) }
         requires inside { behind.at + behind.size ≤ self.stretch.end }
-        ensures { (result.stretch ≡ self.stretch) × (result.len ≡ self.len) × (result.cap ≡ _cap) × (result.items ≡ self.items) }
+        ensures { (result.stretch ≡ self.stretch) × (result.len ≡ self.len) × (result.cap ≡ _cap)
+            × (result.items ≡ self.items) }
     {
         let Block { ptr, marker } = self;
         let Piece { ptr: _ } = behind;
@@ -47,8 +53,10 @@ impl<T> Block<T> {
 
     // The same bytes, with room for `_cap` values.
     pub(crate) fn narrow(self, _cap: usize) -> Block<T>
-        requires { (self.len ≤ _cap) × (_cap ≤ self.cap) × (block_size (_cap * type_size T.row) ≡ block_size (self.cap * type_size T.row)) }
-        ensures { (result.stretch ≡ self.stretch) × (result.len ≡ self.len) × (result.cap ≡ _cap) × (result.items ≡ self.items) }
+        requires { (self.len ≤ _cap) × (_cap ≤ self.cap)
+            × (block_size (_cap * type_size T.row) ≡ block_size (self.cap * type_size T.row)) }
+        ensures { (result.stretch ≡ self.stretch) × (result.len ≡ self.len) × (result.cap ≡ _cap)
+            × (result.items ≡ self.items) }
     {
         let Block { ptr, marker } = self;
         Block { ptr, marker }
@@ -56,10 +64,14 @@ impl<T> Block<T> {
 
     // The values move to other bytes, and those of the block come back.
     pub(crate) fn move_to(self, room: Piece, len: usize, _cap: usize) -> (Block<T>, Piece)
-        requires room { (room.size ≡ block_size (_cap * type_size T.row)) × LiesIn self.stretch room.at room.size room.ptr × (_cap * type_size T.row < 2 ^ 63) }
+        requires room { (room.size ≡ block_size (_cap * type_size T.row))
+            × LiesIn self.stretch room.at room.size room.ptr × (_cap * type_size T.row < 2 ^ 63) }
         requires counts { (len ≡ self.len) × (len ≤ _cap) × (len ≤ self.cap) }
-        ensures moved { (result.0.stretch ≡ self.stretch) × (result.0.len ≡ len) × (result.0.cap ≡ _cap) × (result.0.items ≡ self.items) }
-        ensures back { (result.1.size ≡ block_size (self.cap * type_size T.row)) × LiesIn self.stretch result.1.at result.1.size result.1.ptr × (result.1.block ≡ self.stretch.block) }
+        ensures moved { (result.0.stretch ≡ self.stretch) × (result.0.len ≡ len)
+            × (result.0.cap ≡ _cap) × (result.0.items ≡ self.items) }
+        ensures back { (result.1.size ≡ block_size (self.cap * type_size T.row))
+            × LiesIn self.stretch result.1.at result.1.size result.1.ptr
+            × (result.1.block ≡ self.stretch.block) }
     {
         let Block { ptr: old, marker } = self;
         let Piece { ptr } = room;

@@ -53,7 +53,8 @@ impl Granules {
     // The first blank granule is at home from here on. `place` others stand before it.
     pub(crate) fn mark(self, place: usize) -> Granules
         requires { (self.count ≡ place) × (0 < self.blank) }
-        ensures { (result.count ≡ place + 1) × (result.blank + 1 ≡ self.blank) × (result.spot ≡ self.spot) }
+        ensures { (result.count ≡ place + 1) × (result.blank + 1 ≡ self.blank)
+            × (result.spot ≡ self.spot) }
     {
         let Granules { bytes, tags } = self;
         unsafe {
@@ -66,7 +67,8 @@ impl Granules {
     // Whatever comes home or stays away, they are the same granules once the loan is over.
     pub(crate) fn lend<'r>(&'r mut self) -> Loan<'r>
         ensures loan { (result.count ≡ self.entry.now.count) × (result.spot ≡ self.entry.now.spot) }
-        ensures* same { sem 𝓛 (follows the_row the_row self.entry.ghost_name result.name (λ _. self.entry.now)) }
+        ensures* same { sem 𝓛
+            (follows the_row the_row self.entry.ghost_name result.name (λ _. self.entry.now)) }
     {
         Loan {
             bytes: self.bytes,
@@ -78,7 +80,8 @@ impl Granules {
     // The memory that they were made of, where `bytes` is all of their bytes.
     pub(crate) fn into_memory(self, bytes: Piece, size: usize) -> Memory
         requires whole { (self.spot.at ≡ 0) × (self.spot.tag ≡ self.count * 16) × (self.blank ≡ 0) }
-        requires bytes { (bytes.block ≡ self.spot.block) × (bytes.at ≡ 0) × (bytes.size ≡ self.count * 16) }
+        requires bytes { (bytes.block ≡ self.spot.block) × (bytes.at ≡ 0)
+            × (bytes.size ≡ self.count * 16) }
         requires size { (size < 2 ^ 63) × (size ≡ self.count * 16 + rounded self.count) }
         ensures { (result.size ≡ size) × (result.ptr ≡ block_ptr self.spot.block 0) }
     {

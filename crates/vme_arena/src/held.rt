@@ -19,7 +19,10 @@ impl<'r> Loan<'r> {
     // The `count` granules from `place` on as one piece, or else the place of one that is away.
     pub(crate) fn take_run(self, place: usize, count: usize) -> (Loan<'r>, Result<Piece, usize>)
         requires { (0 < count) × (place + count ≤ self.count) × (self.count < 2 ^ 59) }
-        ensures { (result.0 ≡ self.entry) × MatchResult result.1 (λ p. (p.block ≡ self.entry.spot.block) × (p.at ≡ self.entry.spot.at + place * 16) × (p.size ≡ count * 16)) (λ i. (place ≤ i) × (i < place + count)) }
+        ensures { (result.0 ≡ self.entry)
+            × MatchResult result.1
+            (λ p. (p.block ≡ self.entry.spot.block) × (p.at ≡ self.entry.spot.at + place * 16)
+            × (p.size ≡ count * 16)) (λ i. (place ≤ i) × (i < place + count)) }
     {
         let (mut loan, first) = self.take(place);
         let Some(mut run) = first else {
@@ -41,7 +44,8 @@ impl<'r> Loan<'r> {
 
     // The piece is the `count` granules from `place` on, which come home.
     fn put_run(self, place: usize, count: usize, piece: Piece) -> Loan<'r>
-        requires { (place + count ≤ self.count) × (piece.size ≡ count * 16) × (piece.at ≡ self.spot.at + place * 16) × (piece.block ≡ self.spot.block) }
+        requires { (place + count ≤ self.count) × (piece.size ≡ count * 16)
+            × (piece.at ≡ self.spot.at + place * 16) × (piece.block ≡ self.spot.block) }
         ensures { result ≡ self.entry }
     {
         let mut loan = self;
@@ -57,8 +61,10 @@ impl<'r> Loan<'r> {
     // The place of the granule that the piece begins with.
     fn find(self, count: usize, piece: Piece) -> (usize, (Loan<'r>, Piece))
         requires granules { (self.count ≡ count) × (self.spot.at % 16 ≡ 0) }
-        requires piece { (piece.block ≡ self.spot.block) × (self.spot.at ≤ piece.at) × (piece.at < self.spot.at + count * 16) × (piece.at % 16 ≡ 0) }
-        ensures { (piece.at ≡ self.entry.spot.at + result.0 * 16) × (result.1.0 ≡ self.entry) × (result.1.1 ≡ piece) }
+        requires piece { (piece.block ≡ self.spot.block) × (self.spot.at ≤ piece.at)
+            × (piece.at < self.spot.at + count * 16) × (piece.at % 16 ≡ 0) }
+        ensures { (piece.at ≡ self.entry.spot.at + result.0 * 16) × (result.1.0 ≡ self.entry)
+            × (result.1.1 ≡ piece) }
     {
         let mut loan = self;
         let mut piece = piece;
@@ -84,7 +90,9 @@ impl<'r> Held<'r> {
 
     pub(crate) fn new(loan: Loan<'r>, count: usize) -> Held<'r>
         requires { (loan.count ≡ count) × (loan.spot.at % 16 ≡ 0) }
-        ensures { ((held_stretch result).block ≡ loan.entry.spot.block) × ((held_stretch result).start ≡ loan.entry.spot.at) × ((held_stretch result).end ≡ loan.entry.spot.at + count * 16) }
+        ensures { ((held_stretch result).block ≡ loan.entry.spot.block)
+            × ((held_stretch result).start ≡ loan.entry.spot.at)
+            × ((held_stretch result).end ≡ loan.entry.spot.at + count * 16) }
     {
         Held {
             loan,
@@ -97,7 +105,8 @@ impl<'r> Held<'r> {
     pub(crate) fn take(self, size: usize) -> (Held<'r>, Option<Piece>)
         requires { (16 ≤ size) × (size % 16 ≡ 0) }
         ensures held { held_stretch result.0 ≡ held_stretch self.entry }
-        ensures block { IfSome result.1 (λ p. (p.size ≡ size) × LiesIn (held_stretch self.entry) p.at size p.ptr) }
+        ensures block { IfSome result.1
+            (λ p. (p.size ≡ size) × LiesIn (held_stretch self.entry) p.at size p.ptr) }
     {
         let Held { loan, count, next } = self;
         let wanted = size / UNIT;
@@ -125,9 +134,13 @@ impl<'r> Held<'r> {
         more: usize,
     ) -> (Held<'r>, Option<Piece>)
         requires sizes { (16 ≤ given) × (given % 16 ≡ 0) × (more % 16 ≡ 0) }
-        requires block { (start.block ≡ (held_stretch self).block) × ((held_stretch self).start ≤ start.at) × (start.at + given ≤ (held_stretch self).end) × (start.at % 16 ≡ 0) }
+        requires block { (start.block ≡ (held_stretch self).block)
+            × ((held_stretch self).start ≤ start.at) × (start.at + given ≤ (held_stretch self).end)
+            × (start.at % 16 ≡ 0) }
         ensures held { held_stretch result.0 ≡ held_stretch self.entry }
-        ensures behind { IfSome result.1 (λ p. (p.block ≡ start.block) × (p.at ≡ start.at + given) × (p.size ≡ more) × (p.at + more ≤ (held_stretch self.entry).end)) }
+        ensures behind { IfSome result.1
+            (λ p. (p.block ≡ start.block) × (p.at ≡ start.at + given) × (p.size ≡ more)
+            × (p.at + more ≤ (held_stretch self.entry).end)) }
     {
         let Held { loan, count, next } = self;
         let (place, (loan, _)) = loan.find(count, start);
@@ -148,7 +161,9 @@ impl<'r> Held<'r> {
     // The block comes home, in any order.
     pub(crate) fn give(self, block: Piece, size: usize) -> Held<'r>
         requires size { (16 ≤ size) × (block.size ≡ size) }
-        requires block { (block.block ≡ (held_stretch self).block) × ((held_stretch self).start ≤ block.at) × (block.at + size ≤ (held_stretch self).end) × (block.at % 16 ≡ 0) }
+        requires block { (block.block ≡ (held_stretch self).block)
+            × ((held_stretch self).start ≤ block.at) × (block.at + size ≤ (held_stretch self).end)
+            × (block.at % 16 ≡ 0) }
         ensures { held_stretch result ≡ held_stretch self.entry }
     {
         let Held { loan, count, next } = self;

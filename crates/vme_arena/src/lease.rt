@@ -39,7 +39,8 @@ pub(crate) fn size_of_block(size: usize) -> usize
 impl<'r> Lease<'r> {
     pub(crate) fn new(start: usize, length: usize, loan: Loan<'r>) -> Lease<'r>
         requires { (loan.count * 16 ≡ length) × (loan.spot.at ≡ start) × (start % 16 ≡ 0) }
-        ensures { (result.start ≡ start) × (result.length ≡ length) × (result.slot.block ≡ loan.entry.spot.block) }
+        ensures { (result.start ≡ start) × (result.length ≡ length)
+            × (result.slot.block ≡ loan.entry.spot.block) }
     {
         let slot = Slot::new(Held::new(loan, length / UNIT));
         Lease {
@@ -52,7 +53,9 @@ impl<'r> Lease<'r> {
     // The slot is empty only while one of the two functions below runs, and they call nothing
     // that could come back here.
     fn take(&self, size: usize, align: usize) -> Option<Piece>
-        ensures { IfSome result (λ p. (p.size ≡ block_size size) × LiesIn self.now.slot p.at (block_size size) p.ptr × (size < 2 ^ 63) × (align ≤ 16)) }
+        ensures { IfSome result
+            (λ p. (p.size ≡ block_size size) × LiesIn self.now.slot p.at (block_size size) p.ptr
+            × (size < 2 ^ 63) × (align ≤ 16)) }
     {
         if align > UNIT || size > isize::MAX as usize - UNIT {
             return None;
@@ -64,7 +67,8 @@ impl<'r> Lease<'r> {
 
     fn give(&self, block: Piece, size: usize)
         requires size { (16 ≤ size) × (block.size ≡ size) }
-        requires block { (block.block ≡ self.now.slot.block) × (self.now.slot.start ≤ block.at) × (block.at + size ≤ self.now.slot.end) × (block.at % 16 ≡ 0) }
+        requires block { (block.block ≡ self.now.slot.block) × (self.now.slot.start ≤ block.at)
+            × (block.at + size ≤ self.now.slot.end) × (block.at % 16 ≡ 0) }
     {
         if let Some(held) = self.slot.replace(None) {
             self.slot.replace(Some(held.give(block, size)));
@@ -75,8 +79,11 @@ impl<'r> Lease<'r> {
     // between its size and its rounding: those cannot be had while values lie in the block.
     fn take_behind(&self, start: Piece, old: usize, new: usize) -> Option<Piece>
         requires sizes { (old ≤ new) × (new < 2 ^ 63) }
-        requires block { (start.block ≡ self.now.slot.block) × (self.now.slot.start ≤ start.at) × (start.at + block_size old ≤ self.now.slot.end) × (start.at % 16 ≡ 0) }
-        ensures { IfSome result (λ p. (p.block ≡ start.block) × (p.at ≡ start.at + old) × (block_size old ≡ old) × (old + p.size ≡ block_size new) × (p.at + p.size ≤ self.now.slot.end)) }
+        requires block { (start.block ≡ self.now.slot.block) × (self.now.slot.start ≤ start.at)
+            × (start.at + block_size old ≤ self.now.slot.end) × (start.at % 16 ≡ 0) }
+        ensures { IfSome result
+            (λ p. (p.block ≡ start.block) × (p.at ≡ start.at + old) × (block_size old ≡ old)
+            × (old + p.size ≡ block_size new) × (p.at + p.size ≤ self.now.slot.end)) }
     {
         if old == 0 || old % UNIT != 0 {
             return None;
@@ -97,10 +104,16 @@ impl<'r> Lease<'r> {
         old_cap: usize,
         new_cap: usize,
     ) -> Result<Block<T>, Block<T>>
-        requires block { (block.stretch ≡ self.now.slot) × (block.len ≡ len) × (block.cap ≡ old_cap) }
-        requires start { LiesIn block.stretch block.at (block_size (old_cap * type_size T.row)) start.ptr × (start.block ≡ block.stretch.block) × (start.at ≡ block.at) }
-        requires sizes { (len ≤ old_cap) × (old_cap ≤ new_cap) × (new_cap * type_size T.row < 2 ^ 63) }
-        ensures { MatchResult result (λ b. (b.stretch ≡ block.stretch) × (b.len ≡ len) × (b.cap ≡ new_cap) × (b.items ≡ block.items)) (λ b. b ≡ block) }
+        requires block { (block.stretch ≡ self.now.slot) × (block.len ≡ len)
+            × (block.cap ≡ old_cap) }
+        requires start { LiesIn block.stretch block.at
+            (block_size (old_cap * type_size T.row)) start.ptr × (start.block ≡ block.stretch.block)
+            × (start.at ≡ block.at) }
+        requires sizes { (len ≤ old_cap) × (old_cap ≤ new_cap)
+            × (new_cap * type_size T.row < 2 ^ 63) }
+        ensures { MatchResult result
+            (λ b. (b.stretch ≡ block.stretch) × (b.len ≡ len) × (b.cap ≡ new_cap)
+            × (b.items ≡ block.items)) (λ b. b ≡ block) }
     {
         let old_size = size_of_values::<T>(old_cap);
         let new_size = size_of_values::<T>(new_cap);
@@ -119,9 +132,13 @@ impl<'r> Lease<'r> {
         old_cap: usize,
         new_cap: usize,
     ) -> Result<Block<T>, Block<T>>
-        requires block { (block.stretch ≡ self.now.slot) × (block.len ≡ len) × (block.cap ≡ old_cap) }
-        requires sizes { (len ≤ new_cap) × (new_cap ≤ old_cap) × (old_cap * type_size T.row < 2 ^ 63) }
-        ensures { MatchResult result (λ b. (b.stretch ≡ block.stretch) × (b.len ≡ len) × (b.cap ≡ new_cap) × (b.items ≡ block.items)) (λ b. b ≡ block) }
+        requires block { (block.stretch ≡ self.now.slot) × (block.len ≡ len)
+            × (block.cap ≡ old_cap) }
+        requires sizes { (len ≤ new_cap) × (new_cap ≤ old_cap)
+            × (old_cap * type_size T.row < 2 ^ 63) }
+        ensures { MatchResult result
+            (λ b. (b.stretch ≡ block.stretch) × (b.len ≡ len) × (b.cap ≡ new_cap)
+            × (b.items ≡ block.items)) (λ b. b ≡ block) }
     {
         let old_size = size_of_values::<T>(old_cap);
         let new_size = size_of_values::<T>(new_cap);
@@ -139,9 +156,13 @@ impl<'r> Lease<'r> {
         old_cap: usize,
         new_cap: usize,
     ) -> Result<Block<T>, Block<T>>
-        requires block { (block.stretch ≡ self.now.slot) × (block.len ≡ len) × (block.cap ≡ old_cap) }
-        requires sizes { (len ≤ old_cap) × (len ≤ new_cap) × (old_cap * type_size T.row < 2 ^ 63) × (new_cap * type_size T.row < 2 ^ 63) }
-        ensures { MatchResult result (λ b. (b.stretch ≡ block.stretch) × (b.len ≡ len) × (b.cap ≡ new_cap) × (b.items ≡ block.items)) (λ b. b ≡ block) }
+        requires block { (block.stretch ≡ self.now.slot) × (block.len ≡ len)
+            × (block.cap ≡ old_cap) }
+        requires sizes { (len ≤ old_cap) × (len ≤ new_cap) × (old_cap * type_size T.row < 2 ^ 63)
+            × (new_cap * type_size T.row < 2 ^ 63) }
+        ensures { MatchResult result
+            (λ b. (b.stretch ≡ block.stretch) × (b.len ≡ len) × (b.cap ≡ new_cap)
+            × (b.items ≡ block.items)) (λ b. b ≡ block) }
     {
         let Some(room) = self.take(size_of_values::<T>(new_cap), UNIT) else {
             return Err(block);

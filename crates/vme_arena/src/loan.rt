@@ -28,7 +28,9 @@ impl<'r> Loan<'r> {
     pub(crate) fn split(self, front: usize) -> (Loan<'r>, Loan<'r>)
         requires { front ≤ self.count }
         ensures front { (result.1.count ≡ front) × (result.1.spot ≡ self.entry.spot) }
-        ensures behind { (front + result.0.count ≡ self.entry.count) × (result.0.spot.block ≡ self.entry.spot.block) × (result.0.spot.at ≡ self.entry.spot.at + front * 16) }
+        ensures behind { (front + result.0.count ≡ self.entry.count)
+            × (result.0.spot.block ≡ self.entry.spot.block)
+            × (result.0.spot.at ≡ self.entry.spot.at + front * 16) }
     {
         let Loan {
             bytes,
@@ -54,7 +56,9 @@ impl<'r> Loan<'r> {
     // The granule at `place`, if it is at home. It is away from here on.
     pub(crate) fn take(self, place: usize) -> (Loan<'r>, Option<Piece>)
         requires { place < self.count }
-        ensures { (result.0 ≡ self.entry) × IfSome result.1 (λ p. (p.block ≡ self.entry.spot.block) × (p.at ≡ self.entry.spot.at + place * 16) × (p.size ≡ 16)) }
+        ensures { (result.0 ≡ self.entry)
+            × IfSome result.1 (λ p. (p.block ≡ self.entry.spot.block)
+            × (p.at ≡ self.entry.spot.at + place * 16) × (p.size ≡ 16)) }
     {
         let Loan {
             bytes,
@@ -84,8 +88,10 @@ impl<'r> Loan<'r> {
 
     // The front of the piece is the granule at `place`, and comes home. The rest of it stays.
     pub(crate) fn put(self, place: usize, piece: Piece) -> (Loan<'r>, Piece)
-        requires { (place < self.count) × (16 ≤ piece.size) × (piece.at ≡ self.spot.at + place * 16) × (piece.block ≡ self.spot.block) }
-        ensures { (result.0 ≡ self.entry) × (result.1.block ≡ piece.block) × (result.1.at ≡ piece.at + 16) × (result.1.size + 16 ≡ piece.size) }
+        requires { (place < self.count) × (16 ≤ piece.size) × (piece.at ≡ self.spot.at + place * 16)
+            × (piece.block ≡ self.spot.block) }
+        ensures { (result.0 ≡ self.entry) × (result.1.block ≡ piece.block)
+            × (result.1.at ≡ piece.at + 16) × (result.1.size + 16 ≡ piece.size) }
     {
         let Loan {
             bytes,
@@ -108,7 +114,8 @@ impl<'r> Loan<'r> {
     // Whether the piece begins before the granule at `place`.
     pub(crate) fn is_past(self, place: usize, piece: Piece) -> (bool, (Loan<'r>, Piece))
         requires { (place ≤ self.count) × (piece.block ≡ self.spot.block) }
-        ensures { (result.0 ≡ nat_lt piece.at (self.entry.spot.at + place * 16)) × (result.1.0 ≡ self.entry) × (result.1.1 ≡ piece) }
+        ensures { (result.0 ≡ nat_lt piece.at (self.entry.spot.at + place * 16))
+            × (result.1.0 ≡ self.entry) × (result.1.1 ≡ piece) }
     {
         let Loan {
             bytes,

@@ -37,7 +37,9 @@ impl<A: Allocator> Model for Deed<A> {
 impl Memory {
     pub(crate) fn new<A: Allocator>(alloc: &A, size: usize) -> Option<(Memory, Deed<A>)>
         requires { IsBlockSize size }
-        ensures { IfSome result (λ m. (m.0.size ≡ size) × (m.1.alloc ≡ alloc.now) × (m.1.ptr ≡ m.0.ptr) × (m.1.size ≡ size)) }
+        ensures { IfSome result
+            (λ m. (m.0.size ≡ size) × (m.1.alloc ≡ alloc.now) × (m.1.ptr ≡ m.0.ptr)
+            × (m.1.size ≡ size)) }
     {
         match alloc.allocate(size, UNIT) {
             Ok(ptr) => {

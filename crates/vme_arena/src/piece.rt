@@ -23,7 +23,8 @@ impl Piece {
     // One piece, of two where the second begins at the end of the first.
     pub(crate) fn join(self, next: Piece) -> Piece
         requires { (self.block ≡ next.block) × (self.at + self.size ≡ next.at) }
-        ensures { (result.block ≡ self.block) × (result.at ≡ self.at) × (result.size ≡ self.size + next.size) }
+        ensures { (result.block ≡ self.block) × (result.at ≡ self.at)
+            × (result.size ≡ self.size + next.size) }
     {
         let Piece { ptr } = self;
         let Piece { ptr: _ } = next;

@@ -147,9 +147,12 @@ impl<'r> Rest<'r> {
     /// exactly where that is more than what is left, and changes nothing.
     pub fn carve(&mut self, bytes: usize) -> Result<Lease<'r>, Full>
         ensures full { IsErr result ↔ (rest_left self.old < rounded bytes) }
-        ensures refused { IfErr result (λ e. (e.asked ≡ bytes) × (e.left ≡ rest_left self.old) × (self.new ≡ self.old)) }
-        ensures stretch { IfOk result (λ l. lease_stretch l ≡ front (rounded bytes) (rest_stretch self.old)) }
-        ensures rest { IfOk result (λ _. rest_stretch self.new ≡ behind (rounded bytes) (rest_stretch self.old)) }
+        ensures refused { IfErr result
+            (λ e. (e.asked ≡ bytes) × (e.left ≡ rest_left self.old) × (self.new ≡ self.old)) }
+        ensures stretch { IfOk result
+            (λ l. lease_stretch l ≡ front (rounded bytes) (rest_stretch self.old)) }
+        ensures rest { IfOk result
+            (λ _. rest_stretch self.new ≡ behind (rounded bytes) (rest_stretch self.old)) }
         ensures left { IfOk result (λ _. rest_left self.new + rounded bytes ≡ rest_left self.old) }
     {
         let full = Full {

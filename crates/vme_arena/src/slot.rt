@@ -16,11 +16,14 @@ pub(crate) struct Slot<'r> {
 impl<'r> Owns for Slot<'r> {
     ghost Value = { Stretch };
 
-    ghost shr_at = { λ s. behind_a_ref Fields (λ i. fex (IfSome i.held (λ h. held_stretch h ≡ s)) (λ _. ftrue)) };
+    ghost shr_at = { λ s.
+        behind_a_ref Fields (λ i. fex (IfSome i.held (λ h. held_stretch h ≡ s)) (λ _. ftrue)) };
 }
 
 impl<'r> Move for Slot<'r> {
-    ghost own_val = { λ s vs. fex Inside (λ i. fsep (Fields.own_val i vs) (fex (IfSome i.held (λ h. held_stretch h ≡ s)) (λ _. ftrue))) };
+    ghost own_val = { λ s vs.
+        fex Inside (λ i. fsep (Fields.own_val i vs)
+        (fex (IfSome i.held (λ h. held_stretch h ≡ s)) (λ _. ftrue))) };
 }
 
 impl<'r> Slot<'r> {

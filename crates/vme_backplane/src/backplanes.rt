@@ -71,7 +71,12 @@ impl<'r> Model for Backplane<'r> {
 
     ghost Value = { State };
 
-    ghost view = { λ b. record { version = b.version; plan = b.plan; history = b.store.history; max = b.store.max } };
+    ghost view = { λ b. record {
+      version = b.version;
+      plan = b.plan;
+      history = b.store.history;
+      max = b.store.max;
+    } };
 
     ghost invariant = { λ b. IsWiringOf b.version b.plan b.store.history b.wiring };
 }

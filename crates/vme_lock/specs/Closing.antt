@@ -33,6 +33,7 @@ FirstDiffers h (d ∷ drivers) (log ∷ logs) driver at =
 FirstDiffers h _ _ driver at = ⊥
 
 -- what is found of a history beside the logs: that they are its, or the first driver and place
-abbrev pub IsFirstDifference : List Edge → List Driver → List (List Edge) → Option (Driver × ℕ) → Type 0
+abbrev pub IsFirstDifference : List Edge → List Driver → List (List Edge) → Option (Driver × ℕ)
+    → Type 0
 IsFirstDifference h drivers logs None = AreLogs h drivers logs
 IsFirstDifference h drivers logs (Some found) = FirstDiffers h drivers logs found.0 found.1

@@ -74,7 +74,12 @@ master_readings s row handler own cycles has_strobed pins holds_bus =
       own = told own holds_bus;
       cycles = cycles;
       has_strobed = has_strobed;
-      board = Some (record { slot = s; requester = Some row; interrupter = None; handler = handler });
+      board = Some (record {
+        slot = s;
+        requester = Some row;
+        interrupter = None;
+        handler = handler;
+      });
     }
 
 -- what its rules read, by the state

@@ -26,7 +26,8 @@ accesses = map (λ s. Access s) (up_to 21)
 
 -- the edges that move a wire to its other state; the address group goes on with each cycle that there is
 abbrev pub moves : List Edge → Driver → Wire → List Edge
-moves h d Addr = if drive h d Addr then turned h d Addr ∷ [] else map (showing d) (acknowledges ++ accesses)
+moves h d Addr =
+    if drive h d Addr then turned h d Addr ∷ [] else map (showing d) (acknowledges ++ accesses)
 moves h d w = turned h d w ∷ []
 
 -- of the edges that move a driver's wires, those that would be accepted

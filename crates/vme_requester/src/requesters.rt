@@ -37,9 +37,24 @@ impl Model for Requester {
 
     ghost Value = { RequesterState };
 
-    ghost view = { λ r. record { slot = r.slot; row = r.row; version = r.version; br = r.br; bgout = r.bgout; bbsy = r.bbsy } };
+    ghost view = { λ r. record {
+      slot = r.slot;
+      row = r.row;
+      version = r.version;
+      br = r.br;
+      bgout = r.bgout;
+      bbsy = r.bbsy;
+    } };
 
-    ghost inverse = { λ s. record { slot = s.slot; row = s.row; version = s.version; br = s.br; bgout = s.bgout; bbsy = s.bbsy } };
+    ghost inverse = { λ s.
+        record {
+          slot = s.slot;
+          row = s.row;
+          version = s.version;
+          br = s.br;
+          bgout = s.bgout;
+          bbsy = s.bbsy;
+        } };
 }
 
 /// Whether one of BR0* to BR3* is low.
