@@ -1,5 +1,5 @@
 -- Nothing is left out, and what is chosen is open.
-use Rattle.std.proofs.Common.{◌≡◌, ◌∙◌, refl, sym, ap, subst, ℕ, zero, suc, ◌+◌, ◌*◌, ◌-◌, ◌/◌, ◌^◌, ◌<◌, ◌≤◌, ◌⊎◌, ⊎_elim, Bool, true, false, List, [], ◌∷◌, ◌++◌, filter, length, map, take, slice_index, get_or, arith, eq-eqb, ne_eqb}
+use Rattle.std.proofs.Common.{◌≡◌, ◌∙◌, refl, sym, ap, subst, ℕ, zero, suc, ◌+◌, ◌*◌, ◌-◌, ◌/◌, ◌^◌, ◌<◌, ◌≤◌, ◌⊎◌, ⊎_elim, Bool, true, false, List, [], ◌∷◌, ◌++◌, filter, length, take, slice_index, arith, eq-eqb, ne_eqb}
 use Rattle.std.specs.Prelude.{Option, Some, None, Ok, Err, is_ok, is_some, if◌then◌else◌, ◌==◌, ◌&&◌, nat_lt, slice_get, sum, Result, IfSome}
 use Rattle.std.specs.List.{flat_map, All, Contains}
 use Rattle.std.specs.Option.{option_map_or}
@@ -128,7 +128,7 @@ falls_there (c ∷ cs) (suc i) some =
     let before : sum (take (suc i) (c ∷ cs)) ≡ c + sum (take i cs) = sum_by-cons (λ x. x) c (take i cs) in
     let left : c + sum (take i cs) - c ≡ sum (take i cs) = omega arith in (
       ap (falls_at (c ∷ cs)) before
-      ∙ further (nat_lt (c + sum (take i cs)) c) (falls_at cs (c + sum (take i cs) - c)) i (grind (arith, nat_tests)) (ap (falls_at cs) left ∙ rest.0),
+          ∙ further (nat_lt (c + sum (take i cs)) c) (falls_at cs (c + sum (take i cs) - c)) i (grind (arith, nat_tests)) (ap (falls_at cs) left ∙ rest.0),
       omega (arith, rest.1, before, sum_by-cons (λ x. x) c cs),
     )
   where

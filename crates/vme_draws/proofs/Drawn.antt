@@ -1,5 +1,5 @@
 -- Which edge two words choose.
-use Rattle.std.proofs.Common.{◌≡◌, ◌∙◌, refl, sym, ap, ℕ, ◌<◌, List, length, slice_index}
+use Rattle.std.proofs.Common.{◌≡◌, ◌∙◌, sym, ap, ℕ, ◌<◌, List, length, slice_index}
 use Rattle.std.specs.Prelude.{Option, Some, None, slice_get, sum}
 use Rattle.std.specs.Option.{option_map_or}
 use Rattle.rand_pcg.specs.Lcg.{Lcg, next}
@@ -11,7 +11,7 @@ use Rattle.vme_draws.specs.Kinds.{kinds, number, count}
 use Rattle.vme_draws.specs.Numbers.{after_words, word, scaled}
 use Rattle.vme_draws.specs.Choices.{all_open, open_of, chance, chance_of, chances, falls_at}
 use Rattle.vme_draws.specs.Tallies.{AreCounts}
-use Rattle.vme_draws.specs.Walks.{Walk, weights, first_draw, chosen, next_edge, drawn}
+use Rattle.vme_draws.specs.Walks.{Walk, weights, chosen, next_edge, drawn}
 use Rattle.vme_draws.proofs.KindOrder.{by_numbers}
 use Rattle.vme_draws.proofs.Words.{one_word, two_words}
 

@@ -1,5 +1,5 @@
 -- A walk, edge by edge.
-use Rattle.std.proofs.Common.{◌≡◌, ◌∙◌, refl, sym, ap, ℕ, zero, suc}
+use Rattle.std.proofs.Common.{◌≡◌, ◌∙◌, sym, ap, ℕ, zero, suc}
 use Rattle.std.specs.Prelude.{Option, Some, None}
 use Rattle.std.specs.Option.{option_map_or}
 use Rattle.vme_model.specs.declared.signals.Edge.{Edge}
@@ -20,8 +20,8 @@ module _ (more : ℕ) (w v : Walk) (is : v ≡ drawn w) where
   walk_goes_on e u drew made = sym (ap on_by drew) ∙ sym (ap (walked more) (made ∙ ap (λ (x : Walk). with_edge x e) is))
 
 -- the version and the plan stay
-pub record IsOn (version : Version) (p : Plan) (w : Walk) : Type 0 where
-  pub version : w.state.version ≡ version
+pub record IsOn (v : Version) (p : Plan) (w : Walk) : Type 0 where
+  pub version : w.state.version ≡ v
   pub plan : w.state.plan ≡ p
 
 stays_by : (version : Version) (p : Plan) (more : ℕ) (w : Walk) (o : Option Edge) → IsOn version p w → ((v : Walk) → IsOn version p v → IsOn version p (walked more v))

@@ -1,6 +1,6 @@
 -- The words of a generator, one after another.
 use Rattle.std.proofs.Common.{◌≡◌, ◌∙◌, refl, sym, ap, ℕ, zero, suc, ◌+◌, add-one}
-use Rattle.rand_pcg.specs.Lcg.{Lcg, next, next_state, state_after, advance}
+use Rattle.rand_pcg.specs.Lcg.{Lcg, next, next_state, state_after}
 use Rattle.rand_pcg.specs.Pcg.{multiplier_64}
 use Rattle.rand_pcg.proofs.LcgLemmas.{advance_zero}
 use Rattle.vme_draws.specs.Numbers.{after_words}

@@ -1,7 +1,6 @@
 use Rattle.std.proofs.Common.{◌≡◌, ◌∙◌, sym, ap, ℕ, Bool, true, false, ◌+◌, ◌*◌, ◌/◌, ◌≤◌, ne_eqb, arith}
 use Rattle.std.specs.Prelude.{◌==◌, if◌then◌else◌}
 use Rattle.std.proofs.Math.Nat.{div-eq_of_lt}
-use Rattle.vme_draws.specs.Choices.{chance}
 use Rattle.vme_draws.proofs.chances.chance.Goals as goal
 
 else_if : (t : Bool) (n : ℕ) → t ≡ false → n ≡ (if t then 0 else n)

@@ -1,5 +1,4 @@
 use Rattle.std.proofs.Common.{arith}
-use Rattle.vme_draws.specs.Kinds.{kind_of}
 use Rattle.vme_draws.proofs.Counted.{few_so_far}
 use Rattle.vme_draws.proofs.tallies.Tally.of.Goals as goal
 

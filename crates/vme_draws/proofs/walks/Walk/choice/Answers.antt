@@ -1,4 +1,4 @@
-use Rattle.std.proofs.Common.{◌≡◌, ◌∙◌, ap, sym, subst, ℕ, List}
+use Rattle.std.proofs.Common.{◌≡◌, ◌∙◌, ap, sym, ℕ, List}
 use Rattle.std.specs.Prelude.{slice_get, sum}
 use Rattle.vme_model.specs.declared.signals.Edge.{Edge}
 use Rattle.vme_model.specs.Plan.{Plan}
@@ -32,7 +32,7 @@ returns c =
     let kind = ap (λ (x : ℕ). slice_get kinds (falls_at xs x)) (sym number) ∙ sym c.kind_at.ensures ∙ c.in_ok-kind.was in
     let at = c.scaled-place.ensures.number ∙ ap (scaled c.args.second) (c.count.ensures ∙ ready k) in
     let chose =
-      c.edge_of.ensures
-      ∙ ap (λ (p : Plan). slice_get (of_kind p k c.as_slice-2.result.now) y) c.plan-2.ensures
-      ∙ ap (λ (es : List Edge). slice_get (of_kind w.state.plan k es) y) (c.as_slice-2.ensures.value ∙ c.all_open-edges.ensures) in
+    c.edge_of.ensures
+    ∙ ap (λ (p : Plan). slice_get (of_kind p k c.as_slice-2.result.now) y) c.plan-2.ensures
+    ∙ ap (λ (es : List Edge). slice_get (of_kind w.state.plan k es) y) (c.as_slice-2.ensures.value ∙ c.all_open-edges.ensures) in
     one_chosen w c.args.first c.args.second xs k y c.edge_of.result are kind at chose ∙ ap (λ (v : Walk). chosen v c.args.first c.args.second) c.self.view_is

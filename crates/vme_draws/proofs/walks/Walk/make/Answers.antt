@@ -1,7 +1,7 @@
-use Rattle.std.proofs.Common.{◌≡◌, ◌∙◌, ap, sym, subst, arith}
+use Rattle.std.proofs.Common.{◌≡◌, ◌∙◌, sym, subst, arith}
 use Rattle.std.specs.Prelude.{Ok}
 use Rattle.vme_model.specs.Plan.{Plan}
-use Rattle.vme_model.specs.Verdict.{State, verdict, made}
+use Rattle.vme_model.specs.Verdict.{State, verdict}
 use Rattle.vme_draws.specs.Kinds.{kind_of}
 use Rattle.vme_draws.specs.Tallies.{AreCounts, CountsIn}
 use Rattle.vme_draws.specs.Walks.{Walk}
@@ -22,5 +22,5 @@ invariant_of-self c =
     let more = subst (λ (p : Plan). CountsIn p e c.self.inside.made.counts c.add.new.self.counts) c.plan.ensures c.add.ensures in (
       c.self.invariant.0,
       subst (λ (s : State). AreCounts s.plan s.history c.add.new.self.counts) (sym (c.step.ensures.state ∙ made_where_ok b e ok))
-      (counted_in b.plan b.history e c.self.inside.made.counts c.add.new.self.counts c.self.invariant.1 more),
+          (counted_in b.plan b.history e c.self.inside.made.counts c.add.new.self.counts c.self.invariant.1 more),
     )
