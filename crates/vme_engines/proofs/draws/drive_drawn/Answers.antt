@@ -1,5 +1,4 @@
 use Rattle.std.proofs.Common.{◌≡◌, ◌==◌, ◌∙◌, ap, arith, if◌then◌else◌}
-use Rattle.vme_model.specs.Verdict.{State}
 use Rattle.vme_draws.specs.Walks.{Walk, at_start, walked}
 use Rattle.vme_engines.specs.declared.Status.TheVariants.{Done, Limit}
 use Rattle.vme_engines.specs.Outcomes.{bench}
