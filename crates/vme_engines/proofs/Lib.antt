@@ -34,3 +34,5 @@ pub mod ToldTraces
 pub mod LegalTrace
 -- the rounds of a drive, and the lines of what it made: src/drives.rt
 pub mod DriveRounds
+-- the walk of a seed, and what was written of it: src/draws.rt
+pub mod DrawnWalks

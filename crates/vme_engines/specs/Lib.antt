@@ -17,6 +17,8 @@ pub mod Explaining
 pub mod Stating
 -- believe, for `drive` alone: what the drivers make, and what is written of it
 pub mod Driving
+-- believe, for `drive_drawn` alone: what a seed draws, and what is written of it
+pub mod Drawing
 -- words, but for `IsNoPlan`, which `plan_of` answers by: what the reads and the pieces of a trace
 -- do to an engine
 pub mod Steps

@@ -5,6 +5,7 @@
 
 mod checks;
 mod counts;
+mod draws;
 mod drives;
 mod explains;
 mod following;
@@ -18,6 +19,7 @@ mod states;
 mod traces;
 
 pub use checks::check;
+pub use draws::drive_drawn;
 pub use drives::{drive, status_of, write_history};
 pub use explains::explain;
 pub use joins::joined;

@@ -18,6 +18,8 @@ mod chains;
 #[cfg(test)]
 mod devices;
 #[cfg(test)]
+mod drawn;
+#[cfg(test)]
 mod engines;
 #[cfg(test)]
 mod explains;

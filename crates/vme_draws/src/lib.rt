@@ -1,0 +1,14 @@
+//! A walk of random order: the next edge is drawn among all that the rules allow, by the numbers of a seed.
+#![tactic(auto)]
+
+mod chances;
+mod kinds;
+pub mod laws;
+mod numbers;
+mod opens;
+mod tallies;
+mod walks;
+mod weights;
+
+pub use kinds::Kind;
+pub use walks::Walk;

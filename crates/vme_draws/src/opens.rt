@@ -1,0 +1,41 @@
+//! What all drivers can make next.
+ghost use Rattle.std.specs.Prelude.{◌≡◌, ◌≤◌, ◌+◌, ◌++◌, length};
+ghost use Rattle.std.specs.List.{flat_map};
+ghost use Rattle.vme_model.specs.Open.{open_edges};
+ghost use Rattle.vme_draws.specs.Choices.{all_open};
+
+use arrayvec::ArrayVec;
+use vme_backplane::Backplane;
+use vme_model::{Driver, Edge};
+
+/// The most open edges: 36 of each of 22 drivers.
+pub(crate) const OPEN_EDGES: usize = 792;
+
+/// Puts edges after the others.
+fn append(edges: &mut ArrayVec<Edge, OPEN_EDGES>, others: &[Edge])
+    requires { length edges.old.items + length others.now ≤ 792 }
+    ensures { edges.new.items ≡ edges.old.items ++ others.now }
+{
+    for edge in others {
+        edges.push(*edge);
+    }
+}
+
+/// The open edges of drivers, in their order.
+fn open_of(backplane: &Backplane<'_>, drivers: &[Driver]) -> ArrayVec<Edge, OPEN_EDGES>
+    requires { length drivers.now ≤ 22 }
+    ensures { result.items ≡ flat_map (open_edges backplane.now) drivers.now }
+{
+    let mut edges = ArrayVec::new();
+    for driver in drivers {
+        append(&mut edges, backplane.open_edges(*driver).as_slice());
+    }
+    edges
+}
+
+/// The open edges of all drivers: the controller's, then each board's by slot.
+pub(crate) fn all_open(backplane: &Backplane<'_>) -> ArrayVec<Edge, OPEN_EDGES>
+    ensures { result.items ≡ all_open backplane.now }
+{
+    open_of(backplane, backplane.plan().drivers().as_slice())
+}
