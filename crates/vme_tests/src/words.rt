@@ -81,6 +81,76 @@ fn reads_where_the_state_is_asked(rt: HostRuntime) {
     }
 }
 
+/// What to show of trace `T`: the words, the first edge, the last one, and whether it is painted.
+const SHOWS: [(&[&str], u64, u64, bool); 17] = [
+    (&["show", "S", "T"], 1, 60, false),
+    (&["show", "S", "T", "--color"], 1, 60, true),
+    (&["show", "S", "T", "--from", "41"], 41, 100, false),
+    (&["show", "--from=1", "S", "T"], 1, 60, false),
+    (&["show", "S", "T", "--to", "100"], 41, 100, false),
+    (&["show", "S", "T", "--to", "61"], 2, 61, false),
+    (&["show", "S", "T", "--to", "60"], 1, 60, false),
+    (&["show", "S", "T", "--to", "59"], 1, 59, false),
+    (&["show", "S", "T", "--to", "1"], 1, 1, false),
+    (
+        &["show", "S", "T", "--from", "8", "--to", "31"],
+        8,
+        31,
+        false,
+    ),
+    (
+        &["show", "--to=31", "S", "--color", "T", "--from=8"],
+        8,
+        31,
+        true,
+    ),
+    (&["show", "S", "T", "--from", "8", "--to", "8"], 8, 8, false),
+    (
+        &["show", "S", "T", "--from", "8", "--to", "207"],
+        8,
+        207,
+        false,
+    ),
+    (
+        &["show", "S", "T", "--from", "18446744073709551557"],
+        u64::MAX - 58,
+        u64::MAX,
+        false,
+    ),
+    (
+        &["show", "S", "T", "--from", "18446744073709551556"],
+        u64::MAX - 59,
+        u64::MAX,
+        false,
+    ),
+    (
+        &["show", "S", "T", "--from", "18446744073709551555"],
+        u64::MAX - 60,
+        u64::MAX - 1,
+        false,
+    ),
+    (
+        &["show", "S", "T", "--to", "18446744073709551615"],
+        u64::MAX - 59,
+        u64::MAX,
+        false,
+    ),
+];
+
+#[test]
+fn reads_which_edges_to_show(rt: HostRuntime) {
+    for (given, from, to, color) in &SHOWS {
+        let wanted = Job::Show {
+            scenario: "S",
+            trace: "T",
+            from: *from,
+            to: *to,
+            color: *color,
+        };
+        assert_job(&rt, given, wanted);
+    }
+}
+
 /// What to drive with scenario `S`: the words, the edges and the version.
 const DRIVES: [(&[&str], u32, Version); 5] = [
     (&["drive", "S", "--edges", "8"], 8, Version::One),
@@ -131,7 +201,18 @@ fn reads_what_to_run(rt: HostRuntime) {
 }
 
 /// Words that mean no job.
-const REFUSED: [&[&str]; 25] = [
+const REFUSED: [&[&str]; 36] = [
+    &["show", "S"],
+    &["show", "S", "T", "--from", "0"],
+    &["show", "S", "T", "--to", "0"],
+    &["show", "S", "T", "--from", "18446744073709551616"],
+    &["show", "S", "T", "--from", "8", "--to", "7"],
+    &["show", "S", "T", "--from", "8", "--to", "208"],
+    &["show", "S", "T", "--to", "1", "--from", "2"],
+    &["show", "S", "T", "--from", "8", "--from", "8"],
+    &["show", "S", "T", "--color", "--color"],
+    &["show", "S", "T", "--color=true"],
+    &["show", "S", "T", "--edge", "8"],
     &["explain", "S", "T", "--edge", "0"],
     &["explain", "S", "T", "--edge", "18446744073709551616"],
     &["explain", "S", "T", "--after", "1"],
@@ -187,12 +268,13 @@ fn assert_told(rt: &(impl Abort + AllocGlobal), given: &[&str], parts: &[&str]) 
     }
 }
 
-const OVERVIEW: [&str; 10] = [
+const OVERVIEW: [&str; 11] = [
     "Usage: vmebus [COMMAND]",
     "replay   Writes the verdict on each edge",
     "check    Writes whether every edge",
     "explain  Tells why an edge",
     "state    Tells where the bus stands",
+    "show     Draws a timing picture of a trace",
     "drive    Writes a trace",
     "cat board.toml tenure.vme | vmebus",
     "`vme 1`",
@@ -225,6 +307,17 @@ const STATE: [&str; 3] = [
     "  vmebus state board.toml tenure.vme --after 4\n",
 ];
 
+const SHOW: [&str; 8] = [
+    "Usage: vmebus show <SCENARIO> <TRACE> [--from <A>] [--to <B>] [--color]",
+    "--from <A>",
+    "[default: 1; with --to alone B - 59, at least 1]",
+    "--to <B>",
+    "[default: A + 59]",
+    "--color",
+    "  \\ /     an accepted fall, an accepted rise\n",
+    "  vmebus show board.toml tenure.vme --from 1 --to 8\n",
+];
+
 const DRIVE: [&str; 5] = [
     "Usage: vmebus drive <SCENARIO> --edges <N> [--version <V>]",
     "--edges <N>",
@@ -240,7 +333,7 @@ const RUN: [&str; 3] = [
 ];
 
 /// Words that ask for help, and parts of what they get.
-const HELP: [(&[&str], &[&str]); 10] = [
+const HELP: [(&[&str], &[&str]); 12] = [
     (&["--help"], &OVERVIEW),
     (&["-h"], &OVERVIEW),
     (&["help"], &OVERVIEW),
@@ -248,6 +341,8 @@ const HELP: [(&[&str], &[&str]); 10] = [
     (&["help", "check"], &CHECK),
     (&["explain", "--help"], &EXPLAIN),
     (&["help", "state"], &STATE),
+    (&["show", "--help"], &SHOW),
+    (&["help", "show"], &SHOW),
     (&["drive", "-h"], &DRIVE),
     (&["drive", "S", "--edges", "8", "--help"], &DRIVE),
     (&["run", "--help"], &RUN),
@@ -261,7 +356,23 @@ fn help_tells_what_each_command_is(rt: HostRuntime) {
 }
 
 /// Words that mean no job, and the part of the text that says why.
-const ERRORS: [(&[&str], &str); 10] = [
+const ERRORS: [(&[&str], &str); 14] = [
+    (
+        &["show", "S", "T", "--from", "8", "--to", "7"],
+        "error: invalid value '7' for '--to <B>': 7 is not in 8..=207\n",
+    ),
+    (
+        &["show", "S", "T", "--from", "8", "--to", "208"],
+        "error: invalid value '208' for '--to <B>': 208 is not in 8..=207\n",
+    ),
+    (
+        &["show", "S", "T", "--from=18446744073709551615", "--to=1"],
+        "'--to <B>': 1 is not in 18446744073709551615..=18446744073709551615\n",
+    ),
+    (
+        &["show", "S", "T", "--to", "0"],
+        "0 is not in 1..18446744073709551615",
+    ),
     (&["drive", "S", "--edges", "0"], "0 is not in 1..=1048576"),
     (
         &["drive", "S", "--edges", "1048577"],
