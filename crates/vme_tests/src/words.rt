@@ -29,6 +29,11 @@ fn reads_two_files(rt: HostRuntime) {
         &["check", scenario, trace],
         Job::Check { scenario, trace },
     );
+    assert_job(
+        &rt,
+        &["summary", scenario, trace],
+        Job::Summary { scenario, trace },
+    );
 }
 
 #[test]
@@ -201,7 +206,7 @@ fn reads_what_to_run(rt: HostRuntime) {
 }
 
 /// Words that mean no job.
-const REFUSED: [&[&str]; 36] = [
+const REFUSED: [&[&str]; 38] = [
     &["show", "S"],
     &["show", "S", "T", "--from", "0"],
     &["show", "S", "T", "--to", "0"],
@@ -213,6 +218,8 @@ const REFUSED: [&[&str]; 36] = [
     &["show", "S", "T", "--color", "--color"],
     &["show", "S", "T", "--color=true"],
     &["show", "S", "T", "--edge", "8"],
+    &["summary", "S"],
+    &["summary", "S", "T", "--from", "1"],
     &["explain", "S", "T", "--edge", "0"],
     &["explain", "S", "T", "--edge", "18446744073709551616"],
     &["explain", "S", "T", "--after", "1"],
@@ -268,13 +275,14 @@ fn assert_told(rt: &(impl Abort + AllocGlobal), given: &[&str], parts: &[&str]) 
     }
 }
 
-const OVERVIEW: [&str; 11] = [
+const OVERVIEW: [&str; 12] = [
     "Usage: vmebus [COMMAND]",
     "replay   Writes the verdict on each edge",
     "check    Writes whether every edge",
     "explain  Tells why an edge",
     "state    Tells where the bus stands",
     "show     Draws a timing picture of a trace",
+    "summary  Counts what a trace exercised",
     "drive    Writes a trace",
     "cat board.toml tenure.vme | vmebus",
     "`vme 1`",
@@ -318,6 +326,12 @@ const SHOW: [&str; 8] = [
     "  vmebus show board.toml tenure.vme --from 1 --to 8\n",
 ];
 
+const SUMMARY: [&str; 3] = [
+    "Usage: vmebus summary <SCENARIO> <TRACE>",
+    "<TRACE>     The edges, one a line",
+    "  vmebus summary board.toml tenure.vme\n",
+];
+
 const DRIVE: [&str; 5] = [
     "Usage: vmebus drive <SCENARIO> --edges <N> [--version <V>]",
     "--edges <N>",
@@ -333,7 +347,7 @@ const RUN: [&str; 3] = [
 ];
 
 /// Words that ask for help, and parts of what they get.
-const HELP: [(&[&str], &[&str]); 12] = [
+const HELP: [(&[&str], &[&str]); 13] = [
     (&["--help"], &OVERVIEW),
     (&["-h"], &OVERVIEW),
     (&["help"], &OVERVIEW),
@@ -343,6 +357,7 @@ const HELP: [(&[&str], &[&str]); 12] = [
     (&["help", "state"], &STATE),
     (&["show", "--help"], &SHOW),
     (&["help", "show"], &SHOW),
+    (&["summary", "-h"], &SUMMARY),
     (&["drive", "-h"], &DRIVE),
     (&["drive", "S", "--edges", "8", "--help"], &DRIVE),
     (&["run", "--help"], &RUN),
@@ -356,7 +371,7 @@ fn help_tells_what_each_command_is(rt: HostRuntime) {
 }
 
 /// Words that mean no job, and the part of the text that says why.
-const ERRORS: [(&[&str], &str); 14] = [
+const ERRORS: [(&[&str], &str); 15] = [
     (
         &["show", "S", "T", "--from", "8", "--to", "7"],
         "error: invalid value '7' for '--to <B>': 7 is not in 8..=207\n",
@@ -373,6 +388,7 @@ const ERRORS: [(&[&str], &str); 14] = [
         &["show", "S", "T", "--to", "0"],
         "0 is not in 1..18446744073709551615",
     ),
+    (&["summary", "S"], "<TRACE>"),
     (&["drive", "S", "--edges", "0"], "0 is not in 1..=1048576"),
     (
         &["drive", "S", "--edges", "1048577"],

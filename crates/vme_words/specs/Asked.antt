@@ -7,7 +7,7 @@ use Rattle.vme_model.specs.declared.Version.{Version}
 use Rattle.vme_model.specs.declared.Version.TheVariants.{One, Two}
 use Rattle.vme_words.specs.Commands.{commands}
 use Rattle.vme_words.specs.declared.Job.{Job}
-use Rattle.vme_words.specs.declared.Job.TheVariants.{Joined, Replay, Check, Explain, State, Show, Drive, Run}
+use Rattle.vme_words.specs.declared.Job.TheVariants.{Joined, Replay, Check, Explain, State, Show, Summary, Drive, Run}
 use Rattle.vme_words.specs.Limits.{IsNoWindow}
 
 -- the words that are lent, as texts
@@ -71,6 +71,8 @@ AsksFor name rows (Show scenario trace from to color) = (name ≡ codes "show")
     × IsFile (codes "SCENARIO") rows scenario.now × IsFile (codes "TRACE") rows trace.now
     × (from ≡ first_of_window rows) × (to ≡ last_of_window rows)
     × IsFlag (codes "color") rows color
+AsksFor name rows (Summary scenario trace) = (name ≡ codes "summary")
+    × IsFile (codes "SCENARIO") rows scenario.now × IsFile (codes "TRACE") rows trace.now
 AsksFor name rows (Drive scenario edges version) = (name ≡ codes "drive")
     × IsFile (codes "SCENARIO") rows scenario.now × AreOptions rows edges version
 AsksFor name rows (Run scenario edges turns version) = (name ≡ codes "run")

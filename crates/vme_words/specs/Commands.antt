@@ -85,6 +85,9 @@ state = (leaf (codes "state") (file (codes "TRACE") ∷ after ∷ [])).top
 abbrev pub show : Shape
 show = (leaf (codes "show") (file (codes "TRACE") ∷ from ∷ to ∷ color ∷ [])).top
 
+abbrev pub summary : Shape
+summary = (leaf (codes "summary") (file (codes "TRACE") ∷ [])).top
+
 abbrev pub drive : Shape
 drive = (leaf (codes "drive") (edges ∷ version ∷ [])).top
 
@@ -94,5 +97,5 @@ run = (leaf (codes "run") (edges ∷ turns ∷ version ∷ [])).top
 abbrev pub commands : App
 commands = record {
   top = record (new_shape (codes "vmebus")) { is_leaf = false; no_binary_name = true };
-  subs = replay ∷ check ∷ explain ∷ state ∷ show ∷ drive ∷ run ∷ [];
+  subs = replay ∷ check ∷ explain ∷ state ∷ show ∷ summary ∷ drive ∷ run ∷ [];
 }

@@ -38,8 +38,8 @@ const REPLAY_EXAMPLE: &str = "Each edge has a line with its number and its verdi
   E4 Sk   settling rule Sk does not hold
   E5      the trace is full
 The rules G1 to G26 and S1 to S4 stand in docs/RULES.md. A refused edge changes nothing, and the
-replay goes on after it. `vmebus explain` tells why an edge is refused, and `vmebus show` draws edges.
-The exit status is 2 where an edge was refused.
+replay goes on after it. `vmebus explain` tells why an edge is refused, `vmebus show` draws edges,
+and `vmebus summary` counts them. The exit status is 2 where an edge was refused.
 
 Example:
   vmebus replay board.toml tenure.vme";
@@ -103,6 +103,21 @@ the edges 1 to B is refused, 0 where none is, and 1 at a fault. docs/FORMATS.md 
 
 Example:
   vmebus show board.toml tenure.vme --from 1 --to 8";
+
+const SUMMARY: &str = "Counts what a trace exercised, who waited for the bus and who held it";
+
+const SUMMARY_USAGE: &str = "vmebus summary <SCENARIO> <TRACE>";
+
+const SUMMARY_EXAMPLE: &str =
+    "It writes how many edges were accepted and refused, in all and by each rule, by which rules none was
+accepted, and which events came, how often, and which never did. For each board it writes how often
+it asked for the bus, how many edges it waited for it and held it, and how often it answered.
+`first N` and `since N` are numbers of edges in the trace; N counts refused edges too. The exit
+status is 2 where an edge was refused, 0 where none was, and 1 at a fault, where nothing is written.
+docs/FORMATS.md has each line.
+
+Example:
+  vmebus summary board.toml tenure.vme";
 
 const DRIVE: &str = "Writes a trace that the drivers of a scenario make in turn";
 
@@ -335,6 +350,12 @@ pub(crate) fn show<'a>(alloc: Global) -> Result<Command<'a>, AllocError>
     taking(command, color_option(alloc))
 }
 
+fn summary<'a>(alloc: Global) -> Result<Command<'a>, AllocError>
+    ensures { IfOk result (λ c. shape_of c ≡ said.summary) }
+{
+    command_on_trace(alloc, "summary", SUMMARY, SUMMARY_USAGE, SUMMARY_EXAMPLE)
+}
+
 fn drive<'a>(alloc: Global) -> Result<Command<'a>, AllocError>
     ensures { IfOk result (λ c. shape_of c ≡ said.drive) }
 {
@@ -386,6 +407,7 @@ pub(crate) fn commands<'a>(alloc: Global) -> Result<Command<'a>, AllocError>
     let program = offering(program, explain(alloc));
     let program = offering(program, state(alloc));
     let program = offering(program, show(alloc));
+    let program = offering(program, summary(alloc));
     let program = offering(program, drive(alloc));
     offering(program, run(alloc))
 }

@@ -77,6 +77,13 @@ pub enum Job<'a> {
         /// Whether refused edges and deliveries are painted.
         color: bool,
     },
+    /// Count what a trace exercised.
+    Summary {
+        /// The file of the boards.
+        scenario: &'a str,
+        /// The file of the edges.
+        trace: &'a str,
+    },
     /// Let the drivers make edges in turn.
     Drive {
         /// The file of the boards.
@@ -262,6 +269,10 @@ fn job_of<'a>(name: &str, operands: &ArgMatches<'a>) -> Option<Job<'a>>
         "explain" => explain_of(scenario, operands),
         "state" => state_of(scenario, operands),
         "show" => show_of(scenario, operands),
+        "summary" => Some(Job::Summary {
+            scenario,
+            trace: file_of(operands, "TRACE")?,
+        }),
         "drive" => drive_of(scenario, operands),
         "run" => run_of(scenario, operands),
         _ => None,
