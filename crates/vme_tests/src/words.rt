@@ -185,6 +185,48 @@ fn reads_what_to_drive(rt: HostRuntime) {
     }
 }
 
+/// What to draw with scenario `S`: the words, the edges, the seed and the version.
+const DRAWS: [(&[&str], u32, u64, Version); 3] = [
+    (
+        &["drive", "S", "--edges", "8", "--seed", "0"],
+        8,
+        0,
+        Version::One,
+    ),
+    (
+        &["drive", "--seed=7", "S", "--version=2", "--edges=1048576"],
+        1048576,
+        7,
+        Version::Two,
+    ),
+    (
+        &[
+            "drive",
+            "S",
+            "--edges",
+            "1",
+            "--seed",
+            "18446744073709551615",
+        ],
+        1,
+        u64::MAX,
+        Version::One,
+    ),
+];
+
+#[test]
+fn reads_what_to_draw(rt: HostRuntime) {
+    for (given, edges, seed, version) in &DRAWS {
+        let wanted = Job::Draw {
+            scenario: "S",
+            edges: *edges,
+            seed: *seed,
+            version: *version,
+        };
+        assert_job(&rt, given, wanted);
+    }
+}
+
 #[test]
 fn reads_what_to_run(rt: HostRuntime) {
     let given = [
@@ -206,7 +248,7 @@ fn reads_what_to_run(rt: HostRuntime) {
 }
 
 /// Words that mean no job.
-const REFUSED: [&[&str]; 38] = [
+const REFUSED: [&[&str]; 42] = [
     &["show", "S"],
     &["show", "S", "T", "--from", "0"],
     &["show", "S", "T", "--to", "0"],
@@ -220,6 +262,17 @@ const REFUSED: [&[&str]; 38] = [
     &["show", "S", "T", "--edge", "8"],
     &["summary", "S"],
     &["summary", "S", "T", "--from", "1"],
+    &["drive", "S", "--seed", "1"],
+    &["drive", "S", "--edges", "8", "--seed", "-1"],
+    &[
+        "drive",
+        "S",
+        "--edges",
+        "8",
+        "--seed",
+        "18446744073709551616",
+    ],
+    &["run", "S", "--edges", "8", "--turns", "8", "--seed", "1"],
     &["explain", "S", "T", "--edge", "0"],
     &["explain", "S", "T", "--edge", "18446744073709551616"],
     &["explain", "S", "T", "--after", "1"],
@@ -332,8 +385,11 @@ const SUMMARY: [&str; 3] = [
     "  vmebus summary board.toml tenure.vme\n",
 ];
 
-const DRIVE: [&str; 5] = [
-    "Usage: vmebus drive <SCENARIO> --edges <N> [--version <V>]",
+const DRIVE: [&str; 8] = [
+    "Usage: vmebus drive <SCENARIO> --edges <N> [--seed <S>] [--version <V>]",
+    "--seed <S>",
+    "0 to 18446744073709551615",
+    "  vmebus drive board.toml --edges 1000 --seed 7 > drawn.vme\n",
     "--edges <N>",
     "1 to 1048576",
     "--version <V>  The version of the rules, 1 or 2 [default: 1]",
@@ -347,7 +403,7 @@ const RUN: [&str; 3] = [
 ];
 
 /// Words that ask for help, and parts of what they get.
-const HELP: [(&[&str], &[&str]); 13] = [
+const HELP: [(&[&str], &[&str]); 14] = [
     (&["--help"], &OVERVIEW),
     (&["-h"], &OVERVIEW),
     (&["help"], &OVERVIEW),
@@ -358,6 +414,7 @@ const HELP: [(&[&str], &[&str]); 13] = [
     (&["show", "--help"], &SHOW),
     (&["help", "show"], &SHOW),
     (&["summary", "-h"], &SUMMARY),
+    (&["help", "drive"], &DRIVE),
     (&["drive", "-h"], &DRIVE),
     (&["drive", "S", "--edges", "8", "--help"], &DRIVE),
     (&["run", "--help"], &RUN),
@@ -371,7 +428,7 @@ fn help_tells_what_each_command_is(rt: HostRuntime) {
 }
 
 /// Words that mean no job, and the part of the text that says why.
-const ERRORS: [(&[&str], &str); 15] = [
+const ERRORS: [(&[&str], &str); 16] = [
     (
         &["show", "S", "T", "--from", "8", "--to", "7"],
         "error: invalid value '7' for '--to <B>': 7 is not in 8..=207\n",
@@ -387,6 +444,10 @@ const ERRORS: [(&[&str], &str); 15] = [
     (
         &["show", "S", "T", "--to", "0"],
         "0 is not in 1..18446744073709551615",
+    ),
+    (
+        &["drive", "S", "--edges", "8", "--seed", "x"],
+        "invalid value 'x' for '--seed <S>'",
     ),
     (&["summary", "S"], "<TRACE>"),
     (&["drive", "S", "--edges", "0"], "0 is not in 1..=1048576"),

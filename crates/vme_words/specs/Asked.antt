@@ -7,7 +7,7 @@ use Rattle.vme_model.specs.declared.Version.{Version}
 use Rattle.vme_model.specs.declared.Version.TheVariants.{One, Two}
 use Rattle.vme_words.specs.Commands.{commands}
 use Rattle.vme_words.specs.declared.Job.{Job}
-use Rattle.vme_words.specs.declared.Job.TheVariants.{Joined, Replay, Check, Explain, State, Show, Summary, Drive, Run}
+use Rattle.vme_words.specs.declared.Job.TheVariants.{Joined, Replay, Check, Explain, State, Show, Summary, Drive, Draw, Run}
 use Rattle.vme_words.specs.Limits.{IsNoWindow}
 
 -- the words that are lent, as texts
@@ -75,6 +75,10 @@ AsksFor name rows (Summary scenario trace) = (name ≡ codes "summary")
     × IsFile (codes "SCENARIO") rows scenario.now × IsFile (codes "TRACE") rows trace.now
 AsksFor name rows (Drive scenario edges version) = (name ≡ codes "drive")
     × IsFile (codes "SCENARIO") rows scenario.now × AreOptions rows edges version
+    × (spelled (codes "seed") rows ≡ None)
+AsksFor name rows (Draw scenario edges seed version) = (name ≡ codes "drive")
+    × IsFile (codes "SCENARIO") rows scenario.now × AreOptions rows edges version
+    × (spelled (codes "seed") rows ≡ Some seed)
 AsksFor name rows (Run scenario edges turns version) = (name ≡ codes "run")
     × IsFile (codes "SCENARIO") rows scenario.now × AreOptions rows edges version
     × (spelled (codes "turns") rows ≡ Some turns)

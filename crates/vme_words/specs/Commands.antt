@@ -56,6 +56,9 @@ from = whole (codes "from") 1
 abbrev pub to : Rule
 to = whole (codes "to") 1
 
+abbrev pub seed : Rule
+seed = whole (codes "seed") 0
+
 -- `--NAME` without a value
 abbrev pub flag : Text → Rule
 flag name = record (new_rule name) { long = Some name; action = Some SetTrue }
@@ -89,7 +92,7 @@ abbrev pub summary : Shape
 summary = (leaf (codes "summary") (file (codes "TRACE") ∷ [])).top
 
 abbrev pub drive : Shape
-drive = (leaf (codes "drive") (edges ∷ version ∷ [])).top
+drive = (leaf (codes "drive") (edges ∷ seed ∷ version ∷ [])).top
 
 abbrev pub run : Shape
 run = (leaf (codes "run") (edges ∷ turns ∷ version ∷ [])).top

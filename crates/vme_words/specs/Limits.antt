@@ -2,7 +2,7 @@
 use Rattle.std.specs.Prelude.{◌≤◌, ◌<◌, ◌+◌, ◌⊎◌, ℕ, IfSome}
 use Rattle.vme_model.specs.Report.{trace_limit}
 use Rattle.vme_words.specs.declared.Job.{Job}
-use Rattle.vme_words.specs.declared.Job.TheVariants.{Joined, Replay, Check, Explain, State, Show, Summary, Drive, Run}
+use Rattle.vme_words.specs.declared.Job.TheVariants.{Joined, Replay, Check, Explain, State, Show, Summary, Drive, Draw, Run}
 
 abbrev pub most_turns : ℕ
 most_turns = 1000000
@@ -18,6 +18,7 @@ IsNoWindow from to = (to < from) ⊎ (from + 199 < to)
 -- driver 1 to 1,000,000 turns; the edges of a trace are counted from 1
 abbrev pub IsWithin : Job → Type 0
 IsWithin (Drive scenario edges version) = (1 ≤ edges) × (edges ≤ trace_limit)
+IsWithin (Draw scenario edges seed version) = (1 ≤ edges) × (edges ≤ trace_limit)
 IsWithin Joined = Unit {0}
 IsWithin (Replay scenario trace) = Unit {0}
 IsWithin (Check scenario trace) = Unit {0}

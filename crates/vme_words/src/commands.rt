@@ -119,17 +119,23 @@ docs/FORMATS.md has each line.
 Example:
   vmebus summary board.toml tenure.vme";
 
-const DRIVE: &str = "Writes a trace that the drivers of a scenario make in turn";
+const DRIVE: &str =
+    "Writes a trace that the drivers of a scenario make in turn, or one that is drawn by lot";
 
-const DRIVE_USAGE: &str = "vmebus drive <SCENARIO> --edges <N> [--version <V>]";
+const DRIVE_USAGE: &str = "vmebus drive <SCENARIO> --edges <N> [--seed <S>] [--version <V>]";
 
 const DRIVE_EXAMPLE: &str =
     "In each round the controller and then each board makes one of the edges that are open to it. It ends
 with the given number of edges, and then the exit status is 3, or after a round in which nobody
 could make one, and then it is 0.
 
-Example:
-  vmebus drive board.toml --edges 1000 > tenure.vme";
+With --seed there are no rounds: each edge is drawn by lot from all edges that would be accepted, of
+all drivers. A seed always draws the same trace. The exit status is 3 after the given number of
+edges, and 0 where nobody could make a further one.
+
+Examples:
+  vmebus drive board.toml --edges 1000 > tenure.vme
+  vmebus drive board.toml --edges 1000 --seed 7 > drawn.vme";
 
 const RUN: &str = "Writes a trace that the drivers of a scenario make at once, a thread for each";
 
@@ -259,6 +265,13 @@ fn to_option<'a>(alloc: Global) -> Arg<'a>
     whole_option(alloc, "to", "B", 1, help)
 }
 
+fn seed_option<'a>(alloc: Global) -> Arg<'a>
+    ensures { rule_of result ≡ said.seed }
+{
+    let help = "Draws the edges by lot from this seed, 0 to 18446744073709551615";
+    whole_option(alloc, "seed", "S", 0, help)
+}
+
 fn color_option<'a>(alloc: Global) -> Arg<'a>
     ensures { rule_of result ≡ said.color }
 {
@@ -361,6 +374,7 @@ fn drive<'a>(alloc: Global) -> Result<Command<'a>, AllocError>
 {
     let command = command(alloc, "drive", DRIVE, DRIVE_USAGE, DRIVE_EXAMPLE);
     let command = taking(command, edges_option(alloc));
+    let command = taking(command, seed_option(alloc));
     taking(command, version_option(alloc))
 }
 

@@ -93,6 +93,17 @@ pub enum Job<'a> {
         /// The version of the rules.
         version: Version,
     },
+    /// Draw edges by lot from all that are open to the drivers.
+    Draw {
+        /// The file of the boards.
+        scenario: &'a str,
+        /// The most edges to make, 1 to [`MOST_EDGES`].
+        edges: u32,
+        /// What the lots are drawn by.
+        seed: u64,
+        /// The version of the rules.
+        version: Version,
+    },
     /// Let each driver make edges in a thread of its own.
     Run {
         /// The file of the boards.
@@ -224,16 +235,26 @@ fn show_of<'a>(scenario: &'a str, operands: &ArgMatches<'a>) -> Option<Job<'a>>
     })
 }
 
-/// A drive of the scenario, with its other operands.
+/// A drive of the scenario, with its other operands: drawn where there is a seed, and else in turn.
 fn drive_of<'a>(scenario: &'a str, operands: &ArgMatches<'a>) -> Option<Job<'a>>
     ensures within { IfSome result IsWithin }
     ensures asked { IsFile (codes "SCENARIO") (rows_of (found_of operands.now)) scenario.now
         → IfSome result (AsksFor (codes "drive") (rows_of (found_of operands.now))) }
 {
-    Some(Job::Drive {
-        scenario,
-        edges: number_of(operands, "edges", MOST_EDGES)?,
-        version: version_of(operands)?,
+    let edges = number_of(operands, "edges", MOST_EDGES)?;
+    let version = version_of(operands)?;
+    Some(match whole_of(operands, "seed", 0)? {
+        Some(seed) => Job::Draw {
+            scenario,
+            edges,
+            seed,
+            version,
+        },
+        None => Job::Drive {
+            scenario,
+            edges,
+            version,
+        },
     })
 }
 
