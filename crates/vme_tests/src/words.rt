@@ -29,6 +29,11 @@ fn reads_two_files(rt: HostRuntime) {
         &["check", scenario, trace],
         Job::Check { scenario, trace },
     );
+    assert_job(
+        &rt,
+        &["summary", scenario, trace],
+        Job::Summary { scenario, trace },
+    );
 }
 
 #[test]
@@ -81,6 +86,76 @@ fn reads_where_the_state_is_asked(rt: HostRuntime) {
     }
 }
 
+/// What to show of trace `T`: the words, the first edge, the last one, and whether it is painted.
+const SHOWS: [(&[&str], u64, u64, bool); 17] = [
+    (&["show", "S", "T"], 1, 60, false),
+    (&["show", "S", "T", "--color"], 1, 60, true),
+    (&["show", "S", "T", "--from", "41"], 41, 100, false),
+    (&["show", "--from=1", "S", "T"], 1, 60, false),
+    (&["show", "S", "T", "--to", "100"], 41, 100, false),
+    (&["show", "S", "T", "--to", "61"], 2, 61, false),
+    (&["show", "S", "T", "--to", "60"], 1, 60, false),
+    (&["show", "S", "T", "--to", "59"], 1, 59, false),
+    (&["show", "S", "T", "--to", "1"], 1, 1, false),
+    (
+        &["show", "S", "T", "--from", "8", "--to", "31"],
+        8,
+        31,
+        false,
+    ),
+    (
+        &["show", "--to=31", "S", "--color", "T", "--from=8"],
+        8,
+        31,
+        true,
+    ),
+    (&["show", "S", "T", "--from", "8", "--to", "8"], 8, 8, false),
+    (
+        &["show", "S", "T", "--from", "8", "--to", "207"],
+        8,
+        207,
+        false,
+    ),
+    (
+        &["show", "S", "T", "--from", "18446744073709551557"],
+        u64::MAX - 58,
+        u64::MAX,
+        false,
+    ),
+    (
+        &["show", "S", "T", "--from", "18446744073709551556"],
+        u64::MAX - 59,
+        u64::MAX,
+        false,
+    ),
+    (
+        &["show", "S", "T", "--from", "18446744073709551555"],
+        u64::MAX - 60,
+        u64::MAX - 1,
+        false,
+    ),
+    (
+        &["show", "S", "T", "--to", "18446744073709551615"],
+        u64::MAX - 59,
+        u64::MAX,
+        false,
+    ),
+];
+
+#[test]
+fn reads_which_edges_to_show(rt: HostRuntime) {
+    for (given, from, to, color) in &SHOWS {
+        let wanted = Job::Show {
+            scenario: "S",
+            trace: "T",
+            from: *from,
+            to: *to,
+            color: *color,
+        };
+        assert_job(&rt, given, wanted);
+    }
+}
+
 /// What to drive with scenario `S`: the words, the edges and the version.
 const DRIVES: [(&[&str], u32, Version); 5] = [
     (&["drive", "S", "--edges", "8"], 8, Version::One),
@@ -110,6 +185,48 @@ fn reads_what_to_drive(rt: HostRuntime) {
     }
 }
 
+/// What to draw with scenario `S`: the words, the edges, the seed and the version.
+const DRAWS: [(&[&str], u32, u64, Version); 3] = [
+    (
+        &["drive", "S", "--edges", "8", "--seed", "0"],
+        8,
+        0,
+        Version::One,
+    ),
+    (
+        &["drive", "--seed=7", "S", "--version=2", "--edges=1048576"],
+        1048576,
+        7,
+        Version::Two,
+    ),
+    (
+        &[
+            "drive",
+            "S",
+            "--edges",
+            "1",
+            "--seed",
+            "18446744073709551615",
+        ],
+        1,
+        u64::MAX,
+        Version::One,
+    ),
+];
+
+#[test]
+fn reads_what_to_draw(rt: HostRuntime) {
+    for (given, edges, seed, version) in &DRAWS {
+        let wanted = Job::Draw {
+            scenario: "S",
+            edges: *edges,
+            seed: *seed,
+            version: *version,
+        };
+        assert_job(&rt, given, wanted);
+    }
+}
+
 #[test]
 fn reads_what_to_run(rt: HostRuntime) {
     let given = [
@@ -131,7 +248,31 @@ fn reads_what_to_run(rt: HostRuntime) {
 }
 
 /// Words that mean no job.
-const REFUSED: [&[&str]; 25] = [
+const REFUSED: [&[&str]; 42] = [
+    &["show", "S"],
+    &["show", "S", "T", "--from", "0"],
+    &["show", "S", "T", "--to", "0"],
+    &["show", "S", "T", "--from", "18446744073709551616"],
+    &["show", "S", "T", "--from", "8", "--to", "7"],
+    &["show", "S", "T", "--from", "8", "--to", "208"],
+    &["show", "S", "T", "--to", "1", "--from", "2"],
+    &["show", "S", "T", "--from", "8", "--from", "8"],
+    &["show", "S", "T", "--color", "--color"],
+    &["show", "S", "T", "--color=true"],
+    &["show", "S", "T", "--edge", "8"],
+    &["summary", "S"],
+    &["summary", "S", "T", "--from", "1"],
+    &["drive", "S", "--seed", "1"],
+    &["drive", "S", "--edges", "8", "--seed", "-1"],
+    &[
+        "drive",
+        "S",
+        "--edges",
+        "8",
+        "--seed",
+        "18446744073709551616",
+    ],
+    &["run", "S", "--edges", "8", "--turns", "8", "--seed", "1"],
     &["explain", "S", "T", "--edge", "0"],
     &["explain", "S", "T", "--edge", "18446744073709551616"],
     &["explain", "S", "T", "--after", "1"],
@@ -187,12 +328,14 @@ fn assert_told(rt: &(impl Abort + AllocGlobal), given: &[&str], parts: &[&str]) 
     }
 }
 
-const OVERVIEW: [&str; 10] = [
+const OVERVIEW: [&str; 12] = [
     "Usage: vmebus [COMMAND]",
     "replay   Writes the verdict on each edge",
     "check    Writes whether every edge",
     "explain  Tells why an edge",
     "state    Tells where the bus stands",
+    "show     Draws a timing picture of a trace",
+    "summary  Counts what a trace exercised",
     "drive    Writes a trace",
     "cat board.toml tenure.vme | vmebus",
     "`vme 1`",
@@ -225,8 +368,28 @@ const STATE: [&str; 3] = [
     "  vmebus state board.toml tenure.vme --after 4\n",
 ];
 
-const DRIVE: [&str; 5] = [
-    "Usage: vmebus drive <SCENARIO> --edges <N> [--version <V>]",
+const SHOW: [&str; 8] = [
+    "Usage: vmebus show <SCENARIO> <TRACE> [--from <A>] [--to <B>] [--color]",
+    "--from <A>",
+    "[default: 1; with --to alone B - 59, at least 1]",
+    "--to <B>",
+    "[default: A + 59]",
+    "--color",
+    "  \\ /     an accepted fall, an accepted rise\n",
+    "  vmebus show board.toml tenure.vme --from 1 --to 8\n",
+];
+
+const SUMMARY: [&str; 3] = [
+    "Usage: vmebus summary <SCENARIO> <TRACE>",
+    "<TRACE>     The edges, one a line",
+    "  vmebus summary board.toml tenure.vme\n",
+];
+
+const DRIVE: [&str; 8] = [
+    "Usage: vmebus drive <SCENARIO> --edges <N> [--seed <S>] [--version <V>]",
+    "--seed <S>",
+    "0 to 18446744073709551615",
+    "  vmebus drive board.toml --edges 1000 --seed 7 > drawn.vme\n",
     "--edges <N>",
     "1 to 1048576",
     "--version <V>  The version of the rules, 1 or 2 [default: 1]",
@@ -240,7 +403,7 @@ const RUN: [&str; 3] = [
 ];
 
 /// Words that ask for help, and parts of what they get.
-const HELP: [(&[&str], &[&str]); 10] = [
+const HELP: [(&[&str], &[&str]); 14] = [
     (&["--help"], &OVERVIEW),
     (&["-h"], &OVERVIEW),
     (&["help"], &OVERVIEW),
@@ -248,6 +411,10 @@ const HELP: [(&[&str], &[&str]); 10] = [
     (&["help", "check"], &CHECK),
     (&["explain", "--help"], &EXPLAIN),
     (&["help", "state"], &STATE),
+    (&["show", "--help"], &SHOW),
+    (&["help", "show"], &SHOW),
+    (&["summary", "-h"], &SUMMARY),
+    (&["help", "drive"], &DRIVE),
     (&["drive", "-h"], &DRIVE),
     (&["drive", "S", "--edges", "8", "--help"], &DRIVE),
     (&["run", "--help"], &RUN),
@@ -261,7 +428,28 @@ fn help_tells_what_each_command_is(rt: HostRuntime) {
 }
 
 /// Words that mean no job, and the part of the text that says why.
-const ERRORS: [(&[&str], &str); 10] = [
+const ERRORS: [(&[&str], &str); 16] = [
+    (
+        &["show", "S", "T", "--from", "8", "--to", "7"],
+        "error: invalid value '7' for '--to <B>': 7 is not in 8..=207\n",
+    ),
+    (
+        &["show", "S", "T", "--from", "8", "--to", "208"],
+        "error: invalid value '208' for '--to <B>': 208 is not in 8..=207\n",
+    ),
+    (
+        &["show", "S", "T", "--from=18446744073709551615", "--to=1"],
+        "'--to <B>': 1 is not in 18446744073709551615..=18446744073709551615\n",
+    ),
+    (
+        &["show", "S", "T", "--to", "0"],
+        "0 is not in 1..18446744073709551615",
+    ),
+    (
+        &["drive", "S", "--edges", "8", "--seed", "x"],
+        "invalid value 'x' for '--seed <S>'",
+    ),
+    (&["summary", "S"], "<TRACE>"),
     (&["drive", "S", "--edges", "0"], "0 is not in 1..=1048576"),
     (
         &["drive", "S", "--edges", "1048577"],

@@ -1,11 +1,11 @@
 -- What the getters of a parse give, by the rows that it found.
-use Rattle.std.proofs.Common.{◌≡◌, ◌∙◌, ℕ, List, Option, Some, None, Result, Ok, IfSome, option_map, refl, sym, ap, subst, unwrap_or}
-use Rattle.std.specs.Str.Parse.{ParsesUnsigned, digits_value, without_leading_plus}
+use Rattle.std.proofs.Common.{◌≡◌, ◌∙◌, ℕ, List, Bool, true, false, Option, Some, None, Result, Ok, Err, IfSome, codes, option_map, refl, sym, ap, subst, unwrap_or}
+use Rattle.std.specs.Str.Parse.{ParsesBool, ParsesUnsigned, digits_value, without_leading_plus}
 use Rattle.std.specs.Borrow.{Bor}
 use Rattle.clap.specs.Words.{ReadsOne, TriesOne, Text, first_of, first_value, one_text, rows_of}
 use Rattle.clap.specs.declared.parser.matches.Found.{Found}
 use Rattle.clap.proofs.WalkLemmas.{first_value-rows, one_text-rows}
-use Rattle.vme_words.specs.Asked.{spelled}
+use Rattle.vme_words.specs.Asked.{IsFlag, spelled}
 
 pub file_named : (f : Found) (id : Text) (r : Option (Bor Text)) → option_map (λ s. s.now) r ≡ first_value f id
     → IfSome r (λ s. first_of id (rows_of f) ≡ Some s.now)
@@ -34,19 +34,41 @@ number_read G k f id r n parses none value is = go (one_text f id) refl
         cc
     go (Some t) e = spelled_text f id t e ∙ ap Some (sym (read G k t r n parses (value t e) is))
 
--- a place that may be left out
-pub place_read : {E : Type 0} (G : List ℕ → Result ℕ E → Type 0) (k : ℕ) (f : Found) (id : Text) (r : Result (Option ℕ) E) (place : Option ℕ)
+-- a whole number that may be left out
+pub whole_read : {E : Type 0} (G : List ℕ → Result ℕ E → Type 0) (k : ℕ) (f : Found) (id : Text) (r : Result (Option ℕ) E) (whole : Option ℕ)
     → ((u : List ℕ) (x : Result ℕ E) → G u x → ParsesUnsigned k 10 u x)
-    → (one_text f id ≡ None → r ≡ Ok None) → ((t : List ℕ) → one_text f id ≡ Some t → TriesOne G t r) → r ≡ Ok place → spelled id (rows_of f) ≡ place
-place_read {E = E} G k f id r place parses none value is = go (one_text f id) refl
+    → (one_text f id ≡ None → r ≡ Ok None) → ((t : List ℕ) → one_text f id ≡ Some t → TriesOne G t r) → r ≡ Ok whole → spelled id (rows_of f) ≡ whole
+whole_read {E = E} G k f id r whole parses none value is = go (one_text f id) refl
   where
     answers : (t : Text) (p : Option ℕ) → TriesOne G t (Ok p) → Some (digits_value 10 (without_leading_plus t)) ≡ p
     answers t None tries = absurd tries
     answers t (Some m) tries = ap Some (sym (parses t (Ok m) tries).1)
 
-    go : (o : Option Text) → one_text f id ≡ o → spelled id (rows_of f) ≡ place
+    go : (o : Option Text) → one_text f id ≡ o → spelled id (rows_of f) ≡ whole
     go None e =
         let missing : r ≡ Ok None = none e in
         let left_out : spelled id (rows_of f) ≡ None = ap (option_map (λ u. digits_value 10 (without_leading_plus u))) (sym (one_text-rows f id) ∙ e) in
         left_out ∙ cc
-    go (Some t) e = spelled_text f id t e ∙ answers t place (subst (λ (x : Result (Option ℕ) E). TriesOne G t x) is (value t e))
+    go (Some t) e = spelled_text f id t e ∙ answers t whole (subst (λ (x : Result (Option ℕ) E). TriesOne G t x) is (value t e))
+
+some_is : (a b : Text) → Some a ≡ Some b → a ≡ b
+some_is a b e = ap (λ o. unwrap_or o a) e
+
+pub flag_read : {E : Type 0} (G : List ℕ → Result Bool E → Type 0) (f : Found) (id : Text) (r : Option Bool)
+    → ((u : List ℕ) (x : Result Bool E) → G u x → ParsesBool u x)
+    → (one_text f id ≡ None → r ≡ None) → ((t : List ℕ) → one_text f id ≡ Some t → ReadsOne G t r) → IsFlag id (rows_of f) (unwrap_or r false)
+flag_read G f id r parses none value = go (one_text f id) refl
+  where
+    reads : (t : Text) (q : Option Bool) → ReadsOne G t q → one_text f id ≡ Some t → IsFlag id (rows_of f) (unwrap_or q false)
+    reads t None why e = (λ is. cc, λ is. absurd ((parses t (Err why.0) why.1).0 (some_is t (codes "true") (sym e ∙ one_text-rows f id ∙ is))))
+    reads t (Some true) is e = (λ given. sym (one_text-rows f id) ∙ e ∙ ap Some (parses t (Ok true) is), λ given. refl)
+    reads t (Some false) is e = (
+      λ given. cc,
+      λ given.
+          let both : codes "false" ≡ codes "true" = sym (parses t (Ok false) is) ∙ some_is t (codes "true") (sym e ∙ one_text-rows f id ∙ given) in cc,
+    )
+
+    go : (o : Option Text) → one_text f id ≡ o → IsFlag id (rows_of f) (unwrap_or r false)
+    go None e = subst (λ (q : Option Bool). IsFlag id (rows_of f) (unwrap_or q false)) (sym (none e))
+        (λ given. cc, λ given. let both : None ≡ Some (codes "true") = sym e ∙ one_text-rows f id ∙ given in cc)
+    go (Some t) e = reads t r (value t e) e

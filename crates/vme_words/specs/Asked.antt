@@ -1,5 +1,5 @@
 -- Which job the words after the program's name ask for.
-use Rattle.std.specs.Prelude.{◌≡◌, ℕ, List, [], ◌∷◌, Option, Some, codes, map, option_map, IsSomeAnd}
+use Rattle.std.specs.Prelude.{◌≡◌, ◌↔◌, ◌+◌, ◌-◌, ◌^◌, ℕ, Bool, IsTrue, List, [], ◌∷◌, Option, Some, None, codes, map, max, min, option_map, IsSomeAnd}
 use Rattle.std.specs.Borrow.{Bor}
 use Rattle.std.specs.Str.Parse.{digits_value, without_leading_plus}
 use Rattle.clap.specs.Words.{Row, Text, first_of, one_of, subcommand_of}
@@ -7,7 +7,8 @@ use Rattle.vme_model.specs.declared.Version.{Version}
 use Rattle.vme_model.specs.declared.Version.TheVariants.{One, Two}
 use Rattle.vme_words.specs.Commands.{commands}
 use Rattle.vme_words.specs.declared.Job.{Job}
-use Rattle.vme_words.specs.declared.Job.TheVariants.{Joined, Replay, Check, Explain, State, Drive, Run}
+use Rattle.vme_words.specs.declared.Job.TheVariants.{Joined, Replay, Check, Explain, State, Show, Summary, Drive, Draw, Run}
+use Rattle.vme_words.specs.Limits.{IsNoWindow}
 
 -- the words that are lent, as texts
 abbrev pub texts_of : List (Bor Text) → List Text
@@ -32,6 +33,27 @@ AreOptions rows edges version =
     (spelled (codes "edges") rows ≡ Some edges)
     × (spelled (codes "version") rows ≡ Some (version_number version))
 
+-- the flag of this name is given, or is not
+abbrev pub IsFlag : Text → List Row → Bool → Type 0
+IsFlag name rows given = IsTrue given ↔ (one_of name rows ≡ Some (codes "true"))
+
+-- the first edge that a picture shows, by `--from` and `--to`: with `--to` alone 60 edges end there
+abbrev pub first_shown : Option ℕ → Option ℕ → ℕ
+first_shown (Some from) to = from
+first_shown None (Some to) = max 1 (to - 59)
+first_shown None None = 1
+
+-- the last one, by `--to` and the first: without `--to` it is the 60th, as far as numbers go
+abbrev pub last_shown : Option ℕ → ℕ → ℕ
+last_shown (Some to) first = to
+last_shown None first = min (first + 59) (2 ^ 64 - 1)
+
+abbrev pub first_of_window : List Row → ℕ
+first_of_window rows = first_shown (spelled (codes "from") rows) (spelled (codes "to") rows)
+
+abbrev pub last_of_window : List Row → ℕ
+last_of_window rows = last_shown (spelled (codes "to") rows) (first_of_window rows)
+
 -- a command of this name, with these operands, is this job
 abbrev pub AsksFor : Text → List Row → Job → Type 0
 AsksFor name rows Joined = ⊥
@@ -45,8 +67,18 @@ AsksFor name rows (Explain scenario trace edge) = (name ≡ codes "explain")
 AsksFor name rows (State scenario trace after) = (name ≡ codes "state")
     × IsFile (codes "SCENARIO") rows scenario.now × IsFile (codes "TRACE") rows trace.now
     × (spelled (codes "after") rows ≡ after)
+AsksFor name rows (Show scenario trace from to color) = (name ≡ codes "show")
+    × IsFile (codes "SCENARIO") rows scenario.now × IsFile (codes "TRACE") rows trace.now
+    × (from ≡ first_of_window rows) × (to ≡ last_of_window rows)
+    × IsFlag (codes "color") rows color
+AsksFor name rows (Summary scenario trace) = (name ≡ codes "summary")
+    × IsFile (codes "SCENARIO") rows scenario.now × IsFile (codes "TRACE") rows trace.now
 AsksFor name rows (Drive scenario edges version) = (name ≡ codes "drive")
     × IsFile (codes "SCENARIO") rows scenario.now × AreOptions rows edges version
+    × (spelled (codes "seed") rows ≡ None)
+AsksFor name rows (Draw scenario edges seed version) = (name ≡ codes "drive")
+    × IsFile (codes "SCENARIO") rows scenario.now × AreOptions rows edges version
+    × (spelled (codes "seed") rows ≡ Some seed)
 AsksFor name rows (Run scenario edges turns version) = (name ≡ codes "run")
     × IsFile (codes "SCENARIO") rows scenario.now × AreOptions rows edges version
     × (spelled (codes "turns") rows ≡ Some turns)
@@ -57,3 +89,8 @@ abbrev pub Ask : List Text → Job → Type 0
 Ask [] job = job ≡ Joined
 Ask (word ∷ words) job =
     IsSomeAnd (subcommand_of commands (word ∷ words)) (λ met. AsksFor met.0 met.1 job)
+
+-- the words are those of a picture of no window
+abbrev pub AskForNoWindow : List Text → Type 0
+AskForNoWindow words = IsSomeAnd (subcommand_of commands words) (λ met.
+    (met.0 ≡ codes "show") × IsNoWindow (first_of_window met.1) (last_of_window met.1))

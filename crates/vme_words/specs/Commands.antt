@@ -5,7 +5,7 @@ use Rattle.vme_model.specs.Report.{trace_limit}
 use Rattle.vme_words.specs.Limits.{most_turns}
 use Rattle.clap.specs.Words.{App, Rule, Shape, Text, new_rule}
 use Rattle.clap.specs.Simple.{new_shape}
-use Rattle.clap.specs.declared.builder.action.ArgAction.TheVariants.{Set}
+use Rattle.clap.specs.declared.builder.action.ArgAction.TheVariants.{Set, SetTrue}
 use Rattle.clap.specs.declared.builder.value_parser.ValueParser.{ValueParser}
 use Rattle.clap.specs.declared.builder.value_parser.ValueParser.TheVariants.{Signed, Unsigned}
 
@@ -40,15 +40,31 @@ edges = number (codes "edges") trace_limit
 abbrev pub turns : Rule
 turns = number (codes "turns") most_turns
 
--- `--NAME` with the place of an edge in a trace, a whole number of 64 bits from `least` on
-abbrev pub place : Text → ℕ → Rule
-place name least = valued name (Unsigned least (2 ^ 64 - 1))
+-- `--NAME` with a whole number of 64 bits from `least` on
+abbrev pub whole : Text → ℕ → Rule
+whole name least = valued name (Unsigned least (2 ^ 64 - 1))
 
 abbrev pub edge : Rule
-edge = place (codes "edge") 1
+edge = whole (codes "edge") 1
 
 abbrev pub after : Rule
-after = place (codes "after") 0
+after = whole (codes "after") 0
+
+abbrev pub from : Rule
+from = whole (codes "from") 1
+
+abbrev pub to : Rule
+to = whole (codes "to") 1
+
+abbrev pub seed : Rule
+seed = whole (codes "seed") 0
+
+-- `--NAME` without a value
+abbrev pub flag : Text → Rule
+flag name = record (new_rule name) { long = Some name; action = Some SetTrue }
+
+abbrev pub color : Rule
+color = flag (codes "color")
 
 -- a command of this name that takes a scenario, and then these
 abbrev pub leaf : Text → List Rule → App
@@ -69,8 +85,14 @@ explain = (leaf (codes "explain") (file (codes "TRACE") ∷ edge ∷ [])).top
 abbrev pub state : Shape
 state = (leaf (codes "state") (file (codes "TRACE") ∷ after ∷ [])).top
 
+abbrev pub show : Shape
+show = (leaf (codes "show") (file (codes "TRACE") ∷ from ∷ to ∷ color ∷ [])).top
+
+abbrev pub summary : Shape
+summary = (leaf (codes "summary") (file (codes "TRACE") ∷ [])).top
+
 abbrev pub drive : Shape
-drive = (leaf (codes "drive") (edges ∷ version ∷ [])).top
+drive = (leaf (codes "drive") (edges ∷ seed ∷ version ∷ [])).top
 
 abbrev pub run : Shape
 run = (leaf (codes "run") (edges ∷ turns ∷ version ∷ [])).top
@@ -78,5 +100,5 @@ run = (leaf (codes "run") (edges ∷ turns ∷ version ∷ [])).top
 abbrev pub commands : App
 commands = record {
   top = record (new_shape (codes "vmebus")) { is_leaf = false; no_binary_name = true };
-  subs = replay ∷ check ∷ explain ∷ state ∷ drive ∷ run ∷ [];
+  subs = replay ∷ check ∷ explain ∷ state ∷ show ∷ summary ∷ drive ∷ run ∷ [];
 }

@@ -38,7 +38,8 @@ const REPLAY_EXAMPLE: &str = "Each edge has a line with its number and its verdi
   E4 Sk   settling rule Sk does not hold
   E5      the trace is full
 The rules G1 to G26 and S1 to S4 stand in docs/RULES.md. A refused edge changes nothing, and the
-replay goes on after it; `vmebus explain` tells why. The exit status is 2 where an edge was refused.
+replay goes on after it. `vmebus explain` tells why an edge is refused, `vmebus show` draws edges,
+and `vmebus summary` counts them. The exit status is 2 where an edge was refused.
 
 Example:
   vmebus replay board.toml tenure.vme";
@@ -84,17 +85,57 @@ fault. docs/FORMATS.md has each line.
 Example:
   vmebus state board.toml tenure.vme --after 4";
 
-const DRIVE: &str = "Writes a trace that the drivers of a scenario make in turn";
+const SHOW: &str =
+    "Draws a timing picture of a trace, a row for each wire and a column for each edge";
 
-const DRIVE_USAGE: &str = "vmebus drive <SCENARIO> --edges <N> [--version <V>]";
+const SHOW_USAGE: &str = "vmebus show <SCENARIO> <TRACE> [--from <A>] [--to <B>] [--color]";
+
+const SHOW_EXAMPLE: &str =
+    "Each wire that an edge of A to B moves, or tries to move, has a row, as `2 bbsy  --\\__x_/-`:
+  \\ /     an accepted fall, an accepted rise
+  x       a refused edge of this wire
+  _ -     another edge, while the wire is low, while it is high
+Four rows under them tell how it is after each edge: `grant at` is the slot that a grant has come
+to, `holder` the slot that drives BBSY* low, `shown` the target of an access or the level of an
+acknowledge, and `verdict` is `x` refused, `!` a status byte delivered, or `.` accepted. A slot is a
+letter, `a` for 1 to `u` for 21. It reads no further than edge B. The exit status is 2 where one of
+the edges 1 to B is refused, 0 where none is, and 1 at a fault. docs/FORMATS.md has each line.
+
+Example:
+  vmebus show board.toml tenure.vme --from 1 --to 8";
+
+const SUMMARY: &str = "Counts what a trace exercised, who waited for the bus and who held it";
+
+const SUMMARY_USAGE: &str = "vmebus summary <SCENARIO> <TRACE>";
+
+const SUMMARY_EXAMPLE: &str =
+    "It writes how many edges were accepted and refused, in all and by each rule, by which rules none was
+accepted, and which events came, how often, and which never did. For each board it writes how often
+it asked for the bus, how many edges it waited for it and held it, and how often it answered.
+`first N` and `since N` are numbers of edges in the trace; N counts refused edges too. The exit
+status is 2 where an edge was refused, 0 where none was, and 1 at a fault, where nothing is written.
+docs/FORMATS.md has each line.
+
+Example:
+  vmebus summary board.toml tenure.vme";
+
+const DRIVE: &str =
+    "Writes a trace that the drivers of a scenario make in turn, or one that is drawn by lot";
+
+const DRIVE_USAGE: &str = "vmebus drive <SCENARIO> --edges <N> [--seed <S>] [--version <V>]";
 
 const DRIVE_EXAMPLE: &str =
     "In each round the controller and then each board makes one of the edges that are open to it. It ends
 with the given number of edges, and then the exit status is 3, or after a round in which nobody
 could make one, and then it is 0.
 
-Example:
-  vmebus drive board.toml --edges 1000 > tenure.vme";
+With --seed there are no rounds: each edge is drawn by lot from all edges that would be accepted, of
+all drivers. A seed always draws the same trace. The exit status is 3 after the given number of
+edges, and 0 where nobody could make a further one.
+
+Examples:
+  vmebus drive board.toml --edges 1000 > tenure.vme
+  vmebus drive board.toml --edges 1000 --seed 7 > drawn.vme";
 
 const RUN: &str = "Writes a trace that the drivers of a scenario make at once, a thread for each";
 
@@ -172,21 +213,27 @@ fn version_option<'a>(alloc: Global) -> Arg<'a>
 }
 
 /// What reads a whole number of 64 bits, `least` or more.
-fn place_number<'a>(least: u64) -> ValueParser<'a>
+fn whole_number<'a>(least: u64) -> ValueParser<'a>
     ensures { result ≡ ValueParser.Unsigned least (2 ^ 64 - 1) }
 {
     ValueParser::unsigned(least, u64::MAX)
 }
 
 /// An option with such a number.
-fn place_option<'a>(alloc: Global, name: &'a str, least: u64, help: &'a str) -> Arg<'a>
-    ensures { rule_of result ≡ said.place name.entry.now least }
+fn whole_option<'a>(
+    alloc: Global,
+    name: &'a str,
+    value: &'a str,
+    least: u64,
+    help: &'a str,
+) -> Arg<'a>
+    ensures { rule_of result ≡ said.whole name.entry.now least }
 {
     Arg::new(alloc, name)
         .long(name)
-        .value_name("N")
+        .value_name(value)
         .action(ArgAction::Set)
-        .value_parser(place_number(least))
+        .value_parser(whole_number(least))
         .help(help)
 }
 
@@ -194,18 +241,44 @@ fn edge_option<'a>(alloc: Global) -> Arg<'a>
     ensures { rule_of result ≡ said.edge }
 {
     let help = "Which edge, 1 the first [default: the first that is refused]";
-    place_option(alloc, "edge", 1, help)
+    whole_option(alloc, "edge", "N", 1, help)
 }
 
 fn after_option<'a>(alloc: Global) -> Arg<'a>
     ensures { rule_of result ≡ said.after }
 {
-    place_option(
-        alloc,
-        "after",
-        0,
-        "After how many edges [default: after all]",
-    )
+    let help = "After how many edges [default: after all]";
+    whole_option(alloc, "after", "N", 0, help)
+}
+
+fn from_option<'a>(alloc: Global) -> Arg<'a>
+    ensures { rule_of result ≡ said.from }
+{
+    let help = "The first edge that is drawn [default: 1; with --to alone B - 59, at least 1]";
+    whole_option(alloc, "from", "A", 1, help)
+}
+
+fn to_option<'a>(alloc: Global) -> Arg<'a>
+    ensures { rule_of result ≡ said.to }
+{
+    let help = "The last edge that is drawn, A to A + 199 [default: A + 59]";
+    whole_option(alloc, "to", "B", 1, help)
+}
+
+fn seed_option<'a>(alloc: Global) -> Arg<'a>
+    ensures { rule_of result ≡ said.seed }
+{
+    let help = "Draws the edges by lot from this seed, 0 to 18446744073709551615";
+    whole_option(alloc, "seed", "S", 0, help)
+}
+
+fn color_option<'a>(alloc: Global) -> Arg<'a>
+    ensures { rule_of result ≡ said.color }
+{
+    Arg::new(alloc, "color")
+        .long("color")
+        .action(ArgAction::SetTrue)
+        .help("Paints each `x` red and each `!` green, for a terminal")
 }
 
 /// A command that takes a scenario.
@@ -280,11 +353,28 @@ fn state<'a>(alloc: Global) -> Result<Command<'a>, AllocError>
     taking(command, after_option(alloc))
 }
 
+/// The command `show`.
+pub(crate) fn show<'a>(alloc: Global) -> Result<Command<'a>, AllocError>
+    ensures { IfOk result (λ c. shape_of c ≡ said.show) }
+{
+    let command = command_on_trace(alloc, "show", SHOW, SHOW_USAGE, SHOW_EXAMPLE);
+    let command = taking(command, from_option(alloc));
+    let command = taking(command, to_option(alloc));
+    taking(command, color_option(alloc))
+}
+
+fn summary<'a>(alloc: Global) -> Result<Command<'a>, AllocError>
+    ensures { IfOk result (λ c. shape_of c ≡ said.summary) }
+{
+    command_on_trace(alloc, "summary", SUMMARY, SUMMARY_USAGE, SUMMARY_EXAMPLE)
+}
+
 fn drive<'a>(alloc: Global) -> Result<Command<'a>, AllocError>
     ensures { IfOk result (λ c. shape_of c ≡ said.drive) }
 {
     let command = command(alloc, "drive", DRIVE, DRIVE_USAGE, DRIVE_EXAMPLE);
     let command = taking(command, edges_option(alloc));
+    let command = taking(command, seed_option(alloc));
     taking(command, version_option(alloc))
 }
 
@@ -330,6 +420,8 @@ pub(crate) fn commands<'a>(alloc: Global) -> Result<Command<'a>, AllocError>
     let program = offering(program, check(alloc));
     let program = offering(program, explain(alloc));
     let program = offering(program, state(alloc));
+    let program = offering(program, show(alloc));
+    let program = offering(program, summary(alloc));
     let program = offering(program, drive(alloc));
     offering(program, run(alloc))
 }

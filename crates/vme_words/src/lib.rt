@@ -3,15 +3,15 @@
 
 ghost use Rattle.std.specs.Prelude.{◌≡◌, ◌≤◌, ◌↔◌, ◌⊎◌, [], ◌∷◌, IfErr, IfOk, IfSome, IsSomeAnd, Ok, Some, codes, length};
 ghost use Rattle.clap.specs.Words.{FailsBy, IsAmong, fault_of, found_of, kind_of, rows_of, subcommand_of, subcommand_rows_of};
-ghost use Rattle.vme_words.specs.Asked.{Ask, AsksFor, IsFile, spelled, texts_of, version_number};
+ghost use Rattle.vme_words.specs.Asked.{Ask, AskForNoWindow, AsksFor, IsFile, IsFlag, first_shown, last_shown, spelled, texts_of, version_number};
 ghost use Rattle.vme_words.specs.Commands.{commands as commands_said};
-ghost use Rattle.vme_words.specs.Limits.{IsWithin};
+ghost use Rattle.vme_words.specs.Limits.{HasNoWindow, IsCounted, IsWithin};
 
 mod commands;
 
 use clap::error::ErrorKind;
 use clap::{ArgMatches, Error};
-use commands::commands;
+use commands::{commands, show};
 use std::alloc::{AllocError, Global};
 use vme_model::{TRACE_LIMIT, Version};
 
@@ -20,6 +20,12 @@ pub const MOST_EDGES: u32 = TRACE_LIMIT;
 
 /// The most turns that each driver of a run gets.
 pub const MOST_TURNS: u32 = 1_000_000;
+
+/// The most edges that a picture shows.
+pub const MOST_SHOWN: u64 = 200;
+
+/// How many edges a picture shows where one of its ends is left out.
+const SHOWN: u64 = 60;
 
 /// What the program is to do. Files have the names that the user gave.
 #[derive(Clone, Copy, PartialEq, Eq, Debug)]
@@ -58,12 +64,43 @@ pub enum Job<'a> {
         /// After how many edges; after all where it is not given.
         after: Option<u64>,
     },
+    /// Draw a picture of some edges of a trace.
+    Show {
+        /// The file of the boards.
+        scenario: &'a str,
+        /// The file of the edges.
+        trace: &'a str,
+        /// The first edge of the picture, counted from 1.
+        from: u64,
+        /// The last one, not before the first, and fewer than [`MOST_SHOWN`] after it.
+        to: u64,
+        /// Whether refused edges and deliveries are painted.
+        color: bool,
+    },
+    /// Count what a trace exercised.
+    Summary {
+        /// The file of the boards.
+        scenario: &'a str,
+        /// The file of the edges.
+        trace: &'a str,
+    },
     /// Let the drivers make edges in turn.
     Drive {
         /// The file of the boards.
         scenario: &'a str,
         /// The most edges to make, 1 to [`MOST_EDGES`].
         edges: u32,
+        /// The version of the rules.
+        version: Version,
+    },
+    /// Draw edges by lot from all that are open to the drivers.
+    Draw {
+        /// The file of the boards.
+        scenario: &'a str,
+        /// The most edges to make, 1 to [`MOST_EDGES`].
+        edges: u32,
+        /// What the lots are drawn by.
+        seed: u64,
         /// The version of the rules.
         version: Version,
     },
@@ -101,11 +138,12 @@ fn number_of(operands: &ArgMatches<'_>, name: &str, most: u32) -> Option<u32>
     }
 }
 
-/// The place in a trace that the option of that name spells, where it is `least` or more; none where it is not given.
-fn place_of(operands: &ArgMatches<'_>, name: &str, least: u64) -> Option<Option<u64>>
-    ensures within { IfSome result (λ place. IfSome place (λ n. least ≤ n)) }
-    ensures spelled { IfSome result (λ place.
-        spelled name.now (rows_of (found_of operands.now)) ≡ place) }
+/// The whole number of 64 bits that the option of that name spells, where it is `least` or more;
+/// none where it is not given.
+fn whole_of(operands: &ArgMatches<'_>, name: &str, least: u64) -> Option<Option<u64>>
+    ensures within { IfSome result (λ whole. IfSome whole (λ n. least ≤ n)) }
+    ensures spelled { IfSome result (λ whole.
+        spelled name.now (rows_of (found_of operands.now)) ≡ whole) }
 {
     match operands.try_get_one::<u64>(name) {
         Ok(None) => Some(None),
@@ -135,7 +173,7 @@ fn explain_of<'a>(scenario: &'a str, operands: &ArgMatches<'a>) -> Option<Job<'a
     Some(Job::Explain {
         scenario,
         trace: file_of(operands, "TRACE")?,
-        edge: place_of(operands, "edge", 1)?,
+        edge: whole_of(operands, "edge", 1)?,
     })
 }
 
@@ -148,20 +186,75 @@ fn state_of<'a>(scenario: &'a str, operands: &ArgMatches<'a>) -> Option<Job<'a>>
     Some(Job::State {
         scenario,
         trace: file_of(operands, "TRACE")?,
-        after: place_of(operands, "after", 0)?,
+        after: whole_of(operands, "after", 0)?,
     })
 }
 
-/// A drive of the scenario, with its other operands.
+/// Whether the flag of that name is given.
+fn is_flagged(operands: &ArgMatches<'_>, name: &str) -> bool
+    ensures { IsFlag name.now (rows_of (found_of operands.now)) result }
+{
+    operands.get_one(name).unwrap_or(false)
+}
+
+/// The first edge of a picture.
+fn first_of(from: Option<u64>, to: Option<u64>) -> u64
+    requires { IfSome from (λ n. 1 ≤ n) }
+    ensures counted { 1 ≤ result }
+    ensures shown { result ≡ first_shown from to }
+{
+    match (from, to) {
+        (Some(from), _) => from,
+        (None, Some(to)) => to.saturating_sub(SHOWN - 1).max(1),
+        (None, None) => 1,
+    }
+}
+
+/// The last edge of a picture that begins with that edge.
+fn last_of(to: Option<u64>, first: u64) -> u64
+    ensures { result ≡ last_shown to first }
+{
+    to.unwrap_or(first.saturating_add(SHOWN - 1))
+}
+
+/// A picture of the scenario's trace, with its other operands. Its window is not judged yet.
+fn show_of<'a>(scenario: &'a str, operands: &ArgMatches<'a>) -> Option<Job<'a>>
+    ensures within { IfSome result IsCounted }
+    ensures asked { IsFile (codes "SCENARIO") (rows_of (found_of operands.now)) scenario.now
+        → IfSome result (AsksFor (codes "show") (rows_of (found_of operands.now))) }
+{
+    let trace = file_of(operands, "TRACE")?;
+    let to = whole_of(operands, "to", 1)?;
+    let from = first_of(whole_of(operands, "from", 1)?, to);
+    Some(Job::Show {
+        scenario,
+        trace,
+        from,
+        to: last_of(to, from),
+        color: is_flagged(operands, "color"),
+    })
+}
+
+/// A drive of the scenario, with its other operands: drawn where there is a seed, and else in turn.
 fn drive_of<'a>(scenario: &'a str, operands: &ArgMatches<'a>) -> Option<Job<'a>>
     ensures within { IfSome result IsWithin }
     ensures asked { IsFile (codes "SCENARIO") (rows_of (found_of operands.now)) scenario.now
         → IfSome result (AsksFor (codes "drive") (rows_of (found_of operands.now))) }
 {
-    Some(Job::Drive {
-        scenario,
-        edges: number_of(operands, "edges", MOST_EDGES)?,
-        version: version_of(operands)?,
+    let edges = number_of(operands, "edges", MOST_EDGES)?;
+    let version = version_of(operands)?;
+    Some(match whole_of(operands, "seed", 0)? {
+        Some(seed) => Job::Draw {
+            scenario,
+            edges,
+            seed,
+            version,
+        },
+        None => Job::Drive {
+            scenario,
+            edges,
+            version,
+        },
     })
 }
 
@@ -181,7 +274,7 @@ fn run_of<'a>(scenario: &'a str, operands: &ArgMatches<'a>) -> Option<Job<'a>>
 
 /// The job of a command's name, with its operands.
 fn job_of<'a>(name: &str, operands: &ArgMatches<'a>) -> Option<Job<'a>>
-    ensures within { IfSome result IsWithin }
+    ensures within { IfSome result IsCounted }
     ensures asked { IfSome result (AsksFor name.now (rows_of (found_of operands.now))) }
 {
     let scenario = file_of(operands, "SCENARIO")?;
@@ -196,6 +289,11 @@ fn job_of<'a>(name: &str, operands: &ArgMatches<'a>) -> Option<Job<'a>>
         }),
         "explain" => explain_of(scenario, operands),
         "state" => state_of(scenario, operands),
+        "show" => show_of(scenario, operands),
+        "summary" => Some(Job::Summary {
+            scenario,
+            trace: file_of(operands, "TRACE")?,
+        }),
         "drive" => drive_of(scenario, operands),
         "run" => run_of(scenario, operands),
         _ => None,
@@ -204,7 +302,7 @@ fn job_of<'a>(name: &str, operands: &ArgMatches<'a>) -> Option<Job<'a>>
 
 /// The job that the command of a parse asks for.
 fn job_in<'a>(matches: &ArgMatches<'a>) -> Option<Job<'a>>
-    ensures within { IfSome result IsWithin }
+    ensures within { IfSome result IsCounted }
     ensures asked { IfSome result (λ job.
         IsSomeAnd (subcommand_rows_of matches.now) (λ met. AsksFor met.0 met.1 job)) }
 {
@@ -223,7 +321,7 @@ fn parsed<'a>(alloc: Global, words: &'a [&'a str]) -> Result<ArgMatches<'a>, Err
 
 /// The job that words ask for, where they name a command.
 fn asked<'a>(alloc: Global, words: &'a [&'a str]) -> Result<Option<Job<'a>>, Error>
-    ensures within { IfOk result (λ job. IfSome job IsWithin) }
+    ensures within { IfOk result (λ job. IfSome job IsCounted) }
     ensures asked { IfOk result (λ job. IfSome job (λ found.
         IsSomeAnd (subcommand_of commands_said (texts_of words.entry.now))
         (λ met. AsksFor met.0 met.1 found))) }
@@ -239,6 +337,33 @@ fn missing(alloc: Global) -> Result<Error, AllocError>
     commands(alloc)?.error(ErrorKind::MissingSubcommand, "a command is missing")
 }
 
+/// The error where a picture does not end with one of the edges that it may end with.
+fn no_window(alloc: Global, from: u64, to: u64) -> Result<Error, AllocError>
+    ensures { IfOk result (λ error. kind_of error ≡ ErrorKind.ValueValidation) }
+{
+    let most = from.saturating_add(MOST_SHOWN - 1);
+    let text = format!(in alloc;
+        "invalid value '{to}' for '--to <B>': {to} is not in {from}..={most}"
+    )?;
+    show(alloc)?.error(ErrorKind::ValueValidation, &text)
+}
+
+/// The job, where it is no picture, or its picture is of a window.
+fn windowed<'a>(alloc: Global, job: Job<'a>) -> Result<Job<'a>, Error>
+    requires { IsCounted job }
+    ensures within { IfOk result IsWithin }
+    ensures same { IfOk result (λ found. found ≡ job.entry) }
+    ensures refused { IfErr result (λ error. (kind_of error ≡ ErrorKind.OutOfMemory)
+        ⊎ ((kind_of error ≡ ErrorKind.ValueValidation) × HasNoWindow job.entry)) }
+{
+    match job {
+        Job::Show { from, to, .. } if to < from || to - from >= MOST_SHOWN => {
+            Err(no_window(alloc, from, to)?)
+        }
+        _ => Ok(job),
+    }
+}
+
 /// The job that the words after the program's name ask for.
 ///
 /// No words ask for [`Job::Joined`]. An error's `Display` is the text for the user; a call for help is one too.
@@ -249,14 +374,16 @@ pub fn words<'a>(alloc: Global, words: &'a [&'a str]) -> Result<Job<'a>, Error>
         (length words.entry.now ≡ 0) ⊎ (fault_of commands_said (texts_of words.entry.now) ≡ [])) }
     ensures refused { IfErr result (λ error. IsAmong (kind_of error)
         (ErrorKind.OutOfMemory ∷ ErrorKind.MissingSubcommand
-        ∷ fault_of commands_said (texts_of words.entry.now))) }
+        ∷ fault_of commands_said (texts_of words.entry.now))
+        ⊎ ((kind_of error ≡ ErrorKind.ValueValidation)
+        × AskForNoWindow (texts_of words.entry.now))) }
     ensures joined { (result ≡ Ok Job.Joined) ↔ (length words.entry.now ≡ 0) }
 {
     if words.is_empty() {
         return Ok(Job::Joined);
     }
     match asked(alloc, words)? {
-        Some(job) => Ok(job),
+        Some(job) => windowed(alloc, job),
         None => Err(missing(alloc)?),
     }
 }

@@ -1,13 +1,15 @@
 use Rattle.std.proofs.Common.{[], ◌∷◌, ap, refl, codes}
 use Rattle.std.proofs.lemmas.Result.{IfOk-weaker}
 use Rattle.clap.specs.Words.{App}
-use Rattle.vme_words.specs.Commands.{edges, leaf, version}
+use Rattle.vme_words.specs.Commands.{edges, leaf, seed, version}
 use Rattle.vme_words.proofs.commands.drive.Goals as goal
 
 pub returns : goal.returns
 returns c =
     let with_edges = IfOk-weaker c.taking-command.result _ _
     (λ made adds. adds (leaf (codes "drive") []) edges c.command-command.ensures c.edges_option.ensures refl) c.taking-command.ensures in
+    let with_seed = IfOk-weaker c.taking-command-2.result _ _
+    (λ made adds. adds (leaf (codes "drive") (edges ∷ [])) seed with_edges c.seed_option.ensures refl) c.taking-command-2.ensures in
     IfOk-weaker c.taking.result _ _
-    (λ made adds. ap (λ (a : App). a.top) (adds (leaf (codes "drive") (edges ∷ [])) version with_edges c.version_option.ensures refl))
+    (λ made adds. ap (λ (a : App). a.top) (adds (leaf (codes "drive") (edges ∷ seed ∷ [])) version with_seed c.version_option.ensures refl))
     c.taking.ensures
