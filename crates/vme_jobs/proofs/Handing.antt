@@ -53,9 +53,9 @@ drive_done scenario text edges version old new answer does =
     (Keeps old new) scenario answer (text, does) (λ h. absurd h.1) (λ h. h.1.1)
 
 pub draw_done : (scenario : Bor (List ℕ)) (text : List ℕ) (edges seed : ℕ) (version : Version) (old new : Known) (answer : Answer)
-    → Lent text (Keeps old new) (Draws version edges seed old new) answer → IsDone (Draw scenario edges seed version) old new (told_answer scenario answer)
+    → Lent text (Keeps old new) (Draws version seed edges old new) answer → IsDone (Draw scenario edges seed version) old new (told_answer scenario answer)
 draw_done scenario text edges seed version old new answer does =
-    handed (λ a. (t : List ℕ) × Lent t (Keeps old new) (Draws version edges seed old new) a)
+    handed (λ a. (t : List ℕ) × Lent t (Keeps old new) (Draws version seed edges old new) a)
     (Keeps old new) scenario answer (text, does) (λ h. absurd h.1) (λ h. h.1.1)
 
 -- a file that cannot be read, or a scenario that is too long, or no memory, before an engine begins
