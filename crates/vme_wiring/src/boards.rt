@@ -122,7 +122,7 @@ impl Board {
 
     /// E2 and E3 for an edge of one of its wires, by the part that drives it. E1 comes first, so that it is asked for no
     /// other.
-    // Without a hint: inlined here, `judge` would be too large to be inlined where it is asked.
+    #[inline(always)]
     pub fn may(&self, edge: Edge, pins: &Pins, chains: &Chains) -> Result<(), Refused>
         ensures { OfParts self.now (λ version p h r.
             IsAsked p h r (seen_by chains.now pins.now self.now.row) edge
