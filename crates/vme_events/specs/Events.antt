@@ -1,10 +1,9 @@
 -- Situations that an accepted edge brings about: each is a test of the edge, and of the history
 -- before it. (The words are those of chapters 2 to 4; which situations have a name is this project's
 -- profile.)
-use Rattle.std.specs.Prelude.{◌==◌, ◌&&◌, ◌+◌, ℕ, Bool, true, false, not, if◌then◌else◌, Option, Some, None, List, [], ◌∷◌, codes, length, nat_lt, filter}
+use Rattle.std.specs.Prelude.{◌==◌, ◌&&◌, ◌+◌, ◌-◌, ℕ, Bool, true, false, not, if◌then◌else◌, Option, Some, None, List, [], ◌∷◌, codes, length, nat_lt, filter}
 use Rattle.std.specs.List.{list_any}
 use Rattle.std.specs.Option.{option_map_or, option_and_then}
-use Rattle.vme_model.specs.declared.boards.Row.{Row}
 use Rattle.vme_model.specs.declared.boards.Release.{Release}
 use Rattle.vme_model.specs.declared.boards.Release.TheVariants.{Done, Request}
 use Rattle.vme_model.specs.declared.boards.IrqKind.TheVariants.{Roak}
@@ -17,14 +16,14 @@ use Rattle.vme_model.specs.declared.signals.Cycle.{Cycle}
 use Rattle.vme_model.specs.declared.signals.Cycle.TheVariants.{Access}
 use Rattle.vme_model.specs.declared.signals.Edge.{Edge}
 use Rattle.vme_model.specs.Signals.{is_two, is_same_driver, is_same_wire, is_fall_of, is_grant_wire, is_acknowledge}
-use Rattle.vme_model.specs.Plan.{Plan, board_of}
+use Rattle.vme_model.specs.Plan.{Plan, board_of, up_to}
 use Rattle.vme_model.specs.History.{drive, line, shown, served_since_request, cycles}
 use Rattle.vme_model.specs.Readings.{pending}
 use Rattle.vme_events.specs.declared.events.Event.{Event}
 use Rattle.vme_events.specs.declared.events.Event.TheVariants as event
 
 -- all of them, in the order in which they are told
-abbrev pub all_events : List Event
+unfoldable pub all_events : List Event
 all_events =
     event.GrantPassed ∷ event.LateRequest ∷ event.Overtaken ∷ event.EarlyRelease ∷ event.Overlap
     ∷ event.FullBurst ∷ event.BusClear ∷ event.Rivals ∷ event.Delivery ∷ event.IackPassed
@@ -72,18 +71,18 @@ abbrev pub fell_at : List Edge → Driver → Wire → ℕ
 fell_at [] d w = 0
 fell_at (e ∷ h) d w = if is_fall_of d w e then length h + 1 else fell_at h d w
 
--- the board's request is low, and was made before that of the driver
-abbrev pub asked_before : List Edge → Driver → Row → Bool
-asked_before h d r =
-    drive h (Slot r.slot) Br && nat_lt (fell_at h (Slot r.slot) Br) (fell_at h d Br)
+-- the slot's request is low, and was made before that of the driver
+abbrev pub asked_before : List Edge → Driver → ℕ → Bool
+asked_before h d s =
+    drive h (Slot s) Br && nat_lt (fell_at h (Slot s) Br) (fell_at h d Br)
 
--- the driver's own request is low, as it is where it takes the bus, and another's is older
+-- the driver's own request is low, as it is where it takes the bus, and a slot's is older
 abbrev pub overtakes : Plan → List Edge → Driver → Bool
-overtakes p h d = drive h d Br && list_any (asked_before h d) p.rows
+overtakes p h d = drive h d Br && list_any (asked_before h d) (up_to p.slots)
 
--- one more cycle makes as many as a burst above 1 has (RWD, chapter 3)
+-- with one more cycle the tenure has as many as a burst above 1 (RWD, chapter 3)
 abbrev pub is_filled : ℕ → Release → Bool
-is_filled cycles (Done burst) = nat_lt 1 burst && (cycles + 1 == burst)
+is_filled cycles (Done burst) = nat_lt 1 burst && (cycles == burst - 1)
 is_filled cycles Request = false
 
 abbrev pub fills_burst : Plan → List Edge → Driver → Bool
@@ -91,13 +90,13 @@ fills_burst p h d =
     option_map_or (λ q. is_filled (cycles h d) q.release)
     (option_and_then (λ r. r.requester) (board_of p d)) false
 
--- a board other than the driver's is pending at the level (chapter 4)
-abbrev pub is_rival : Plan → List Edge → Driver → ℕ → Row → Bool
-is_rival p h d level r = not (is_same_driver (Slot r.slot) d) && pending p h r.slot level
+-- a slot other than the driver's is pending at the level (chapter 4)
+abbrev pub is_rival : Plan → List Edge → Driver → ℕ → ℕ → Bool
+is_rival p h d level s = not (is_same_driver (Slot s) d) && pending p h s level
 
 abbrev pub has_rival : Plan → List Edge → Driver → Bool
 has_rival p h d =
-    option_map_or (λ i. list_any (is_rival p h d i.level) p.rows)
+    option_map_or (λ i. list_any (is_rival p h d i.level) (up_to p.slots))
     (option_and_then (λ r. r.interrupter) (board_of p d)) false
 
 -- The table: what the edge is, and what the wires are before it.

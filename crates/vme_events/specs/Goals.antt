@@ -69,7 +69,7 @@ interrupters_misses =
     ++ conditions_of 26 (condition.DataStrobeHigh ∷ [])
 
 -- the conditions of G1 to G26, and S1 to S4
-abbrev pub all_misses : List Miss
+unfoldable pub all_misses : List Miss
 all_misses =
     controllers_misses ++ requesters_misses ++ masters_misses ++ interrupters_misses
     ++ miss.Settling 1 ∷ miss.Settling 2 ∷ miss.Settling 3 ∷ miss.Settling 4 ∷ []
@@ -94,7 +94,7 @@ has_miss version (miss.Rule k c) = not (is_two version) || not (k == 2 || k == 1
 has_miss version (miss.Unserved kind) = true
 has_miss version (miss.Settling k) = is_two version || nat_le k 2
 
-abbrev pub all_goals : List Goal
+unfoldable pub all_goals : List Goal
 all_goals = map (λ e. goal.Event e) all_events ++ map (λ m. goal.Miss m) all_misses
 
 abbrev pub goal_text : Goal → List ℕ
@@ -106,6 +106,10 @@ abbrev pub has_goal : Version → Goal → Bool
 has_goal version (goal.Event e) = has_event version e
 has_goal version (goal.Miss m) = has_miss version m
 
--- the goal that a word names, if the version can come to one
+-- the words name it, and the version can come to it
+abbrev pub is_named : List ℕ → Version → Goal → Bool
+is_named words version g = has_goal version g && bytes_eq words (goal_text g)
+
+-- the goal that words name, if they name one that the version can come to
 abbrev pub goal_of : List ℕ → Version → Option Goal
-goal_of text version = find (λ g. has_goal version g && bytes_eq text (goal_text g)) all_goals
+goal_of words version = find (is_named words version) all_goals

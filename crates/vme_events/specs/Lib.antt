@@ -6,3 +6,7 @@ pub mod Misses
 pub mod Goals
 -- believe: a history whose edges have their places as numbers, and numbers that grow
 pub mod Places
+-- words: what holds of a backplane and the marks of its edges, whose numbers grow
+pub mod Ordered
+-- words: the situations that an edge brings about, by its wire
+pub mod Brought

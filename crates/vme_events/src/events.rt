@@ -42,6 +42,25 @@ pub enum Event {
 }
 
 impl Event {
+    /// All of them, in their order.
+    pub const ALL: [Event; 15] = [
+        Event::GrantPassed,
+        Event::LateRequest,
+        Event::Overtaken,
+        Event::EarlyRelease,
+        Event::Overlap,
+        Event::FullBurst,
+        Event::BusClear,
+        Event::Rivals,
+        Event::Delivery,
+        Event::IackPassed,
+        Event::AnsweredAgain,
+        Event::Spurious,
+        Event::BusError,
+        Event::Withdrawn,
+        Event::GrantTimeout,
+    ];
+
     /// How it is called.
     pub fn name(self) -> &'static str
         ensures text { result.now ≡ event_text self }

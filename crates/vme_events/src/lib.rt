@@ -2,10 +2,14 @@
 //! condition alone refuses.
 #![tactic(auto)]
 
+mod before;
+mod brought;
 mod events;
 mod goals;
 mod misses;
+mod wires;
 
+pub use brought::{comes, events_of};
 pub use events::Event;
-pub use goals::Goal;
+pub use goals::{Goal, goal_of};
 pub use misses::Miss;
