@@ -10,3 +10,5 @@ pub mod ByWire
 pub mod Waiting
 -- `comes`: a situation is one of those that an edge brings about where its test holds
 pub mod Contained
+-- `searches`: an edge to the state that its wire is in, and a search as far as it has come
+pub mod Searched

@@ -10,3 +10,5 @@ pub mod Places
 pub mod Ordered
 -- words: the situations that an edge brings about, by its wire
 pub mod Brought
+-- words: edges to either state of a wire, and what refuses an edge
+pub mod Turned

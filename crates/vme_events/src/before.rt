@@ -39,7 +39,7 @@ fn requester_of(backplane: &Backplane, driver: Driver) -> Option<RequesterRow>
 }
 
 /// Its interrupter.
-fn interrupter_of(backplane: &Backplane, driver: Driver) -> Option<InterrupterRow>
+pub(crate) fn interrupter_of(backplane: &Backplane, driver: Driver) -> Option<InterrupterRow>
     ensures { result
         ≡ option_and_then (λ r. r.interrupter) (board_of backplane.now.plan driver) }
 {

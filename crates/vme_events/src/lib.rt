@@ -6,10 +6,13 @@ mod before;
 mod brought;
 mod events;
 mod goals;
+pub mod laws;
 mod misses;
+mod searches;
 mod wires;
 
 pub use brought::{comes, events_of};
 pub use events::Event;
 pub use goals::{Goal, goal_of};
 pub use misses::Miss;
+pub use searches::miss;
