@@ -1,12 +1,11 @@
 -- The first goal that words name is the first situation that they name, or else the first miss.
-use Rattle.std.proofs.Common.{◌≡◌, ◌∙◌, refl, sym, ap, ℕ, Bool, true, false, List, [], ◌∷◌, ◌++◌, map, Option, Some, None}
+use Rattle.std.proofs.Common.{◌≡◌, ◌∙◌, refl, ap, ℕ, Bool, true, false, List, [], ◌∷◌, map, Option, Some, None}
 use Rattle.std.specs.Prelude.{if◌then◌else◌, find, option_map}
 use Rattle.std.specs.Option.{option_or}
 use Rattle.std.proofs.lemmas.List.Folds.{find-append}
 use Rattle.vme_model.specs.declared.signals.Version.{Version}
 use Rattle.vme_events.specs.declared.events.Event.{Event}
 use Rattle.vme_events.specs.declared.misses.Miss.{Miss}
-use Rattle.vme_events.specs.declared.goals.Goal.{Goal}
 use Rattle.vme_events.specs.declared.goals.Goal.TheVariants as goal
 use Rattle.vme_events.specs.Events.{all_events}
 use Rattle.vme_events.specs.Goals.{all_goals, all_misses, goal_of, is_named}

@@ -1,6 +1,6 @@
 -- `searches`: an edge to the state that its wire is in is refused by E2, and a search as far as it has
 -- come.
-use Rattle.std.proofs.Common.{◌≡◌, ◌∙◌, ℕ, suc, ◌+◌, ◌<◌, ◌≤◌, Bool, true, false, List, [], ◌∷◌, ◌++◌, map, drop, get_or, length, Option, Some, None, refl, sym, ap, arith}
+use Rattle.std.proofs.Common.{◌≡◌, ◌∙◌, ℕ, ◌+◌, ◌<◌, ◌≤◌, Bool, true, false, List, [], ◌∷◌, ◌++◌, map, drop, get_or, length, Option, Some, None, refl, sym, ap}
 use Rattle.std.specs.Prelude.{◌&&◌, if◌then◌else◌, not, find, option_map, is_some, Ok, Err}
 use Rattle.std.specs.Result.{result_err}
 use Rattle.std.specs.List.{flat_map}
@@ -21,7 +21,7 @@ use Rattle.vme_model.specs.Offers.{turned}
 use Rattle.vme_model.specs.Open.{moves, showing, acknowledges, accesses}
 use Rattle.vme_model.specs.Plan.{board_of}
 use Rattle.vme_model.specs.Failing.{unmet}
-use Rattle.vme_model.specs.Verdict.{State, Judgement, check, is_other_state, verdict}
+use Rattle.vme_model.specs.Verdict.{State, Judgement, check, is_other_state}
 use Rattle.vme_events.specs.declared.misses.Miss.{Miss}
 use Rattle.vme_events.specs.declared.misses.Miss.TheVariants as miss
 use Rattle.vme_events.specs.Misses.{fails_rule, fails_settling, has_kind, is_alone, refuses}

@@ -1,23 +1,16 @@
 -- `before`: a search of the slots, a burst, and what a board has answered.
-use Rattle.std.proofs.Common.{◌≡◌, ◌∙◌, ℕ, zero, suc, ◌+◌, ◌-◌, ◌<◌, ◌≤◌, Bool, true, false, List, [], ◌∷◌, Option, Some, None, refl, sym, ap, arith, inl, inr, add-one}
-use Rattle.std.specs.Prelude.{◌&&◌, ◌||◌, ◌==◌, if◌then◌else◌, nat_lt, is_some}
+use Rattle.std.proofs.Common.{◌≡◌, ◌∙◌, ℕ, zero, suc, ◌+◌, ◌<◌, Bool, true, false, [], ◌∷◌, Some, None, refl, sym, ap, arith, inl, inr, add-one}
+use Rattle.std.specs.Prelude.{◌&&◌, ◌||◌, if◌then◌else◌}
 use Rattle.std.specs.List.{list_any}
-use Rattle.std.specs.Option.{option_map_or, option_and_then, option_or}
 use Rattle.std.proofs.lemmas.Bool.{cases_lt}
-use Rattle.std.proofs.lemmas.Bool.Decides.{nat_tests}
 use Rattle.std.proofs.lemmas.List.Folds.{list_any-append}
 use Rattle.vme_model.specs.declared.boards.IrqKind.{IrqKind}
-use Rattle.vme_model.specs.declared.boards.RequesterRow.{RequesterRow}
-use Rattle.vme_model.specs.declared.boards.Release.TheVariants.{Done}
 use Rattle.vme_model.specs.declared.signals.Driver.{Driver}
-use Rattle.vme_model.specs.declared.signals.Wire.{Wire}
 use Rattle.vme_model.specs.declared.signals.Wire.TheVariants.{Irq, Dtack}
-use Rattle.vme_model.specs.declared.signals.Edge.{Edge}
 use Rattle.vme_model.specs.Signals.{is_edge_of, is_fall_of}
-use Rattle.vme_model.specs.Plan.{Plan, board_of, up_to}
-use Rattle.vme_model.specs.History.{cycles, serves, served_since_request, shown}
-use Rattle.vme_model.specs.Numbered.{Numbered, edges_in, since, served_since}
-use Rattle.vme_events.specs.Events.{fills_burst, is_filled}
+use Rattle.vme_model.specs.Plan.{Plan, up_to}
+use Rattle.vme_model.specs.History.{serves, served_since_request, shown}
+use Rattle.vme_model.specs.Numbered.{Numbered, edges_in, since}
 
 -- none of the slots so far passes the test
 pub none_passes : (test : ℕ → Bool) (i : ℕ) → list_any test (up_to i) ≡ false → test (i + 1) ≡ false → list_any test (up_to (i + 1)) ≡ false

@@ -1,6 +1,5 @@
 -- What a trace can be drawn to come to, and its words. (Profile.)
-use Rattle.std.specs.Prelude.{◌==◌, ◌&&◌, ◌||◌, ℕ, Bool, true, not, Option, Some, None, List, [], ◌∷◌, ◌++◌, codes, decimal, nat_le, map, find, unwrap_or}
-use Rattle.std.specs.List.{flat_map}
+use Rattle.std.specs.Prelude.{◌==◌, ◌&&◌, ◌||◌, ℕ, Bool, true, not, Option, List, [], ◌∷◌, ◌++◌, codes, decimal, nat_le, map, find, unwrap_or}
 use Rattle.std.specs.Str.{bytes_eq}
 use Rattle.vme_model.specs.declared.boards.IrqKind.TheVariants.{Roak, Rora}
 use Rattle.vme_model.specs.declared.conditions.Condition.{Condition}

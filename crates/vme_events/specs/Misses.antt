@@ -1,5 +1,5 @@
 -- Edges that one condition alone refuses. (Profile.)
-use Rattle.std.specs.Prelude.{◌==◌, ◌&&◌, ℕ, Bool, true, false, Option, Ok, Err, List, [], ◌∷◌, find}
+use Rattle.std.specs.Prelude.{◌==◌, ◌&&◌, ℕ, Bool, true, false, Option, Err, List, [], ◌∷◌, find}
 use Rattle.std.specs.List.{flat_map}
 use Rattle.std.specs.Option.{option_map_or, option_and_then}
 use denote.Enum.Bare.{sameb}

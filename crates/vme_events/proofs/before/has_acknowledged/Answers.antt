@@ -1,8 +1,8 @@
-use Rattle.std.proofs.Common.{◌∙◌, sym, ap, ◌≡◌, false, true}
+use Rattle.std.proofs.Common.{◌∙◌, sym, ap}
 use Rattle.std.specs.Prelude.{is_some}
 use Rattle.vme_model.specs.declared.boards.IrqKind.TheVariants.{Roak}
 use Rattle.vme_model.specs.declared.signals.Wire.TheVariants.{Dtack}
-use Rattle.vme_model.specs.declared.signals.Driver.TheVariants.{Controller, Slot}
+use Rattle.vme_model.specs.declared.signals.Driver.TheVariants.{Slot}
 use Rattle.vme_model.specs.Signals.{has_wire}
 use Rattle.vme_model.specs.History.{served_since_request}
 use Rattle.vme_model.proofs.Numbers.{served_has_since}

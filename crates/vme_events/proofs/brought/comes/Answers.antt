@@ -1,6 +1,5 @@
-use Rattle.std.proofs.Common.{◌∙◌, ap, List}
+use Rattle.std.proofs.Common.{◌∙◌, ap}
 use Rattle.std.specs.List.{list_any}
-use Rattle.vme_events.specs.declared.events.Event.{Event}
 use Rattle.vme_events.specs.Brought.{is_same_event}
 use Rattle.vme_events.specs.Events.{comes}
 use Rattle.vme_events.proofs.Contained.{among_all}

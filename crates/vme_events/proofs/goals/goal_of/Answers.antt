@@ -1,4 +1,4 @@
-use Rattle.std.proofs.Common.{◌≡◌, ◌∙◌, ap, sym, refl, Some}
+use Rattle.std.proofs.Common.{◌∙◌, ap, sym}
 use Rattle.std.specs.Prelude.{option_map}
 use Rattle.vme_events.specs.declared.goals.Goal.TheVariants as goal_variant
 use Rattle.vme_events.specs.Events.{all_events}

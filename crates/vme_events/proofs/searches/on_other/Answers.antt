@@ -1,6 +1,5 @@
-use Rattle.std.proofs.Common.{◌≡◌, ◌∙◌, ap, sym, true, false, Some}
+use Rattle.std.proofs.Common.{◌∙◌, ap, sym, Some}
 use Rattle.vme_events.specs.Misses.{refuses}
-use Rattle.vme_events.specs.Turned.{turned_to}
 use Rattle.vme_events.proofs.Searched.{fall_found, neither_found, rise_found}
 use Rattle.vme_events.proofs.searches.on_other.Goals as goal
 

@@ -1,4 +1,4 @@
-use Rattle.std.proofs.Common.{rules, ◌≡◌, ◌∙◌, ap, sym, ℕ, List, Bool}
+use Rattle.std.proofs.Common.{◌∙◌, ap, sym, ℕ, List, Bool}
 use Rattle.std.specs.Prelude.{◌&&◌}
 use Rattle.std.specs.Str.{bytes_eq}
 use Rattle.vme_events.specs.Goals.{goal_text}
