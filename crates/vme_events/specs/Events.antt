@@ -1,6 +1,6 @@
 -- Situations that an accepted edge brings about: each is a test of the edge, and of the history
--- before it. (The words are those of chapters 2 to 4; which situations have a name is this project's
--- profile.)
+-- before it. (The words are those of chapters 2 to 4; which situations have a name is this
+-- project's profile.)
 use Rattle.std.specs.Prelude.{◌==◌, ◌&&◌, ◌+◌, ◌-◌, ℕ, Bool, true, false, not, if◌then◌else◌, Option, Some, List, [], ◌∷◌, codes, length, nat_lt, filter}
 use Rattle.std.specs.List.{list_any}
 use Rattle.std.specs.Option.{option_map_or, option_and_then}

@@ -55,8 +55,8 @@ refuses b (miss.Unserved kind) e =
     fails_rule 22 (verdict b e) && has_kind kind (board_of b.plan e.driver)
 refuses b (miss.Settling k) e = fails_settling k (verdict b e)
 
--- every edge that moves a wire to its other state: by driver, the controller first, then by slot; by
--- wire in the order of offers; of an address group that goes on by acknowledges, then by accesses
+-- every edge that moves a wire to its other state: by driver, the controller first, then by slot;
+-- by wire in the order of offers; of an address group that goes on by acknowledges, then by accesses
 abbrev pub all_moves : State → List Edge
 all_moves b = flat_map (λ d. flat_map (moves b.history d) (wires d)) (drivers b.plan)
 

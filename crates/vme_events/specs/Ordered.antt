@@ -1,5 +1,5 @@
--- What holds of all numbered edges that the marks are of, where these are the edges of a backplane and
--- their numbers grow.
+-- What holds of all numbered edges that the marks are of, where these are the edges of a backplane
+-- and their numbers grow.
 use Rattle.std.specs.Prelude.{◌≡◌, ℕ}
 use Rattle.vme_model.specs.Verdict.{State}
 use Rattle.vme_model.specs.Numbered.{Numbered, edges_in}

@@ -8,7 +8,8 @@ abbrev pub by_place : List Edge → Numbered
 by_place [] = []
 by_place (e ∷ h) = (length h + 1, e) ∷ by_place h
 
--- the newest edge has a number below n, and each other one a number below that of the edge behind it
+-- the newest edge has a number below n, and each other one a number below that of the edge after
+-- it
 abbrev pub AreBelow : ℕ → Numbered → Type 0
 AreBelow n [] = Unit {0}
 AreBelow n ((m, e) ∷ k) = (m < n) × AreBelow m k

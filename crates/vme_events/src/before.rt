@@ -56,7 +56,8 @@ fn asked_at(backplane: &Backplane, marks: &Marks, driver: Driver) -> u64
 
 /// Whether the slot waits for the bus, and requested it before the driver, whose request is low.
 fn asked_before(backplane: &Backplane, marks: &Marks, driver: Driver, slot: u8) -> bool
-    ensures { OfOrdered backplane.now marks.now (λ _. drive backplane.now.history driver Wire.Br ≡ true
+    ensures { OfOrdered backplane.now marks.now (λ _.
+        drive backplane.now.history driver Wire.Br ≡ true
         → result ≡ asked_before backplane.now.history driver slot) }
 {
     let other = Driver::Slot(slot);

@@ -68,9 +68,9 @@ fn miss_of(misses: &[Miss], words: &str, version: Version) -> Option<Miss>
         .find(|miss| Goal::Miss(*miss).is_named(words, version))
 }
 
-/// The goal that these words name: a situation by its name, a condition as `G13 own br is low`, with N
-/// for a level, or a settling rule as `S2`. None where no goal has these words, or where the version
-/// of the rules cannot come to it.
+/// The goal that these words name: a situation by its name, a condition as `G13 own br is low`, with
+/// N for a level, or a settling rule as `S2`. None where no goal has these words, or where the
+/// version of the rules cannot come to it.
 pub fn goal_of(words: &str, version: Version) -> Option<Goal>
     ensures { result ≡ goal_of words.now version }
 {

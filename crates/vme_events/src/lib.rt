@@ -1,5 +1,5 @@
-//! Situations that a trace can come to: those that an accepted edge brings about, and edges that one
-//! condition alone refuses.
+//! Situations that a trace can come to: those that an accepted edge brings about, and edges that
+//! one condition alone refuses.
 #![tactic(auto)]
 
 mod before;

@@ -261,9 +261,9 @@ fn of_drivers(backplane: &Backplane, miss: Miss, drivers: &[Driver]) -> Option<E
     None
 }
 
-/// The first edge that this alone refuses, of all that move a wire to its other state: by driver, the
-/// controller first, then by slot; by wire in the order of offers; of an address group that goes on by
-/// acknowledges, then by accesses. None where there is none.
+/// The first edge that this alone refuses, of all that move a wire to its other state: by driver,
+/// the controller first, then by slot; by wire in the order of offers; of an address group that
+/// goes on by acknowledges, then by accesses. None where there is none.
 ///
 /// It tries some 800 edges at most.
 pub fn miss(backplane: &Backplane, miss: Miss) -> Option<Edge>
