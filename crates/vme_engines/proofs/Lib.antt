@@ -30,6 +30,10 @@ pub mod FollowedEdges
 pub mod ToldPieces
 -- what is told of the whole trace: `explains::explain_trace`, `states::state_trace`
 pub mod ToldTraces
+-- what is shown of a trace, edge by edge and piece by piece: src/shows.rt
+pub mod ShownPieces
+-- what is shown of the whole trace: `shows::show_trace`
+pub mod ShownTraces
 -- the trace of a legal list is what a check calls legal: src/laws.rt, `drives::drive`
 pub mod LegalTrace
 -- the rounds of a drive, and the lines of what it made: src/drives.rt

@@ -9,12 +9,14 @@ pub mod Outcomes
 pub mod Joining
 -- believe, for `check`, `drive` and `explain`: what is found in a trace, and what a check leaves
 pub mod Checking
--- believe, for `explain` and `state`: a fault of a trace before what they wait for
+-- believe, for `explain`, `state` and `show`: a fault of a trace before what they wait for
 pub mod Waiting
 -- believe, for `explain` alone: which edge is explained, and what that leaves
 pub mod Explaining
 -- believe, for `state` alone: which place is told, and what that leaves
 pub mod Stating
+-- believe, for `show` alone: which edges are shown, and what that leaves
+pub mod Showing
 -- believe, for `drive` alone: what the drivers make, and what is written of it
 pub mod Driving
 -- believe, for `drive_drawn` alone: what a seed draws, and what is written of it
@@ -26,6 +28,10 @@ pub mod Steps
 pub mod Pieces
 -- words: what the edges of a trace do to `explain` and `state`
 pub mod Followed
+-- words: a stretch that is shown, and how far it came
+pub mod Stretches
+-- words: what the edges of a trace do to `show`
+pub mod Shown
 -- words: the input before its trace, byte by byte
 pub mod Front
 -- words: a number as it stands in a verdict line

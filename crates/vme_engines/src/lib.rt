@@ -15,6 +15,7 @@ mod lines;
 mod pieces;
 mod plans;
 mod replays;
+mod shows;
 mod states;
 mod traces;
 
@@ -25,6 +26,7 @@ pub use explains::explain;
 pub use joins::joined;
 pub use plans::plan_of;
 pub use replays::replay;
+pub use shows::show;
 pub use states::state;
 use thiserror::Error;
 use vme_scenario::ScenarioError;

@@ -40,6 +40,8 @@ mod running;
 #[cfg(test)]
 mod scenario;
 #[cfg(test)]
+mod shown;
+#[cfg(test)]
 mod slots;
 #[cfg(test)]
 mod store;

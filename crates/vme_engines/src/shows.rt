@@ -1,0 +1,316 @@
+//! Showing a stretch of a trace as a picture.
+ghost use Rattle.std.specs.Prelude.{◌≡◌, ◌+◌, ◌-◌, ◌<◌, ◌≤◌, ◌++◌, ◌∷◌, [], List, length, min, refl, IfErr, OnOk, OnErr};
+ghost use Rattle.std.specs.Io.KnownBytes.{Appends};
+ghost use Rattle.vme_model.specs.declared.signals.Edge.{Edge as EdgeValue};
+ghost use Rattle.vme_model.specs.Verdict.{State};
+ghost use Rattle.vme_model.specs.Report.{trace_limit};
+ghost use Rattle.vme_trace.specs.Writing.{AppendsFront};
+ghost use Rattle.vme_engines.specs.Streams.{streams, ReadNothing, WroteNothing};
+ghost use Rattle.vme_engines.specs.Outcomes.{Lent};
+ghost use Rattle.vme_engines.specs.Showing.{ShowsInput};
+ghost use Rattle.vme_engines.specs.Stretches.{IsStretch};
+ghost use Rattle.vme_engines.specs.Shown.{Ends, EndsStretch, GoesOn, IsBefore, IsFresh, IsShown, ShowsPiece, status_to, stretch_text};
+ghost use Rattle.vme_engines.specs.Followed.{told_answer};
+ghost use Rattle.std.proofs.Common.{arith};
+ghost use Rattle.std.proofs.KnownBytes.{Keeps-refl};
+
+use crate::following::{Told, answer_of};
+use crate::pieces::{Judge, read_on};
+use crate::plans::{history_region, history_room, plan_of};
+use crate::replays::status_of;
+use crate::traces::open;
+use crate::{EngineFault, Status};
+use std::alloc::Global;
+use std::io::{Read, Write};
+use std::marker::Model;
+use vme_backplane::{Backplane, Trace};
+use vme_model::Edge;
+use vme_pictures::Window;
+use vme_slots::Plan;
+use vme_trace::{Fault, Reader, flush};
+
+/// How many of `len` edges after the first `judged` are among the first `n`.
+fn count_up_to(n: u64, judged: u64, len: usize) -> usize
+    ensures { result ≡ min (n - judged) len }
+{
+    n.saturating_sub(judged).min(len as u64) as usize
+}
+
+/// Which edges of a trace are shown, by their numbers, and whether in color.
+#[derive(Clone, Copy, PartialEq, Eq, Debug)]
+struct Stretch {
+    from: u64,
+    to: u64,
+    color: bool,
+}
+
+/// A trace under way to the end of a stretch.
+#[derive(Drop)]
+struct Showing<'r> {
+    backplane: Backplane<'r>,
+    stretch: Stretch,
+    /// How many edges were judged.
+    judged: u64,
+    /// What is kept of the stretch, from its first edge on.
+    window: Option<Window>,
+}
+
+impl<'r> Model for Showing<'r> {
+    ghost use Rattle.vme_engines.specs.Stretches.{IsOpened, Stage};
+
+    ghost Value = { Stage };
+
+    ghost view = { λ s. record { backplane = s.backplane; stretch = s.stretch; judged = s.judged; window = s.window } };
+
+    ghost invariant = { λ s. IsOpened s.stretch s.judged s.window };
+}
+
+impl<'r> Showing<'r> {
+    /// Before the first edge.
+    fn new(backplane: Backplane<'r>, stretch: Stretch) -> Showing<'r>
+        requires { IsStretch stretch }
+        ensures backplane { result.backplane ≡ backplane.entry }
+        ensures stretch { result.stretch ≡ stretch }
+        ensures fresh { IsFresh result }
+    {
+        Showing {
+            backplane,
+            stretch,
+            judged: 0,
+            window: None,
+        }
+    }
+
+    /// Steps through edges before the stretch.
+    fn skip(&mut self, edges: &[Edge])
+        requires before { IsBefore self.old (length edges.now) }
+        requires to { self.old.judged + length edges.now ≤ self.old.stretch.to }
+        ensures stretch { self.new.stretch ≡ self.old.stretch }
+        ensures judged { self.new.judged ≡ self.old.judged + length edges.now }
+        ensures shown { (b : State) (es : List EdgeValue)
+            → IsShown b es self.old → IsShown b (es ++ edges.now) self.new }
+    {
+        self.backplane.run(edges);
+        self.judged += edges.len() as u64;
+    }
+
+    /// Steps by the next edge of the stretch, and keeps what is drawn of it.
+    fn keep(&mut self, edge: Edge)
+        requires from { self.old.stretch.from ≤ self.old.judged + 1 }
+        requires to { self.old.judged < self.old.stretch.to }
+        ensures stretch { self.new.stretch ≡ self.old.stretch }
+        ensures judged { self.new.judged ≡ self.old.judged + 1 }
+        ensures shown { (b : State) (es : List EdgeValue)
+            → IsShown b es self.old → IsShown b (es ++ edge ∷ []) self.new }
+    {
+        self.judged += 1;
+        match &mut self.window {
+            Some(window) => window.step(&mut self.backplane, edge),
+            None => {
+                let mut window = Window::new(self.stretch.from, &self.backplane);
+                window.step(&mut self.backplane, edge);
+                self.window = Some(window);
+            }
+        }
+    }
+
+    /// Steps by edges of the stretch, and keeps what is drawn of them.
+    fn keep_all(&mut self, edges: &[Edge])
+        requires from { 0 < length edges.now → self.old.stretch.from ≤ self.old.judged + 1 }
+        requires to { self.old.judged + length edges.now ≤ self.old.stretch.to }
+        ensures stretch { self.new.stretch ≡ self.old.stretch }
+        ensures judged { self.new.judged ≡ self.old.judged + length edges.now }
+        ensures shown { (b : State) (es : List EdgeValue)
+            → IsShown b es self.old → IsShown b (es ++ edges.now) self.new }
+    {
+        for edge in edges {
+            self.keep(*edge);
+        }
+    }
+
+    /// Steps by edges up to the end of the stretch.
+    fn take_in(&mut self, edges: &[Edge])
+        requires { self.old.judged + length edges.now ≤ self.old.stretch.to }
+        ensures stretch { self.new.stretch ≡ self.old.stretch }
+        ensures judged { self.new.judged ≡ self.old.judged + length edges.now }
+        ensures shown { (b : State) (es : List EdgeValue)
+            → IsShown b es self.old → IsShown b (es ++ edges.now) self.new }
+    {
+        let before = count_up_to(self.stretch.from - 1, self.judged, edges.len());
+        self.skip(&edges[..before]);
+        self.keep_all(&edges[before..]);
+    }
+
+    /// Writes the picture of what is kept of the stretch, if anything, and has the writer hand on what it holds back.
+    fn draw<W: Write>(&self, out: &mut W) -> Result<(), Fault>
+        ensures ok { OnOk result ((b : State) (es : List EdgeValue) → IsShown b es self.now
+            → Appends (W.contents out.old) (W.contents out.new)
+            (stretch_text self.now.stretch b es)) }
+        ensures front { OnErr result ((b : State) (es : List EdgeValue) → IsShown b es self.now
+            → AppendsFront (W.contents out.old) (W.contents out.new)
+            (stretch_text self.now.stretch b es)) }
+        ensures fault { IfErr result (λ fault. fault ≡ Fault.Write) }
+    {
+        match &self.window {
+            Some(window) => {
+                window.draw(self.stretch.color, out)?;
+                flush(out)
+            }
+            None => Ok(()),
+        }
+    }
+
+    /// The status: whether an edge was refused.
+    fn status(&self) -> Status
+        ensures { (b : State) (es : List EdgeValue)
+            → IsShown b es self.now → result ≡ status_to self.now.stretch.to b es }
+    {
+        let accepted = u64::from(self.backplane.len());
+        status_of(self.judged.saturating_sub(accepted))
+    }
+
+    /// Ends a stretch, or a trace: what is kept of the stretch is drawn, unless the trace ends before it.
+    fn end<W: Write>(&self, out: &mut W) -> Result<Told, Fault>
+        ensures { (b : State) (es : List EdgeValue) → IsShown b es self.now
+            → EndsStretch self.now.stretch b es (W.contents out.old) (W.contents out.new) result }
+    {
+        if self.window.is_none() {
+            return Ok(Told::Beyond(self.judged));
+        }
+        self.draw(out)?;
+        Ok(Told::Block(self.status()))
+    }
+
+    /// Takes the edges of a piece, and draws the stretch once its end is reached, or the trace's.
+    ///
+    /// `more` is what the read of the piece answered. None where the trace goes on.
+    fn take_piece<W: Write>(
+        &mut self,
+        edges: &[Edge],
+        more: Result<bool, Fault>,
+        out: &mut W,
+    ) -> Result<Option<Told>, Fault>
+        ensures stretch { self.new.stretch ≡ self.old.stretch }
+        ensures goes_on { GoesOn more (length edges.now) self.old self.new result }
+        ensures ends { (b : State) (es : List EdgeValue)
+            → IsShown b es self.old → length es < self.old.stretch.to
+            → Ends self.old.stretch b (es ++ edges.now) more
+            (W.contents out.old) (W.contents out.new) self.new result }
+    {
+        let count = count_up_to(self.stretch.to, self.judged, edges.len());
+        self.take_in(&edges[..count]);
+        if self.judged == self.stretch.to {
+            return Ok(Some(self.end(out)?));
+        }
+        match more {
+            Ok(true) => Ok(None),
+            Ok(false) => Ok(Some(self.end(out)?)),
+            Err(fault) => {
+                self.draw(out)?;
+                Err(fault)
+            }
+        }
+    }
+}
+
+impl Judge for Showing<'_> {
+    type Answer = Told;
+
+    ghost count = { λ now. now.judged };
+
+    ghost takes = { λ first es more old new now answer.
+        ShowsPiece first es more old new now answer };
+
+    fn take<W: Write>(
+        &mut self,
+        edges: &[Edge],
+        more: Result<bool, Fault>,
+        out: &mut W,
+    ) -> Result<Option<Told>, Fault> {
+        self.take_piece(edges, more, out)
+    }
+
+    ghost begins = { λ first old. (
+      (refl, omega arith),
+      refl,
+      λ fresh. (
+        Keeps-refl old,
+        omega (arith, fresh.stretch.some, fresh.stretch.order),
+        fresh.none,
+      ),
+    ) };
+
+    ghost goes_on = { λ first es more old new now h. h.0 };
+}
+
+/// Shows a stretch of a trace that stands alone, on a plan.
+fn show_trace<R: Read, W: Write>(
+    alloc: Global,
+    plan: Plan,
+    room: Trace,
+    trace: &mut R,
+    stretch: Stretch,
+    out: &mut W,
+) -> Result<Told, Fault>
+    requires room { room ≡ trace_limit }
+    requires stretch { IsStretch stretch }
+    ensures { ShowsInput stretch.from stretch.to stretch.color
+        (streams (R.remaining trace.old) (R.remaining trace.new)
+        (W.contents out.old) (W.contents out.new))
+        plan (told_answer result) }
+{
+    let mut reader = Reader::new();
+    let mut edges = Vec::new(alloc);
+    let (first, reads) = open(&mut reader, trace, &mut edges);
+    match reader.version() {
+        Some(version) => {
+            let mut showing = Showing::new(Backplane::new(plan, room, version), stretch);
+            read_on(
+                &mut showing,
+                &mut reader,
+                &mut edges,
+                first,
+                reads,
+                trace,
+                out,
+            )
+        }
+        None => match first {
+            Ok(_) => Err(Fault::Read),
+            Err(fault) => Err(fault),
+        },
+    }
+}
+
+/// Shows the edges with the numbers `from` to `to` of a trace, on the plan of a scenario, as a picture: a row for each wire
+/// that moves among them, a column for each edge.
+///
+/// Writes the picture of those of them that the trace has. With `color` each `x` of a refused edge is red, and each `!` of a
+/// delivery green. The status is `SomeRefused` where an edge up to the last of them is refused, and else `Done`. After
+/// that edge it judges none. It makes at most 16,777,216 reads.
+///
+/// Errors: F2 and the faults of the scenario and F3, before anything is read or written; those of the trace up to the edge
+/// `to`, after the picture of the edges before them; X9 where a trace without fault has fewer than `from` edges: then
+/// nothing is written; X8 where the output cannot be written.
+pub fn show<R: Read, W: Write>(
+    alloc: Global,
+    scenario: &[u8],
+    trace: &mut R,
+    from: u64,
+    to: u64,
+    color: bool,
+    out: &mut W,
+) -> Result<Status, EngineFault>
+    requires some { 1 ≤ from }
+    requires order { from ≤ to }
+    requires few { to < from + 200 }
+    ensures { let s = streams (R.remaining trace.old) (R.remaining trace.new)
+        (W.contents out.old) (W.contents out.new) in
+        Lent scenario.now (ReadNothing s × WroteNothing s) (ShowsInput from to color s) result }
+{
+    let plan = plan_of(alloc, scenario)?;
+    let mut region = history_region(alloc)?;
+    let room = history_room(alloc, &mut region)?;
+    let stretch = Stretch { from, to, color };
+    answer_of(show_trace(alloc, plan, room, trace, stretch, out))
+}

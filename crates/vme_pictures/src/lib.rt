@@ -1,0 +1,10 @@
+//! A picture of a stretch of a trace: a row for each wire that moves in it, a column for each edge.
+#![tactic(auto)]
+
+mod columns;
+mod grants;
+mod lines;
+mod windows;
+mod wires;
+
+pub use windows::{COLUMNS, Window};
