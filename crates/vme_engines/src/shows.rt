@@ -60,7 +60,12 @@ impl<'r> Model for Showing<'r> {
 
     ghost Value = { Stage };
 
-    ghost view = { λ s. record { backplane = s.backplane; stretch = s.stretch; judged = s.judged; window = s.window } };
+    ghost view = { λ s. record {
+      backplane = s.backplane;
+      stretch = s.stretch;
+      judged = s.judged;
+      window = s.window;
+    } };
 
     ghost invariant = { λ s. IsOpened s.stretch s.judged s.window };
 }

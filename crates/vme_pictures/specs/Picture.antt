@@ -1,4 +1,4 @@
--- The picture of a stretch of a trace: a row for each wire that moves in it, a column for each edge.
+-- The picture of a stretch of a trace: a row for each wire that moves in it, a column for an edge.
 -- (The words are those of chapters 2 to 4; what is drawn, and how, is this project's profile.)
 -- Characters are told by their codes.
 use Rattle.std.specs.Prelude.{◌==◌, ◌+◌, ◌-◌, ◌/◌, ◌%◌, if◌then◌else◌, ℕ, Bool, true, false, Option, Some, None, Result, Ok, Err, List, [], ◌∷◌, ◌++◌, length, map, filter, replicate, is_ok, option_map, codes, decimal}
@@ -116,7 +116,7 @@ tens n = if n % 10 == 0 then 48 + n / 10 % 10 else 32
 abbrev pub ones : ℕ → ℕ
 ones n = 48 + n % 10
 
--- the characters of so many numbers, behind an empty label
+-- the characters of so many numbers, after an empty label
 abbrev pub numbers_line : (ℕ → ℕ) → ℕ → ℕ → List ℕ
 numbers_line digit first n = (label [] ++ map digit (range_with_len first n)) ++ 10 ∷ []
 

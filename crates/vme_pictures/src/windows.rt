@@ -39,7 +39,11 @@ impl Model for Window {
 
     ghost Value = { Seen };
 
-    ghost view = { λ w. record { first = w.first; wires = w.wires.items; columns = w.columns.items } };
+    ghost view = { λ w. record {
+      first = w.first;
+      wires = w.wires.items;
+      columns = w.columns.items;
+    } };
 }
 
 impl Window {

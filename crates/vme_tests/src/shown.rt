@@ -1,8 +1,6 @@
-//! What no clause says of `show`: worked examples to the byte, its colors, its faults, and a device that fails.
-use crate::devices::Narrow;
+//! What no clause says of `show`: worked examples to the byte, and its colors.
 use std::process::Abort;
 use vme_engines::{EngineFault, Status, show};
-use vme_trace::Fault;
 
 /// A stretch of a trace on a plan, and its picture.
 #[derive(Drop)]
