@@ -8,3 +8,5 @@ pub mod OneBoard
 pub mod Situations
 -- a tally before the first edge, and after one more
 pub mod OneMore
+-- words one after the other, and the topics
+pub mod Words

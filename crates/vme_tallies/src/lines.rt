@@ -106,7 +106,8 @@ fn rule_words(tally: &Tally) -> Line
     ensures short { array_vec_len result ≤ 130 }
 {
     let mut words = ArrayVec::new();
-    for rule in 1..=26 {
+    for below in 0..26 {
+        let rule = below + 1;
         if tally.passed_by(rule) == 0 {
             push(&mut words, b" G");
             push_byte(&mut words, rule);
