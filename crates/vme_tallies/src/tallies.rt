@@ -65,21 +65,20 @@ impl Tally {
     }
 
     /// Takes in the next edge of the trace, with the answer to it and the situations that it brings
-    /// about where it is accepted.
+    /// about where it is accepted. A count stays at 2^64 - 1.
     pub fn note(
         &mut self,
         edge: &Edge,
         answer: &Result<Option<Delivery>, Refused>,
         events: &[Event],
     )
-        requires room { self.old.edges + 1 < 2 ^ 64 }
-        requires well_formed { IsTrue (is_well_formed edge.now) }
-        ensures { OfTally self.old (λ t. (b : State)
+        requires { IsTrue (is_well_formed edge.now) }
+        ensures { OfTally self.old (λ t. (b : State) → length t + 1 < 2 ^ 64
             → answer.now ≡ (answered_edge b edge.now).answer
             → events.now ≡ events_of b.plan b.history edge.now
             → IsTallyOf (answered_edge b edge.now ∷ t) self.new) }
     {
-        self.edges += 1;
+        self.edges = self.edges.saturating_add(1);
         match answer {
             Ok(delivery) => self.accept(edge, delivery.is_some(), events),
             Err(refused) => self.refusals.note(*refused),
