@@ -34,3 +34,5 @@ pub mod ToldTraces
 pub mod LegalTrace
 -- the rounds of a drive, and the lines of what it made: src/drives.rt
 pub mod DriveRounds
+-- what the edges of a trace come to, piece by piece
+pub mod Sums

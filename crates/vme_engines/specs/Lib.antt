@@ -15,6 +15,8 @@ pub mod Waiting
 pub mod Explaining
 -- believe, for `state` alone: which place is told, and what that leaves
 pub mod Stating
+-- believe, for `summary` alone: what that leaves
+pub mod Summing
 -- believe, for `drive` alone: what the drivers make, and what is written of it
 pub mod Driving
 -- words, but for `IsNoPlan`, which `plan_of` answers by: what the reads and the pieces of a trace
@@ -24,6 +26,8 @@ pub mod Steps
 pub mod Pieces
 -- words: what the edges of a trace do to `explain` and `state`
 pub mod Followed
+-- words: what the edges of a trace do to `summary`
+pub mod Summed
 -- words: the input before its trace, byte by byte
 pub mod Front
 -- words: a number as it stands in a verdict line

@@ -15,6 +15,7 @@ mod pieces;
 mod plans;
 mod replays;
 mod states;
+mod summaries;
 mod traces;
 
 pub use checks::check;
@@ -24,6 +25,7 @@ pub use joins::joined;
 pub use plans::plan_of;
 pub use replays::replay;
 pub use states::state;
+pub use summaries::summary;
 use thiserror::Error;
 use vme_scenario::ScenarioError;
 use vme_trace::Fault;

@@ -20,7 +20,7 @@ use vme_slots::Plan;
 use vme_trace::{Fault, Reader, flush};
 
 /// The status of a replay with so many refused edges.
-fn status_of(refused: u64) -> Status
+pub(crate) fn status_of(refused: u64) -> Status
     ensures { result ≡ status_with refused }
 {
     if refused == 0 {
