@@ -10,3 +10,5 @@ pub mod Situations
 pub mod OneMore
 -- words one after the other, and the topics
 pub mod Words
+-- every accepted edge is counted for one rule
+pub mod RuleShares

@@ -4,6 +4,7 @@
 
 mod boards;
 mod counts;
+pub mod laws;
 mod lines;
 mod met;
 mod refusals;
