@@ -40,3 +40,5 @@ pub mod LegalTrace
 pub mod DriveRounds
 -- the walk of a seed, and what was written of it: src/draws.rt
 pub mod DrawnWalks
+-- what the edges of a trace come to, piece by piece
+pub mod Sums

@@ -17,6 +17,8 @@ pub mod Explaining
 pub mod Stating
 -- believe, for `show` alone: which edges are shown, and what that leaves
 pub mod Showing
+-- believe, for `summary` alone: what that leaves
+pub mod Summing
 -- believe, for `drive` alone: what the drivers make, and what is written of it
 pub mod Driving
 -- believe, for `drive_drawn` alone: what a seed draws, and what is written of it
@@ -32,6 +34,8 @@ pub mod Followed
 pub mod Stretches
 -- words: what the edges of a trace do to `show`
 pub mod Shown
+-- words: what the edges of a trace do to `summary`
+pub mod Summed
 -- words: the input before its trace, byte by byte
 pub mod Front
 -- words: a number as it stands in a verdict line

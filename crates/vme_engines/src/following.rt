@@ -4,14 +4,19 @@ ghost use Rattle.vme_model.specs.Plan.{Plan};
 ghost use Rattle.vme_model.specs.declared.signals.Wire.TheVariants.{Dtack};
 ghost use Rattle.vme_model.specs.History.{shown};
 ghost use Rattle.vme_model.specs.Verdict.{verdict, after};
+ghost use Rattle.vme_model.specs.Deliveries.{answer};
 ghost use Rattle.vme_model.specs.Numbered.{numbered_with};
 ghost use Rattle.vme_reasons.specs.Marked.{IsMarksOf};
 ghost use Rattle.vme_reasons.specs.Traced.{OfTrace};
+ghost use Rattle.vme_events.specs.Events.{events_of};
+ghost use Rattle.vme_events.specs.Ordered.{OfOrdered};
 ghost use Rattle.vme_engines.specs.Followed.{Follows, IsMissing, ComesTo, Reaches, told_answer};
 
 use crate::{EngineFault, Status};
+use arrayvec::ArrayVec;
 use vme_backplane::{Backplane, by_wire};
-use vme_model::{Cycle, Driver, Edge, Wire};
+use vme_events::{Event, events_of};
+use vme_model::{Cycle, Delivery, Driver, Edge, Refused, Wire};
 use vme_reasons::Marks;
 use vme_trace::Fault;
 
@@ -126,6 +131,36 @@ impl<'r> Following<'r> {
             }
             Err(_) => false,
         })
+    }
+
+    /// The situations that an edge brings about that is about to be made.
+    pub(crate) fn events(&self, edge: &Edge) -> ArrayVec<Event, 2>
+        ensures { OfOrdered self.now.backplane self.now.marks (λ _. result.items
+            ≡ events_of self.now.backplane.plan self.now.backplane.history edge.now) }
+    {
+        events_of(&self.backplane, &self.marks, edge)
+    }
+
+    /// Makes the next edge where it is accepted, and gives the answer to it. It is not yet counted.
+    #[inline(always)]
+    pub(crate) fn answer(&mut self, edge: &Edge) -> Result<Option<Delivery>, Refused>
+        requires { self.old.judged + 1 < 2 ^ 64 }
+        ensures answer { result ≡ answer self.old.backplane edge.now }
+        ensures accepted { is_ok result ≡ is_ok (verdict self.old.backplane edge.now) }
+        ensures backplane { self.new.backplane ≡ after self.old.backplane edge.now }
+        ensures judged { self.new.judged ≡ self.old.judged }
+        ensures marks { OfTrace self.old.backplane self.old.marks
+            (λ k. IsMarksOf self.old.backplane.plan
+            (numbered_with self.old.backplane (self.old.judged + 1) edge.now k) self.new.marks) }
+    {
+        let shown = self.shown_at(*edge);
+        match self.backplane.step(*edge) {
+            Ok(delivery) => {
+                self.marks.note(edge, self.judged + 1, shown);
+                Ok(delivery)
+            }
+            Err(refused) => Err(refused),
+        }
     }
 
     /// Follows all the edges, past those that are refused.

@@ -17,6 +17,7 @@ mod plans;
 mod replays;
 mod shows;
 mod states;
+mod summaries;
 mod traces;
 
 pub use checks::check;
@@ -28,6 +29,7 @@ pub use plans::plan_of;
 pub use replays::replay;
 pub use shows::show;
 pub use states::state;
+pub use summaries::summary;
 use thiserror::Error;
 use vme_scenario::ScenarioError;
 use vme_trace::Fault;

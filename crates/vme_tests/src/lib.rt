@@ -46,6 +46,8 @@ mod slots;
 #[cfg(test)]
 mod store;
 #[cfg(test)]
+mod summed;
+#[cfg(test)]
 mod trace;
 #[cfg(test)]
 mod words;

@@ -1,0 +1,6 @@
+use Rattle.std.proofs.Common.{refl}
+use Rattle.vme_tallies.proofs.Situations.{nothing_met}
+use Rattle.vme_tallies.proofs.met.Met.new.Goals as goal
+
+pub returns : goal.returns
+returns c = nothing_met _ refl refl

@@ -1,0 +1,8 @@
+use Rattle.std.proofs.Common.{refl}
+use Rattle.vme_events.specs.Events.{all_events}
+use Rattle.vme_tallies.proofs.topics.topics.Goals as goal
+
+pub returns : goal.returns
+unfolding all_events
+returns c =
+    rw (c.add-8.ensures.items, c.add-7.ensures.items, c.add-6.ensures.items, c.add-5.ensures.items, c.add-4.ensures.items, c.add-3.ensures.items, c.add-2.ensures.items, c.add.ensures.items, c.new-topics.ensures) refl

@@ -1,0 +1,9 @@
+-- The definitions of a summary. `believe` marks what a theorem rests on, and `words` what only says
+-- how one function serves another.
+
+-- believe: what is counted of a trace
+pub mod Tally
+-- believe: how it is written
+pub mod Summary
+-- words: which tally answered edges lead to
+pub mod Tallied

@@ -1,0 +1,19 @@
+//! What a trace exercised: which rules let edges pass or refused them, which situations came, and what
+//! each board did; and the lines that tell it.
+#![tactic(auto)]
+
+mod boards;
+mod counts;
+pub mod laws;
+mod lines;
+mod met;
+mod refusals;
+mod rules;
+mod summaries;
+mod tallies;
+mod topics;
+
+pub use boards::BoardTally;
+pub use summaries::write_summary;
+pub use tallies::Tally;
+pub use topics::Topic;
