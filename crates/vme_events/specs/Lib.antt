@@ -1,0 +1,14 @@
+-- believe: which situations have a name, and which of them an edge brings about
+pub mod Events
+-- believe: which edge one condition alone refuses
+pub mod Misses
+-- believe: what a trace can be drawn to come to, and its words
+pub mod Goals
+-- believe: a history whose edges have their places as numbers, and numbers that grow
+pub mod Places
+-- words: what holds of a backplane and the marks of its edges, whose numbers grow
+pub mod Ordered
+-- words: the situations that an edge brings about, by its wire
+pub mod Brought
+-- words: edges to either state of a wire, and what refuses an edge
+pub mod Turned

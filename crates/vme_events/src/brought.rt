@@ -1,0 +1,146 @@
+//! Which situations an edge brings about.
+ghost use Rattle.std.specs.Prelude.{◌≡◌, ◌≤◌, ◌++◌};
+ghost use Rattle.std.specs.List.{list_any};
+ghost use Rattle.arrayvec.specs.ArrayVec.{array_vec_len};
+ghost use Rattle.vme_events.specs.Events.{comes, events_of, is_access};
+ghost use Rattle.vme_model.specs.Signals.{is_acknowledge};
+ghost use Rattle.vme_events.specs.Brought.{at_fall, at_rise, is_same_event, when};
+ghost use Rattle.vme_events.specs.Ordered.{OfOrdered};
+
+use crate::before::{fills_burst, has_acknowledged, has_rival, overtakes};
+use crate::events::Event;
+use crate::wires::is_low;
+use arrayvec::ArrayVec;
+use vme_backplane::Backplane;
+use vme_model::{Cycle, Driver, Edge, Wire};
+use vme_reasons::Marks;
+
+/// The situation where the test holds.
+fn alone(holds: bool, event: Event) -> ArrayVec<Event, 2>
+    ensures items { result.items ≡ when holds event }
+    ensures len { array_vec_len result ≤ 1 }
+{
+    let mut events = ArrayVec::new();
+    if holds {
+        events.push(event);
+    }
+    events
+}
+
+/// Those of two situations whose tests hold.
+fn both(holds: bool, event: Event, other_holds: bool, other: Event) -> ArrayVec<Event, 2>
+    ensures { result.items ≡ when holds event ++ when other_holds other }
+{
+    let mut events = alone(holds, event);
+    if other_holds {
+        events.push(other);
+    }
+    events
+}
+
+/// Whether this is an access.
+fn is_access(shown: Option<Cycle>) -> bool
+    ensures { result ≡ is_access shown }
+{
+    matches!(shown, Some(Cycle::Access(_)))
+}
+
+/// Whether this is an acknowledge.
+fn is_acknowledge(shown: Option<Cycle>) -> bool
+    ensures { result ≡ is_acknowledge shown }
+{
+    matches!(shown, Some(Cycle::Acknowledge(_)))
+}
+
+/// The situations that a fall of a driver's wire brings about, in their order.
+fn at_fall(backplane: &Backplane, marks: &Marks, driver: Driver, wire: Wire) -> ArrayVec<Event, 2>
+    ensures { OfOrdered backplane.now marks.now (λ _. result.items
+        ≡ at_fall backplane.now.plan backplane.now.history driver wire) }
+{
+    match wire {
+        Wire::Bclr => alone(true, Event::BusClear),
+        Wire::Berr => {
+            let shown = backplane.pins(driver).shown;
+            both(
+                is_acknowledge(shown),
+                Event::Spurious,
+                is_access(shown),
+                Event::BusError,
+            )
+        }
+        Wire::Br => {
+            let has_passed = is_low(backplane, marks, driver, Wire::BgOut);
+            alone(
+                has_passed && !backplane.pins(driver).bbsy,
+                Event::LateRequest,
+            )
+        }
+        Wire::BgOut => alone(true, Event::GrantPassed),
+        Wire::Bbsy => both(
+            overtakes(backplane, marks, driver),
+            Event::Overtaken,
+            backplane.pins(driver).address_strobe,
+            Event::Overlap,
+        ),
+        Wire::AddressStrobe => alone(fills_burst(backplane, marks, driver), Event::FullBurst),
+        Wire::Irq => alone(has_rival(backplane, marks, driver), Event::Rivals),
+        Wire::IackOut => alone(true, Event::IackPassed),
+        Wire::Dtack => {
+            let is_delivery = is_acknowledge(backplane.pins(driver).shown);
+            let again = is_delivery && has_acknowledged(backplane, marks, driver);
+            both(is_delivery, Event::Delivery, again, Event::AnsweredAgain)
+        }
+        Wire::Bg(_) | Wire::Iack | Wire::Addr | Wire::DataStrobe => ArrayVec::new(),
+    }
+}
+
+/// The situations that a rise of a driver's wire brings about.
+fn at_rise(backplane: &Backplane, marks: &Marks, driver: Driver, wire: Wire) -> ArrayVec<Event, 2>
+    ensures { OfOrdered backplane.now marks.now (λ _. result.items
+        ≡ at_rise backplane.now.plan backplane.now.history driver wire) }
+{
+    match wire {
+        Wire::Bg(_) => alone(!backplane.pins(driver).bbsy, Event::GrantTimeout),
+        Wire::Br => {
+            let is_owner = is_low(backplane, marks, driver, Wire::Bbsy);
+            alone(!is_owner, Event::Withdrawn)
+        }
+        Wire::Bbsy => {
+            let in_cycle = is_low(backplane, marks, driver, Wire::AddressStrobe);
+            alone(in_cycle, Event::EarlyRelease)
+        }
+        _ => ArrayVec::new(),
+    }
+}
+
+/// The situations that an edge brings about that is about to be made, in their order: two at most.
+///
+/// The marks are those of the backplane's edges, whose numbers grow. Nothing is searched but the
+/// slots.
+pub fn events_of(backplane: &Backplane, marks: &Marks, edge: &Edge) -> ArrayVec<Event, 2>
+    ensures { OfOrdered backplane.now marks.now (λ _. result.items
+        ≡ events_of backplane.now.plan backplane.now.history edge.now) }
+{
+    if edge.fall {
+        at_fall(backplane, marks, edge.driver, edge.wire)
+    } else {
+        at_rise(backplane, marks, edge.driver, edge.wire)
+    }
+}
+
+/// Whether the situation is one of these.
+fn has(events: &[Event], event: Event) -> bool
+    ensures { result ≡ list_any (λ e. is_same_event e event) events.now }
+{
+    events.iter().any(|brought| *brought == event)
+}
+
+/// Whether an edge brings the situation about that is about to be made.
+///
+/// The marks are those of the backplane's edges, whose numbers grow.
+pub fn comes(backplane: &Backplane, marks: &Marks, edge: &Edge, event: Event) -> bool
+    ensures { OfOrdered backplane.now marks.now (λ _. result
+        ≡ comes backplane.now.plan backplane.now.history edge.now event) }
+{
+    has(events_of(backplane, marks, edge).as_slice(), event)
+}

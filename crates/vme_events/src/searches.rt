@@ -1,0 +1,273 @@
+//! The first edge that one condition alone refuses.
+ghost use Rattle.std.specs.Prelude.{◌≡◌, ◌++◌, [], ◌∷◌, find, map};
+ghost use Rattle.std.specs.List.{flat_map};
+ghost use Rattle.std.specs.Option.{option_and_then};
+ghost use Rattle.vme_model.specs.Offers.{turned, wires};
+ghost use Rattle.vme_model.specs.Open.{accesses, acknowledges, moves, showing};
+ghost use Rattle.vme_model.specs.Plan.{board_of};
+ghost use Rattle.vme_model.specs.Verdict.{verdict};
+ghost use Rattle.vme_events.specs.Misses.{fails_rule, fails_settling, has_kind, is_alone, is_same_kind, misses, refuses};
+ghost use Rattle.vme_events.specs.Turned.{is_rule, is_settling, refusal, turned_to};
+
+use crate::before::interrupter_of;
+use crate::misses::Miss;
+use vme_backplane::Backplane;
+use vme_model::{Condition, Cycle, Driver, Edge, IrqKind, Refused, Wire};
+
+/// The controller's wires, in the order of offers.
+const CONTROLLERS: [Wire; 7] = [
+    Wire::Bg(0),
+    Wire::Bg(1),
+    Wire::Bg(2),
+    Wire::Bg(3),
+    Wire::Bclr,
+    Wire::Iack,
+    Wire::Berr,
+];
+
+/// A board's wires, in that order.
+const BOARDS: [Wire; 9] = [
+    Wire::Br,
+    Wire::BgOut,
+    Wire::Bbsy,
+    Wire::Addr,
+    Wire::AddressStrobe,
+    Wire::DataStrobe,
+    Wire::Irq,
+    Wire::IackOut,
+    Wire::Dtack,
+];
+
+/// All that an address group can show: the acknowledges, then the accesses.
+const CYCLES: [Cycle; 28] = [
+    Cycle::Acknowledge(1),
+    Cycle::Acknowledge(2),
+    Cycle::Acknowledge(3),
+    Cycle::Acknowledge(4),
+    Cycle::Acknowledge(5),
+    Cycle::Acknowledge(6),
+    Cycle::Acknowledge(7),
+    Cycle::Access(1),
+    Cycle::Access(2),
+    Cycle::Access(3),
+    Cycle::Access(4),
+    Cycle::Access(5),
+    Cycle::Access(6),
+    Cycle::Access(7),
+    Cycle::Access(8),
+    Cycle::Access(9),
+    Cycle::Access(10),
+    Cycle::Access(11),
+    Cycle::Access(12),
+    Cycle::Access(13),
+    Cycle::Access(14),
+    Cycle::Access(15),
+    Cycle::Access(16),
+    Cycle::Access(17),
+    Cycle::Access(18),
+    Cycle::Access(19),
+    Cycle::Access(20),
+    Cycle::Access(21),
+];
+
+/// What refuses the edge, if anything does.
+fn refusal(backplane: &Backplane, edge: Edge) -> Option<Refused>
+    ensures { result ≡ refusal (verdict backplane.now edge) }
+{
+    backplane.answer(edge).err()
+}
+
+/// Whether that condition fails, and no other.
+fn is_alone(condition: Condition, failing: &[Condition]) -> bool
+    ensures { result ≡ is_alone condition failing.now }
+{
+    failing.len() == 1 && failing[0] == condition
+}
+
+/// Whether that rule refuses.
+fn is_rule(refused: Option<Refused>, rule: u8) -> bool
+    ensures { result ≡ is_rule rule refused }
+{
+    matches!(refused, Some(Refused::Rule(number)) if number == rule)
+}
+
+/// Whether that settling rule refuses.
+fn is_settling(refused: Option<Refused>, rule: u8) -> bool
+    ensures { result ≡ is_settling rule refused }
+{
+    matches!(refused, Some(Refused::NotSettled(number)) if number == rule)
+}
+
+/// Whether the rule refuses the edge.
+fn fails_rule(backplane: &Backplane, edge: Edge, rule: u8) -> bool
+    ensures { result ≡ fails_rule rule (verdict backplane.now edge) }
+{
+    is_rule(refusal(backplane, edge), rule)
+}
+
+/// Whether the settling rule refuses the edge.
+fn fails_settling(backplane: &Backplane, edge: Edge, rule: u8) -> bool
+    ensures { result ≡ fails_settling rule (verdict backplane.now edge) }
+{
+    is_settling(refusal(backplane, edge), rule)
+}
+
+/// Whether the two are one kind.
+fn is_same_kind(kind: IrqKind, other: IrqKind) -> bool
+    ensures { result ≡ is_same_kind kind other }
+{
+    kind == other
+}
+
+/// Whether the driver's board has an interrupter of that kind.
+fn has_kind(backplane: &Backplane, driver: Driver, kind: IrqKind) -> bool
+    ensures { result ≡ has_kind kind (board_of backplane.now.plan driver) }
+{
+    match interrupter_of(backplane, driver) {
+        Some(interrupter) => is_same_kind(interrupter.kind, kind),
+        None => false,
+    }
+}
+
+/// Whether this alone refuses the edge.
+fn refuses(backplane: &Backplane, miss: Miss, edge: Edge) -> bool
+    ensures { result ≡ refuses backplane.now miss edge }
+{
+    match miss {
+        Miss::Rule(rule, condition) => {
+            fails_rule(backplane, edge, rule)
+                && is_alone(condition, backplane.failing(edge).as_slice())
+        }
+        Miss::Unserved(kind) => {
+            fails_rule(backplane, edge, 22) && has_kind(backplane, edge.driver, kind)
+        }
+        Miss::Settling(rule) => fails_settling(backplane, edge, rule),
+    }
+}
+
+/// An edge without a value.
+fn turned(driver: Driver, wire: Wire, fall: bool) -> Edge
+    ensures { result ≡ turned_to driver wire fall }
+{
+    Edge {
+        driver,
+        wire,
+        fall,
+        value: None,
+    }
+}
+
+/// The address group going on.
+fn showing(driver: Driver, cycle: Cycle) -> Edge
+    ensures { result ≡ showing driver cycle }
+{
+    Edge {
+        driver,
+        wire: Wire::Addr,
+        fall: true,
+        value: Some(cycle),
+    }
+}
+
+/// The first of these cycles that the driver is refused to show by this alone.
+fn shown(backplane: &Backplane, miss: Miss, driver: Driver, cycles: &[Cycle]) -> Option<Cycle>
+    ensures { result ≡ find (λ c. refuses backplane.now miss (showing driver c)) cycles.now }
+{
+    cycles
+        .iter()
+        .copied()
+        .find(|cycle| refuses(backplane, miss, showing(driver, *cycle)))
+}
+
+/// The edge that moves the driver's address group, where this alone refuses it.
+///
+/// One to the state that the group is in is refused by E2, and never by this.
+fn on_address(backplane: &Backplane, miss: Miss, driver: Driver) -> Option<Edge>
+    ensures { result ≡ find (refuses backplane.now miss)
+        (moves backplane.now.history driver Wire.Addr) }
+{
+    let off = turned(driver, Wire::Addr, false);
+    if refuses(backplane, miss, off) {
+        return Some(off);
+    }
+    match shown(backplane, miss, driver, &CYCLES) {
+        Some(cycle) => Some(showing(driver, cycle)),
+        None => None,
+    }
+}
+
+/// The edge that moves another wire of the driver, where this alone refuses it.
+fn on_other(backplane: &Backplane, miss: Miss, driver: Driver, wire: Wire) -> Option<Edge>
+    ensures { result ≡ find (refuses backplane.now miss)
+        (turned backplane.now.history driver wire ∷ []) }
+{
+    let fall = turned(driver, wire, true);
+    if refuses(backplane, miss, fall) {
+        return Some(fall);
+    }
+    let rise = turned(driver, wire, false);
+    if refuses(backplane, miss, rise) {
+        return Some(rise);
+    }
+    None
+}
+
+/// The first edge that moves the driver's wire and that this alone refuses.
+fn on_wire(backplane: &Backplane, miss: Miss, driver: Driver, wire: Wire) -> Option<Edge>
+    ensures { result ≡ find (refuses backplane.now miss) (moves backplane.now.history driver wire) }
+{
+    match wire {
+        Wire::Addr => on_address(backplane, miss, driver),
+        _ => on_other(backplane, miss, driver, wire),
+    }
+}
+
+/// The first edge of these wires of the driver.
+fn on_wires(backplane: &Backplane, miss: Miss, driver: Driver, wires: &[Wire]) -> Option<Edge>
+    ensures { result ≡ find (refuses backplane.now miss)
+        (flat_map (moves backplane.now.history driver) wires.now) }
+{
+    for wire in wires {
+        let edge = on_wire(backplane, miss, driver, *wire);
+        if edge.is_some() {
+            return edge;
+        }
+    }
+    None
+}
+
+/// The first edge of the driver.
+fn of_driver(backplane: &Backplane, miss: Miss, driver: Driver) -> Option<Edge>
+    ensures { result ≡ find (refuses backplane.now miss)
+        (flat_map (moves backplane.now.history driver) (wires driver)) }
+{
+    match driver {
+        Driver::Controller => on_wires(backplane, miss, driver, &CONTROLLERS),
+        Driver::Slot(_) => on_wires(backplane, miss, driver, &BOARDS),
+    }
+}
+
+/// The first edge of these drivers.
+fn of_drivers(backplane: &Backplane, miss: Miss, drivers: &[Driver]) -> Option<Edge>
+    ensures { result ≡ find (refuses backplane.now miss)
+        (flat_map (λ d. flat_map (moves backplane.now.history d) (wires d)) drivers.now) }
+{
+    for driver in drivers {
+        let edge = of_driver(backplane, miss, *driver);
+        if edge.is_some() {
+            return edge;
+        }
+    }
+    None
+}
+
+/// The first edge that this alone refuses, of all that move a wire to its other state: by driver, the
+/// controller first, then by slot; by wire in the order of offers; of an address group that goes on by
+/// acknowledges, then by accesses. None where there is none.
+///
+/// It tries some 800 edges at most.
+pub fn miss(backplane: &Backplane, miss: Miss) -> Option<Edge>
+    ensures { result ≡ misses backplane.now miss }
+{
+    of_drivers(backplane, miss, backplane.plan().drivers().as_slice())
+}
