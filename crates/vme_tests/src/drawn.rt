@@ -152,5 +152,5 @@ fn a_full_device_cuts_a_drawn_trace(rt: HostRuntime) {
     let mut out = Narrow::new(rt.alloc(), usize::MAX, 7);
     let answer = drive_drawn(rt.alloc(), ONE_TENURE, 14, 1, &mut out, Version::One);
     assert!(rt; answer == Err(EngineFault::Trace(Fault::Write)));
-    assert!(rt; out.taken() == b"vme 1\n1");
+    assert!(rt; out.taken() == b"vme 1\n1".as_slice());
 }
