@@ -34,5 +34,7 @@ pub mod ToldTraces
 pub mod LegalTrace
 -- the rounds of a drive, and the lines of what it made: src/drives.rt
 pub mod DriveRounds
+-- a walk that seeks a goal, turn by turn: src/seeks.rt, `draws::drive_drawn`
+pub mod SoughtGoals
 -- the walk of a seed, and what was written of it: src/draws.rt
 pub mod DrawnWalks

@@ -17,6 +17,8 @@ pub mod Explaining
 pub mod Stating
 -- believe, for `drive` alone: what the drivers make, and what is written of it
 pub mod Driving
+-- believe, for `drive_drawn` alone: a walk that seeks a goal, and how it ends
+pub mod Seeking
 -- believe, for `drive_drawn` alone: what a seed draws, and what is written of it
 pub mod Drawing
 -- words, but for `IsNoPlan`, which `plan_of` answers by: what the reads and the pieces of a trace

@@ -15,6 +15,7 @@ mod lines;
 mod pieces;
 mod plans;
 mod replays;
+mod seeks;
 mod states;
 mod traces;
 
