@@ -38,3 +38,5 @@ pub mod DriveRounds
 pub mod SoughtGoals
 -- the walk of a seed, and what was written of it: src/draws.rt
 pub mod DrawnWalks
+-- seeds that are tried one after the other: src/seeds.rt
+pub mod FoundSeeds

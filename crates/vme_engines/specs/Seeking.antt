@@ -1,5 +1,5 @@
 -- A walk that seeks a goal, and how it ends. (Profile.)
-use Rattle.std.specs.Prelude.{ℕ, zero, suc, Bool, false, Option, Some, None, if◌then◌else◌}
+use Rattle.std.specs.Prelude.{ℕ, zero, suc, Bool, true, false, Option, Some, None, if◌then◌else◌}
 use Rattle.std.specs.Option.{option_map_or}
 use Rattle.vme_model.specs.declared.signals.Edge.{Edge}
 use Rattle.vme_model.specs.Verdict.{State}
@@ -15,6 +15,11 @@ use Rattle.vme_engines.specs.declared.seeks.Ending.TheVariants.{Over, Came, Miss
 pub record Ended : Type 0 where
   pub walk : Walk
   pub ending : Ending
+
+-- the goal did not come
+abbrev pub is_over : Ending → Bool
+is_over Over = true
+is_over _ = false
 
 -- the first edge that the goal's condition alone refuses, where the goal is one
 abbrev pub missed_by : Goal → State → Option Edge

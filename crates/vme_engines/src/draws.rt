@@ -21,7 +21,7 @@ use vme_model::Version;
 use vme_trace::{Fault, flush, header_line, line_of, put};
 
 /// Takes a walk to its goal, or so many edges.
-fn walk_to(walk: &mut Walk<'_>, goal: Option<Goal>, edges: u32) -> Ending
+pub(crate) fn walk_to(walk: &mut Walk<'_>, goal: Option<Goal>, edges: u32) -> Ending
     requires { walk.old.state.history ≡ [] }
     ensures ending { result ≡ (walk_to goal edges walk.old).ending }
     ensures walk { walk.new ≡ (walk_to goal edges walk.old).walk }
@@ -72,7 +72,7 @@ fn write_edges<W: Write>(
 /// Writes the trace of the edges that were made on a backplane, and of the one that was missed.
 ///
 /// Errors: X8 where the output cannot be written; a prefix of the trace was then written.
-fn write_walk<W: Write>(
+pub(crate) fn write_walk<W: Write>(
     backplane: &Backplane<'_>,
     ending: Ending,
     out: &mut W,

@@ -4,7 +4,7 @@ ghost use Rattle.vme_model.specs.Verdict.{verdict};
 ghost use Rattle.vme_draws.specs.Walks.{with_edge};
 ghost use Rattle.vme_events.specs.Places.{by_place};
 ghost use Rattle.vme_reasons.specs.Marked.{IsMarksOf};
-ghost use Rattle.vme_engines.specs.Seeking.{brings, ends_at, missed_by, sought, turned};
+ghost use Rattle.vme_engines.specs.Seeking.{brings, ends_at, is_over, missed_by, sought, turned};
 
 use vme_backplane::Backplane;
 use vme_draws::Walk;
@@ -21,6 +21,15 @@ pub(crate) enum Ending {
     Came,
     /// The goal's condition alone refuses this edge.
     Missed(Edge),
+}
+
+impl Ending {
+    /// Whether the goal did not come.
+    pub(crate) fn is_over(self) -> bool
+        ensures { result ≡ is_over self }
+    {
+        matches!(self, Ending::Over)
+    }
 }
 
 /// The first edge that the goal's condition alone refuses, where the goal is one.
