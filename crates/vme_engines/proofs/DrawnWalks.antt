@@ -1,5 +1,6 @@
 -- The walk of a seed, and what was written of it.
-use Rattle.std.proofs.Common.{◌≡◌, refl, ◌∙◌, ap, subst, ℕ, ◌≤◌, List, length, Option, Ok, Err, ◌==◌, if◌then◌else◌}
+use Rattle.std.proofs.Common.{◌≡◌, refl, sym, ◌∙◌, ap, subst, ℕ, ◌≤◌, List, [], ◌∷◌, ◌++◌, length, append_assoc, append-nil, Option, Ok, Err, Result}
+use Rattle.std.specs.Prelude.{OnOk, OnErr}
 use Rattle.std.specs.Io.KnownBytes.{Appends}
 use Rattle.vme_model.specs.declared.signals.Version.{Version}
 use Rattle.vme_model.specs.declared.signals.Edge.{Edge}
@@ -9,23 +10,43 @@ use Rattle.vme_model.specs.History.{in_order}
 use Rattle.vme_model.specs.Safe.{IsSafe, IsOrderly}
 use Rattle.vme_model.specs.Verdict.{State, IsLegal}
 use Rattle.vme_model.specs.Report.{trace_limit}
-use Rattle.vme_model.specs.Text.{text}
+use Rattle.vme_model.specs.Text.{text, edge_lines, spelling}
 use Rattle.vme_scenario.specs.Format.{scenario}
 use Rattle.vme_trace.specs.declared.Fault.{Fault}
 use Rattle.vme_trace.specs.declared.Fault.TheVariants.{Write}
-use Rattle.vme_trace.specs.Writing.{AppendsFront}
-use Rattle.vme_draws.specs.Walks.{at_start, walked}
-use Rattle.vme_draws.proofs.Walked.{IsOn, stays_on}
+use Rattle.vme_trace.specs.Writing.{AppendsFront, edge_line}
+use Rattle.vme_draws.specs.Walks.{at_start}
+use Rattle.vme_draws.proofs.Walked.{IsOn}
+use Rattle.vme_events.specs.declared.goals.Goal.{Goal}
 use Rattle.vme_engines.specs.declared.Status.{Status}
-use Rattle.vme_engines.specs.declared.Status.TheVariants.{Done, Limit}
 use Rattle.vme_engines.specs.declared.EngineFault.TheVariants as fault
+use Rattle.vme_engines.specs.declared.seeks.Ending.{Ending}
+use Rattle.vme_engines.specs.declared.seeks.Ending.TheVariants.{Over, Came, Missed}
 use Rattle.vme_engines.specs.Outcomes.{bench}
-use Rattle.vme_engines.specs.Drawing.{walk, walk_text, Draws, DrawsSafely}
+use Rattle.vme_engines.specs.Drawing.{walk, missed_of, walk_text, EndsRightly, status_to, Draws, DrawsSafely, IsWellFormed}
 use Rattle.vme_engines.proofs.LegalTrace.{legal_trace}
+use Rattle.vme_engines.proofs.SoughtGoals.{walk_stays, refused_end, formed_end}
 
-module _ (p : Plan) (version : Version) (seed n : ℕ) (b : State) (is : b ≡ (walked n (at_start (bench p version) seed)).state) where
-  on : IsOn version p (walked n (at_start (bench p version) seed))
-  on = stays_on version p n (at_start (bench p version) seed) (record { version = refl; plan = refl })
+-- the line of an edge alone
+pub line_alone : (e : Edge) → edge_line e ≡ edge_lines (e ∷ [])
+line_alone e = sym (append-nil (edge_line e))
+
+-- the lines of edges, and of others behind them
+pub lines_behind : (es fs : List Edge) → edge_lines (es ++ fs) ≡ edge_lines es ++ edge_lines fs
+lines_behind [] fs = refl
+lines_behind (e ∷ es) fs = ap (λ l. (spelling e ++ 10 ∷ []) ++ l) (lines_behind es fs) ∙ sym (append_assoc (spelling e ++ 10 ∷ []) (edge_lines es) (edge_lines fs))
+
+pub on_ok_more : {E A : Type 0} (r : Result A E) (P Q : Type 0) → (P → Q) → OnOk r P → OnOk r Q
+on_ok_more (Ok a) P Q f h = f h
+on_ok_more (Err e) P Q f h = tt
+
+pub on_err_more : {E A : Type 0} (r : Result A E) (P Q : Type 0) → (P → Q) → OnErr r P → OnErr r Q
+on_err_more (Ok a) P Q f h = tt
+on_err_more (Err e) P Q f h = f h
+
+module _ (p : Plan) (version : Version) (seed n : ℕ) (g : Option Goal) (b : State) (ending : Ending) (is : b ≡ (walk p version seed n g).walk.state) (ends : ending ≡ (walk p version seed n g).ending) where
+  on : IsOn version p (walk p version seed n g).walk
+  on = walk_stays version p g n (at_start (bench p version) seed) (record { version = refl; plan = refl })
 
   version_is : b.version ≡ version
   version_is = ap (λ (s : State). s.version) is ∙ on.version
@@ -33,28 +54,40 @@ module _ (p : Plan) (version : Version) (seed n : ℕ) (b : State) (is : b ≡ (
   plan_is : b.plan ≡ p
   plan_is = ap (λ (s : State). s.plan) is ∙ on.plan
 
-  history_is : b.history ≡ walk p version seed n
+  history_is : b.history ≡ (walk p version seed n g).walk.state.history
   history_is = ap (λ (s : State). s.history) is
 
-  text_is : text b.version (in_order b.history) ≡ walk_text p version seed n
-  text_is = ap (λ v. text v (in_order b.history)) version_is ∙ ap (λ h. text version (in_order h)) history_is
+  text_is : text b.version (in_order b.history ++ missed_of ending) ≡ walk_text p version seed n g
+  text_is =
+      ap (λ v. text v (in_order b.history ++ missed_of ending)) version_is
+      ∙ ap (λ h. text version (in_order h ++ missed_of ending)) history_is
+      ∙ ap (λ x. text version (in_order (walk p version seed n g).walk.state.history ++ missed_of x)) ends
 
-  pub draws_done : (old new : Option (List ℕ)) (status : Status) → Appends old new (text b.version (in_order b.history)) → IsLegal b.version b.plan b.history → IsAccepted b.plan
-      → length b.history ≤ trace_limit → status ≡ (if length b.history == n then Limit else Done) → Draws version seed n old new p (Ok status)
-  draws_done old new status w legal accepted fits ends =
-      let is_legal : IsLegal version p (walk p version seed n) =
-      subst (IsLegal version p) history_is (subst (λ (q : Plan). IsLegal version q b.history) plan_is (subst (λ (v : Version). IsLegal v b.plan b.history) version_is legal)) in
-      let few : length (walk p version seed n) ≤ trace_limit = subst (λ (h : List Edge). length h ≤ trace_limit) history_is fits in (
-        subst (Appends old new) text_is w,
-        is_legal,
-        legal_trace p version (walk p version seed n) (subst IsAccepted plan_is accepted) is_legal few,
-        ends ∙ ap (λ h. if length h == n then Limit else Done) history_is,
-      )
+  pub is_formed_end : IsWellFormed ending
+  is_formed_end = subst IsWellFormed (sym ends) (formed_end g n (at_start (bench p version) seed))
 
-  pub draws_cut : (old new : Option (List ℕ)) (f : Fault) → f ≡ Write → AppendsFront old new (text b.version (in_order b.history)) → Draws version seed n old new p (Err (fault.Trace f))
+  module _ (legal : IsLegal b.version b.plan b.history) (accepted : IsAccepted b.plan) (fits : length b.history ≤ trace_limit) where
+    is_legal : IsLegal version p (walk p version seed n g).walk.state.history
+    is_legal = subst (IsLegal version p) history_is (subst (λ (q : Plan). IsLegal version q b.history) plan_is (subst (λ (v : Version). IsLegal v b.plan b.history) version_is legal))
+
+    rightly : (x : Ending) → (walk p version seed n g).ending ≡ x → EndsRightly p version g (walk p version seed n g).walk.state x
+    rightly Over same = legal_trace p version _ (subst IsAccepted plan_is accepted) is_legal (subst (λ (h : List Edge). length h ≤ trace_limit) history_is fits)
+    rightly Came same = legal_trace p version _ (subst IsAccepted plan_is accepted) is_legal (subst (λ (h : List Edge). length h ≤ trace_limit) history_is fits)
+    rightly (Missed e) same = refused_end g n (at_start (bench p version) seed) e same
+
+    pub draws_done : (old new : Option (List ℕ)) (status : Status) → Appends old new (text b.version (in_order b.history ++ missed_of ending)) → status ≡ status_to g n (length b.history) ending
+        → Draws version seed n g old new p (Ok status)
+    draws_done old new status w said = (
+      subst (Appends old new) text_is w,
+      is_legal,
+      rightly (walk p version seed n g).ending refl,
+      said ∙ ap (λ h. status_to g n (length h) ending) history_is ∙ ap (status_to g n (length (walk p version seed n g).walk.state.history)) ends,
+    )
+
+  pub draws_cut : (old new : Option (List ℕ)) (f : Fault) → f ≡ Write → AppendsFront old new (text b.version (in_order b.history ++ missed_of ending)) → Draws version seed n g old new p (Err (fault.Trace f))
   draws_cut old new f e w = (e, subst (AppendsFront old new) text_is w)
 
-  pub draws_safely : (old : List ℕ) → scenario old ≡ Ok p → IsSafe b.plan b.history → IsOrderly b.version b.plan b.history → DrawsSafely old version seed n
+  pub draws_safely : (old : List ℕ) → scenario old ≡ Ok p → IsSafe b.plan b.history → IsOrderly b.version b.plan b.history → DrawsSafely old version seed n g
   draws_safely old read safe orderly = (
     p,
     read,

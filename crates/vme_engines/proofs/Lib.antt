@@ -38,7 +38,11 @@ pub mod ShownTraces
 pub mod LegalTrace
 -- the rounds of a drive, and the lines of what it made: src/drives.rt
 pub mod DriveRounds
+-- a walk that seeks a goal, turn by turn: src/seeks.rt, `draws::drive_drawn`
+pub mod SoughtGoals
 -- the walk of a seed, and what was written of it: src/draws.rt
 pub mod DrawnWalks
 -- what the edges of a trace come to, piece by piece
 pub mod Sums
+-- seeds that are tried one after the other: src/seeds.rt
+pub mod FoundSeeds

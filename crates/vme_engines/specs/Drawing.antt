@@ -1,44 +1,84 @@
 -- What a drive with a seed writes and answers.
-use Rattle.std.specs.Prelude.{◌≡◌, ◌==◌, ℕ, List, length, Option, Ok, Err, if◌then◌else◌}
+use Rattle.std.specs.Prelude.{◌≡◌, ◌==◌, ◌++◌, ◌∷◌, [], ℕ, List, length, true, Option, Some, None, Ok, Err, IsTrue, if◌then◌else◌}
 use Rattle.std.specs.Io.KnownBytes.{Appends}
 use Rattle.vme_model.specs.declared.signals.Version.{Version}
 use Rattle.vme_model.specs.declared.signals.Edge.{Edge}
 use Rattle.vme_model.specs.Plan.{Plan}
 use Rattle.vme_model.specs.History.{in_order}
-use Rattle.vme_model.specs.Verdict.{IsLegal}
+use Rattle.vme_model.specs.Signals.{is_well_formed}
+use Rattle.vme_model.specs.Verdict.{State, IsLegal}
 use Rattle.vme_model.specs.Safe.{IsSafe, IsOrderly}
 use Rattle.vme_model.specs.Text.{text, read_of}
 use Rattle.vme_scenario.specs.Format.{scenario}
 use Rattle.vme_trace.specs.declared.Fault.TheVariants.{Write}
 use Rattle.vme_trace.specs.Writing.{AppendsFront}
-use Rattle.vme_draws.specs.Walks.{at_start, walked}
+use Rattle.vme_draws.specs.Walks.{at_start}
+use Rattle.vme_events.specs.declared.goals.Goal.{Goal}
+use Rattle.vme_events.specs.declared.goals.Goal.TheVariants as goal
+use Rattle.vme_events.specs.Misses.{refuses}
+use Rattle.vme_engines.specs.declared.Status.{Status}
 use Rattle.vme_engines.specs.declared.Status.TheVariants.{Done, Limit}
 use Rattle.vme_engines.specs.declared.EngineFault.TheVariants as fault
+use Rattle.vme_engines.specs.declared.seeks.Ending.{Ending}
+use Rattle.vme_engines.specs.declared.seeks.Ending.TheVariants.{Over, Came, Missed}
 use Rattle.vme_engines.specs.Outcomes.{Answer, bench}
 use Rattle.vme_engines.specs.Checking.{IsLegalTrace}
+use Rattle.vme_engines.specs.Seeking.{Ended, walk_to}
 
--- the edges that a seed draws on a plan, at most n of them, the newest first
-abbrev pub walk : Plan → Version → ℕ → ℕ → List Edge
-walk p version seed n = (walked n (at_start (bench p version) seed)).state.history
+-- the walk of a seed on a plan: n edges at most, or up to the goal
+abbrev pub walk : Plan → Version → ℕ → ℕ → Option Goal → Ended
+walk p version seed n g = walk_to g n (at_start (bench p version) seed)
 
--- their trace
-abbrev pub walk_text : Plan → Version → ℕ → ℕ → List ℕ
-walk_text p version seed n = text version (in_order (walk p version seed n))
+-- the edge that was missed, if one was
+abbrev pub missed_of : Ending → List Edge
+missed_of (Missed e) = e ∷ []
+missed_of _ = []
 
--- What a drive with a seed leaves, by what the writer held and holds: the trace of a legal list, which
--- `check` calls legal; at X8 a prefix of it.
-abbrev pub Draws : Version → ℕ → ℕ → Option (List ℕ) → Option (List ℕ) → Plan → Answer → Type 0
-Draws version seed n old new p (Ok status) =
-    Appends old new (walk_text p version seed n)
-    × IsLegal version p (walk p version seed n)
-    × IsLegalTrace p (read_of (walk_text p version seed n))
-    × (status ≡ (if length (walk p version seed n) == n then Limit else Done))
-Draws version seed n old new p (Err (fault.Trace f)) =
-    (f ≡ Write) × AppendsFront old new (walk_text p version seed n)
-Draws version seed n old new p (Err _) = ⊥
+-- the text of the edges that were made, and of the one that was missed
+abbrev pub ended_text : Version → Ended → List ℕ
+ended_text version x = text version (in_order x.walk.state.history ++ missed_of x.ending)
 
--- The edges that a seed draws are a safe and orderly list.
-abbrev pub DrawsSafely : List ℕ → Version → ℕ → ℕ → Type 0
-DrawsSafely lent version seed n =
-    (p : Plan) × (scenario lent ≡ Ok p) × IsSafe p (walk p version seed n)
-    × IsOrderly version p (walk p version seed n)
+-- that text of the walk of a seed
+abbrev pub walk_text : Plan → Version → ℕ → ℕ → Option Goal → List ℕ
+walk_text p version seed n g = ended_text version (walk p version seed n g)
+
+-- the condition that is the goal alone refuses the edge
+abbrev pub IsRefusedBy : Option Goal → State → Edge → Type 0
+IsRefusedBy (Some (goal.Miss m)) b e = refuses b m e ≡ true
+IsRefusedBy _ b e = ⊥
+
+-- What is written without an edge that was missed, `check` calls legal; an edge that was missed is
+-- refused by the goal alone.
+abbrev pub EndsRightly : Plan → Version → Option Goal → State → Ending → Type 0
+EndsRightly p version g b (Missed e) = IsRefusedBy g b e
+EndsRightly p version g b ending = IsLegalTrace p (read_of (text version (in_order b.history)))
+
+-- the status without a goal, by how many edges were made; with one, by whether it came
+abbrev pub status_to : Option Goal → ℕ → ℕ → Ending → Status
+status_to None n made ending = if made == n then Limit else Done
+status_to (Some g) n made Over = Limit
+status_to (Some g) n made _ = Done
+
+-- What a drive with a seed leaves, by what the writer held and holds: the trace of a legal list, with
+-- the edge that was missed behind it; at X8 a prefix of that.
+abbrev pub Draws : Version → ℕ → ℕ → Option Goal → Option (List ℕ) → Option (List ℕ) → Plan → Answer → Type 0
+Draws version seed n g old new p (Ok status) =
+    let x = walk p version seed n g in
+    Appends old new (walk_text p version seed n g)
+    × IsLegal version p x.walk.state.history
+    × EndsRightly p version g x.walk.state x.ending
+    × (status ≡ status_to g n (length x.walk.state.history) x.ending)
+Draws version seed n g old new p (Err (fault.Trace f)) =
+    (f ≡ Write) × AppendsFront old new (walk_text p version seed n g)
+Draws version seed n g old new p (Err _) = ⊥
+
+-- The edges that were made are a safe and orderly list.
+abbrev pub DrawsSafely : List ℕ → Version → ℕ → ℕ → Option Goal → Type 0
+DrawsSafely lent version seed n g =
+    (p : Plan) × (scenario lent ≡ Ok p) × IsSafe p (walk p version seed n g).walk.state.history
+    × IsOrderly version p (walk p version seed n g).walk.state.history
+
+-- an edge that was missed is well formed
+abbrev pub IsWellFormed : Ending → Type 0
+IsWellFormed (Missed e) = IsTrue (is_well_formed e)
+IsWellFormed _ = Unit {0}

@@ -21,8 +21,12 @@ pub mod Showing
 pub mod Summing
 -- believe, for `drive` alone: what the drivers make, and what is written of it
 pub mod Driving
--- believe, for `drive_drawn` alone: what a seed draws, and what is written of it
+-- believe, for `drive_drawn` and `drive_found`: a walk that seeks a goal, and how it ends
+pub mod Seeking
+-- believe, for `drive_drawn` and `drive_found`: what a seed draws, and what is written of it
 pub mod Drawing
+-- believe, for `drive_found` alone: which seed is found, and what is written of it
+pub mod Found
 -- words, but for `IsNoPlan`, which `plan_of` answers by: what the reads and the pieces of a trace
 -- do to an engine
 pub mod Steps

@@ -52,7 +52,7 @@ fn take_rounds(backplane: &mut Backplane, edges: u32, all: &[Driver])
 }
 
 /// Writes the lines of the edges that were made.
-fn write_lines<W: Write>(backplane: &Backplane, out: &mut W) -> Result<(), Fault>
+pub(crate) fn write_lines<W: Write>(backplane: &Backplane, out: &mut W) -> Result<(), Fault>
     ensures ok { OnOk result
         (Appends (W.contents out.old) (W.contents out.new)
         (edge_lines (in_order backplane.now.history))) }

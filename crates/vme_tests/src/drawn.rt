@@ -1,7 +1,8 @@
 //! What no clause says of a drive with a seed: which edges some seeds draw, and a device that is full.
 use crate::devices::Narrow;
 use std::process::Abort;
-use vme_engines::{EngineFault, Status, drive_drawn};
+use vme_engines::{EngineFault, Status, drive_drawn, drive_found};
+use vme_events::{Event, Goal, Miss};
 use vme_model::Version;
 use vme_trace::Fault;
 
@@ -57,6 +58,24 @@ interrupter = { level = 3, kind = \"roak\", status = 112 }
 [[board]]
 slot = 9
 interrupter = { level = 6, kind = \"rora\", status = 64 }
+";
+
+/// Two interrupters of one level on one chain.
+const TWO_INTERRUPTERS: &[u8] = b"slots = 3
+arbiter = \"sgl\"
+
+[[board]]
+slot = 1
+requester = { level = 3, release = \"rwd\", burst = 2 }
+handler = [4]
+
+[[board]]
+slot = 2
+interrupter = { level = 4, kind = \"roak\", status = 65 }
+
+[[board]]
+slot = 3
+interrupter = { level = 4, kind = \"roak\", status = 66 }
 ";
 
 /// A board without parts, which makes no edge.
@@ -135,7 +154,15 @@ c bg3-
 fn assert_drawn(rt: &(impl Abort + AllocGlobal), case: &Case) {
     let (scenario, edges, seed, wanted, written) = *case;
     let mut out = Vec::new(rt.alloc());
-    let answer = drive_drawn(rt.alloc(), scenario, edges, seed, &mut out, Version::One);
+    let answer = drive_drawn(
+        rt.alloc(),
+        scenario,
+        edges,
+        seed,
+        None,
+        &mut out,
+        Version::One,
+    );
     assert!(rt; answer == Ok(wanted));
     assert!(rt; out.as_slice() == written);
 }
@@ -150,7 +177,88 @@ fn seeds_draw_edges(rt: HostRuntime) {
 #[test]
 fn a_full_device_cuts_a_drawn_trace(rt: HostRuntime) {
     let mut out = Narrow::new(rt.alloc(), usize::MAX, 7);
-    let answer = drive_drawn(rt.alloc(), ONE_TENURE, 14, 1, &mut out, Version::One);
+    let answer = drive_drawn(rt.alloc(), ONE_TENURE, 14, 1, None, &mut out, Version::One);
     assert!(rt; answer == Err(EngineFault::Trace(Fault::Write)));
     assert!(rt; out.taken() == b"vme 1\n1".as_slice());
+}
+
+/// The trace of seed 10 up to an acknowledge that is handed on.
+const HANDED_ON: &[u8] = b"vme 1
+3 irq-
+1 br-
+c bg3-
+1 bbsy-
+1 addr- i4
+1 as-
+1 ds-
+1 br+
+c bg3+
+1 bbsy+
+c iack-
+2 iackout-
+";
+
+/// The trace of seed 0 up to a bus error that races an answer.
+const RACED: &[u8] = b"vme 1
+1 br-
+3 irq-
+c bg3-
+1 bbsy-
+1 addr- r2
+1 as-
+1 br+
+2 irq-
+c bg3+
+1 bbsy+
+1 ds-
+c berr-
+";
+
+/// Asserts how a drive of 60 edges to a goal ends, and what it writes.
+fn assert_sought(rt: &(impl Abort + AllocGlobal), seed: u64, goal: Goal, written: &[u8]) {
+    let mut out = Vec::new(rt.alloc());
+    let answer = drive_drawn(
+        rt.alloc(),
+        TWO_INTERRUPTERS,
+        60,
+        seed,
+        Some(goal),
+        &mut out,
+        Version::One,
+    );
+    assert!(rt; answer == Ok(Status::Done));
+    assert!(rt; out.as_slice() == written);
+}
+
+#[test]
+fn an_event_ends_a_walk(rt: HostRuntime) {
+    assert_sought(&rt, 10, Goal::Event(Event::IackPassed), HANDED_ON);
+}
+
+#[test]
+fn a_missed_edge_ends_a_walk(rt: HostRuntime) {
+    assert_sought(&rt, 0, Goal::Miss(Miss::Settling(2)), RACED);
+}
+
+/// Asserts which of the seeds from 0 to `last` comes to an acknowledge that is handed on, and what is written.
+fn assert_found(rt: &(impl Abort + AllocGlobal), last: u64, seed: Option<u64>, written: &[u8]) {
+    let mut out = Vec::new(rt.alloc());
+    let answer = drive_found(
+        rt.alloc(),
+        TWO_INTERRUPTERS,
+        60,
+        0,
+        last,
+        Goal::Event(Event::IackPassed),
+        &mut out,
+        Version::One,
+    );
+    assert!(rt; answer == Ok(seed));
+    assert!(rt; out.as_slice() == written);
+}
+
+#[test]
+fn seeds_are_tried_in_order(rt: HostRuntime) {
+    assert_found(&rt, 9, None, b"");
+    assert_found(&rt, 20, Some(10), HANDED_ON);
 }
