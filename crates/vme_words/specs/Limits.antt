@@ -34,6 +34,7 @@ abbrev pub IsCounted : Job → Type 0
 IsCounted (Show scenario trace from to color) = 1 ≤ from
 IsCounted job = IsWithin job
 
+-- it is a picture of no window
 abbrev pub HasNoWindow : Job → Type 0
 HasNoWindow (Show scenario trace from to color) = IsNoWindow from to
 HasNoWindow job = ⊥
