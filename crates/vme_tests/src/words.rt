@@ -1,6 +1,7 @@
 //! What the command line means.
 use std::process::Abort;
-use vme_model::Version;
+use vme_events::{Event, Goal, Miss};
+use vme_model::{Condition, IrqKind, Version};
 use vme_words::{Job, words};
 
 /// Asserts which job words mean.
@@ -221,9 +222,75 @@ fn reads_what_to_draw(rt: HostRuntime) {
             scenario: "S",
             edges: *edges,
             seed: *seed,
+            until: None,
             version: *version,
         };
         assert_job(&rt, given, wanted);
+    }
+}
+
+/// What a trace is to end with: the word, the goal and the version.
+const GOALS: [(&str, Goal, &str, Version); 7] = [
+    (
+        "iack-passed",
+        Goal::Event(Event::IackPassed),
+        "1",
+        Version::One,
+    ),
+    (
+        "grant-timeout",
+        Goal::Event(Event::GrantTimeout),
+        "2",
+        Version::Two,
+    ),
+    ("S2", Goal::Miss(Miss::Settling(2)), "1", Version::One),
+    (
+        "G13 own bgout is high",
+        Goal::Miss(Miss::Rule(13, Condition::OwnGrantOutHigh)),
+        "1",
+        Version::One,
+    ),
+    (
+        "G1 the arbiter picks level N",
+        Goal::Miss(Miss::Rule(1, Condition::Picked)),
+        "2",
+        Version::Two,
+    ),
+    (
+        "G2 BBSY* is low",
+        Goal::Miss(Miss::Rule(2, Condition::BusyLow)),
+        "1",
+        Version::One,
+    ),
+    (
+        "G22 the request was served by an access",
+        Goal::Miss(Miss::Unserved(IrqKind::Rora)),
+        "1",
+        Version::One,
+    ),
+];
+
+#[test]
+fn reads_what_a_trace_ends_with(rt: HostRuntime) {
+    for (named, goal, version, rules) in &GOALS {
+        let given = [
+            "drive",
+            "S",
+            "--edges=8",
+            "--seed=7",
+            "--until",
+            *named,
+            "--version",
+            *version,
+        ];
+        let wanted = Job::Draw {
+            scenario: "S",
+            edges: 8,
+            seed: 7,
+            until: Some(*goal),
+            version: *rules,
+        };
+        assert_job(&rt, &given, wanted);
     }
 }
 
@@ -248,7 +315,20 @@ fn reads_what_to_run(rt: HostRuntime) {
 }
 
 /// Words that mean no job.
-const REFUSED: [&[&str]; 42] = [
+const REFUSED: [&[&str]; 48] = [
+    &["drive", "S", "--edges=8", "--until", "delivery"],
+    &["drive", "S", "--edges=8", "--seed=7", "--until", "Delivery"],
+    &["drive", "S", "--edges=8", "--seed=7", "--until", ""],
+    &[
+        "drive",
+        "S",
+        "--edges=8",
+        "--seed=7",
+        "--until",
+        "withdrawn",
+    ],
+    &["drive", "S", "--edges=8", "--seed=7", "--until", "S3"],
+    &["run", "S", "--edges=8", "--turns=8", "--until", "delivery"],
     &["show", "S"],
     &["show", "S", "T", "--from", "0"],
     &["show", "S", "T", "--to", "0"],
@@ -385,14 +465,16 @@ const SUMMARY: [&str; 3] = [
     "  vmebus summary board.toml tenure.vme\n",
 ];
 
-const DRIVE: [&str; 8] = [
-    "Usage: vmebus drive <SCENARIO> --edges <N> [--seed <S>] [--version <V>]",
+const DRIVE: [&str; 10] = [
+    "Usage: vmebus drive <SCENARIO> --edges <N> [--seed <S> [--until <EVENT>]] [--version <V>]",
+    "--until <EVENT>",
+    "grant-passed late-request overtaken",
     "--seed <S>",
     "0 to 18446744073709551615",
     "  vmebus drive board.toml --edges 1000 --seed 7 > drawn.vme\n",
     "--edges <N>",
     "1 to 1048576",
-    "--version <V>  The version of the rules, 1 or 2 [default: 1]",
+    "--version <V>    The version of the rules, 1 or 2 [default: 1]",
     "  vmebus drive board.toml --edges 1000 > tenure.vme\n",
 ];
 
@@ -428,7 +510,15 @@ fn help_tells_what_each_command_is(rt: HostRuntime) {
 }
 
 /// Words that mean no job, and the part of the text that says why.
-const ERRORS: [(&[&str], &str); 16] = [
+const ERRORS: [(&[&str], &str); 18] = [
+    (
+        &["drive", "S", "--edges=8", "--until", "delivery"],
+        "error: the option '--until <EVENT>' needs '--seed <S>'\n",
+    ),
+    (
+        &["drive", "S", "--edges=8", "--seed=7", "--until", "S3"],
+        "error: invalid value 'S3' for '--until <EVENT>': version 1 has no such event\n",
+    ),
     (
         &["show", "S", "T", "--from", "8", "--to", "7"],
         "error: invalid value '7' for '--to <B>': 7 is not in 8..=207\n",

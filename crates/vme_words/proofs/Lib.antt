@@ -2,5 +2,5 @@
 pub mod Building
 -- src/lib.rt: what the getters of a parse give
 pub mod Operands
--- src/lib.rt: words that ask for a picture of no window
-pub mod Windows
+-- src/lib.rt: what is unfit is no job
+pub mod NoJobs

@@ -1,5 +1,5 @@
 -- What the getters of a parse give, by the rows that it found.
-use Rattle.std.proofs.Common.{◌≡◌, ◌∙◌, ℕ, List, Bool, true, false, Option, Some, None, Result, Ok, Err, IfSome, codes, option_map, refl, sym, ap, subst, unwrap_or}
+use Rattle.std.proofs.Common.{◌≡◌, ◌∙◌, ℕ, List, Bool, true, false, Option, Some, None, Result, Ok, Err, codes, option_map, refl, sym, ap, subst, unwrap_or}
 use Rattle.std.specs.Str.Parse.{ParsesBool, ParsesUnsigned, digits_value, without_leading_plus}
 use Rattle.std.specs.Borrow.{Bor}
 use Rattle.clap.specs.Words.{ReadsOne, TriesOne, Text, first_of, first_value, one_text, rows_of}
@@ -7,10 +7,9 @@ use Rattle.clap.specs.declared.parser.matches.Found.{Found}
 use Rattle.clap.proofs.WalkLemmas.{first_value-rows, one_text-rows}
 use Rattle.vme_words.specs.Asked.{IsFlag, spelled}
 
-pub file_named : (f : Found) (id : Text) (r : Option (Bor Text)) → option_map (λ s. s.now) r ≡ first_value f id
-    → IfSome r (λ s. first_of id (rows_of f) ≡ Some s.now)
-file_named f id None e = tt
-file_named f id (Some s) e = sym (e ∙ first_value-rows f id)
+pub text_read : (f : Found) (id : Text) (r : Option (Bor Text)) → option_map (λ s. s.now) r ≡ first_value f id
+    → option_map (λ s. s.now) r ≡ first_of id (rows_of f)
+text_read f id r e = e ∙ first_value-rows f id
 
 spelled_text : (f : Found) (id t : Text) → one_text f id ≡ Some t → spelled id (rows_of f) ≡ Some (digits_value 10 (without_leading_plus t))
 spelled_text f id t e = ap (option_map (λ u. digits_value 10 (without_leading_plus u))) (sym (one_text-rows f id) ∙ e)

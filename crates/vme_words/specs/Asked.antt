@@ -1,10 +1,12 @@
 -- Which job the words after the program's name ask for.
-use Rattle.std.specs.Prelude.{◌≡◌, ◌↔◌, ◌+◌, ◌-◌, ◌^◌, ℕ, Bool, IsTrue, List, [], ◌∷◌, Option, Some, None, codes, map, max, min, option_map, IsSomeAnd}
+use Rattle.std.specs.Prelude.{◌≡◌, ◌↔◌, ◌⊎◌, ◌+◌, ◌-◌, ◌^◌, ℕ, Bool, IsTrue, List, [], ◌∷◌, Option, Some, None, codes, map, max, min, option_map, IsSomeAnd}
 use Rattle.std.specs.Borrow.{Bor}
 use Rattle.std.specs.Str.Parse.{digits_value, without_leading_plus}
 use Rattle.clap.specs.Words.{Row, Text, first_of, one_of, subcommand_of}
 use Rattle.vme_model.specs.declared.Version.{Version}
 use Rattle.vme_model.specs.declared.Version.TheVariants.{One, Two}
+use Rattle.vme_events.specs.declared.goals.Goal.{Goal}
+use Rattle.vme_events.specs.Goals.{goal_of}
 use Rattle.vme_words.specs.Commands.{commands}
 use Rattle.vme_words.specs.declared.Job.{Job}
 use Rattle.vme_words.specs.declared.Job.TheVariants.{Joined, Replay, Check, Explain, State, Show, Summary, Drive, Draw, Run}
@@ -54,6 +56,12 @@ first_of_window rows = first_shown (spelled (codes "from") rows) (spelled (codes
 abbrev pub last_of_window : List Row → ℕ
 last_of_window rows = last_shown (spelled (codes "to") rows) (first_of_window rows)
 
+-- what `--until` names, of all that the version can come to
+abbrev pub IsAim : List Row → Version → Option Goal → Type 0
+IsAim rows version None = first_of (codes "until") rows ≡ None
+IsAim rows version (Some goal) = (named : Text) × (first_of (codes "until") rows ≡ Some named)
+    × (goal_of named version ≡ Some goal)
+
 -- a command of this name, with these operands, is this job
 abbrev pub AsksFor : Text → List Row → Job → Type 0
 AsksFor name rows Joined = ⊥
@@ -75,10 +83,10 @@ AsksFor name rows (Summary scenario trace) = (name ≡ codes "summary")
     × IsFile (codes "SCENARIO") rows scenario.now × IsFile (codes "TRACE") rows trace.now
 AsksFor name rows (Drive scenario edges version) = (name ≡ codes "drive")
     × IsFile (codes "SCENARIO") rows scenario.now × AreOptions rows edges version
-    × (spelled (codes "seed") rows ≡ None)
-AsksFor name rows (Draw scenario edges seed version) = (name ≡ codes "drive")
+    × (spelled (codes "seed") rows ≡ None) × IsAim rows version None
+AsksFor name rows (Draw scenario edges seed until version) = (name ≡ codes "drive")
     × IsFile (codes "SCENARIO") rows scenario.now × AreOptions rows edges version
-    × (spelled (codes "seed") rows ≡ Some seed)
+    × (spelled (codes "seed") rows ≡ Some seed) × IsAim rows version until
 AsksFor name rows (Run scenario edges turns version) = (name ≡ codes "run")
     × IsFile (codes "SCENARIO") rows scenario.now × AreOptions rows edges version
     × (spelled (codes "turns") rows ≡ Some turns)
@@ -90,7 +98,18 @@ Ask [] job = job ≡ Joined
 Ask (word ∷ words) job =
     IsSomeAnd (subcommand_of commands (word ∷ words)) (λ met. AsksFor met.0 met.1 job)
 
--- the words are those of a picture of no window
-abbrev pub AskForNoWindow : List Text → Type 0
-AskForNoWindow words = IsSomeAnd (subcommand_of commands words) (λ met.
-    (met.0 ≡ codes "show") × IsNoWindow (first_of_window met.1) (last_of_window met.1))
+-- `--until` is given without a seed, or names nothing that the version can come to
+abbrev pub IsNoAim : List Row → Type 0
+IsNoAim rows = (named : Text) × (first_of (codes "until") rows ≡ Some named)
+    × ((spelled (codes "seed") rows ≡ None)
+    ⊎ ((version : Version) × (spelled (codes "version") rows ≡ Some (version_number version))
+    × (goal_of named version ≡ None)))
+
+-- a command of this name is no job with these operands
+abbrev pub IsNoJob : Text → List Row → Type 0
+IsNoJob name rows =
+    ((name ≡ codes "show") × IsNoWindow (first_of_window rows) (last_of_window rows))
+    ⊎ ((name ≡ codes "drive") × IsNoAim rows)
+
+abbrev pub AskForNoJob : List Text → Type 0
+AskForNoJob words = IsSomeAnd (subcommand_of commands words) (λ met. IsNoJob met.0 met.1)

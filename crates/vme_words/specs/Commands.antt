@@ -59,6 +59,13 @@ to = whole (codes "to") 1
 abbrev pub seed : Rule
 seed = whole (codes "seed") 0
 
+abbrev pub until : Rule
+until = record (new_rule (codes "until")) {
+  long = Some (codes "until");
+  action = Some Set;
+  value_names = 1;
+}
+
 -- `--NAME` without a value
 abbrev pub flag : Text → Rule
 flag name = record (new_rule name) { long = Some name; action = Some SetTrue }
@@ -92,7 +99,7 @@ abbrev pub summary : Shape
 summary = (leaf (codes "summary") (file (codes "TRACE") ∷ [])).top
 
 abbrev pub drive : Shape
-drive = (leaf (codes "drive") (edges ∷ seed ∷ version ∷ [])).top
+drive = (leaf (codes "drive") (edges ∷ seed ∷ until ∷ version ∷ [])).top
 
 abbrev pub run : Shape
 run = (leaf (codes "run") (edges ∷ turns ∷ version ∷ [])).top

@@ -18,7 +18,7 @@ IsNoWindow from to = (to < from) ⊎ (from + 199 < to)
 -- driver 1 to 1,000,000 turns; the edges of a trace are counted from 1
 abbrev pub IsWithin : Job → Type 0
 IsWithin (Drive scenario edges version) = (1 ≤ edges) × (edges ≤ trace_limit)
-IsWithin (Draw scenario edges seed version) = (1 ≤ edges) × (edges ≤ trace_limit)
+IsWithin (Draw scenario edges seed until version) = (1 ≤ edges) × (edges ≤ trace_limit)
 IsWithin Joined = Unit {0}
 IsWithin (Replay scenario trace) = Unit {0}
 IsWithin (Check scenario trace) = Unit {0}
@@ -28,12 +28,3 @@ IsWithin (Show scenario trace from to color) = (1 ≤ from) × IsWindow from to
 IsWithin (Summary scenario trace) = Unit {0}
 IsWithin (Run scenario edges turns version) =
     (1 ≤ edges) × (edges ≤ trace_limit) × (1 ≤ turns) × (turns ≤ most_turns)
-
--- the same before the window of a picture is judged
-abbrev pub IsCounted : Job → Type 0
-IsCounted (Show scenario trace from to color) = 1 ≤ from
-IsCounted job = IsWithin job
-
-abbrev pub HasNoWindow : Job → Type 0
-HasNoWindow (Show scenario trace from to color) = IsNoWindow from to
-HasNoWindow job = ⊥

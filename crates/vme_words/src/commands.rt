@@ -122,7 +122,8 @@ Example:
 const DRIVE: &str =
     "Writes a trace that the drivers of a scenario make in turn, or one that is drawn by lot";
 
-const DRIVE_USAGE: &str = "vmebus drive <SCENARIO> --edges <N> [--seed <S>] [--version <V>]";
+const DRIVE_USAGE: &str =
+    "vmebus drive <SCENARIO> --edges <N> [--seed <S> [--until <EVENT>]] [--version <V>]";
 
 const DRIVE_EXAMPLE: &str =
     "In each round the controller and then each board makes one of the edges that are open to it. It ends
@@ -133,9 +134,17 @@ With --seed there are no rounds: each edge is drawn by lot from all edges that w
 all drivers. A seed always draws the same trace. The exit status is 3 after the given number of
 edges, and 0 where nobody could make a further one.
 
+With --until the trace ends as soon as EVENT comes, and the exit status is 0 where it came, else 3.
+EVENT is a situation that an accepted edge brings about,
+  grant-passed late-request overtaken early-release overlap full-burst bus-clear rivals delivery
+  iack-passed answered-again spurious bus-error, and in version 2 withdrawn grant-timeout
+or what alone refuses an edge, which is then the last of the trace: a rule and one of its conditions
+as `vmebus explain` writes it, with N for a level, or a settling rule, as S2.
+
 Examples:
   vmebus drive board.toml --edges 1000 > tenure.vme
-  vmebus drive board.toml --edges 1000 --seed 7 > drawn.vme";
+  vmebus drive board.toml --edges 1000 --seed 7 > drawn.vme
+  vmebus drive board.toml --edges 1000 --seed 7 --until \"G13 own br is low\" > refused.vme";
 
 const RUN: &str = "Writes a trace that the drivers of a scenario make at once, a thread for each";
 
@@ -272,6 +281,16 @@ fn seed_option<'a>(alloc: Global) -> Arg<'a>
     whole_option(alloc, "seed", "S", 0, help)
 }
 
+fn until_option<'a>(alloc: Global) -> Arg<'a>
+    ensures { rule_of result ≡ said.until }
+{
+    Arg::new(alloc, "until")
+        .long("until")
+        .value_name("EVENT")
+        .action(ArgAction::Set)
+        .help("Ends with the first edge that brings this about; needs --seed")
+}
+
 fn color_option<'a>(alloc: Global) -> Arg<'a>
     ensures { rule_of result ≡ said.color }
 {
@@ -369,12 +388,14 @@ fn summary<'a>(alloc: Global) -> Result<Command<'a>, AllocError>
     command_on_trace(alloc, "summary", SUMMARY, SUMMARY_USAGE, SUMMARY_EXAMPLE)
 }
 
-fn drive<'a>(alloc: Global) -> Result<Command<'a>, AllocError>
+/// The command `drive`.
+pub(crate) fn drive<'a>(alloc: Global) -> Result<Command<'a>, AllocError>
     ensures { IfOk result (λ c. shape_of c ≡ said.drive) }
 {
     let command = command(alloc, "drive", DRIVE, DRIVE_USAGE, DRIVE_EXAMPLE);
     let command = taking(command, edges_option(alloc));
     let command = taking(command, seed_option(alloc));
+    let command = taking(command, until_option(alloc));
     taking(command, version_option(alloc))
 }
 

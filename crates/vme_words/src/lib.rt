@@ -1,18 +1,20 @@
 //! The words after the name of the program `vmebus`, and what they ask for.
 #![tactic(auto)]
 
-ghost use Rattle.std.specs.Prelude.{◌≡◌, ◌≤◌, ◌↔◌, ◌⊎◌, [], ◌∷◌, IfErr, IfOk, IfSome, IsSomeAnd, Ok, Some, codes, length};
-ghost use Rattle.clap.specs.Words.{FailsBy, IsAmong, fault_of, found_of, kind_of, rows_of, subcommand_of, subcommand_rows_of};
-ghost use Rattle.vme_words.specs.Asked.{Ask, AskForNoWindow, AsksFor, IsFile, IsFlag, first_shown, last_shown, spelled, texts_of, version_number};
+ghost use Rattle.std.specs.Prelude.{◌≡◌, ◌≢◌, ◌≤◌, ◌↔◌, ◌⊎◌, [], ◌∷◌, IfErr, IfOk, IfSome, IsSomeAnd, Ok, Some, codes, length, option_map};
+ghost use Rattle.clap.specs.Words.{FailsBy, IsAmong, fault_of, first_of as first_text, found_of, kind_of, rows_of, subcommand_of, subcommand_rows_of};
+ghost use Rattle.vme_words.specs.Asked.{Ask, AskForNoJob, AsksFor, IsAim, IsFile, IsFlag, first_shown, last_shown, spelled, texts_of, version_number};
 ghost use Rattle.vme_words.specs.Commands.{commands as commands_said};
-ghost use Rattle.vme_words.specs.Limits.{HasNoWindow, IsCounted, IsWithin};
+ghost use Rattle.vme_words.specs.Limits.{IsWithin};
+ghost use Rattle.vme_words.specs.Unfits.{IsUnfit};
 
 mod commands;
 
 use clap::error::ErrorKind;
 use clap::{ArgMatches, Error};
-use commands::{commands, show};
+use commands::{commands, drive, show};
 use std::alloc::{AllocError, Global};
+use vme_events::{Goal, goal_of};
 use vme_model::{TRACE_LIMIT, Version};
 
 /// The most edges that a run makes.
@@ -101,6 +103,8 @@ pub enum Job<'a> {
         edges: u32,
         /// What the lots are drawn by.
         seed: u64,
+        /// What the trace is to end with, if with anything.
+        until: Option<Goal>,
         /// The version of the rules.
         version: Version,
     },
@@ -117,60 +121,105 @@ pub enum Job<'a> {
     },
 }
 
-/// The file that the operand of that name names.
-fn file_of<'a>(operands: &ArgMatches<'a>, name: &str) -> Option<&'a str>
-    ensures { IfSome result (λ file. IsFile name.now (rows_of (found_of operands.now)) file.now) }
+/// Why words that the command line takes ask for no job.
+#[derive(Clone, Copy, PartialEq, Eq, Debug)]
+enum Unfit<'a> {
+    /// They name no command, or one without an operand that it must have.
+    Missing,
+    /// No picture goes from this edge to that one.
+    Window { from: u64, to: u64 },
+    /// The version of the rules comes to nothing of this name.
+    Event { named: &'a str, version: Version },
+    /// The trace is to end with something, and there is no seed.
+    Seedless,
+}
+
+/// The word of the operand of that name.
+fn text_of<'a>(operands: &ArgMatches<'a>, name: &str) -> Option<&'a str>
+    ensures { option_map (λ text. text.now) result
+        ≡ first_text name.now (rows_of (found_of operands.now)) }
 {
     operands.get_str(name)
 }
 
-/// The number that the option of that name spells, where it is 1 to `most`.
-fn number_of(operands: &ArgMatches<'_>, name: &str, most: u32) -> Option<u32>
-    ensures within { IfSome result (λ n. (1 ≤ n) × (n ≤ most)) }
-    ensures spelled { IfSome result (λ n.
-        spelled name.now (rows_of (found_of operands.now)) ≡ Some n) }
+/// The file that the operand of that name names.
+fn file_of<'a>(operands: &ArgMatches<'a>, name: &str) -> Result<&'a str, Unfit<'a>>
+    ensures file { IfOk result (λ file.
+        IsFile name.now (rows_of (found_of operands.now)) file.now) }
+    ensures missing { IfErr result (λ unfit. unfit ≡ Unfit.Missing) }
 {
-    let number = operands.get_one::<u32>(name)?;
-    if 1 <= number && number <= most {
-        Some(number)
-    } else {
-        None
+    match text_of(operands, name) {
+        Some(file) => Ok(file),
+        None => Err(Unfit::Missing),
+    }
+}
+
+/// The number that the option of that name spells, where it is 1 to `most`.
+fn number_of<'a>(operands: &ArgMatches<'a>, name: &str, most: u32) -> Result<u32, Unfit<'a>>
+    ensures within { IfOk result (λ n. (1 ≤ n) × (n ≤ most)) }
+    ensures spelled { IfOk result (λ n.
+        spelled name.now (rows_of (found_of operands.now)) ≡ Some n) }
+    ensures missing { IfErr result (λ unfit. unfit ≡ Unfit.Missing) }
+{
+    match operands.get_one::<u32>(name) {
+        Some(number) if 1 <= number && number <= most => Ok(number),
+        _ => Err(Unfit::Missing),
     }
 }
 
 /// The whole number of 64 bits that the option of that name spells, where it is `least` or more;
 /// none where it is not given.
-fn whole_of(operands: &ArgMatches<'_>, name: &str, least: u64) -> Option<Option<u64>>
-    ensures within { IfSome result (λ whole. IfSome whole (λ n. least ≤ n)) }
-    ensures spelled { IfSome result (λ whole.
+fn whole_of<'a>(operands: &ArgMatches<'a>, name: &str, least: u64) -> Result<Option<u64>, Unfit<'a>>
+    ensures within { IfOk result (λ whole. IfSome whole (λ n. least ≤ n)) }
+    ensures spelled { IfOk result (λ whole.
         spelled name.now (rows_of (found_of operands.now)) ≡ whole) }
+    ensures missing { IfErr result (λ unfit. unfit ≡ Unfit.Missing) }
 {
     match operands.try_get_one::<u64>(name) {
-        Ok(None) => Some(None),
-        Ok(Some(n)) if least <= n => Some(Some(n)),
-        _ => None,
+        Ok(None) => Ok(None),
+        Ok(Some(n)) if least <= n => Ok(Some(n)),
+        _ => Err(Unfit::Missing),
     }
 }
 
 /// The version of the rules, where there is one of the number that `--version` spells.
-fn version_of(operands: &ArgMatches<'_>) -> Option<Version>
-    ensures { IfSome result (λ version.
+fn version_of<'a>(operands: &ArgMatches<'a>) -> Result<Version, Unfit<'a>>
+    ensures spelled { IfOk result (λ version.
         spelled (codes "version") (rows_of (found_of operands.now))
         ≡ Some (version_number version)) }
+    ensures missing { IfErr result (λ unfit. unfit ≡ Unfit.Missing) }
 {
     match number_of(operands, "version", 2)? {
-        1 => Some(Version::One),
-        _ => Some(Version::Two),
+        1 => Ok(Version::One),
+        _ => Ok(Version::Two),
+    }
+}
+
+/// What `--until` names, of all that the version of the rules can come to; none where it is not
+/// given.
+fn aim_of<'a>(operands: &ArgMatches<'a>, version: Version) -> Result<Option<Goal>, Unfit<'a>>
+    ensures aim { IfOk result (IsAim (rows_of (found_of operands.now)) version) }
+    ensures unfit { spelled (codes "version") (rows_of (found_of operands.now))
+        ≡ Some (version_number version)
+        → IfErr result (IsUnfit (codes "drive") (rows_of (found_of operands.now))) }
+{
+    match text_of(operands, "until") {
+        None => Ok(None),
+        Some(named) => match goal_of(named, version) {
+            Some(goal) => Ok(Some(goal)),
+            None => Err(Unfit::Event { named, version }),
+        },
     }
 }
 
 /// An explanation on the scenario, with its other operands.
-fn explain_of<'a>(scenario: &'a str, operands: &ArgMatches<'a>) -> Option<Job<'a>>
-    ensures within { IfSome result IsWithin }
+fn explain_of<'a>(scenario: &'a str, operands: &ArgMatches<'a>) -> Result<Job<'a>, Unfit<'a>>
+    ensures within { IfOk result IsWithin }
     ensures asked { IsFile (codes "SCENARIO") (rows_of (found_of operands.now)) scenario.now
-        → IfSome result (AsksFor (codes "explain") (rows_of (found_of operands.now))) }
+        → IfOk result (AsksFor (codes "explain") (rows_of (found_of operands.now))) }
+    ensures unfit { IfErr result (IsUnfit (codes "explain") (rows_of (found_of operands.now))) }
 {
-    Some(Job::Explain {
+    Ok(Job::Explain {
         scenario,
         trace: file_of(operands, "TRACE")?,
         edge: whole_of(operands, "edge", 1)?,
@@ -178,12 +227,13 @@ fn explain_of<'a>(scenario: &'a str, operands: &ArgMatches<'a>) -> Option<Job<'a
 }
 
 /// The state of the scenario's bus, with its other operands.
-fn state_of<'a>(scenario: &'a str, operands: &ArgMatches<'a>) -> Option<Job<'a>>
-    ensures within { IfSome result IsWithin }
+fn state_of<'a>(scenario: &'a str, operands: &ArgMatches<'a>) -> Result<Job<'a>, Unfit<'a>>
+    ensures within { IfOk result IsWithin }
     ensures asked { IsFile (codes "SCENARIO") (rows_of (found_of operands.now)) scenario.now
-        → IfSome result (AsksFor (codes "state") (rows_of (found_of operands.now))) }
+        → IfOk result (AsksFor (codes "state") (rows_of (found_of operands.now))) }
+    ensures unfit { IfErr result (IsUnfit (codes "state") (rows_of (found_of operands.now))) }
 {
-    Some(Job::State {
+    Ok(Job::State {
         scenario,
         trace: file_of(operands, "TRACE")?,
         after: whole_of(operands, "after", 0)?,
@@ -217,54 +267,64 @@ fn last_of(to: Option<u64>, first: u64) -> u64
     to.unwrap_or(first.saturating_add(SHOWN - 1))
 }
 
-/// A picture of the scenario's trace, with its other operands. Its window is not judged yet.
-fn show_of<'a>(scenario: &'a str, operands: &ArgMatches<'a>) -> Option<Job<'a>>
-    ensures within { IfSome result IsCounted }
+/// A picture of the scenario's trace, with its other operands.
+fn show_of<'a>(scenario: &'a str, operands: &ArgMatches<'a>) -> Result<Job<'a>, Unfit<'a>>
+    ensures within { IfOk result IsWithin }
     ensures asked { IsFile (codes "SCENARIO") (rows_of (found_of operands.now)) scenario.now
-        → IfSome result (AsksFor (codes "show") (rows_of (found_of operands.now))) }
+        → IfOk result (AsksFor (codes "show") (rows_of (found_of operands.now))) }
+    ensures unfit { IfErr result (IsUnfit (codes "show") (rows_of (found_of operands.now))) }
 {
     let trace = file_of(operands, "TRACE")?;
     let to = whole_of(operands, "to", 1)?;
     let from = first_of(whole_of(operands, "from", 1)?, to);
-    Some(Job::Show {
+    let to = last_of(to, from);
+    if to < from || to - from >= MOST_SHOWN {
+        return Err(Unfit::Window { from, to });
+    }
+    Ok(Job::Show {
         scenario,
         trace,
         from,
-        to: last_of(to, from),
+        to,
         color: is_flagged(operands, "color"),
     })
 }
 
 /// A drive of the scenario, with its other operands: drawn where there is a seed, and else in turn.
-fn drive_of<'a>(scenario: &'a str, operands: &ArgMatches<'a>) -> Option<Job<'a>>
-    ensures within { IfSome result IsWithin }
+fn drive_of<'a>(scenario: &'a str, operands: &ArgMatches<'a>) -> Result<Job<'a>, Unfit<'a>>
+    ensures within { IfOk result IsWithin }
     ensures asked { IsFile (codes "SCENARIO") (rows_of (found_of operands.now)) scenario.now
-        → IfSome result (AsksFor (codes "drive") (rows_of (found_of operands.now))) }
+        → IfOk result (AsksFor (codes "drive") (rows_of (found_of operands.now))) }
+    ensures unfit { IfErr result (IsUnfit (codes "drive") (rows_of (found_of operands.now))) }
 {
     let edges = number_of(operands, "edges", MOST_EDGES)?;
     let version = version_of(operands)?;
-    Some(match whole_of(operands, "seed", 0)? {
-        Some(seed) => Job::Draw {
+    let until = aim_of(operands, version)?;
+    match whole_of(operands, "seed", 0)? {
+        Some(seed) => Ok(Job::Draw {
             scenario,
             edges,
             seed,
+            until,
             version,
-        },
-        None => Job::Drive {
+        }),
+        None if until.is_some() => Err(Unfit::Seedless),
+        None => Ok(Job::Drive {
             scenario,
             edges,
             version,
-        },
-    })
+        }),
+    }
 }
 
 /// A run of the scenario, with its other operands.
-fn run_of<'a>(scenario: &'a str, operands: &ArgMatches<'a>) -> Option<Job<'a>>
-    ensures within { IfSome result IsWithin }
+fn run_of<'a>(scenario: &'a str, operands: &ArgMatches<'a>) -> Result<Job<'a>, Unfit<'a>>
+    ensures within { IfOk result IsWithin }
     ensures asked { IsFile (codes "SCENARIO") (rows_of (found_of operands.now)) scenario.now
-        → IfSome result (AsksFor (codes "run") (rows_of (found_of operands.now))) }
+        → IfOk result (AsksFor (codes "run") (rows_of (found_of operands.now))) }
+    ensures unfit { IfErr result (IsUnfit (codes "run") (rows_of (found_of operands.now))) }
 {
-    Some(Job::Run {
+    Ok(Job::Run {
         scenario,
         edges: number_of(operands, "edges", MOST_EDGES)?,
         turns: number_of(operands, "turns", MOST_TURNS)?,
@@ -273,41 +333,46 @@ fn run_of<'a>(scenario: &'a str, operands: &ArgMatches<'a>) -> Option<Job<'a>>
 }
 
 /// The job of a command's name, with its operands.
-fn job_of<'a>(name: &str, operands: &ArgMatches<'a>) -> Option<Job<'a>>
-    ensures within { IfSome result IsCounted }
-    ensures asked { IfSome result (AsksFor name.now (rows_of (found_of operands.now))) }
+fn job_of<'a>(name: &str, operands: &ArgMatches<'a>) -> Result<Job<'a>, Unfit<'a>>
+    ensures within { IfOk result IsWithin }
+    ensures asked { IfOk result (AsksFor name.now (rows_of (found_of operands.now))) }
+    ensures unfit { IfErr result (IsUnfit name.now (rows_of (found_of operands.now))) }
 {
     let scenario = file_of(operands, "SCENARIO")?;
     match name {
-        "replay" => Some(Job::Replay {
+        "replay" => Ok(Job::Replay {
             scenario,
             trace: file_of(operands, "TRACE")?,
         }),
-        "check" => Some(Job::Check {
+        "check" => Ok(Job::Check {
             scenario,
             trace: file_of(operands, "TRACE")?,
         }),
         "explain" => explain_of(scenario, operands),
         "state" => state_of(scenario, operands),
         "show" => show_of(scenario, operands),
-        "summary" => Some(Job::Summary {
+        "summary" => Ok(Job::Summary {
             scenario,
             trace: file_of(operands, "TRACE")?,
         }),
         "drive" => drive_of(scenario, operands),
         "run" => run_of(scenario, operands),
-        _ => None,
+        _ => Err(Unfit::Missing),
     }
 }
 
 /// The job that the command of a parse asks for.
-fn job_in<'a>(matches: &ArgMatches<'a>) -> Option<Job<'a>>
-    ensures within { IfSome result IsCounted }
-    ensures asked { IfSome result (λ job.
+fn job_in<'a>(matches: &ArgMatches<'a>) -> Result<Job<'a>, Unfit<'a>>
+    ensures within { IfOk result IsWithin }
+    ensures asked { IfOk result (λ job.
         IsSomeAnd (subcommand_rows_of matches.now) (λ met. AsksFor met.0 met.1 job)) }
+    ensures unfit { IfErr result (λ unfit. unfit ≢ Unfit.Missing
+        → IsSomeAnd (subcommand_rows_of matches.now) (λ met. IsUnfit met.0 met.1 unfit)) }
 {
-    let (name, operands) = matches.subcommand()?;
-    job_of(name, operands)
+    match matches.subcommand() {
+        Some((name, operands)) => job_of(name, operands),
+        None => Err(Unfit::Missing),
+    }
 }
 
 /// What the command line makes of words.
@@ -319,12 +384,15 @@ fn parsed<'a>(alloc: Global, words: &'a [&'a str]) -> Result<ArgMatches<'a>, Err
     commands(alloc)?.try_get_matches_from(words)
 }
 
-/// The job that words ask for, where they name a command.
-fn asked<'a>(alloc: Global, words: &'a [&'a str]) -> Result<Option<Job<'a>>, Error>
-    ensures within { IfOk result (λ job. IfSome job IsCounted) }
-    ensures asked { IfOk result (λ job. IfSome job (λ found.
+/// The job that words ask for, or why they ask for none.
+fn asked<'a>(alloc: Global, words: &'a [&'a str]) -> Result<Result<Job<'a>, Unfit<'a>>, Error>
+    ensures within { IfOk result (λ job. IfOk job IsWithin) }
+    ensures asked { IfOk result (λ job. IfOk job (λ found.
         IsSomeAnd (subcommand_of commands_said (texts_of words.entry.now))
         (λ met. AsksFor met.0 met.1 found))) }
+    ensures unfit { IfOk result (λ job. IfErr job (λ unfit. unfit ≢ Unfit.Missing
+        → IsSomeAnd (subcommand_of commands_said (texts_of words.entry.now))
+        (λ met. IsUnfit met.0 met.1 unfit))) }
     ensures fault { FailsBy (fault_of commands_said (texts_of words.entry.now)) result }
 {
     Ok(job_in(&parsed(alloc, words)?))
@@ -348,19 +416,35 @@ fn no_window(alloc: Global, from: u64, to: u64) -> Result<Error, AllocError>
     show(alloc)?.error(ErrorKind::ValueValidation, &text)
 }
 
-/// The job, where it is no picture, or its picture is of a window.
-fn windowed<'a>(alloc: Global, job: Job<'a>) -> Result<Job<'a>, Error>
-    requires { IsCounted job }
-    ensures within { IfOk result IsWithin }
-    ensures same { IfOk result (λ found. found ≡ job.entry) }
-    ensures refused { IfErr result (λ error. (kind_of error ≡ ErrorKind.OutOfMemory)
-        ⊎ ((kind_of error ≡ ErrorKind.ValueValidation) × HasNoWindow job.entry)) }
+/// The error where the version of the rules comes to nothing of that name.
+fn no_event(alloc: Global, named: &str, version: Version) -> Result<Error, AllocError>
+    ensures { IfOk result (λ error. kind_of error ≡ ErrorKind.ValueValidation) }
 {
-    match job {
-        Job::Show { from, to, .. } if to < from || to - from >= MOST_SHOWN => {
-            Err(no_window(alloc, from, to)?)
-        }
-        _ => Ok(job),
+    let number = if version.is_two() { 2 } else { 1 };
+    let text = format!(in alloc;
+        "invalid value '{named}' for '--until <EVENT>': version {number} has no such event"
+    )?;
+    drive(alloc)?.error(ErrorKind::ValueValidation, &text)
+}
+
+/// The error where there is no seed.
+fn no_seed(alloc: Global) -> Result<Error, AllocError>
+    ensures { IfOk result (λ error. kind_of error ≡ ErrorKind.ValueValidation) }
+{
+    let text = "the option '--until <EVENT>' needs '--seed <S>'";
+    drive(alloc)?.error(ErrorKind::ValueValidation, text)
+}
+
+/// The error that tells why words ask for no job.
+fn error_of(alloc: Global, unfit: Unfit<'_>) -> Result<Error, AllocError>
+    ensures { IfOk result (λ error. (kind_of error ≡ ErrorKind.MissingSubcommand)
+        ⊎ ((kind_of error ≡ ErrorKind.ValueValidation) × (unfit.entry ≢ Unfit.Missing))) }
+{
+    match unfit {
+        Unfit::Missing => missing(alloc),
+        Unfit::Window { from, to } => no_window(alloc, from, to),
+        Unfit::Event { named, version } => no_event(alloc, named, version),
+        Unfit::Seedless => no_seed(alloc),
     }
 }
 
@@ -376,14 +460,14 @@ pub fn words<'a>(alloc: Global, words: &'a [&'a str]) -> Result<Job<'a>, Error>
         (ErrorKind.OutOfMemory ∷ ErrorKind.MissingSubcommand
         ∷ fault_of commands_said (texts_of words.entry.now))
         ⊎ ((kind_of error ≡ ErrorKind.ValueValidation)
-        × AskForNoWindow (texts_of words.entry.now))) }
+        × AskForNoJob (texts_of words.entry.now))) }
     ensures joined { (result ≡ Ok Job.Joined) ↔ (length words.entry.now ≡ 0) }
 {
     if words.is_empty() {
         return Ok(Job::Joined);
     }
     match asked(alloc, words)? {
-        Some(job) => windowed(alloc, job),
-        None => Err(missing(alloc)?),
+        Ok(job) => Ok(job),
+        Err(unfit) => Err(error_of(alloc, unfit)?),
     }
 }

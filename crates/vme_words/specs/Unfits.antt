@@ -1,0 +1,11 @@
+-- Why words ask for no job.
+use Rattle.std.specs.Prelude.{List}
+use Rattle.clap.specs.Words.{Row, Text}
+use Rattle.vme_words.specs.Asked.{IsNoJob}
+use Rattle.vme_words.specs.declared.Unfit.{Unfit}
+use Rattle.vme_words.specs.declared.Unfit.TheVariants.{Missing}
+
+-- what is missing is not judged: the command line takes no such words
+abbrev pub IsUnfit : Text → List Row → Unfit → Type 0
+IsUnfit name rows Missing = Unit {0}
+IsUnfit name rows unfit = IsNoJob name rows
