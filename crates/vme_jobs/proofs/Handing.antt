@@ -10,12 +10,13 @@ use Rattle.vme_engines.specs.declared.EngineFault.TheVariants as fault
 use Rattle.vme_engines.specs.Streams.{Streams, ReadNothing, WroteNothing, streams}
 use Rattle.vme_engines.specs.Outcomes.{Answer, Lent}
 use Rattle.vme_engines.specs.Driving.{Drives}
+use Rattle.vme_engines.specs.Drawing.{Draws}
 use Rattle.vme_engines.specs.Joining.{Joins}
 use Rattle.vme_run.specs.declared.RunFault.{RunFault}
 use Rattle.vme_run.specs.declared.RunFault.TheVariants as run
 use Rattle.vme_run.specs.Running.{Runs}
 use Rattle.vme_words.specs.declared.Job.{Job}
-use Rattle.vme_words.specs.declared.Job.TheVariants.{Joined, Drive, Run}
+use Rattle.vme_words.specs.declared.Job.TheVariants.{Joined, Drive, Draw, Run}
 use Rattle.vme_jobs.specs.declared.faults.ProgramFault.{ProgramFault}
 use Rattle.vme_jobs.specs.declared.faults.ProgramFault.TheVariants.{CannotRead, TooLong, Engine}
 use Rattle.vme_jobs.specs.Done.{Alone, Hands, IsDone, Known, OnTrace}
@@ -49,6 +50,12 @@ pub drive_done : (scenario : Bor (List ℕ)) (text : List ℕ) (edges : ℕ) (ve
     → Lent text (Keeps old new) (Drives version edges old new) answer → IsDone (Drive scenario edges version) old new (told_answer scenario answer)
 drive_done scenario text edges version old new answer does =
     handed (λ a. (t : List ℕ) × Lent t (Keeps old new) (Drives version edges old new) a)
+    (Keeps old new) scenario answer (text, does) (λ h. absurd h.1) (λ h. h.1.1)
+
+pub draw_done : (scenario : Bor (List ℕ)) (text : List ℕ) (edges seed : ℕ) (version : Version) (old new : Known) (answer : Answer)
+    → Lent text (Keeps old new) (Draws version seed edges old new) answer → IsDone (Draw scenario edges seed version) old new (told_answer scenario answer)
+draw_done scenario text edges seed version old new answer does =
+    handed (λ a. (t : List ℕ) × Lent t (Keeps old new) (Draws version seed edges old new) a)
     (Keeps old new) scenario answer (text, does) (λ h. absurd h.1) (λ h. h.1.1)
 
 -- a file that cannot be read, or a scenario that is too long, or no memory, before an engine begins

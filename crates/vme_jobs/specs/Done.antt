@@ -9,13 +9,16 @@ use Rattle.vme_engines.specs.Outcomes.{Answer, Lent, ReplaysInput}
 use Rattle.vme_engines.specs.Checking.{ChecksInput}
 use Rattle.vme_engines.specs.Explaining.{ExplainsInput}
 use Rattle.vme_engines.specs.Stating.{StatesInput}
+use Rattle.vme_engines.specs.Showing.{ShowsInput}
+use Rattle.vme_engines.specs.Summing.{SumsInput}
 use Rattle.vme_engines.specs.Driving.{Drives}
+use Rattle.vme_engines.specs.Drawing.{Draws}
 use Rattle.vme_engines.specs.Joining.{Joins}
 use Rattle.vme_run.specs.declared.RunFault.{RunFault}
 use Rattle.vme_run.specs.declared.RunFault.TheVariants as run
 use Rattle.vme_run.specs.Running.{Runs}
 use Rattle.vme_words.specs.declared.Job.{Job}
-use Rattle.vme_words.specs.declared.Job.TheVariants.{Joined, Replay, Check, Explain, State, Drive, Run}
+use Rattle.vme_words.specs.declared.Job.TheVariants.{Joined, Replay, Check, Explain, State, Show, Summary, Drive, Draw, Run}
 use Rattle.vme_words.specs.Asked.{Ask}
 use Rattle.vme_jobs.specs.Statuses.{exit_code}
 use Rattle.vme_jobs.specs.declared.faults.ProgramFault.{ProgramFault}
@@ -45,8 +48,13 @@ Does (Replay scenario trace) old new = Alone (OnTrace ReplaysInput old new)
 Does (Check scenario trace) old new = Alone (OnTrace ChecksInput old new)
 Does (Explain scenario trace edge) old new = Alone (OnTrace (ExplainsInput edge) old new)
 Does (State scenario trace after) old new = Alone (OnTrace (StatesInput after) old new)
+Does (Show scenario trace from to color) old new =
+    Alone (OnTrace (ShowsInput from to color) old new)
+Does (Summary scenario trace) old new = Alone (OnTrace SumsInput old new)
 Does (Drive scenario edges version) old new = Alone (λ answer.
     (text : List ℕ) × Lent text (Keeps old new) (Drives version edges old new) answer)
+Does (Draw scenario edges seed version) old new = Alone (λ answer.
+    (text : List ℕ) × Lent text (Keeps old new) (Draws version seed edges old new) answer)
 Does (Run scenario edges turns version) old new = λ answer.
     (text : List ℕ) × Runs text version edges turns old new answer
 

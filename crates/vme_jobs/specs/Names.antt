@@ -7,7 +7,7 @@ use Rattle.vme_engines.specs.declared.EngineFault.TheVariants as fault
 use Rattle.vme_run.specs.declared.RunFault.{RunFault}
 use Rattle.vme_run.specs.declared.RunFault.TheVariants as run
 use Rattle.vme_words.specs.declared.Job.{Job}
-use Rattle.vme_words.specs.declared.Job.TheVariants.{Joined, Replay, Check, Explain, State, Drive, Run}
+use Rattle.vme_words.specs.declared.Job.TheVariants.{Joined, Replay, Check, Explain, State, Show, Summary, Drive, Draw, Run}
 use Rattle.vme_jobs.specs.declared.faults.ProgramFault.{ProgramFault}
 use Rattle.vme_jobs.specs.declared.faults.ProgramFault.TheVariants.{CannotRead, TooLong, Engine, Boards}
 
@@ -18,7 +18,10 @@ scenario_name (Replay scenario trace) = scenario.now
 scenario_name (Check scenario trace) = scenario.now
 scenario_name (Explain scenario trace edge) = scenario.now
 scenario_name (State scenario trace after) = scenario.now
+scenario_name (Show scenario trace from to color) = scenario.now
+scenario_name (Summary scenario trace) = scenario.now
 scenario_name (Drive scenario edges version) = scenario.now
+scenario_name (Draw scenario edges seed version) = scenario.now
 scenario_name (Run scenario edges turns version) = scenario.now
 
 -- this is the name of a file of a job
@@ -28,7 +31,10 @@ IsFileOf (Replay scenario trace) name = (name ≡ scenario.now) ⊎ (name ≡ tr
 IsFileOf (Check scenario trace) name = (name ≡ scenario.now) ⊎ (name ≡ trace.now)
 IsFileOf (Explain scenario trace edge) name = (name ≡ scenario.now) ⊎ (name ≡ trace.now)
 IsFileOf (State scenario trace after) name = (name ≡ scenario.now) ⊎ (name ≡ trace.now)
+IsFileOf (Show scenario trace from to color) name = (name ≡ scenario.now) ⊎ (name ≡ trace.now)
+IsFileOf (Summary scenario trace) name = (name ≡ scenario.now) ⊎ (name ≡ trace.now)
 IsFileOf (Drive scenario edges version) name = name ≡ scenario.now
+IsFileOf (Draw scenario edges seed version) name = name ≡ scenario.now
 IsFileOf (Run scenario edges turns version) name = name ≡ scenario.now
 
 -- an engine's fault, where the scenario has this name

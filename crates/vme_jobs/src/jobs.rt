@@ -2,7 +2,7 @@
 ghost use Rattle.std.specs.Prelude.{◌≡◌, ◌≤◌, IfErr};
 ghost use Rattle.std.specs.Process.{exit_status};
 ghost use Rattle.vme_model.specs.Report.{trace_limit};
-ghost use Rattle.vme_words.specs.Limits.{IsWithin, most_turns};
+ghost use Rattle.vme_words.specs.Limits.{IsWindow, IsWithin, most_turns};
 ghost use Rattle.vme_jobs.specs.Done.{IsDone};
 ghost use Rattle.vme_jobs.specs.Names.{IsFaultOf, told_answer, told_run_answer};
 ghost use Rattle.vme_jobs.specs.Statuses.{exit_code};
@@ -13,7 +13,9 @@ use std::io::Write;
 use std::process::ExitCode;
 use std::sync::Wait;
 use std::thread::Threads;
-use vme_engines::{EngineFault, Status, check, drive, explain, joined, replay, state};
+use vme_engines::{
+    EngineFault, Status, check, drive, drive_drawn, explain, joined, replay, show, state, summary,
+};
 use vme_model::Version;
 use vme_run::{RunFault, run as run_scenario};
 use vme_words::Job;
@@ -119,6 +121,47 @@ fn run_state<'a, W: Write>(
     told(scenario, state(rt.alloc(), &text, &mut input, after, out))
 }
 
+/// Draws a picture of some edges of a trace.
+#[inline(never)]
+fn run_show<'a, W: Write>(
+    rt: &HostRuntime,
+    scenario: &'a str,
+    trace: &'a str,
+    from: u64,
+    to: u64,
+    color: bool,
+    out: &mut W,
+) -> Result<Status, ProgramFault<'a>>
+    requires { (1 ≤ from) × IsWindow from to }
+    ensures fault { IfErr result (IsFaultOf (Job.Show scenario.entry trace.entry from to color)) }
+    ensures done { IsDone (Job.Show scenario.entry trace.entry from to color)
+        (W.contents out.old) (W.contents out.new) result }
+{
+    let text = read_scenario(rt, scenario)?;
+    let mut input = buffered(rt, open(rt, trace)?)?;
+    told(
+        scenario,
+        show(rt.alloc(), &text, &mut input, from, to, color, out),
+    )
+}
+
+/// Counts what a trace exercised.
+#[inline(never)]
+fn run_summary<'a, W: Write>(
+    rt: &HostRuntime,
+    scenario: &'a str,
+    trace: &'a str,
+    out: &mut W,
+) -> Result<Status, ProgramFault<'a>>
+    ensures fault { IfErr result (IsFaultOf (Job.Summary scenario.entry trace.entry)) }
+    ensures done { IsDone (Job.Summary scenario.entry trace.entry)
+        (W.contents out.old) (W.contents out.new) result }
+{
+    let text = read_scenario(rt, scenario)?;
+    let mut input = buffered(rt, open(rt, trace)?)?;
+    told(scenario, summary(rt.alloc(), &text, &mut input, out))
+}
+
 /// Lets the drivers of a scenario make edges in turn.
 #[inline(never)]
 fn run_drive<'a, W: Write>(
@@ -134,6 +177,27 @@ fn run_drive<'a, W: Write>(
 {
     let text = read_scenario(rt, scenario)?;
     told(scenario, drive(rt.alloc(), &text, edges, out, version))
+}
+
+/// Draws edges by lot from all that are open to the drivers of a scenario.
+#[inline(never)]
+fn run_draw<'a, W: Write>(
+    rt: &HostRuntime,
+    scenario: &'a str,
+    edges: u32,
+    seed: u64,
+    version: Version,
+    out: &mut W,
+) -> Result<Status, ProgramFault<'a>>
+    ensures fault { IfErr result (IsFaultOf (Job.Draw scenario.entry edges seed version)) }
+    ensures done { IsDone (Job.Draw scenario.entry edges seed version)
+        (W.contents out.old) (W.contents out.new) result }
+{
+    let text = read_scenario(rt, scenario)?;
+    told(
+        scenario,
+        drive_drawn(rt.alloc(), &text, edges, seed, out, version),
+    )
 }
 
 /// Lets each driver of a scenario make edges in a thread of its own. May wait.
@@ -184,11 +248,25 @@ pub fn run<'a, R: Threads + Wait + Sync, W: Write>(
             trace,
             after,
         } => run_state(rt, scenario, trace, after, out),
+        Job::Show {
+            scenario,
+            trace,
+            from,
+            to,
+            color,
+        } => run_show(rt, scenario, trace, from, to, color, out),
+        Job::Summary { scenario, trace } => run_summary(rt, scenario, trace, out),
         Job::Drive {
             scenario,
             edges,
             version,
         } => run_drive(rt, scenario, edges, version, out),
+        Job::Draw {
+            scenario,
+            edges,
+            seed,
+            version,
+        } => run_draw(rt, scenario, edges, seed, version, out),
         Job::Run {
             scenario,
             edges,

@@ -7,3 +7,8 @@ pub returns-in-State-clause-done : goal.returns-in-State-clause-done
 returns-in-State-clause-done g c =
     subst (λ (job : Job). IsDone job (g.W.Write.contents c.args.out.now) (g.W.Write.contents c.run_state.new.out) c.run_state.result)
     (sym c.in-State.is) c.run_state.ensures.done
+
+pub returns-in-Show-clause-done : goal.returns-in-Show-clause-done
+returns-in-Show-clause-done g c =
+    subst (λ (job : Job). IsDone job (g.W.Write.contents c.args.out.now) (g.W.Write.contents c.run_show.new.out) c.run_show.result)
+    (sym c.in-Show.is) c.run_show.ensures.done
