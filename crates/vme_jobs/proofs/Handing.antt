@@ -1,10 +1,11 @@
 -- The answer of an engine, as a job hands it on.
-use Rattle.std.proofs.Common.{◌≡◌, ◌⊎◌, inl, inr, ℕ, List, Result, Ok, Err, refl, sym, subst}
+use Rattle.std.proofs.Common.{◌≡◌, ◌⊎◌, inl, inr, ℕ, List, Option, Result, Ok, Err, refl, sym, subst}
 use Rattle.std.specs.Io.KnownBytes.{Keeps}
 use Rattle.std.specs.Borrow.{Bor}
 use Rattle.std.proofs.KnownBytes.{Keeps-refl}
 use Rattle.vme_model.specs.declared.signals.Version.{Version}
 use Rattle.vme_model.specs.Plan.{Plan}
+use Rattle.vme_events.specs.declared.goals.Goal.{Goal}
 use Rattle.vme_engines.specs.declared.Status.{Status}
 use Rattle.vme_engines.specs.declared.EngineFault.TheVariants as fault
 use Rattle.vme_engines.specs.Streams.{Streams, ReadNothing, WroteNothing, streams}
@@ -52,10 +53,10 @@ drive_done scenario text edges version old new answer does =
     handed (λ a. (t : List ℕ) × Lent t (Keeps old new) (Drives version edges old new) a)
     (Keeps old new) scenario answer (text, does) (λ h. absurd h.1) (λ h. h.1.1)
 
-pub draw_done : (scenario : Bor (List ℕ)) (text : List ℕ) (edges seed : ℕ) (version : Version) (old new : Known) (answer : Answer)
-    → Lent text (Keeps old new) (Draws version seed edges old new) answer → IsDone (Draw scenario edges seed version) old new (told_answer scenario answer)
-draw_done scenario text edges seed version old new answer does =
-    handed (λ a. (t : List ℕ) × Lent t (Keeps old new) (Draws version seed edges old new) a)
+pub draw_done : (scenario : Bor (List ℕ)) (text : List ℕ) (edges seed : ℕ) (until : Option Goal) (version : Version) (old new : Known) (answer : Answer)
+    → Lent text (Keeps old new) (Draws version seed edges until old new) answer → IsDone (Draw scenario edges seed until version) old new (told_answer scenario answer)
+draw_done scenario text edges seed until version old new answer does =
+    handed (λ a. (t : List ℕ) × Lent t (Keeps old new) (Draws version seed edges until old new) a)
     (Keeps old new) scenario answer (text, does) (λ h. absurd h.1) (λ h. h.1.1)
 
 -- a file that cannot be read, or a scenario that is too long, or no memory, before an engine begins

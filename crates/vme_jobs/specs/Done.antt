@@ -53,8 +53,8 @@ Does (Show scenario trace from to color) old new =
 Does (Summary scenario trace) old new = Alone (OnTrace SumsInput old new)
 Does (Drive scenario edges version) old new = Alone (λ answer.
     (text : List ℕ) × Lent text (Keeps old new) (Drives version edges old new) answer)
-Does (Draw scenario edges seed version) old new = Alone (λ answer.
-    (text : List ℕ) × Lent text (Keeps old new) (Draws version seed edges old new) answer)
+Does (Draw scenario edges seed until version) old new = Alone (λ answer.
+    (text : List ℕ) × Lent text (Keeps old new) (Draws version seed edges until old new) answer)
 Does (Run scenario edges turns version) old new = λ answer.
     (text : List ℕ) × Runs text version edges turns old new answer
 

@@ -21,7 +21,7 @@ scenario_name (State scenario trace after) = scenario.now
 scenario_name (Show scenario trace from to color) = scenario.now
 scenario_name (Summary scenario trace) = scenario.now
 scenario_name (Drive scenario edges version) = scenario.now
-scenario_name (Draw scenario edges seed version) = scenario.now
+scenario_name (Draw scenario edges seed until version) = scenario.now
 scenario_name (Run scenario edges turns version) = scenario.now
 
 -- this is the name of a file of a job
@@ -34,7 +34,7 @@ IsFileOf (State scenario trace after) name = (name ≡ scenario.now) ⊎ (name �
 IsFileOf (Show scenario trace from to color) name = (name ≡ scenario.now) ⊎ (name ≡ trace.now)
 IsFileOf (Summary scenario trace) name = (name ≡ scenario.now) ⊎ (name ≡ trace.now)
 IsFileOf (Drive scenario edges version) name = name ≡ scenario.now
-IsFileOf (Draw scenario edges seed version) name = name ≡ scenario.now
+IsFileOf (Draw scenario edges seed until version) name = name ≡ scenario.now
 IsFileOf (Run scenario edges turns version) name = name ≡ scenario.now
 
 -- an engine's fault, where the scenario has this name

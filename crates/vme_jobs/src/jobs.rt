@@ -16,6 +16,7 @@ use std::thread::Threads;
 use vme_engines::{
     EngineFault, Status, check, drive, drive_drawn, explain, joined, replay, show, state, summary,
 };
+use vme_events::Goal;
 use vme_model::Version;
 use vme_run::{RunFault, run as run_scenario};
 use vme_words::Job;
@@ -186,17 +187,18 @@ fn run_draw<'a, W: Write>(
     scenario: &'a str,
     edges: u32,
     seed: u64,
+    until: Option<Goal>,
     version: Version,
     out: &mut W,
 ) -> Result<Status, ProgramFault<'a>>
-    ensures fault { IfErr result (IsFaultOf (Job.Draw scenario.entry edges seed version)) }
-    ensures done { IsDone (Job.Draw scenario.entry edges seed version)
+    ensures fault { IfErr result (IsFaultOf (Job.Draw scenario.entry edges seed until version)) }
+    ensures done { IsDone (Job.Draw scenario.entry edges seed until version)
         (W.contents out.old) (W.contents out.new) result }
 {
     let text = read_scenario(rt, scenario)?;
     told(
         scenario,
-        drive_drawn(rt.alloc(), &text, edges, seed, out, version),
+        drive_drawn(rt.alloc(), &text, edges, seed, until, out, version),
     )
 }
 
@@ -265,8 +267,9 @@ pub fn run<'a, R: Threads + Wait + Sync, W: Write>(
             scenario,
             edges,
             seed,
+            until,
             version,
-        } => run_draw(rt, scenario, edges, seed, version, out),
+        } => run_draw(rt, scenario, edges, seed, until, version, out),
         Job::Run {
             scenario,
             edges,
