@@ -14,3 +14,5 @@ pub mod Words
 pub mod Passing
 -- every edge is counted for one rule or one refusal, and every tenure for one board
 pub mod Shares
+-- a board asks and holds as its wires stand
+pub mod Standing
