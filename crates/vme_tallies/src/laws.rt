@@ -13,23 +13,23 @@ ghost use Rattle.vme_model.specs.History.{drive};
 ghost use Rattle.vme_tallies.specs.Summary.{refusals};
 ghost use Rattle.vme_tallies.specs.Tally.{is_accepted, accepted, refused, answered, passed_by, refused_for, waits, board_tally};
 
-/// Every accepted edge is counted for one rule: those that the rules let pass, G1 to G26, are together
-/// all that are accepted.
+/// Every accepted edge is counted for one rule: those that the rules let pass, G1 to G26, are
+/// together all that are accepted.
 pub fn rules_share_accepted_edges()
     ensures { (b : State) (es : List Edge) →
         sum_by (λ k. passed_by k (answered b es)) (up_to 26) ≡ accepted (answered b es) }
 {}
 
-/// Every refused edge is counted for one refusal: what the rules G1 to G26 refuse, the settling rules S1
-/// to S4, and what is refused by E1, E2 and E5, are together all that are refused.
+/// Every refused edge is counted for one refusal: what the rules G1 to G26 refuse, what the settling
+/// rules S1 to S4 do, and E1, E2 and E5, are together all that are refused.
 pub fn refusals_share_refused_edges()
     ensures { (b : State) (es : List Edge) →
         sum_by (λ r. refused_for r (answered b es)) (map (λ k. Rule k) (up_to 26) ++ refusals)
         ≡ refused (answered b es) }
 {}
 
-/// Every tenure is counted for one board: those of the boards in slots 1 to 21 are together all accepted
-/// `bbsy-`.
+/// Every tenure is counted for one board: those of the boards in slots 1 to 21 are together all
+/// `bbsy-` that are accepted.
 pub fn boards_share_tenures()
     ensures { (b : State) (es : List Edge) →
         sum_by (λ s. (board_tally s (answered b es)).tenures) (up_to 21)
