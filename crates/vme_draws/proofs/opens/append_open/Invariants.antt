@@ -1,7 +1,7 @@
 use Rattle.std.proofs.Common.{◌≡◌, ◌≤◌, ◌*◌, length, take}
 use Rattle.std.specs.List.{flat_map}
 use Rattle.vme_model.specs.Open.{open_edges}
-use Rattle.vme_draws.proofs.opens.open_of.Given as goal
+use Rattle.vme_draws.proofs.opens.append_open.Given as goal
 
 abbrev pub invariant-loop-driver : goal.invariant-loop-driver
 invariant-loop-driver l = record {
