@@ -1,18 +1,15 @@
 -- What an accepted edge has passed.
-use Rattle.std.proofs.Common.{◌≡◌, ◌≢◌, refl, ap, subst, sym, ℕ, Bool, true, false, List, Option, Ok, Err, arith}
-use Rattle.std.specs.Prelude.{◌==◌, ◌&&◌, is_ok}
+use Rattle.std.proofs.Common.{◌≡◌, refl, ℕ, Bool, true, false, Option, Ok, Err}
+use Rattle.std.specs.Prelude.{is_ok}
 use Rattle.vme_model.specs.declared.deliveries.Delivery.{Delivery}
-use Rattle.vme_model.specs.declared.refusals.Refused.{Refused}
 use Rattle.vme_model.specs.declared.refusals.Refused.TheVariants.{NoSuchDriver, AlreadyThere, Rule, NotSettled, TraceFull}
-use Rattle.vme_model.specs.declared.signals.Driver.{Driver}
-use Rattle.vme_model.specs.declared.signals.Wire.{Wire}
 use Rattle.vme_model.specs.declared.signals.Edge.{Edge}
 use Rattle.vme_model.specs.Guards.{holds}
 use Rattle.vme_model.specs.History.{drive}
 use Rattle.vme_model.specs.Readings.{readings}
 use Rattle.vme_model.specs.Rules.{rule}
 use Rattle.vme_model.specs.Settling.{settling}
-use Rattle.vme_model.specs.Verdict.{State, Judgement, check, driver_guard, state_guard, room_guard, verdict, verdict_but_full}
+use Rattle.vme_model.specs.Verdict.{State, Judgement, check, driver_guard, state_guard, room_guard, verdict}
 use Rattle.vme_model.specs.Deliveries.{with_delivery}
 use Rattle.vme_model.proofs.AllowedEdges.{Passed, all_passed}
 use Rattle.vme_tallies.specs.Tally.{answered_edge, is_accepted}

@@ -1,14 +1,13 @@
 -- A board asks while its request stands and is not met, and holds while its BBSY* is low.
 use Rattle.std.proofs.Common.{◌≡◌, ◌∙◌, refl, sym, ap, subst, ℕ, ◌+◌, Bool, true, false, List, [], ◌∷◌, ◌++◌, length, Option, Some, None, Ok, arith}
-use Rattle.std.specs.Prelude.{◌==◌, ◌&&◌, ◌||◌, not, is_some, is_ok, if◌then◌else◌}
+use Rattle.std.specs.Prelude.{◌&&◌, ◌||◌, not, is_some, is_ok, if◌then◌else◌}
 use Rattle.vme_model.specs.declared.signals.Driver.{Driver}
 use Rattle.vme_model.specs.declared.signals.Driver.TheVariants.{Controller, Slot}
 use Rattle.vme_model.specs.declared.signals.Wire.{Wire}
-use Rattle.vme_model.specs.declared.signals.Wire.TheVariants.{Bg, Bclr, Iack, Berr, Br, BgOut, Bbsy, Addr, AddressStrobe, DataStrobe, Irq, IackOut, Dtack}
+use Rattle.vme_model.specs.declared.signals.Wire.TheVariants.{Br, BgOut, Bbsy, Addr, AddressStrobe}
 use Rattle.vme_model.specs.declared.signals.Edge.{Edge}
 use Rattle.vme_model.specs.Signals.{is_same_driver, is_same_wire, is_edge_of, is_fall_of}
-use Rattle.vme_model.specs.History.{drive, input}
-use Rattle.vme_model.specs.Plan.{Plan}
+use Rattle.vme_model.specs.History.{drive}
 use Rattle.vme_model.specs.Readings.{grant_in, readings}
 use Rattle.vme_model.specs.Rules.{release_guard}
 use Rattle.vme_model.specs.Guards.{holds}
@@ -16,10 +15,10 @@ use Rattle.vme_model.specs.Verdict.{State, verdict, made, after, kept}
 use Rattle.vme_model.specs.Deliveries.{with_delivery}
 use Rattle.vme_model.proofs.AllowedEdges.{Passed}
 use Rattle.vme_model.proofs.Bools.{and_left, and_right, not_true, same_number, never}
-use Rattle.vme_tallies.specs.Tally.{Answered, Answers, answered_edge, answered_on, answered, is_accepted, falls, rises, fall_count, spanned, asks_since, holds_since, waits}
+use Rattle.vme_tallies.specs.Tally.{Answers, answered_edge, answered_on, answered, is_accepted, falls, rises, fall_count, spanned, asks_since, holds_since, waits}
 use Rattle.vme_tallies.proofs.Counted.{count_step}
 use Rattle.vme_tallies.proofs.OneBoard.{refused_moves_none}
-use Rattle.vme_tallies.proofs.Passing.{allowed, passed}
+use Rattle.vme_tallies.proofs.Passing.{passed}
 
 -- an edge of that driver's wire
 same_driver : (d e : Driver) → is_same_driver d e ≡ true → d ≡ e

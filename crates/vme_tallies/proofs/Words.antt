@@ -1,10 +1,10 @@
 -- Words that are put together one after the other, and the topics of a summary.
-use Rattle.std.proofs.Common.{◌≡◌, ◌∙◌, refl, sym, ap, ℕ, suc, ◌+◌, ◌<◌, ◌≤◌, Bool, true, false, List, [], ◌∷◌, ◌++◌, length, take, get_or, append-nil, append_assoc, arith}
-use Rattle.std.specs.Prelude.{◌&&◌, not, map, filter, nat_lt, count_by, if◌then◌else◌}
+use Rattle.std.proofs.Common.{◌≡◌, ◌∙◌, refl, sym, ap, ℕ, suc, ◌+◌, ◌<◌, Bool, true, false, List, [], ◌∷◌, ◌++◌, length, append-nil, append_assoc, arith}
+use Rattle.std.specs.Prelude.{not, map, filter, nat_lt, if◌then◌else◌}
 use Rattle.std.specs.List.{All, flat_map, list_all}
 use Rattle.std.proofs.lemmas.Bool.{and_parts}
 use Rattle.std.proofs.lemmas.Bool.Decides.{nat_tests}
-use Rattle.std.proofs.lemmas.List.{take_more, map-append}
+use Rattle.std.proofs.lemmas.List.{map-append}
 use Rattle.std.proofs.lemmas.List.Concat.{flat_map-append}
 use Rattle.std.proofs.lemmas.List.Elements.{All-cons, All-nil, filter-append}
 use Rattle.vme_model.specs.declared.refusals.Refused.{Refused}
@@ -13,7 +13,7 @@ use Rattle.vme_model.specs.Plan.{up_to}
 use Rattle.vme_events.specs.Events.{all_events}
 use Rattle.vme_tallies.specs.declared.topics.Topic.{Topic}
 use Rattle.vme_tallies.specs.declared.topics.Topic.TheVariants as topic
-use Rattle.vme_tallies.specs.Tally.{Answered, Answers, is_accepted, accepted, refused}
+use Rattle.vme_tallies.specs.Tally.{Answers, is_accepted, accepted, refused}
 use Rattle.vme_tallies.specs.Tallied.{IsNamed, IsTopic}
 use Rattle.vme_tallies.specs.Summary.{topics}
 use Rattle.vme_tallies.proofs.Counted.{count_yes, count_no}

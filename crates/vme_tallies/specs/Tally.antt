@@ -1,7 +1,7 @@
 -- What a trace exercised: counts, found by looking back through its edges with their answers. (The
 -- requests, tenures, cycles and answers of a board are those of chapters 2 to 4; what is counted is
 -- this project's profile.)
-use Rattle.std.specs.Prelude.{◌==◌, ◌&&◌, ◌||◌, ◌+◌, ◌-◌, ◌++◌, ℕ, max, Bool, true, false, not, if◌then◌else◌, Option, Some, None, Result, Ok, Err, List, [], ◌∷◌, length, count_by, is_ok, sum}
+use Rattle.std.specs.Prelude.{◌==◌, ◌&&◌, ◌||◌, ◌-◌, ◌++◌, ℕ, max, Bool, true, false, not, if◌then◌else◌, Option, Some, None, Result, Ok, Err, List, [], ◌∷◌, length, count_by, is_ok, sum}
 use Rattle.std.specs.Option.{option_or}
 use Rattle.vme_model.specs.declared.deliveries.Delivery.{Delivery}
 use Rattle.vme_model.specs.declared.refusals.Refused.{Refused}

@@ -1,4 +1,4 @@
-use Rattle.std.proofs.Common.{◌≡◌, ◌∙◌, ap, ◌+◌, ◌++◌, ◌∷◌, [], length, arith}
+use Rattle.std.proofs.Common.{◌∙◌, ap, ◌+◌, ◌++◌, ◌∷◌, [], arith}
 use Rattle.vme_tallies.specs.declared.topics.Topic.TheVariants.{Rule}
 use Rattle.vme_tallies.proofs.Words.{numbered_more}
 use Rattle.vme_tallies.proofs.topics.add_rules.Goals as goal
