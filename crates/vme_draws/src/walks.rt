@@ -19,9 +19,11 @@ use vme_backplane::{Backplane, Trace};
 use vme_model::{Edge, Version};
 use vme_slots::Plan;
 
-/// A walk: a backplane whose next edge is drawn among all that the rules allow, by the numbers of a seed.
+/// A walk: a backplane whose next edge is drawn among all that the rules allow, by the numbers of a
+/// seed.
 ///
-/// First a kind of edge is drawn, by the kinds' weights and how many of each were made, and then one of its open edges.
+/// First a kind of edge is drawn, by the kinds' weights and how many of each were made, and then one
+/// of its open edges.
 #[derive(Drop)]
 pub struct Walk<'r> {
     seed: u64,
