@@ -123,7 +123,8 @@ const DRIVE: &str =
     "Writes a trace that the drivers of a scenario make in turn, or one that is drawn by lot";
 
 const DRIVE_USAGE: &str =
-    "vmebus drive <SCENARIO> --edges <N> [--seed <S> [--until <EVENT>]] [--version <V>]";
+    "vmebus drive <SCENARIO> --edges <N> [--seed <S> [--until <EVENT>]] [--version <V>]
+       vmebus drive <SCENARIO> --edges <N> --seeds <S..T> --until <EVENT> [--version <V>]";
 
 const DRIVE_EXAMPLE: &str =
     "In each round the controller and then each board makes one of the edges that are open to it. It ends
@@ -141,10 +142,15 @@ EVENT is a situation that an accepted edge brings about,
 or what alone refuses an edge, which is then the last of the trace: a rule and one of its conditions
 as `vmebus explain` writes it, with N for a level, or a settling rule, as S2.
 
+With --seeds it tries the seeds S to T in order. The first with which EVENT comes within the given
+number of edges is told on standard error as `seed S`, its trace is written, and the exit status is
+0. Where it comes with none, `no seed` is told, nothing is written, and the exit status is 3.
+
 Examples:
   vmebus drive board.toml --edges 1000 > tenure.vme
   vmebus drive board.toml --edges 1000 --seed 7 > drawn.vme
-  vmebus drive board.toml --edges 1000 --seed 7 --until \"G13 own br is low\" > refused.vme";
+  vmebus drive board.toml --edges 1000 --seed 7 --until \"G13 own br is low\" > refused.vme
+  vmebus drive board.toml --edges 60 --seeds 0..1000 --until bus-error > error.vme";
 
 const RUN: &str = "Writes a trace that the drivers of a scenario make at once, a thread for each";
 
@@ -288,7 +294,17 @@ fn until_option<'a>(alloc: Global) -> Arg<'a>
         .long("until")
         .value_name("EVENT")
         .action(ArgAction::Set)
-        .help("Ends with the first edge that brings this about; needs --seed")
+        .help("Ends with the first edge that brings this about; needs --seed or --seeds")
+}
+
+fn seeds_option<'a>(alloc: Global) -> Arg<'a>
+    ensures { rule_of result ≡ said.seeds }
+{
+    Arg::new(alloc, "seeds")
+        .long("seeds")
+        .value_name("S..T")
+        .action(ArgAction::Set)
+        .help("Tries these seeds in order until one comes to EVENT; needs --until")
 }
 
 fn color_option<'a>(alloc: Global) -> Arg<'a>
@@ -395,6 +411,7 @@ pub(crate) fn drive<'a>(alloc: Global) -> Result<Command<'a>, AllocError>
     let command = command(alloc, "drive", DRIVE, DRIVE_USAGE, DRIVE_EXAMPLE);
     let command = taking(command, edges_option(alloc));
     let command = taking(command, seed_option(alloc));
+    let command = taking(command, seeds_option(alloc));
     let command = taking(command, until_option(alloc));
     taking(command, version_option(alloc))
 }
