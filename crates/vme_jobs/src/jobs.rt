@@ -15,8 +15,8 @@ use std::process::ExitCode;
 use std::sync::Wait;
 use std::thread::Threads;
 use vme_engines::{
-    EngineFault, Status, check, drive, drive_drawn, drive_found, explain, joined, replay, show, state,
-    summary,
+    EngineFault, Status, check, drive, drive_drawn, drive_found, explain, joined, replay, show,
+    state, summary,
 };
 use vme_events::Goal;
 use vme_model::Version;
@@ -33,7 +33,7 @@ fn told<'a>(name: &'a str, answer: Result<Status, EngineFault>) -> Result<Status
     }
 }
 
-/// The answer of a search, where the scenario has this name: the line on standard error has the seed that was found.
+/// A search's answer, where the scenario has this name; tells which seed was found.
 fn told_seed<'a>(
     rt: &HostRuntime,
     name: &'a str,

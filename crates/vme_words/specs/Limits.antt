@@ -15,8 +15,8 @@ abbrev pub IsNoWindow : ℕ → ℕ → Type 0
 IsNoWindow from to = (to < from) ⊎ (from + 199 < to)
 
 -- `drive` and `run` make at least one edge and no more than a trace may have, and `run` gives each
--- driver 1 to 1,000,000 turns; the edges of a trace are counted from 1, and the last seed is not below
--- the first
+-- driver 1 to 1,000,000 turns; the edges of a trace are counted from 1, and the last seed is not
+-- below the first
 abbrev pub IsWithin : Job → Type 0
 IsWithin (Drive scenario edges version) = (1 ≤ edges) × (edges ≤ trace_limit)
 IsWithin (Draw scenario edges seed until version) = (1 ≤ edges) × (edges ≤ trace_limit)
