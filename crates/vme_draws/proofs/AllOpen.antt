@@ -1,5 +1,5 @@
 -- Nothing is left out, and what is chosen is open.
-use Rattle.std.proofs.Common.{◌≡◌, ◌∙◌, refl, sym, ap, subst, ℕ, zero, suc, ◌+◌, ◌*◌, ◌-◌, ◌/◌, ◌^◌, ◌<◌, ◌≤◌, ◌⊎◌, ⊎_elim, Bool, true, false, List, [], ◌∷◌, ◌++◌, filter, length, take, slice_index, arith, eq-eqb, ne_eqb}
+use Rattle.std.proofs.Common.{◌≡◌, ◌∙◌, refl, sym, ap, subst, ℕ, zero, suc, ◌+◌, ◌*◌, ◌-◌, ◌/◌, ◌^◌, ◌<◌, ◌≤◌, ◌⊎◌, ⊎_elim, Bool, true, false, List, [], ◌∷◌, ◌++◌, filter, length, take, slice_index, get_or, arith, eq-eqb, ne_eqb}
 use Rattle.std.specs.Prelude.{Option, Some, None, Ok, Err, is_ok, is_some, if◌then◌else◌, ◌==◌, ◌&&◌, nat_lt, slice_get, sum, Result, IfSome}
 use Rattle.std.specs.List.{flat_map, All, Contains}
 use Rattle.std.specs.Option.{option_map_or}
@@ -14,6 +14,7 @@ use Rattle.vme_model.specs.declared.signals.Driver.{Driver}
 use Rattle.vme_model.specs.declared.signals.Driver.TheVariants.{Controller, Slot}
 use Rattle.vme_model.specs.declared.signals.Edge.{Edge}
 use Rattle.vme_model.specs.declared.signals.Wire.{Wire}
+use Rattle.vme_model.specs.declared.signals.Wire.TheVariants.{Bg}
 use Rattle.vme_model.specs.Accepted.{IsAccepted}
 use Rattle.vme_model.specs.Offers.{wires}
 use Rattle.vme_model.specs.Open.{moves, open_edges}
@@ -33,7 +34,7 @@ use Rattle.vme_draws.specs.Choices.{weight, all_open, open_of, chance, chance_of
 use Rattle.vme_draws.specs.Laws.{IsChosen}
 use Rattle.vme_draws.specs.Numbers.{scaled}
 use Rattle.vme_draws.specs.Walks.{Walk, weights, first_draw, chosen}
-use Rattle.vme_draws.proofs.KindOrder.{a_kind, kind_stands, listed_at}
+use Rattle.vme_draws.proofs.KindOrder.{a_kind, kind_in, kinds_listed, kind_stands, listed_at}
 
 -- ---- what is chosen is open
 
@@ -143,6 +144,10 @@ chance_some w made ready heavy some = else_if (ready == 0) (w * (1 + 256 / (1 + 
     else_if false n h l = l
     else_if true n h l = absurd (cc)
 
+-- an edge, whichever
+no_edge : Edge
+no_edge = record { driver = Controller; wire = Bg 0; fall = false; value = None }
+
 power : (n : ℕ) → 0 < 4 ^ n
 power zero = omega (arith, pow-zero 4)
 power (suc n) = omega (arith, pow-suc 4 n, power n)
@@ -190,6 +195,63 @@ module _ (g : Lcg) (b : State) (e : Edge) (accepted : IsAccepted b.plan) (ok : v
 
   pub can_be_made : Contains kinds (kind_of b.plan e) × IsChosen g b e
   can_be_made = (a_kind k, is_chosen)
+
+-- ---- some edge is chosen
+
+-- a number below the sum falls on a chance that is not 0
+falls_on_some : (cs : List ℕ) (x : ℕ) → x < sum cs → (falls_at cs x < length cs) × (0 < slice_index cs (falls_at cs x))
+falls_on_some [] x below = absurd (omega (arith, below))
+falls_on_some (c ∷ cs) x below = by (nat_lt x c) refl (λ (y : ℕ) (l : y < sum cs). falls_on_some cs y l)
+  where
+    first_is : (t : Bool) (n : ℕ) → t ≡ true → (if t then 0 else n) ≡ 0
+    first_is true n h = refl
+    first_is false n h = absurd (cc)
+
+    next_is : (t : Bool) (n : ℕ) → t ≡ false → (if t then 0 else n + 1) ≡ suc n
+    next_is false n h = omega arith
+    next_is true n h = absurd (cc)
+
+    by : (t : Bool) → nat_lt x c ≡ t → ((y : ℕ) → y < sum cs → (falls_at cs y < length cs) × (0 < slice_index cs (falls_at cs y))) → (falls_at (c ∷ cs) x < length (c ∷ cs)) × (0 < slice_index (c ∷ cs) (falls_at (c ∷ cs) x))
+    by true is later =
+        let here : falls_at (c ∷ cs) x ≡ 0 = first_is (nat_lt x c) _ is in
+        let some : 0 < c = grind (arith, nat_tests) in
+        subst (λ i. (i < length (c ∷ cs)) × (0 < slice_index (c ∷ cs) i)) (sym here) (omega arith, some)
+    by false is later =
+        let over : c ≤ x = grind (arith, nat_tests) in
+        let rest = later (x - c) (omega (arith, below, over, sum_by-cons (λ n. n) c cs)) in
+        let there : falls_at (c ∷ cs) x ≡ suc (falls_at cs (x - c)) = next_is (nat_lt x c) (falls_at cs (x - c)) is in
+        subst (λ i. (i < length (c ∷ cs)) × (0 < slice_index (c ∷ cs) i)) (sym there) (omega (arith, rest.0), rest.1)
+
+ready_if : (w made ready : ℕ) → 0 < chance w made ready → 0 < ready
+ready_if w made zero some = absurd (omega (arith, some))
+ready_if w made (suc ready) some = omega arith
+
+module _ (g : Lcg) (b : State) (x : ℕ) (below : x < sum (chances (weight g) b)) where
+  place_is : (falls_at (chances (weight g) b) x < length (chances (weight g) b)) × (0 < slice_index (chances (weight g) b) (falls_at (chances (weight g) b) x))
+  place_is = falls_on_some (chances (weight g) b) x below
+
+  -- the kind that it falls on has open edges
+  one_is : (k : Kind) × (kind_at (weight g) b x ≡ Some k) × (0 < length (open_of b k))
+  one_is =
+      let i = falls_at (chances (weight g) b) x in
+      let stands = kind_in i (subst (λ n. i < n) (kinds_listed (chance_of (weight g) b)) place_is.0) in
+      let at : slice_index (chances (weight g) b) i ≡ chance_of (weight g) b stands.0 = ap (slice_index (chances (weight g) b)) (sym stands.2) ∙ listed_at (chance_of (weight g) b) stands.0 in
+      (stands.0, stands.1, ready_if (weight g stands.0) _ (length (open_of b stands.0)) (subst (λ n. 0 < n) at place_is.1))
+
+  choices_are : choices (weight g) b x ≡ length (open_of b one_is.0)
+  choices_are = ap (λ o. option_map_or (λ j. length (open_of b j)) o 0) one_is.1
+
+  pub some_is_made : (0 < choices (weight g) b x) × ((y : ℕ) → y < choices (weight g) b x → (e : Edge) × (edge_at (weight g) b x y ≡ Some e))
+  some_is_made = (
+    subst (λ n. 0 < n) (sym choices_are) one_is.2,
+    λ y among. made_at y (subst (λ n. y < n) choices_are among),
+  )
+    where
+      made_at : (y : ℕ) → y < length (open_of b one_is.0) → (e : Edge) × (edge_at (weight g) b x y ≡ Some e)
+      made_at y among = (
+        get_or (open_of b one_is.0) y no_edge,
+        ap (λ o. option_map_or (λ j. slice_get (open_of b j) y) o None) one_is.1 ∙ slice_get-get_or (open_of b one_is.0) y no_edge among,
+      )
 
 -- ---- what a walk draws
 

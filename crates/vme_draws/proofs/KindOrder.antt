@@ -1,5 +1,5 @@
 -- The order of the kinds.
-use Rattle.std.proofs.Common.{◌≡◌, ◌∙◌, refl, ap, ℕ, ◌<◌, List, [], ◌∷◌, map, length, slice_index, arith}
+use Rattle.std.proofs.Common.{◌≡◌, ◌∙◌, refl, ap, ℕ, zero, suc, ◌<◌, List, [], ◌∷◌, map, length, slice_index, arith}
 use Rattle.std.specs.Prelude.{Some, slice_get}
 use Rattle.std.specs.List.{Contains, range_with_len}
 use Rattle.std.proofs.lemmas.List.FromFn.{fill_by_all}
@@ -143,3 +143,41 @@ by_place f = refl
 -- a list of 28 numbers, by the numbers of the kinds
 pub by_numbers : (xs : List ℕ) (f : ℕ → ℕ) (g : Kind → ℕ) → length xs ≡ 28 → ((n : ℕ) → n < 28 → slice_index xs n ≡ f n) → ((k : Kind) → f (number k) ≡ g k) → xs ≡ map g kinds
 by_numbers xs f g long each same = fill_by_all f xs 28 0 long each ∙ by_place f ∙ map_same (λ k. f (number k)) g kinds same
+
+-- how many are listed
+pub kinds_listed : (f : Kind → ℕ) → length (map f kinds) ≡ 28
+unfolding kinds
+kinds_listed f = refl
+
+-- the kind of a number
+pub kind_in : (i : ℕ) → i < 28 → (k : Kind) × (slice_get kinds i ≡ Some k) × (number k ≡ i)
+unfolding kinds
+kind_in zero below = (BgFall, refl, refl)
+kind_in (suc zero) below = (BgRise, refl, refl)
+kind_in (suc (suc zero)) below = (BclrFall, refl, refl)
+kind_in (suc (suc (suc zero))) below = (BclrRise, refl, refl)
+kind_in (suc (suc (suc (suc zero)))) below = (IackFall, refl, refl)
+kind_in (suc (suc (suc (suc (suc zero))))) below = (IackRise, refl, refl)
+kind_in (suc (suc (suc (suc (suc (suc zero)))))) below = (BerrFall, refl, refl)
+kind_in (suc (suc (suc (suc (suc (suc (suc zero))))))) below = (BerrRise, refl, refl)
+kind_in (suc (suc (suc (suc (suc (suc (suc (suc zero)))))))) below = (BrFall, refl, refl)
+kind_in (suc (suc (suc (suc (suc (suc (suc (suc (suc zero))))))))) below = (BrRise, refl, refl)
+kind_in (suc (suc (suc (suc (suc (suc (suc (suc (suc (suc zero)))))))))) below = (BgOutFall, refl, refl)
+kind_in (suc (suc (suc (suc (suc (suc (suc (suc (suc (suc (suc zero))))))))))) below = (BgOutRise, refl, refl)
+kind_in (suc (suc (suc (suc (suc (suc (suc (suc (suc (suc (suc (suc zero)))))))))))) below = (BbsyFall, refl, refl)
+kind_in (suc (suc (suc (suc (suc (suc (suc (suc (suc (suc (suc (suc (suc zero))))))))))))) below = (BbsyRise, refl, refl)
+kind_in (suc (suc (suc (suc (suc (suc (suc (suc (suc (suc (suc (suc (suc (suc zero)))))))))))))) below = (Acknowledge, refl, refl)
+kind_in (suc (suc (suc (suc (suc (suc (suc (suc (suc (suc (suc (suc (suc (suc (suc zero))))))))))))))) below = (Access, refl, refl)
+kind_in (suc (suc (suc (suc (suc (suc (suc (suc (suc (suc (suc (suc (suc (suc (suc (suc zero)))))))))))))))) below = (EmptyAccess, refl, refl)
+kind_in (suc (suc (suc (suc (suc (suc (suc (suc (suc (suc (suc (suc (suc (suc (suc (suc (suc zero))))))))))))))))) below = (AddrOff, refl, refl)
+kind_in (suc (suc (suc (suc (suc (suc (suc (suc (suc (suc (suc (suc (suc (suc (suc (suc (suc (suc zero)))))))))))))))))) below = (AddressStrobeFall, refl, refl)
+kind_in (suc (suc (suc (suc (suc (suc (suc (suc (suc (suc (suc (suc (suc (suc (suc (suc (suc (suc (suc zero))))))))))))))))))) below = (AddressStrobeRise, refl, refl)
+kind_in (suc (suc (suc (suc (suc (suc (suc (suc (suc (suc (suc (suc (suc (suc (suc (suc (suc (suc (suc (suc zero)))))))))))))))))))) below = (DataStrobeFall, refl, refl)
+kind_in (suc (suc (suc (suc (suc (suc (suc (suc (suc (suc (suc (suc (suc (suc (suc (suc (suc (suc (suc (suc (suc zero))))))))))))))))))))) below = (DataStrobeRise, refl, refl)
+kind_in (suc (suc (suc (suc (suc (suc (suc (suc (suc (suc (suc (suc (suc (suc (suc (suc (suc (suc (suc (suc (suc (suc zero)))))))))))))))))))))) below = (IrqFall, refl, refl)
+kind_in (suc (suc (suc (suc (suc (suc (suc (suc (suc (suc (suc (suc (suc (suc (suc (suc (suc (suc (suc (suc (suc (suc (suc zero))))))))))))))))))))))) below = (IrqRise, refl, refl)
+kind_in (suc (suc (suc (suc (suc (suc (suc (suc (suc (suc (suc (suc (suc (suc (suc (suc (suc (suc (suc (suc (suc (suc (suc (suc zero)))))))))))))))))))))))) below = (IackOutFall, refl, refl)
+kind_in (suc (suc (suc (suc (suc (suc (suc (suc (suc (suc (suc (suc (suc (suc (suc (suc (suc (suc (suc (suc (suc (suc (suc (suc (suc zero))))))))))))))))))))))))) below = (IackOutRise, refl, refl)
+kind_in (suc (suc (suc (suc (suc (suc (suc (suc (suc (suc (suc (suc (suc (suc (suc (suc (suc (suc (suc (suc (suc (suc (suc (suc (suc (suc zero)))))))))))))))))))))))))) below = (DtackFall, refl, refl)
+kind_in (suc (suc (suc (suc (suc (suc (suc (suc (suc (suc (suc (suc (suc (suc (suc (suc (suc (suc (suc (suc (suc (suc (suc (suc (suc (suc (suc zero))))))))))))))))))))))))))) below = (DtackRise, refl, refl)
+kind_in (suc (suc (suc (suc (suc (suc (suc (suc (suc (suc (suc (suc (suc (suc (suc (suc (suc (suc (suc (suc (suc (suc (suc (suc (suc (suc (suc (suc i)))))))))))))))))))))))))))) below = absurd (omega (arith, below))

@@ -11,8 +11,8 @@ use Rattle.rand_pcg.specs.Lcg.{Lcg}
 use Rattle.vme_draws.specs.Kinds.{kinds, number, of_kind, count}
 use Rattle.vme_draws.specs.Numbers.{after_words, word, scaled}
 
--- the weight that a generator gives a kind: 4 to the power of a draw below 4, of the word that is the
--- kind's own
+-- the weight that a generator gives a kind: 4 to the power of a draw below 4, of the word that is
+-- the kind's own
 abbrev pub weight : Lcg → Kind → ℕ
 weight g k = 4 ^ scaled (word (after_words (number k) g)) 4
 
@@ -24,8 +24,8 @@ all_open b = flat_map (open_edges b) (drivers b.plan)
 abbrev pub open_of : State → Kind → List Edge
 open_of b k = of_kind b.plan k (all_open b)
 
--- the chance of a kind, by its weight and how many of its edges were made and are open: the fewer were
--- made, the more, and none where none is open
+-- the chance of a kind, by its weight and how many of its edges were made and are open: the fewer
+-- were made, the more, and none where none is open
 abbrev pub chance : ℕ → ℕ → ℕ → ℕ
 chance weight made ready = if ready == 0 then 0 else weight * (1 + 256 / (1 + made))
 
@@ -37,8 +37,8 @@ chance_of weight b k = chance (weight k) (count b.plan k b.history) (count b.pla
 abbrev pub chances : (Kind → ℕ) → State → List ℕ
 chances weight b = map (chance_of weight b) kinds
 
--- the place of the first chance that is above what is left of a number when the chances before it are
--- taken from it; past the last, where none is
+-- the place of the first chance that is above what is left of a number when the chances before it
+-- are taken from it; past the last, where none is
 abbrev pub falls_at : List ℕ → ℕ → ℕ
 falls_at [] x = 0
 falls_at (c ∷ cs) x = if nat_lt x c then 0 else falls_at cs (x - c) + 1

@@ -27,6 +27,13 @@ abbrev pub EachIsOpen : Type 0
 EachIsOpen = (g : Lcg) (b : State) (x y : ℕ) (e : Edge) → edge_at (weight g) b x y ≡ Some e
     → verdict b e ≡ Ok tt
 
+-- as long as a number is below the sum of the chances, it chooses a kind with open edges, and then
+-- each number below how many these are chooses one: no walk ends before no edge is open
+abbrev pub SomeIsMade : Type 0
+SomeIsMade = (g : Lcg) (b : State) (x : ℕ) → x < sum (chances (weight g) b)
+    → (0 < choices (weight g) b x)
+    × ((y : ℕ) → y < choices (weight g) b x → (e : Edge) × (edge_at (weight g) b x y ≡ Some e))
+
 -- each number below a bound is the draw of some word of 32 bits
 abbrev pub NumbersAreDrawn : Type 0
 NumbersAreDrawn = (n x : ℕ) → n ≤ 2 ^ 32 → x < n → (w : ℕ) × (w < 2 ^ 32) × (scaled w n ≡ x)

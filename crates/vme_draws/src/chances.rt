@@ -23,8 +23,8 @@ fn chance(weight: u8, made: u32, ready: u32) -> u16
     }
 }
 
-/// The place of the first chance that is above what is left of `x` when the chances before it are taken from it; their
-/// number where none is.
+/// The place of the first chance that is above what is left of `x` when the chances before it are
+/// taken from it; their number where none is.
 fn falls_at(chances: &[u16], x: u32) -> usize
     ensures { result ≡ falls_at chances.now x }
 {

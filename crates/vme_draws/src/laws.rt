@@ -1,16 +1,18 @@
 //! What holds of every walk.
 //!
 //! The functions do nothing: each is a theorem, stated by its contract.
-ghost use Rattle.vme_draws.specs.Laws.{EachCanBeMade, EachIsOpen, IsBelow, NumbersAreDrawn};
+ghost use Rattle.vme_draws.specs.Laws.{EachCanBeMade, EachIsOpen, IsBelow, NumbersAreDrawn, SomeIsMade};
 
-/// Each edge that the rules allow is of one kind, and some two numbers choose it; and whatever two numbers choose, the
-/// rules allow.
+/// Each edge that the rules allow is of one kind, and some two numbers choose it; and whatever two
+/// numbers choose, the rules allow. As long as an edge is open, some edge is chosen.
 pub fn nothing_is_left_out()
     ensures made { EachCanBeMade }
     ensures open { EachIsOpen }
+    ensures some { SomeIsMade }
 {}
 
-/// Each number below a bound of at most 2^32 is the draw of some word, and no draw is another number.
+/// Each number below a bound of at most 2^32 is the draw of some word, and no draw is another
+/// number.
 pub fn every_number_can_be_drawn()
     ensures drawn { NumbersAreDrawn }
     ensures below { IsBelow }

@@ -1,4 +1,5 @@
-//! A walk of random order: the next edge is drawn among all that the rules allow, by the numbers of a seed.
+//! A walk of random order: the next edge is drawn among all that the rules allow, by the numbers of
+//! a seed.
 #![tactic(auto)]
 
 mod chances;

@@ -1,5 +1,5 @@
 //! What all drivers can make next.
-ghost use Rattle.std.specs.Prelude.{◌≡◌, ◌≤◌, ◌+◌, ◌++◌, length};
+ghost use Rattle.std.specs.Prelude.{◌≡◌, ◌≤◌, ◌+◌, ◌++◌, [], length};
 ghost use Rattle.std.specs.List.{flat_map};
 ghost use Rattle.vme_model.specs.Open.{open_edges};
 ghost use Rattle.vme_draws.specs.Choices.{all_open};
@@ -21,21 +21,25 @@ fn append(edges: &mut ArrayVec<Edge, OPEN_EDGES>, others: &[Edge])
     }
 }
 
-/// The open edges of drivers, in their order.
-fn open_of(backplane: &Backplane<'_>, drivers: &[Driver]) -> ArrayVec<Edge, OPEN_EDGES>
-    requires { length drivers.now ≤ 22 }
-    ensures { result.items ≡ flat_map (open_edges backplane.now) drivers.now }
+/// Puts the open edges of drivers, in their order, where there are none.
+fn append_open(
+    backplane: &Backplane<'_>,
+    drivers: &[Driver],
+    edges: &mut ArrayVec<Edge, OPEN_EDGES>,
+)
+    requires empty { edges.old.items ≡ [] }
+    requires few { length drivers.now ≤ 22 }
+    ensures { edges.new.items ≡ flat_map (open_edges backplane.now) drivers.now }
 {
-    let mut edges = ArrayVec::new();
     for driver in drivers {
-        append(&mut edges, backplane.open_edges(*driver).as_slice());
+        append(edges, backplane.open_edges(*driver).as_slice());
     }
-    edges
 }
 
-/// The open edges of all drivers: the controller's, then each board's by slot.
-pub(crate) fn all_open(backplane: &Backplane<'_>) -> ArrayVec<Edge, OPEN_EDGES>
-    ensures { result.items ≡ all_open backplane.now }
+/// Lists the open edges of all drivers: the controller's, then each board's by slot.
+pub(crate) fn all_open(backplane: &Backplane<'_>, edges: &mut ArrayVec<Edge, OPEN_EDGES>)
+    ensures { edges.new.items ≡ all_open backplane.now }
 {
-    open_of(backplane, backplane.plan().drivers().as_slice())
+    edges.clear();
+    append_open(backplane, backplane.plan().drivers().as_slice(), edges);
 }

@@ -8,9 +8,10 @@ ghost use Rattle.vme_draws.specs.Walks.{at_start, chosen, drawn, next_edge, walk
 use crate::chances::Chances;
 use crate::kinds::Kind;
 use crate::numbers::scaled;
-use crate::opens::all_open;
+use crate::opens::{OPEN_EDGES, all_open};
 use crate::tallies::Tally;
 use crate::weights::Weights;
+use arrayvec::ArrayVec;
 use rand_core::utils::NextWord;
 use rand_pcg::Pcg32;
 use std::marker::Model;
@@ -18,9 +19,11 @@ use vme_backplane::{Backplane, Trace};
 use vme_model::{Edge, Version};
 use vme_slots::Plan;
 
-/// A walk: a backplane whose next edge is drawn among all that the rules allow, by the numbers of a seed.
+/// A walk: a backplane whose next edge is drawn among all that the rules allow, by the numbers of a
+/// seed.
 ///
-/// First a kind of edge is drawn, by the kinds' weights and how many of each were made, and then one of its open edges.
+/// First a kind of edge is drawn, by the kinds' weights and how many of each were made, and then one
+/// of its open edges.
 #[derive(Drop)]
 pub struct Walk<'r> {
     seed: u64,
@@ -28,6 +31,8 @@ pub struct Walk<'r> {
     numbers: Pcg32,
     weights: Weights,
     made: Tally,
+    /// Room for the open edges, of whatever state they are.
+    open: ArrayVec<Edge, OPEN_EDGES>,
 }
 
 impl<'r> Model for Walk<'r> {
@@ -77,19 +82,23 @@ impl<'r> Walk<'r> {
             numbers,
             weights,
             made: Tally::new(),
+            open: ArrayVec::new(),
         }
     }
 
     /// The edge that two words choose: the first the kind, and the second one of its open edges.
-    fn choice(&self, first: u32, second: u32) -> Option<Edge>
-        ensures { result ≡ chosen self.now first second }
+    fn choice(&mut self, first: u32, second: u32) -> Option<Edge>
+        ensures edge { result ≡ chosen self.old first second }
+        ensures kept { self.new ≡ self.old }
     {
-        let edges = all_open(&self.backplane);
-        let ready = Tally::of(self.backplane.plan(), edges.as_slice());
+        all_open(&self.backplane, &mut self.open);
+        let edges = self.open.as_slice();
+        let plan = self.backplane.plan();
+        let ready = Tally::of(plan, edges);
         let chances = Chances::new(&self.weights, &self.made, &ready);
         let kind = chances.kind_at(scaled(first, chances.sum()))?;
         let place = scaled(second, ready.count(kind));
-        edge_of(self.backplane.plan(), edges.as_slice(), kind, place)
+        edge_of(plan, edges, kind, place)
     }
 
     /// Draws the next edge; none where none is open. It is not made yet.

@@ -4,10 +4,7 @@ use Rattle.std.specs.Io.KnownBytes.{Appends, Keeps}
 use Rattle.vme_model.specs.declared.signals.Version.{Version}
 use Rattle.vme_model.specs.Plan.{Plan}
 use Rattle.vme_scenario.specs.Format.{scenario}
-use Rattle.vme_trace.specs.declared.Fault.{Fault}
-use Rattle.vme_trace.specs.Writing.{AppendsFront}
 use Rattle.vme_events.specs.declared.goals.Goal.{Goal}
-use Rattle.vme_engines.specs.declared.Status.{Status}
 use Rattle.vme_engines.specs.declared.Status.TheVariants.{Done, Limit}
 use Rattle.vme_engines.specs.declared.EngineFault.{EngineFault}
 use Rattle.vme_engines.specs.declared.EngineFault.TheVariants as fault
@@ -16,7 +13,7 @@ use Rattle.vme_engines.specs.declared.seeks.Ending.TheVariants.{Over, Came, Miss
 use Rattle.vme_engines.specs.Outcomes.{Answer, Lent}
 use Rattle.vme_engines.specs.Drawing.{walk, status_to, Draws}
 use Rattle.vme_engines.specs.Seeking.{is_over}
-use Rattle.vme_engines.specs.Found.{NoneBelow, Attempts, Finds, tried_answer, found_answer}
+use Rattle.vme_engines.specs.Found.{NoneBelow, Attempts, Finds, tried_answer}
 
 -- what is kept, and then kept or grown
 pub keeps_trans : (a b c : Option (List ℕ)) → Keeps a b → Keeps b c → Keeps a c

@@ -20,7 +20,7 @@ use Rattle.vme_engines.specs.declared.Status.{Status}
 use Rattle.vme_engines.specs.declared.Status.TheVariants.{Done, Limit}
 use Rattle.vme_engines.specs.declared.EngineFault.TheVariants as fault
 use Rattle.vme_engines.specs.declared.seeks.Ending.{Ending}
-use Rattle.vme_engines.specs.declared.seeks.Ending.TheVariants.{Over, Came, Missed}
+use Rattle.vme_engines.specs.declared.seeks.Ending.TheVariants.{Over, Missed}
 use Rattle.vme_engines.specs.Outcomes.{Answer, bench}
 use Rattle.vme_engines.specs.Checking.{IsLegalTrace}
 use Rattle.vme_engines.specs.Seeking.{Ended, walk_to}

@@ -6,3 +6,5 @@ pub mod Ranges
 pub mod Rows
 -- texts that are written one after another, and the whole picture: src/windows.rt
 pub mod Whole
+-- whom a row tells of: src/laws.rt
+pub mod Letters

@@ -3,6 +3,7 @@
 
 mod columns;
 mod grants;
+pub mod laws;
 mod lines;
 mod windows;
 mod wires;

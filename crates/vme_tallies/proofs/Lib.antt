@@ -10,5 +10,9 @@ pub mod Situations
 pub mod OneMore
 -- words one after the other, and the topics
 pub mod Words
--- every accepted edge is counted for one rule
-pub mod RuleShares
+-- what an accepted edge has passed
+pub mod Passing
+-- every edge is counted for one rule or one refusal, and every tenure for one board
+pub mod Shares
+-- a board asks and holds as its wires stand
+pub mod Standing

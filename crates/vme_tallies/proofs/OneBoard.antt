@@ -1,18 +1,16 @@
 -- The numbers of a board, and how an edge moves them.
-use Rattle.std.proofs.Common.{◌≡◌, ◌∙◌, refl, sym, ap, ℕ, ◌+◌, ◌-◌, ◌<◌, ◌≤◌, ◌^◌, Bool, true, false, List, [], ◌∷◌, length, sum, Option, Some, None, Ok, Err, inl, inr, arith}
-use Rattle.std.specs.Prelude.{◌==◌, ◌&&◌, ◌||◌, not, max, count_by, is_ok, is_some, if◌then◌else◌}
+use Rattle.std.proofs.Common.{◌≡◌, ◌∙◌, refl, sym, ap, ℕ, ◌+◌, ◌<◌, ◌^◌, Bool, true, false, ◌∷◌, length, Option, Some, None, Ok, arith}
+use Rattle.std.specs.Prelude.{◌==◌, ◌&&◌, ◌||◌, not, max, count_by, is_some, if◌then◌else◌}
 use Rattle.std.proofs.lemmas.Bool.Decides.{nat_tests}
 use Rattle.vme_model.specs.declared.deliveries.Delivery.{Delivery}
 use Rattle.vme_model.specs.declared.signals.Cycle.{Cycle}
-use Rattle.vme_model.specs.declared.signals.Driver.{Driver}
-use Rattle.vme_model.specs.declared.signals.Driver.TheVariants.{Controller, Slot}
+use Rattle.vme_model.specs.declared.signals.Driver.TheVariants.{Slot}
 use Rattle.vme_model.specs.declared.signals.Wire.{Wire}
 use Rattle.vme_model.specs.declared.signals.Wire.TheVariants.{Bg, Bclr, Iack, Berr, Br, BgOut, Bbsy, Addr, AddressStrobe, DataStrobe, Irq, IackOut, Dtack}
-use Rattle.vme_model.specs.declared.signals.Edge.{Edge}
 use Rattle.vme_model.specs.Signals.{is_same_driver, is_same_wire, is_edge_of, is_fall_of}
 use Rattle.vme_events.specs.declared.events.Event.{Event}
 use Rattle.vme_tallies.specs.declared.boards.BoardTally.{BoardTally}
-use Rattle.vme_tallies.specs.Tally.{Answer, Answered, Answers, is_accepted, falls, rises, fall_count, delivers, delivery_count, asks_since, holds_since, waits, holds, greatest, board_tally}
+use Rattle.vme_tallies.specs.Tally.{Answered, Answers, is_accepted, falls, rises, delivers, board_tally}
 use Rattle.vme_tallies.specs.Tallied.{more, span, board_after}
 use Rattle.vme_tallies.proofs.Counted.{more_one, count_no}
 use Rattle.vme_tallies.proofs.Spans.{sum_after, greatest_after}

@@ -1,6 +1,6 @@
 -- A tally before the first edge, and after one more.
 use Rattle.std.proofs.Common.{◌≡◌, ◌∙◌, refl, sym, ap, subst, ℕ, ◌+◌, ◌<◌, ◌^◌, Bool, true, false, List, [], ◌∷◌, length, get_or, set, replicate, inl, inr, Option, Ok, Err, arith}
-use Rattle.std.specs.Prelude.{◌==◌, ◌&&◌, count_by, is_ok, is_some, if◌then◌else◌}
+use Rattle.std.specs.Prelude.{◌==◌, ◌&&◌, is_ok, is_some}
 use Rattle.std.proofs.lemmas.Bool.{cases_eq}
 use Rattle.std.proofs.lemmas.Bool.Decides.{nat_tests}
 use Rattle.std.proofs.lemmas.List.{get_or-replicate, length-replicate, length-set, get_or-set_same, get_or-set_other}
@@ -15,7 +15,6 @@ use Rattle.vme_model.specs.declared.signals.Driver.TheVariants.{Controller, Slot
 use Rattle.vme_model.specs.declared.signals.Wire.{Wire}
 use Rattle.vme_model.specs.declared.signals.Wire.TheVariants.{Bg, Bclr, Iack, Berr, Br, BgOut, Bbsy, Addr, AddressStrobe, DataStrobe, Irq, IackOut, Dtack}
 use Rattle.vme_model.specs.declared.signals.Edge.{Edge}
-use Rattle.vme_model.specs.Signals.{is_same_driver}
 use Rattle.vme_model.specs.Readings.{Readings, readings}
 use Rattle.vme_model.specs.Rules.{rule}
 use Rattle.vme_model.specs.Verdict.{State}
@@ -23,7 +22,7 @@ use Rattle.vme_events.specs.declared.events.Event.{Event}
 use Rattle.vme_events.specs.Events.{events_of}
 use Rattle.vme_tallies.specs.declared.boards.BoardTally.{BoardTally}
 use Rattle.vme_tallies.specs.declared.tallies.Tally.{Tally}
-use Rattle.vme_tallies.specs.Tally.{Answer, Answered, Answers, answered_edge, is_accepted, is_refusal, refused_for, board_tally}
+use Rattle.vme_tallies.specs.Tally.{Answered, Answers, answered_edge, is_accepted, is_refusal, refused_for, board_tally}
 use Rattle.vme_tallies.specs.Tallied.{more, idle, board_after, boards_after, rule_number, met_after, IsRefusalsOf, IsMetOf, IsTallyOf}
 use Rattle.vme_tallies.proofs.Situations.{events_came, nothing_came}
 use Rattle.vme_tallies.proofs.Counted.{more_one, count_no, counted}

@@ -1,6 +1,6 @@
 -- Waits and holds, and what an edge adds to them: they don't overlap.
-use Rattle.std.proofs.Common.{◌≡◌, ◌∙◌, refl, sym, ap, ℕ, ◌+◌, ◌-◌, ◌<◌, ◌≤◌, ◌^◌, Bool, true, false, List, [], ◌∷◌, ◌++◌, length, sum, Option, Some, None, inl, inr, arith}
-use Rattle.std.specs.Prelude.{◌&&◌, ◌||◌, max, if◌then◌else◌}
+use Rattle.std.proofs.Common.{◌≡◌, ◌∙◌, refl, sym, ap, ℕ, ◌+◌, ◌<◌, ◌≤◌, ◌^◌, Bool, true, false, List, [], ◌∷◌, ◌++◌, length, sum, Option, Some, None, arith}
+use Rattle.std.specs.Prelude.{max, if◌then◌else◌}
 use Rattle.std.proofs.lemmas.List.Sums.{sum_by-append}
 use Rattle.vme_tallies.specs.Tally.{Answered, Answers, last_begun, spanned, spans, greatest}
 use Rattle.vme_tallies.specs.Tallied.{more, span}

@@ -1,10 +1,10 @@
 -- Words that are put together one after the other, and the topics of a summary.
-use Rattle.std.proofs.Common.{◌≡◌, ◌∙◌, refl, sym, ap, ℕ, suc, ◌+◌, ◌<◌, ◌≤◌, Bool, true, false, List, [], ◌∷◌, ◌++◌, length, take, get_or, append-nil, arith}
-use Rattle.std.specs.Prelude.{◌&&◌, not, filter, nat_lt, count_by, if◌then◌else◌}
+use Rattle.std.proofs.Common.{◌≡◌, ◌∙◌, refl, sym, ap, ℕ, suc, ◌+◌, ◌<◌, Bool, true, false, List, [], ◌∷◌, ◌++◌, length, append-nil, append_assoc, arith}
+use Rattle.std.specs.Prelude.{not, map, filter, nat_lt, if◌then◌else◌}
 use Rattle.std.specs.List.{All, flat_map, list_all}
 use Rattle.std.proofs.lemmas.Bool.{and_parts}
 use Rattle.std.proofs.lemmas.Bool.Decides.{nat_tests}
-use Rattle.std.proofs.lemmas.List.{take_more}
+use Rattle.std.proofs.lemmas.List.{map-append}
 use Rattle.std.proofs.lemmas.List.Concat.{flat_map-append}
 use Rattle.std.proofs.lemmas.List.Elements.{All-cons, All-nil, filter-append}
 use Rattle.vme_model.specs.declared.refusals.Refused.{Refused}
@@ -13,7 +13,7 @@ use Rattle.vme_model.specs.Plan.{up_to}
 use Rattle.vme_events.specs.Events.{all_events}
 use Rattle.vme_tallies.specs.declared.topics.Topic.{Topic}
 use Rattle.vme_tallies.specs.declared.topics.Topic.TheVariants as topic
-use Rattle.vme_tallies.specs.Tally.{Answered, Answers, is_accepted, accepted, refused}
+use Rattle.vme_tallies.specs.Tally.{Answers, is_accepted, accepted, refused}
 use Rattle.vme_tallies.specs.Tallied.{IsNamed, IsTopic}
 use Rattle.vme_tallies.specs.Summary.{topics}
 use Rattle.vme_tallies.proofs.Counted.{count_yes, count_no}
@@ -42,6 +42,12 @@ word_more {X} f p xs x o n b is before after =
 
 pub up_to_more : (n : ℕ) → up_to n ++ (n + 1) ∷ [] ≡ up_to (n + 1)
 up_to_more n = let next : suc n ≡ n + 1 = omega arith in ap (λ m. up_to n ++ m ∷ []) (sym next) ∙ ap up_to next
+
+-- what is told of the numbers from 1, and of one more
+pub numbered_more : {X : Type 0} (f : ℕ → X) (xs : List X) (n : ℕ) → (xs ++ map f (up_to n)) ++ f (n + 1) ∷ [] ≡ xs ++ map f (up_to (n + 1))
+numbered_more f xs n =
+    append_assoc xs (map f (up_to n)) (f (n + 1) ∷ [])
+    ∙ ap (λ l. xs ++ l) (sym (map-append f (up_to n) ((n + 1) ∷ [])) ∙ ap (map f) (up_to_more n))
 
 -- every topic is one that there can be
 is_named : Refused → Bool

@@ -1,7 +1,7 @@
 -- The lines of a summary, from the numbers of a trace. (Profile.)
-use Rattle.std.specs.Prelude.{◌≡◌, ◌<◌, ◌==◌, ◌&&◌, ◌++◌, ℕ, Bool, if◌then◌else◌, Option, Some, None, Err, List, [], ◌∷◌, length, map, filter, is_some, nat_lt, true, codes, decimal}
+use Rattle.std.specs.Prelude.{◌==◌, ◌&&◌, ◌++◌, ℕ, Bool, if◌then◌else◌, Option, Some, None, Err, List, [], ◌∷◌, length, map, filter, is_some, codes, decimal}
 use Rattle.std.specs.List.{flat_map}
-use Rattle.std.specs.Option.{option_map_or, option_and_then}
+use Rattle.std.specs.Option.{option_and_then}
 use Rattle.vme_model.specs.declared.refusals.Refused.{Refused}
 use Rattle.vme_model.specs.declared.refusals.Refused.TheVariants.{NoSuchDriver, AlreadyThere, Rule as by_rule, NotSettled, TraceFull}
 use Rattle.vme_model.specs.Plan.{Plan, up_to, board}

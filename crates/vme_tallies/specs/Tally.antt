@@ -1,7 +1,7 @@
 -- What a trace exercised: counts, found by looking back through its edges with their answers. (The
 -- requests, tenures, cycles and answers of a board are those of chapters 2 to 4; what is counted is
 -- this project's profile.)
-use Rattle.std.specs.Prelude.{◌==◌, ◌&&◌, ◌||◌, ◌+◌, ◌-◌, ◌++◌, ℕ, max, Bool, true, false, not, if◌then◌else◌, Option, Some, None, Result, Ok, Err, List, [], ◌∷◌, length, count_by, is_ok, sum}
+use Rattle.std.specs.Prelude.{◌==◌, ◌&&◌, ◌||◌, ◌-◌, ◌++◌, ℕ, max, Bool, true, false, not, if◌then◌else◌, Option, Some, None, Result, Ok, Err, List, [], ◌∷◌, length, count_by, is_ok, sum}
 use Rattle.std.specs.Option.{option_or}
 use Rattle.vme_model.specs.declared.deliveries.Delivery.{Delivery}
 use Rattle.vme_model.specs.declared.refusals.Refused.{Refused}
@@ -23,16 +23,16 @@ use Rattle.vme_tallies.specs.declared.boards.BoardTally.{BoardTally}
 abbrev pub Answer : Type 0
 Answer = Result (Option Delivery) Refused
 
--- an edge of a trace, the number of the rule that names its wire and direction, the answer to it, and
--- whether it brings a situation about where it is accepted
+-- an edge of a trace, the number of the rule that names its wire and direction, the answer to it,
+-- and whether it brings a situation about where it is accepted
 pub record Answered : Type 0 where
   pub edge : Edge
   pub rule : ℕ
   pub answer : Answer
   pub comes : Event → Bool
 
--- Edges of a trace, the newest first. The number of each among all edges of the trace, from 1, is how
--- many there are up to it.
+-- Edges of a trace, the newest first. The number of each among all edges of the trace, from 1, is
+-- how many there are up to it.
 abbrev pub Answers : Type 0
 Answers = List Answered
 
@@ -127,7 +127,8 @@ last_begun begins ends (a ∷ t) =
 -- the board's last `br-`, while its request stands and is not met: without a `br+` or a `bbsy-`
 -- since (chapter 3)
 abbrev pub asks_since : ℕ → Answers → Option ℕ
-asks_since s t = last_begun (falls (Slot s) Br) (λ a. rises (Slot s) Br a || falls (Slot s) Bbsy a) t
+asks_since s t =
+    last_begun (falls (Slot s) Br) (λ a. rises (Slot s) Br a || falls (Slot s) Bbsy a) t
 
 -- the board's last `bbsy-`, while it holds the bus: without a `bbsy+` since (chapter 3)
 abbrev pub holds_since : ℕ → Answers → Option ℕ

@@ -87,8 +87,8 @@ impl BoardTally {
         self.holds_since = None;
     }
 
-    /// Takes in an accepted edge of the board's own, the n-th of the trace, and whether it delivered a
-    /// status byte.
+    /// Takes in an accepted edge of the board's own, the n-th of the trace, and whether it
+    /// delivered a status byte.
     pub(crate) fn note(&mut self, wire: Wire, fall: bool, n: u64, delivers: bool)
         ensures { self.new ≡ board_after self.old wire fall n delivers }
     {

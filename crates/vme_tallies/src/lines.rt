@@ -14,8 +14,8 @@ use vme_model::Refused;
 use vme_reasons::texts::{push, push_byte, push_number, push_verdict};
 use vme_slots::Plan;
 
-/// Room for any line: a board's has nine words of at most 14 bytes, and as many numbers of 20 digits
-/// and more.
+/// Room for any line: a board's has nine words of at most 14 bytes, and as many numbers of 20
+/// digits and more.
 const LINE: usize = 400;
 
 /// A line, as far as it was put together; empty where there is nothing to tell.

@@ -35,9 +35,9 @@ fn write_topics<W: Write>(
     Ok(())
 }
 
-/// Writes what the edges of a trace on a plan came to: how many were accepted and refused, and so by
-/// rule; which rules let none pass; which situations came, and which never; what each board with a
-/// requester did at the bus, by slot, and what each board answered.
+/// Writes what the edges of a trace on a plan came to: how many were accepted and refused, and so
+/// by rule; which rules let none pass; which situations came, and which never; what each board with
+/// a requester did at the bus, by slot, and what each board answered.
 ///
 /// Errors: X8 where a write failed or took no byte; a prefix of the summary was then written.
 pub fn write_summary<W: Write>(plan: &Plan, tally: &Tally, out: &mut W) -> Result<(), Fault>

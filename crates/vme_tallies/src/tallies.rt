@@ -14,8 +14,8 @@ use crate::rules::{RULES, rule_of};
 use vme_events::Event;
 use vme_model::{Delivery, Driver, Edge, Refused};
 
-/// What the edges of a trace came to: how many each rule let pass or refused, which situations came,
-/// and what each board did.
+/// What the edges of a trace came to: how many each rule let pass or refused, which situations
+/// came, and what each board did.
 ///
 /// It stands in places of fixed number, and an edge moves a few of them.
 #[derive(Drop)]

@@ -1,6 +1,7 @@
 //! What the lines of a summary tell.
-ghost use Rattle.std.specs.Prelude.{◌≡◌, ◌+◌, ◌≤◌, ◌++◌, length};
+ghost use Rattle.std.specs.Prelude.{◌≡◌, ◌+◌, ◌≤◌, ◌++◌, length, map};
 ghost use Rattle.arrayvec.specs.ArrayVec.{array_vec_len};
+ghost use Rattle.vme_model.specs.Plan.{up_to};
 ghost use Rattle.vme_tallies.specs.Summary.{topics};
 
 use arrayvec::ArrayVec;
@@ -29,40 +30,13 @@ pub enum Topic {
     Answered(u8),
 }
 
-use Topic::{Answered, Board, Met, Refusal, Rule};
+use Topic::{Met, Refusal};
 
 /// How many topics there are.
-pub(crate) const TOPICS: usize = 93;
+const TOPICS: usize = 93;
 
-/// The rules.
-const RULES: [Topic; 26] = [
-    Rule(1),
-    Rule(2),
-    Rule(3),
-    Rule(4),
-    Rule(5),
-    Rule(6),
-    Rule(7),
-    Rule(8),
-    Rule(9),
-    Rule(10),
-    Rule(11),
-    Rule(12),
-    Rule(13),
-    Rule(14),
-    Rule(15),
-    Rule(16),
-    Rule(17),
-    Rule(18),
-    Rule(19),
-    Rule(20),
-    Rule(21),
-    Rule(22),
-    Rule(23),
-    Rule(24),
-    Rule(25),
-    Rule(26),
-];
+/// Topics, in the order in which they are told.
+pub(crate) type Topics = ArrayVec<Topic, TOPICS>;
 
 /// Refusals by settling rules, and by no rule.
 const REFUSALS: [Topic; 7] = [
@@ -94,58 +68,8 @@ const SITUATIONS: [Topic; 15] = [
     Met(Event::GrantTimeout),
 ];
 
-/// The boards at the bus, by slot.
-const BOARDS: [Topic; 21] = [
-    Board(1),
-    Board(2),
-    Board(3),
-    Board(4),
-    Board(5),
-    Board(6),
-    Board(7),
-    Board(8),
-    Board(9),
-    Board(10),
-    Board(11),
-    Board(12),
-    Board(13),
-    Board(14),
-    Board(15),
-    Board(16),
-    Board(17),
-    Board(18),
-    Board(19),
-    Board(20),
-    Board(21),
-];
-
-/// The boards that answer, by slot.
-const ANSWERS: [Topic; 21] = [
-    Answered(1),
-    Answered(2),
-    Answered(3),
-    Answered(4),
-    Answered(5),
-    Answered(6),
-    Answered(7),
-    Answered(8),
-    Answered(9),
-    Answered(10),
-    Answered(11),
-    Answered(12),
-    Answered(13),
-    Answered(14),
-    Answered(15),
-    Answered(16),
-    Answered(17),
-    Answered(18),
-    Answered(19),
-    Answered(20),
-    Answered(21),
-];
-
 /// Appends topics to others that leave room for them.
-fn add(topics: &mut ArrayVec<Topic, TOPICS>, more: &[Topic])
+fn add(topics: &mut Topics, more: &[Topic])
     requires { array_vec_len topics.old + length more.now ≤ 93 }
     ensures items { topics.new.items ≡ topics.old.items ++ more.now }
     ensures len { array_vec_len topics.new ≡ array_vec_len topics.old + length more.now }
@@ -155,18 +79,51 @@ fn add(topics: &mut ArrayVec<Topic, TOPICS>, more: &[Topic])
     }
 }
 
+/// Appends the rules, by number.
+fn add_rules(topics: &mut Topics)
+    requires { array_vec_len topics.old + 26 ≤ 93 }
+    ensures items { topics.new.items ≡ topics.old.items ++ map (λ k. Topic.Rule k) (up_to 26) }
+    ensures len { array_vec_len topics.new ≡ array_vec_len topics.old + 26 }
+{
+    for below in 0..26 {
+        add(topics, &[Topic::Rule(below + 1)]);
+    }
+}
+
+/// Appends what the boards did at the bus, by slot.
+fn add_boards(topics: &mut Topics)
+    requires { array_vec_len topics.old + 21 ≤ 93 }
+    ensures items { topics.new.items ≡ topics.old.items ++ map (λ k. Topic.Board k) (up_to 21) }
+    ensures len { array_vec_len topics.new ≡ array_vec_len topics.old + 21 }
+{
+    for below in 0..21 {
+        add(topics, &[Topic::Board(below + 1)]);
+    }
+}
+
+/// Appends what the boards answered, by slot.
+fn add_answers(topics: &mut Topics)
+    requires { array_vec_len topics.old + 21 ≤ 93 }
+    ensures items { topics.new.items ≡ topics.old.items ++ map (λ k. Topic.Answered k) (up_to 21) }
+    ensures len { array_vec_len topics.new ≡ array_vec_len topics.old + 21 }
+{
+    for below in 0..21 {
+        add(topics, &[Topic::Answered(below + 1)]);
+    }
+}
+
 /// The topics, in the order in which they are told.
-pub(crate) fn topics() -> ArrayVec<Topic, TOPICS>
+pub(crate) fn topics() -> Topics
     ensures { result.items ≡ topics }
 {
     let mut topics = ArrayVec::new();
     add(&mut topics, &[Topic::Edges]);
-    add(&mut topics, &RULES);
+    add_rules(&mut topics);
     add(&mut topics, &REFUSALS);
     add(&mut topics, &[Topic::NeverAccepted]);
     add(&mut topics, &SITUATIONS);
     add(&mut topics, &[Topic::NeverMet]);
-    add(&mut topics, &BOARDS);
-    add(&mut topics, &ANSWERS);
+    add_boards(&mut topics);
+    add_answers(&mut topics);
     topics
 }

@@ -210,6 +210,8 @@ fn assert_shown(
     color: bool,
     wanted: Result<Status, EngineFault>,
 ) {
+    assert!(rt; 1 <= shown.from && shown.from <= shown.to);
+    assert!(rt; shown.to - shown.from < 200);
     let mut out = Vec::new(rt.alloc());
     let mut trace = shown.trace;
     let answer = show(

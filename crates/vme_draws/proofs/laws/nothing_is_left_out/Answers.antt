@@ -1,5 +1,5 @@
 use Rattle.vme_draws.specs.Choices.{weight}
-use Rattle.vme_draws.proofs.AllOpen.{can_be_made, each_is_open}
+use Rattle.vme_draws.proofs.AllOpen.{can_be_made, each_is_open, some_is_made}
 use Rattle.vme_draws.proofs.laws.nothing_is_left_out.Goals as goal
 
 pub returns-clause-made : goal.returns-clause-made
@@ -7,3 +7,6 @@ returns-clause-made c = λ g b e accepted ok. can_be_made g b e accepted ok
 
 pub returns-clause-open : goal.returns-clause-open
 returns-clause-open c = λ g. each_is_open (weight g)
+
+pub returns-clause-some : goal.returns-clause-some
+returns-clause-some c = λ g b x below. some_is_made g b x below

@@ -1,5 +1,4 @@
 use Rattle.std.proofs.Common.{◌≡◌, ◌∙◌, ap, arith}
-use Rattle.vme_model.specs.Verdict.{State}
 use Rattle.vme_draws.specs.Walks.{Walk, at_start}
 use Rattle.vme_engines.specs.Outcomes.{bench}
 use Rattle.vme_engines.specs.Drawing.{status_to, walk}

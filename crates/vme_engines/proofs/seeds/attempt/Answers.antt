@@ -1,5 +1,4 @@
 use Rattle.std.proofs.Common.{◌≡◌, ◌∙◌, ap, sym, arith, length, Some}
-use Rattle.vme_model.specs.Verdict.{State}
 use Rattle.vme_draws.specs.Walks.{Walk, at_start}
 use Rattle.std.proofs.KnownBytes.{Keeps-refl}
 use Rattle.vme_engines.specs.Outcomes.{bench}

@@ -1,4 +1,4 @@
-use Rattle.vme_tallies.proofs.RuleShares.{by_one_rule_each}
+use Rattle.vme_tallies.proofs.Shares.{by_one_rule_each}
 use Rattle.vme_tallies.proofs.laws.rules_share_accepted_edges.Goals as goal
 
 pub returns : goal.returns

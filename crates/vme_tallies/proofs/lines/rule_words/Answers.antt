@@ -1,8 +1,7 @@
-use Rattle.std.proofs.Common.{◌≡◌, ◌∙◌, sym, ap, ◌+◌, ◌≤◌, ◌*◌, ◌++◌, true, false, length, append_assoc, append-nil, codes, arith}
+use Rattle.std.proofs.Common.{◌≡◌, ◌∙◌, sym, ap, ◌+◌, ◌++◌, true, false, append_assoc, append-nil, codes, arith}
 use Rattle.std.specs.Prelude.{◌==◌, decimal, filter}
 use Rattle.std.specs.List.{flat_map}
 use Rattle.std.proofs.lemmas.Bool.{ne_eqb}
-use Rattle.std.proofs.lemmas.Bool.Decides.{nat_tests}
 use Rattle.vme_model.specs.Plan.{up_to}
 use Rattle.vme_tallies.specs.Tally.{passed_by}
 use Rattle.vme_tallies.proofs.Words.{word_more, up_to_more}

@@ -1,4 +1,4 @@
-use Rattle.std.proofs.Common.{◌≡◌, ◌+◌, ◌*◌, ◌≤◌, ◌++◌, codes, length}
+use Rattle.std.proofs.Common.{◌≡◌, ◌*◌, ◌≤◌, ◌++◌, codes, length}
 use Rattle.std.specs.Prelude.{◌==◌, decimal, filter}
 use Rattle.std.specs.List.{flat_map}
 use Rattle.vme_model.specs.Plan.{up_to}

@@ -1,5 +1,4 @@
 use Rattle.std.proofs.Common.{◌∙◌, ap, Err}
-use Rattle.vme_tallies.specs.declared.refusals.Refusals.{Refusals}
 use Rattle.vme_tallies.proofs.OneMore.{rule_refused, settling_refused}
 use Rattle.vme_tallies.proofs.refusals.Refusals.note.Goals as goal
 

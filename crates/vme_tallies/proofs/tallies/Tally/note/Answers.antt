@@ -1,4 +1,4 @@
-use Rattle.std.proofs.Common.{◌≡◌, ◌∙◌, refl, sym, ◌+◌, ◌<◌, ◌^◌, length, arith}
+use Rattle.std.proofs.Common.{◌≡◌, ◌∙◌, refl, sym, ◌+◌, arith}
 use Rattle.vme_tallies.specs.Tally.{answered_edge}
 use Rattle.vme_tallies.proofs.OneMore.{edge_accepted, edge_refused}
 use Rattle.vme_tallies.proofs.tallies.Tally.note.Goals as goal
