@@ -23,7 +23,8 @@ docs/FORMATS.md has scenarios, traces, reports and faults to the byte, and examp
 each.
 
 Exit status: 0 done, 1 a fault (one line on standard error) or a text as this one,
-2 some edge was refused, 3 the limit of edges was reached (so mind `set -e` in a script).";
+2 some edge was refused, 3 the limit of edges was reached, or `--until` did not come to its event (so
+mind `set -e` in a script).";
 
 const REPLAY: &str =
     "Writes the verdict on each edge of a trace, and how many were accepted and refused";
@@ -95,8 +96,8 @@ const SHOW_EXAMPLE: &str =
   \\ /     an accepted fall, an accepted rise
   x       a refused edge of this wire
   _ -     another edge, while the wire is low, while it is high
-Four rows under them tell how it is after each edge: `grant at` is the slot that a grant has come
-to, `holder` the slot that drives BBSY* low, `shown` the target of an access or the level of an
+Four rows under them tell how it is after each edge: `grant at` is the slot at which a grant waits,
+`holder` the slot that drives BBSY* low, `shown` the target of an access or the level of an
 acknowledge, and `verdict` is `x` refused, `!` a status byte delivered, or `.` accepted. A slot is a
 letter, `a` for 1 to `u` for 21. It reads no further than edge B. The exit status is 2 where one of
 the edges 1 to B is refused, 0 where none is, and 1 at a fault. docs/FORMATS.md has each line.
@@ -140,7 +141,8 @@ EVENT is a situation that an accepted edge brings about,
   grant-passed late-request overtaken early-release overlap full-burst bus-clear rivals delivery
   iack-passed answered-again spurious bus-error, and in version 2 withdrawn grant-timeout
 or what alone refuses an edge, which is then the last of the trace: a rule and one of its conditions
-as `vmebus explain` writes it, with N for a level, or a settling rule, as S2.
+as `vmebus explain` writes it, with N for a level, or a settling rule, as S2. docs/FORMATS.md tells
+what each event is, and has all conditions.
 
 With --seeds it tries the seeds S to T in order. The first with which EVENT comes within the given
 number of edges is told on standard error as `seed S`, its trace is written, and the exit status is
