@@ -55,8 +55,7 @@ same_length a b i j digits lacks is =
 -- where a numeral stands before two dots, they are the first
 apart : (begins ends a b : Text) → AllDigits 10 (without_leading_plus a) → IsParted (a ++ (dots ++ b)) begins ends → (begins ≡ a) × (ends ≡ b)
 apart begins ends a b digits s =
-    let at : length a ≡ s.0 = same_length a b s.0 s.1 digits s.2.0 s.2.1.split in
-    (
+    let at : length a ≡ s.0 = same_length a b s.0 s.1 digits s.2.0 s.2.1.split in (
       s.3 ∙ ap (λ n. take n (a ++ (dots ++ b))) (sym at) ∙ take-append_seam a (dots ++ b),
       s.4 ∙ ap (λ n. drop n (a ++ (dots ++ b))) (s.2.1.ends ∙ ap (λ n. n + length dots) (sym at)) ∙ drop-append-add a (dots ++ b) (length dots) ∙ drop-append_seam dots b,
     )
