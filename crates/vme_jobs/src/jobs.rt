@@ -39,7 +39,7 @@ fn told_seed<'a>(
     name: &'a str,
     found: Result<Option<u64>, EngineFault>,
 ) -> Result<Status, ProgramFault<'a>>
-    ensures { result ≡ told_answer name.entry (found_answer found.entry) }
+    ensures { result ≡ told_answer name.entry (found_answer found) }
 {
     match found {
         Ok(Some(seed)) => {
