@@ -12,12 +12,13 @@ use Rattle.vme_engines.specs.Streams.{Streams, ReadNothing, WroteNothing, stream
 use Rattle.vme_engines.specs.Outcomes.{Answer, Lent}
 use Rattle.vme_engines.specs.Driving.{Drives}
 use Rattle.vme_engines.specs.Drawing.{Draws}
+use Rattle.vme_engines.specs.Found.{Found, Finds, found_answer}
 use Rattle.vme_engines.specs.Joining.{Joins}
 use Rattle.vme_run.specs.declared.RunFault.{RunFault}
 use Rattle.vme_run.specs.declared.RunFault.TheVariants as run
 use Rattle.vme_run.specs.Running.{Runs}
 use Rattle.vme_words.specs.declared.Job.{Job}
-use Rattle.vme_words.specs.declared.Job.TheVariants.{Joined, Drive, Draw, Run}
+use Rattle.vme_words.specs.declared.Job.TheVariants.{Joined, Drive, Draw, Search, Run}
 use Rattle.vme_jobs.specs.declared.faults.ProgramFault.{ProgramFault}
 use Rattle.vme_jobs.specs.declared.faults.ProgramFault.TheVariants.{CannotRead, TooLong, Engine}
 use Rattle.vme_jobs.specs.Done.{Alone, Hands, IsDone, Known, OnTrace}
@@ -58,6 +59,13 @@ pub draw_done : (scenario : Bor (List ℕ)) (text : List ℕ) (edges seed : ℕ)
 draw_done scenario text edges seed until version old new answer does =
     handed (λ a. (t : List ℕ) × Lent t (Keeps old new) (Draws version seed edges until old new) a)
     (Keeps old new) scenario answer (text, does) (λ h. absurd h.1) (λ h. h.1.1)
+
+pub search_done : (scenario : Bor (List ℕ)) (text : List ℕ) (edges first last : ℕ) (goal : Goal) (version : Version) (old new : Known) (found : Found)
+    → Lent text (Keeps old new) (Finds version edges first last goal old new found) (found_answer found)
+    → IsDone (Search scenario edges first last goal version) old new (told_answer scenario (found_answer found))
+search_done scenario text edges first last goal version old new found does =
+    handed (λ a. (t : List ℕ) × (f : Found) × (a ≡ found_answer f) × Lent t (Keeps old new) (Finds version edges first last goal old new f) a)
+    (Keeps old new) scenario (found_answer found) (text, found, refl, does) (λ h. absurd h.3) (λ h. h.3.1)
 
 -- a file that cannot be read, or a scenario that is too long, or no memory, before an engine begins
 pub unread : (job : Job) (name : Bor (List ℕ)) (held : Known) (f : ProgramFault)

@@ -13,12 +13,13 @@ use Rattle.vme_engines.specs.Showing.{ShowsInput}
 use Rattle.vme_engines.specs.Summing.{SumsInput}
 use Rattle.vme_engines.specs.Driving.{Drives}
 use Rattle.vme_engines.specs.Drawing.{Draws}
+use Rattle.vme_engines.specs.Found.{Found, Finds, found_answer}
 use Rattle.vme_engines.specs.Joining.{Joins}
 use Rattle.vme_run.specs.declared.RunFault.{RunFault}
 use Rattle.vme_run.specs.declared.RunFault.TheVariants as run
 use Rattle.vme_run.specs.Running.{Runs}
 use Rattle.vme_words.specs.declared.Job.{Job}
-use Rattle.vme_words.specs.declared.Job.TheVariants.{Joined, Replay, Check, Explain, State, Show, Summary, Drive, Draw, Run}
+use Rattle.vme_words.specs.declared.Job.TheVariants.{Joined, Replay, Check, Explain, State, Show, Summary, Drive, Draw, Search, Run}
 use Rattle.vme_words.specs.Asked.{Ask}
 use Rattle.vme_jobs.specs.Statuses.{exit_code}
 use Rattle.vme_jobs.specs.declared.faults.ProgramFault.{ProgramFault}
@@ -55,6 +56,9 @@ Does (Drive scenario edges version) old new = Alone (λ answer.
     (text : List ℕ) × Lent text (Keeps old new) (Drives version edges old new) answer)
 Does (Draw scenario edges seed until version) old new = Alone (λ answer.
     (text : List ℕ) × Lent text (Keeps old new) (Draws version seed edges until old new) answer)
+Does (Search scenario edges first last goal version) old new = Alone (λ answer.
+    (text : List ℕ) × (found : Found) × (answer ≡ found_answer found)
+    × Lent text (Keeps old new) (Finds version edges first last goal old new found) answer)
 Does (Run scenario edges turns version) old new = λ answer.
     (text : List ℕ) × Runs text version edges turns old new answer
 

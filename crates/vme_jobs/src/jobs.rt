@@ -4,6 +4,7 @@ ghost use Rattle.std.specs.Process.{exit_status};
 ghost use Rattle.vme_model.specs.Report.{trace_limit};
 ghost use Rattle.vme_words.specs.Limits.{IsWindow, IsWithin, most_turns};
 ghost use Rattle.vme_jobs.specs.Done.{IsDone};
+ghost use Rattle.vme_engines.specs.Found.{found_answer};
 ghost use Rattle.vme_jobs.specs.Names.{IsFaultOf, told_answer, told_run_answer};
 ghost use Rattle.vme_jobs.specs.Statuses.{exit_code};
 
@@ -14,7 +15,8 @@ use std::process::ExitCode;
 use std::sync::Wait;
 use std::thread::Threads;
 use vme_engines::{
-    EngineFault, Status, check, drive, drive_drawn, explain, joined, replay, show, state, summary,
+    EngineFault, Status, check, drive, drive_drawn, drive_found, explain, joined, replay, show,
+    state, summary,
 };
 use vme_events::Goal;
 use vme_model::Version;
@@ -27,6 +29,27 @@ fn told<'a>(name: &'a str, answer: Result<Status, EngineFault>) -> Result<Status
 {
     match answer {
         Ok(status) => Ok(status),
+        Err(fault) => Err(ProgramFault::of_engine(name, fault)),
+    }
+}
+
+/// A search's answer, where the scenario has this name; tells which seed was found.
+fn told_seed<'a>(
+    rt: &HostRuntime,
+    name: &'a str,
+    found: Result<Option<u64>, EngineFault>,
+) -> Result<Status, ProgramFault<'a>>
+    ensures { result ≡ told_answer name.entry (found_answer found) }
+{
+    match found {
+        Ok(Some(seed)) => {
+            let _ = eprintln!(rt; "seed {seed}");
+            Ok(Status::Done)
+        }
+        Ok(None) => {
+            let _ = eprintln!(rt; "no seed");
+            Ok(Status::Limit)
+        }
         Err(fault) => Err(ProgramFault::of_engine(name, fault)),
     }
 }
@@ -202,6 +225,29 @@ fn run_draw<'a, W: Write>(
     )
 }
 
+/// Draws edges by one seed after the other, until the trace of one ends with the goal.
+#[inline(never)]
+fn run_search<'a, W: Write>(
+    rt: &HostRuntime,
+    scenario: &'a str,
+    edges: u32,
+    first: u64,
+    last: u64,
+    goal: Goal,
+    version: Version,
+    out: &mut W,
+) -> Result<Status, ProgramFault<'a>>
+    requires { first ≤ last }
+    ensures fault { IfErr result
+        (IsFaultOf (Job.Search scenario.entry edges first last goal version)) }
+    ensures done { IsDone (Job.Search scenario.entry edges first last goal version)
+        (W.contents out.old) (W.contents out.new) result }
+{
+    let text = read_scenario(rt, scenario)?;
+    let found = drive_found(rt.alloc(), &text, edges, first, last, goal, out, version);
+    told_seed(rt, scenario, found)
+}
+
 /// Lets each driver of a scenario make edges in a thread of its own. May wait.
 #[inline(never)]
 fn run_run<'a, R: Threads + Wait + Sync, W: Write>(
@@ -270,6 +316,14 @@ pub fn run<'a, R: Threads + Wait + Sync, W: Write>(
             until,
             version,
         } => run_draw(rt, scenario, edges, seed, until, version, out),
+        Job::Search {
+            scenario,
+            edges,
+            first,
+            last,
+            goal,
+            version,
+        } => run_search(rt, scenario, edges, first, last, goal, version, out),
         Job::Run {
             scenario,
             edges,

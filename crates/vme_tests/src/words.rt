@@ -294,6 +294,74 @@ fn reads_what_a_trace_ends_with(rt: HostRuntime) {
     }
 }
 
+/// Which seeds to try: the word, the first and the last.
+const SEEDS: [(&str, u64, u64); 5] = [
+    ("0..9", 0, 9),
+    ("9..9", 9, 9),
+    ("0..0", 0, 0),
+    ("+7..008", 7, 8),
+    (
+        "18446744073709551614..18446744073709551615",
+        18446744073709551614,
+        u64::MAX,
+    ),
+];
+
+#[test]
+fn reads_which_seeds_to_try(rt: HostRuntime) {
+    for (named, first, last) in &SEEDS {
+        let given = [
+            "drive",
+            "--until=S2",
+            "--seeds",
+            *named,
+            "--edges=8",
+            "--version=2",
+            "S",
+        ];
+        let wanted = Job::Search {
+            scenario: "S",
+            edges: 8,
+            first: *first,
+            last: *last,
+            goal: Goal::Miss(Miss::Settling(2)),
+            version: Version::Two,
+        };
+        assert_job(&rt, &given, wanted);
+    }
+}
+
+/// What names no seeds to try.
+const NO_SEEDS: [&str; 14] = [
+    "",
+    "9",
+    "..",
+    "9..",
+    "..9",
+    "9..0",
+    "0...9",
+    "0..9..9",
+    "0.9",
+    "-1..9",
+    "0..-1",
+    "0 ..9",
+    "a..b",
+    "0..18446744073709551616",
+];
+
+#[test]
+fn refuses_what_names_no_seeds(rt: HostRuntime) {
+    for named in &NO_SEEDS {
+        let seeds = format!(in rt.alloc(); "--seeds={named}").expect(&rt, "the word");
+        let given = ["drive", "S", "--edges=8", seeds.as_str(), "--until=S2"];
+        assert_told(
+            &rt,
+            &given,
+            &["for '--seeds <S..T>'", *named, "vmebus drive", "--help"],
+        );
+    }
+}
+
 #[test]
 fn reads_what_to_run(rt: HostRuntime) {
     let given = [
@@ -315,7 +383,17 @@ fn reads_what_to_run(rt: HostRuntime) {
 }
 
 /// Words that mean no job.
-const REFUSED: [&[&str]; 48] = [
+const REFUSED: [&[&str]; 51] = [
+    &["drive", "S", "--edges=8", "--seeds=0..9"],
+    &[
+        "drive",
+        "S",
+        "--edges=8",
+        "--seeds=0..9",
+        "--seed=0",
+        "--until=S2",
+    ],
+    &["run", "S", "--edges=8", "--turns=8", "--seeds=0..9"],
     &["drive", "S", "--edges=8", "--until", "delivery"],
     &["drive", "S", "--edges=8", "--seed=7", "--until", "Delivery"],
     &["drive", "S", "--edges=8", "--seed=7", "--until", ""],
@@ -465,7 +543,11 @@ const SUMMARY: [&str; 3] = [
     "  vmebus summary board.toml tenure.vme\n",
 ];
 
-const DRIVE: [&str; 10] = [
+const DRIVE: [&str; 14] = [
+    "       vmebus drive <SCENARIO> --edges <N> --seeds <S..T> --until <EVENT> [--version <V>]\n",
+    "--seeds <S..T>",
+    "`seed S`",
+    "  vmebus drive board.toml --edges 60 --seeds 0..1000 --until bus-error > error.vme",
     "Usage: vmebus drive <SCENARIO> --edges <N> [--seed <S> [--until <EVENT>]] [--version <V>]",
     "--until <EVENT>",
     "grant-passed late-request overtaken",
@@ -510,10 +592,33 @@ fn help_tells_what_each_command_is(rt: HostRuntime) {
 }
 
 /// Words that mean no job, and the part of the text that says why.
-const ERRORS: [(&[&str], &str); 18] = [
+const ERRORS: [(&[&str], &str); 22] = [
+    (
+        &["drive", "S", "--edges=8", "--seeds=0..9"],
+        "error: the option '--seeds <S..T>' needs '--until <EVENT>'\n",
+    ),
+    (
+        &[
+            "drive",
+            "S",
+            "--edges=8",
+            "--seeds=0..9",
+            "--seed=0",
+            "--until=S2",
+        ],
+        "error: the options '--seed <S>' and '--seeds <S..T>' exclude each other\n",
+    ),
+    (
+        &["drive", "S", "--edges=8", "--seeds=9..0", "--until=S2"],
+        "error: invalid value '9..0' for '--seeds <S..T>': S and T are 0 to 18446744073709551615",
+    ),
+    (
+        &["drive", "S", "--edges=8", "--seeds=0..9", "--until=S3"],
+        "error: invalid value 'S3' for '--until <EVENT>': version 1 has no such event\n",
+    ),
     (
         &["drive", "S", "--edges=8", "--until", "delivery"],
-        "error: the option '--until <EVENT>' needs '--seed <S>'\n",
+        "error: the option '--until <EVENT>' needs '--seed <S>' or '--seeds <S..T>'\n",
     ),
     (
         &["drive", "S", "--edges=8", "--seed=7", "--until", "S3"],

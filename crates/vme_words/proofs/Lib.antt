@@ -4,3 +4,5 @@ pub mod Building
 pub mod Operands
 -- src/lib.rt: what is unfit is no job
 pub mod NoJobs
+-- src/lib.rt: a text that names seeds
+pub mod Parting

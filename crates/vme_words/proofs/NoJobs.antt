@@ -4,13 +4,16 @@ use Rattle.clap.specs.Words.{Row, Text}
 use Rattle.vme_words.specs.Asked.{IsNoJob}
 use Rattle.vme_words.specs.Unfits.{IsUnfit}
 use Rattle.vme_words.specs.declared.Unfit.{Unfit}
-use Rattle.vme_words.specs.declared.Unfit.TheVariants.{Missing, Window, Event, Seedless}
+use Rattle.vme_words.specs.declared.Unfit.TheVariants.{Missing, Window, Event, Seedless, Aimless, Seeded, Seeds}
 
 one : (name : Text) (rows : List Row) (unfit : Unfit) → unfit ≢ Missing → IsUnfit name rows unfit → IsNoJob name rows
 one name rows Missing other is = absurd (other refl)
 one name rows (Window from to) other is = is
 one name rows (Event named version) other is = is
 one name rows Seedless other is = is
+one name rows Aimless other is = is
+one name rows Seeded other is = is
+one name rows (Seeds named) other is = is
 
 pub no_job : (met : Option (Text × List Row)) (unfit : Unfit) → unfit ≢ Missing → (unfit ≢ Missing → IsSomeAnd met (λ m. IsUnfit m.0 m.1 unfit))
     → IsSomeAnd met (λ m. IsNoJob m.0 m.1)

@@ -1,7 +1,7 @@
 -- Which job the words after the program's name ask for.
-use Rattle.std.specs.Prelude.{◌≡◌, ◌↔◌, ◌⊎◌, ◌+◌, ◌-◌, ◌^◌, ℕ, Bool, IsTrue, List, [], ◌∷◌, Option, Some, None, codes, map, max, min, option_map, IsSomeAnd}
+use Rattle.std.specs.Prelude.{◌≡◌, ◌≢◌, ◌↔◌, ◌⊎◌, ◌+◌, ◌-◌, ◌^◌, ◌<◌, ◌≤◌, ◌++◌, ℕ, Bool, IsTrue, List, [], ◌∷◌, Option, Some, None, codes, map, max, min, option_map, IsSomeAnd}
 use Rattle.std.specs.Borrow.{Bor}
-use Rattle.std.specs.Str.Parse.{digits_value, without_leading_plus}
+use Rattle.std.specs.Str.Parse.{IsNumeral, digits_value, without_leading_plus}
 use Rattle.clap.specs.Words.{Row, Text, first_of, one_of, subcommand_of}
 use Rattle.vme_model.specs.declared.Version.{Version}
 use Rattle.vme_model.specs.declared.Version.TheVariants.{One, Two}
@@ -9,7 +9,7 @@ use Rattle.vme_events.specs.declared.goals.Goal.{Goal}
 use Rattle.vme_events.specs.Goals.{goal_of}
 use Rattle.vme_words.specs.Commands.{commands}
 use Rattle.vme_words.specs.declared.Job.{Job}
-use Rattle.vme_words.specs.declared.Job.TheVariants.{Joined, Replay, Check, Explain, State, Show, Summary, Drive, Draw, Run}
+use Rattle.vme_words.specs.declared.Job.TheVariants.{Joined, Replay, Check, Explain, State, Show, Summary, Drive, Draw, Search, Run}
 use Rattle.vme_words.specs.Limits.{IsNoWindow}
 
 -- the words that are lent, as texts
@@ -62,6 +62,25 @@ IsAim rows version None = first_of (codes "until") rows ≡ None
 IsAim rows version (Some goal) = (named : Text) × (first_of (codes "until") rows ≡ Some named)
     × (goal_of named version ≡ Some goal)
 
+-- a text spells this seed, in decimal digits
+abbrev pub IsSeed : Text → ℕ → Type 0
+IsSeed text n = IsNumeral 10 (without_leading_plus text)
+    × (digits_value 10 (without_leading_plus text) ≡ n) × (n < 2 ^ 64)
+
+-- a text names the seeds from this one to that one: two dots stand between them
+abbrev pub AreSeeds : Text → ℕ → ℕ → Type 0
+AreSeeds named first last = (begins : Text) × (ends : Text) × (named ≡ begins ++ codes ".." ++ ends)
+    × IsSeed begins first × IsSeed ends last × (first ≤ last)
+
+-- a text names no seeds
+abbrev pub NamesNoSeeds : Text → Type 0
+NamesNoSeeds named = (first last : ℕ) → ¬ (AreSeeds named first last)
+
+-- the option `--seeds`
+abbrev pub AreTried : List Row → ℕ → ℕ → Type 0
+AreTried rows first last = (named : Text) × (first_of (codes "seeds") rows ≡ Some named)
+    × AreSeeds named first last
+
 -- a command of this name, with these operands, is this job
 abbrev pub AsksFor : Text → List Row → Job → Type 0
 AsksFor name rows Joined = ⊥
@@ -83,10 +102,16 @@ AsksFor name rows (Summary scenario trace) = (name ≡ codes "summary")
     × IsFile (codes "SCENARIO") rows scenario.now × IsFile (codes "TRACE") rows trace.now
 AsksFor name rows (Drive scenario edges version) = (name ≡ codes "drive")
     × IsFile (codes "SCENARIO") rows scenario.now × AreOptions rows edges version
-    × (spelled (codes "seed") rows ≡ None) × IsAim rows version None
+    × (spelled (codes "seed") rows ≡ None) × (first_of (codes "seeds") rows ≡ None)
+    × IsAim rows version None
 AsksFor name rows (Draw scenario edges seed until version) = (name ≡ codes "drive")
     × IsFile (codes "SCENARIO") rows scenario.now × AreOptions rows edges version
-    × (spelled (codes "seed") rows ≡ Some seed) × IsAim rows version until
+    × (spelled (codes "seed") rows ≡ Some seed) × (first_of (codes "seeds") rows ≡ None)
+    × IsAim rows version until
+AsksFor name rows (Search scenario edges first last goal version) = (name ≡ codes "drive")
+    × IsFile (codes "SCENARIO") rows scenario.now × AreOptions rows edges version
+    × (spelled (codes "seed") rows ≡ None) × AreTried rows first last
+    × IsAim rows version (Some goal)
 AsksFor name rows (Run scenario edges turns version) = (name ≡ codes "run")
     × IsFile (codes "SCENARIO") rows scenario.now × AreOptions rows edges version
     × (spelled (codes "turns") rows ≡ Some turns)
@@ -98,18 +123,24 @@ Ask [] job = job ≡ Joined
 Ask (word ∷ words) job =
     IsSomeAnd (subcommand_of commands (word ∷ words)) (λ met. AsksFor met.0 met.1 job)
 
--- `--until` is given without a seed, or names nothing that the version can come to
+-- `--until` is given without seeds, or names nothing that the version can come to
 abbrev pub IsNoAim : List Row → Type 0
 IsNoAim rows = (named : Text) × (first_of (codes "until") rows ≡ Some named)
-    × ((spelled (codes "seed") rows ≡ None)
+    × (((spelled (codes "seed") rows ≡ None) × (first_of (codes "seeds") rows ≡ None))
     ⊎ ((version : Version) × (spelled (codes "version") rows ≡ Some (version_number version))
     × (goal_of named version ≡ None)))
+
+-- `--seeds` is given beside `--seed` or without `--until`, or names no seeds
+abbrev pub AreNotTried : List Row → Type 0
+AreNotTried rows = (named : Text) × (first_of (codes "seeds") rows ≡ Some named)
+    × ((spelled (codes "seed") rows ≢ None) ⊎ (first_of (codes "until") rows ≡ None)
+    ⊎ NamesNoSeeds named)
 
 -- a command of this name is no job with these operands
 abbrev pub IsNoJob : Text → List Row → Type 0
 IsNoJob name rows =
     ((name ≡ codes "show") × IsNoWindow (first_of_window rows) (last_of_window rows))
-    ⊎ ((name ≡ codes "drive") × IsNoAim rows)
+    ⊎ ((name ≡ codes "drive") × (IsNoAim rows ⊎ AreNotTried rows))
 
 abbrev pub AskForNoJob : List Text → Type 0
 AskForNoJob words = IsSomeAnd (subcommand_of commands words) (λ met. IsNoJob met.0 met.1)

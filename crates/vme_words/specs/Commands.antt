@@ -59,12 +59,15 @@ to = whole (codes "to") 1
 abbrev pub seed : Rule
 seed = whole (codes "seed") 0
 
+-- `--NAME` with a text
+abbrev pub texted : Text → Rule
+texted name = record (new_rule name) { long = Some name; action = Some Set; value_names = 1 }
+
+abbrev pub seeds : Rule
+seeds = texted (codes "seeds")
+
 abbrev pub until : Rule
-until = record (new_rule (codes "until")) {
-  long = Some (codes "until");
-  action = Some Set;
-  value_names = 1;
-}
+until = texted (codes "until")
 
 -- `--NAME` without a value
 abbrev pub flag : Text → Rule
@@ -99,7 +102,7 @@ abbrev pub summary : Shape
 summary = (leaf (codes "summary") (file (codes "TRACE") ∷ [])).top
 
 abbrev pub drive : Shape
-drive = (leaf (codes "drive") (edges ∷ seed ∷ until ∷ version ∷ [])).top
+drive = (leaf (codes "drive") (edges ∷ seed ∷ seeds ∷ until ∷ version ∷ [])).top
 
 abbrev pub run : Shape
 run = (leaf (codes "run") (edges ∷ turns ∷ version ∷ [])).top

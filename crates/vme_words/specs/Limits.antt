@@ -2,7 +2,7 @@
 use Rattle.std.specs.Prelude.{◌≤◌, ◌<◌, ◌+◌, ◌⊎◌, ℕ, IfSome}
 use Rattle.vme_model.specs.Report.{trace_limit}
 use Rattle.vme_words.specs.declared.Job.{Job}
-use Rattle.vme_words.specs.declared.Job.TheVariants.{Joined, Replay, Check, Explain, State, Show, Summary, Drive, Draw, Run}
+use Rattle.vme_words.specs.declared.Job.TheVariants.{Joined, Replay, Check, Explain, State, Show, Summary, Drive, Draw, Search, Run}
 
 abbrev pub most_turns : ℕ
 most_turns = 1000000
@@ -15,10 +15,13 @@ abbrev pub IsNoWindow : ℕ → ℕ → Type 0
 IsNoWindow from to = (to < from) ⊎ (from + 199 < to)
 
 -- `drive` and `run` make at least one edge and no more than a trace may have, and `run` gives each
--- driver 1 to 1,000,000 turns; the edges of a trace are counted from 1
+-- driver 1 to 1,000,000 turns; the edges of a trace are counted from 1, and the last seed is not
+-- below the first
 abbrev pub IsWithin : Job → Type 0
 IsWithin (Drive scenario edges version) = (1 ≤ edges) × (edges ≤ trace_limit)
 IsWithin (Draw scenario edges seed until version) = (1 ≤ edges) × (edges ≤ trace_limit)
+IsWithin (Search scenario edges first last goal version) =
+    (1 ≤ edges) × (edges ≤ trace_limit) × (first ≤ last)
 IsWithin Joined = Unit {0}
 IsWithin (Replay scenario trace) = Unit {0}
 IsWithin (Check scenario trace) = Unit {0}

@@ -23,7 +23,8 @@ docs/FORMATS.md has scenarios, traces, reports and faults to the byte, and examp
 each.
 
 Exit status: 0 done, 1 a fault (one line on standard error) or a text as this one,
-2 some edge was refused, 3 the limit of edges was reached (so mind `set -e` in a script).";
+2 some edge was refused, 3 the limit of edges was reached, or `--until` did not come to its event (so
+mind `set -e` in a script).";
 
 const REPLAY: &str =
     "Writes the verdict on each edge of a trace, and how many were accepted and refused";
@@ -95,8 +96,8 @@ const SHOW_EXAMPLE: &str =
   \\ /     an accepted fall, an accepted rise
   x       a refused edge of this wire
   _ -     another edge, while the wire is low, while it is high
-Four rows under them tell how it is after each edge: `grant at` is the slot that a grant has come
-to, `holder` the slot that drives BBSY* low, `shown` the target of an access or the level of an
+Four rows under them tell how it is after each edge: `grant at` is the slot at which a grant waits,
+`holder` the slot that drives BBSY* low, `shown` the target of an access or the level of an
 acknowledge, and `verdict` is `x` refused, `!` a status byte delivered, or `.` accepted. A slot is a
 letter, `a` for 1 to `u` for 21. It reads no further than edge B. The exit status is 2 where one of
 the edges 1 to B is refused, 0 where none is, and 1 at a fault. docs/FORMATS.md has each line.
@@ -123,7 +124,8 @@ const DRIVE: &str =
     "Writes a trace that the drivers of a scenario make in turn, or one that is drawn by lot";
 
 const DRIVE_USAGE: &str =
-    "vmebus drive <SCENARIO> --edges <N> [--seed <S> [--until <EVENT>]] [--version <V>]";
+    "vmebus drive <SCENARIO> --edges <N> [--seed <S> [--until <EVENT>]] [--version <V>]
+       vmebus drive <SCENARIO> --edges <N> --seeds <S..T> --until <EVENT> [--version <V>]";
 
 const DRIVE_EXAMPLE: &str =
     "In each round the controller and then each board makes one of the edges that are open to it. It ends
@@ -139,12 +141,18 @@ EVENT is a situation that an accepted edge brings about,
   grant-passed late-request overtaken early-release overlap full-burst bus-clear rivals delivery
   iack-passed answered-again spurious bus-error, and in version 2 withdrawn grant-timeout
 or what alone refuses an edge, which is then the last of the trace: a rule and one of its conditions
-as `vmebus explain` writes it, with N for a level, or a settling rule, as S2.
+as `vmebus explain` writes it, with N for a level, or a settling rule, as S2. docs/FORMATS.md tells
+what each event is, and has all conditions.
+
+With --seeds it tries the seeds S to T in order. The first with which EVENT comes within the given
+number of edges is told on standard error as `seed S`, its trace is written, and the exit status is
+0. Where it comes with none, `no seed` is told, nothing is written, and the exit status is 3.
 
 Examples:
   vmebus drive board.toml --edges 1000 > tenure.vme
   vmebus drive board.toml --edges 1000 --seed 7 > drawn.vme
-  vmebus drive board.toml --edges 1000 --seed 7 --until \"G13 own br is low\" > refused.vme";
+  vmebus drive board.toml --edges 1000 --seed 7 --until \"G13 own br is low\" > refused.vme
+  vmebus drive board.toml --edges 60 --seeds 0..1000 --until bus-error > error.vme";
 
 const RUN: &str = "Writes a trace that the drivers of a scenario make at once, a thread for each";
 
@@ -288,7 +296,17 @@ fn until_option<'a>(alloc: Global) -> Arg<'a>
         .long("until")
         .value_name("EVENT")
         .action(ArgAction::Set)
-        .help("Ends with the first edge that brings this about; needs --seed")
+        .help("Ends with the first edge that brings this about; needs --seed or --seeds")
+}
+
+fn seeds_option<'a>(alloc: Global) -> Arg<'a>
+    ensures { rule_of result ≡ said.seeds }
+{
+    Arg::new(alloc, "seeds")
+        .long("seeds")
+        .value_name("S..T")
+        .action(ArgAction::Set)
+        .help("Tries these seeds in order until one comes to EVENT; needs --until")
 }
 
 fn color_option<'a>(alloc: Global) -> Arg<'a>
@@ -395,6 +413,7 @@ pub(crate) fn drive<'a>(alloc: Global) -> Result<Command<'a>, AllocError>
     let command = command(alloc, "drive", DRIVE, DRIVE_USAGE, DRIVE_EXAMPLE);
     let command = taking(command, edges_option(alloc));
     let command = taking(command, seed_option(alloc));
+    let command = taking(command, seeds_option(alloc));
     let command = taking(command, until_option(alloc));
     taking(command, version_option(alloc))
 }

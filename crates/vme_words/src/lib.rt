@@ -1,9 +1,9 @@
 //! The words after the name of the program `vmebus`, and what they ask for.
 #![tactic(auto)]
 
-ghost use Rattle.std.specs.Prelude.{◌≡◌, ◌≢◌, ◌≤◌, ◌↔◌, ◌⊎◌, [], ◌∷◌, IfErr, IfOk, IfSome, IsSomeAnd, Ok, Some, codes, length, option_map};
+ghost use Rattle.std.specs.Prelude.{◌≡◌, ◌≢◌, ◌≤◌, ◌↔◌, ◌⊎◌, ℕ, [], ◌∷◌, IfErr, IfOk, IfSome, IsSomeAnd, MatchOption, Ok, Some, codes, length, option_map};
 ghost use Rattle.clap.specs.Words.{FailsBy, IsAmong, fault_of, first_of as first_text, found_of, kind_of, rows_of, subcommand_of, subcommand_rows_of};
-ghost use Rattle.vme_words.specs.Asked.{Ask, AskForNoJob, AsksFor, IsAim, IsFile, IsFlag, first_shown, last_shown, spelled, texts_of, version_number};
+ghost use Rattle.vme_words.specs.Asked.{AreSeeds, Ask, AskForNoJob, AsksFor, IsAim, IsFile, IsFlag, IsSeed, NamesNoSeeds, first_shown, last_shown, spelled, texts_of, version_number};
 ghost use Rattle.vme_words.specs.Commands.{commands as commands_said};
 ghost use Rattle.vme_words.specs.Limits.{IsWithin};
 ghost use Rattle.vme_words.specs.Unfits.{IsUnfit};
@@ -108,6 +108,21 @@ pub enum Job<'a> {
         /// The version of the rules.
         version: Version,
     },
+    /// Draw edges by one seed after the other, until the trace of one ends with the goal.
+    Search {
+        /// The file of the boards.
+        scenario: &'a str,
+        /// The most edges of a trace, 1 to [`MOST_EDGES`].
+        edges: u32,
+        /// The seed that is tried first.
+        first: u64,
+        /// The one that is tried last, not below the first.
+        last: u64,
+        /// What the trace is to end with.
+        goal: Goal,
+        /// The version of the rules.
+        version: Version,
+    },
     /// Let each driver make edges in a thread of its own.
     Run {
         /// The file of the boards.
@@ -132,6 +147,12 @@ enum Unfit<'a> {
     Event { named: &'a str, version: Version },
     /// The trace is to end with something, and there is no seed.
     Seedless,
+    /// There are seeds to try, and nothing that a trace is to end with.
+    Aimless,
+    /// There are both a seed and seeds to try.
+    Seeded,
+    /// A text that names no seeds to try.
+    Seeds { named: &'a str },
 }
 
 /// The word of the operand of that name.
@@ -290,7 +311,28 @@ fn show_of<'a>(scenario: &'a str, operands: &ArgMatches<'a>) -> Result<Job<'a>, 
     })
 }
 
-/// A drive of the scenario, with its other operands: drawn where there is a seed, and else in turn.
+/// The seed that a text spells.
+fn seed_in(text: &str) -> Option<u64>
+    ensures { MatchOption result ((n : ℕ) → ¬ (IsSeed text.now n)) (λ n. IsSeed text.now n) }
+{
+    text.parse().ok()
+}
+
+/// The first and the last of the seeds that a text names, as `0..9`.
+fn seeds_in(text: &str) -> Option<(u64, u64)>
+    ensures { MatchOption result (NamesNoSeeds text.now)
+        (λ seeds. AreSeeds text.now seeds.0 seeds.1) }
+{
+    let (first, last) = text.split_once("..")?;
+    let (first, last) = (seed_in(first)?, seed_in(last)?);
+    if first <= last {
+        Some((first, last))
+    } else {
+        None
+    }
+}
+
+/// A drive of the scenario, with its other operands: drawn where there are seeds, and else in turn.
 fn drive_of<'a>(scenario: &'a str, operands: &ArgMatches<'a>) -> Result<Job<'a>, Unfit<'a>>
     ensures within { IfOk result IsWithin }
     ensures asked { IsFile (codes "SCENARIO") (rows_of (found_of operands.now)) scenario.now
@@ -300,16 +342,30 @@ fn drive_of<'a>(scenario: &'a str, operands: &ArgMatches<'a>) -> Result<Job<'a>,
     let edges = number_of(operands, "edges", MOST_EDGES)?;
     let version = version_of(operands)?;
     let until = aim_of(operands, version)?;
-    match whole_of(operands, "seed", 0)? {
-        Some(seed) => Ok(Job::Draw {
+    let seed = whole_of(operands, "seed", 0)?;
+    match (seed, text_of(operands, "seeds"), until) {
+        (Some(_), Some(_), _) => Err(Unfit::Seeded),
+        (Some(seed), None, until) => Ok(Job::Draw {
             scenario,
             edges,
             seed,
             until,
             version,
         }),
-        None if until.is_some() => Err(Unfit::Seedless),
-        None => Ok(Job::Drive {
+        (None, Some(named), Some(goal)) => match seeds_in(named) {
+            Some((first, last)) => Ok(Job::Search {
+                scenario,
+                edges,
+                first,
+                last,
+                goal,
+                version,
+            }),
+            None => Err(Unfit::Seeds { named }),
+        },
+        (None, Some(_), None) => Err(Unfit::Aimless),
+        (None, None, Some(_)) => Err(Unfit::Seedless),
+        (None, None, None) => Ok(Job::Drive {
             scenario,
             edges,
             version,
@@ -431,8 +487,35 @@ fn no_event(alloc: Global, named: &str, version: Version) -> Result<Error, Alloc
 fn no_seed(alloc: Global) -> Result<Error, AllocError>
     ensures { IfOk result (λ error. kind_of error ≡ ErrorKind.ValueValidation) }
 {
-    let text = "the option '--until <EVENT>' needs '--seed <S>'";
+    let text = "the option '--until <EVENT>' needs '--seed <S>' or '--seeds <S..T>'";
     drive(alloc)?.error(ErrorKind::ValueValidation, text)
+}
+
+/// The error where there is nothing that a trace is to end with.
+fn no_aim(alloc: Global) -> Result<Error, AllocError>
+    ensures { IfOk result (λ error. kind_of error ≡ ErrorKind.ValueValidation) }
+{
+    let text = "the option '--seeds <S..T>' needs '--until <EVENT>'";
+    drive(alloc)?.error(ErrorKind::ValueValidation, text)
+}
+
+/// The error where there are both a seed and seeds to try.
+fn seeded(alloc: Global) -> Result<Error, AllocError>
+    ensures { IfOk result (λ error. kind_of error ≡ ErrorKind.ValueValidation) }
+{
+    let text = "the options '--seed <S>' and '--seeds <S..T>' exclude each other";
+    drive(alloc)?.error(ErrorKind::ValueValidation, text)
+}
+
+/// The error where a text names no seeds to try.
+fn no_seeds(alloc: Global, named: &str) -> Result<Error, AllocError>
+    ensures { IfOk result (λ error. kind_of error ≡ ErrorKind.ValueValidation) }
+{
+    let text = format!(in alloc;
+        "invalid value '{named}' for '--seeds <S..T>': S and T are 0 to {}, and T is not below S",
+        u64::MAX
+    )?;
+    drive(alloc)?.error(ErrorKind::ValueValidation, &text)
 }
 
 /// The error that tells why words ask for no job.
@@ -445,6 +528,9 @@ fn error_of(alloc: Global, unfit: Unfit<'_>) -> Result<Error, AllocError>
         Unfit::Window { from, to } => no_window(alloc, from, to),
         Unfit::Event { named, version } => no_event(alloc, named, version),
         Unfit::Seedless => no_seed(alloc),
+        Unfit::Aimless => no_aim(alloc),
+        Unfit::Seeded => seeded(alloc),
+        Unfit::Seeds { named } => no_seeds(alloc, named),
     }
 }
 

@@ -12,3 +12,8 @@ pub returns-in-Show-clause-done : goal.returns-in-Show-clause-done
 returns-in-Show-clause-done g c =
     subst (λ (job : Job). IsDone job (g.W.Write.contents c.args.out.now) (g.W.Write.contents c.run_show.new.out) c.run_show.result)
     (sym c.in-Show.is) c.run_show.ensures.done
+
+pub returns-in-Search-clause-done : goal.returns-in-Search-clause-done
+returns-in-Search-clause-done g c =
+    subst (λ (job : Job). IsDone job (g.W.Write.contents c.args.out.now) (g.W.Write.contents c.run_search.new.out) c.run_search.result)
+    (sym c.in-Search.is) c.run_search.ensures.done
