@@ -3,13 +3,13 @@ pub mod Judged
 -- the stored edges, made once more from the first: `deliveries`
 pub mod Replayed
 -- an edge that is allowed is well formed: `Backplane::accepted`
-mod WellFormed
+pub mod WellFormed
 -- `backplanes_answer_alike`
-mod Alike
+pub mod Alike
 -- the offers and the open edges, from those but for the end of the trace: `Backplane::offers`, `offer`,
 -- `open_edges`
-mod OfferChoice
+pub mod OfferChoice
 -- an offer is an edge that would be accepted: `Backplane::make_offer`, `step`
-mod AcceptedOffers
+pub mod AcceptedOffers
 -- what an edge fails with the end of the trace, from what it fails without: `Backplane::told`, `failing`
-mod Failing
+pub mod Failing

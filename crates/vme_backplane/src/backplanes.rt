@@ -88,8 +88,8 @@ pub struct Counts {
     pub refused: u64,
 }
 
-/// The offer that is made in a round.
-fn choice(offers: &[Edge], round: u32) -> Option<Edge>
+/// The offer that is made in a round: of k offers the one at place `round mod k`, if there is any.
+pub fn choice(offers: &[Edge], round: u32) -> Option<Edge>
     ensures { result ≡ slice_get offers.now (round % length offers.now) }
 {
     if offers.is_empty() {

@@ -8,5 +8,5 @@ mod backplanes;
 mod deliveries;
 pub mod laws;
 
-pub use backplanes::{Backplane, Counts};
+pub use backplanes::{Backplane, Counts, choice};
 pub use vme_store::{Trace, TraceError};

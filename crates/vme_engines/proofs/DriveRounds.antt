@@ -1,12 +1,11 @@
 -- The rounds of a drive, and the lines of what it made.
-use Rattle.std.proofs.Common.{◌≡◌, ◌≢◌, ◌⊎◌, inl, inr, ℕ, zero, suc, ◌+◌, ◌<◌, ◌≤◌, ◌%◌, List, [], ◌∷◌, ◌++◌, length, Ok, Err, Bool, true, false, drop, Option, Some, None, refl, sym, ◌∙◌, ap, append_assoc, append-nil, subst, arith, reverse, IsTrue, slice_get, ◌==◌, if◌then◌else◌, eq-eqb, ne_eqb}
+use Rattle.std.proofs.Common.{◌≡◌, ◌≢◌, ◌⊎◌, inl, inr, ℕ, zero, suc, ◌+◌, ◌<◌, ◌≤◌, ◌%◌, List, [], ◌∷◌, ◌++◌, length, Ok, Err, Bool, true, false, drop, Option, Some, None, refl, sym, ◌∙◌, ap, append_assoc, subst, arith, reverse, IsTrue, slice_get, ◌==◌, if◌then◌else◌, eq-eqb, ne_eqb}
 use Rattle.std.specs.Option.{option_map_or}
 use Rattle.std.proofs.lemmas.Option.{get_or_from_slice_get, slice_get_within}
 use Rattle.std.proofs.lemmas.List.Elements.{All-get_or}
-use Rattle.std.proofs.Math.Seq.{drop-length}
 use Rattle.std.proofs.lemmas.List.{drop_more}
 use Rattle.std.specs.Io.KnownBytes.{Appends}
-use Rattle.std.proofs.KnownBytes.{Appends-trans, Appends-nil}
+use Rattle.std.proofs.KnownBytes.{Appends-trans}
 use Rattle.vme_model.specs.declared.signals.Version.{Version}
 use Rattle.vme_model.specs.declared.signals.Driver.{Driver}
 use Rattle.vme_model.specs.declared.signals.Edge.{Edge}
@@ -29,6 +28,7 @@ use Rattle.vme_scenario.specs.Format.{scenario}
 use Rattle.vme_engines.specs.Outcomes.{bench}
 use Rattle.vme_engines.specs.Driving.{driven, driven_text, Drives, DrivesSafely}
 use Rattle.vme_engines.proofs.LegalTrace.{all_well_formed, legal_trace}
+use Rattle.vme_engines.specs.Texts.{HandsOn}
 use Rattle.vme_engines.proofs.WrittenLines.{front_of_more, front_behind}
 
 -- ---- a turn
@@ -157,34 +157,35 @@ well_formed_at version p h i e l at =
     subst (λ (x : Edge). IsTrue (is_well_formed x)) (get_or_from_slice_get (reverse h) i e e at)
     (All-get_or (λ e. IsTrue (is_well_formed e)) (reverse h) i e (slice_get_within (reverse h) i e at) (all_well_formed version p h l))
 
--- In the loop over the edges: the lines of those before the rest were written.
-pub record HasListed (a b : Option (List ℕ)) (es rest : List Edge) : Type 0 where
+-- In the loop over the edges: the lines of those before the rest were written, but for what the text holds.
+pub record HasListed (a b : Option (List ℕ)) (held : List ℕ) (es rest : List Edge) : Type 0 where
   pub front : List ℕ
-  pub lines : edge_lines es ≡ front ++ edge_lines rest
+  pub lines : edge_lines es ≡ front ++ (held ++ edge_lines rest)
   pub wrote : Appends a b front
 
-pub none_listed : (a : Option (List ℕ)) (es : List Edge) → HasListed a a es es
-none_listed a es = record { front = []; lines = refl; wrote = Appends-nil a }
-
-module _ (a b c : Option (List ℕ)) (i : ℕ) (es : List Edge) (e : Edge) (x : List ℕ) (run : HasListed a b es (drop i es)) (at : slice_get es i ≡ Some e) (is : x ≡ edge_line e) where
-  whole : edge_lines es ≡ run.front ++ (x ++ edge_lines (drop (i + 1) es))
-  whole =
-      run.lines ∙ ap (λ l. run.front ++ edge_lines l) (drop_more es i e (slice_get_within es i e at))
-      ∙ ap (λ d. run.front ++ (edge_line d ++ edge_lines (drop (i + 1) es))) (get_or_from_slice_get es i e e at)
-      ∙ ap (λ l. run.front ++ (l ++ edge_lines (drop (i + 1) es))) (sym is)
-
-  pub listed_more : Appends b c x → HasListed a c es (drop (i + 1) es)
-  listed_more w = record {
-    front = run.front ++ x;
-    lines = whole ∙ sym (append_assoc run.front x _);
-    wrote = Appends-trans a b c run.front x run.wrote w;
+module _ (a b c : Option (List ℕ)) (held : List ℕ) (es rest : List Edge) (run : HasListed a b held es rest) where
+  -- a prefix of the text is written
+  pub listed_on : (left : List ℕ) → HandsOn b c held left → HasListed a c left es rest
+  listed_on left w = record {
+    front = run.front ++ w.0;
+    lines =
+        run.lines ∙ ap (λ l. run.front ++ (l ++ edge_lines rest)) w.1 ∙ ap (λ l. run.front ++ l) (append_assoc w.0 left (edge_lines rest))
+        ∙ sym (append_assoc run.front w.0 (left ++ edge_lines rest));
+    wrote = Appends-trans a b c run.front w.0 run.wrote w.2;
   }
 
-  pub listed_front : AppendsFront b c x → AppendsFront a c (edge_lines es)
-  listed_front w = rw whole (front_behind a b c run.front _ run.wrote (front_of_more b c x _ w))
+  -- the text could not be written
+  pub listed_front : AppendsFront b c held → AppendsFront a c (edge_lines es)
+  listed_front w = rw run.lines (front_behind a b c run.front _ run.wrote (front_of_more b c held _ w))
 
-pub listed_all : (a b : Option (List ℕ)) (es : List Edge) → HasListed a b es (drop (length es) es) → Appends a b (edge_lines es)
-listed_all a b es run =
-    let none : drop (length es) es ≡ [] = drop-length es in
-    let all : edge_lines es ≡ run.front = run.lines ∙ ap (λ l. run.front ++ edge_lines l) none ∙ append-nil run.front in
-    rw all run.wrote
+-- the line of the next edge is put to the text
+pub listed_more : (a b : Option (List ℕ)) (held : List ℕ) (i : ℕ) (es : List Edge) (e : Edge) → slice_get es i ≡ Some e → HasListed a b held es (drop i es)
+    → HasListed a b (held ++ edge_line e) es (drop (i + 1) es)
+listed_more a b held i es e at run = record {
+  front = run.front;
+  lines =
+      run.lines ∙ ap (λ l. run.front ++ (held ++ edge_lines l)) (drop_more es i e (slice_get_within es i e at))
+      ∙ ap (λ d. run.front ++ (held ++ (edge_line d ++ edge_lines (drop (i + 1) es)))) (get_or_from_slice_get es i e e at)
+      ∙ ap (λ l. run.front ++ l) (sym (append_assoc held (edge_line e) (edge_lines (drop (i + 1) es))));
+  wrote = run.wrote;
+}

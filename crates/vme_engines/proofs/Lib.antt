@@ -46,3 +46,5 @@ pub mod DrawnWalks
 pub mod Sums
 -- seeds that are tried one after the other: src/seeds.rt
 pub mod FoundSeeds
+-- the ends of verdict lines in a table
+pub mod VerdictEnds

@@ -7,7 +7,7 @@ use Rattle.std.proofs.lemmas.Bool.{cases_Bool}
 use Rattle.std.proofs.lemmas.Bool.Decides.{nat_tests}
 use Rattle.std.proofs.lemmas.Fmt.{decimal_digit, decimal_step}
 use Rattle.std.specs.Fmt.{decimal}
-use Rattle.vme_engines.specs.Counting.{accepted, IsSpelled}
+use Rattle.vme_engines.specs.Counting.{filler, IsSpelled}
 
 drop_sum : (i j : ℕ) (l : List ℕ) → drop i (drop j l) ≡ drop (j + i) l
 drop_sum i zero l = let none : 0 + i ≡ i = omega arith in rw none refl
@@ -44,10 +44,10 @@ next_digit n h low =
 
 module _ (n first : ℕ) (line : List ℕ) (small : n + 1 < 2 ^ 64) (spelled : IsSpelled n first line) where
   -- the rest of the line stands from place 20 on
-  pub rest_stands : drop 20 line ≡ accepted
+  pub rest_stands : drop 20 line ≡ filler
   rest_stands =
       ap (λ k. drop k line) (sym spelled.ends) ∙ sym (drop_sum (length (decimal n)) first line) ∙ ap (λ l. drop (length (decimal n)) l) spelled.is
-      ∙ drop-append_seam (decimal n) accepted
+      ∙ drop-append_seam (decimal n) filler
 
   pub long_enough : 20 ≤ length line
   long_enough = let e = ap length spelled.is in omega (arith, spelled.ends, simp (length-drop, length-append) at e)
@@ -60,17 +60,17 @@ module _ (n first : ℕ) (line : List ℕ) (small : n + 1 < 2 ^ 64) (spelled : I
       let e : decimal n ≡ f ++ d ∷ [] = last_digit n (omega arith) in
       let len : length (decimal n) ≡ length f + 1 = ap length e ∙ length-append f (d ∷ []) in
       let at : 19 ≡ first + length f = omega (arith, spelled.ends, len) in
-      let row : drop first line ≡ f ++ d ∷ accepted = spelled.is ∙ ap (λ l. l ++ accepted) e ∙ append_assoc f (d ∷ []) accepted in
+      let row : drop first line ≡ f ++ d ∷ filler = spelled.is ∙ ap (λ l. l ++ filler) e ∙ append_assoc f (d ∷ []) filler in
       let read : get_or line 19 0 ≡ d =
-      ap (λ k. get_or line k 0) at ∙ sym (get_or-drop first line (length f) 0) ∙ ap (λ l. get_or l (length f) 0) row ∙ get_or-append_seam f d accepted 0 in
+      ap (λ k. get_or line k 0) at ∙ sym (get_or-drop first line (length f) 0) ∙ ap (λ l. get_or l (length f) 0) row ∙ get_or-append_seam f d filler 0 in
       let next : decimal (n + 1) ≡ f ++ (48 + (n % 10 + 1)) ∷ [] = next_digit n small (omega (arith, read, below)) in
       let value : get_or line 19 0 + 1 ≡ 48 + (n % 10 + 1) = omega (arith, read) in
       let v : ℕ = get_or line 19 0 + 1 in
       record {
         ends = let longer : length (decimal (n + 1)) ≡ length f + 1 = ap length next ∙ length-append f ((48 + (n % 10 + 1)) ∷ []) in omega (arith, spelled.ends, len, longer);
         is =
-            ap (λ k. drop first (set line k v)) at ∙ drop-set-add first line (length f) v ∙ ap (λ l. set l (length f) v) row ∙ set-append_seam f d accepted v
-            ∙ ap (λ x. f ++ x ∷ accepted) value ∙ sym (ap (λ l. l ++ accepted) next ∙ append_assoc f ((48 + (n % 10 + 1)) ∷ []) accepted);
+            ap (λ k. drop first (set line k v)) at ∙ drop-set-add first line (length f) v ∙ ap (λ l. set l (length f) v) row ∙ set-append_seam f d filler v
+            ∙ ap (λ x. f ++ x ∷ filler) value ∙ sym (ap (λ l. l ++ filler) next ∙ append_assoc f ((48 + (n % 10 + 1)) ∷ []) filler);
       }
 
   -- the digits are written anew

@@ -1,7 +1,6 @@
 -- Lines that are written one after the other.
 use Rattle.std.proofs.Common.{◌≡◌, ℕ, ◌+◌, ◌<◌, List, [], ◌∷◌, ◌++◌, length, ◌-◌, Bool, false, get_or, drop, Option, Result, Ok, Err, OnErr, refl, sym, ◌∙◌, ap, append_assoc, append-nil, arith}
 use Rattle.std.proofs.lemmas.List.{drop_more}
-use Rattle.std.proofs.Math.Seq.{drop-length}
 use Rattle.std.specs.Io.KnownBytes.{Appends, Keeps}
 use Rattle.std.proofs.KnownBytes.{Appends-trans, Appends-nil, Appends-kept}
 use Rattle.vme_model.specs.declared.signals.Edge.{Edge}
@@ -11,6 +10,7 @@ use Rattle.vme_model.specs.Report.{verdict_line, verdict_lines, closing_text}
 use Rattle.vme_trace.specs.declared.Fault.{Fault}
 use Rattle.vme_trace.specs.Writing.{AppendsFront}
 use Rattle.vme_engines.specs.Steps.{piece_text}
+use Rattle.vme_engines.specs.Texts.{HandsOn}
 
 -- all is a front of itself
 pub front_of_all : (a b : Option (List ℕ)) (x : List ℕ) → Appends a b x → AppendsFront a b x
@@ -47,38 +47,39 @@ pub kept_append : (b : State) (es fs : List Edge) → kept b (es ++ fs) ≡ kept
 kept_append b [] fs = refl
 kept_append b (e ∷ es) fs = kept_append (after b e) es fs
 
--- In the loop over the edges: the lines of those before the rest were written.
-pub record HasJudged (a b : Option (List ℕ)) (first : State) (n : ℕ) (es : List Edge) (now : State) (m : ℕ) (rest : List Edge) : Type 0 where
+-- In the loop over the edges: the lines of those before the rest were written, but for what the text holds.
+pub record HasJudged (a b : Option (List ℕ)) (held : List ℕ) (first : State) (n : ℕ) (es : List Edge) (now : State) (m : ℕ) (rest : List Edge) : Type 0 where
   pub front : List ℕ
-  pub lines : verdict_lines first n es ≡ front ++ verdict_lines now m rest
+  pub lines : verdict_lines first n es ≡ front ++ (held ++ verdict_lines now m rest)
   pub wrote : Appends a b front
   pub state : kept first es ≡ kept now rest
 
-pub none_judged : (a : Option (List ℕ)) (b : State) (n : ℕ) (es : List Edge) → HasJudged a a b n es b n es
-none_judged a b n es = record { front = []; lines = refl; wrote = Appends-nil a; state = refl }
-
-module _ (a b c : Option (List ℕ)) (first now : State) (n m i : ℕ) (es : List Edge) (d : Edge) (x : List ℕ) (h : i < length es)
-    (run : HasJudged a b first n es now m (drop i es)) (is : x ≡ verdict_line m (answer now (get_or es i d))) where
-  here : verdict_lines first n es ≡ run.front ++ (x ++ verdict_lines (after now (get_or es i d)) (m + 1) (drop (i + 1) es))
-  here = run.lines ∙ rw (drop_more es i d h) (ap (λ l. run.front ++ (l ++ verdict_lines (after now (get_or es i d)) (m + 1) (drop (i + 1) es))) (sym is))
-
-  pub judged_more : (next : State) → next ≡ after now (get_or es i d) → Appends b c x → HasJudged a c first n es next (m + 1) (drop (i + 1) es)
-  judged_more next stepped w = record {
-    front = run.front ++ x;
-    lines = rw stepped (here ∙ sym (append_assoc run.front x _));
-    wrote = Appends-trans a b c run.front x run.wrote w;
-    state = run.state ∙ rw (drop_more es i d h) (rw stepped refl);
+module _ (a b c : Option (List ℕ)) (held : List ℕ) (first now : State) (n m : ℕ) (es rest : List Edge) (run : HasJudged a b held first n es now m rest) where
+  -- a prefix of the text is written
+  pub handed_on : (left : List ℕ) → HandsOn b c held left → HasJudged a c left first n es now m rest
+  handed_on left w = record {
+    front = run.front ++ w.0;
+    lines =
+        run.lines ∙ ap (λ l. run.front ++ (l ++ verdict_lines now m rest)) w.1 ∙ ap (λ l. run.front ++ l) (append_assoc w.0 left (verdict_lines now m rest))
+        ∙ sym (append_assoc run.front w.0 (left ++ verdict_lines now m rest));
+    wrote = Appends-trans a b c run.front w.0 run.wrote w.2;
+    state = run.state;
   }
 
-  pub judged_front : AppendsFront b c x → AppendsFront a c (verdict_lines first n es)
-  judged_front w = rw here (front_behind a b c run.front _ run.wrote (front_of_more b c x _ w))
+  -- the text could not be written
+  pub judged_front : AppendsFront b c held → AppendsFront a c (verdict_lines first n es)
+  judged_front w = rw run.lines (front_behind a b c run.front _ run.wrote (front_of_more b c held _ w))
 
-pub judged_all : (a b : Option (List ℕ)) (first now : State) (n m : ℕ) (es : List Edge) → HasJudged a b first n es now m (drop (length es) es)
-    → Appends a b (verdict_lines first n es) × (now ≡ kept first es)
-judged_all a b first now n m es run =
-    let none : drop (length es) es ≡ [] = drop-length es in
-    let whole : verdict_lines first n es ≡ run.front = run.lines ∙ ap (λ l. run.front ++ verdict_lines now m l) none ∙ append-nil run.front in
-    (rw whole run.wrote, sym (run.state ∙ ap (kept now) none))
+-- the line of the next edge is put to the text
+pub judged_more : (a b : Option (List ℕ)) (held : List ℕ) (first now : State) (n m i : ℕ) (es : List Edge) (d : Edge) → i < length es
+    → HasJudged a b held first n es now m (drop i es) → (next : State) → next ≡ after now (get_or es i d)
+    → HasJudged a b (held ++ verdict_line m (answer now (get_or es i d))) first n es next (m + 1) (drop (i + 1) es)
+judged_more a b held first now n m i es d h run next stepped = record {
+  front = run.front;
+  lines = rw stepped (run.lines ∙ rw (drop_more es i d h) (ap (λ l. run.front ++ l) (sym (append_assoc held (verdict_line m (answer now (get_or es i d))) _))));
+  wrote = run.wrote;
+  state = run.state ∙ rw (drop_more es i d h) (rw stepped refl);
+}
 
 -- the lines of the last piece, and a front of the closing line
 pub closing_front : (a b c : Option (List ℕ)) (first now : State) (judged : ℕ) (es : List Edge) (more : Result Bool Fault) (accepted refused : ℕ) → more ≡ Ok false

@@ -44,3 +44,7 @@ pub mod Summed
 pub mod Front
 -- words: a number as it stands in a verdict line
 pub mod Counting
+-- words: a text that is put together before it is written
+pub mod Texts
+-- words: the numbers in the line of an edge
+pub mod Spelled

@@ -1,20 +1,23 @@
 //! The numbers of verdict lines, counted up in decimal.
-ghost use Rattle.std.specs.Prelude.{◌≡◌, ◌+◌, ◌<◌, ◌≤◌, ◌^◌, length, decimal, Ok, None};
-ghost use Rattle.vme_model.specs.Report.{verdict_line};
+ghost use Rattle.std.specs.Prelude.{◌≡◌, ◌+◌, ◌<◌, ◌≤◌, ◌^◌, ◌++◌, length, decimal};
 
 use itoa::write_digits;
 use std::marker::Model;
+use vme_text::Text;
 
 /// Where the digits end.
 const END: usize = 20;
 
-/// The number of an edge, below 2^64, kept as the verdict line of an edge that is accepted: most lines are of that kind,
-/// and are written as they stand here.
+/// How many bytes of a number's row are copied at once.
+const ROW: usize = 24;
+
+/// The number of an edge, below 2^64, kept in decimal before bytes that do not matter, so that its
+/// digits can be copied as a row of fixed length.
 #[derive(Drop)]
 pub(crate) struct Count {
     n: u64,
     first: usize,
-    line: [u8; 24],
+    line: [u8; 44],
 }
 
 impl Model for Count {
@@ -33,7 +36,7 @@ impl Count {
     pub(crate) fn new(n: u64) -> Count
         ensures { result ≡ n }
     {
-        let mut line = *b"00000000000000000000 ok\n";
+        let mut line = *b"00000000000000000000........................";
         let first = write_digits(n, &mut line, END);
         Count { n, first, line }
     }
@@ -52,20 +55,13 @@ impl Count {
         }
     }
 
-    /// The number in decimal.
+    /// Appends the number in decimal: at most 20 bytes.
     #[inline(always)]
-    pub(crate) fn digits(&self) -> &[u8]
-        ensures text { result.now ≡ decimal self.now }
-        ensures short { length result.now ≤ 20 }
+    pub(crate) fn push_digits(&self, text: &mut Text)
+        requires { length text.old + 24 ≤ 8192 }
+        ensures text { text.new ≡ text.old ++ decimal self.now }
+        ensures short { length text.new ≤ length text.old + 20 }
     {
-        &self.line[self.first..END]
-    }
-
-    /// The verdict line of an edge that is accepted and delivers nothing.
-    #[inline(always)]
-    pub(crate) fn accepted_line(&self) -> &[u8]
-        ensures { result.now ≡ verdict_line self.now (Ok None) }
-    {
-        &self.line[self.first..]
+        text.append::<ROW>(&self.line[self.first..], END - self.first);
     }
 }

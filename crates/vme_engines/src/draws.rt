@@ -104,7 +104,7 @@ fn status_to(goal: Option<Goal>, edges: u32, made: u32, ending: Ending) -> Statu
 
 /// Draws edges of a scenario's backplane among all that the rules allow, by the numbers of a seed, and writes their
 /// trace: at most `edges`, and with a goal up to the edge that brings it about. Where the goal is a condition, it ends
-/// with the first edge that this condition alone refuses, which is written behind the others and counts as one of them.
+/// with the first edge that this condition alone refuses, which is written after the others and counts as one of them.
 ///
 /// The status without a goal is `Limit` where `edges` of them were made, and else `Done`; with one it is `Done` where the
 /// goal came, and else `Limit`.

@@ -10,13 +10,16 @@ ghost use Rattle.vme_engines.specs.Outcomes.{Lent};
 ghost use Rattle.vme_engines.specs.declared.Status.TheVariants.{Done, Limit};
 ghost use Rattle.vme_engines.specs.Driving.{Drives, DrivesSafely};
 
+use crate::edges::push_edge;
+use crate::lines::{hand_on, make_room};
 use crate::plans::{history_region, history_room, plan_of};
 use crate::{EngineFault, Status};
 use std::alloc::Global;
 use std::io::Write;
 use vme_backplane::Backplane;
 use vme_model::{Driver, Version};
-use vme_trace::{Fault, flush, header_line, line_of, put};
+use vme_text::Text;
+use vme_trace::{Fault, flush, header_line, put};
 
 /// A driver's turn: it makes an offer, unless there is none or enough edges were made.
 fn take_turn(backplane: &mut Backplane, round: u32, edges: u32, driver: Driver)
@@ -62,11 +65,12 @@ pub(crate) fn write_lines<W: Write>(backplane: &Backplane, out: &mut W) -> Resul
     ensures fault { IfErr result (λ fault. fault ≡ Fault.Write) }
 {
     backplane.laws();
+    let mut text = Text::new();
     for place in 0..backplane.len() {
-        let edge = backplane.edge_at(place);
-        put(out, line_of(&edge).as_slice())?;
+        make_room(&mut text, out)?;
+        push_edge(&mut text, &backplane.edge_at(place));
     }
-    Ok(())
+    hand_on(&mut text, out)
 }
 
 /// Writes the trace of the edges that were made on a backplane: the header line of its version and a line for each edge.

@@ -1,5 +1,5 @@
 //! The lines that engines write.
-ghost use Rattle.std.specs.Prelude.{◌≡◌, ◌+◌, ◌-◌, ◌<◌, ◌≤◌, ◌^◌, ◌++◌, length, decimal, codes, Err, IfErr, OnOk, OnErr};
+ghost use Rattle.std.specs.Prelude.{◌≡◌, ◌+◌, ◌-◌, ◌<◌, ◌≤◌, ◌^◌, ◌++◌, [], length, Err, IfErr, OnOk, OnErr};
 ghost use Rattle.std.specs.Io.KnownBytes.{Appends};
 ghost use Rattle.arrayvec.specs.ArrayVec.{array_vec_len};
 ghost use Rattle.vme_model.specs.Verdict.{kept};
@@ -7,39 +7,63 @@ ghost use Rattle.vme_model.specs.Deliveries.{answer};
 ghost use Rattle.vme_model.specs.Report.{delivery_text, verdict_text, verdict_line, verdict_lines, closing_text};
 ghost use Rattle.vme_trace.specs.Writing.{AppendsFront};
 ghost use Rattle.vme_engines.specs.Checking.{finding_line};
+ghost use Rattle.vme_engines.specs.Texts.{HandsOn};
 
 use crate::checks::Finding;
 use crate::counts::Count;
+use crate::tails::push_end;
 use arrayvec::ArrayVec;
 use std::io::Write;
 use vme_backplane::Backplane;
 use vme_model::{Delivery, Edge, Refused};
 use vme_reasons::texts::{push, push_number, push_verdict};
+use vme_text::Text;
 use vme_trace::{Fault, flush, put};
 
 /// Room for any line: two numbers of at most 20 digits, or one and a verdict, and a few words.
 const LINE: usize = 80;
 
-/// The verdict line of the edge with this number. One that is not kept with the number is put together in `line`, whatever it held.
-fn verdict_line<'a>(
-    count: &'a Count,
-    line: &'a mut ArrayVec<u8, LINE>,
-    answer: &Result<Option<Delivery>, Refused>,
-) -> &'a [u8]
-    ensures { result.now ≡ verdict_line count.now answer.now }
+/// Appends the verdict line of the edge with this number.
+#[inline(always)]
+fn push_line(text: &mut Text, count: &Count, answer: &Result<Option<Delivery>, Refused>)
+    requires { length text.old + 64 ≤ 8192 }
+    ensures { text.new ≡ text.old ++ verdict_line count.now answer.now }
 {
-    match answer {
-        Ok(None) => count.accepted_line(),
-        _ => {
-            // Quicker than `clear`, which writes over each byte.
-            *line = ArrayVec::new();
-            push(line, count.digits());
-            push(line, b" ");
-            push_verdict(line, answer);
-            push(line, b"\n");
-            line.as_slice()
-        }
+    count.push_digits(text);
+    push_end(text, answer);
+}
+
+/// Has a text written, and forgets it.
+///
+/// Errors: X8 where that failed; a prefix of the text was then written.
+pub(crate) fn hand_on<W: Write>(text: &mut Text, out: &mut W) -> Result<(), Fault>
+    ensures empty { OnOk result (text.new ≡ []) }
+    ensures ok { OnOk result (Appends (W.contents out.old) (W.contents out.new) text.old) }
+    ensures front { OnErr result
+        (AppendsFront (W.contents out.old) (W.contents out.new) text.old) }
+    ensures fault { IfErr result (λ fault. fault ≡ Fault.Write) }
+{
+    put(out, text.as_slice())?;
+    text.clear();
+    Ok(())
+}
+
+/// Has a text written where it has no room for a further line.
+///
+/// Errors: X8 where that failed; a prefix of the text was then written.
+#[inline(always)]
+pub(crate) fn make_room<W: Write>(text: &mut Text, out: &mut W) -> Result<(), Fault>
+    ensures room { OnOk result (length text.new + 64 ≤ 8192) }
+    ensures ok { OnOk result
+        (HandsOn (W.contents out.old) (W.contents out.new) text.old text.new) }
+    ensures front { OnErr result
+        (AppendsFront (W.contents out.old) (W.contents out.new) text.old) }
+    ensures fault { IfErr result (λ fault. fault ≡ Fault.Write) }
+{
+    if text.is_nearly_full() {
+        return hand_on(text, out);
     }
+    Ok(())
 }
 
 /// The closing line of a report.
@@ -76,11 +100,13 @@ fn finding_line(finding: Finding) -> ArrayVec<u8, LINE>
     line
 }
 
-/// Judges the edges after the first `judged`, and writes the verdict line of each.
+/// Judges the edges after the first `judged`, and writes the verdict line of each. The lines are put
+/// together in `text`, whatever it held.
 pub(crate) fn write_verdicts<W: Write>(
     backplane: &mut Backplane,
     judged: u64,
     edges: &[Edge],
+    text: &mut Text,
     out: &mut W,
 ) -> Result<(), Fault>
     requires { judged + length edges.now < 2 ^ 64 }
@@ -94,13 +120,13 @@ pub(crate) fn write_verdicts<W: Write>(
     ensures fault { IfErr result (λ fault. fault ≡ Fault.Write) }
 {
     let mut count = Count::new(judged);
-    let mut line = ArrayVec::new();
+    text.clear();
     for edge in edges {
+        make_room(text, out)?;
         count.advance();
-        let answer = backplane.step(*edge);
-        put(out, verdict_line(&count, &mut line, &answer))?;
+        push_line(text, &count, &backplane.step(*edge));
     }
-    Ok(())
+    hand_on(text, out)
 }
 
 /// Writes the closing line of a report, and has the writer hand on what it holds back.

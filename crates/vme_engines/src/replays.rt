@@ -17,6 +17,7 @@ use std::io::{Read, Write};
 use vme_backplane::{Backplane, Trace};
 use vme_model::Edge;
 use vme_slots::Plan;
+use vme_text::Text;
 use vme_trace::{Fault, Reader, flush};
 
 /// The status of a replay with so many refused edges.
@@ -37,6 +38,7 @@ fn take_piece<W: Write>(
     backplane: &mut Backplane,
     judged: &mut u64,
     edges: &[Edge],
+    text: &mut Text,
     more: Result<bool, Fault>,
     out: &mut W,
 ) -> Result<Option<Status>, Fault>
@@ -44,7 +46,7 @@ fn take_piece<W: Write>(
     ensures { TakesPiece backplane.old judged.old edges.now more
         (W.contents out.old) (W.contents out.new) backplane.new judged.new result }
 {
-    write_verdicts(backplane, *judged, edges, out)?;
+    write_verdicts(backplane, *judged, edges, text, out)?;
     *judged += edges.len() as u64;
     match more {
         Ok(true) => Ok(None),
@@ -67,6 +69,8 @@ pub(crate) struct Replaying<'r> {
     backplane: Backplane<'r>,
     /// How many edges were judged.
     judged: u64,
+    /// Where verdict lines are put together.
+    text: Text,
 }
 
 impl<'r> Replaying<'r> {
@@ -78,6 +82,7 @@ impl<'r> Replaying<'r> {
         Replaying {
             backplane,
             judged: 0,
+            text: Text::new(),
         }
     }
 }
@@ -96,7 +101,14 @@ impl Judge for Replaying<'_> {
         more: Result<bool, Fault>,
         out: &mut W,
     ) -> Result<Option<Status>, Fault> {
-        take_piece(&mut self.backplane, &mut self.judged, edges, more, out)
+        take_piece(
+            &mut self.backplane,
+            &mut self.judged,
+            edges,
+            &mut self.text,
+            more,
+            out,
+        )
     }
 
     ghost begins = { λ first old. (refl, Appends-nil old, refl, omega arith) };

@@ -14,6 +14,12 @@ use vme_draws::Walk;
 use vme_events::Goal;
 use vme_model::Version;
 
+/// Who hears which seeds are tried.
+pub trait Progress {
+    /// This seed is tried next.
+    fn trying(&mut self, seed: u64);
+}
+
 /// Whether the walk of a seed comes to the goal; its trace is then written.
 fn attempt<W: Write>(
     alloc: Global,
@@ -50,10 +56,10 @@ fn attempt<W: Write>(
 
 /// Draws edges of a scenario's backplane by one seed after the other, from the first to the last, until the walk of one
 /// comes to the goal within `edges`. Its trace is written, and the seed is answered. Where none comes to it, nothing is
-/// written, and the answer is none.
+/// written, and the answer is none. Each seed is told to `progress` before it is tried.
 ///
 /// Errors: F2, the faults of the scenario and F3, before anything is written; X8 where the output cannot be written.
-pub fn drive_found<W: Write>(
+pub fn drive_found<W: Write, P: Progress>(
     alloc: Global,
     scenario: &[u8],
     edges: u32,
@@ -62,6 +68,7 @@ pub fn drive_found<W: Write>(
     goal: Goal,
     out: &mut W,
     version: Version,
+    progress: &mut P,
 ) -> Result<Option<u64>, EngineFault>
     requires { first_seed ≤ last_seed }
     ensures outcome { Lent scenario.now
@@ -74,6 +81,7 @@ pub fn drive_found<W: Write>(
 {
     let mut seed = first_seed;
     loop {
+        progress.trying(seed);
         let has_come = attempt(alloc, scenario, edges, seed, goal, out, version)?;
         if has_come {
             return Ok(Some(seed));

@@ -59,7 +59,8 @@ impl Model for Interrupter {
 }
 
 /// Whether an answer while this is shown serves an interrupter of the kind: ROAK an acknowledge, RORA an access.
-fn serves(kind: IrqKind, shown: Option<Cycle>) -> bool
+#[inline(always)]
+pub fn serves(kind: IrqKind, shown: Option<Cycle>) -> bool
     ensures { result ≡ serves kind shown }
 {
     match (kind, shown) {

@@ -5,4 +5,4 @@
 mod interrupters;
 pub mod laws;
 
-pub use interrupters::Interrupter;
+pub use interrupters::{Interrupter, serves};

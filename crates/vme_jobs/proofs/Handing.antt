@@ -1,5 +1,5 @@
 -- The answer of an engine, as a job hands it on.
-use Rattle.std.proofs.Common.{◌≡◌, ◌⊎◌, inl, inr, ℕ, List, Option, Result, Ok, Err, refl, sym, subst}
+use Rattle.std.proofs.Common.{◌≡◌, ◌⊎◌, inl, inr, ℕ, Bool, List, Option, Result, Ok, Err, refl, sym, subst}
 use Rattle.std.specs.Io.KnownBytes.{Keeps}
 use Rattle.std.specs.Borrow.{Bor}
 use Rattle.std.proofs.KnownBytes.{Keeps-refl}
@@ -60,10 +60,10 @@ draw_done scenario text edges seed until version old new answer does =
     handed (λ a. (t : List ℕ) × Lent t (Keeps old new) (Draws version seed edges until old new) a)
     (Keeps old new) scenario answer (text, does) (λ h. absurd h.1) (λ h. h.1.1)
 
-pub search_done : (scenario : Bor (List ℕ)) (text : List ℕ) (edges first last : ℕ) (goal : Goal) (version : Version) (old new : Known) (found : Found)
+pub search_done : (scenario : Bor (List ℕ)) (text : List ℕ) (edges first last : ℕ) (goal : Goal) (version : Version) (progress : Bool) (old new : Known) (found : Found)
     → Lent text (Keeps old new) (Finds version edges first last goal old new found) (found_answer found)
-    → IsDone (Search scenario edges first last goal version) old new (told_answer scenario (found_answer found))
-search_done scenario text edges first last goal version old new found does =
+    → IsDone (Search scenario edges first last goal version progress) old new (told_answer scenario (found_answer found))
+search_done scenario text edges first last goal version progress old new found does =
     handed (λ a. (t : List ℕ) × (f : Found) × (a ≡ found_answer f) × Lent t (Keeps old new) (Finds version edges first last goal old new f) a)
     (Keeps old new) scenario (found_answer found) (text, found, refl, does) (λ h. absurd h.3) (λ h. h.3.1)
 

@@ -56,7 +56,7 @@ Does (Drive scenario edges version) old new = Alone (λ answer.
     (text : List ℕ) × Lent text (Keeps old new) (Drives version edges old new) answer)
 Does (Draw scenario edges seed until version) old new = Alone (λ answer.
     (text : List ℕ) × Lent text (Keeps old new) (Draws version seed edges until old new) answer)
-Does (Search scenario edges first last goal version) old new = Alone (λ answer.
+Does (Search scenario edges first last goal version progress) old new = Alone (λ answer.
     (text : List ℕ) × (found : Found) × (answer ≡ found_answer found)
     × Lent text (Keeps old new) (Finds version edges first last goal old new found) answer)
 Does (Run scenario edges turns version) old new = λ answer.

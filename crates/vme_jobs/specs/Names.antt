@@ -22,7 +22,7 @@ scenario_name (Show scenario trace from to color) = scenario.now
 scenario_name (Summary scenario trace) = scenario.now
 scenario_name (Drive scenario edges version) = scenario.now
 scenario_name (Draw scenario edges seed until version) = scenario.now
-scenario_name (Search scenario edges first last goal version) = scenario.now
+scenario_name (Search scenario edges first last goal version progress) = scenario.now
 scenario_name (Run scenario edges turns version) = scenario.now
 
 -- this is the name of a file of a job
@@ -36,7 +36,7 @@ IsFileOf (Show scenario trace from to color) name = (name ≡ scenario.now) ⊎ 
 IsFileOf (Summary scenario trace) name = (name ≡ scenario.now) ⊎ (name ≡ trace.now)
 IsFileOf (Drive scenario edges version) name = name ≡ scenario.now
 IsFileOf (Draw scenario edges seed until version) name = name ≡ scenario.now
-IsFileOf (Search scenario edges first last goal version) name = name ≡ scenario.now
+IsFileOf (Search scenario edges first last goal version progress) name = name ≡ scenario.now
 IsFileOf (Run scenario edges turns version) name = name ≡ scenario.now
 
 -- an engine's fault, where the scenario has this name

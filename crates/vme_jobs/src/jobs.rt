@@ -10,6 +10,7 @@ ghost use Rattle.vme_jobs.specs.Statuses.{exit_code};
 
 use crate::faults::ProgramFault;
 use crate::files::{buffered, open, read_scenario};
+use crate::tellers::Teller;
 use std::io::Write;
 use std::process::ExitCode;
 use std::sync::Wait;
@@ -235,16 +236,19 @@ fn run_search<'a, W: Write>(
     last: u64,
     goal: Goal,
     version: Version,
+    progress: bool,
     out: &mut W,
 ) -> Result<Status, ProgramFault<'a>>
     requires { first ≤ last }
     ensures fault { IfErr result
-        (IsFaultOf (Job.Search scenario.entry edges first last goal version)) }
-    ensures done { IsDone (Job.Search scenario.entry edges first last goal version)
+        (IsFaultOf (Job.Search scenario.entry edges first last goal version progress)) }
+    ensures done { IsDone (Job.Search scenario.entry edges first last goal version progress)
         (W.contents out.old) (W.contents out.new) result }
 {
     let text = read_scenario(rt, scenario)?;
-    let found = drive_found(rt.alloc(), &text, edges, first, last, goal, out, version);
+    let alloc = rt.alloc();
+    let mut teller = Teller::new(rt, progress);
+    let found = drive_found(alloc, &text, edges, first, last, goal, out, version, &mut teller);
     told_seed(rt, scenario, found)
 }
 
@@ -323,7 +327,8 @@ pub fn run<'a, R: Threads + Wait + Sync, W: Write>(
             last,
             goal,
             version,
-        } => run_search(rt, scenario, edges, first, last, goal, version, out),
+            progress,
+        } => run_search(rt, scenario, edges, first, last, goal, version, progress, out),
         Job::Run {
             scenario,
             edges,

@@ -11,6 +11,7 @@ mod faults;
 mod files;
 mod jobs;
 mod lines;
+mod tellers;
 
 use arguments::tell_words;
 pub use arguments::{WordsFault, given};

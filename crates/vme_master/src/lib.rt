@@ -4,4 +4,4 @@
 pub mod laws;
 mod masters;
 
-pub use masters::Master;
+pub use masters::{Master, one_more};

@@ -62,6 +62,30 @@ impl Model for Master {
     } };
 }
 
+/// The most cycles that count in a tenure.
+#[inline(always)]
+fn most_cycles(release: Release) -> u8
+    ensures { result ≡ most_cycles release }
+{
+    match release {
+        Release::Done { burst } => burst,
+        Release::Request => 0,
+    }
+}
+
+/// The cycles of a tenure after one more, as far as they count: up to an RWD requester's burst, and not at all for ROR.
+#[inline(always)]
+pub fn one_more(cycles: u8, release: Release) -> u8
+    ensures { result
+        ≡ (if nat_lt cycles (most_cycles release) then cycles + 1 else cycles) }
+{
+    if cycles < most_cycles(release) {
+        cycles + 1
+    } else {
+        cycles
+    }
+}
+
 impl Master {
     /// The master of the board in a slot, with its requester's row and the interrupt levels that the board handles,
     /// before any edge.
@@ -285,16 +309,6 @@ impl Master {
         }
     }
 
-    /// The most cycles that count in a tenure.
-    fn most_cycles(&self) -> u8
-        ensures { result ≡ most_cycles self.now.row.release }
-    {
-        match self.row.release {
-            Release::Done { burst } => burst,
-            Release::Request => 0,
-        }
-    }
-
     /// Its address strobe falls.
     fn begin_cycle(&mut self)
         ensures { self.new ≡ record self.old {
@@ -304,9 +318,7 @@ impl Master {
           has_strobed = false;
         } }
     {
-        if self.cycles < self.most_cycles() {
-            self.cycles += 1;
-        }
+        self.cycles = one_more(self.cycles, self.row.release);
         self.address_strobe = true;
         self.has_strobed = false;
     }

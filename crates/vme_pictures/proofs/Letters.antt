@@ -13,7 +13,7 @@ use Rattle.vme_model.specs.Plan.{Plan, board, drives, has_driver}
 use Rattle.vme_model.specs.History.{drive}
 use Rattle.vme_model.specs.Accepted.{IsAccepted}
 use Rattle.vme_model.specs.GrantSafety.{Travels, Holds, OneTravels, OneHolds}
-use Rattle.vme_model.specs.Safe.{OnEachPrefix}
+use Rattle.vme_model.specs.Safe.{IsSafe, OnEachPrefix}
 use Rattle.vme_model.specs.Stands.{holder, grant_at}
 use Rattle.vme_model.specs.declared.refusals.Refused.{Refused}
 use Rattle.vme_model.specs.declared.refusals.Refused.TheVariants.{NoSuchDriver, AlreadyThere, Rule, NotSettled, TraceFull}
@@ -39,12 +39,16 @@ whole P (e ∷ h) each = each.0
 
 -- ---- the only grant
 
-grant_is : (p : Plan) (h : List Edge) → OneTravels p h → (n s : ℕ) → Travels p h n s → option_map (λ at. at.1) (grant_at p h) ≡ Some s
-grant_is p h one n s t = by_found (grant_at p h) refl
+pub the_grant : (p : Plan) (h : List Edge) → OneTravels p h → (n s : ℕ) → Travels p h n s → grant_at p h ≡ Some (n, s)
+the_grant p h one n s t = by_found (grant_at p h) refl
   where
-    by_found : (o : Option (ℕ × ℕ)) → grant_at p h ≡ o → option_map (λ at. at.1) (grant_at p h) ≡ Some s
+    by_found : (o : Option (ℕ × ℕ)) → grant_at p h ≡ o → grant_at p h ≡ Some (n, s)
     by_found None is = absurd (none_travels p h is n s t)
-    by_found (Some (m, r)) is = ap (option_map (λ at. at.1)) is ∙ ap (λ x. Some x) (one m n r s (grant_travels p h m r is) t).1
+    by_found (Some (m, r)) is = let same = one m n r s (grant_travels p h m r is) t in is ∙ ap (λ x. Some (x, r)) same.0 ∙ ap (λ x. Some (n, x)) same.1
+
+-- the grant that is told
+pub only_grant : (p : Plan) (h : List Edge) → IsSafe p h → (m r : ℕ) → Some (m, r) ≡ grant_at p h → (n s : ℕ) → Travels p h n s → (m ≡ n) × (r ≡ s)
+only_grant p h safe m r is n s t = whole (OneTravels p) h safe.one_travels m n r s (grant_travels p h m r (sym is)) t
 
 no_grant : (p : Plan) (h : List Edge) → ((n s : ℕ) → Travels p h n s → ⊥) → grant_at p h ≡ None
 no_grant p h none = absent (grant_at p h) (λ at is. none at.0 at.1 (grant_travels p h at.0 at.1 is))
@@ -101,7 +105,7 @@ grant_told c l =
     let now = after c.0 c.1 in
     let one = whole (OneTravels now.plan) now.history (legal_is_safe now.version now.plan now.history l.0 l.1).one_travels in
     record {
-      each = λ n s t. ap slot_mark (grant_is now.plan now.history one n s t);
+      each = λ n s t. ap (λ o. slot_mark (option_map (λ at. at.1) o)) (the_grant now.plan now.history one n s t);
       none = λ none. ap (λ o. slot_mark (option_map (λ at. at.1) o)) (no_grant now.plan now.history none);
     }
 

@@ -24,7 +24,7 @@ use Rattle.vme_pictures.specs.Columns.{low_by}
 abbrev pub rise : Driver → Wire → Edge
 rise d w = record { driver = d; wire = w; fall = false; value = None }
 
--- no refusal behind E2 tells of the wire
+-- no refusal after E2 tells of the wire
 later : (v : Option Delivery) (a c r : Bool) (k n : ℕ) → low_by (with_delivery (check a (Rule k) (check c (NotSettled n) (check r TraceFull (Ok tt)))) v) ≡ Some true
 later v false c r k n = refl
 later v true false r k n = refl

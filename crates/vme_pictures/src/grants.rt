@@ -1,13 +1,23 @@
 //! Who holds the bus, where the grant stands, and what is shown.
-ghost use Rattle.std.specs.Prelude.{◌≡◌, ◌<◌, find, option_map, IfSome, IsTrue};
+ghost use Rattle.std.specs.Prelude.{◌≡◌, ◌<◌, ℕ, find, option_map, IfSome, IsSomeAnd, IsTrue};
 ghost use Rattle.vme_model.specs.Signals.{is_in_range};
 ghost use Rattle.vme_model.specs.Plan.{active, grant_chain};
 ghost use Rattle.vme_model.specs.History.{input, shown};
+ghost use Rattle.vme_model.specs.GrantSafety.{Travels};
 ghost use Rattle.vme_model.specs.Stands.{grant_at, holder, is_granted_at};
 
 use crate::wires::is_low;
 use vme_backplane::Backplane;
 use vme_model::{ChainId, Cycle, Driver, Wire};
+
+/// A grant that travels, by where it stands.
+#[derive(Clone, Copy, PartialEq, Eq, Debug)]
+pub struct Grant {
+    /// Its level, 0 to 3.
+    pub level: u8,
+    /// The slot that it stands at, 1 to 21.
+    pub slot: u8,
+}
 
 /// The slot that holds the bus.
 pub(crate) fn holder(backplane: &Backplane) -> Option<u8>
@@ -75,18 +85,34 @@ fn granted_on(backplane: &Backplane, level: u8) -> Option<u8>
     None
 }
 
+/// The grant that travels: it stands at the slot whose input of its level is low, while the board there
+/// has neither passed it on nor taken the bus (chapter 3 of the standard). There is one at most.
+pub fn grant_at(backplane: &Backplane) -> Option<Grant>
+    ensures at { option_map (λ g. (g.level, g.slot)) result
+        ≡ grant_at backplane.now.plan backplane.now.history }
+    ensures range { IfSome result (λ g. (g.level < 4) × (g.slot < 22)) }
+    ensures only { (n s : ℕ) → Travels backplane.now.plan backplane.now.history n s
+        → IsSomeAnd result (λ g. (g.level ≡ n) × (g.slot ≡ s)) }
+{
+    backplane.safety();
+    for level in 0..4 {
+        if let Some(slot) = granted_on(backplane, level) {
+            return Some(Grant { level, slot });
+        }
+    }
+    None
+}
+
 /// The slot at which a grant travels.
 pub(crate) fn granted(backplane: &Backplane) -> Option<u8>
     ensures slot { result
         ≡ option_map (λ at. at.1) (grant_at backplane.now.plan backplane.now.history) }
     ensures range { IfSome result (λ s. s < 22) }
 {
-    for level in 0..4 {
-        if let Some(slot) = granted_on(backplane, level) {
-            return Some(slot);
-        }
+    match grant_at(backplane) {
+        Some(grant) => Some(grant.slot),
+        None => None,
     }
-    None
 }
 
 /// What the address lines show.

@@ -8,4 +8,5 @@ mod lines;
 mod windows;
 mod wires;
 
+pub use grants::{Grant, grant_at};
 pub use windows::{COLUMNS, Window};

@@ -1,7 +1,7 @@
 //! What no clause says of a drive with a seed: which edges some seeds draw, and a device that is full.
 use crate::devices::Narrow;
 use std::process::Abort;
-use vme_engines::{EngineFault, Status, drive_drawn, drive_found};
+use vme_engines::{EngineFault, Status, Progress, drive_drawn, drive_found};
 use vme_events::{Event, Goal, Miss};
 use vme_model::Version;
 use vme_trace::Fault;
@@ -240,9 +240,28 @@ fn a_missed_edge_ends_a_walk(rt: HostRuntime) {
     assert_sought(&rt, 0, Goal::Miss(Miss::Settling(2)), RACED);
 }
 
-/// Asserts which of the seeds from 0 to `last` comes to an acknowledge that is handed on, and what is written.
+/// Keeps how many seeds it heard of, and whether each came after the one before, from 0 on.
+#[derive(Drop)]
+struct Heard {
+    seeds: u64,
+    in_order: bool,
+}
+
+impl Progress for Heard {
+    fn trying(&mut self, seed: u64) {
+        self.in_order = self.in_order && seed == self.seeds;
+        self.seeds = self.seeds.saturating_add(1);
+    }
+}
+
+/// Asserts which of the seeds from 0 to `last` comes to an acknowledge that is handed on, what is written, and that each
+/// seed is told that is tried.
 fn assert_found(rt: &(impl Abort + AllocGlobal), last: u64, seed: Option<u64>, written: &[u8]) {
     let mut out = Vec::new(rt.alloc());
+    let mut heard = Heard {
+        seeds: 0,
+        in_order: true,
+    };
     let answer = drive_found(
         rt.alloc(),
         TWO_INTERRUPTERS,
@@ -252,9 +271,12 @@ fn assert_found(rt: &(impl Abort + AllocGlobal), last: u64, seed: Option<u64>, w
         Goal::Event(Event::IackPassed),
         &mut out,
         Version::One,
+        &mut heard,
     );
     assert!(rt; answer == Ok(seed));
     assert!(rt; out.as_slice() == written);
+    assert!(rt; heard.in_order);
+    assert!(rt; heard.seeds == seed.unwrap_or(last).saturating_add(1));
 }
 
 #[test]

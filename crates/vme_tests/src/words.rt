@@ -326,9 +326,32 @@ fn reads_which_seeds_to_try(rt: HostRuntime) {
             last: *last,
             goal: Goal::Miss(Miss::Settling(2)),
             version: Version::Two,
+            progress: false,
         };
         assert_job(&rt, &given, wanted);
     }
+}
+
+#[test]
+fn reads_whether_seeds_are_told(rt: HostRuntime) {
+    let given = [
+        "drive",
+        "--progress",
+        "S",
+        "--edges=8",
+        "--seeds=0..9",
+        "--until=S2",
+    ];
+    let wanted = Job::Search {
+        scenario: "S",
+        edges: 8,
+        first: 0,
+        last: 9,
+        goal: Goal::Miss(Miss::Settling(2)),
+        version: Version::One,
+        progress: true,
+    };
+    assert_job(&rt, &given, wanted);
 }
 
 /// What names no seeds to try.
@@ -383,7 +406,9 @@ fn reads_what_to_run(rt: HostRuntime) {
 }
 
 /// Words that mean no job.
-const REFUSED: [&[&str]; 51] = [
+const REFUSED: [&[&str]; 53] = [
+    &["drive", "S", "--edges=8", "--progress"],
+    &["drive", "S", "--edges=8", "--seed=0", "--progress"],
     &["drive", "S", "--edges=8", "--seeds=0..9"],
     &[
         "drive",
@@ -543,8 +568,10 @@ const SUMMARY: [&str; 3] = [
     "  vmebus summary board.toml tenure.vme\n",
 ];
 
-const DRIVE: [&str; 14] = [
-    "       vmebus drive <SCENARIO> --edges <N> --seeds <S..T> --until <EVENT> [--version <V>]\n",
+const DRIVE: [&str; 16] = [
+    "       vmebus drive <SCENARIO> --edges <N> --seeds <S..T> --until <EVENT> [--progress] [--version <V>]\n",
+    "--progress",
+    "`trying seed S`",
     "--seeds <S..T>",
     "`seed S`",
     "  vmebus drive board.toml --edges 60 --seeds 0..1000 --until bus-error > error.vme",
@@ -592,7 +619,11 @@ fn help_tells_what_each_command_is(rt: HostRuntime) {
 }
 
 /// Words that mean no job, and the part of the text that says why.
-const ERRORS: [(&[&str], &str); 22] = [
+const ERRORS: [(&[&str], &str); 23] = [
+    (
+        &["drive", "S", "--edges=8", "--seed=0", "--progress"],
+        "error: the option '--progress' needs '--seeds <S..T>'\n",
+    ),
     (
         &["drive", "S", "--edges=8", "--seeds=0..9"],
         "error: the option '--seeds <S..T>' needs '--until <EVENT>'\n",

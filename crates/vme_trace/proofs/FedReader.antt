@@ -8,7 +8,8 @@ use Rattle.vme_model.specs.declared.signals.Edge.{Edge}
 use Rattle.vme_model.specs.Text.{TextFault, no_header, cut_off, read_of}
 use Rattle.vme_trace.specs.declared.Fault.{Fault}
 use Rattle.vme_trace.specs.declared.Fault.TheVariants.{Memory}
-use Rattle.vme_trace.specs.Reading.{IsPart, Place, ReaderState, fault_of, answer_of, rest_of, with_edges, HasRead, Stops, Fed, Pumped, ReadsPiece}
+use Rattle.vme_trace.specs.Reading.{IsPart, Place, ReaderState, fault_of, answer_of, rest_of, with_edges, HasRead, Stops, Fed, Pumped}
+use Rattle.vme_trace.specs.Pieces.{PumpedUpTo, ReadsUpTo}
 use Rattle.vme_trace.specs.Taking.{place, Leads, Fails}
 use Rattle.vme_trace.proofs.Lines.{true_false, settled, end_cut, end_absent, end_present, no_bytes}
 use Rattle.vme_trace.proofs.ReaderSteps.{behind_fault}
@@ -153,9 +154,9 @@ kept_none None b h = tt
 kept_none (Some xs) None h = h
 kept_none (Some xs) (Some ys) h = sym h
 
-module _ (from to : Option (List ℕ)) (bytes : List ℕ) (es : List Edge) (buffer : List ℕ) (count : ℕ) (piece : ReadsPiece from to buffer count) (reader : ReaderState) (read : HasRead reader bytes es) where
+module _ (size : ℕ) (from to : Option (List ℕ)) (bytes : List ℕ) (es : List Edge) (buffer : List ℕ) (count : ℕ) (piece : ReadsUpTo size from to buffer count) (reader : ReaderState) (read : HasRead reader bytes es) where
   pub pumped_end : (old : List Edge) (after : ReaderState) (none : count ≡ 0) → Ok tt ≡ answer_of (read_of bytes).fault → after.place ≡ None → after.version ≡ reader.version
-      → Pumped from to bytes es old old after (Ok false)
+      → PumpedUpTo size from to bytes es old old after (Ok false)
   pumped_end old after none answer used_up same = (
     piece.2 none,
     kept_none from to (consumed_none from to buffer count none piece.1),
@@ -166,7 +167,7 @@ module _ (from to : Option (List ℕ)) (bytes : List ℕ) (es : List Edge) (buff
   )
 
   pub pumped_end_fault : (old : List Edge) (after : ReaderState) (f : Fault) (none : count ≡ 0) → Err f ≡ answer_of (read_of bytes).fault → after.place ≡ None
-      → after.version ≡ reader.version → Pumped from to bytes es old old after (Err f)
+      → after.version ≡ reader.version → PumpedUpTo size from to bytes es old old after (Err f)
   pumped_end_fault old after f none answer used_up same =
       let all : (bytes ++ []) ++ unwrap_or to [] ≡ bytes = ap (λ l. (bytes ++ []) ++ l) (no_rest to (piece.2 none)) ∙ append-nil (bytes ++ []) ∙ append-nil bytes in
       inr (
@@ -187,9 +188,16 @@ module _ (from to : Option (List ℕ)) (bytes : List ℕ) (es : List Edge) (buff
         ),
       )
 
-  short : length (take count buffer) ≤ 512
-  short = let h : count ≤ 512 = piece.0 in let k = length-take count buffer in omega (arith, k)
+  short : length (take count buffer) ≤ size
+  short = let h : count ≤ size = piece.0 in let k = length-take count buffer in omega (arith, k)
 
-  pub pumped_fault : (old new : List Edge) (after : ReaderState) (f : Fault) → Fed (bytes ++ take count buffer) es old new after (Err f) → Pumped from to bytes es old new after (Err f)
+  pub pumped_fault : (old new : List Edge) (after : ReaderState) (f : Fault) → Fed (bytes ++ take count buffer) es old new after (Err f) → PumpedUpTo size from to bytes es old new after (Err f)
   pumped_fault old new after f given =
       inr (take count buffer, given.0, short, piece.1, given.1, given.2 (unwrap_or to []))
+
+-- one read of up to 512 bytes
+pub pumped : (from to : Option (List ℕ)) (bytes : List ℕ) (es old new : List Edge) (reader : ReaderState) (r : Result Bool Fault)
+    → PumpedUpTo 512 from to bytes es old new reader r → Pumped from to bytes es old new reader r
+pumped from to bytes es old new reader (Ok true) h = h
+pumped from to bytes es old new reader (Ok false) h = h
+pumped from to bytes es old new reader (Err f) h = h

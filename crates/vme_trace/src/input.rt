@@ -1,7 +1,8 @@
 //! Reading a trace from a reader of bytes.
-ghost use Rattle.std.specs.Prelude.{◌≡◌, ◌≤◌, ℕ, List, None, Err, IfOk, IfErr, length, take};
+ghost use Rattle.std.specs.Prelude.{◌≡◌, ◌<◌, ◌≤◌, ℕ, List, None, Err, IfOk, IfErr, length, take};
 ghost use Rattle.std.specs.Io.KnownBytes.{Consumes, IsAtEnd, Keeps};
 ghost use Rattle.vme_model.specs.declared.signals.Edge.{Edge};
+ghost use Rattle.vme_trace.specs.Pieces.{PumpedUpTo};
 ghost use Rattle.vme_trace.specs.Reading.{HasRead, Pumped, ReadsPiece};
 
 use crate::Fault;
@@ -28,11 +29,33 @@ pub fn pump<R: Read, A: Allocator>(
     ensures none_appended { reader.old.place ≡ None → edges.new.items ≡ edges.old.items }
     ensures none_read { reader.old.place ≡ None → input.new ≡ input.old }
 {
+    let mut buffer = [0u8; 512];
+    pump_with(reader, input, edges, &mut buffer)
+}
+
+/// One read of up to as many bytes as a buffer has room for, fed to the reader: false at the end of the input, where the
+/// reader is finished. A line costs less in a large buffer.
+///
+/// Errors: those of [`pump`]. On a reader that is used up nothing is read.
+pub fn pump_with<R: Read, A: Allocator>(
+    reader: &mut Reader,
+    input: &mut R,
+    edges: &mut Vec<Edge, A>,
+    buffer: &mut [u8],
+) -> Result<bool, Fault>
+    requires { 0 < length buffer.old }
+    ensures reads { (bytes : List ℕ) (es : List Edge) → HasRead reader.old bytes es
+        → PumpedUpTo (length buffer.old) (R.remaining input.old) (R.remaining input.new)
+        bytes es edges.old.items edges.new.items reader.new result }
+    ensures failed { reader.old.place ≡ None → result ≡ Err Fault.Failed }
+    ensures unchanged { reader.old.place ≡ None → reader.new ≡ reader.old }
+    ensures none_appended { reader.old.place ≡ None → edges.new.items ≡ edges.old.items }
+    ensures none_read { reader.old.place ≡ None → input.new ≡ input.old }
+{
     if reader.is_used_up() {
         return Err(Fault::Failed);
     }
-    let mut buffer = [0u8; 512];
-    let Ok(count) = read_piece(input, &mut buffer) else {
+    let Ok(count) = read_patiently(input, buffer) else {
         reader.give_up();
         return Err(Fault::Read);
     };

@@ -3,16 +3,19 @@
 //! What the text says is `Rattle.vme_model.specs.Text`; what a reader has read of it is `specs/Reading.antt`.
 #![tactic(auto)]
 
+mod feeds;
 mod front;
 mod headers;
 mod input;
+mod keys;
+mod known;
 pub mod laws;
 mod patience;
 mod reader;
 mod writer;
 
 pub use headers::{header_line, header_of};
-pub use input::{pump, read_piece};
+pub use input::{pump, pump_with, read_piece};
 pub use patience::Patient;
 pub use reader::{Reader, parse};
 use thiserror::Error;

@@ -9,6 +9,7 @@ ghost use Rattle.vme_trace.specs.Taking.{Leads, Fails, place};
 use crate::Fault;
 use crate::front::{edge_at, edge_of};
 use crate::headers::header_of;
+use crate::known::Known;
 use arrayvec::ArrayVec;
 use memchr::memchr;
 use std::alloc::Allocator;
@@ -27,6 +28,7 @@ pub struct Reader {
     line: u64,
     part: ArrayVec<u8, PART>,
     used_up: bool,
+    known: Known,
 }
 
 impl Model for Reader {
@@ -46,6 +48,7 @@ impl Model for Reader {
 
 impl Reader {
     /// A reader before the first byte of a trace.
+    #[inline(always)]
     pub fn new() -> Reader
         ensures { HasRead result [] [] }
     {
@@ -54,6 +57,7 @@ impl Reader {
             line: 1,
             part: ArrayVec::new(),
             used_up: false,
+            known: Known::new(),
         }
     }
 
@@ -83,6 +87,7 @@ impl Reader {
             return Err(Fault::Failed);
         }
         let result = take(
+            &mut self.known,
             &mut self.version,
             &mut self.line,
             &mut self.part,
@@ -271,6 +276,7 @@ fn take_front<'a, A: Allocator>(
 ///
 /// A line that is not read here, as it is cut off or faulty, is one for `take_front`. Errors: X6.
 fn take_edges<'a, A: Allocator>(
+    known: &mut Known,
     n: &mut u64,
     piece: &'a [u8],
     edges: &mut Vec<Edge, A>,
@@ -284,19 +290,22 @@ fn take_edges<'a, A: Allocator>(
         → Fails (Some version) (place n.old []) piece.now
         edges.old.items edges.new.items (Some version) fault) }
 {
-    let mut rest = piece;
+    let first = *n;
+    let before = edges.len();
+    let mut rest = known.take_blocks(piece, edges)?;
     'lines: while let Some((edge, behind)) = edge_at(rest) {
         if edges.push(edge).is_err() {
             return Err(Fault::Memory);
         }
-        *n = next_number(*n);
         rest = behind;
     }
+    *n = first.saturating_add((edges.len() - before) as u64);
     Ok(rest)
 }
 
 /// Reads a piece.
 fn take<A: Allocator>(
+    known: &mut Known,
     version: &mut Option<Version>,
     n: &mut u64,
     part: &mut ArrayVec<u8, PART>,
@@ -316,7 +325,7 @@ fn take<A: Allocator>(
     'lines: while !rest.is_empty() {
         rest = take_front(version, n, part, rest, edges)?;
         if part.is_empty() && version.is_some() {
-            rest = take_edges(n, rest, edges)?;
+            rest = take_edges(known, n, rest, edges)?;
         }
     }
     Ok(())

@@ -78,7 +78,7 @@ boards_kept : (version : Version) (p : Plan) (h : List Edge) (w : Wire) (fall : 
 boards_kept version p h w fall v boards old t = old t ∙ other_board version p h (at_head w fall v) (board p t) (λ r found. refl)
 
 -- a board's edge leaves the controller
-controller_kept : (kind : ArbiterKind) (version : Version) (h : List Edge) (s : ℕ) (w : Wire) (fall : Bool) (v : Option Cycle) → has_wire (Slot s) w ≡ true → controller_of kind version h ≡ controller_of kind version (at s w fall v ∷ h)
+pub controller_kept : (kind : ArbiterKind) (version : Version) (h : List Edge) (s : ℕ) (w : Wire) (fall : Bool) (v : Option Cycle) → has_wire (Slot s) w ≡ true → controller_of kind version h ≡ controller_of kind version (at s w fall v ∷ h)
 controller_kept kind version h s Br true v has = refl
 controller_kept kind version h s Br false v has = refl
 controller_kept kind version h s BgOut true v has = refl
@@ -100,7 +100,7 @@ controller_kept kind version h s Dtack false v has = refl
 controller_kept kind version h s w fall v has = absurd (cc)
 
 -- the slot that is on
-addressing_by : (p : Plan) (h : List Edge) (s : ℕ) (w : Wire) (fall : Bool) (v : Option Cycle) → has_wire (Slot s) w ≡ true → (w ≡ Addr → addressing p (at s w fall v ∷ h) ≡ addressing_after (addressing p h) s w fall) → addressing_after (addressing p h) s w fall ≡ addressing p (at s w fall v ∷ h)
+pub addressing_by : (p : Plan) (h : List Edge) (s : ℕ) (w : Wire) (fall : Bool) (v : Option Cycle) → has_wire (Slot s) w ≡ true → (w ≡ Addr → addressing p (at s w fall v ∷ h) ≡ addressing_after (addressing p h) s w fall) → addressing_after (addressing p h) s w fall ≡ addressing p (at s w fall v ∷ h)
 addressing_by p h s Addr fall v has on = sym (on refl)
 addressing_by p h s Br fall v has on = refl
 addressing_by p h s BgOut fall v has on = refl
@@ -112,7 +112,7 @@ addressing_by p h s IackOut fall v has on = refl
 addressing_by p h s Dtack fall v has on = refl
 addressing_by p h s w fall v has on = absurd (cc)
 
-addressing_kept : (p : Plan) (h : List Edge) (w : Wire) (fall : Bool) (v : Option Cycle) → has_wire Controller w ≡ true → addressing p h ≡ addressing p (at_head w fall v ∷ h)
+pub addressing_kept : (p : Plan) (h : List Edge) (w : Wire) (fall : Bool) (v : Option Cycle) → has_wire Controller w ≡ true → addressing p h ≡ addressing p (at_head w fall v ∷ h)
 addressing_kept p h (Bg n) fall v has = refl
 addressing_kept p h Bclr fall v has = refl
 addressing_kept p h Iack fall v has = refl

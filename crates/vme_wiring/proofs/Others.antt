@@ -45,13 +45,13 @@ no_and false b e = refl
 not_of : (d : Driver) (w : Wire) (e : Edge) → is_same_driver e.driver d ≡ false → is_edge_of d w e ≡ false
 not_of d w e other = no_and (is_same_wire e.wire w) (is_same_driver e.driver d) other
 
-not_fall : (d : Driver) (w : Wire) (e : Edge) → is_same_driver e.driver d ≡ false → is_fall_of d w e ≡ false
+pub not_fall : (d : Driver) (w : Wire) (e : Edge) → is_same_driver e.driver d ≡ false → is_fall_of d w e ≡ false
 not_fall d w e other = no_and e.fall (is_edge_of d w e) (not_of d w e other)
 
 pub drive_same : (h : List Edge) (e : Edge) (d : Driver) (w : Wire) → is_same_driver e.driver d ≡ false → drive (e ∷ h) d w ≡ drive h d w
 drive_same h e d w other = ap (λ b. if b then e.fall else drive h d w) (not_of d w e other)
 
-cycles_same : (h : List Edge) (e : Edge) (d : Driver) → is_same_driver e.driver d ≡ false → cycles (e ∷ h) d ≡ cycles h d
+pub cycles_same : (h : List Edge) (e : Edge) (d : Driver) → is_same_driver e.driver d ≡ false → cycles (e ∷ h) d ≡ cycles h d
 cycles_same h e d other =
     ap (λ b. if b then 0 else (if is_fall_of d AddressStrobe e then 1 else 0) + cycles h d) (not_fall d Bbsy e other)
     ∙ ap (λ b. (if b then 1 else 0) + cycles h d) (not_fall d AddressStrobe e other)
@@ -60,7 +60,7 @@ cycles_same h e d other =
     none : (n : ℕ) → 0 + n ≡ n
     none n = omega arith
 
-strobed_same : (h : List Edge) (e : Edge) (d : Driver) → is_same_driver e.driver d ≡ false → has_strobed (e ∷ h) d ≡ has_strobed h d
+pub strobed_same : (h : List Edge) (e : Edge) (d : Driver) → is_same_driver e.driver d ≡ false → has_strobed (e ∷ h) d ≡ has_strobed h d
 strobed_same h e d other =
     ap (λ b. if b then false else is_fall_of d DataStrobe e || has_strobed h d) (not_fall d AddressStrobe e other)
     ∙ ap (λ b. b || has_strobed h d) (not_fall d DataStrobe e other)

@@ -4,7 +4,7 @@ use Rattle.clap.specs.Words.{Row, Text}
 use Rattle.vme_words.specs.Asked.{IsNoJob}
 use Rattle.vme_words.specs.Unfits.{IsUnfit}
 use Rattle.vme_words.specs.declared.Unfit.{Unfit}
-use Rattle.vme_words.specs.declared.Unfit.TheVariants.{Missing, Window, Event, Seedless, Aimless, Seeded, Seeds}
+use Rattle.vme_words.specs.declared.Unfit.TheVariants.{Missing, Window, Event, Seedless, Aimless, Seeded, Seeds, Idle}
 
 one : (name : Text) (rows : List Row) (unfit : Unfit) → unfit ≢ Missing → IsUnfit name rows unfit → IsNoJob name rows
 one name rows Missing other is = absurd (other refl)
@@ -14,6 +14,7 @@ one name rows Seedless other is = is
 one name rows Aimless other is = is
 one name rows Seeded other is = is
 one name rows (Seeds named) other is = is
+one name rows Idle other is = is
 
 pub no_job : (met : Option (Text × List Row)) (unfit : Unfit) → unfit ≢ Missing → (unfit ≢ Missing → IsSomeAnd met (λ m. IsUnfit m.0 m.1 unfit))
     → IsSomeAnd met (λ m. IsNoJob m.0 m.1)

@@ -1,5 +1,5 @@
 -- Which job the words after the program's name ask for.
-use Rattle.std.specs.Prelude.{◌≡◌, ◌≢◌, ◌↔◌, ◌⊎◌, ◌+◌, ◌-◌, ◌^◌, ◌<◌, ◌≤◌, ◌++◌, ℕ, Bool, IsTrue, List, [], ◌∷◌, Option, Some, None, codes, map, max, min, option_map, IsSomeAnd}
+use Rattle.std.specs.Prelude.{◌≡◌, ◌≢◌, ◌↔◌, ◌⊎◌, ◌+◌, ◌-◌, ◌^◌, ◌<◌, ◌≤◌, ◌++◌, ℕ, Bool, true, false, IsTrue, List, [], ◌∷◌, Option, Some, None, codes, map, max, min, option_map, IsSomeAnd}
 use Rattle.std.specs.Borrow.{Bor}
 use Rattle.std.specs.Str.Parse.{IsNumeral, digits_value, without_leading_plus}
 use Rattle.clap.specs.Words.{Row, Text, first_of, one_of, subcommand_of}
@@ -81,6 +81,10 @@ abbrev pub AreTried : List Row → ℕ → ℕ → Type 0
 AreTried rows first last = (named : Text) × (first_of (codes "seeds") rows ≡ Some named)
     × AreSeeds named first last
 
+-- the flag `--progress`
+abbrev pub IsTold : List Row → Bool → Type 0
+IsTold rows progress = IsFlag (codes "progress") rows progress
+
 -- a command of this name, with these operands, is this job
 abbrev pub AsksFor : Text → List Row → Job → Type 0
 AsksFor name rows Joined = ⊥
@@ -103,15 +107,15 @@ AsksFor name rows (Summary scenario trace) = (name ≡ codes "summary")
 AsksFor name rows (Drive scenario edges version) = (name ≡ codes "drive")
     × IsFile (codes "SCENARIO") rows scenario.now × AreOptions rows edges version
     × (spelled (codes "seed") rows ≡ None) × (first_of (codes "seeds") rows ≡ None)
-    × IsAim rows version None
+    × IsAim rows version None × IsTold rows false
 AsksFor name rows (Draw scenario edges seed until version) = (name ≡ codes "drive")
     × IsFile (codes "SCENARIO") rows scenario.now × AreOptions rows edges version
     × (spelled (codes "seed") rows ≡ Some seed) × (first_of (codes "seeds") rows ≡ None)
-    × IsAim rows version until
-AsksFor name rows (Search scenario edges first last goal version) = (name ≡ codes "drive")
+    × IsAim rows version until × IsTold rows false
+AsksFor name rows (Search scenario edges first last goal version progress) = (name ≡ codes "drive")
     × IsFile (codes "SCENARIO") rows scenario.now × AreOptions rows edges version
     × (spelled (codes "seed") rows ≡ None) × AreTried rows first last
-    × IsAim rows version (Some goal)
+    × IsAim rows version (Some goal) × IsTold rows progress
 AsksFor name rows (Run scenario edges turns version) = (name ≡ codes "run")
     × IsFile (codes "SCENARIO") rows scenario.now × AreOptions rows edges version
     × (spelled (codes "turns") rows ≡ Some turns)
@@ -136,11 +140,15 @@ AreNotTried rows = (named : Text) × (first_of (codes "seeds") rows ≡ Some nam
     × ((spelled (codes "seed") rows ≢ None) ⊎ (first_of (codes "until") rows ≡ None)
     ⊎ NamesNoSeeds named)
 
+-- `--progress` is given without `--seeds`
+abbrev pub IsIdle : List Row → Type 0
+IsIdle rows = IsTold rows true × (first_of (codes "seeds") rows ≡ None)
+
 -- a command of this name is no job with these operands
 abbrev pub IsNoJob : Text → List Row → Type 0
 IsNoJob name rows =
     ((name ≡ codes "show") × IsNoWindow (first_of_window rows) (last_of_window rows))
-    ⊎ ((name ≡ codes "drive") × (IsNoAim rows ⊎ AreNotTried rows))
+    ⊎ ((name ≡ codes "drive") × ((IsNoAim rows ⊎ IsIdle rows) ⊎ AreNotTried rows))
 
 abbrev pub AskForNoJob : List Text → Type 0
 AskForNoJob words = IsSomeAnd (subcommand_of commands words) (λ met. IsNoJob met.0 met.1)

@@ -76,6 +76,9 @@ flag name = record (new_rule name) { long = Some name; action = Some SetTrue }
 abbrev pub color : Rule
 color = flag (codes "color")
 
+abbrev pub progress : Rule
+progress = flag (codes "progress")
+
 -- a command of this name that takes a scenario, and then these
 abbrev pub leaf : Text → List Rule → App
 leaf name operands = record {
@@ -102,7 +105,7 @@ abbrev pub summary : Shape
 summary = (leaf (codes "summary") (file (codes "TRACE") ∷ [])).top
 
 abbrev pub drive : Shape
-drive = (leaf (codes "drive") (edges ∷ seed ∷ seeds ∷ until ∷ version ∷ [])).top
+drive = (leaf (codes "drive") (edges ∷ seed ∷ seeds ∷ until ∷ progress ∷ version ∷ [])).top
 
 abbrev pub run : Shape
 run = (leaf (codes "run") (edges ∷ turns ∷ version ∷ [])).top

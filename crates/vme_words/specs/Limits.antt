@@ -20,7 +20,7 @@ IsNoWindow from to = (to < from) ⊎ (from + 199 < to)
 abbrev pub IsWithin : Job → Type 0
 IsWithin (Drive scenario edges version) = (1 ≤ edges) × (edges ≤ trace_limit)
 IsWithin (Draw scenario edges seed until version) = (1 ≤ edges) × (edges ≤ trace_limit)
-IsWithin (Search scenario edges first last goal version) =
+IsWithin (Search scenario edges first last goal version progress) =
     (1 ≤ edges) × (edges ≤ trace_limit) × (first ≤ last)
 IsWithin Joined = Unit {0}
 IsWithin (Replay scenario trace) = Unit {0}

@@ -125,7 +125,7 @@ const DRIVE: &str =
 
 const DRIVE_USAGE: &str =
     "vmebus drive <SCENARIO> --edges <N> [--seed <S> [--until <EVENT>]] [--version <V>]
-       vmebus drive <SCENARIO> --edges <N> --seeds <S..T> --until <EVENT> [--version <V>]";
+       vmebus drive <SCENARIO> --edges <N> --seeds <S..T> --until <EVENT> [--progress] [--version <V>]";
 
 const DRIVE_EXAMPLE: &str =
     "In each round the controller and then each board makes one of the edges that are open to it. It ends
@@ -146,7 +146,8 @@ what each event is, and has all conditions.
 
 With --seeds it tries the seeds S to T in order. The first with which EVENT comes within the given
 number of edges is told on standard error as `seed S`, its trace is written, and the exit status is
-0. Where it comes with none, `no seed` is told, nothing is written, and the exit status is 3.
+0. Where it comes with none, `no seed` is told, nothing is written, and the exit status is 3. With
+--progress it tells on standard error which seed it tries, as `trying seed S`, once a second at most.
 
 Examples:
   vmebus drive board.toml --edges 1000 > tenure.vme
@@ -309,13 +310,28 @@ fn seeds_option<'a>(alloc: Global) -> Arg<'a>
         .help("Tries these seeds in order until one comes to EVENT; needs --until")
 }
 
+/// An option without a value.
+fn flag<'a>(alloc: Global, name: &'a str, help: &'a str) -> Arg<'a>
+    ensures { rule_of result ≡ said.flag name.entry.now }
+{
+    Arg::new(alloc, name)
+        .long(name)
+        .action(ArgAction::SetTrue)
+        .help(help)
+}
+
 fn color_option<'a>(alloc: Global) -> Arg<'a>
     ensures { rule_of result ≡ said.color }
 {
-    Arg::new(alloc, "color")
-        .long("color")
-        .action(ArgAction::SetTrue)
-        .help("Paints each `x` red and each `!` green, for a terminal")
+    let help = "Paints each `x` red and each `!` green, for a terminal";
+    flag(alloc, "color", help)
+}
+
+fn progress_option<'a>(alloc: Global) -> Arg<'a>
+    ensures { rule_of result ≡ said.progress }
+{
+    let help = "Tells on standard error which seed it tries, once a second at most; needs --seeds";
+    flag(alloc, "progress", help)
 }
 
 /// A command that takes a scenario.
@@ -415,6 +431,7 @@ pub(crate) fn drive<'a>(alloc: Global) -> Result<Command<'a>, AllocError>
     let command = taking(command, seed_option(alloc));
     let command = taking(command, seeds_option(alloc));
     let command = taking(command, until_option(alloc));
+    let command = taking(command, progress_option(alloc));
     taking(command, version_option(alloc))
 }
 

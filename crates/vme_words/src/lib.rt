@@ -1,7 +1,7 @@
 //! The words after the name of the program `vmebus`, and what they ask for.
 #![tactic(auto)]
 
-ghost use Rattle.std.specs.Prelude.{◌≡◌, ◌≢◌, ◌≤◌, ◌↔◌, ◌⊎◌, ℕ, [], ◌∷◌, IfErr, IfOk, IfSome, IsSomeAnd, MatchOption, Ok, Some, codes, length, option_map};
+ghost use Rattle.std.specs.Prelude.{◌≡◌, ◌≢◌, ◌≤◌, ◌↔◌, ◌⊎◌, ℕ, [], ◌∷◌, IfErr, IfOk, IfSome, IsSomeAnd, MatchOption, Err, Ok, Some, codes, false, length, option_map, true};
 ghost use Rattle.clap.specs.Words.{FailsBy, IsAmong, fault_of, first_of as first_text, found_of, kind_of, rows_of, subcommand_of, subcommand_rows_of};
 ghost use Rattle.vme_words.specs.Asked.{AreSeeds, Ask, AskForNoJob, AsksFor, IsAim, IsFile, IsFlag, IsSeed, NamesNoSeeds, first_shown, last_shown, spelled, texts_of, version_number};
 ghost use Rattle.vme_words.specs.Commands.{commands as commands_said};
@@ -122,6 +122,8 @@ pub enum Job<'a> {
         goal: Goal,
         /// The version of the rules.
         version: Version,
+        /// Whether the seeds are told as they are tried.
+        progress: bool,
     },
     /// Let each driver make edges in a thread of its own.
     Run {
@@ -153,6 +155,8 @@ enum Unfit<'a> {
     Seeded,
     /// A text that names no seeds to try.
     Seeds { named: &'a str },
+    /// Progress is to be told, and there are no seeds to try.
+    Idle,
 }
 
 /// The word of the operand of that name.
@@ -332,6 +336,18 @@ fn seeds_in(text: &str) -> Option<(u64, u64)>
     }
 }
 
+/// The job, unless its progress is to be told: that is told of several seeds alone.
+fn untold(progress: bool, job: Job<'_>) -> Result<Job<'_>, Unfit<'_>>
+    ensures untold { progress ≡ false → result ≡ Ok job.entry }
+    ensures told { progress ≡ true → result ≡ Err Unfit.Idle }
+{
+    if progress {
+        Err(Unfit::Idle)
+    } else {
+        Ok(job)
+    }
+}
+
 /// A drive of the scenario, with its other operands: drawn where there are seeds, and else in turn.
 fn drive_of<'a>(scenario: &'a str, operands: &ArgMatches<'a>) -> Result<Job<'a>, Unfit<'a>>
     ensures within { IfOk result IsWithin }
@@ -343,15 +359,10 @@ fn drive_of<'a>(scenario: &'a str, operands: &ArgMatches<'a>) -> Result<Job<'a>,
     let version = version_of(operands)?;
     let until = aim_of(operands, version)?;
     let seed = whole_of(operands, "seed", 0)?;
+    let progress = is_flagged(operands, "progress");
     match (seed, text_of(operands, "seeds"), until) {
         (Some(_), Some(_), _) => Err(Unfit::Seeded),
-        (Some(seed), None, until) => Ok(Job::Draw {
-            scenario,
-            edges,
-            seed,
-            until,
-            version,
-        }),
+        (None, Some(_), None) => Err(Unfit::Aimless),
         (None, Some(named), Some(goal)) => match seeds_in(named) {
             Some((first, last)) => Ok(Job::Search {
                 scenario,
@@ -360,16 +371,29 @@ fn drive_of<'a>(scenario: &'a str, operands: &ArgMatches<'a>) -> Result<Job<'a>,
                 last,
                 goal,
                 version,
+                progress,
             }),
             None => Err(Unfit::Seeds { named }),
         },
-        (None, Some(_), None) => Err(Unfit::Aimless),
         (None, None, Some(_)) => Err(Unfit::Seedless),
-        (None, None, None) => Ok(Job::Drive {
-            scenario,
-            edges,
-            version,
-        }),
+        (Some(seed), None, until) => {
+            let job = Job::Draw {
+                scenario,
+                edges,
+                seed,
+                until,
+                version,
+            };
+            untold(progress, job)
+        }
+        (None, None, None) => {
+            let job = Job::Drive {
+                scenario,
+                edges,
+                version,
+            };
+            untold(progress, job)
+        }
     }
 }
 
@@ -518,6 +542,14 @@ fn no_seeds(alloc: Global, named: &str) -> Result<Error, AllocError>
     drive(alloc)?.error(ErrorKind::ValueValidation, &text)
 }
 
+/// The error where progress is to be told, and there are no seeds to try.
+fn no_progress(alloc: Global) -> Result<Error, AllocError>
+    ensures { IfOk result (λ error. kind_of error ≡ ErrorKind.ValueValidation) }
+{
+    let text = "the option '--progress' needs '--seeds <S..T>'";
+    drive(alloc)?.error(ErrorKind::ValueValidation, text)
+}
+
 /// The error that tells why words ask for no job.
 fn error_of(alloc: Global, unfit: Unfit<'_>) -> Result<Error, AllocError>
     ensures { IfOk result (λ error. (kind_of error ≡ ErrorKind.MissingSubcommand)
@@ -531,6 +563,7 @@ fn error_of(alloc: Global, unfit: Unfit<'_>) -> Result<Error, AllocError>
         Unfit::Aimless => no_aim(alloc),
         Unfit::Seeded => seeded(alloc),
         Unfit::Seeds { named } => no_seeds(alloc, named),
+        Unfit::Idle => no_progress(alloc),
     }
 }
 

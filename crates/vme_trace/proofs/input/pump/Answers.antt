@@ -1,21 +1,5 @@
-use Rattle.std.proofs.Common.{sym, ◌∙◌}
-use Rattle.std.proofs.lemmas.Result.{err_from_is_err_and}
-use Rattle.vme_trace.proofs.FedReader.{pumped_end, pumped_end_fault, pumped_fault}
+use Rattle.vme_trace.proofs.FedReader.{pumped}
 use Rattle.vme_trace.proofs.input.pump.Goals as goal
 
-pub returns-in_err-finish-clause-reads : goal.returns-in_err-finish-clause-reads
-returns-in_err-finish-clause-reads g c = λ bytes es read.
-    let p = err_from_is_err_and c.from_residual.result c.from_residual.ensures.1 in
-    rw (p.1, p.2)
-    (pumped_end_fault _ _ bytes es _ _ c.in-Ok.ensures.ok _ read _ _ _ c.if-count-eq0.true (sym c.in_err-finish.was ∙ c.finish.ensures.ends bytes es read)
-    c.finish.ensures.used_up c.finish.ensures.version)
-
-pub returns-then-count-eq0-clause-reads : goal.returns-then-count-eq0-clause-reads
-returns-then-count-eq0-clause-reads g c = λ bytes es read.
-    pumped_end _ _ bytes es _ _ c.in-Ok.ensures.ok _ read _ _ c.if-count-eq0.true (sym c.in_ok-finish.was ∙ c.finish.ensures.ends bytes es read)
-    c.finish.ensures.used_up c.finish.ensures.version
-
-pub returns-in_err-feed-clause-reads : goal.returns-in_err-feed-clause-reads
-returns-in_err-feed-clause-reads g c = λ bytes es read.
-    let p = err_from_is_err_and c.from_residual-in_err-feed.result c.from_residual-in_err-feed.ensures.1 in
-    rw (p.1, p.2) (pumped_fault _ _ bytes es _ _ c.in-Ok.ensures.ok _ read _ _ _ _ (c.in_err-feed.ensures.reads bytes es read))
+pub returns-clause-reads : goal.returns-clause-reads
+returns-clause-reads g c = λ bytes es read. pumped _ _ bytes es _ _ _ _ (c.pump_with.ensures.reads bytes es read)

@@ -1,0 +1,18 @@
+-- one bit of a word: `SlotSet`
+pub mod Masks
+-- no board stands beyond the last slot: `slots_on`
+pub mod Boards
+-- what a plan says of each slot and line: `Layout::new`
+pub mod Seats
+-- before any edge: `BusState::new`
+pub mod PowerUp
+-- what the sets of slots say of the lines that boards pull: `BusState::bbsy`, `request` and their like
+pub mod Lines
+-- what a board reads at its inputs: `BusState::grant_in`, `iack_in`
+pub mod Inputs
+-- what parts of guards read: `BusState::showing`, `passing`, `answering`
+pub mod Guards
+-- what the low segments say of the settling rules: `BusState::are_grants_through` and its like
+pub mod Outputs
+-- what a board's edge is answered: `BusState::ask_board`
+pub mod Asked

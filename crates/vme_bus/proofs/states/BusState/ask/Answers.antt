@@ -1,0 +1,35 @@
+use Rattle.std.proofs.Common.{◌≡◌, ◌∙◌, sym, ap, subst, true, false}
+use Rattle.std.specs.Option.{option_copied}
+use Rattle.vme_model.specs.declared.pins.Pins.{Pins}
+use Rattle.vme_model.specs.Signals.{is_well_formed, has_wire, has_value}
+use Rattle.vme_model.specs.Sets.{has_bus_level}
+use Rattle.vme_model.specs.Plan.{board, has_driver}
+use Rattle.vme_model.specs.History.{last_level}
+use Rattle.vme_model.specs.Rules.{pick}
+use Rattle.vme_model.specs.Verdict.{ruling}
+use Rattle.vme_model.proofs.Bools.{and_left, and_right}
+use Rattle.vme_arbiter.specs.declared.policies.AnyPolicy.{AnyPolicy}
+use Rattle.vme_arbiter.specs.Local.{over}
+use Rattle.vme_wiring.proofs.RuleRows.{controller_asked}
+use Rattle.vme_bus.specs.Layouts.{seat_of}
+use Rattle.vme_bus.proofs.Asked.{unseated}
+use Rattle.vme_bus.proofs.states.BusState.ask.Goals as goal
+
+pub returns-in-Controller : goal.returns-in-Controller
+returns-in-Controller c version p h is exists =
+    let e = c.args.edge in
+    let formed = and_left (is_well_formed e) (has_driver p e.driver e.wire) exists in
+    let own = subst (λ d. has_wire d e.wire ≡ true) c.in-Controller.is (and_left (has_wire e.driver e.wire) (has_value e.wire e.fall e.value) formed) in
+    let picks = ap (λ (a : AnyPolicy). pick a.kind (has_bus_level c.shared.result.requests) (last_level h)) (ap (λ a. a.0) is.arbiter) in
+    c.may.ensures.rows p.arbiter version h (ap (λ a. a.1) is.arbiter) own (λ grant. picks)
+    ∙ ap (λ (x : Pins). ruling version (over p.arbiter h x) e) (c.shared.ensures version p h is)
+    ∙ controller_asked version p h e c.in-Controller.is formed
+
+pub returns-in-None : goal.returns-in-None
+returns-in-None c version p h is exists =
+    let e = c.args.edge in
+    let s = c.in-Slot.slot in
+    let has = subst (λ d. has_driver p d e.wire ≡ true) c.in-Slot.is (and_right (is_well_formed e) (has_driver p e.driver e.wire) exists) in
+    let none = sym (is.layout.seats s) ∙ sym c.seat.ensures ∙ ap option_copied c.in-None.is in
+    let bad : false ≡ true = sym (unseated p (seat_of p) (board p s) e.wire none) ∙ has in
+    absurd (cc)

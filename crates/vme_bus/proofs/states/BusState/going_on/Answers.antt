@@ -1,0 +1,18 @@
+use Rattle.std.proofs.Common.{◌∙◌, ap, subst}
+use Rattle.vme_model.specs.declared.signals.Driver.TheVariants.{Slot}
+use Rattle.vme_model.specs.declared.signals.Wire.TheVariants.{Bbsy}
+use Rattle.vme_model.specs.History.{drive}
+use Rattle.vme_model.specs.Readings.{readings}
+use Rattle.vme_model.specs.Rules.{addr_goes_on, burst_guard, show_guard}
+use Rattle.vme_bus.proofs.states.BusState.going_on.Goals as goal
+
+pub returns : goal.returns
+returns g c version p h r is found same has formed =
+    let s = c.args.slot in
+    let reads = readings p h (Slot s) in
+    let bursts = burst_guard reads in
+    let shows = show_guard reads c.args.value in
+    subst (λ k. g.A.Outcome.tells c.addr_goes_on.result k)
+    (ap (λ x. addr_goes_on x c.address_strobe.result bursts shows) (c.has.ensures ∙ is.bbsy s)
+    ∙ ap (λ x. addr_goes_on (drive h (Slot s) Bbsy) x bursts shows) (c.address_strobe.ensures version p h is))
+    (c.addr_goes_on.ensures bursts shows (c.bursting-bursting.ensures version p h is r found has) (c.showing-showing.ensures s version p h r is found same formed))

@@ -1,0 +1,35 @@
+use Rattle.std.proofs.Common.{◌∙◌, refl, ap}
+use Rattle.vme_model.specs.declared.pins.Pins.{Pins}
+use Rattle.vme_wiring.proofs.Fresh.{high_shared, none_addresses}
+use Rattle.vme_wiring.proofs.FieldReads.{arbiter_of}
+use Rattle.vme_bus.specs.Layouts.{grant_head, acknowledge_head}
+use Rattle.vme_bus.proofs.PowerUp.{none_held, none_served, no_cycles}
+use Rattle.vme_bus.proofs.states.BusState.new.Goals as goal
+
+pub returns : goal.returns
+returns c =
+    let p = c.args.plan.now in
+    record {
+      accepted = c.accepted.ensures;
+      legal = tt;
+      rules = refl;
+      layout = c.new.ensures;
+      arbiter = c.new-2.ensures ∙ arbiter_of c.from.result p.arbiter c.arbiter-2.result c.args.version (c.from.ensures ∙ c.arbiter.ensures) c.arbiter-2.ensures;
+      br = none_held;
+      bbsy = none_held;
+      addr = none_held;
+      address_strobe = none_held;
+      data_strobe = none_held;
+      irq = none_held;
+      dtack = none_held;
+      grants = λ s near. none_held s;
+      grant_heads = λ n near. none_held (grant_head n);
+      acknowledges = λ s near. none_held s;
+      acknowledges_head = none_held acknowledge_head;
+      served = none_served p;
+      strobed = none_held;
+      cycles_room = refl;
+      cycles = no_cycles p;
+      shown = ap (λ (x : Pins). x.shown) (high_shared p);
+      addressing = none_addresses p;
+    }

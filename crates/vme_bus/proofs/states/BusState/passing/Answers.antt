@@ -1,0 +1,17 @@
+use Rattle.std.proofs.Common.{◌∙◌, ap, subst}
+use Rattle.vme_model.specs.declared.signals.Driver.TheVariants.{Slot}
+use Rattle.vme_model.specs.History.{shown}
+use Rattle.vme_model.specs.Readings.{readings}
+use Rattle.vme_model.specs.Rules.{passes}
+use Rattle.vme_bus.specs.Asks.{asks_at}
+use Rattle.vme_bus.proofs.Guards.{passed_by}
+use Rattle.vme_bus.proofs.states.BusState.passing.Goals as goal
+
+pub returns : goal.returns
+returns g c version p h r is found same =
+    let reads = readings p h (Slot c.args.slot) in
+    subst (λ k. g.A.Outcome.tells c.passes.result k)
+    (ap (λ b. passes (λ level. b) c.args.self.now.shown) (c.asks.ensures version p h r is found same)
+    ∙ ap (λ v. passes (λ level. asks_at reads (shown p h)) v) is.shown
+    ∙ passed_by reads (shown p h))
+    c.passes.ensures

@@ -1,0 +1,8 @@
+-- words: which slots a set holds
+pub mod Sets
+-- words: what a plan says of each slot and line
+pub mod Layouts
+-- words: which numbers a history leads to; `BusState::new` and `note` say all that a user needs of it
+pub mod States
+-- words: whether a board asks at the level that is shown
+pub mod Asks

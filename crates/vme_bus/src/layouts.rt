@@ -1,0 +1,199 @@
+//! What a plan says of each slot and line, as sets and small numbers.
+ghost use Rattle.std.specs.Prelude.{◌≡◌, ◌<◌, ℕ, Some, option_map, length};
+ghost use Rattle.std.specs.List.{slice_get};
+ghost use Rattle.std.specs.Option.{option_copied};
+ghost use Rattle.vme_model.specs.declared.sets.ChainId.TheVariants as chain;
+ghost use Rattle.vme_model.specs.Plan.{board, upstream, last_active, grant_chain};
+ghost use Rattle.vme_wiring.specs.Counts.{request_level};
+
+use crate::sets::SlotSet;
+use vme_model::{ChainId, Row};
+use vme_slots::Plan;
+
+/// Where the heads of the grant chains stand in the set of their low segments, by level.
+const GRANT_HEADS: u8 = 24;
+
+/// Where the head of the acknowledge chain stands in the set of its low segments.
+pub const ACKNOWLEDGE_HEAD: u8 = 24;
+
+/// A line that boards of one level pull.
+#[derive(Clone, Copy)]
+pub enum Line {
+    /// BRn*, by the level 0 to 3.
+    Request(u8),
+    /// IRQn*, by the level 1 to 7.
+    Interrupt(u8),
+}
+
+/// A board in its slot, and where its inputs stand among the low segments of its chains.
+#[derive(Clone, Copy)]
+pub struct Seat {
+    pub row: Row,
+    /// Of its grant chain; 0 where it has no requester.
+    pub grant_source: u8,
+    /// Of the acknowledge chain.
+    pub acknowledge_source: u8,
+}
+
+/// What a plan says of each slot and line.
+#[derive(Clone, Copy)]
+pub struct Layout {
+    pub seats: [Option<Seat>; 22],
+    /// The slots that can pull BR0* to BR3*.
+    pub requests: [SlotSet; 4],
+    /// The slots that can pull IRQ1* to IRQ7*, from place 1 on.
+    pub interrupts: [SlotSet; 8],
+    /// Where the last segments of the grant chains stand.
+    pub grant_ends: [u8; 4],
+    /// Where the last segment of the acknowledge chain stands.
+    pub acknowledge_end: u8,
+}
+
+impl Line {
+    ghost use Rattle.vme_bus.specs.Layouts.{is_on};
+
+    /// Whether the board can pull it.
+    fn is_of(self, row: &Row) -> bool
+        ensures { result ≡ is_on self row.now }
+    {
+        match self {
+            Line::Request(level) => row.requests_on(level),
+            Line::Interrupt(level) => {
+                matches!(row.interrupter, Some(interrupter) if interrupter.level == level)
+            }
+        }
+    }
+}
+
+ghost use Rattle.vme_bus.specs.Layouts.{seat, seat_of, slot_is_on, grant_source, grant_head, acknowledge_head, place_of, HoldsLine};
+
+/// Where the head of a grant chain stands, by its level.
+#[inline(always)]
+pub fn grant_head(level: u8) -> u8
+    requires { level < 4 }
+    ensures { result ≡ grant_head level }
+{
+    GRANT_HEADS + level
+}
+
+/// Where a segment stands: the controller's at the head, or that of the slot that drives it.
+fn place_of(head: u8, slot: Option<u8>) -> u8
+    ensures { result ≡ place_of head slot }
+{
+    slot.unwrap_or(head)
+}
+
+/// Where the input of a board's grant chain stands.
+fn grant_source(plan: &Plan, row: &Row) -> u8
+    requires { request_level row.now < 4 }
+    ensures { result ≡ grant_source plan.now row.now }
+{
+    match row.requester {
+        Some(requester) => place_of(
+            grant_head(requester.level),
+            plan.upstream(ChainId::of_grant(requester.level), row.slot),
+        ),
+        None => 0,
+    }
+}
+
+/// The board of a slot, with its inputs.
+#[tactic(auto, using(vme_wiring::proofs::AllowedBoards::stands))]
+fn seat_of(plan: &Plan, slot: u8) -> Option<Seat>
+    ensures { result ≡ option_map (seat_of plan.now) (board plan.now slot) }
+{
+    plan.accepted();
+    match plan.row(slot) {
+        Some(row) => Some(Seat {
+            row: *row,
+            grant_source: grant_source(plan, row),
+            acknowledge_source: place_of(ACKNOWLEDGE_HEAD, plan.upstream(ChainId::Iack, row.slot)),
+        }),
+        None => None,
+    }
+}
+
+/// The boards of a plan, with their inputs.
+fn seats_of(plan: &Plan) -> [Option<Seat>; 22]
+    ensures room { length result ≡ 22 }
+    ensures seats { (s : ℕ) → s < 22
+        → slice_get result s ≡ Some (option_map (seat_of plan.now) (board plan.now s)) }
+{
+    let mut seats = [None; 22];
+    for slot in 0..22_u8 {
+        seats[usize::from(slot)] = seat_of(plan, slot);
+    }
+    seats
+}
+
+/// Whether the slot's board can pull the line.
+fn is_on(plan: &Plan, line: Line, slot: u8) -> bool
+    ensures { result ≡ slot_is_on plan.now line slot }
+{
+    match plan.row(slot) {
+        Some(row) => line.is_of(row),
+        None => false,
+    }
+}
+
+/// The slots whose boards can pull the line.
+fn slots_on(plan: &Plan, line: Line) -> SlotSet
+    ensures { HoldsLine plan.now line result }
+{
+    plan.accepted();
+    let mut slots = SlotSet::NONE;
+    for slot in 0..22_u8 {
+        if is_on(plan, line, slot) {
+            slots = slots.with(slot);
+        }
+    }
+    slots
+}
+
+/// Where the last segment of a grant chain stands.
+fn grant_end(plan: &Plan, level: u8) -> u8
+    requires { level < 4 }
+    ensures { result ≡ place_of (grant_head level) (last_active plan.now (grant_chain level)) }
+{
+    place_of(
+        grant_head(level),
+        plan.last_active(ChainId::of_grant(level)),
+    )
+}
+
+impl Layout {
+    ghost use Rattle.vme_bus.specs.Layouts.{IsLayoutOf};
+
+    /// What the plan says.
+    pub fn new(plan: &Plan) -> Layout
+        ensures { IsLayoutOf plan.now result }
+    {
+        plan.accepted();
+        Layout {
+            seats: seats_of(plan),
+            requests: [
+                slots_on(plan, Line::Request(0)),
+                slots_on(plan, Line::Request(1)),
+                slots_on(plan, Line::Request(2)),
+                slots_on(plan, Line::Request(3)),
+            ],
+            interrupts: [
+                slots_on(plan, Line::Interrupt(0)),
+                slots_on(plan, Line::Interrupt(1)),
+                slots_on(plan, Line::Interrupt(2)),
+                slots_on(plan, Line::Interrupt(3)),
+                slots_on(plan, Line::Interrupt(4)),
+                slots_on(plan, Line::Interrupt(5)),
+                slots_on(plan, Line::Interrupt(6)),
+                slots_on(plan, Line::Interrupt(7)),
+            ],
+            grant_ends: [
+                grant_end(plan, 0),
+                grant_end(plan, 1),
+                grant_end(plan, 2),
+                grant_end(plan, 3),
+            ],
+            acknowledge_end: place_of(ACKNOWLEDGE_HEAD, plan.last_active(ChainId::Iack)),
+        }
+    }
+}

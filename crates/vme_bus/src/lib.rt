@@ -1,0 +1,11 @@
+//! The state of a bus without its history, as a plain record of numbers.
+#![tactic(auto)]
+
+mod layouts;
+mod rules;
+mod sets;
+mod sights;
+mod states;
+mod verdicts;
+
+pub use states::BusState;

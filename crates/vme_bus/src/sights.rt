@@ -1,0 +1,139 @@
+//! What a driver sees of a bus.
+ghost use Rattle.std.specs.Prelude.{◌≡◌, ◌<◌};
+ghost use Rattle.std.specs.Option.{option_copied};
+ghost use Rattle.vme_model.specs.declared.signals.Driver.TheVariants.{Controller};
+ghost use Rattle.vme_model.specs.declared.signals.Wire.TheVariants as wire;
+ghost use Rattle.vme_model.specs.History.{drive, line, request_line, interrupt_line};
+ghost use Rattle.vme_model.specs.Sets.{bus_levels, irq_levels};
+ghost use Rattle.vme_model.specs.Views.{pins};
+ghost use Rattle.vme_bus.specs.Layouts.{seat};
+
+use crate::layouts::Seat;
+use crate::states::BusState;
+use vme_model::{BusLevels, Levels, Pins, Wire};
+
+impl BusState {
+    ghost use Rattle.vme_bus.specs.States.{OfHistory};
+
+    /// The board of a slot, with the places of its inputs.
+    #[inline(always)]
+    pub(crate) fn seat(&self, slot: u8) -> Option<&Seat>
+        ensures { option_copied result ≡ seat self.now.layout.seats slot }
+    {
+        match self.layout.seats.get(usize::from(slot)) {
+            Some(Some(seat)) => Some(seat),
+            _ => None,
+        }
+    }
+
+    /// Whether BBSY* is low.
+    #[inline(always)]
+    pub(crate) fn bbsy(&self) -> bool
+        ensures { OfHistory self.now (λ _ p h. result ≡ line p h wire.Bbsy) }
+    {
+        self.bbsy.is_some()
+    }
+
+    /// Whether AS* is low.
+    #[inline(always)]
+    pub(crate) fn address_strobe(&self) -> bool
+        ensures { OfHistory self.now (λ _ p h. result ≡ line p h wire.AddressStrobe) }
+    {
+        self.address_strobe.is_some()
+    }
+
+    /// Whether DS0* is low.
+    #[inline(always)]
+    pub(crate) fn data_strobe(&self) -> bool
+        ensures { OfHistory self.now (λ _ p h. result ≡ line p h wire.DataStrobe) }
+    {
+        self.data_strobe.is_some()
+    }
+
+    /// Whether DTACK* is low.
+    #[inline(always)]
+    pub(crate) fn dtack(&self) -> bool
+        ensures { OfHistory self.now (λ _ p h. result ≡ line p h wire.Dtack) }
+    {
+        self.dtack.is_some()
+    }
+
+    /// Whether BERR* is low.
+    #[inline(always)]
+    pub(crate) fn berr(&self) -> bool
+        ensures { OfHistory self.now (λ _ _ h. result ≡ drive h Controller wire.Berr) }
+    {
+        self.arbiter.is_low(Wire::Berr)
+    }
+
+    /// Whether the bus request line of a level is low.
+    #[inline(always)]
+    pub(crate) fn request(&self, level: u8) -> bool
+        requires { level < 4 }
+        ensures { OfHistory self.now (λ _ p h. result ≡ request_line p h level) }
+    {
+        self.br
+            .and(self.layout.requests[usize::from(level)])
+            .is_some()
+    }
+
+    /// Whether the interrupt request line of a level is low.
+    #[inline(always)]
+    fn interrupt(&self, level: u8) -> bool
+        requires { level < 8 }
+        ensures { OfHistory self.now (λ _ p h. result ≡ interrupt_line p h level) }
+    {
+        self.irq
+            .and(self.layout.interrupts[usize::from(level)])
+            .is_some()
+    }
+
+    /// The bus request lines that are low.
+    #[inline(always)]
+    pub(crate) fn requests(&self) -> BusLevels
+        ensures { OfHistory self.now (λ _ p h. result ≡ bus_levels (request_line p h)) }
+    {
+        BusLevels::of_lines([
+            self.request(0),
+            self.request(1),
+            self.request(2),
+            self.request(3),
+        ])
+    }
+
+    /// The interrupt request lines that are low.
+    #[inline(always)]
+    pub(crate) fn interrupts(&self) -> Levels
+        ensures { OfHistory self.now (λ _ p h. result ≡ irq_levels (interrupt_line p h)) }
+    {
+        Levels::of_lines([
+            self.interrupt(1),
+            self.interrupt(2),
+            self.interrupt(3),
+            self.interrupt(4),
+            self.interrupt(5),
+            self.interrupt(6),
+            self.interrupt(7),
+        ])
+    }
+
+    /// What the controller reads on its pins: the lines that all boards share.
+    #[inline(always)]
+    pub(crate) fn shared(&self) -> Pins
+        ensures { OfHistory self.now (λ _ p h. result ≡ pins p h Controller) }
+    {
+        Pins {
+            requests: self.requests(),
+            bbsy: self.bbsy(),
+            bclr: self.arbiter.is_low(Wire::Bclr),
+            address_strobe: self.address_strobe(),
+            data_strobe: self.data_strobe(),
+            dtack: self.dtack(),
+            berr: self.berr(),
+            irq: self.interrupts(),
+            shown: self.shown,
+            grant_in: false,
+            iack_in: false,
+        }
+    }
+}
