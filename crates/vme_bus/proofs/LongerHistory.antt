@@ -1,6 +1,6 @@
 -- The state after an edge is that of the longer history: `BusState::note`.
-use Rattle.std.proofs.Common.{◌≡◌, ◌≢◌, ◌∙◌, refl, sym, ap, subst, ℕ, zero, suc, Bool, true, false, List, ◌∷◌, ◌<◌, ◌≤◌, length, get_or, arith}
-use Rattle.std.specs.Prelude.{◌==◌, ◌&&◌, ◌||◌, ◌+◌, not, if◌then◌else◌, min, nat_lt, Option, Some, None, Ok, set}
+use Rattle.std.proofs.Common.{◌≡◌, ◌≢◌, ◌∙◌, refl, sym, ap, subst, ℕ, Bool, true, false, List, ◌∷◌, ◌<◌, ◌≤◌, length, get_or, arith}
+use Rattle.std.specs.Prelude.{◌==◌, ◌&&◌, ◌||◌, ◌+◌, not, if◌then◌else◌, min, Option, Some, None, Ok, set}
 use Rattle.std.specs.Option.{option_map_or}
 use Rattle.std.proofs.Math.Nat.{zero-min}
 use Rattle.std.proofs.lemmas.Bool.Decides.{nat_tests}
@@ -22,7 +22,7 @@ use Rattle.vme_model.specs.Accepted.{IsAccepted}
 use Rattle.vme_model.specs.History.{drive, shown, cycles, has_strobed, served_since_request}
 use Rattle.vme_model.specs.Readings.{is_served}
 use Rattle.vme_model.specs.Verdict.{verdict_but_full}
-use Rattle.vme_model.proofs.Bools.{same_number, not_true}
+use Rattle.vme_model.proofs.Bools.{same_number}
 use Rattle.vme_model.proofs.AllowedEdges.{all_passed}
 use Rattle.vme_arbiter.specs.declared.policies.AnyPolicy.{AnyPolicy}
 use Rattle.vme_arbiter.specs.Local.{ControllerState, controller_of}
@@ -33,7 +33,7 @@ use Rattle.vme_interrupter.proofs.Seen.{served_seen}
 use Rattle.vme_wiring.specs.Counts.{addressing_after}
 use Rattle.vme_wiring.specs.declared.boards.Board.{Board}
 use Rattle.vme_wiring.proofs.Others.{same_wire, drive_same, cycles_same, strobed_same, parts_same}
-use Rattle.vme_wiring.proofs.AllowedBoards.{Stands, IsDriven, stands, driven, at, at_head, own_after}
+use Rattle.vme_wiring.proofs.AllowedBoards.{stands, driven, at, at_head}
 use Rattle.vme_wiring.proofs.LongerHistory.{controller_kept, addressing_by, addressing_kept}
 use Rattle.vme_wiring.proofs.AddressNotes.{IsShownAt, shown_at}
 use Rattle.vme_bus.specs.declared.sets.SlotSet.{SlotSet}
@@ -41,7 +41,7 @@ use Rattle.vme_bus.specs.declared.states.BusState.{BusState}
 use Rattle.vme_bus.specs.Sets.{has}
 use Rattle.vme_bus.specs.Layouts.{IsLayoutOf, grant_head, acknowledge_head}
 use Rattle.vme_bus.specs.Moves.{MovesPlace, FollowsWire, FollowsGrants, turned_by, grant_turned_by, served_by, strobed_by, cycles_by, shown_by, is_serving, release_of}
-use Rattle.vme_bus.specs.States.{HoldsWire, HoldsOutputs, IsStateOf, counted}
+use Rattle.vme_bus.specs.States.{HoldsWire, IsStateOf, counted}
 use Rattle.vme_bus.proofs.Places.{moved_to, unmoved}
 
 self : (n : ℕ) → (n == n) ≡ true
@@ -336,8 +336,8 @@ controller_noted version p h w fall v b arbiter grants acknowledges is allowed p
       rules = is.rules;
       layout = is.layout;
       arbiter =
-      ap (λ (a : AnyPolicy). (a, arbiter.1)) (policy ∙ ap (λ a. a.0) is.arbiter)
-      ∙ ap (λ (c : ControllerState). (record { kind = p.arbiter }, c)) (state (ap (λ a. a.1) is.arbiter));
+          ap (λ (a : AnyPolicy). (a, arbiter.1)) (policy ∙ ap (λ a. a.0) is.arbiter)
+          ∙ ap (λ (c : ControllerState). (record { kind = p.arbiter }, c)) (state (ap (λ a. a.1) is.arbiter));
       br = wire_kept h Br w fall v b.br is.br;
       bbsy = wire_kept h Bbsy w fall v b.bbsy is.bbsy;
       addr = wire_kept h Addr w fall v b.addr is.addr;

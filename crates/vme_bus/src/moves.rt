@@ -139,12 +139,7 @@ impl BusState {
     {
         self.arbiter.note(edge);
         self.grants = grants_after(self.grants, edge.wire);
-        self.acknowledges = low_after(
-            self.acknowledges,
-            Wire::Iack,
-            ACKNOWLEDGE_HEAD,
-            edge.wire,
-        );
+        self.acknowledges = low_after(self.acknowledges, Wire::Iack, ACKNOWLEDGE_HEAD, edge.wire);
     }
 
     /// Takes in an edge of the slot's board that the rules allow after a history that the state is of.

@@ -1,5 +1,4 @@
 use Rattle.std.proofs.Common.{arith}
-use Rattle.std.proofs.lemmas.Bool.Decides.{nat_tests}
 use Rattle.vme_wiring.proofs.AllowedBoards.{stands}
 use Rattle.vme_wiring.proofs.LongerHistory.{standing}
 use Rattle.vme_bus.proofs.states.BusState.note.Goals as goal

@@ -1,5 +1,5 @@
 use Rattle.std.proofs.Common.{refl}
-use Rattle.vme_bus.proofs.LongerHistory.{noted_by_board, IsNotedByBoard}
+use Rattle.vme_bus.proofs.LongerHistory.{noted_by_board}
 use Rattle.vme_wiring.proofs.LongerHistory.{standing}
 use Rattle.vme_bus.proofs.states.BusState.note_board.Goals as goal
 
