@@ -247,8 +247,8 @@ fn run_search<'a, W: Write>(
 {
     let text = read_scenario(rt, scenario)?;
     let alloc = rt.alloc();
-    let mut teller = Teller::new(rt, progress);
-    let found = drive_found(alloc, &text, edges, first, last, goal, out, version, &mut teller);
+    let teller = &mut Teller::new(rt, progress);
+    let found = drive_found(alloc, &text, edges, first, last, goal, out, version, teller);
     told_seed(rt, scenario, found)
 }
 
@@ -328,7 +328,9 @@ pub fn run<'a, R: Threads + Wait + Sync, W: Write>(
             goal,
             version,
             progress,
-        } => run_search(rt, scenario, edges, first, last, goal, version, progress, out),
+        } => run_search(
+            rt, scenario, edges, first, last, goal, version, progress, out,
+        ),
         Job::Run {
             scenario,
             edges,

@@ -341,11 +341,7 @@ fn untold(progress: bool, job: Job<'_>) -> Result<Job<'_>, Unfit<'_>>
     ensures untold { progress ≡ false → result ≡ Ok job.entry }
     ensures told { progress ≡ true → result ≡ Err Unfit.Idle }
 {
-    if progress {
-        Err(Unfit::Idle)
-    } else {
-        Ok(job)
-    }
+    if progress { Err(Unfit::Idle) } else { Ok(job) }
 }
 
 /// A drive of the scenario, with its other operands: drawn where there are seeds, and else in turn.
