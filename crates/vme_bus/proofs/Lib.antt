@@ -16,3 +16,7 @@ pub mod Guards
 pub mod Outputs
 -- what a board's edge is answered: `BusState::ask_board`
 pub mod Asked
+-- one place of a set moves: `BusState::note_board`, `note_controller`
+pub mod Places
+-- the state after an edge is that of the longer history: `BusState::note`
+pub mod LongerHistory

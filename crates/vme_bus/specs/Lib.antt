@@ -6,3 +6,5 @@ pub mod Layouts
 pub mod States
 -- words: whether a board asks at the level that is shown
 pub mod Asks
+-- words: what an edge makes of the numbers of a state
+pub mod Moves

@@ -2,6 +2,7 @@
 #![tactic(auto)]
 
 mod layouts;
+mod moves;
 mod rules;
 mod sets;
 mod sights;

@@ -1,19 +1,22 @@
 //! What a driver sees of a bus.
 ghost use Rattle.std.specs.Prelude.{◌≡◌, ◌<◌};
 ghost use Rattle.std.specs.Option.{option_copied};
-ghost use Rattle.vme_model.specs.declared.signals.Driver.TheVariants.{Controller};
+ghost use Rattle.vme_model.specs.declared.signals.Driver.TheVariants.{Controller, Slot};
 ghost use Rattle.vme_model.specs.declared.signals.Wire.TheVariants as wire;
 ghost use Rattle.vme_model.specs.History.{drive, line, request_line, interrupt_line};
 ghost use Rattle.vme_model.specs.Sets.{bus_levels, irq_levels};
+ghost use Rattle.vme_model.specs.Plan.{board_of};
 ghost use Rattle.vme_model.specs.Views.{pins};
+ghost use Rattle.vme_model.specs.Deliveries.{delivery};
 ghost use Rattle.vme_bus.specs.Layouts.{seat};
 
 use crate::layouts::Seat;
 use crate::states::BusState;
-use vme_model::{BusLevels, Levels, Pins, Wire};
+use vme_model::{BusLevels, Delivery, Driver, Edge, Levels, Pins, Row, Wire};
+use vme_wiring::delivered_by;
 
 impl BusState {
-    ghost use Rattle.vme_bus.specs.States.{OfHistory};
+    ghost use Rattle.vme_bus.specs.States.{OfHistory, OfSeat};
 
     /// The board of a slot, with the places of its inputs.
     #[inline(always)]
@@ -135,5 +138,55 @@ impl BusState {
             grant_in: false,
             iack_in: false,
         }
+    }
+
+    /// What a board reads on its pins.
+    #[inline(always)]
+    fn pins_at(&self, slot: u8, seat: &Seat) -> Pins
+        ensures { OfSeat self.now slot seat.now (λ _ p h _. result ≡ pins p h (Slot slot)) }
+    {
+        let mut pins = self.shared();
+        pins.grant_in = self.grant_in(slot, seat);
+        pins.iack_in = self.iack_in(slot, seat);
+        pins
+    }
+
+    /// What a driver reads on its pins.
+    #[inline(always)]
+    pub fn pins(&self, driver: Driver) -> Pins
+        ensures { OfHistory self.now (λ _ p h. result ≡ pins p h driver) }
+    {
+        match driver {
+            Driver::Controller => self.shared(),
+            Driver::Slot(slot) => match self.seat(slot) {
+                Some(seat) => self.pins_at(slot, seat),
+                None => self.shared(),
+            },
+        }
+    }
+
+    /// The row of the driver's board.
+    #[inline(always)]
+    fn row(&self, driver: Driver) -> Option<&Row>
+        ensures { OfHistory self.now (λ _ p _. option_copied result ≡ board_of p driver) }
+    {
+        match driver {
+            Driver::Controller => None,
+            Driver::Slot(slot) => match self.seat(slot) {
+                Some(seat) => Some(&seat.row),
+                None => None,
+            },
+        }
+    }
+
+    /// What an edge delivers.
+    #[inline(always)]
+    pub fn delivery(&self, edge: Edge) -> Option<Delivery>
+        ensures { OfHistory self.now (λ _ p h. result ≡ delivery p h edge) }
+    {
+        if !(edge.fall && edge.wire.is_same(Wire::Dtack)) {
+            return None;
+        }
+        delivered_by(self.shown, self.addressing, self.row(edge.driver))
     }
 }

@@ -12,4 +12,5 @@ mod verdicts;
 mod waits;
 mod wirings;
 
+pub use sights::delivered_by;
 pub use wirings::Wiring;

@@ -12,7 +12,7 @@ use crate::wirings::Wiring;
 use vme_model::{Cycle, Delivery, Driver, Edge, Pins, Row, Wire};
 
 /// What an answer delivers, by what is shown, the slot that shows it, and the board that answers.
-fn delivered_by(
+pub fn delivered_by(
     shown: Option<Cycle>,
     addressing: Option<u8>,
     board: Option<&Row>,

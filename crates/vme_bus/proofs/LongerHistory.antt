@@ -1,0 +1,367 @@
+-- The state after an edge is that of the longer history: `BusState::note`.
+use Rattle.std.proofs.Common.{◌≡◌, ◌≢◌, ◌∙◌, refl, sym, ap, subst, ℕ, Bool, true, false, List, ◌∷◌, ◌<◌, ◌≤◌, length, get_or, arith}
+use Rattle.std.specs.Prelude.{◌==◌, ◌&&◌, ◌||◌, ◌+◌, not, if◌then◌else◌, min, Option, Some, None, Ok, set}
+use Rattle.std.specs.Option.{option_map_or}
+use Rattle.std.proofs.Math.Nat.{zero-min}
+use Rattle.std.proofs.lemmas.Bool.Decides.{nat_tests}
+use Rattle.std.proofs.lemmas.List.{length-set, get_or-set_same, get_or-set_other}
+use Rattle.vme_model.specs.declared.boards.Row.{Row}
+use Rattle.vme_model.specs.declared.boards.RequesterRow.{RequesterRow}
+use Rattle.vme_model.specs.declared.boards.Release.{Release}
+use Rattle.vme_model.specs.declared.boards.Release.TheVariants.{Request}
+use Rattle.vme_model.specs.declared.signals.Version.{Version}
+use Rattle.vme_model.specs.declared.signals.Driver.{Driver}
+use Rattle.vme_model.specs.declared.signals.Driver.TheVariants.{Controller, Slot}
+use Rattle.vme_model.specs.declared.signals.Wire.{Wire}
+use Rattle.vme_model.specs.declared.signals.Wire.TheVariants.{Bg, Bclr, Iack, Berr, Br, BgOut, Bbsy, Addr, AddressStrobe, DataStrobe, Irq, IackOut, Dtack}
+use Rattle.vme_model.specs.declared.signals.Cycle.{Cycle}
+use Rattle.vme_model.specs.declared.signals.Edge.{Edge}
+use Rattle.vme_model.specs.Signals.{is_same_driver, is_same_wire, grant_level, has_wire}
+use Rattle.vme_model.specs.Plan.{Plan, board}
+use Rattle.vme_model.specs.Accepted.{IsAccepted}
+use Rattle.vme_model.specs.History.{drive, shown, cycles, has_strobed, served_since_request}
+use Rattle.vme_model.specs.Readings.{is_served}
+use Rattle.vme_model.specs.Verdict.{verdict_but_full}
+use Rattle.vme_model.proofs.Bools.{same_number}
+use Rattle.vme_model.proofs.AllowedEdges.{all_passed}
+use Rattle.vme_arbiter.specs.declared.policies.AnyPolicy.{AnyPolicy}
+use Rattle.vme_arbiter.specs.Local.{ControllerState, controller_of}
+use Rattle.vme_master.specs.Local.{most_cycles}
+use Rattle.vme_master.proofs.Counts.{one_more}
+use Rattle.vme_interrupter.specs.Local.{seen, served, serves_board}
+use Rattle.vme_interrupter.proofs.Seen.{served_seen}
+use Rattle.vme_wiring.specs.Counts.{addressing_after}
+use Rattle.vme_wiring.specs.declared.boards.Board.{Board}
+use Rattle.vme_wiring.proofs.Others.{same_wire, drive_same, cycles_same, strobed_same, parts_same}
+use Rattle.vme_wiring.proofs.AllowedBoards.{stands, driven, at, at_head}
+use Rattle.vme_wiring.proofs.LongerHistory.{controller_kept, addressing_by, addressing_kept}
+use Rattle.vme_wiring.proofs.AddressNotes.{IsShownAt, shown_at}
+use Rattle.vme_bus.specs.declared.sets.SlotSet.{SlotSet}
+use Rattle.vme_bus.specs.declared.states.BusState.{BusState}
+use Rattle.vme_bus.specs.Sets.{has}
+use Rattle.vme_bus.specs.Layouts.{IsLayoutOf, grant_head, acknowledge_head}
+use Rattle.vme_bus.specs.Moves.{MovesPlace, FollowsWire, FollowsGrants, turned_by, grant_turned_by, served_by, strobed_by, cycles_by, shown_by, is_serving, release_of}
+use Rattle.vme_bus.specs.States.{HoldsWire, IsStateOf, counted}
+use Rattle.vme_bus.proofs.Places.{moved_to, unmoved}
+
+self : (n : ℕ) → (n == n) ≡ true
+self n = grind (arith, nat_tests)
+
+twice : (b fall : Bool) → b ≡ not fall → not b ≡ fall
+twice true false e = refl
+twice false true e = refl
+twice true true e = absurd (cc)
+twice false false e = absurd (cc)
+
+-- the wires of the driver that moves
+abbrev by : Driver → Wire → Bool → Option Cycle → Edge
+by d w fall v = record { driver = d; wire = w; fall = fall; value = v }
+
+own_moved : (h : List Edge) (d : Driver) (own w : Wire) (fall : Bool) (v : Option Cycle) → is_same_driver d d ≡ true → drive h d w ≡ not fall → turned_by own w (drive h d own) ≡ drive (by d w fall v ∷ h) d own
+own_moved h d own w fall v same before = by_wire (is_same_wire w own) refl
+  where
+    by_wire : (b : Bool) → is_same_wire w own ≡ b → (if b then not (drive h d own) else drive h d own) ≡ (if b && is_same_driver d d then fall else drive h d own)
+    by_wire true is =
+        twice (drive h d own) fall (ap (drive h d) (sym (same_wire w own is)) ∙ before)
+        ∙ ap (λ b. if b then fall else drive h d own) (sym same)
+    by_wire false is = refl
+
+wire_at : (h : List Edge) (s t : ℕ) (own w : Wire) (fall : Bool) (v : Option Cycle) (old new : SlotSet) → drive h (Slot s) w ≡ not fall → FollowsWire own s w old new → has old t ≡ drive h (Slot t) own → has new t ≡ drive (at s w fall v ∷ h) (Slot t) own
+wire_at h s t own w fall v old new before moves held =
+    moved_to (turned_by own w) s t old new (λ x. drive h (Slot x) own) (λ x. drive (at s w fall v ∷ h) (Slot x) own) moves held
+    (own_moved h (Slot s) own w fall v (self s) before)
+    (drive_same h (at s w fall v) (Slot t) own)
+
+wire_moved : (h : List Edge) (s : ℕ) (own w : Wire) (fall : Bool) (v : Option Cycle) (old new : SlotSet) → drive h (Slot s) w ≡ not fall → FollowsWire own s w old new → HoldsWire h own old → HoldsWire (at s w fall v ∷ h) own new
+wire_moved h s own w fall v old new before moves held t = wire_at h s t own w fall v old new before moves (held t)
+
+-- a head stands behind every slot
+head_kept : (h : List Edge) (s place : ℕ) (own head w : Wire) (fall : Bool) (v : Option Cycle) (old new : SlotSet) → s < 22 → 24 ≤ place → FollowsWire own s w old new → has old place ≡ drive h Controller head → has new place ≡ drive (at s w fall v ∷ h) Controller head
+head_kept h s place own head w fall v old new near far moves held =
+    let other : (s == place) ≡ false = grind (arith, nat_tests) in
+    unmoved (turned_by own w) s place old new moves other ∙ held ∙ sym (drive_same h (at s w fall v) Controller head refl)
+
+-- whether its cycle had its data strobe
+strobed_where : (b strobed : Bool) (w : Wire) (fall : Bool) → b ≡ true →
+    strobed_by w fall strobed ≡ (if fall && (is_same_wire w AddressStrobe && b) then false else (fall && (is_same_wire w DataStrobe && b)) || strobed)
+strobed_where true strobed AddressStrobe true e = refl
+strobed_where true strobed AddressStrobe false e = refl
+strobed_where true strobed DataStrobe true e = refl
+strobed_where true strobed DataStrobe false e = refl
+strobed_where true strobed w true e = refl
+strobed_where true strobed w false e = refl
+strobed_where false strobed w fall e = absurd (cc)
+
+strobed_moved : (h : List Edge) (s : ℕ) (w : Wire) (fall : Bool) (v : Option Cycle) (old new : SlotSet) → MovesPlace (strobed_by w fall) s old new → ((t : ℕ) → has old t ≡ has_strobed h (Slot t)) → (t : ℕ) → has new t ≡ has_strobed (at s w fall v ∷ h) (Slot t)
+strobed_moved h s w fall v old new moves held t =
+    moved_to (strobed_by w fall) s t old new (λ x. has_strobed h (Slot x)) (λ x. has_strobed (at s w fall v ∷ h) (Slot x)) moves (held t)
+    (strobed_where (s == s) (has_strobed h (Slot s)) w fall (self s))
+    (strobed_same h (at s w fall v) (Slot t))
+
+-- whether it was served
+served_where : (b serves served : Bool) (w : Wire) (fall : Bool) → b ≡ true →
+    served_by w fall serves served ≡ (if fall && (is_same_wire w Irq && b) then false else ((fall && (is_same_wire w Dtack && b)) && serves) || served)
+served_where true serves served Irq true e = refl
+served_where true serves served Irq false e = refl
+served_where true serves served Dtack true e = refl
+served_where true serves served Dtack false e = refl
+served_where true serves served w true e = refl
+served_where true serves served w false e = refl
+served_where false serves served w fall e = absurd (cc)
+
+served_here : (p : Plan) (h : List Edge) (s : ℕ) (r : Row) (w : Wire) (fall : Bool) (v : Option Cycle) (serves : Bool) → board p s ≡ Some r → serves ≡ is_serving (board p s) (shown p h) →
+    served_by w fall serves (is_served p h (Slot s)) ≡ is_served p (at s w fall v ∷ h) (Slot s)
+served_here p h s r w fall v serves found is =
+    ap (λ x. served_by w fall x (is_served p h (Slot s))) (is ∙ ap (λ o. is_serving o (shown p h)) found)
+    ∙ ap (served_by w fall (serves_board r.interrupter (shown p h))) (sym (served_seen p h (Slot s) r found))
+    ∙ served_where (s == s) (serves_board r.interrupter (shown p h)) (served (seen p h) (Slot s) r.interrupter) w fall (self s)
+    ∙ served_seen p (at s w fall v ∷ h) (Slot s) r found
+
+served_there : (version : Version) (p : Plan) (h : List Edge) (e : Edge) (t : ℕ) → IsAccepted p → is_same_driver e.driver (Slot t) ≡ false → is_served p (e ∷ h) (Slot t) ≡ is_served p h (Slot t)
+served_there version p h e t ok other = by_board (board p t) refl
+  where
+    none : (k : List Edge) → board p t ≡ None → is_served p k (Slot t) ≡ false
+    none k is = ap (λ o. option_map_or (λ r. option_map_or (λ i. served_since_request p k (Slot t) i.kind) r.interrupter false) o false) is
+
+    by_board : (o : Option Row) → board p t ≡ o → is_served p (e ∷ h) (Slot t) ≡ is_served p h (Slot t)
+    by_board None is = none (e ∷ h) is ∙ sym (none h is)
+    by_board (Some r) is =
+        let slot = (stands p t r ok is).slot in
+        let same = parts_same version p h e r (subst (λ x. is_same_driver e.driver (Slot x) ≡ false) (sym slot) other) in
+        sym (served_seen p (e ∷ h) (Slot t) r is)
+        ∙ subst (λ x. served (seen p (e ∷ h)) (Slot x) r.interrupter ≡ served (seen p h) (Slot x) r.interrupter) slot (ap (λ (b : Board). b.interrupter.is_served) same)
+        ∙ served_seen p h (Slot t) r is
+
+served_moved : (version : Version) (p : Plan) (h : List Edge) (s : ℕ) (r : Row) (w : Wire) (fall : Bool) (v : Option Cycle) (serves : Bool) (old new : SlotSet) → IsAccepted p → board p s ≡ Some r → serves ≡ is_serving (board p s) (shown p h) → MovesPlace (served_by w fall serves) s old new → ((t : ℕ) → has old t ≡ is_served p h (Slot t)) → (t : ℕ) → has new t ≡ is_served p (at s w fall v ∷ h) (Slot t)
+served_moved version p h s r w fall v serves old new ok found is moves held t =
+    moved_to (served_by w fall serves) s t old new (λ x. is_served p h (Slot x)) (λ x. is_served p (at s w fall v ∷ h) (Slot x)) moves (held t)
+    (served_here p h s r w fall v serves found is)
+    (served_there version p h (at s w fall v) t ok)
+
+-- the cycles of its tenure
+counted_by : (p : Plan) (h : List Edge) (s : ℕ) → counted p h s ≡ min (cycles h (Slot s)) (most_cycles (release_of (board p s)))
+counted_by p h s = by_board (board p s)
+  where
+    nothing : (n : ℕ) → 0 ≡ min n 0
+    nothing n = grind arith
+
+    by_requester : (o : Option RequesterRow) → option_map_or (λ q. min (cycles h (Slot s)) (most_cycles q.release)) o 0 ≡ min (cycles h (Slot s)) (most_cycles (option_map_or (λ q. q.release) o Request))
+    by_requester None = nothing (cycles h (Slot s))
+    by_requester (Some q) = refl
+
+    by_board : (o : Option Row) → option_map_or (λ r. option_map_or (λ q. min (cycles h (Slot s)) (most_cycles q.release)) r.requester 0) o 0 ≡ min (cycles h (Slot s)) (most_cycles (release_of o))
+    by_board None = nothing (cycles h (Slot s))
+    by_board (Some r) = by_requester r.requester
+
+no_more : (n most : ℕ) → min n most ≡ min (0 + n) most
+no_more n most = grind arith
+
+cycles_where : (b : Bool) (n : ℕ) (w : Wire) (fall : Bool) (release : Release) → b ≡ true →
+    cycles_by w fall release (min n (most_cycles release)) ≡ min (if fall && (is_same_wire w Bbsy && b) then 0 else (if fall && (is_same_wire w AddressStrobe && b) then 1 else 0) + n) (most_cycles release)
+cycles_where true n Bbsy true release e = sym (zero-min (most_cycles release))
+cycles_where true n AddressStrobe true release e = one_more n (most_cycles release)
+cycles_where true n Bbsy false release e = no_more n (most_cycles release)
+cycles_where true n AddressStrobe false release e = no_more n (most_cycles release)
+cycles_where true n w true release e = no_more n (most_cycles release)
+cycles_where true n w false release e = no_more n (most_cycles release)
+cycles_where false n w fall release e = absurd (cc)
+
+counted_there : (p : Plan) (h : List Edge) (e : Edge) (t : ℕ) → is_same_driver e.driver (Slot t) ≡ false → counted p h t ≡ counted p (e ∷ h) t
+counted_there p h e t other =
+    counted_by p h t
+    ∙ ap (λ n. min n (most_cycles (release_of (board p t)))) (sym (cycles_same h e (Slot t) other))
+    ∙ sym (counted_by p (e ∷ h) t)
+
+cycles_moved : (p : Plan) (h : List Edge) (s t : ℕ) (w : Wire) (fall : Bool) (v : Option Cycle) (release : Release) (old : List ℕ) → s < 22 → length old ≡ 22 → release ≡ release_of (board p s) → ((t : ℕ) → t < 22 → get_or old t 0 ≡ counted p h t) → t < 22 →
+    get_or (set old s (cycles_by w fall release (get_or old s 0))) t 0 ≡ counted p (at s w fall v ∷ h) t
+cycles_moved p h s t w fall v release old near room is held here = by_slot (s == t) refl
+  where
+    all : List Edge
+    all = at s w fall v ∷ h
+
+    own : get_or (set old s (cycles_by w fall release (get_or old s 0))) s 0 ≡ counted p all s
+    own =
+        get_or-set_same old s (cycles_by w fall release (get_or old s 0)) 0 (omega arith)
+        ∙ ap (cycles_by w fall release) (held s near ∙ counted_by p h s)
+        ∙ ap (λ x. cycles_by w fall x (min (cycles h (Slot s)) (most_cycles (release_of (board p s))))) is
+        ∙ cycles_where (s == s) (cycles h (Slot s)) w fall (release_of (board p s)) (self s)
+        ∙ sym (counted_by p all s)
+
+    by_slot : (b : Bool) → (s == t) ≡ b → get_or (set old s (cycles_by w fall release (get_or old s 0))) t 0 ≡ counted p all t
+    by_slot true is_own = subst (λ x. get_or (set old s (cycles_by w fall release (get_or old s 0))) x 0 ≡ counted p all x) (same_number s t is_own) own
+    by_slot false other =
+        let apart : t ≢ s = λ same. absurd (grind (arith, nat_tests)) in
+        get_or-set_other old s t (cycles_by w fall release (get_or old s 0)) 0 apart
+        ∙ held t here
+        ∙ counted_there p h (at s w fall v) t other
+
+-- what is shown
+shown_moved : (p : Plan) (h : List Edge) (s : ℕ) (w : Wire) (fall : Bool) (v : Option Cycle) → has_wire (Slot s) w ≡ true → (w ≡ Addr → shown p (at s w fall v ∷ h) ≡ v) → shown_by w v (shown p h) ≡ shown p (at s w fall v ∷ h)
+shown_moved p h s Addr fall v has on = sym (on refl)
+shown_moved p h s Br fall v has on = refl
+shown_moved p h s BgOut fall v has on = refl
+shown_moved p h s Bbsy fall v has on = refl
+shown_moved p h s AddressStrobe fall v has on = refl
+shown_moved p h s DataStrobe fall v has on = refl
+shown_moved p h s Irq fall v has on = refl
+shown_moved p h s IackOut fall v has on = refl
+shown_moved p h s Dtack fall v has on = refl
+shown_moved p h s w fall v has on = absurd (cc)
+
+shown_kept : (p : Plan) (h : List Edge) (w : Wire) (fall : Bool) (v : Option Cycle) → has_wire Controller w ≡ true → shown p h ≡ shown p (at_head w fall v ∷ h)
+shown_kept p h (Bg n) fall v has = refl
+shown_kept p h Bclr fall v has = refl
+shown_kept p h Iack fall v has = refl
+shown_kept p h Berr fall v has = refl
+shown_kept p h w fall v has = absurd (cc)
+
+-- what an edge of a board leaves
+pub record IsNotedByBoard (p : Plan) (h : List Edge) (s : ℕ) (e : Edge) (old new : BusState) : Type 0 where
+  pub rules : new.version ≡ old.version
+  pub layout : new.layout ≡ old.layout
+  pub arbiter : new.arbiter ≡ old.arbiter
+  pub br : FollowsWire Br s e.wire old.br new.br
+  pub bbsy : FollowsWire Bbsy s e.wire old.bbsy new.bbsy
+  pub addr : FollowsWire Addr s e.wire old.addr new.addr
+  pub address_strobe : FollowsWire AddressStrobe s e.wire old.address_strobe new.address_strobe
+  pub data_strobe : FollowsWire DataStrobe s e.wire old.data_strobe new.data_strobe
+  pub irq : FollowsWire Irq s e.wire old.irq new.irq
+  pub dtack : FollowsWire Dtack s e.wire old.dtack new.dtack
+  pub grants : FollowsWire BgOut s e.wire old.grants new.grants
+  pub acknowledges : FollowsWire IackOut s e.wire old.acknowledges new.acknowledges
+  pub serves : Bool
+  pub is_serving : serves ≡ is_serving (board p s) (shown p h)
+  pub served : MovesPlace (served_by e.wire e.fall serves) s old.served new.served
+  pub strobed : MovesPlace (strobed_by e.wire e.fall) s old.strobed new.strobed
+  pub release : Release
+  pub is_release : release ≡ release_of (board p s)
+  pub cycles : new.cycles ≡ set old.cycles s (cycles_by e.wire e.fall release (get_or old.cycles s 0))
+  pub shown : new.shown ≡ shown_by e.wire e.value old.shown
+  pub addressing : new.addressing ≡ addressing_after old.addressing s e.wire e.fall
+
+board_noted : (version : Version) (p : Plan) (h : List Edge) (s : ℕ) (r : Row) (w : Wire) (fall : Bool) (v : Option Cycle) (old new : BusState) → IsStateOf version p h old → verdict_but_full version p h (at s w fall v) ≡ Ok tt → board p s ≡ Some r → IsNotedByBoard p h s (at s w fall v) old new →
+    IsStateOf version p (at s w fall v ∷ h) new
+board_noted version p h s r w fall v old new is allowed found n =
+    let k = stands p s r is.accepted found in
+    let d = driven version p h s r w fall v found allowed in
+    record {
+      accepted = is.accepted;
+      legal = (allowed, is.legal);
+      rules = n.rules ∙ is.rules;
+      layout = subst (IsLayoutOf p) (sym n.layout) is.layout;
+      arbiter = n.arbiter ∙ is.arbiter ∙ ap (λ (c : ControllerState). (record { kind = p.arbiter }, c)) (controller_kept p.arbiter version h s w fall v d.wire);
+      br = wire_moved h s Br w fall v old.br new.br d.before n.br is.br;
+      bbsy = wire_moved h s Bbsy w fall v old.bbsy new.bbsy d.before n.bbsy is.bbsy;
+      addr = wire_moved h s Addr w fall v old.addr new.addr d.before n.addr is.addr;
+      address_strobe = wire_moved h s AddressStrobe w fall v old.address_strobe new.address_strobe d.before n.address_strobe is.address_strobe;
+      data_strobe = wire_moved h s DataStrobe w fall v old.data_strobe new.data_strobe d.before n.data_strobe is.data_strobe;
+      irq = wire_moved h s Irq w fall v old.irq new.irq d.before n.irq is.irq;
+      dtack = wire_moved h s Dtack w fall v old.dtack new.dtack d.before n.dtack is.dtack;
+      grants = λ t near. wire_at h s t BgOut w fall v old.grants new.grants d.before n.grants (is.grants t near);
+      grant_heads = λ m near. head_kept h s (grant_head m) BgOut (Bg m) w fall v old.grants new.grants k.near (omega arith) n.grants (is.grant_heads m near);
+      acknowledges = λ t near. wire_at h s t IackOut w fall v old.acknowledges new.acknowledges d.before n.acknowledges (is.acknowledges t near);
+      acknowledges_head = head_kept h s acknowledge_head IackOut Iack w fall v old.acknowledges new.acknowledges k.near (omega arith) n.acknowledges is.acknowledges_head;
+      served = served_moved version p h s r w fall v n.serves old.served new.served is.accepted found n.is_serving n.served is.served;
+      strobed = strobed_moved h s w fall v old.strobed new.strobed n.strobed is.strobed;
+      cycles_room = ap length n.cycles ∙ length-set old.cycles s (cycles_by w fall n.release (get_or old.cycles s 0)) ∙ is.cycles_room;
+      cycles = λ t near. ap (λ xs. get_or xs t 0) n.cycles ∙ cycles_moved p h s t w fall v n.release old.cycles k.near is.cycles_room n.is_release is.cycles near;
+      shown = n.shown ∙ ap (shown_by w v) is.shown ∙ shown_moved p h s w fall v d.wire (λ on. (shows on).shown);
+      addressing = n.addressing ∙ ap (λ o. addressing_after o s w fall) is.addressing ∙ addressing_by p h s w fall v d.wire (λ on. (shows on).addressing);
+    }
+  where
+    shows : w ≡ Addr → IsShownAt p h s w fall v
+    shows on = shown_at version p h s r w fall v is.accepted is.legal allowed (stands p s r is.accepted found) (driven version p h s r w fall v found allowed) on
+
+pub noted_by_board : (version : Version) (p : Plan) (h : List Edge) (s : ℕ) (r : Row) (e : Edge) (old new : BusState) → IsStateOf version p h old → verdict_but_full version p h e ≡ Ok tt → e.driver ≡ Slot s → board p s ≡ Some r → IsNotedByBoard p h s e old new →
+    IsStateOf version p (e ∷ h) new
+noted_by_board version p h s r e old new is allowed driver found n =
+    let P : Driver → Type 0 = λ d. verdict_but_full version p h (by d e.wire e.fall e.value) ≡ Ok tt → IsNotedByBoard p h s (by d e.wire e.fall e.value) old new → IsStateOf version p (by d e.wire e.fall e.value ∷ h) new in
+    let all : P (Slot s) = λ a m. board_noted version p h s r e.wire e.fall e.value old new is a found m in
+    subst P (sym driver) all allowed n
+
+-- the controller leaves the boards' wires
+wire_kept : (h : List Edge) (own w : Wire) (fall : Bool) (v : Option Cycle) (set : SlotSet) → HoldsWire h own set → HoldsWire (at_head w fall v ∷ h) own set
+wire_kept h own w fall v set held t = held t ∙ sym (drive_same h (at_head w fall v) (Slot t) own refl)
+
+output_kept : (f : Bool → Bool) (h : List Edge) (place t : ℕ) (own w : Wire) (fall : Bool) (v : Option Cycle) (old new : SlotSet) → 24 ≤ place → t < 22 → MovesPlace f place old new → has old t ≡ drive h (Slot t) own → has new t ≡ drive (at_head w fall v ∷ h) (Slot t) own
+output_kept f h place t own w fall v old new far near moves held =
+    let other : (place == t) ≡ false = grind (arith, nat_tests) in
+    unmoved f place t old new moves other ∙ held ∙ sym (drive_same h (at_head w fall v) (Slot t) own refl)
+
+-- the heads of the grants
+either : (b low : Bool) → (if b then low else low) ≡ low
+either true low = refl
+either false low = refl
+
+head_moved : (h : List Edge) (m : ℕ) (w : Wire) (fall : Bool) (v : Option Cycle) (old new : SlotSet) → has_wire Controller w ≡ true → drive h Controller w ≡ not fall → FollowsGrants w old new → has old (grant_head m) ≡ drive h Controller (Bg m) →
+    has new (grant_head m) ≡ drive (at_head w fall v ∷ h) Controller (Bg m)
+head_moved h m (Bg n) fall v old new exists before moves held = moves (grant_head m) ∙ by_level (n == m) refl
+  where
+    low : Bool
+    low = has old (grant_head m)
+
+    by_level : (b : Bool) → (n == m) ≡ b → (if grant_head n == grant_head m then grant_turned_by (Bg n) low else low) ≡ (if b && true then fall else drive h Controller (Bg m))
+    by_level true is =
+        let here : (grant_head n == grant_head m) ≡ true = grind (arith, nat_tests) in
+        let same : n ≡ m = same_number n m is in
+        ap (λ b. if b then grant_turned_by (Bg n) low else low) here
+        ∙ ap (λ b. if b then not low else low) exists
+        ∙ twice low fall (held ∙ ap (λ x. drive h Controller (Bg x)) (sym same) ∙ before)
+    by_level false is =
+        let there : (grant_head n == grant_head m) ≡ false = grind (arith, nat_tests) in
+        ap (λ b. if b then grant_turned_by (Bg n) low else low) there ∙ held
+head_moved h m Bclr fall v old new exists before moves held = moves (grant_head m) ∙ either (24 == grant_head m) (has old (grant_head m)) ∙ held
+head_moved h m Iack fall v old new exists before moves held = moves (grant_head m) ∙ either (24 == grant_head m) (has old (grant_head m)) ∙ held
+head_moved h m Berr fall v old new exists before moves held = moves (grant_head m) ∙ either (24 == grant_head m) (has old (grant_head m)) ∙ held
+head_moved h m w fall v old new exists before moves held = absurd (cc)
+
+-- and that of the acknowledge
+acknowledge_moved : (h : List Edge) (w : Wire) (fall : Bool) (v : Option Cycle) (old new : SlotSet) → drive h Controller w ≡ not fall → FollowsWire Iack acknowledge_head w old new → has old acknowledge_head ≡ drive h Controller Iack →
+    has new acknowledge_head ≡ drive (at_head w fall v ∷ h) Controller Iack
+acknowledge_moved h w fall v old new before moves held = moves acknowledge_head ∙ ap (turned_by Iack w) held ∙ own_moved h Controller Iack w fall v refl before
+
+-- the state after an edge of the controller
+abbrev pub headed : BusState → AnyPolicy × ControllerState → SlotSet → SlotSet → BusState
+headed b arbiter grants acknowledges = record b { arbiter = arbiter; grants = grants; acknowledges = acknowledges }
+
+controller_noted : (version : Version) (p : Plan) (h : List Edge) (w : Wire) (fall : Bool) (v : Option Cycle) (b : BusState) (arbiter : AnyPolicy × ControllerState) (grants acknowledges : SlotSet) → IsStateOf version p h b → verdict_but_full version p h (at_head w fall v) ≡ Ok tt →
+    arbiter.0 ≡ b.arbiter.0 → (b.arbiter.1 ≡ controller_of p.arbiter version h → arbiter.1 ≡ controller_of p.arbiter version (at_head w fall v ∷ h)) → FollowsGrants w b.grants grants → FollowsWire Iack acknowledge_head w b.acknowledges acknowledges →
+    IsStateOf version p (at_head w fall v ∷ h) (headed b arbiter grants acknowledges)
+controller_noted version p h w fall v b arbiter grants acknowledges is allowed policy state granted acknowledged =
+    let e = at_head w fall v in
+    let passed = all_passed version p h Controller w fall v allowed in
+    record {
+      accepted = is.accepted;
+      legal = (allowed, is.legal);
+      rules = is.rules;
+      layout = is.layout;
+      arbiter =
+          ap (λ (a : AnyPolicy). (a, arbiter.1)) (policy ∙ ap (λ a. a.0) is.arbiter)
+          ∙ ap (λ (c : ControllerState). (record { kind = p.arbiter }, c)) (state (ap (λ a. a.1) is.arbiter));
+      br = wire_kept h Br w fall v b.br is.br;
+      bbsy = wire_kept h Bbsy w fall v b.bbsy is.bbsy;
+      addr = wire_kept h Addr w fall v b.addr is.addr;
+      address_strobe = wire_kept h AddressStrobe w fall v b.address_strobe is.address_strobe;
+      data_strobe = wire_kept h DataStrobe w fall v b.data_strobe is.data_strobe;
+      irq = wire_kept h Irq w fall v b.irq is.irq;
+      dtack = wire_kept h Dtack w fall v b.dtack is.dtack;
+      grants = λ t near. output_kept (grant_turned_by w) h (grant_head (grant_level w)) t BgOut w fall v b.grants grants (omega arith) near granted (is.grants t near);
+      grant_heads = λ m near. head_moved h m w fall v b.grants grants passed.wire passed.before granted (is.grant_heads m near);
+      acknowledges = λ t near. output_kept (turned_by Iack w) h acknowledge_head t IackOut w fall v b.acknowledges acknowledges (omega arith) near acknowledged (is.acknowledges t near);
+      acknowledges_head = acknowledge_moved h w fall v b.acknowledges acknowledges passed.before acknowledged is.acknowledges_head;
+      served = λ t. is.served t ∙ sym (served_there version p h e t is.accepted refl);
+      strobed = λ t. is.strobed t ∙ sym (strobed_same h e (Slot t) refl);
+      cycles_room = is.cycles_room;
+      cycles = λ t near. is.cycles t near ∙ counted_there p h e t refl;
+      shown = is.shown ∙ shown_kept p h w fall v passed.wire;
+      addressing = is.addressing ∙ addressing_kept p h w fall v passed.wire;
+    }
+
+pub noted_by_controller : (version : Version) (p : Plan) (h : List Edge) (e : Edge) (b : BusState) (arbiter : AnyPolicy × ControllerState) (grants acknowledges : SlotSet) → IsStateOf version p h b → verdict_but_full version p h e ≡ Ok tt → e.driver ≡ Controller →
+    arbiter.0 ≡ b.arbiter.0 → (b.arbiter.1 ≡ controller_of p.arbiter version h → arbiter.1 ≡ controller_of p.arbiter version (e ∷ h)) → FollowsGrants e.wire b.grants grants → FollowsWire Iack acknowledge_head e.wire b.acknowledges acknowledges →
+    IsStateOf version p (e ∷ h) (headed b arbiter grants acknowledges)
+noted_by_controller version p h e b arbiter grants acknowledges is allowed driver policy state granted acknowledged =
+    let of = λ (d : Driver). by d e.wire e.fall e.value in
+    let P : Driver → Type 0 = λ d. verdict_but_full version p h (of d) ≡ Ok tt → (b.arbiter.1 ≡ controller_of p.arbiter version h → arbiter.1 ≡ controller_of p.arbiter version (of d ∷ h)) → IsStateOf version p (of d ∷ h) (headed b arbiter grants acknowledges) in
+    let all : P Controller = λ a m. controller_noted version p h e.wire e.fall e.value b arbiter grants acknowledges is a policy m granted acknowledged in
+    subst P (sym driver) all allowed state

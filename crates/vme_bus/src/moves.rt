@@ -1,0 +1,188 @@
+//! What an edge makes of a state.
+ghost use Rattle.std.specs.Prelude.{◌≡◌, ◌∷◌, ◌<◌, Ok};
+ghost use Rattle.vme_model.specs.declared.signals.Driver.TheVariants as driver;
+ghost use Rattle.vme_model.specs.Plan.{board};
+ghost use Rattle.vme_model.specs.History.{shown};
+ghost use Rattle.vme_model.specs.Verdict.{verdict_but_full};
+ghost use Rattle.vme_wiring.specs.Counts.{addressing_after};
+ghost use Rattle.vme_bus.specs.Moves.{MovesPlace, FollowsWire, FollowsGrants, served_by, strobed_by, cycles_by, shown_by, is_serving, release_of};
+
+use crate::layouts::{ACKNOWLEDGE_HEAD, grant_head};
+use crate::sets::SlotSet;
+use crate::states::BusState;
+use vme_interrupter::serves;
+use vme_master::one_more;
+use vme_model::{Cycle, Driver, Edge, Release, Wire};
+
+/// The set of the places whose own wire is low, after an edge of a wire of the place.
+#[inline(always)]
+fn low_after(set: SlotSet, own: Wire, place: u8, wire: Wire) -> SlotSet
+    requires { place < 32 }
+    ensures { FollowsWire own place wire set result }
+{
+    if wire.is_same(own) {
+        set.turned(place)
+    } else {
+        set
+    }
+}
+
+/// The low segments of the grant chains, after an edge of the controller's wire.
+#[inline(always)]
+fn grants_after(set: SlotSet, wire: Wire) -> SlotSet
+    ensures { FollowsGrants wire set result }
+{
+    match wire {
+        Wire::Bg(level) if level < 4 => set.turned(grant_head(level)),
+        _ => set,
+    }
+}
+
+/// The boards that were served, after an edge of the slot's board, whose answers serve it or not.
+#[inline(always)]
+fn served_after(set: SlotSet, slot: u8, edge: Edge, serves: bool) -> SlotSet
+    requires { slot < 32 }
+    ensures { MovesPlace (served_by edge.wire edge.fall serves) slot set result }
+{
+    match (edge.wire, edge.fall) {
+        (Wire::Irq, true) => set.without(slot),
+        (Wire::Dtack, true) if serves => set.with(slot),
+        _ => set,
+    }
+}
+
+/// The boards whose cycle had its data strobe, after an edge of the slot's board.
+#[inline(always)]
+fn strobed_after(set: SlotSet, slot: u8, edge: Edge) -> SlotSet
+    requires { slot < 32 }
+    ensures { MovesPlace (strobed_by edge.wire edge.fall) slot set result }
+{
+    match (edge.wire, edge.fall) {
+        (Wire::AddressStrobe, true) => set.without(slot),
+        (Wire::DataStrobe, true) => set.with(slot),
+        _ => set,
+    }
+}
+
+/// The cycles of a board's tenure that count, after an edge of it.
+#[inline(always)]
+fn cycles_after(cycles: u8, release: Release, edge: Edge) -> u8
+    ensures { result ≡ cycles_by edge.wire edge.fall release cycles }
+{
+    match (edge.wire, edge.fall) {
+        (Wire::Bbsy, true) => 0,
+        (Wire::AddressStrobe, true) => one_more(cycles, release),
+        _ => cycles,
+    }
+}
+
+/// What is shown, after an edge of a board.
+#[inline(always)]
+fn shown_after(shown: Option<Cycle>, edge: Edge) -> Option<Cycle>
+    ensures { result ≡ shown_by edge.wire edge.value shown }
+{
+    match edge.wire {
+        Wire::Addr => edge.value,
+        _ => shown,
+    }
+}
+
+/// The slot whose address group is on, after an edge of a slot's board.
+#[inline(always)]
+fn addressing_after(addressing: Option<u8>, slot: u8, edge: Edge) -> Option<u8>
+    ensures { result ≡ addressing_after addressing slot edge.wire edge.fall }
+{
+    match (edge.wire, edge.fall) {
+        (Wire::Addr, true) => Some(slot),
+        (Wire::Addr, false) => None,
+        _ => addressing,
+    }
+}
+
+impl BusState {
+    ghost use Rattle.vme_bus.specs.States.{IsStateOf, OfHistory};
+
+    /// Whether an answer of the slot's board to what is shown serves its interrupter.
+    #[inline(always)]
+    fn is_serving(&self, slot: u8) -> bool
+        ensures { OfHistory self.now (λ _ p h. result ≡ is_serving (board p slot) (shown p h)) }
+    {
+        match self.seat(slot) {
+            Some(seat) => match seat.row.interrupter {
+                Some(interrupter) => serves(interrupter.kind, self.shown),
+                None => false,
+            },
+            None => false,
+        }
+    }
+
+    /// When the requester of the slot's board gives up the bus; without one no cycle counts.
+    #[inline(always)]
+    fn release(&self, slot: u8) -> Release
+        ensures { OfHistory self.now (λ _ p _. result ≡ release_of (board p slot)) }
+    {
+        match self.seat(slot) {
+            Some(seat) => match seat.row.requester {
+                Some(requester) => requester.release,
+                None => Release::Request,
+            },
+            None => Release::Request,
+        }
+    }
+
+    /// Takes in an edge of the controller that is allowed after a history that the state is of.
+    #[inline(always)]
+    fn note_controller(&mut self, edge: Edge)
+        ensures { OfHistory self.old (λ version p h. edge.driver ≡ driver.Controller
+            → verdict_but_full version p h edge ≡ Ok tt
+            → IsStateOf version p (edge ∷ h) self.new) }
+    {
+        self.arbiter.note(edge);
+        self.grants = grants_after(self.grants, edge.wire);
+        self.acknowledges = low_after(self.acknowledges, Wire::Iack, ACKNOWLEDGE_HEAD, edge.wire);
+    }
+
+    /// Takes in an edge of the slot's board that is allowed after a history that the state is of.
+    #[inline(always)]
+    fn note_board(&mut self, slot: u8, edge: Edge)
+        requires { slot < 22 }
+        ensures { OfHistory self.old (λ version p h. edge.driver ≡ driver.Slot slot
+            → verdict_but_full version p h edge ≡ Ok tt
+            → IsStateOf version p (edge ∷ h) self.new) }
+    {
+        let wire = edge.wire;
+        let (serves, release) = (self.is_serving(slot), self.release(slot));
+        self.br = low_after(self.br, Wire::Br, slot, wire);
+        self.bbsy = low_after(self.bbsy, Wire::Bbsy, slot, wire);
+        self.addr = low_after(self.addr, Wire::Addr, slot, wire);
+        self.address_strobe = low_after(self.address_strobe, Wire::AddressStrobe, slot, wire);
+        self.data_strobe = low_after(self.data_strobe, Wire::DataStrobe, slot, wire);
+        self.irq = low_after(self.irq, Wire::Irq, slot, wire);
+        self.dtack = low_after(self.dtack, Wire::Dtack, slot, wire);
+        self.grants = low_after(self.grants, Wire::BgOut, slot, wire);
+        self.acknowledges = low_after(self.acknowledges, Wire::IackOut, slot, wire);
+        self.served = served_after(self.served, slot, edge, serves);
+        self.strobed = strobed_after(self.strobed, slot, edge);
+        let place = usize::from(slot);
+        self.cycles[place] = cycles_after(self.cycles[place], release, edge);
+        self.shown = shown_after(self.shown, edge);
+        self.addressing = addressing_after(self.addressing, slot, edge);
+    }
+
+    /// Takes in an edge that the rules allow after a history that the state is of.
+    #[inline(always)]
+    pub fn note(&mut self, edge: Edge)
+        ensures { OfHistory self.old (λ version p h. verdict_but_full version p h edge ≡ Ok tt
+            → IsStateOf version p (edge ∷ h) self.new) }
+    {
+        match edge.driver {
+            Driver::Controller => self.note_controller(edge),
+            // No board stands in a slot beyond 21.
+            Driver::Slot(slot) => {
+                if slot < 22 {
+                    self.note_board(slot, edge);
+                }
+            }
+        }
+    }
+}
