@@ -1,0 +1,254 @@
+//! A bus, which takes edges one by one and stores none of them.
+ghost use Rattle.std.specs.Prelude.{◌≡◌, ◌==◌, ◌+◌, ◌≤◌, ◌↔◌, [], IsTrue, Ok, false, is_ok, length};
+ghost use Rattle.vme_model.specs.Verdict.{verdict, verdict_but_full, made, after, kept, IsLegal};
+ghost use Rattle.vme_model.specs.Safe.{IsSafe, IsOrderly};
+ghost use Rattle.vme_model.specs.Views.{pins};
+ghost use Rattle.vme_model.specs.Deliveries.{answer, delivery};
+ghost use Rattle.vme_model.specs.Accepted.{IsAccepted};
+ghost use Rattle.vme_model.specs.Report.{at_power_up, trace_limit};
+ghost use Rattle.vme_backplane.specs.Sound.{IsSound};
+
+use crate::states::BusState;
+use std::marker::Model;
+use vme_backplane::{Counts, by_wire};
+use vme_model::{Delivery, Driver, Edge, Pins, Refused, TRACE_LIMIT, Version, Wire};
+use vme_past::Past;
+use vme_slots::Plan;
+
+/// A bus: the version of its rules, its plan, and the numbers that the edges so far lead to.
+///
+/// It answers as a backplane does that has room for 1,048,576 edges, but stores no edge and asks for no memory.
+#[derive(Drop)]
+pub struct Bus {
+    version: Version,
+    plan: Plan,
+    state: BusState,
+    made: u32,
+    max: u32,
+    past: Past,
+}
+
+impl Model for Bus {
+    ghost use Rattle.std.specs.Prelude.{◌≡◌, ◌≤◌, length};
+    ghost use Rattle.vme_model.specs.Verdict.{State};
+    ghost use Rattle.vme_model.specs.Report.{trace_limit};
+    ghost use Rattle.vme_bus.specs.States.{IsStateOf};
+
+    ghost Value = { State };
+
+    ghost view = { λ b. record {
+      version = b.version;
+      plan = b.plan;
+      history = b.past;
+      max = b.max;
+    } };
+
+    ghost invariant = { λ b. IsStateOf b.version b.plan b.past b.state
+        × (b.made ≡ length b.past) × (b.made ≤ b.max) × (b.max ≤ trace_limit) };
+}
+
+impl Bus {
+    /// A bus at power-up: no edge was made.
+    pub fn new(plan: Plan, version: Version) -> Bus
+        ensures { result ≡ at_power_up version plan trace_limit }
+    {
+        let state = BusState::new(&plan, version);
+        Bus {
+            version,
+            plan,
+            state,
+            made: 0,
+            max: TRACE_LIMIT,
+            past: Past::new(),
+        }
+    }
+
+    /// What holds of every bus.
+    pub fn laws(&self)
+        ensures accepted { IsAccepted self.now.plan }
+        ensures legal { IsLegal self.now.version self.now.plan self.now.history }
+        ensures fits { length self.now.history ≤ self.now.max }
+        ensures bounded { self.now.max ≤ trace_limit }
+    {
+        let _state = &self.state;
+    }
+
+    /// What follows for its history: it is safe and orderly.
+    #[tactic(auto, using(vme_model::proofs::Safety::legal_is_safe, vme_model::proofs::Safety::legal_is_orderly))]
+    pub fn safety(&self)
+        ensures safe { IsSafe self.now.plan self.now.history }
+        ensures orderly { IsOrderly self.now.version self.now.plan self.now.history }
+    {
+        self.laws();
+    }
+
+    /// The answer to an edge, but for the end of the trace.
+    #[inline(always)]
+    fn judge(&self, edge: Edge) -> Result<(), Refused>
+        ensures { result ≡ verdict_but_full self.now.version self.now.plan self.now.history edge }
+    {
+        self.state.judge(edge)
+    }
+
+    /// The answer to an edge, but for what it delivers: the first that applies of E1 to E5, or none.
+    #[tactic(auto, using(vme_backplane::proofs::Judged::refused, vme_backplane::proofs::Judged::passed))]
+    #[inline(always)]
+    pub fn verdict(&self, edge: Edge) -> Result<(), Refused>
+        ensures { result ≡ verdict self.now edge }
+    {
+        match self.judge(edge) {
+            Ok(()) => {
+                if self.is_full() {
+                    Err(Refused::TraceFull)
+                } else {
+                    Ok(())
+                }
+            }
+            Err(refused) => Err(refused),
+        }
+    }
+
+    /// What `step` would answer to an edge: what it delivers, or the first that applies of E1 to E5. Nothing is made.
+    pub fn answer(&self, edge: Edge) -> Result<Option<Delivery>, Refused>
+        ensures { result ≡ answer self.now edge }
+    {
+        match self.verdict(edge) {
+            Ok(()) => Ok(self.state.delivery(edge)),
+            Err(refused) => Err(refused),
+        }
+    }
+
+    /// Makes the edge where the rules allow it, and answers what it delivers.
+    ///
+    /// A refusal is the first that applies of E1 to E5, and leaves everything as it was. No memory is asked for.
+    pub fn step(&mut self, edge: Edge) -> Result<Option<Delivery>, Refused>
+        ensures answer { result ≡ answer self.old edge }
+        ensures accepted { is_ok result ≡ is_ok (verdict self.old edge) }
+        ensures state { self.new ≡ after self.old edge }
+        ensures sound { IsSound self.new }
+    {
+        let answer = self.step_by_wire(edge);
+        self.laws();
+        self.safety();
+        answer
+    }
+
+    /// The same, but for what follows of every history, with an arm for each wire.
+    #[inline(always)]
+    fn step_by_wire(&mut self, edge: Edge) -> Result<Option<Delivery>, Refused>
+        ensures answer { result ≡ answer self.old edge }
+        ensures state { self.new ≡ after self.old edge }
+    {
+        by_wire!(edge => match self.verdict(edge) {
+            Ok(()) => Ok(self.take(edge)),
+            Err(refused) => Err(refused),
+        })
+    }
+
+    /// Makes an edge that would be accepted, and answers what it delivers.
+    #[inline(always)]
+    fn take(&mut self, edge: Edge) -> Option<Delivery>
+        requires { verdict self.old edge ≡ Ok tt }
+        ensures delivery { result ≡ delivery self.old.plan self.old.history edge }
+        ensures state { self.new ≡ made self.old edge }
+    {
+        let delivery = self.state.delivery(edge);
+        self.make(edge);
+        delivery
+    }
+
+    /// What holds of an edge that would be accepted.
+    #[inline(always)]
+    fn accepted(&self, edge: Edge)
+        requires { verdict self.now edge ≡ Ok tt }
+        ensures room { (length self.now.history == self.now.max) ≡ false }
+        ensures allowed { verdict_but_full self.now.version self.now.plan self.now.history edge
+            ≡ Ok tt }
+    {
+        let _edge = edge;
+    }
+
+    /// Makes an edge that would be accepted, as `verdict` tells.
+    #[inline(always)]
+    pub fn make(&mut self, edge: Edge)
+        requires { verdict self.old edge ≡ Ok tt }
+        ensures { self.new ≡ made self.old edge }
+    {
+        self.laws();
+        self.accepted(edge);
+        self.state.note(edge);
+        self.past.note(edge);
+        self.made += 1;
+    }
+
+    /// Steps through all the edges, past those that are refused.
+    pub fn run(&mut self, edges: &[Edge]) -> Counts
+        ensures state { self.new ≡ kept self.old edges.now }
+        ensures sound { IsSound self.new }
+        ensures accepted { length self.old.history + result.accepted ≡ length self.new.history }
+        ensures refused { result.accepted + result.refused ≡ length edges.now }
+    {
+        let mut counts = Counts {
+            accepted: 0,
+            refused: 0,
+        };
+        for edge in edges {
+            match self.step(*edge) {
+                Ok(_) => counts.accepted += 1,
+                Err(_) => counts.refused += 1,
+            }
+        }
+        self.laws();
+        self.safety();
+        counts
+    }
+
+    /// What a driver reads on its pins.
+    pub fn pins(&self, driver: Driver) -> Pins
+        ensures { result ≡ pins self.now.plan self.now.history driver }
+    {
+        self.state.pins(driver)
+    }
+
+    /// The version of its rules.
+    pub fn version(&self) -> Version
+        ensures { result ≡ self.now.version }
+    {
+        self.version
+    }
+
+    /// Its plan.
+    pub fn plan(&self) -> &Plan
+        ensures { result.now ≡ self.now.plan }
+    {
+        &self.plan
+    }
+
+    /// How many edges were made.
+    pub fn len(&self) -> u32
+        ensures { result ≡ length self.now.history }
+    {
+        self.made
+    }
+
+    /// Whether no edge was made.
+    pub fn is_empty(&self) -> bool
+        ensures { IsTrue result ↔ (self.now.history ≡ []) }
+    {
+        self.len() == 0
+    }
+
+    /// Whether it takes no further edge.
+    fn is_full(&self) -> bool
+        ensures { result ≡ (length self.now.history == self.now.max) }
+    {
+        self.len() == self.max()
+    }
+
+    /// How many edges can be made.
+    pub fn max(&self) -> u32
+        ensures { result ≡ self.now.max }
+    {
+        self.max
+    }
+}
