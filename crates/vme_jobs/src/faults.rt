@@ -11,6 +11,7 @@ use std::process::ExitCode;
 use thiserror::Error;
 use vme_engines::EngineFault;
 use vme_run::RunFault;
+use vme_trace::Fault;
 
 /// Why the program gave up. Files have the names that the user gave; standard input is `-`.
 #[derive(Debug, Drop, Error)]
@@ -24,6 +25,14 @@ pub enum ProgramFault<'a> {
     /// An engine's fault, or want of memory for what the program hands to one.
     #[error("{0}")]
     Engine(EngineFault),
+    /// A fault of the trace of this name, of several.
+    #[error("{name}: {fault}")]
+    InTrace {
+        /// The file of the trace.
+        name: &'a str,
+        /// What is wrong with it.
+        fault: Fault,
+    },
     /// A fault of boards that run in threads.
     #[error("{0}")]
     Boards(RunFault),
