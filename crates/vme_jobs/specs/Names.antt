@@ -57,6 +57,16 @@ abbrev pub told_answer : Bor (List ℕ) → Result Status EngineFault → Result
 told_answer name (Ok status) = Ok status
 told_answer name (Err f) = Err (told_fault name f)
 
+-- an engine's fault, where the trace of this name is one of several on the scenario of that name
+abbrev pub told_trace_fault : Bor (List ℕ) → Bor (List ℕ) → EngineFault → ProgramFault
+told_trace_fault scenario trace (fault.Trace f) = InTrace trace f
+told_trace_fault scenario trace f = told_fault scenario f
+
+abbrev pub told_trace_answer :
+    Bor (List ℕ) → Bor (List ℕ) → Result Status EngineFault → Result Status ProgramFault
+told_trace_answer scenario trace (Ok status) = Ok status
+told_trace_answer scenario trace (Err f) = Err (told_trace_fault scenario trace f)
+
 abbrev pub told_run_answer :
     Bor (List ℕ) → Result Status RunFault → Result Status ProgramFault
 told_run_answer name (Ok status) = Ok status

@@ -2,7 +2,7 @@
 ghost use Rattle.std.specs.Prelude.{◌≡◌, ◌≢◌};
 ghost use Rattle.std.specs.IoError.{error_kind};
 ghost use Rattle.std.specs.Process.{exit_status};
-ghost use Rattle.vme_jobs.specs.Names.{told_fault};
+ghost use Rattle.vme_jobs.specs.Names.{told_fault, told_trace_fault};
 
 use crate::lines::OneLine;
 use std::fmt;
@@ -60,6 +60,16 @@ impl<'a> ProgramFault<'a> {
             EngineFault::CannotRead => ProgramFault::CannotRead(name),
             EngineFault::TooLong => ProgramFault::TooLong(name),
             other => ProgramFault::Engine(other),
+        }
+    }
+
+    /// An engine's fault, where the trace of this name is one of several on the scenario.
+    pub fn of_trace(scenario: &'a str, trace: &'a str, fault: EngineFault) -> Self
+        ensures { result ≡ told_trace_fault scenario.entry trace.entry fault }
+    {
+        match fault {
+            EngineFault::Trace(fault) => ProgramFault::InTrace { name: trace, fault },
+            other => ProgramFault::of_engine(scenario, other),
         }
     }
 }

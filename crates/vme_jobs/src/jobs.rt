@@ -5,7 +5,7 @@ ghost use Rattle.vme_model.specs.Report.{trace_limit};
 ghost use Rattle.vme_words.specs.Limits.{IsWindow, IsWithin, most_turns};
 ghost use Rattle.vme_jobs.specs.Done.{IsDone};
 ghost use Rattle.vme_engines.specs.Found.{found_answer};
-ghost use Rattle.vme_jobs.specs.Names.{IsFaultOf, told_answer, told_run_answer};
+ghost use Rattle.vme_jobs.specs.Names.{IsFaultOf, told_answer, told_run_answer, told_trace_answer};
 ghost use Rattle.vme_jobs.specs.Statuses.{exit_code};
 ghost use Rattle.vme_jobs.specs.Adding.{AddsFile, AddsFiles};
 
@@ -54,6 +54,20 @@ fn told_seed<'a>(
             Ok(Status::Limit)
         }
         Err(fault) => Err(ProgramFault::of_engine(name, fault)),
+    }
+}
+
+/// An engine's answer, where the trace of this name is one of several on the scenario.
+fn told_trace<'a>(
+    scenario: &'a str,
+    trace: &'a str,
+    answer: Result<Status, EngineFault>,
+) -> Result<Status, ProgramFault<'a>>
+    ensures { result ≡ told_trace_answer scenario.entry trace.entry answer }
+{
+    match answer {
+        Ok(status) => Ok(status),
+        Err(fault) => Err(ProgramFault::of_trace(scenario, trace, fault)),
     }
 }
 
@@ -200,11 +214,11 @@ fn add_file<'a>(
     ensures { AddsFile text.now scenario.entry trace.entry sums.old sums.new result }
 {
     let mut input = buffered(rt, open(rt, trace)?)?;
-    match add_trace(rt.alloc(), text, &mut input, sums) {
-        Ok(status) => Ok(status),
-        Err(EngineFault::Trace(fault)) => Err(ProgramFault::InTrace { name: trace, fault }),
-        Err(fault) => Err(ProgramFault::of_engine(scenario, fault)),
-    }
+    told_trace(
+        scenario,
+        trace,
+        add_trace(rt.alloc(), text, &mut input, sums),
+    )
 }
 
 /// Adds up what the traces of those names come to, on the scenario, up to the first fault.
