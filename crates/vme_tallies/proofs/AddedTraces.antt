@@ -1,12 +1,10 @@
 -- The sums of several traces, before the first and after one more.
-use Rattle.std.proofs.Common.{◌≡◌, ◌∙◌, refl, sym, ap, ℕ, ◌+◌, ◌<◌, List, [], ◌∷◌, length, get_or, replicate, arith}
-use Rattle.std.specs.Prelude.{min, max, map}
-use Rattle.std.specs.List.{sum_by}
+use Rattle.std.proofs.Common.{◌≡◌, ◌∙◌, refl, ap, ℕ, ◌<◌, [], ◌∷◌, length, get_or, replicate, arith}
+use Rattle.std.specs.Prelude.{max, map}
 use Rattle.std.proofs.Math.Nat.{max_comm}
 use Rattle.std.proofs.lemmas.List.{get_or-replicate, length-replicate}
 use Rattle.std.proofs.lemmas.List.Sums.{sum_by-cons}
 use Rattle.vme_model.specs.declared.refusals.Refused.TheVariants.{NoSuchDriver, AlreadyThere, Rule, NotSettled, TraceFull}
-use Rattle.vme_events.specs.declared.events.Event.{Event}
 use Rattle.vme_tallies.specs.declared.boards.BoardTally.{BoardTally}
 use Rattle.vme_tallies.specs.declared.refusals.Refusals.{Refusals}
 use Rattle.vme_tallies.specs.declared.sums.Sums.{Sums as Added}
