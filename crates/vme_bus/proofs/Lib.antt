@@ -16,3 +16,7 @@ pub mod Guards
 pub mod Outputs
 -- what a board's edge is answered: `BusState::ask_board`
 pub mod Asked
+-- what the sets say of one slot: `BusState::is_slot_low`, `is_low`, `row`, `told_by_rule`
+pub mod OneSlot
+-- which parts of a board wait: `BusState::waiting_parts`, `is_waiting`
+pub mod WaitingParts

@@ -69,3 +69,4 @@ pub record IsLayoutOf (p : Plan) (l : Layout) : Type 0 where
   pub grant_ends : (n : ℕ) → n < 4
       → get_or l.grant_ends n 0 ≡ place_of (grant_head n) (last_active p (grant_chain n))
   pub acknowledge_end : l.acknowledge_end ≡ place_of acknowledge_head (last_active p chain.Iack)
+  pub slots : l.slots ≡ p.slots

@@ -47,6 +47,8 @@ pub struct Layout {
     pub grant_ends: [u8; 4],
     /// Where the last segment of the acknowledge chain stands.
     pub acknowledge_end: u8,
+    /// How many slots the backplane has.
+    pub slots: u8,
 }
 
 impl Line {
@@ -194,6 +196,7 @@ impl Layout {
                 grant_end(plan, 3),
             ],
             acknowledge_end: place_of(ACKNOWLEDGE_HEAD, plan.last_active(ChainId::Iack)),
+            slots: plan.slots(),
         }
     }
 }

@@ -1,11 +1,13 @@
 //! The state of a bus without its history, as a plain record of numbers.
 #![tactic(auto)]
 
+mod judging;
 mod layouts;
 mod rules;
 mod sets;
 mod sights;
 mod states;
 mod verdicts;
+mod waits;
 
 pub use states::BusState;
