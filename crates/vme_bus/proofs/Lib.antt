@@ -20,3 +20,5 @@ pub mod Asked
 pub mod OneSlot
 -- which parts of a board wait: `BusState::waiting_parts`, `is_waiting`
 pub mod WaitingParts
+-- slots that are in none of the sets at work wait: `BusState::movers` and the parts of it
+pub mod AtWork

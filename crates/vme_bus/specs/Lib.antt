@@ -6,3 +6,5 @@ pub mod Layouts
 pub mod States
 -- words: whether a board asks at the level that is shown
 pub mod Asks
+-- words: whether a board's interrupter has nothing to do
+pub mod Movers

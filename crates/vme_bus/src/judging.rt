@@ -109,9 +109,9 @@ impl BusState {
         offers_of(self, driver)
     }
 
-    /// All edges that a driver can make, but for the end of the trace: of those that move one of its
-    /// wires those that the rules allow, in the order of its wires. An address group goes on with
-    /// each acknowledge, by level, and then with each access, by slot.
+    /// All edges that a driver can make, but for the end of the trace: of those that move one of
+    /// its wires those that the rules allow, in the order of its wires. An address group goes on
+    /// with each acknowledge, by level, and then with each access, by slot.
     ///
     /// `offers` has one acknowledge and one access of them at most.
     pub fn open_edges(&self, driver: Driver) -> ArrayVec<Edge, 36>

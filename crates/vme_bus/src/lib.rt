@@ -3,6 +3,7 @@
 
 mod judging;
 mod layouts;
+mod movers;
 mod rules;
 mod sets;
 mod sights;
@@ -10,4 +11,5 @@ mod states;
 mod verdicts;
 mod waits;
 
+pub use sets::SlotSet;
 pub use states::BusState;

@@ -18,6 +18,8 @@ returns c =
       grant_ends = four;
       acknowledge_end = c.place_of.ensures ∙ ap (place_of 24) c.last_active.ensures;
       slots = c.slots.ensures;
+      requesters = c.slots_on-13.ensures;
+      interrupters = c.slots_on-14.ensures;
     }
   where
     four : (n : ℕ) → n < 4 → get_or (c.grant_end.result ∷ c.grant_end-2.result ∷ c.grant_end-3.result ∷ c.grant_end-4.result ∷ []) n 0 ≡ place_of (grant_head n) (last_active c.args.plan.now (grant_chain n))
