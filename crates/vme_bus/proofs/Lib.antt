@@ -20,3 +20,9 @@ pub mod Asked
 pub mod Places
 -- the state after an edge is that of the longer history: `BusState::note`
 pub mod LongerHistory
+-- what the sets say of one slot: `BusState::is_slot_low`, `is_low`, `row`, `told_by_rule`
+pub mod OneSlot
+-- which parts of a board wait: `BusState::waiting_parts`, `is_waiting`
+pub mod WaitingParts
+-- slots that are in none of the sets at work wait: `BusState::movers` and the parts of it
+pub mod AtWork

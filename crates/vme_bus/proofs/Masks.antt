@@ -1,13 +1,13 @@
 -- One bit of a word: `SlotSet`.
-use Rattle.std.proofs.Common.{◌≡◌, ◌≢◌, ◌∙◌, refl, sym, ap, ℕ, zero, suc, Bool, true, false, ◌+◌, ◌*◌, ◌%◌, ◌^◌, ◌<◌, ◌≤◌, arith, w32}
-use Rattle.std.specs.Prelude.{nat_lt, ◌==◌, ◌&&◌, not, min}
+use Rattle.std.proofs.Common.{◌≡◌, ◌≢◌, ◌∙◌, refl, sym, ap, ℕ, zero, suc, Bool, true, false, ◌+◌, ◌-◌, ◌*◌, ◌%◌, ◌^◌, ◌<◌, ◌≤◌, arith, w32}
+use Rattle.std.specs.Prelude.{nat_lt, ◌==◌, ◌&&◌, ◌||◌, not, min, max}
 use Rattle.std.specs.Int.{bit_at, bit_not, trailing_zeros}
 use Rattle.std.specs.Int.RustNames.{bit_or, bit_xor}
 use lib.Bits.{bit_and}
 use Rattle.std.proofs.Math.Pow.{pow-lt, pow_pos}
 use Rattle.std.proofs.Math.Nat.{mod-eq_of_lt}
 use Rattle.std.proofs.lemmas.Bool.Decides.{nat_tests}
-use Rattle.std.proofs.lemmas.Nat.Bits.{bit_at-pow_same, bit_at-pow_other, bit_at_and, bit_at_xor, bit_at-lt, and_pow, bit_at-zero, bit_at_set_same, bit_at_set_other, bit_at_clear_same, bit_at_clear_other, bit_at_above, bit_at-trailing_zeros}
+use Rattle.std.proofs.lemmas.Nat.Bits.{bit_at-pow_same, bit_at-pow_other, bit_at_and, bit_at_or, bit_at_not, bit_at_xor, bit_at-lt, and_pow, bit_at-zero, bit_at_set_same, bit_at_set_other, bit_at_clear_same, bit_at_clear_other, bit_at_above, bit_at-trailing_zeros}
 
 -- the word of one slot
 pub one_bit : (k : ℕ) → k < 32 → 1 * 2 ^ k % 2 ^ 32 ≡ 2 ^ k
@@ -61,6 +61,34 @@ and_bits a b s = ap (λ x. x == 1) (bit_at_and a b s) ∙ both (bit_at a s) (bit
     both (suc zero) (suc zero) l m = refl
     both (suc (suc x)) y l m = absurd (omega arith)
     both x (suc (suc y)) l m = absurd (omega arith)
+
+pub or_bits : (a b s : ℕ) → (bit_at (bit_or a b) s == 1) ≡ ((bit_at a s == 1) || (bit_at b s == 1))
+or_bits a b s = ap (λ x. x == 1) (bit_at_or a b s) ∙ one (bit_at a s) (bit_at b s) (bit_at-lt a s) (bit_at-lt b s)
+  where
+    one : (x y : ℕ) → x < 2 → y < 2 → (max x y == 1) ≡ ((x == 1) || (y == 1))
+    one zero zero l m = refl
+    one zero (suc zero) l m = refl
+    one (suc zero) zero l m = refl
+    one (suc zero) (suc zero) l m = refl
+    one (suc (suc x)) y l m = absurd (omega arith)
+    one x (suc (suc y)) l m = absurd (omega arith)
+
+pub except_bits : (a b s : ℕ) → a < 2 ^ 32 → b < 2 ^ 32 → (bit_at (bit_and a (bit_not w32 b)) s == 1) ≡ ((bit_at a s == 1) && not (bit_at b s == 1))
+except_bits a b s small also = and_bits a (bit_not w32 b) s ∙ by_place (nat_lt s 32) refl
+  where
+    other : (y : ℕ) → y < 2 → (1 - y == 1) ≡ not (y == 1)
+    other zero l = refl
+    other (suc zero) l = refl
+    other (suc (suc y)) l = absurd (omega arith)
+
+    by_place : (c : Bool) → nat_lt s 32 ≡ c → ((bit_at a s == 1) && (bit_at (bit_not w32 b) s == 1)) ≡ ((bit_at a s == 1) && not (bit_at b s == 1))
+    by_place true is =
+        let l : s < 32 = grind (arith, nat_tests) in
+        ap (λ x. (bit_at a s == 1) && x) (ap (λ x. x == 1) (bit_at_not w32 b s also l) ∙ other (bit_at b s) (bit_at-lt b s))
+    by_place false is =
+        let l : 32 ≤ s = grind (arith, nat_tests) in
+        let off : (bit_at a s == 1) ≡ false = ap (λ x. x == 1) (bit_at_above a 32 s small l) in
+        ap (λ x. x && (bit_at (bit_not w32 b) s == 1)) off ∙ sym (ap (λ x. x && not (bit_at b s == 1)) off)
 
 pub without_other : (n k s : ℕ) → n < 2 ^ 32 → k < 32 → s ≢ k → (bit_at (bit_and n (bit_not w32 (1 * 2 ^ k % 2 ^ 32))) s == 1) ≡ (bit_at n s == 1)
 without_other n k s small near apart = by_place (nat_lt s 32) refl

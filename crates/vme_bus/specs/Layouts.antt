@@ -1,5 +1,5 @@
 -- What a plan says of each slot and line, as numbers.
-use Rattle.std.specs.Prelude.{◌≡◌, ◌+◌, ◌<◌, ℕ, Bool, false, Option, Some, None, List, option_map, length, get_or}
+use Rattle.std.specs.Prelude.{◌≡◌, ◌+◌, ◌<◌, ℕ, Bool, false, Option, Some, None, List, option_map, is_some, length, get_or}
 use Rattle.std.specs.List.{slice_get}
 use Rattle.std.specs.Option.{option_and_then, option_map_or}
 use Rattle.vme_model.specs.declared.boards.Row.{Row}
@@ -47,6 +47,8 @@ seat seats s = option_and_then (λ x. x) (slice_get seats s)
 abbrev pub is_on : Line → Row → Bool
 is_on (line.Request level) r = requests_on level r
 is_on (line.Interrupt level) r = interrupts_on level r
+is_on line.AnyRequest r = is_some r.requester
+is_on line.AnyInterrupt r = is_some r.interrupter
 
 abbrev pub slot_is_on : Plan → Line → ℕ → Bool
 slot_is_on p l s = option_map_or (is_on l) (board p s) false
@@ -69,3 +71,6 @@ pub record IsLayoutOf (p : Plan) (l : Layout) : Type 0 where
   pub grant_ends : (n : ℕ) → n < 4
       → get_or l.grant_ends n 0 ≡ place_of (grant_head n) (last_active p (grant_chain n))
   pub acknowledge_end : l.acknowledge_end ≡ place_of acknowledge_head (last_active p chain.Iack)
+  pub slots : l.slots ≡ p.slots
+  pub requesters : HoldsLine p line.AnyRequest l.requesters
+  pub interrupters : HoldsLine p line.AnyInterrupt l.interrupters

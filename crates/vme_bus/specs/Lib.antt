@@ -8,3 +8,5 @@ pub mod States
 pub mod Asks
 -- words: what an edge makes of the numbers of a state
 pub mod Moves
+-- words: whether a board's interrupter has nothing to do
+pub mod Movers

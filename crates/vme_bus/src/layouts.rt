@@ -16,13 +16,17 @@ const GRANT_HEADS: u8 = 24;
 /// Where the head of the acknowledge chain stands in the set of its low segments.
 pub const ACKNOWLEDGE_HEAD: u8 = 24;
 
-/// A line that boards of one level pull.
+/// A line that boards of one level pull, or any of such lines.
 #[derive(Clone, Copy)]
 pub enum Line {
     /// BRn*, by the level 0 to 3.
     Request(u8),
     /// IRQn*, by the level 1 to 7.
     Interrupt(u8),
+    /// Any of BR0* to BR3*.
+    AnyRequest,
+    /// Any of IRQ1* to IRQ7*.
+    AnyInterrupt,
 }
 
 /// A board in its slot, and where its inputs stand among the low segments of its chains.
@@ -47,6 +51,12 @@ pub struct Layout {
     pub grant_ends: [u8; 4],
     /// Where the last segment of the acknowledge chain stands.
     pub acknowledge_end: u8,
+    /// How many slots the backplane has.
+    pub slots: u8,
+    /// The slots of boards with a requester.
+    pub requesters: SlotSet,
+    /// The slots of boards with an interrupter.
+    pub interrupters: SlotSet,
 }
 
 impl Line {
@@ -61,6 +71,8 @@ impl Line {
             Line::Interrupt(level) => {
                 matches!(row.interrupter, Some(interrupter) if interrupter.level == level)
             }
+            Line::AnyRequest => row.requester.is_some(),
+            Line::AnyInterrupt => row.interrupter.is_some(),
         }
     }
 }
@@ -194,6 +206,9 @@ impl Layout {
                 grant_end(plan, 3),
             ],
             acknowledge_end: place_of(ACKNOWLEDGE_HEAD, plan.last_active(ChainId::Iack)),
+            slots: plan.slots(),
+            requesters: slots_on(plan, Line::AnyRequest),
+            interrupters: slots_on(plan, Line::AnyInterrupt),
         }
     }
 }

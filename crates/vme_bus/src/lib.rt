@@ -2,13 +2,17 @@
 #![tactic(auto)]
 
 mod buses;
+mod judging;
 mod layouts;
+mod movers;
 mod moves;
 mod rules;
 mod sets;
 mod sights;
 mod states;
 mod verdicts;
+mod waits;
 
 pub use buses::Bus;
+pub use sets::SlotSet;
 pub use states::BusState;

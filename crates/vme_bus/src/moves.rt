@@ -38,7 +38,7 @@ fn grants_after(set: SlotSet, wire: Wire) -> SlotSet
     }
 }
 
-/// The boards that were served, after an edge of the slot's board, whose answer would serve it or not.
+/// The boards that were served, after an edge of the slot's board, whose answers serve it or not.
 #[inline(always)]
 fn served_after(set: SlotSet, slot: u8, edge: Edge, serves: bool) -> SlotSet
     requires { slot < 32 }
@@ -116,7 +116,7 @@ impl BusState {
         }
     }
 
-    /// When the requester of the slot's board gives up the bus; for a board without one no cycle counts.
+    /// When the requester of the slot's board gives up the bus; without one no cycle counts.
     #[inline(always)]
     fn release(&self, slot: u8) -> Release
         ensures { OfHistory self.now (λ _ p _. result ≡ release_of (board p slot)) }
@@ -130,7 +130,7 @@ impl BusState {
         }
     }
 
-    /// Takes in an edge of the controller that the rules allow after a history that the state is of.
+    /// Takes in an edge of the controller that is allowed after a history that the state is of.
     #[inline(always)]
     fn note_controller(&mut self, edge: Edge)
         ensures { OfHistory self.old (λ version p h. edge.driver ≡ driver.Controller
@@ -142,7 +142,7 @@ impl BusState {
         self.acknowledges = low_after(self.acknowledges, Wire::Iack, ACKNOWLEDGE_HEAD, edge.wire);
     }
 
-    /// Takes in an edge of the slot's board that the rules allow after a history that the state is of.
+    /// Takes in an edge of the slot's board that is allowed after a history that the state is of.
     #[inline(always)]
     fn note_board(&mut self, slot: u8, edge: Edge)
         requires { slot < 22 }

@@ -224,7 +224,7 @@ impl BusState {
 
     /// Whether an access to the slot is shown.
     #[inline(always)]
-    fn is_accessed(&self, slot: u8) -> bool
+    pub(crate) fn is_accessed(&self, slot: u8) -> bool
         ensures { result ≡ is_access_to slot self.now.shown }
     {
         match self.shown {

@@ -1,5 +1,5 @@
 //! Sets of slots.
-ghost use Rattle.std.specs.Prelude.{◌≡◌, ◌≢◌, ◌&&◌, ◌*◌, ◌^◌, ◌%◌, ◌<◌, ℕ, not, false, true, nat_lt};
+ghost use Rattle.std.specs.Prelude.{◌≡◌, ◌≢◌, ◌&&◌, ◌||◌, ◌*◌, ◌^◌, ◌%◌, ◌<◌, ℕ, not, false, true, nat_lt};
 
 /// A set of slots, a bit for each.
 #[derive(Clone, Copy)]
@@ -81,6 +81,28 @@ impl SlotSet {
     {
         SlotSet {
             bits: self.bits & other.bits,
+        }
+    }
+
+    /// The slots that one of them holds.
+    #[inline(always)]
+    #[tactic(auto, using(crate::proofs::Masks::or_bits))]
+    pub fn or(self, other: SlotSet) -> SlotSet
+        ensures { (s : ℕ) → has result s ≡ (has self s || has other s) }
+    {
+        SlotSet {
+            bits: self.bits | other.bits,
+        }
+    }
+
+    /// The slots that it holds and the other does not.
+    #[inline(always)]
+    #[tactic(auto, using(crate::proofs::Masks::except_bits))]
+    pub fn except(self, other: SlotSet) -> SlotSet
+        ensures { (s : ℕ) → has result s ≡ (has self s && not (has other s)) }
+    {
+        SlotSet {
+            bits: self.bits & !other.bits,
         }
     }
 

@@ -43,10 +43,9 @@ impl BusState {
 
     /// Whether a slot below 22 drives the wire low, or its address group on.
     #[inline(always)]
-    fn is_slot_low(&self, slot: u8, wire: Wire) -> bool
+    pub(crate) fn is_slot_low(&self, slot: u8, wire: Wire) -> bool
         requires { slot < 22 }
-        ensures { OfHistory self.now (λ _ p h. has_driver p (Slot slot) wire ≡ true
-            → result ≡ drive h (Slot slot) wire) }
+        ensures { OfHistory self.now (λ _ _ h. result ≡ drive h (Slot slot) wire) }
     {
         match wire {
             Wire::Br => self.br.has(slot),
@@ -110,7 +109,7 @@ impl BusState {
 
     /// The settling rule that names the edge, and what its guard answers; 0 and a free one where none does.
     #[inline(always)]
-    fn settling<A: Outcome>(&self, wire: Wire, fall: bool) -> (u8, A)
+    pub(crate) fn settling<A: Outcome>(&self, wire: Wire, fall: bool) -> (u8, A)
         ensures number { OfHistory self.now (λ version p h.
             result.0 ≡ (settling_guard version p h wire fall).0) }
         ensures answer { OfHistory self.now (λ version p h.

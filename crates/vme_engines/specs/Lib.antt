@@ -19,6 +19,8 @@ pub mod Stating
 pub mod Showing
 -- believe, for `summary` alone: what that leaves
 pub mod Summing
+-- believe, for `add_trace` and `tell_sums`: what several traces come to together
+pub mod Totals
 -- believe, for `drive` alone: what the drivers make, and what is written of it
 pub mod Driving
 -- believe, for `drive_drawn` and `drive_found`: a walk that seeks a goal, and how it ends
@@ -40,6 +42,8 @@ pub mod Stretches
 pub mod Shown
 -- words: what the edges of a trace do to `summary`
 pub mod Summed
+-- words: what the edges of one trace of several do to `add_trace`
+pub mod Added
 -- words: the input before its trace, byte by byte
 pub mod Front
 -- words: a number as it stands in a verdict line

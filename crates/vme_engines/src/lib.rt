@@ -22,6 +22,7 @@ mod shows;
 mod states;
 mod summaries;
 mod tails;
+mod totals;
 mod traces;
 
 pub use checks::check;
@@ -35,6 +36,7 @@ pub use seeds::{Progress, drive_found};
 pub use shows::show;
 pub use states::state;
 pub use summaries::summary;
+pub use totals::{add_trace, tell_sums};
 use thiserror::Error;
 use vme_scenario::ScenarioError;
 use vme_trace::Fault;

@@ -40,7 +40,7 @@ pub(crate) struct Summing<'r> {
 
 impl<'r> Summing<'r> {
     /// Before the first edge.
-    fn new(following: Following<'r>) -> Summing<'r>
+    pub(crate) fn new(following: Following<'r>) -> Summing<'r>
         ensures following { result.following ≡ following.entry }
         ensures tally { IsTallyOf [] result.tally }
     {
@@ -64,7 +64,7 @@ impl<'r> Summing<'r> {
     }
 
     /// Takes in the next edges.
-    fn take_edges(&mut self, edges: &[Edge])
+    pub(crate) fn take_edges(&mut self, edges: &[Edge])
         requires room { self.old.following.judged + length edges.now < 2 ^ 64 }
         requires well_formed { AreWellFormed edges.now }
         ensures judged { self.new.following.judged

@@ -6,6 +6,7 @@ use Rattle.std.proofs.KnownBytes.{Keeps-refl}
 use Rattle.vme_model.specs.declared.signals.Version.{Version}
 use Rattle.vme_model.specs.Plan.{Plan}
 use Rattle.vme_events.specs.declared.goals.Goal.{Goal}
+use Rattle.vme_trace.specs.declared.Fault.{Fault}
 use Rattle.vme_engines.specs.declared.Status.{Status}
 use Rattle.vme_engines.specs.declared.EngineFault.TheVariants as fault
 use Rattle.vme_engines.specs.Streams.{Streams, ReadNothing, WroteNothing, streams}
@@ -24,8 +25,8 @@ use Rattle.vme_jobs.specs.declared.faults.ProgramFault.TheVariants.{CannotRead, 
 use Rattle.vme_jobs.specs.Done.{Alone, Hands, IsDone, Known, OnTrace}
 use Rattle.vme_jobs.specs.Names.{told_answer, told_run_answer}
 
-handed : (Does : Answer → Type 0) (nothing : Type 0) (name : Bor (List ℕ)) (answer : Answer) → Does answer
-    → (Does (Err fault.CannotRead) → nothing) → (Does (Err fault.TooLong) → nothing) → Hands (Alone Does) nothing (told_answer name answer)
+pub handed : {Stops : List ℕ → Fault → Type 0} (Does : Answer → Type 0) (nothing : Type 0) (name : Bor (List ℕ)) (answer : Answer) → Does answer
+    → (Does (Err fault.CannotRead) → nothing) → (Does (Err fault.TooLong) → nothing) → Hands (Alone Does) Stops nothing (told_answer name answer)
 handed Does nothing name (Ok status) does unread long = does
 handed Does nothing name (Err fault.CannotRead) does unread long = unread does
 handed Does nothing name (Err fault.TooLong) does unread long = long does
@@ -42,9 +43,9 @@ joined_done name from to old new answer does =
     (λ h. elim h.2 [ inl found ↦ found.4.1 | inr none ↦ absurd none.3 ])
 
 -- an engine on a scenario and a trace
-pub on_trace : (Ends : Streams → Plan → Answer → Type 0) (name : Bor (List ℕ)) (text : List ℕ) (from to old new : Known) (answer : Answer)
+pub on_trace : {Stops : List ℕ → Fault → Type 0} (Ends : Streams → Plan → Answer → Type 0) (name : Bor (List ℕ)) (text : List ℕ) (from to old new : Known) (answer : Answer)
     → Lent text (ReadNothing (streams from to old new) × WroteNothing (streams from to old new)) (Ends (streams from to old new)) answer
-    → Hands (Alone (OnTrace Ends old new)) (Keeps old new) (told_answer name answer)
+    → Hands (Alone (OnTrace Ends old new)) Stops (Keeps old new) (told_answer name answer)
 on_trace Ends name text from to old new answer does =
     handed (OnTrace Ends old new) (Keeps old new) name answer (text, from, to, does) (λ h. absurd h.3) (λ h. h.3.1.1)
 

@@ -2,3 +2,5 @@
 pub mod Fronts
 -- src/jobs.rt: the answer of an engine, as a job hands it on
 pub mod Handing
+-- src/jobs.rt: traces that are added up, file by file
+pub mod Adding

@@ -1,7 +1,9 @@
 -- What a job leaves on its output, and answers.
-use Rattle.std.specs.Prelude.{◌≡◌, ◌⊎◌, ℕ, List, Option, Result, Ok, Err}
+use Rattle.std.specs.Prelude.{◌≡◌, ◌⊎◌, ℕ, List, length, Option, Result, Ok, Err}
 use Rattle.std.specs.Io.KnownBytes.{Keeps}
 use Rattle.vme_model.specs.Plan.{Plan}
+use Rattle.vme_scenario.specs.Format.{scenario as read}
+use Rattle.vme_trace.specs.declared.Fault.{Fault}
 use Rattle.vme_engines.specs.declared.Status.{Status}
 use Rattle.vme_engines.specs.declared.EngineFault.TheVariants as fault
 use Rattle.vme_engines.specs.Streams.{Streams, ReadNothing, WroteNothing, streams}
@@ -19,11 +21,12 @@ use Rattle.vme_run.specs.declared.RunFault.{RunFault}
 use Rattle.vme_run.specs.declared.RunFault.TheVariants as run
 use Rattle.vme_run.specs.Running.{Runs}
 use Rattle.vme_words.specs.declared.Job.{Job}
-use Rattle.vme_words.specs.declared.Job.TheVariants.{Joined, Replay, Check, Explain, State, Show, Summary, Drive, Draw, Search, Run}
-use Rattle.vme_words.specs.Asked.{Ask}
+use Rattle.vme_words.specs.declared.Job.TheVariants.{Joined, Replay, Check, Explain, State, Show, Summary, Sums, Drive, Draw, Search, Run}
+use Rattle.vme_words.specs.Asked.{Ask, texts_of}
 use Rattle.vme_jobs.specs.Statuses.{exit_code}
+use Rattle.vme_jobs.specs.Together.{StopsAt, SumsUp}
 use Rattle.vme_jobs.specs.declared.faults.ProgramFault.{ProgramFault}
-use Rattle.vme_jobs.specs.declared.faults.ProgramFault.TheVariants.{CannotRead, TooLong, Engine, Boards}
+use Rattle.vme_jobs.specs.declared.faults.ProgramFault.TheVariants.{CannotRead, TooLong, Engine, InTrace, Boards}
 
 abbrev pub Known : Type 0
 Known = Option (List ℕ)
@@ -52,6 +55,8 @@ Does (State scenario trace after) old new = Alone (OnTrace (StatesInput after) o
 Does (Show scenario trace from to color) old new =
     Alone (OnTrace (ShowsInput from to color) old new)
 Does (Summary scenario trace) old new = Alone (OnTrace SumsInput old new)
+Does (Sums scenario traces) old new = Alone (λ answer.
+    (text : List ℕ) × Lent text (Keeps old new) (SumsUp (length traces.items) old new) answer)
 Does (Drive scenario edges version) old new = Alone (λ answer.
     (text : List ℕ) × Lent text (Keeps old new) (Drives version edges old new) answer)
 Does (Draw scenario edges seed until version) old new = Alone (λ answer.
@@ -62,20 +67,28 @@ Does (Search scenario edges first last goal version progress) old new = Alone (�
 Does (Run scenario edges turns version) old new = λ answer.
     (text : List ℕ) × Runs text version edges turns old new answer
 
+-- a trace of a job that reads several has a fault
+abbrev pub Stops : Job → List ℕ → Fault → Type 0
+Stops (Sums scenario traces) name f =
+    (text : List ℕ) × (p : Plan) × (read text ≡ Ok p) × StopsAt (texts_of traces.items) name f p
+Stops job name f = ⊥
+
 -- The answer is an engine's; or a file could not be read, or there was no memory for what the
--- engine is handed, and nothing was written.
+-- engine is handed, or one of several traces has a fault, and nothing was written.
 abbrev pub Hands :
-    (Result Status RunFault → Type 0) → Type 0 → Result Status ProgramFault → Type 0
-Hands Ends nothing (Ok status) = Ends (Ok status)
-Hands Ends nothing (Err (CannotRead name)) = nothing
-Hands Ends nothing (Err (TooLong name)) = nothing
-Hands Ends nothing (Err (Engine f)) =
+    (Result Status RunFault → Type 0) → (List ℕ → Fault → Type 0) → Type 0
+    → Result Status ProgramFault → Type 0
+Hands Ends Stops nothing (Ok status) = Ends (Ok status)
+Hands Ends Stops nothing (Err (CannotRead name)) = nothing
+Hands Ends Stops nothing (Err (TooLong name)) = nothing
+Hands Ends Stops nothing (Err (Engine f)) =
     Ends (Err (run.Engine f)) ⊎ ((f ≡ fault.NoMemory) × nothing)
-Hands Ends nothing (Err (Boards f)) = Ends (Err f)
+Hands Ends Stops nothing (Err (InTrace name f)) = Stops name.now f × nothing
+Hands Ends Stops nothing (Err (Boards f)) = Ends (Err f)
 
 -- a job is done so
 abbrev pub IsDone : Job → Known → Known → Result Status ProgramFault → Type 0
-IsDone job old new result = Hands (Does job old new) (Keeps old new) result
+IsDone job old new result = Hands (Does job old new) (Stops job) (Keeps old new) result
 
 -- What the output is at a fault: nothing was written, or a job that the words ask for ended with
 -- it.

@@ -1,15 +1,17 @@
 -- Which names a fault may tell.
 use Rattle.std.specs.Prelude.{◌≡◌, ◌⊎◌, ℕ, List, codes, Result, Ok, Err}
+use Rattle.std.specs.List.{Contains}
 use Rattle.std.specs.Borrow.{Bor}
 use Rattle.vme_engines.specs.declared.Status.{Status}
 use Rattle.vme_engines.specs.declared.EngineFault.{EngineFault}
 use Rattle.vme_engines.specs.declared.EngineFault.TheVariants as fault
 use Rattle.vme_run.specs.declared.RunFault.{RunFault}
 use Rattle.vme_run.specs.declared.RunFault.TheVariants as run
+use Rattle.vme_words.specs.Asked.{texts_of}
 use Rattle.vme_words.specs.declared.Job.{Job}
-use Rattle.vme_words.specs.declared.Job.TheVariants.{Joined, Replay, Check, Explain, State, Show, Summary, Drive, Draw, Search, Run}
+use Rattle.vme_words.specs.declared.Job.TheVariants.{Joined, Replay, Check, Explain, State, Show, Summary, Sums, Drive, Draw, Search, Run}
 use Rattle.vme_jobs.specs.declared.faults.ProgramFault.{ProgramFault}
-use Rattle.vme_jobs.specs.declared.faults.ProgramFault.TheVariants.{CannotRead, TooLong, Engine, Boards}
+use Rattle.vme_jobs.specs.declared.faults.ProgramFault.TheVariants.{CannotRead, TooLong, Engine, InTrace, Boards}
 
 -- the name of the scenario of a job: standard input is `-`
 abbrev pub scenario_name : Job → List ℕ
@@ -20,6 +22,7 @@ scenario_name (Explain scenario trace edge) = scenario.now
 scenario_name (State scenario trace after) = scenario.now
 scenario_name (Show scenario trace from to color) = scenario.now
 scenario_name (Summary scenario trace) = scenario.now
+scenario_name (Sums scenario traces) = scenario.now
 scenario_name (Drive scenario edges version) = scenario.now
 scenario_name (Draw scenario edges seed until version) = scenario.now
 scenario_name (Search scenario edges first last goal version progress) = scenario.now
@@ -34,6 +37,8 @@ IsFileOf (Explain scenario trace edge) name = (name ≡ scenario.now) ⊎ (name 
 IsFileOf (State scenario trace after) name = (name ≡ scenario.now) ⊎ (name ≡ trace.now)
 IsFileOf (Show scenario trace from to color) name = (name ≡ scenario.now) ⊎ (name ≡ trace.now)
 IsFileOf (Summary scenario trace) name = (name ≡ scenario.now) ⊎ (name ≡ trace.now)
+IsFileOf (Sums scenario traces) name =
+    (name ≡ scenario.now) ⊎ Contains (texts_of traces.items) name
 IsFileOf (Drive scenario edges version) name = name ≡ scenario.now
 IsFileOf (Draw scenario edges seed until version) name = name ≡ scenario.now
 IsFileOf (Search scenario edges first last goal version progress) name = name ≡ scenario.now
@@ -51,6 +56,16 @@ told_fault name fault.NoMemory = Engine fault.NoMemory
 abbrev pub told_answer : Bor (List ℕ) → Result Status EngineFault → Result Status ProgramFault
 told_answer name (Ok status) = Ok status
 told_answer name (Err f) = Err (told_fault name f)
+
+-- an engine's fault, where the trace of this name is one of several on the scenario of that name
+abbrev pub told_trace_fault : Bor (List ℕ) → Bor (List ℕ) → EngineFault → ProgramFault
+told_trace_fault scenario trace (fault.Trace f) = InTrace trace f
+told_trace_fault scenario trace f = told_fault scenario f
+
+abbrev pub told_trace_answer :
+    Bor (List ℕ) → Bor (List ℕ) → Result Status EngineFault → Result Status ProgramFault
+told_trace_answer scenario trace (Ok status) = Ok status
+told_trace_answer scenario trace (Err f) = Err (told_trace_fault scenario trace f)
 
 abbrev pub told_run_answer :
     Bor (List ℕ) → Result Status RunFault → Result Status ProgramFault
@@ -73,4 +88,5 @@ abbrev pub IsFaultOf : Job → ProgramFault → Type 0
 IsFaultOf job (CannotRead name) = IsFileOf job name.now
 IsFaultOf job (TooLong name) = name.now ≡ scenario_name job
 IsFaultOf job (Engine fault) = Unit {0}
+IsFaultOf job (InTrace name fault) = IsFileOf job name.now
 IsFaultOf job (Boards fault) = Unit {0}

@@ -2,7 +2,7 @@
 ghost use Rattle.std.specs.Prelude.{◌≡◌, ◌≢◌};
 ghost use Rattle.std.specs.IoError.{error_kind};
 ghost use Rattle.std.specs.Process.{exit_status};
-ghost use Rattle.vme_jobs.specs.Names.{told_fault};
+ghost use Rattle.vme_jobs.specs.Names.{told_fault, told_trace_fault};
 
 use crate::lines::OneLine;
 use std::fmt;
@@ -11,6 +11,7 @@ use std::process::ExitCode;
 use thiserror::Error;
 use vme_engines::EngineFault;
 use vme_run::RunFault;
+use vme_trace::Fault;
 
 /// Why the program gave up. Files have the names that the user gave; standard input is `-`.
 #[derive(Debug, Drop, Error)]
@@ -24,6 +25,14 @@ pub enum ProgramFault<'a> {
     /// An engine's fault, or want of memory for what the program hands to one.
     #[error("{0}")]
     Engine(EngineFault),
+    /// A fault of the trace of this name, of several.
+    #[error("{name}: {fault}")]
+    InTrace {
+        /// The file of the trace.
+        name: &'a str,
+        /// What is wrong with it.
+        fault: Fault,
+    },
     /// A fault of boards that run in threads.
     #[error("{0}")]
     Boards(RunFault),
@@ -51,6 +60,16 @@ impl<'a> ProgramFault<'a> {
             EngineFault::CannotRead => ProgramFault::CannotRead(name),
             EngineFault::TooLong => ProgramFault::TooLong(name),
             other => ProgramFault::Engine(other),
+        }
+    }
+
+    /// An engine's fault, where the trace of this name is one of several on the scenario.
+    pub fn of_trace(scenario: &'a str, trace: &'a str, fault: EngineFault) -> Self
+        ensures { result ≡ told_trace_fault scenario.entry trace.entry fault }
+    {
+        match fault {
+            EngineFault::Trace(fault) => ProgramFault::InTrace { name: trace, fault },
+            other => ProgramFault::of_engine(scenario, other),
         }
     }
 }

@@ -5,8 +5,9 @@ ghost use Rattle.vme_model.specs.Report.{trace_limit};
 ghost use Rattle.vme_words.specs.Limits.{IsWindow, IsWithin, most_turns};
 ghost use Rattle.vme_jobs.specs.Done.{IsDone};
 ghost use Rattle.vme_engines.specs.Found.{found_answer};
-ghost use Rattle.vme_jobs.specs.Names.{IsFaultOf, told_answer, told_run_answer};
+ghost use Rattle.vme_jobs.specs.Names.{IsFaultOf, told_answer, told_run_answer, told_trace_answer};
 ghost use Rattle.vme_jobs.specs.Statuses.{exit_code};
+ghost use Rattle.vme_jobs.specs.Adding.{AddsFile, AddsFiles};
 
 use crate::faults::ProgramFault;
 use crate::files::{buffered, open, read_scenario};
@@ -16,12 +17,13 @@ use std::process::ExitCode;
 use std::sync::Wait;
 use std::thread::Threads;
 use vme_engines::{
-    EngineFault, Status, check, drive, drive_drawn, drive_found, explain, joined, replay, show,
-    state, summary,
+    EngineFault, Status, add_trace, check, drive, drive_drawn, drive_found, explain, joined,
+    replay, show, state, summary, tell_sums,
 };
 use vme_events::Goal;
 use vme_model::Version;
 use vme_run::{RunFault, run as run_scenario};
+use vme_tallies::Sums;
 use vme_words::Job;
 
 /// An engine's answer, where the scenario has this name.
@@ -52,6 +54,20 @@ fn told_seed<'a>(
             Ok(Status::Limit)
         }
         Err(fault) => Err(ProgramFault::of_engine(name, fault)),
+    }
+}
+
+/// An engine's answer, where the trace of this name is one of several on the scenario.
+fn told_trace<'a>(
+    scenario: &'a str,
+    trace: &'a str,
+    answer: Result<Status, EngineFault>,
+) -> Result<Status, ProgramFault<'a>>
+    ensures { result ≡ told_trace_answer scenario.entry trace.entry answer }
+{
+    match answer {
+        Ok(status) => Ok(status),
+        Err(fault) => Err(ProgramFault::of_trace(scenario, trace, fault)),
     }
 }
 
@@ -187,6 +203,57 @@ fn run_summary<'a, W: Write>(
     told(scenario, summary(rt.alloc(), &text, &mut input, out))
 }
 
+/// Adds what the trace of that name comes to, of several on the scenario, to their sums.
+fn add_file<'a>(
+    rt: &HostRuntime,
+    text: &[u8],
+    scenario: &'a str,
+    trace: &'a str,
+    sums: &mut Sums,
+) -> Result<Status, ProgramFault<'a>>
+    ensures { AddsFile text.now scenario.entry trace.entry sums.old sums.new result }
+{
+    let mut input = buffered(rt, open(rt, trace)?)?;
+    told_trace(
+        scenario,
+        trace,
+        add_trace(rt.alloc(), text, &mut input, sums),
+    )
+}
+
+/// Adds up what the traces of those names come to, on the scenario, up to the first fault.
+fn add_files<'a>(
+    rt: &HostRuntime,
+    text: &[u8],
+    scenario: &'a str,
+    traces: &[&'a str],
+) -> Result<Sums, ProgramFault<'a>>
+    ensures { AddsFiles text.now scenario.entry traces.now result }
+{
+    let mut sums = Sums::new();
+    for trace in traces {
+        add_file(rt, text, scenario, *trace, &mut sums)?;
+    }
+    Ok(sums)
+}
+
+/// Adds up what traces exercised.
+#[inline(never)]
+fn run_sums<'a, W: Write>(
+    rt: &HostRuntime,
+    scenario: &'a str,
+    traces: Vec<&'a str>,
+    out: &mut W,
+) -> Result<Status, ProgramFault<'a>>
+    ensures fault { IfErr result (IsFaultOf (Job.Sums scenario.entry traces.entry)) }
+    ensures done { IsDone (Job.Sums scenario.entry traces.entry)
+        (W.contents out.old) (W.contents out.new) result }
+{
+    let text = read_scenario(rt, scenario)?;
+    let sums = add_files(rt, &text, scenario, &traces)?;
+    told(scenario, tell_sums(rt.alloc(), &text, &sums, out))
+}
+
 /// Lets the drivers of a scenario make edges in turn.
 #[inline(never)]
 fn run_drive<'a, W: Write>(
@@ -247,8 +314,8 @@ fn run_search<'a, W: Write>(
 {
     let text = read_scenario(rt, scenario)?;
     let alloc = rt.alloc();
-    let mut teller = Teller::new(rt, progress);
-    let found = drive_found(alloc, &text, edges, first, last, goal, out, version, &mut teller);
+    let teller = &mut Teller::new(rt, progress);
+    let found = drive_found(alloc, &text, edges, first, last, goal, out, version, teller);
     told_seed(rt, scenario, found)
 }
 
@@ -308,6 +375,7 @@ pub fn run<'a, R: Threads + Wait + Sync, W: Write>(
             color,
         } => run_show(rt, scenario, trace, from, to, color, out),
         Job::Summary { scenario, trace } => run_summary(rt, scenario, trace, out),
+        Job::Sums { scenario, traces } => run_sums(rt, scenario, traces, out),
         Job::Drive {
             scenario,
             edges,
@@ -328,7 +396,9 @@ pub fn run<'a, R: Threads + Wait + Sync, W: Write>(
             goal,
             version,
             progress,
-        } => run_search(rt, scenario, edges, first, last, goal, version, progress, out),
+        } => run_search(
+            rt, scenario, edges, first, last, goal, version, progress, out,
+        ),
         Job::Run {
             scenario,
             edges,

@@ -16,3 +16,5 @@ pub mod Passing
 pub mod Shares
 -- a board asks and holds as its wires stand
 pub mod Standing
+-- the sums of several traces, before the first and after one more
+pub mod AddedTraces

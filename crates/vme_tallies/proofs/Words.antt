@@ -1,6 +1,6 @@
 -- Words that are put together one after the other, and the topics of a summary.
-use Rattle.std.proofs.Common.{◌≡◌, ◌∙◌, refl, sym, ap, ℕ, suc, ◌+◌, ◌<◌, Bool, true, false, List, [], ◌∷◌, ◌++◌, length, append-nil, append_assoc, arith}
-use Rattle.std.specs.Prelude.{not, map, filter, nat_lt, if◌then◌else◌}
+use Rattle.std.proofs.Common.{◌≡◌, ◌∙◌, refl, sym, ap, ℕ, zero, suc, ◌+◌, ◌<◌, Bool, true, false, List, [], ◌∷◌, ◌++◌, length, append-nil, append_assoc, arith}
+use Rattle.std.specs.Prelude.{◌==◌, not, map, filter, nat_lt, if◌then◌else◌, codes, decimal}
 use Rattle.std.specs.List.{All, flat_map, list_all}
 use Rattle.std.proofs.lemmas.Bool.{and_parts}
 use Rattle.std.proofs.lemmas.Bool.Decides.{nat_tests}
@@ -10,12 +10,13 @@ use Rattle.std.proofs.lemmas.List.Elements.{All-cons, All-nil, filter-append}
 use Rattle.vme_model.specs.declared.refusals.Refused.{Refused}
 use Rattle.vme_model.specs.declared.refusals.Refused.TheVariants as refused
 use Rattle.vme_model.specs.Plan.{up_to}
-use Rattle.vme_events.specs.Events.{all_events}
+use Rattle.vme_events.specs.declared.events.Event.{Event}
+use Rattle.vme_events.specs.Events.{all_events, event_text}
 use Rattle.vme_tallies.specs.declared.topics.Topic.{Topic}
 use Rattle.vme_tallies.specs.declared.topics.Topic.TheVariants as topic
 use Rattle.vme_tallies.specs.Tally.{Answers, is_accepted, accepted, refused}
 use Rattle.vme_tallies.specs.Tallied.{IsNamed, IsTopic}
-use Rattle.vme_tallies.specs.Summary.{topics}
+use Rattle.vme_tallies.specs.Summary.{events_without, rules_without, topics}
 use Rattle.vme_tallies.proofs.Counted.{count_yes, count_no}
 
 -- every edge is accepted or refused
@@ -48,6 +49,27 @@ pub numbered_more : {X : Type 0} (f : ℕ → X) (xs : List X) (n : ℕ) → (xs
 numbered_more f xs n =
     append_assoc xs (map f (up_to n)) (f (n + 1) ∷ [])
     ∙ ap (λ l. xs ++ l) (sym (map-append f (up_to n) ((n + 1) ∷ [])) ∙ ap (map f) (up_to_more n))
+
+-- counts that are the same leave the same out
+pub same_rules : (f g : ℕ → ℕ) → ((k : ℕ) → k < 27 → f k ≡ g k) → rules_without f ≡ rules_without g
+same_rules f g same = ap (flat_map (λ k. codes " G" ++ decimal k)) (up_to_same 26 (omega arith))
+  where
+    up_to_same : (n : ℕ) → n < 27 → filter (λ k. f k == 0) (up_to n) ≡ filter (λ k. g k == 0) (up_to n)
+    up_to_same zero within = refl
+    up_to_same (suc n) within =
+        filter-append (λ k. f k == 0) (up_to n) (suc n ∷ [])
+        ∙ ap (λ (l : List ℕ). l ++ filter (λ k. f k == 0) (suc n ∷ [])) (up_to_same n (omega (arith, within)))
+        ∙ ap (λ m. filter (λ k. g k == 0) (up_to n) ++ (if m == 0 then suc n ∷ [] else [])) (same (suc n) within)
+        ∙ sym (filter-append (λ k. g k == 0) (up_to n) (suc n ∷ []))
+
+pub same_events : (f g : Event → ℕ) → ((v : Event) → f v ≡ g v) → events_without f ≡ events_without g
+same_events f g same = ap (flat_map (λ v. codes " " ++ event_text v)) (filter_same all_events)
+  where
+    filter_same : (vs : List Event) → filter (λ v. f v == 0) vs ≡ filter (λ v. g v == 0) vs
+    filter_same [] = refl
+    filter_same (v ∷ vs) =
+        ap (λ m. if m == 0 then v ∷ filter (λ v. f v == 0) vs else filter (λ v. f v == 0) vs) (same v)
+        ∙ ap (λ (l : List Event). if g v == 0 then v ∷ l else l) (filter_same vs)
 
 -- every topic is one that there can be
 is_named : Refused → Bool

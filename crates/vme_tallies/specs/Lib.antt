@@ -5,5 +5,9 @@
 pub mod Tally
 -- believe: how it is written
 pub mod Summary
+-- believe, for `Sums` and `write_sums`: what several traces come to, and how it is written
+pub mod Sums
 -- words: which tally answered edges lead to
 pub mod Tallied
+-- words: which sums tallies lead to
+pub mod Summed

@@ -41,13 +41,15 @@ abbrev pub never_text : List ℕ → List ℕ → List ℕ
 never_text first words =
     (first ++ (if length words == 0 then codes " none" else words)) ++ 10 ∷ []
 
-abbrev pub rule_words : Answers → List ℕ
-rule_words t =
-    flat_map (λ k. codes " G" ++ decimal k) (filter (λ k. passed_by k t == 0) (up_to 26))
+-- the rules of which a count is 0
+abbrev pub rules_without : (ℕ → ℕ) → List ℕ
+rules_without count =
+    flat_map (λ k. codes " G" ++ decimal k) (filter (λ k. count k == 0) (up_to 26))
 
-abbrev pub event_words : Answers → List ℕ
-event_words t =
-    flat_map (λ v. codes " " ++ event_text v) (filter (λ v. times_met v t == 0) all_events)
+-- the situations of which it is
+abbrev pub events_without : (Event → ℕ) → List ℕ
+events_without count =
+    flat_map (λ v. codes " " ++ event_text v) (filter (λ v. count v == 0) all_events)
 
 -- a situation that came
 abbrev pub met_text : Event → ℕ → Option ℕ → List ℕ
@@ -91,9 +93,9 @@ abbrev pub line_text : Plan → Answers → Topic → List ℕ
 line_text p t Edges = edges_text (length t) (accepted t) (refused t)
 line_text p t (Rule k) = rule_text k (passed_by k t) (refused_for (by_rule k) t)
 line_text p t (Refusal r) = refusal_text r (refused_for r t)
-line_text p t NeverAccepted = never_text (codes "never accepted") (rule_words t)
+line_text p t NeverAccepted = never_text (codes "never accepted") (rules_without (λ k. passed_by k t))
 line_text p t (Met v) = met_text v (times_met v t) (first_met v t)
-line_text p t NeverMet = never_text (codes "never met") (event_words t)
+line_text p t NeverMet = never_text (codes "never met") (events_without (λ v. times_met v t))
 line_text p t (Board s) = if requests p s then board_text s (board_tally s t) else []
 line_text p t (answers_of s) = answers_text s (board_tally s t)
 

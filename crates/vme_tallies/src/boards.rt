@@ -1,6 +1,7 @@
 //! What a board did in a trace.
 ghost use Rattle.std.specs.Prelude.{◌≡◌, true, false};
 ghost use Rattle.vme_tallies.specs.Tallied.{idle, board_after, span};
+ghost use Rattle.vme_tallies.specs.Summed.{board_with};
 
 use vme_model::Wire;
 
@@ -60,6 +61,25 @@ impl BoardTally {
             cycles: 0,
             answered: 0,
             delivered: 0,
+            asks_since: None,
+            holds_since: None,
+        }
+    }
+
+    /// What the board did in a trace and in another: no edge is told by its number any more.
+    pub(crate) fn with(&self, other: &BoardTally) -> BoardTally
+        ensures { result ≡ board_with self.now other.now }
+    {
+        BoardTally {
+            asked: self.asked.saturating_add(other.asked),
+            waited: self.waited.saturating_add(other.waited),
+            longest_wait: self.longest_wait.max(other.longest_wait),
+            tenures: self.tenures.saturating_add(other.tenures),
+            held: self.held.saturating_add(other.held),
+            longest_hold: self.longest_hold.max(other.longest_hold),
+            cycles: self.cycles.saturating_add(other.cycles),
+            answered: self.answered.saturating_add(other.answered),
+            delivered: self.delivered.saturating_add(other.delivered),
             asks_since: None,
             holds_since: None,
         }

@@ -10,10 +10,12 @@ mod met;
 mod refusals;
 mod rules;
 mod summaries;
+mod sums;
 mod tallies;
 mod topics;
 
 pub use boards::BoardTally;
-pub use summaries::write_summary;
+pub use summaries::{write_summary, write_sums};
+pub use sums::Sums;
 pub use tallies::Tally;
 pub use topics::Topic;

@@ -1,11 +1,16 @@
 //! The lines of a summary, each put together in a buffer.
-ghost use Rattle.std.specs.Prelude.{◌≡◌, ◌+◌, ◌<◌, ◌≤◌, ◌++◌, length, codes};
+ghost use Rattle.std.specs.Prelude.{◌≡◌, ◌+◌, ◌<◌, ◌≤◌, ◌++◌, length, codes, slice_index_or};
 ghost use Rattle.arrayvec.specs.ArrayVec.{array_vec_len};
 ghost use Rattle.vme_tallies.specs.Tally.{Answers};
-ghost use Rattle.vme_tallies.specs.Tallied.{IsNamed, IsTopic, OfTally};
-ghost use Rattle.vme_tallies.specs.Summary.{edges_text, rule_text, refusal_name, refusal_text, never_text, rule_words, event_words, met_text, since_text, turns_text, board_text, answers_text, requests, line_text};
+ghost use Rattle.vme_tallies.specs.Tallied.{IsNamed, IsTopic, OfTally, event_place};
+ghost use Rattle.vme_tallies.specs.Summed.{OfSums};
+ghost use Rattle.vme_tallies.specs.Sums.{sums_line, times_text};
+ghost use Rattle.vme_tallies.specs.Summary.{edges_text, rule_text, refusal_name, refusal_text, never_text, rules_without, events_without, met_text, since_text, turns_text, board_text, answers_text, requests, line_text};
 
 use crate::boards::BoardTally;
+use crate::met::{EVENTS, place};
+use crate::rules::RULES;
+use crate::sums::Sums;
 use crate::tallies::Tally;
 use crate::topics::Topic;
 use arrayvec::ArrayVec;
@@ -100,15 +105,15 @@ fn never_line(first: &[u8], words: &Line) -> Line
     line
 }
 
-/// The rules that let no edge pass, a blank before each.
-fn rule_words(tally: &Tally) -> Line
-    ensures words { OfTally tally.now (λ t. result.items ≡ rule_words t) }
+/// The rules that let no edge pass, by how many each let pass, a blank before each.
+fn rule_words(passed: &[u64; RULES]) -> Line
+    ensures words { result.items ≡ rules_without (λ k. slice_index_or passed.now k 0) }
     ensures short { array_vec_len result ≤ 130 }
 {
     let mut words = ArrayVec::new();
     for below in 0..26 {
         let rule = below + 1;
-        if tally.passed_by(rule) == 0 {
+        if passed[usize::from(rule)] == 0 {
             push(&mut words, b" G");
             push_byte(&mut words, rule);
         }
@@ -116,14 +121,15 @@ fn rule_words(tally: &Tally) -> Line
     words
 }
 
-/// The situations that never came, a blank before each.
-fn event_words(tally: &Tally) -> Line
-    ensures words { OfTally tally.now (λ t. result.items ≡ event_words t) }
+/// The situations that never came, by how often each came, a blank before each.
+fn event_words(times: &[u64; EVENTS]) -> Line
+    ensures words { result.items
+        ≡ events_without (λ v. slice_index_or times.now (event_place v) 0) }
     ensures short { array_vec_len result ≤ 225 }
 {
     let mut words = ArrayVec::new();
     for event in &Event::ALL {
-        if tally.times_met(*event) == 0 {
+        if times[place(*event)] == 0 {
             push(&mut words, b" ");
             push(&mut words, event.name().as_bytes());
         }
@@ -145,6 +151,22 @@ fn met_line(event: Event, times: u64, first: Option<u64>) -> Line
         push_number(&mut line, first);
         push(&mut line, b"\n");
     }
+    line
+}
+
+/// How often a situation came in several traces, where it came.
+fn times_line(event: Event, times: u64) -> Line
+    ensures { result.items ≡ times_text event times }
+{
+    let mut line = ArrayVec::new();
+    if times == 0 {
+        return line;
+    }
+    push(&mut line, b"met ");
+    push(&mut line, event.name().as_bytes());
+    push(&mut line, b" ");
+    push_number(&mut line, times);
+    push(&mut line, b"\n");
     line
 }
 
@@ -239,11 +261,35 @@ pub(crate) fn line(plan: &Plan, tally: &Tally, topic: Topic) -> Line
             )
         }
         Topic::Refusal(refused) => refusal_line(refused, tally.refused_for(refused)),
-        Topic::NeverAccepted => never_line(b"never accepted", &rule_words(tally)),
+        Topic::NeverAccepted => never_line(b"never accepted", &rule_words(&tally.passed)),
         Topic::Met(event) => met_line(event, tally.times_met(event), tally.first_met(event)),
-        Topic::NeverMet => never_line(b"never met", &event_words(tally)),
+        Topic::NeverMet => never_line(b"never met", &event_words(&tally.met.times)),
         Topic::Board(slot) if requests(plan, slot) => board_line(slot, &tally.board(slot)),
         Topic::Board(_) => ArrayVec::new(),
         Topic::Answered(slot) => answers_line(slot, &tally.board(slot)),
+    }
+}
+
+/// What is told of a topic of several traces together.
+pub(crate) fn sums_line(plan: &Plan, sums: &Sums, topic: Topic) -> Line
+    requires { IsTopic topic }
+    ensures { OfSums sums.now (λ ts. result.items ≡ sums_line plan.now ts topic) }
+{
+    match topic {
+        Topic::Edges => edges_line(sums.edges, sums.accepted, sums.refused),
+        Topic::Rule(rule) => {
+            rule_line(
+                rule,
+                sums.passed_by(rule),
+                sums.refused_for(Refused::Rule(rule)),
+            )
+        }
+        Topic::Refusal(refused) => refusal_line(refused, sums.refused_for(refused)),
+        Topic::NeverAccepted => never_line(b"never accepted", &rule_words(&sums.passed)),
+        Topic::Met(event) => times_line(event, sums.times_met(event)),
+        Topic::NeverMet => never_line(b"never met", &event_words(&sums.met)),
+        Topic::Board(slot) if requests(plan, slot) => board_line(slot, &sums.board(slot)),
+        Topic::Board(_) => ArrayVec::new(),
+        Topic::Answered(slot) => answers_line(slot, &sums.board(slot)),
     }
 }

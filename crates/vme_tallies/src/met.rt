@@ -6,7 +6,7 @@ ghost use Rattle.vme_tallies.specs.Tallied.{event_place, met_once, met_after};
 use vme_events::Event;
 
 /// How many situations have a name.
-const EVENTS: usize = 15;
+pub(crate) const EVENTS: usize = 15;
 
 /// How often a trace came to each situation, and by which edge first.
 #[derive(Drop)]
@@ -16,7 +16,7 @@ pub(crate) struct Met {
 }
 
 /// Where the numbers of a situation stand.
-fn place(event: Event) -> usize
+pub(crate) fn place(event: Event) -> usize
     ensures at { result ≡ event_place event }
     ensures within { result < 15 }
 {

@@ -1,9 +1,10 @@
 //! How often a trace was refused, by what refused it.
 ghost use Rattle.std.specs.Prelude.{◌≡◌, ◌+◌, ◌<◌, ◌^◌, ◌∷◌, [], Err, length};
+ghost use Rattle.vme_tallies.specs.Sums.{Traces, total};
 ghost use Rattle.vme_tallies.specs.Tally.{Answers, Answered, refused_for};
 ghost use Rattle.vme_tallies.specs.Tallied.{IsNamed};
 
-use crate::counts::count;
+use crate::counts::{add_counts, count};
 use crate::rules::RULES;
 use vme_model::Refused;
 
@@ -22,6 +23,7 @@ pub(crate) struct Refusals {
 
 impl Refusals {
     ghost use Rattle.vme_tallies.specs.Tallied.{IsRefusalsOf};
+    ghost use Rattle.vme_tallies.specs.Summed.{AreRefusalsOf};
 
     /// Those of a trace before its first edge.
     pub(crate) fn new() -> Refusals
@@ -50,10 +52,24 @@ impl Refusals {
         }
     }
 
+    /// Takes in the refusals of one more trace.
+    pub(crate) fn add(&mut self, other: &Refusals)
+        ensures { (ts : Traces) (t : Answers) → AreRefusalsOf ts self.old
+            → IsRefusalsOf t other.now → AreRefusalsOf (t ∷ ts) self.new }
+    {
+        add_counts(&mut self.rules, &other.rules);
+        add_counts(&mut self.settlings, &other.settlings);
+        self.no_such_driver = self.no_such_driver.saturating_add(other.no_such_driver);
+        self.already_there = self.already_there.saturating_add(other.already_there);
+        self.trace_full = self.trace_full.saturating_add(other.trace_full);
+    }
+
     /// How many edges were refused so; rules are G1 to G26 and S1 to S4.
     pub(crate) fn how_often(&self, refused: Refused) -> u64
         requires { IsNamed refused }
-        ensures { (t : Answers) → IsRefusalsOf t self.now → result ≡ refused_for refused t }
+        ensures one { (t : Answers) → IsRefusalsOf t self.now → result ≡ refused_for refused t }
+        ensures all { (ts : Traces) → AreRefusalsOf ts self.now
+            → result ≡ total (refused_for refused) ts }
     {
         match refused {
             Refused::NoSuchDriver => self.no_such_driver,

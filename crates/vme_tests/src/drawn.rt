@@ -1,7 +1,7 @@
 //! What no clause says of a drive with a seed: which edges some seeds draw, and a device that is full.
 use crate::devices::Narrow;
 use std::process::Abort;
-use vme_engines::{EngineFault, Status, Progress, drive_drawn, drive_found};
+use vme_engines::{EngineFault, Progress, Status, drive_drawn, drive_found};
 use vme_events::{Event, Goal, Miss};
 use vme_model::Version;
 use vme_trace::Fault;

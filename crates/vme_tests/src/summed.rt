@@ -1,8 +1,9 @@
-//! What no clause says of `summary`: whole traces and what is told of them, its faults, and devices that fail.
+//! What no clause says of `summary` and of sums: whole traces and what is told of them, its faults, and devices that fail.
 use crate::devices::{Narrow, Pieces};
 use std::io::Read;
 use std::process::Abort;
-use vme_engines::{EngineFault, Status, summary};
+use vme_engines::{EngineFault, Status, add_trace, summary, tell_sums};
+use vme_tallies::Sums;
 use vme_trace::Fault;
 
 /// Nine slots, two handlers and five interrupters.
@@ -155,6 +156,26 @@ board 3 asked 1 waited 2 longest-wait 2 tenures 1 held 8 longest-hold 8 cycles 0
 board 4 asked 1 waited 0 longest-wait 0 tenures 0 held 0 longest-hold 0 cycles 0 asks since 1
 ";
 
+/// The same trace twice.
+const LATE_TWICE: &[u8] = b"edges 34 accepted 24 refused 10
+G1 accepted 4 refused 2
+G2 accepted 2 refused 0
+G9 accepted 6 refused 0
+G10 accepted 2 refused 0
+G11 accepted 2 refused 2
+G12 accepted 2 refused 0
+G13 accepted 4 refused 4
+G14 accepted 2 refused 2
+never accepted G3 G4 G5 G6 G7 G8 G15 G16 G17 G18 G19 G20 G21 G22 G23 G24 G25 G26
+met grant-passed 2
+met late-request 2
+met overtaken 4
+never met early-release overlap full-burst bus-clear rivals delivery iack-passed answered-again spurious bus-error withdrawn grant-timeout
+board 2 asked 2 waited 26 longest-wait 13 tenures 2 held 0 longest-hold 0 cycles 0
+board 3 asked 2 waited 4 longest-wait 2 tenures 2 held 16 longest-hold 8 cycles 0
+board 4 asked 2 waited 0 longest-wait 0 tenures 0 held 0 longest-hold 0 cycles 0
+";
+
 /// Two interrupters of one level.
 const RIVALS: &[u8] = b"slots = 3
 arbiter = \"sgl\"
@@ -266,4 +287,30 @@ fn a_full_disk_ends_a_summary(rt: HostRuntime) {
     let mut out = Narrow::new(rt.alloc(), 7, 100);
     let answer = summary(rt.alloc(), ONE_CHAIN, &mut { LATE }, &mut out);
     assert!(rt; answer == Err(EngineFault::Trace(Fault::Write)));
+}
+
+#[test]
+fn adds_up_a_trace_twice_past_one_at_fault(rt: HostRuntime) {
+    let mut sums = Sums::new();
+    let mut out = Vec::new(rt.alloc());
+    let cut = LATE.get(..43).unwrap_or(LATE);
+    let first = add_trace(rt.alloc(), ONE_CHAIN, &mut { LATE }, &mut sums);
+    assert!(rt; first == Ok(Status::SomeRefused));
+    let fault = add_trace(rt.alloc(), ONE_CHAIN, &mut { cut }, &mut sums);
+    assert!(rt; fault == Err(EngineFault::Trace(Fault::CutOff)));
+    let second = add_trace(rt.alloc(), ONE_CHAIN, &mut { LATE }, &mut sums);
+    assert!(rt; second == Ok(Status::SomeRefused));
+    let told = tell_sums(rt.alloc(), ONE_CHAIN, &sums, &mut out);
+    assert!(rt; told == Ok(Status::SomeRefused));
+    assert!(rt; out.as_slice() == LATE_TWICE);
+}
+
+#[test]
+fn a_full_disk_ends_sums(rt: HostRuntime) {
+    let mut sums = Sums::new();
+    let mut out = Narrow::new(rt.alloc(), 7, 100);
+    let added = add_trace(rt.alloc(), ONE_CHAIN, &mut { LATE }, &mut sums);
+    assert!(rt; added == Ok(Status::SomeRefused));
+    let told = tell_sums(rt.alloc(), ONE_CHAIN, &sums, &mut out);
+    assert!(rt; told == Err(EngineFault::Trace(Fault::Write)));
 }

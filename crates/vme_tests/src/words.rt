@@ -38,6 +38,18 @@ fn reads_two_files(rt: HostRuntime) {
 }
 
 #[test]
+fn reads_several_traces(rt: HostRuntime) {
+    let given = ["summary", "board.toml", "a.vme", "--", "b.vme", "-c.vme"];
+    match words(rt.alloc(), &given) {
+        Ok(Job::Sums { scenario, traces }) => {
+            assert!(rt; scenario == "board.toml");
+            assert!(rt; traces.as_slice() == &["a.vme", "b.vme", "-c.vme"]);
+        }
+        _ => panic!(rt; "no sums"),
+    }
+}
+
+#[test]
 fn reads_which_edge_to_explain(rt: HostRuntime) {
     let (scenario, trace) = ("S", "T");
     let given: [(&[&str], Option<u64>); 3] = [

@@ -24,15 +24,15 @@ pub mod FieldReads
 pub mod JudgedParts
 -- before any edge: `Wiring::new`
 pub mod Fresh
--- what the fields say of the edges that are considered: `Wiring::next_board`, `wanted`
+-- what is read of the edges that are considered: `next_board`, `wanted`, `board_above`
 pub mod ConsideredReads
 -- what a part answers by its own fields: `Board::may`
 pub mod PartAnswers
--- who waits has no edge that the rules allow: `Wiring::is_waiting` and the parts of it
+-- who waits has no edge that the rules allow: `Wiring::is_waiting`, `waiting_parts`, `offer_requester`
 pub mod NoOffers
--- lists that grow by what passes a test: `Wiring::offer_requester` and its like
+-- lists that grow by what passes a test: `offer_requester` and its like
 pub mod More
--- a list that grows by each number's edge: `Wiring::open_acknowledges`, `open_accesses`
+-- a list that grows by each number's edge: `open_acknowledges`, `open_accesses`
 pub mod EachNumber
 -- a quiet board to which nothing has come waits, and a busy bus has no grant: `Wiring::is_waiting`
 pub mod Quiet

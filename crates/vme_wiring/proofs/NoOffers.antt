@@ -35,11 +35,12 @@ use Rattle.vme_wiring.specs.Boards.{parts_of, place, low_of}
 use Rattle.vme_wiring.specs.Asked.{seen_by, read_by}
 use Rattle.vme_wiring.specs.Offered.{is_open, offered_on, offered_but_full, requester_wires, master_wires, interrupter_wires}
 use Rattle.vme_wiring.specs.Waits.{waits_for_grant, waits_for_bus, waits_for_cycle, is_access_to, is_unserved, board_waits, is_waiting}
+use Rattle.vme_wiring.specs.Judged.{requester_waits, master_waits, interrupter_waits}
 use Rattle.vme_wiring.specs.Wired.{IsWiringOf}
 use Rattle.vme_wiring.specs.declared.boards.Board.{Board}
 use Rattle.vme_wiring.specs.declared.wirings.Wiring.{Wiring}
 use Rattle.vme_wiring.proofs.LongerHistory.{IsPlaced, placed_board}
-use Rattle.vme_wiring.proofs.FieldReads.{pins_of_board, own_of_board, own_of_none, no_board_in}
+use Rattle.vme_wiring.proofs.FieldReads.{pins_of_board, own_of_board, own_of_none}
 
 -- a test that fails on the way to Ok
 stops_third : (a b c : Bool) (x y z : Refused) (rest : Judgement) → c ≡ false → is_ok (check a x (check b y (check c z rest))) ≡ false
@@ -90,6 +91,10 @@ is_high true holds = absurd (cc)
 low_and_high : (a b : Bool) → (a && not b) ≡ true → (a ≡ true) × (b ≡ false)
 low_and_high true false holds = (refl, refl)
 low_and_high a b holds = absurd (cc)
+
+both_hold : (a b : Bool) → (a && b) ≡ true → (a ≡ true) × (b ≡ true)
+both_hold true true holds = (refl, refl)
+both_hold a b holds = absurd (cc)
 
 all_four : (a b c d : Bool) → (a && b && (c && d)) ≡ true → (a ≡ true) × (b ≡ true) × (c ≡ true) × (d ≡ true)
 all_four true true true true holds = (refl, refl, refl, refl)
@@ -233,19 +238,26 @@ pub none_waits : (version : Version) (p : Plan) (h : List Edge) (s : ℕ) → of
 none_waits version p h s a b c = sym (parts_joined version p h s) ∙ rw (a, b, c)
 
 -- a slot without a board
-pub nobody_in : (version : Version) (p : Plan) (h : List Edge) (s : ℕ) → IsLegal version p h → board p s ≡ None → offered_but_full version p h (Slot s) ≡ []
-nobody_in version p h s legal empty =
+requester_of_none : (version : Version) (p : Plan) (h : List Edge) (s : ℕ) → board p s ≡ None → offered_on version p h (Slot s) requester_wires ≡ []
+requester_of_none version p h s empty =
+    let at = λ (x : Wire). none_here version p h s x empty in
+    three_closed (is_open version p h) (turned h (Slot s) Br) (turned h (Slot s) BgOut) (turned h (Slot s) Bbsy) (at Br) (at BgOut) (at Bbsy)
+
+master_of_none : (version : Version) (p : Plan) (h : List Edge) (s : ℕ) → IsLegal version p h → board p s ≡ None → offered_on version p h (Slot s) master_wires ≡ []
+master_of_none version p h s legal empty =
     let at = λ (x : Wire). none_here version p h s x empty in
     let test = is_open version p h in
-    none_waits version p h s
-    (three_closed test (turned h (Slot s) Br) (turned h (Slot s) BgOut) (turned h (Slot s) Bbsy) (at Br) (at BgOut) (at Bbsy))
-    (none_behind test (considered p h (Slot s) Addr) (turned h (Slot s) AddressStrobe ∷ turned h (Slot s) DataStrobe ∷ [])
+    none_behind test (considered p h (Slot s) Addr) (turned h (Slot s) AddressStrobe ∷ turned h (Slot s) DataStrobe ∷ [])
     (address_of_none version p h s empty (sym (own_of_none version p h s Addr legal empty)))
-    (two_closed test (turned h (Slot s) AddressStrobe) (turned h (Slot s) DataStrobe) (at AddressStrobe) (at DataStrobe)))
-    (three_closed test (turned h (Slot s) Irq) (turned h (Slot s) IackOut) (turned h (Slot s) Dtack) (at Irq) (at IackOut) (at Dtack))
+    (two_closed test (turned h (Slot s) AddressStrobe) (turned h (Slot s) DataStrobe) (at AddressStrobe) (at DataStrobe))
 
-pub nobody : (version : Version) (p : Plan) (h : List Edge) (w : Wiring) (s : ℕ) → IsWiringOf version p h w → place w.boards s ≡ None → offered_but_full version p h (Slot s) ≡ []
-nobody version p h w s is none = nobody_in version p h s is.legal (no_board_in version p h w s is none)
+interrupter_of_none : (version : Version) (p : Plan) (h : List Edge) (s : ℕ) → board p s ≡ None → offered_on version p h (Slot s) interrupter_wires ≡ []
+interrupter_of_none version p h s empty =
+    let at = λ (x : Wire). none_here version p h s x empty in
+    three_closed (is_open version p h) (turned h (Slot s) Irq) (turned h (Slot s) IackOut) (turned h (Slot s) Dtack) (at Irq) (at IackOut) (at Dtack)
+
+nobody_in : (version : Version) (p : Plan) (h : List Edge) (s : ℕ) → IsLegal version p h → board p s ≡ None → offered_but_full version p h (Slot s) ≡ []
+nobody_in version p h s legal empty = none_waits version p h s (requester_of_none version p h s empty) (master_of_none version p h s legal empty) (interrupter_of_none version p h s empty)
 
 -- a board whose parts wait
 module _ (version : Version) (p : Plan) (h : List Edge) (s : ℕ) (r : Row) (found : board p s ≡ Some r) where
@@ -292,6 +304,31 @@ module _ (version : Version) (p : Plan) (h : List Edge) (s : ℕ) (r : Row) (fou
       let seen = readings p h (Slot s) in
       let t = all_four (waits_for_grant version seen r) (waits_for_bus seen) (waits_for_cycle seen r) (is_unserved seen r) waits in
       none_waits version p h s (requester_none t.0) (master_none t.1) (interrupter_none t.2 t.3)
+
+-- the parts of a slot's board, or of none
+module _ (version : Version) (p : Plan) (h : List Edge) (s : ℕ) (legal : IsLegal version p h) where
+  pub requester_idle : requester_waits version p h s ≡ true → offered_on version p h (Slot s) requester_wires ≡ []
+  requester_idle waits = by_board (board p s) refl waits
+    where
+      by_board : (o : Option Row) → board p s ≡ o → option_map_or (waits_for_grant version (readings p h (Slot s))) o true ≡ true → offered_on version p h (Slot s) requester_wires ≡ []
+      by_board None found waits = requester_of_none version p h s found
+      by_board (Some r) found waits = requester_none version p h s r found waits
+
+  pub master_idle : master_waits p h s ≡ true → offered_on version p h (Slot s) master_wires ≡ []
+  master_idle waits = by_board (board p s) refl waits
+    where
+      by_board : (o : Option Row) → board p s ≡ o → option_map_or (λ (r : Row). waits_for_bus (readings p h (Slot s))) o true ≡ true → offered_on version p h (Slot s) master_wires ≡ []
+      by_board None found waits = master_of_none version p h s legal found
+      by_board (Some r) found waits = master_none version p h s r found waits
+
+  pub interrupter_idle : interrupter_waits p h s ≡ true → offered_on version p h (Slot s) interrupter_wires ≡ []
+  interrupter_idle waits = by_board (board p s) refl waits
+    where
+      by_board : (o : Option Row) → board p s ≡ o → option_map_or (λ (r : Row). waits_for_cycle (readings p h (Slot s)) r && is_unserved (readings p h (Slot s)) r) o true ≡ true → offered_on version p h (Slot s) interrupter_wires ≡ []
+      by_board None found waits = interrupter_of_none version p h s found
+      by_board (Some r) found waits =
+          let t = both_hold (waits_for_cycle (readings p h (Slot s)) r) (is_unserved (readings p h (Slot s)) r) waits in
+          interrupter_none version p h s r found t.0 t.1
 
 -- who waits has no offer
 pub waiting_none : (version : Version) (p : Plan) (h : List Edge) (d : Driver) → IsLegal version p h → is_waiting version p h d ≡ true → offered_but_full version p h d ≡ []

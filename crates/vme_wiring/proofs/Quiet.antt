@@ -1,9 +1,8 @@
 -- A board that is quiet, and to which nothing has come, waits; while the bus is busy no grant falls.
-use Rattle.std.proofs.Common.{◌≡◌, ◌∙◌, refl, sym, ap, Bool, true, false, ℕ, List}
+use Rattle.std.proofs.Common.{◌≡◌, ◌∙◌, refl, ap, Bool, true, false, ℕ, List}
 use Rattle.std.specs.Prelude.{◌&&◌, not, Some, filter, [], ◌∷◌}
 use Rattle.std.specs.List.{list_all}
 use Rattle.std.proofs.Math.Path.{fun_ext}
-use Rattle.vme_model.specs.declared.pins.Pins.{Pins}
 use Rattle.vme_model.specs.declared.signals.Version.{Version}
 use Rattle.vme_model.specs.declared.signals.Driver.TheVariants.{Controller, Slot}
 use Rattle.vme_model.specs.declared.signals.Wire.{Wire}
@@ -14,12 +13,13 @@ use Rattle.vme_model.specs.History.{drive, line, last_level, request_line}
 use Rattle.vme_model.specs.Readings.{readings}
 use Rattle.vme_model.specs.Rules.{bus_numbers, is_pick}
 use Rattle.vme_model.specs.Offers.{turned}
-use Rattle.vme_arbiter.specs.Local.{low}
+use Rattle.vme_model.specs.Verdict.{IsLegal}
+use Rattle.vme_arbiter.specs.Local.{ControllerState, controller_of, low}
 use Rattle.vme_wiring.specs.Boards.{low_of, place}
 use Rattle.vme_wiring.specs.Asked.{seen_by, read_by}
 use Rattle.vme_wiring.specs.Offered.{is_open}
 use Rattle.vme_wiring.specs.Waits.{is_quiet, is_requester_quiet, is_master_quiet, is_interrupter_quiet, is_ungranted, is_unaddressed, is_left_alone, waits_for_grant, waits_for_bus, waits_for_cycle}
-use Rattle.vme_wiring.specs.Quiet.{may_grant}
+use Rattle.vme_wiring.specs.Judged.{may_grant}
 use Rattle.vme_wiring.specs.Wired.{IsWiringOf}
 use Rattle.vme_wiring.specs.declared.boards.Board.{Board}
 use Rattle.vme_wiring.specs.declared.wirings.Wiring.{Wiring}
@@ -60,23 +60,27 @@ and_stops true true c none = absurd (cc)
 and_stops true false c none = refl
 and_stops false b c none = refl
 
-module _ (version : Version) (p : Plan) (h : List Edge) (w : Wiring) (is : IsWiringOf version p h w) where
+and_true : (b : Bool) → (b && true) ≡ b
+and_true true = refl
+and_true false = refl
+
+module _ (version : Version) (p : Plan) (h : List Edge) where
   abbrev grants_high : (Wire → Bool) → Bool
   grants_high f = list_all (λ n. not (f (Bg n))) bus_numbers
 
-  own : (x : Wire) → low w.arbiter.1 x ≡ drive h Controller x
-  own x = ap (λ a. low a.1 x) is.arbiter ∙ own_of_controller version p h x is.legal
+  -- the grants and the bus by the controller's state and its pin
+  pub free : (c : ControllerState) (bbsy : Bool) → IsLegal version p h → c ≡ controller_of p.arbiter version h → bbsy ≡ line p h Bbsy → ((grants_high (low c) && not bbsy) && true) ≡ may_grant p h
+  free c bbsy legal state pin =
+      let own : (x : Wire) → low c x ≡ drive h Controller x = λ x. ap (λ (a : ControllerState). low a x) state ∙ own_of_controller version p h x legal in
+      and_true (grants_high (low c) && not bbsy)
+      ∙ ap (λ f. grants_high f && not bbsy) (fun_ext own)
+      ∙ ap (λ b. grants_high (drive h Controller) && not b) pin
 
-  free : may_grant w ≡ (grants_high (drive h Controller) && not (line p h Bbsy))
-  free =
-      ap (λ f. grants_high f && not w.shared.bbsy) (fun_ext own)
-      ∙ ap (λ (x : Pins). grants_high (drive h Controller) && not x.bbsy) is.shared
-
-  pub no_grant : (n : ℕ) → low w.arbiter.1 (Bg n) ≡ false → may_grant w ≡ false → filter (is_open version p h) (turned h Controller (Bg n) ∷ []) ≡ []
+  pub no_grant : (n : ℕ) → drive h Controller (Bg n) ≡ false → may_grant p h ≡ false → filter (is_open version p h) (turned h Controller (Bg n) ∷ []) ≡ []
   no_grant n high busy =
       let shut : is_open version p h (turned h Controller (Bg n)) ≡ false =
-      closed version p h Controller (Bg n) false (sym (own (Bg n)) ∙ high)
-      (and_stops (grants_high (drive h Controller)) (not (line p h Bbsy)) (is_pick p.arbiter (request_line p h) (last_level h) n) (sym free ∙ busy)) in
+      closed version p h Controller (Bg n) false high
+      (and_stops (grants_high (drive h Controller)) (not (line p h Bbsy)) (is_pick p.arbiter (request_line p h) (last_level h) n) busy) in
       rw shut
 
 module _ (version : Version) (p : Plan) (h : List Edge) (w : Wiring) (s : ℕ) (b : Board) (is : IsWiringOf version p h w) (here : Some b ≡ place w.boards s) where

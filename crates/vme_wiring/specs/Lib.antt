@@ -17,5 +17,5 @@ pub mod Offered
 pub mod Opens
 -- believe, for `Wiring::is_waiting`: which drivers wait for an edge of another
 pub mod Waits
--- words: what shows at once that no grant falls
-pub mod Quiet
+-- words: what is asked of a state of the bus, whatever it is kept as
+pub mod Judged

@@ -3,6 +3,9 @@
 
 mod boards;
 mod chains;
+mod conditions;
+mod judges;
+mod judging;
 mod lines;
 mod offers;
 mod opens;
@@ -12,5 +15,9 @@ mod verdicts;
 mod waits;
 mod wirings;
 
+pub use conditions::{failing_by, told_by};
+pub use judges::{Judges, Waiting};
+pub use offers::offers_of;
+pub use opens::open_edges_of;
 pub use sights::delivered_by;
 pub use wirings::Wiring;

@@ -1,88 +1,85 @@
-//! All edges that a driver can make, with every value.
+//! All edges that a driver can make, with every value, by what a state of the bus answers.
 ghost use Rattle.std.specs.Prelude.{◌≡◌, ◌≤◌, ◌+◌, ◌++◌, filter, length, map};
 ghost use Rattle.vme_model.specs.declared.signals.Driver.TheVariants.{Slot};
 ghost use Rattle.vme_model.specs.Open.{accesses, acknowledges, moves, showing as showing_of};
+ghost use Rattle.vme_wiring.specs.Offered.{is_open};
+ghost use Rattle.vme_wiring.specs.Opens.{open_but_full};
+ghost use Rattle.vme_wiring.specs.Judged.{OfState};
 
-use crate::offers::showing;
-use crate::wirings::Wiring;
+use crate::judges::Judges;
+use crate::offers::{controller_offers, offer, offer_turned, showing};
 use arrayvec::ArrayVec;
 use vme_model::{Cycle, Driver, Edge, Wire};
 
-impl Wiring {
-    ghost use Rattle.vme_wiring.specs.Wired.{OfHistory};
-    ghost use Rattle.vme_wiring.specs.Offered.{is_open};
-    ghost use Rattle.vme_wiring.specs.Opens.{open_but_full};
-
-    /// Puts after the others the acknowledges that the slot can show, by level.
-    fn open_acknowledges(&self, slot: u8, edges: &mut ArrayVec<Edge, 36>)
-        requires { length edges.old.items ≤ 29 }
-        ensures opened { OfHistory self.now (λ version p h. edges.new.items ≡ edges.old.items
-            ++ filter (is_open version p h) (map (showing_of (Slot slot)) acknowledges)) }
-        ensures few { length edges.new.items ≤ length edges.old.items + 7 }
-    {
-        for level in 1..=7 {
-            self.offer(showing(slot, Cycle::Acknowledge(level)), edges);
-        }
+/// Puts after the others the acknowledges that the slot can show, by level.
+fn open_acknowledges<J: Judges>(state: &J, slot: u8, edges: &mut ArrayVec<Edge, 36>)
+    requires { length edges.old.items ≤ 29 }
+    ensures opened { OfState J.is_of state.now (λ version p h. edges.new.items ≡ edges.old.items
+        ++ filter (is_open version p h) (map (showing_of (Slot slot)) acknowledges)) }
+    ensures few { length edges.new.items ≤ length edges.old.items + 7 }
+{
+    for level in 1..=7 {
+        offer(state, showing(slot, Cycle::Acknowledge(level)), edges);
     }
+}
 
-    /// Puts after the others the accesses that it can show, by their slots.
-    fn open_accesses(&self, slot: u8, edges: &mut ArrayVec<Edge, 36>)
-        requires { length edges.old.items ≤ 15 }
-        ensures opened { OfHistory self.now (λ version p h. edges.new.items ≡ edges.old.items
-            ++ filter (is_open version p h) (map (showing_of (Slot slot)) accesses)) }
-        ensures few { length edges.new.items ≤ length edges.old.items + 21 }
-    {
-        for target in 1..=21 {
-            self.offer(showing(slot, Cycle::Access(target)), edges);
-        }
+/// Puts after the others the accesses that it can show, by their slots.
+fn open_accesses<J: Judges>(state: &J, slot: u8, edges: &mut ArrayVec<Edge, 36>)
+    requires { length edges.old.items ≤ 15 }
+    ensures opened { OfState J.is_of state.now (λ version p h. edges.new.items ≡ edges.old.items
+        ++ filter (is_open version p h) (map (showing_of (Slot slot)) accesses)) }
+    ensures few { length edges.new.items ≤ length edges.old.items + 21 }
+{
+    for target in 1..=21 {
+        offer(state, showing(slot, Cycle::Access(target)), edges);
     }
+}
 
-    /// Puts after the others the edges of its address group: going off, or going on with each cycle.
-    fn open_address(&self, slot: u8, edges: &mut ArrayVec<Edge, 36>)
-        requires { length edges.old.items ≤ 8 }
-        ensures opened { OfHistory self.now (λ version p h. edges.new.items ≡ edges.old.items
-            ++ filter (is_open version p h) (moves h (Slot slot) Wire.Addr)) }
-        ensures few { length edges.new.items ≤ length edges.old.items + 28 }
-    {
-        if self.is_low(Driver::Slot(slot), Wire::Addr) {
-            self.offer_turned(Driver::Slot(slot), Wire::Addr, edges);
-        } else {
-            self.open_acknowledges(slot, edges);
-            self.open_accesses(slot, edges);
-        }
+/// Puts after the others the edges of its address group: going off, or going on with each cycle.
+fn open_address<J: Judges>(state: &J, slot: u8, edges: &mut ArrayVec<Edge, 36>)
+    requires { length edges.old.items ≤ 8 }
+    ensures opened { OfState J.is_of state.now (λ version p h. edges.new.items ≡ edges.old.items
+        ++ filter (is_open version p h) (moves h (Slot slot) Wire.Addr)) }
+    ensures few { length edges.new.items ≤ length edges.old.items + 28 }
+{
+    if state.is_low(Driver::Slot(slot), Wire::Addr) {
+        offer_turned(state, Driver::Slot(slot), Wire::Addr, edges);
+    } else {
+        open_acknowledges(state, slot, edges);
+        open_accesses(state, slot, edges);
     }
+}
 
-    /// All edges that the slot's board can make; none where there is no board.
-    fn slot_open_edges(&self, slot: u8) -> ArrayVec<Edge, 36>
-        ensures { OfHistory self.now (λ version p h. result.items
-            ≡ open_but_full version p h (Slot slot)) }
-    {
-        let mut edges = ArrayVec::new();
-        self.offer_turned(Driver::Slot(slot), Wire::Br, &mut edges);
-        self.offer_turned(Driver::Slot(slot), Wire::BgOut, &mut edges);
-        self.offer_turned(Driver::Slot(slot), Wire::Bbsy, &mut edges);
-        self.open_address(slot, &mut edges);
-        self.offer_turned(Driver::Slot(slot), Wire::AddressStrobe, &mut edges);
-        self.offer_turned(Driver::Slot(slot), Wire::DataStrobe, &mut edges);
-        self.offer_turned(Driver::Slot(slot), Wire::Irq, &mut edges);
-        self.offer_turned(Driver::Slot(slot), Wire::IackOut, &mut edges);
-        self.offer_turned(Driver::Slot(slot), Wire::Dtack, &mut edges);
-        edges
-    }
+/// All edges that the slot's board can make; none where there is no board.
+fn slot_open_edges<J: Judges>(state: &J, slot: u8) -> ArrayVec<Edge, 36>
+    ensures { OfState J.is_of state.now (λ version p h. result.items
+        ≡ open_but_full version p h (Slot slot)) }
+{
+    let mut edges = ArrayVec::new();
+    offer_turned(state, Driver::Slot(slot), Wire::Br, &mut edges);
+    offer_turned(state, Driver::Slot(slot), Wire::BgOut, &mut edges);
+    offer_turned(state, Driver::Slot(slot), Wire::Bbsy, &mut edges);
+    open_address(state, slot, &mut edges);
+    offer_turned(state, Driver::Slot(slot), Wire::AddressStrobe, &mut edges);
+    offer_turned(state, Driver::Slot(slot), Wire::DataStrobe, &mut edges);
+    offer_turned(state, Driver::Slot(slot), Wire::Irq, &mut edges);
+    offer_turned(state, Driver::Slot(slot), Wire::IackOut, &mut edges);
+    offer_turned(state, Driver::Slot(slot), Wire::Dtack, &mut edges);
+    edges
+}
 
-    /// All edges that a driver can make, but for the end of the trace: of those that move one of its wires those that the
-    /// rules allow, in the order of its wires. An address group goes on with each acknowledge, by level, and then with
-    /// each access, by slot.
-    ///
-    /// `offers` has one acknowledge and one access of them at most.
-    pub fn open_edges(&self, driver: Driver) -> ArrayVec<Edge, 36>
-        ensures { OfHistory self.now (λ version p h. result.items
-            ≡ open_but_full version p h driver) }
-    {
-        match driver {
-            // its wires show nothing, so that it is offered all that it can make
-            Driver::Controller => self.controller_offers(),
-            Driver::Slot(slot) => self.slot_open_edges(slot),
-        }
+/// All edges that a driver can make, but for the end of the trace: of those that move one of its
+/// wires those that the rules allow, in the order of its wires. An address group goes on with each
+/// acknowledge, by level, and then with each access, by slot.
+///
+/// `offers_of` has one acknowledge and one access of them at most.
+pub fn open_edges_of<J: Judges>(state: &J, driver: Driver) -> ArrayVec<Edge, 36>
+    ensures { OfState J.is_of state.now (λ version p h. result.items
+        ≡ open_but_full version p h driver) }
+{
+    match driver {
+        // its wires show nothing, so that it is offered all that it can make
+        Driver::Controller => controller_offers(state),
+        Driver::Slot(slot) => slot_open_edges(state, slot),
     }
 }

@@ -2,7 +2,6 @@
 ghost use Rattle.std.specs.Prelude.{◌≡◌};
 ghost use Rattle.std.specs.Option.{option_copied};
 ghost use Rattle.vme_model.specs.Plan.{board_of};
-ghost use Rattle.vme_model.specs.History.{drive};
 ghost use Rattle.vme_model.specs.Views.{pins};
 ghost use Rattle.vme_model.specs.Deliveries.{delivery, delivered_by};
 ghost use Rattle.vme_wiring.specs.Asked.{seen_by};
@@ -63,20 +62,6 @@ impl Wiring {
             Driver::Slot(slot) => match self.board(slot) {
                 Some(board) => self.pins_at(board),
                 None => self.shared,
-            },
-        }
-    }
-
-    /// Whether the driver's own wire is low, or its address group on.
-    #[inline(always)]
-    pub(crate) fn is_low(&self, driver: Driver, wire: Wire) -> bool
-        ensures { OfHistory self.now (λ _ _ h. result ≡ drive h driver wire) }
-    {
-        match driver {
-            Driver::Controller => self.arbiter.is_low(wire),
-            Driver::Slot(slot) => match self.board(slot) {
-                Some(board) => board.is_low(wire),
-                None => false,
             },
         }
     }

@@ -1,17 +1,14 @@
-//! The verdict on an edge, but for the end of the trace, and which conditions it fails.
-ghost use Rattle.std.specs.Prelude.{◌≡◌, ◌&&◌, true, Some, Ok, Err};
+//! The verdict on an edge, but for the end of the trace.
+ghost use Rattle.std.specs.Prelude.{◌≡◌, ◌&&◌, true, Some, Ok};
 ghost use Rattle.vme_model.specs.Signals.{is_well_formed};
 ghost use Rattle.vme_model.specs.Plan.{has_driver};
 ghost use Rattle.vme_model.specs.History.{shown};
-ghost use Rattle.vme_model.specs.Guards.{◌⊓◌};
 ghost use Rattle.vme_model.specs.Settling.{is_unanswerable, settling, settling_guard};
 ghost use Rattle.vme_model.specs.Verdict.{check, settled, verdict_but_full};
-ghost use Rattle.vme_model.specs.Failing.{tested_for, tested_but_full, unmet_but_full};
-ghost use Rattle.vme_wiring.specs.Asked.{asked, asked_guard, exists};
+ghost use Rattle.vme_wiring.specs.Asked.{asked, exists};
 
 use crate::wirings::Wiring;
-use arrayvec::ArrayVec;
-use vme_model::{ChainId, Condition, Cycle, Driver, Edge, Refused, Wire};
+use vme_model::{ChainId, Cycle, Driver, Edge, Refused, Wire};
 use vme_rules::Outcome;
 use vme_rules::settlings::{as_settles, berr_settles, bg_fall_settles, bg_rise_settles};
 
@@ -77,7 +74,7 @@ impl Wiring {
 
     /// The settling rule that names the edge, and what its guard answers; 0 and a free one where none does.
     #[inline(always)]
-    fn settling<A: Outcome>(&self, edge: Edge) -> (u8, A)
+    pub(crate) fn settling<A: Outcome>(&self, edge: Edge) -> (u8, A)
         ensures number { OfHistory self.now (λ version p h. result.0
             ≡ (settling_guard version p h edge.wire edge.fall).0) }
         ensures answer { OfHistory self.now (λ version p h.
@@ -125,65 +122,5 @@ impl Wiring {
             Ok(()) => self.settle(edge),
             Err(refused) => Err(refused),
         }
-    }
-
-    /// What the guard answers of the rule that names an edge, by the part that drives its wire.
-    fn told_by_rule<A: Outcome>(&self, edge: Edge) -> A
-        ensures { OfHistory self.now (λ version p h. exists p edge ≡ true
-            → A.tells result (asked_guard version p h edge)) }
-    {
-        match edge.driver {
-            Driver::Controller => self.arbiter.told(edge, self.shared),
-            Driver::Slot(slot) => match self.board(slot) {
-                Some(board) => board.told(edge, self.pins_at(board)),
-                None => A::free(),
-            },
-        }
-    }
-
-    /// The same, and behind it what the guard answers of the settling rule.
-    fn told_by_both<A: Outcome>(&self, edge: Edge) -> A
-        ensures { OfHistory self.now (λ version p h. exists p edge ≡ true
-            → A.tells result
-            (asked_guard version p h edge ⊓ (settling_guard version p h edge.wire edge.fall).1)) }
-    {
-        let rules: A = self.told_by_rule(edge);
-        let (_number, settles) = self.settling(edge);
-        rules.and(settles)
-    }
-
-    /// What is tested of an edge that is refused, up to the condition that refuses it.
-    fn told_refused<A: Outcome>(&self, edge: Edge, refused: Refused) -> A
-        ensures { OfHistory self.now (λ version p h.
-            verdict_but_full version p h edge ≡ Err refused
-            → A.tells result (tested_for version p h edge (Err refused))) }
-    {
-        match refused {
-            Refused::NoSuchDriver => A::asks(Condition::HasDriver, false),
-            Refused::AlreadyThere => A::asks(Condition::OtherState, false),
-            Refused::Rule(_) => self.told_by_rule(edge),
-            Refused::NotSettled(_) => self.told_by_both(edge),
-            Refused::TraceFull => A::free(),
-        }
-    }
-
-    /// What is tested of an edge, but for the end of the trace: the one condition that fails at E1 and E2, else those of
-    /// its rule, and where they hold, that of its settling rule.
-    pub fn told<A: Outcome>(&self, edge: Edge) -> A
-        ensures { OfHistory self.now (λ version p h.
-            A.tells result (tested_but_full version p h edge)) }
-    {
-        match self.judge(edge) {
-            Ok(()) => self.told_by_both(edge),
-            Err(refused) => self.told_refused(edge, refused),
-        }
-    }
-
-    /// The conditions that an edge fails, of the first of E1 to E4 that applies: none where `judge` answers `Ok`.
-    pub fn failing(&self, edge: Edge) -> ArrayVec<Condition, 5>
-        ensures { OfHistory self.now (λ version p h.
-            result.items ≡ unmet_but_full version p h edge) }
-    {
-        self.told(edge)
     }
 }

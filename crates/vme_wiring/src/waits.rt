@@ -8,6 +8,7 @@ ghost use Rattle.vme_wiring.specs.Waits.{is_access_to, is_unserved};
 ghost use Rattle.vme_wiring.specs.declared.wirings.Wiring.{Wiring as WiringValue};
 
 use crate::boards::Board;
+use crate::judges::Waiting;
 use crate::places::{Placed, is_interrupter_quiet, is_master_quiet, is_requester_quiet};
 use crate::wirings::Wiring;
 use vme_model::{Cycle, Driver};
@@ -37,7 +38,7 @@ impl Wiring {
     ghost use Rattle.vme_wiring.specs.Wired.{OfHistory, OfPlaced};
     ghost use Rattle.vme_wiring.specs.Boards.{low_of};
     ghost use Rattle.vme_wiring.specs.Chained.{grant_in, iack_in};
-    ghost use Rattle.vme_wiring.specs.Offered.{offered_on, offered_but_full, requester_wires, master_wires, interrupter_wires};
+    ghost use Rattle.vme_wiring.specs.Offered.{offered_but_full};
     ghost use Rattle.vme_wiring.specs.Waits.{is_quiet, is_ungranted, is_unaddressed, is_left_alone, is_waiting, waits_for_bus, waits_for_cycle, waits_for_grant};
 
     /// Whether the board's requester, if it has one, may not withdraw, and no grant has reached it.
@@ -80,35 +81,32 @@ impl Wiring {
         is_interrupter_quiet(board) && self.is_unaddressed(board)
     }
 
-    /// Whether the requester of a slot's board has no edge to make. Where it answers false, there may be none either.
-    pub(crate) fn is_requester_waiting(&self, board: &Board) -> bool
-        ensures waits { OfPlaced self.now board.now (λ version p h s. result
-            ≡ waits_for_grant version (readings p h (Slot s)) board.now.row) }
-        ensures none { OfPlaced self.now board.now (λ version p h s. result ≡ true
-            → offered_on version p h (Slot s) requester_wires ≡ []) }
-    {
-        self.waits_for_grant(board)
-    }
-
-    /// The same of its master.
-    pub(crate) fn is_master_waiting(&self, board: &Board) -> bool
-        ensures waits { OfPlaced self.now board.now (λ _ p h s. result
-            ≡ waits_for_bus (readings p h (Slot s))) }
-        ensures none { OfPlaced self.now board.now (λ version p h s. result ≡ true
-            → offered_on version p h (Slot s) master_wires ≡ []) }
-    {
-        is_master_quiet(board)
-    }
-
-    /// The same of its interrupter and its answers.
-    pub(crate) fn is_interrupter_waiting(&self, board: &Board) -> bool
-        ensures waits { OfPlaced self.now board.now (λ _ p h s. result
+    /// Whether the board has nothing to answer or to pass on, and its interrupter, if it has one, waits to be served.
+    #[inline(always)]
+    fn is_interrupter_waiting(&self, board: &Board) -> bool
+        ensures { OfPlaced self.now board.now (λ _ p h s. result
             ≡ (waits_for_cycle (readings p h (Slot s)) board.now.row
             && is_unserved (readings p h (Slot s)) board.now.row)) }
-        ensures none { OfPlaced self.now board.now (λ version p h s. result ≡ true
-            → offered_on version p h (Slot s) interrupter_wires ≡ []) }
     {
         self.waits_for_cycle(board) && is_unserved(board)
+    }
+
+    /// Which parts of a slot's board wait.
+    #[inline(always)]
+    pub(crate) fn waiting_parts(&self, board: &Board) -> Waiting
+        ensures requester { OfPlaced self.now board.now (λ version p h s. result.requester
+            ≡ waits_for_grant version (readings p h (Slot s)) board.now.row) }
+        ensures master { OfPlaced self.now board.now (λ _ p h s. result.master
+            ≡ waits_for_bus (readings p h (Slot s))) }
+        ensures interrupter { OfPlaced self.now board.now (λ _ p h s. result.interrupter
+            ≡ (waits_for_cycle (readings p h (Slot s)) board.now.row
+            && is_unserved (readings p h (Slot s)) board.now.row)) }
+    {
+        Waiting {
+            requester: self.waits_for_grant(board),
+            master: is_master_quiet(board),
+            interrupter: self.is_interrupter_waiting(board),
+        }
     }
 
     /// Whether nothing has come to the board.

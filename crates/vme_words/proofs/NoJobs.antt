@@ -4,19 +4,20 @@ use Rattle.clap.specs.Words.{Row, Text}
 use Rattle.vme_words.specs.Asked.{IsNoJob}
 use Rattle.vme_words.specs.Unfits.{IsUnfit}
 use Rattle.vme_words.specs.declared.Unfit.{Unfit}
-use Rattle.vme_words.specs.declared.Unfit.TheVariants.{Missing, Window, Event, Seedless, Aimless, Seeded, Seeds, Idle}
+use Rattle.vme_words.specs.declared.Unfit.TheVariants.{Missing, NoMemory, Window, Event, Seedless, Aimless, Seeded, Seeds, Idle}
 
-one : (name : Text) (rows : List Row) (unfit : Unfit) → unfit ≢ Missing → IsUnfit name rows unfit → IsNoJob name rows
-one name rows Missing other is = absurd (other refl)
-one name rows (Window from to) other is = is
-one name rows (Event named version) other is = is
-one name rows Seedless other is = is
-one name rows Aimless other is = is
-one name rows Seeded other is = is
-one name rows (Seeds named) other is = is
-one name rows Idle other is = is
+one : (name : Text) (rows : List Row) (unfit : Unfit) → unfit ≢ Missing → unfit ≢ NoMemory → IsUnfit name rows unfit → IsNoJob name rows
+one name rows Missing other room is = absurd (other refl)
+one name rows NoMemory other room is = absurd (room refl)
+one name rows (Window from to) other room is = is
+one name rows (Event named version) other room is = is
+one name rows Seedless other room is = is
+one name rows Aimless other room is = is
+one name rows Seeded other room is = is
+one name rows (Seeds named) other room is = is
+one name rows Idle other room is = is
 
-pub no_job : (met : Option (Text × List Row)) (unfit : Unfit) → unfit ≢ Missing → (unfit ≢ Missing → IsSomeAnd met (λ m. IsUnfit m.0 m.1 unfit))
+pub no_job : (met : Option (Text × List Row)) (unfit : Unfit) → unfit ≢ Missing → unfit ≢ NoMemory → (unfit ≢ Missing → IsSomeAnd met (λ m. IsUnfit m.0 m.1 unfit))
     → IsSomeAnd met (λ m. IsNoJob m.0 m.1)
-no_job None unfit other is = is other
-no_job (Some m) unfit other is = one m.0 m.1 unfit other (is other)
+no_job None unfit other room is = is other
+no_job (Some m) unfit other room is = one m.0 m.1 unfit other room (is other)

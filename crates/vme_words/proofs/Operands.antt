@@ -1,15 +1,19 @@
 -- What the getters of a parse give, by the rows that it found.
-use Rattle.std.proofs.Common.{◌≡◌, ◌∙◌, ℕ, List, Bool, true, false, Option, Some, None, Result, Ok, Err, codes, option_map, refl, sym, ap, subst, unwrap_or}
+use Rattle.std.proofs.Common.{◌≡◌, ◌∙◌, ℕ, List, Bool, true, false, Option, Some, None, Result, Ok, Err, codes, map, option_map, refl, sym, ap, subst, unwrap_or}
 use Rattle.std.specs.Str.Parse.{ParsesBool, ParsesUnsigned, digits_value, without_leading_plus}
 use Rattle.std.specs.Borrow.{Bor}
-use Rattle.clap.specs.Words.{ReadsOne, TriesOne, Text, first_of, first_value, one_text, rows_of}
+use Rattle.clap.specs.Words.{ReadsOne, TriesOne, Text, all_of, first_of, first_value, matched_of, one_text, raw_values, rows_of}
 use Rattle.clap.specs.declared.parser.matches.Found.{Found}
-use Rattle.clap.proofs.WalkLemmas.{first_value-rows, one_text-rows}
+use Rattle.clap.proofs.WalkLemmas.{first_value-rows, one_text-rows, raw_values-rows}
 use Rattle.vme_words.specs.Asked.{IsFlag, spelled}
 
 pub text_read : (f : Found) (id : Text) (r : Option (Bor Text)) → option_map (λ s. s.now) r ≡ first_value f id
     → option_map (λ s. s.now) r ≡ first_of id (rows_of f)
 text_read f id r e = e ∙ first_value-rows f id
+
+pub files_read : (f : Found) (id : Text) (r : Option (Bor (List (Bor Text)))) → option_map (λ s. map (λ v. v.now) s.now) r ≡ option_map raw_values (matched_of f id)
+    → option_map (λ s. map (λ v. v.now) s.now) r ≡ all_of id (rows_of f)
+files_read f id r e = e ∙ raw_values-rows f id
 
 spelled_text : (f : Found) (id t : Text) → one_text f id ≡ Some t → spelled id (rows_of f) ≡ Some (digits_value 10 (without_leading_plus t))
 spelled_text f id t e = ap (option_map (λ u. digits_value 10 (without_leading_plus u))) (sym (one_text-rows f id) ∙ e)

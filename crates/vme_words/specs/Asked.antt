@@ -1,15 +1,15 @@
 -- Which job the words after the program's name ask for.
-use Rattle.std.specs.Prelude.{◌≡◌, ◌≢◌, ◌↔◌, ◌⊎◌, ◌+◌, ◌-◌, ◌^◌, ◌<◌, ◌≤◌, ◌++◌, ℕ, Bool, true, false, IsTrue, List, [], ◌∷◌, Option, Some, None, codes, map, max, min, option_map, IsSomeAnd}
+use Rattle.std.specs.Prelude.{◌≡◌, ◌≢◌, ◌↔◌, ◌⊎◌, ◌+◌, ◌-◌, ◌^◌, ◌<◌, ◌≤◌, ◌++◌, ℕ, Bool, true, false, IsTrue, List, [], ◌∷◌, Option, Some, None, codes, length, map, max, min, option_map, IsSomeAnd}
 use Rattle.std.specs.Borrow.{Bor}
 use Rattle.std.specs.Str.Parse.{IsNumeral, digits_value, without_leading_plus}
-use Rattle.clap.specs.Words.{Row, Text, first_of, one_of, subcommand_of}
+use Rattle.clap.specs.Words.{Row, Text, all_of, first_of, one_of, subcommand_of}
 use Rattle.vme_model.specs.declared.Version.{Version}
 use Rattle.vme_model.specs.declared.Version.TheVariants.{One, Two}
 use Rattle.vme_events.specs.declared.goals.Goal.{Goal}
 use Rattle.vme_events.specs.Goals.{goal_of}
 use Rattle.vme_words.specs.Commands.{commands}
 use Rattle.vme_words.specs.declared.Job.{Job}
-use Rattle.vme_words.specs.declared.Job.TheVariants.{Joined, Replay, Check, Explain, State, Show, Summary, Drive, Draw, Search, Run}
+use Rattle.vme_words.specs.declared.Job.TheVariants.{Joined, Replay, Check, Explain, State, Show, Summary, Sums, Drive, Draw, Search, Run}
 use Rattle.vme_words.specs.Limits.{IsNoWindow}
 
 -- the words that are lent, as texts
@@ -19,6 +19,10 @@ texts_of words = map (λ word. word.now) words
 -- the operand of this name is this file
 abbrev pub IsFile : Text → List Row → Text → Type 0
 IsFile name rows file = first_of name rows ≡ Some file
+
+-- the operands of this name are these files
+abbrev pub AreFiles : Text → List Row → List Text → Type 0
+AreFiles name rows files = all_of name rows ≡ Some files
 
 -- the number that the option of this name spells, in decimal digits; none where it is not given
 abbrev pub spelled : Text → List Row → Option ℕ
@@ -103,7 +107,11 @@ AsksFor name rows (Show scenario trace from to color) = (name ≡ codes "show")
     × (from ≡ first_of_window rows) × (to ≡ last_of_window rows)
     × IsFlag (codes "color") rows color
 AsksFor name rows (Summary scenario trace) = (name ≡ codes "summary")
-    × IsFile (codes "SCENARIO") rows scenario.now × IsFile (codes "TRACE") rows trace.now
+    × IsFile (codes "SCENARIO") rows scenario.now
+    × AreFiles (codes "TRACE") rows (trace.now ∷ [])
+AsksFor name rows (Sums scenario traces) = (name ≡ codes "summary")
+    × IsFile (codes "SCENARIO") rows scenario.now
+    × AreFiles (codes "TRACE") rows (texts_of traces.items) × (2 ≤ length traces.items)
 AsksFor name rows (Drive scenario edges version) = (name ≡ codes "drive")
     × IsFile (codes "SCENARIO") rows scenario.now × AreOptions rows edges version
     × (spelled (codes "seed") rows ≡ None) × (first_of (codes "seeds") rows ≡ None)

@@ -4,14 +4,22 @@ use Rattle.std.specs.Prelude.{◌^◌, ◌-◌, ℕ, List, [], ◌∷◌, Some, 
 use Rattle.vme_model.specs.Report.{trace_limit}
 use Rattle.vme_words.specs.Limits.{most_turns}
 use Rattle.clap.specs.Words.{App, Rule, Shape, Text, new_rule}
+use Rattle.clap.specs.Lexer.{usize_max}
 use Rattle.clap.specs.Simple.{new_shape}
-use Rattle.clap.specs.declared.builder.action.ArgAction.TheVariants.{Set, SetTrue}
+use Rattle.clap.specs.declared.builder.action.ArgAction.TheVariants.{Append, Set, SetTrue}
 use Rattle.clap.specs.declared.builder.value_parser.ValueParser.{ValueParser}
 use Rattle.clap.specs.declared.builder.value_parser.ValueParser.TheVariants.{Signed, Unsigned}
 
 -- a word that must be given
 abbrev pub file : Text → Rule
 file name = record (new_rule name) { action = Some Set; required = true }
+
+-- words of which one must be given at least
+abbrev pub files : Text → Rule
+files name = record (file name) {
+  action = Some Append;
+  range = Some (record { start_inclusive = 1; end_inclusive = usize_max });
+}
 
 -- `--NAME` with a value
 abbrev pub valued : Text → ValueParser → Rule
@@ -102,7 +110,7 @@ abbrev pub show : Shape
 show = (leaf (codes "show") (file (codes "TRACE") ∷ from ∷ to ∷ color ∷ [])).top
 
 abbrev pub summary : Shape
-summary = (leaf (codes "summary") (file (codes "TRACE") ∷ [])).top
+summary = (leaf (codes "summary") (files (codes "TRACE") ∷ [])).top
 
 abbrev pub drive : Shape
 drive = (leaf (codes "drive") (edges ∷ seed ∷ seeds ∷ until ∷ progress ∷ version ∷ [])).top

@@ -3,9 +3,10 @@ use Rattle.std.specs.Prelude.{List}
 use Rattle.clap.specs.Words.{Row, Text}
 use Rattle.vme_words.specs.Asked.{IsNoJob}
 use Rattle.vme_words.specs.declared.Unfit.{Unfit}
-use Rattle.vme_words.specs.declared.Unfit.TheVariants.{Missing}
+use Rattle.vme_words.specs.declared.Unfit.TheVariants.{Missing, NoMemory}
 
--- what is missing is not judged: the command line takes no such words
+-- what is missing is not judged: the command line takes no such words; nor is want of memory
 abbrev pub IsUnfit : Text → List Row → Unfit → Type 0
 IsUnfit name rows Missing = Unit {0}
+IsUnfit name rows NoMemory = Unit {0}
 IsUnfit name rows unfit = IsNoJob name rows

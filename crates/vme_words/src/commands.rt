@@ -105,9 +105,9 @@ the edges 1 to B is refused, 0 where none is, and 1 at a fault. docs/FORMATS.md 
 Example:
   vmebus show board.toml tenure.vme --from 1 --to 8";
 
-const SUMMARY: &str = "Counts what a trace exercised, who waited for the bus and who held it";
+const SUMMARY: &str = "Counts what traces exercised, who waited for the bus and who held it";
 
-const SUMMARY_USAGE: &str = "vmebus summary <SCENARIO> <TRACE>";
+const SUMMARY_USAGE: &str = "vmebus summary <SCENARIO> <TRACE>...";
 
 const SUMMARY_EXAMPLE: &str =
     "It writes how many edges were accepted and refused, in all and by each rule, by which rules none was
@@ -115,10 +115,14 @@ accepted, and which events came, how often, and which never did. For each board 
 it asked for the bus, how many edges it waited for it and held it, and how often it answered.
 `first N` and `since N` are numbers of edges in the trace; N counts refused edges too. The exit
 status is 2 where an edge was refused, 0 where none was, and 1 at a fault, where nothing is written.
+
+Of several traces, each of which begins at power-up, it writes the sums, and of the longest waits and
+holds the greatest. Then no edge is told by its number.
 docs/FORMATS.md has each line.
 
-Example:
-  vmebus summary board.toml tenure.vme";
+Examples:
+  vmebus summary board.toml tenure.vme
+  vmebus summary board.toml drawn-1.vme drawn-2.vme drawn-3.vme";
 
 const DRIVE: &str =
     "Writes a trace that the drivers of a scenario make in turn, or one that is drawn by lot";
@@ -188,6 +192,13 @@ fn trace_file<'a>(alloc: Global) -> Arg<'a>
     ensures { rule_of result ≡ said.file (codes "TRACE") }
 {
     file(alloc, "TRACE", "The edges, one a line")
+}
+
+/// The files of traces, one at least.
+fn trace_files<'a>(alloc: Global) -> Arg<'a>
+    ensures { rule_of result ≡ said.files (codes "TRACE") }
+{
+    trace_file(alloc).action(ArgAction::Append).num_args(1..)
 }
 
 /// What reads a number from 1 to `most`.
@@ -419,7 +430,8 @@ pub(crate) fn show<'a>(alloc: Global) -> Result<Command<'a>, AllocError>
 fn summary<'a>(alloc: Global) -> Result<Command<'a>, AllocError>
     ensures { IfOk result (λ c. shape_of c ≡ said.summary) }
 {
-    command_on_trace(alloc, "summary", SUMMARY, SUMMARY_USAGE, SUMMARY_EXAMPLE)
+    let command = command(alloc, "summary", SUMMARY, SUMMARY_USAGE, SUMMARY_EXAMPLE);
+    taking(command, trace_files(alloc))
 }
 
 /// The command `drive`.

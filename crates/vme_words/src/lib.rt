@@ -2,7 +2,7 @@
 #![tactic(auto)]
 
 ghost use Rattle.std.specs.Prelude.{◌≡◌, ◌≢◌, ◌≤◌, ◌↔◌, ◌⊎◌, ℕ, [], ◌∷◌, IfErr, IfOk, IfSome, IsSomeAnd, MatchOption, Err, Ok, Some, codes, false, length, option_map, true};
-ghost use Rattle.clap.specs.Words.{FailsBy, IsAmong, fault_of, first_of as first_text, found_of, kind_of, rows_of, subcommand_of, subcommand_rows_of};
+ghost use Rattle.clap.specs.Words.{FailsBy, IsAmong, all_of, fault_of, first_of as first_text, found_of, kind_of, rows_of, subcommand_of, subcommand_rows_of};
 ghost use Rattle.vme_words.specs.Asked.{AreSeeds, Ask, AskForNoJob, AsksFor, IsAim, IsFile, IsFlag, IsSeed, NamesNoSeeds, first_shown, last_shown, spelled, texts_of, version_number};
 ghost use Rattle.vme_words.specs.Commands.{commands as commands_said};
 ghost use Rattle.vme_words.specs.Limits.{IsWithin};
@@ -30,7 +30,7 @@ pub const MOST_SHOWN: u64 = 200;
 const SHOWN: u64 = 60;
 
 /// What the program is to do. Files have the names that the user gave.
-#[derive(Clone, Copy, PartialEq, Eq, Debug)]
+#[derive(PartialEq, Eq, Debug, Drop)]
 pub enum Job<'a> {
     /// Replay what stands on standard input: a scenario, and a trace after it.
     Joined,
@@ -85,6 +85,13 @@ pub enum Job<'a> {
         scenario: &'a str,
         /// The file of the edges.
         trace: &'a str,
+    },
+    /// Add up what several traces exercised.
+    Sums {
+        /// The file of the boards.
+        scenario: &'a str,
+        /// The files of the edges, two or more.
+        traces: Vec<&'a str>,
     },
     /// Let the drivers make edges in turn.
     Drive {
@@ -143,6 +150,8 @@ pub enum Job<'a> {
 enum Unfit<'a> {
     /// They name no command, or one without an operand that it must have.
     Missing,
+    /// There is no memory for the names of its files.
+    NoMemory,
     /// No picture goes from this edge to that one.
     Window { from: u64, to: u64 },
     /// The version of the rules comes to nothing of this name.
@@ -177,6 +186,14 @@ fn file_of<'a>(operands: &ArgMatches<'a>, name: &str) -> Result<&'a str, Unfit<'
         Some(file) => Ok(file),
         None => Err(Unfit::Missing),
     }
+}
+
+/// The files that the operands of that name name; none where there is no such operand.
+fn files_of<'m, 'a>(operands: &'m ArgMatches<'a>, name: &str) -> Option<&'m [&'a str]>
+    ensures { option_map (λ files. texts_of files.now) result
+        ≡ all_of name.now (rows_of (found_of operands.now)) }
+{
+    operands.get_strs(name)
 }
 
 /// The number that the option of that name spells, where it is 1 to `most`.
@@ -233,6 +250,27 @@ fn aim_of<'a>(operands: &ArgMatches<'a>, version: Version) -> Result<Option<Goal
         Some(named) => match goal_of(named, version) {
             Some(goal) => Ok(Some(goal)),
             None => Err(Unfit::Event { named, version }),
+        },
+    }
+}
+
+/// A summary of one trace of the scenario, or the sums over several.
+fn summary_of<'a>(
+    alloc: Global,
+    scenario: &'a str,
+    operands: &ArgMatches<'a>,
+) -> Result<Job<'a>, Unfit<'a>>
+    ensures within { IfOk result IsWithin }
+    ensures asked { IsFile (codes "SCENARIO") (rows_of (found_of operands.now)) scenario.now
+        → IfOk result (AsksFor (codes "summary") (rows_of (found_of operands.now))) }
+    ensures unfit { IfErr result (IsUnfit (codes "summary") (rows_of (found_of operands.now))) }
+{
+    match files_of(operands, "TRACE") {
+        None | Some([]) => Err(Unfit::Missing),
+        Some([trace]) => Ok(Job::Summary { scenario, trace }),
+        Some(traces) => match traces.to_vec(alloc) {
+            Ok(traces) => Ok(Job::Sums { scenario, traces }),
+            Err(_) => Err(Unfit::NoMemory),
         },
     }
 }
@@ -341,11 +379,7 @@ fn untold(progress: bool, job: Job<'_>) -> Result<Job<'_>, Unfit<'_>>
     ensures untold { progress ≡ false → result ≡ Ok job.entry }
     ensures told { progress ≡ true → result ≡ Err Unfit.Idle }
 {
-    if progress {
-        Err(Unfit::Idle)
-    } else {
-        Ok(job)
-    }
+    if progress { Err(Unfit::Idle) } else { Ok(job) }
 }
 
 /// A drive of the scenario, with its other operands: drawn where there are seeds, and else in turn.
@@ -413,7 +447,11 @@ fn run_of<'a>(scenario: &'a str, operands: &ArgMatches<'a>) -> Result<Job<'a>, U
 }
 
 /// The job of a command's name, with its operands.
-fn job_of<'a>(name: &str, operands: &ArgMatches<'a>) -> Result<Job<'a>, Unfit<'a>>
+fn job_of<'a>(
+    alloc: Global,
+    name: &str,
+    operands: &ArgMatches<'a>,
+) -> Result<Job<'a>, Unfit<'a>>
     ensures within { IfOk result IsWithin }
     ensures asked { IfOk result (AsksFor name.now (rows_of (found_of operands.now))) }
     ensures unfit { IfErr result (IsUnfit name.now (rows_of (found_of operands.now))) }
@@ -431,10 +469,7 @@ fn job_of<'a>(name: &str, operands: &ArgMatches<'a>) -> Result<Job<'a>, Unfit<'a
         "explain" => explain_of(scenario, operands),
         "state" => state_of(scenario, operands),
         "show" => show_of(scenario, operands),
-        "summary" => Ok(Job::Summary {
-            scenario,
-            trace: file_of(operands, "TRACE")?,
-        }),
+        "summary" => summary_of(alloc, scenario, operands),
         "drive" => drive_of(scenario, operands),
         "run" => run_of(scenario, operands),
         _ => Err(Unfit::Missing),
@@ -442,7 +477,7 @@ fn job_of<'a>(name: &str, operands: &ArgMatches<'a>) -> Result<Job<'a>, Unfit<'a
 }
 
 /// The job that the command of a parse asks for.
-fn job_in<'a>(matches: &ArgMatches<'a>) -> Result<Job<'a>, Unfit<'a>>
+fn job_in<'a>(alloc: Global, matches: &ArgMatches<'a>) -> Result<Job<'a>, Unfit<'a>>
     ensures within { IfOk result IsWithin }
     ensures asked { IfOk result (λ job.
         IsSomeAnd (subcommand_rows_of matches.now) (λ met. AsksFor met.0 met.1 job)) }
@@ -450,7 +485,7 @@ fn job_in<'a>(matches: &ArgMatches<'a>) -> Result<Job<'a>, Unfit<'a>>
         → IsSomeAnd (subcommand_rows_of matches.now) (λ met. IsUnfit met.0 met.1 unfit)) }
 {
     match matches.subcommand() {
-        Some((name, operands)) => job_of(name, operands),
+        Some((name, operands)) => job_of(alloc, name, operands),
         None => Err(Unfit::Missing),
     }
 }
@@ -475,7 +510,7 @@ fn asked<'a>(alloc: Global, words: &'a [&'a str]) -> Result<Result<Job<'a>, Unfi
         (λ met. IsUnfit met.0 met.1 unfit))) }
     ensures fault { FailsBy (fault_of commands_said (texts_of words.entry.now)) result }
 {
-    Ok(job_in(&parsed(alloc, words)?))
+    Ok(job_in(alloc, &parsed(alloc, words)?))
 }
 
 /// The error where no command is given.
@@ -553,10 +588,12 @@ fn no_progress(alloc: Global) -> Result<Error, AllocError>
 /// The error that tells why words ask for no job.
 fn error_of(alloc: Global, unfit: Unfit<'_>) -> Result<Error, AllocError>
     ensures { IfOk result (λ error. (kind_of error ≡ ErrorKind.MissingSubcommand)
-        ⊎ ((kind_of error ≡ ErrorKind.ValueValidation) × (unfit.entry ≢ Unfit.Missing))) }
+        ⊎ ((kind_of error ≡ ErrorKind.ValueValidation)
+        × (unfit.entry ≢ Unfit.Missing) × (unfit.entry ≢ Unfit.NoMemory))) }
 {
     match unfit {
         Unfit::Missing => missing(alloc),
+        Unfit::NoMemory => Err(AllocError),
         Unfit::Window { from, to } => no_window(alloc, from, to),
         Unfit::Event { named, version } => no_event(alloc, named, version),
         Unfit::Seedless => no_seed(alloc),

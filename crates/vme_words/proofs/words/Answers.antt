@@ -12,5 +12,5 @@ returns-in_ok-error_of-in-Err-clause-refused c =
     let unfit : c.in-Err.unfit ≢ Missing → IsSomeAnd (subcommand_of commands_said (texts_of c.args.words.now)) (λ met. IsUnfit met.0 met.1 c.in-Err.unfit) = search rules in
     elim c.in_ok-error_of-in-Err.ensures [
       | inl none ↦ inl (search rules)
-      | inr wrong ↦ inr (wrong.0, no_job _ c.in-Err.unfit wrong.1 unfit)
+      | inr wrong ↦ inr (wrong.0, no_job _ c.in-Err.unfit wrong.1 wrong.2 unfit)
     ]

@@ -11,7 +11,7 @@ returns-then-is_slot_low-edge c version p h r is found same driver some =
     let s = c.args.slot in
     let e = c.args.edge in
     let k = asks_for p s r e found driver some in
-    let low = sym (c.is_slot_low.ensures version p h is k.driver) ∙ equal _ _ c.if-is_slot_low-edge.true in
+    let low = sym (c.is_slot_low.ensures version p h is) ∙ equal _ _ c.if-is_slot_low-edge.true in
     there (drive h (Slot s) e.wire) e.fall _ low ∙ asked_at version p h s e driver
 
 pub returns : goal.returns
@@ -19,7 +19,7 @@ returns c version p h r is found same driver some =
     let s = c.args.slot in
     let e = c.args.edge in
     let k = asks_for p s r e found driver some in
-    let low = sym (c.is_slot_low.ensures version p h is k.driver) ∙ unequal _ _ c.if-is_slot_low-edge.false in
+    let low = sym (c.is_slot_low.ensures version p h is) ∙ unequal _ _ c.if-is_slot_low-edge.false in
     let reads = readings p h (Slot s) in
     c.allowed.ensures
     ∙ ap (λ n. by_rule n c.board_rule.result.1) (c.board_rule.ensures.number version p h r is found same k.drives)

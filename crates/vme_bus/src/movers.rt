@@ -1,0 +1,94 @@
+//! Which slots may have an edge to make, all at once.
+ghost use Rattle.std.specs.Prelude.{◌≡◌, ◌<◌, ℕ, [], true, false, Some};
+ghost use Rattle.vme_model.specs.declared.boards.Row.{Row as RowValue};
+ghost use Rattle.vme_model.specs.declared.signals.Driver.TheVariants.{Slot};
+ghost use Rattle.vme_model.specs.Plan.{board};
+ghost use Rattle.vme_wiring.specs.Offered.{offered_but_full};
+ghost use Rattle.vme_wiring.specs.Judged.{requester_waits, master_waits, interrupter_waits};
+ghost use Rattle.vme_wiring.specs.Waits.{is_access_to, is_waiting};
+ghost use Rattle.vme_bus.specs.Sets.{has};
+ghost use Rattle.vme_bus.specs.Movers.{interrupter_rests};
+
+use crate::sets::SlotSet;
+use crate::states::BusState;
+use vme_model::Cycle;
+
+impl BusState {
+    ghost use Rattle.vme_bus.specs.States.{OfHistory};
+
+    /// The slots whose requesters may not wait for a grant: all while one is on its way.
+    #[inline(always)]
+    fn requesters_at_work(&self) -> SlotSet
+        ensures { OfHistory self.now (λ version p h. (s : ℕ)
+            → has result s ≡ false → requester_waits version p h s ≡ true) }
+    {
+        if self.version.is_two() | self.grants.is_some() {
+            self.layout.requesters
+        } else {
+            self.layout.requesters.except(self.br.except(self.bbsy))
+        }
+    }
+
+    /// The slots that hold the bus, or whose address group or strobes are on.
+    #[inline(always)]
+    fn masters_at_work(&self) -> SlotSet
+        ensures { OfHistory self.now (λ _ p h. (s : ℕ)
+            → has result s ≡ false → master_waits p h s ≡ true) }
+    {
+        let showing = self.addr.or(self.address_strobe).or(self.data_strobe);
+        self.bbsy.or(showing)
+    }
+
+    /// The slots whose interrupters may not wait to be served: all while an acknowledge is on its
+    /// way.
+    #[inline(always)]
+    fn interrupters_at_work(&self) -> SlotSet
+        ensures { OfHistory self.now (λ _ p h. (s : ℕ) (r : RowValue) → board p s ≡ Some r
+            → has result s ≡ false → interrupter_rests p h s r ≡ true) }
+    {
+        if self.acknowledges.is_some() {
+            self.layout.interrupters
+        } else {
+            self.layout
+                .interrupters
+                .except(self.irq.except(self.served))
+        }
+    }
+
+    /// The slot that an access is shown to.
+    #[inline(always)]
+    fn accessed(&self) -> SlotSet
+        ensures { (s : ℕ) → s < 22 → has result s ≡ is_access_to s self.now.shown }
+    {
+        match self.shown {
+            Some(Cycle::Access(slot)) if slot < 22 => SlotSet::NONE.with(slot),
+            _ => SlotSet::NONE,
+        }
+    }
+
+    /// The slots that answer, or may have a cycle to answer or to pass on.
+    #[inline(always)]
+    fn answering_at_work(&self) -> SlotSet
+        ensures { OfHistory self.now (λ _ p h. (s : ℕ)
+            → has result s ≡ false → interrupter_waits p h s ≡ true) }
+    {
+        self.interrupters_at_work()
+            .or(self.dtack)
+            .or(self.accessed())
+    }
+
+    /// Slots that may have an edge to make: each slot that is not among them waits, and has no
+    /// offer.
+    ///
+    /// It takes a few operations on sets. A slot among them may wait too.
+    pub fn movers(&self) -> SlotSet
+        ensures waits { OfHistory self.now (λ version p h. (s : ℕ)
+            → has result s ≡ false → is_waiting version p h (Slot s) ≡ true) }
+        ensures none { OfHistory self.now (λ version p h. (s : ℕ)
+            → has result s ≡ false → offered_but_full version p h (Slot s) ≡ []) }
+    {
+        self.requesters_at_work()
+            .or(self.masters_at_work())
+            .or(self.answering_at_work())
+    }
+}

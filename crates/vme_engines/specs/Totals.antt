@@ -1,0 +1,46 @@
+-- What traces of one scenario come to together.
+use Rattle.std.specs.Prelude.{◌≡◌, ◌∷◌, [], ℕ, List, Option, Some, None, Ok, Err}
+use Rattle.std.specs.Io.KnownBytes.{Appends}
+use Rattle.vme_model.specs.declared.signals.Version.{Version}
+use Rattle.vme_model.specs.Plan.{Plan}
+use Rattle.vme_model.specs.Text.{Reading, read_of}
+use Rattle.vme_trace.specs.declared.Fault.TheVariants.{Write}
+use Rattle.vme_trace.specs.Writing.{AppendsFront}
+use Rattle.vme_tallies.specs.declared.sums.Sums.{Sums}
+use Rattle.vme_tallies.specs.Tally.{Answers, answered, refused}
+use Rattle.vme_tallies.specs.Sums.{Traces, total, sums_text}
+use Rattle.vme_tallies.specs.Summed.{AreSumsOf, OfSums}
+use Rattle.vme_engines.specs.declared.EngineFault.TheVariants as fault
+use Rattle.vme_engines.specs.Streams.{Streams, IsInput, IsReadOut}
+use Rattle.vme_engines.specs.Outcomes.{Answer, bench, status_with}
+use Rattle.vme_engines.specs.Waiting.{StopsWaiting}
+use Rattle.vme_engines.specs.Summing.{IsWaiting}
+
+-- a whole trace without fault, which begins at power-up, has these edges with their answers
+pub record IsWhole (p : Plan) (r : Reading) (t : Answers) : Type 0 where
+  pub version : Version
+  pub named : r.version ≡ Some version
+  pub whole : r.fault ≡ None
+  pub answers : t ≡ answered (bench p version) r.edges
+
+-- What one more trace of a plan does to the sums of those before it: it is added, or it has a
+-- fault. The status says whether some edge of it was refused.
+abbrev pub Adds : Plan → List ℕ → Streams → Sums → Sums → Answer → Type 0
+Adds p trace s old new (Ok status) =
+    (t : Answers) × IsWhole p (read_of trace) t × IsReadOut s
+    × OfSums old (λ ts. AreSumsOf (t ∷ ts) new) × (status ≡ status_with (refused t))
+Adds p trace s old new (Err (fault.Trace f)) = StopsWaiting IsWaiting trace s f
+Adds p trace s old new (Err _) = ⊥
+
+-- the same of the whole input
+abbrev pub AddsInput : Streams → Sums → Sums → Plan → Answer → Type 0
+AddsInput s old new p answer = (trace : List ℕ) × IsInput s.from trace × Adds p trace s old new answer
+
+-- What is written of the sums: their lines, at X8 a prefix of them. The status says whether some
+-- edge was refused in some trace.
+abbrev pub Tells : Sums → Option (List ℕ) → Option (List ℕ) → Plan → Answer → Type 0
+Tells sums old new p (Ok status) =
+    OfSums sums (λ ts. Appends old new (sums_text p ts) × (status ≡ status_with (total refused ts)))
+Tells sums old new p (Err (fault.Trace f)) =
+    (f ≡ Write) × OfSums sums (λ ts. AppendsFront old new (sums_text p ts))
+Tells sums old new p (Err _) = ⊥

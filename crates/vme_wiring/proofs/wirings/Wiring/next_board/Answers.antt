@@ -1,7 +1,0 @@
-use Rattle.std.proofs.Common.{◌∙◌}
-use Rattle.vme_wiring.proofs.ConsideredReads.{next}
-use Rattle.vme_wiring.proofs.wirings.Wiring.next_board.Goals as goal
-
-pub returns : goal.returns
-returns c version p h is =
-    c.or.ensures ∙ next version p h c.args.self.now is c.args.slot c.board_above.result c.board_above-2.result c.board_above.ensures c.board_above-2.ensures

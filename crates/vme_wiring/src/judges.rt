@@ -1,0 +1,81 @@
+//! What is asked of a state of the bus, whatever it is kept as.
+ghost use Rattle.std.specs.Prelude.{◌≡◌, List, true};
+ghost use Rattle.std.specs.Option.{option_copied};
+ghost use Rattle.vme_model.specs.declared.signals.Edge.{Edge as EdgeValue};
+ghost use Rattle.vme_model.specs.declared.signals.Version.{Version as VersionValue};
+ghost use Rattle.vme_model.specs.Plan.{Plan as PlanValue, board};
+ghost use Rattle.vme_model.specs.History.{drive, interrupt_line};
+ghost use Rattle.vme_model.specs.Sets.{irq_levels};
+ghost use Rattle.vme_model.specs.Settling.{settling_guard};
+ghost use Rattle.vme_model.specs.Verdict.{IsLegal, verdict_but_full};
+ghost use Rattle.vme_wiring.specs.Asked.{asked_guard, exists};
+ghost use Rattle.vme_wiring.specs.Judged.{OfState, may_grant, requester_waits, master_waits, interrupter_waits};
+
+use vme_model::{Driver, Edge, Levels, Refused, Row, Wire};
+use vme_rules::Outcome;
+
+/// Which parts of a board wait for an edge of another: the rules then allow none of the edges that
+/// are considered for their wires.
+#[derive(Clone, Copy)]
+pub struct Waiting {
+    pub requester: bool,
+    pub master: bool,
+    /// The interrupter, and what answers cycles.
+    pub interrupter: bool,
+}
+
+/// A state of the bus, as its edges so far lead to it.
+///
+/// Which conditions an edge fails and what a driver is offered is made of these answers, once for
+/// all states: `told_by`, `failing_by`, `offers_of` and `open_edges_of`.
+pub trait Judges {
+    /// It is the state that the history leads to.
+    ghost is_of: { VersionValue → PlanValue → List EdgeValue → Self → Type 0 };
+
+    /// The first of E1 to E4 that applies to an edge.
+    fn judge(&self, edge: Edge) -> Result<(), Refused>
+        ensures { OfState is_of self.now (λ version p h.
+            result ≡ verdict_but_full version p h edge) };
+
+    /// What the guard answers of the rule that names an edge, where there is such a driver.
+    fn told_by_rule<A: Outcome>(&self, edge: Edge) -> A
+        ensures { OfState is_of self.now (λ version p h. exists p edge ≡ true
+            → A.tells result (asked_guard version p h edge)) };
+
+    /// What the guard answers of the settling rule that names the edge; a free one where none does.
+    fn told_by_settling<A: Outcome>(&self, edge: Edge) -> A
+        ensures { OfState is_of self.now (λ version p h.
+            A.tells result (settling_guard version p h edge.wire edge.fall).1) };
+
+    /// Whether the driver's own wire is low, or its address group on.
+    fn is_low(&self, driver: Driver, wire: Wire) -> bool
+        ensures { OfState is_of self.now (λ _ _ h. result ≡ drive h driver wire) };
+
+    /// Whether the controller's grants are high, and the bus is free.
+    fn may_grant(&self) -> bool
+        ensures { OfState is_of self.now (λ _ p h. result ≡ may_grant p h) };
+
+    /// The interrupt request lines that are low.
+    fn low_interrupts(&self) -> Levels
+        ensures { OfState is_of self.now (λ _ p h. result ≡ irq_levels (interrupt_line p h)) };
+
+    /// How many slots the backplane has.
+    fn slots(&self) -> u8
+        ensures { OfState is_of self.now (λ _ p _. result ≡ p.slots) };
+
+    /// The row of a slot's board.
+    fn row(&self, slot: u8) -> Option<&Row>
+        ensures { OfState is_of self.now (λ _ p _. option_copied result ≡ board p slot) };
+
+    /// Which parts of a slot's board wait; all where there is no board.
+    fn waiting(&self, slot: u8) -> Waiting
+        ensures requester { OfState is_of self.now (λ version p h.
+            result.requester ≡ requester_waits version p h slot) }
+        ensures master { OfState is_of self.now (λ _ p h. result.master ≡ master_waits p h slot) }
+        ensures interrupter { OfState is_of self.now (λ _ p h.
+            result.interrupter ≡ interrupter_waits p h slot) };
+
+    /// A history that leads to a state is legal.
+    ghost is_legal: { (version : VersionValue) (p : PlanValue) (h : List EdgeValue) (state : Self)
+        → is_of version p h state → IsLegal version p h };
+}

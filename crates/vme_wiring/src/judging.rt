@@ -1,0 +1,131 @@
+//! What a wiring answers as a state of the bus, and what is made of the answers.
+ghost use Rattle.std.specs.Prelude.{◌≡◌};
+ghost use Rattle.vme_model.specs.Failing.{tested_but_full, unmet_but_full};
+ghost use Rattle.vme_wiring.specs.Offered.{offered_but_full};
+ghost use Rattle.vme_wiring.specs.Opens.{open_but_full};
+
+use crate::conditions::{failing_by, told_by};
+use crate::judges::{Judges, Waiting};
+use crate::offers::offers_of;
+use crate::opens::open_edges_of;
+use crate::wirings::Wiring;
+use arrayvec::ArrayVec;
+use vme_model::{Condition, Driver, Edge, Levels, Refused, Row, Wire};
+use vme_rules::Outcome;
+
+impl Judges for Wiring {
+    ghost use Rattle.vme_wiring.specs.Wired.{IsWiringOf};
+
+    ghost is_of = { IsWiringOf };
+
+    ghost is_legal = { λ version p h state is. is.legal };
+
+    #[inline(always)]
+    fn judge(&self, edge: Edge) -> Result<(), Refused> {
+        Wiring::judge(self, edge)
+    }
+
+    fn told_by_rule<A: Outcome>(&self, edge: Edge) -> A {
+        match edge.driver {
+            Driver::Controller => self.arbiter.told(edge, self.shared),
+            Driver::Slot(slot) => match self.board(slot) {
+                Some(board) => board.told(edge, self.pins_at(board)),
+                None => A::free(),
+            },
+        }
+    }
+
+    fn told_by_settling<A: Outcome>(&self, edge: Edge) -> A {
+        let (_number, settles) = self.settling(edge);
+        settles
+    }
+
+    #[inline(always)]
+    fn is_low(&self, driver: Driver, wire: Wire) -> bool {
+        match driver {
+            Driver::Controller => self.arbiter.is_low(wire),
+            Driver::Slot(slot) => match self.board(slot) {
+                Some(board) => board.is_low(wire),
+                None => false,
+            },
+        }
+    }
+
+    #[inline(always)]
+    fn may_grant(&self) -> bool {
+        self.arbiter.may_grant(self.shared)
+    }
+
+    #[inline(always)]
+    fn low_interrupts(&self) -> Levels {
+        self.shared.irq
+    }
+
+    #[inline(always)]
+    fn slots(&self) -> u8 {
+        self.slots
+    }
+
+    #[inline(always)]
+    fn row(&self, slot: u8) -> Option<&Row> {
+        match self.board(slot) {
+            Some(board) => Some(&board.row),
+            None => None,
+        }
+    }
+
+    #[inline(always)]
+    fn waiting(&self, slot: u8) -> Waiting {
+        match self.board(slot) {
+            Some(board) => self.waiting_parts(board),
+            None => Waiting {
+                requester: true,
+                master: true,
+                interrupter: true,
+            },
+        }
+    }
+}
+
+impl Wiring {
+    ghost use Rattle.vme_wiring.specs.Wired.{OfHistory};
+
+    /// What is tested of an edge, but for the end of the trace: the one condition that fails at E1
+    /// and E2, else those of its rule, and where they hold, that of its settling rule.
+    pub fn told<A: Outcome>(&self, edge: Edge) -> A
+        ensures { OfHistory self.now (λ version p h.
+            A.tells result (tested_but_full version p h edge)) }
+    {
+        told_by(self, edge)
+    }
+
+    /// The conditions that an edge fails, of the first of E1 to E4 that applies: none where `judge`
+    /// answers `Ok`.
+    pub fn failing(&self, edge: Edge) -> ArrayVec<Condition, 5>
+        ensures { OfHistory self.now (λ version p h.
+            result.items ≡ unmet_but_full version p h edge) }
+    {
+        failing_by(self, edge)
+    }
+
+    /// What a driver is offered, but for the end of the trace: of the edges that are considered for
+    /// it those that the rules allow, in the order of its wires.
+    pub fn offers(&self, driver: Driver) -> ArrayVec<Edge, 16>
+        ensures { OfHistory self.now (λ version p h. result.items
+            ≡ offered_but_full version p h driver) }
+    {
+        offers_of(self, driver)
+    }
+
+    /// All edges that a driver can make, but for the end of the trace: of those that move one of
+    /// its wires those that the rules allow, in the order of its wires. An address group goes on
+    /// with each acknowledge, by level, and then with each access, by slot.
+    ///
+    /// `offers` has one acknowledge and one access of them at most.
+    pub fn open_edges(&self, driver: Driver) -> ArrayVec<Edge, 36>
+        ensures { OfHistory self.now (λ version p h. result.items
+            ≡ open_but_full version p h driver) }
+    {
+        open_edges_of(self, driver)
+    }
+}
