@@ -1,18 +1,26 @@
 //! A bus, which takes edges one by one and stores none of them.
-ghost use Rattle.std.specs.Prelude.{◌≡◌, ◌==◌, ◌+◌, ◌≤◌, ◌↔◌, [], IsTrue, Ok, false, is_ok, length};
+ghost use Rattle.std.specs.Prelude.{◌≡◌, ◌==◌, ◌&&◌, ◌+◌, ◌%◌, ◌≤◌, ◌↔◌, [], IsTrue, Ok, false, true, is_ok, length, slice_get};
+ghost use Rattle.std.specs.Option.{option_map_or};
 ghost use Rattle.vme_model.specs.Verdict.{verdict, verdict_but_full, made, after, kept, IsLegal};
+ghost use Rattle.vme_model.specs.Failing.{tested, tested_but_full, unmet, unmet_but_full};
 ghost use Rattle.vme_model.specs.Safe.{IsSafe, IsOrderly};
 ghost use Rattle.vme_model.specs.Views.{pins};
 ghost use Rattle.vme_model.specs.Deliveries.{answer, delivery};
+ghost use Rattle.vme_model.specs.Offers.{offered};
+ghost use Rattle.vme_model.specs.Open.{open_edges, IsAllThatIsAllowed};
+ghost use Rattle.vme_wiring.specs.Offered.{offered_but_full};
+ghost use Rattle.vme_wiring.specs.Waits.{is_waiting};
 ghost use Rattle.vme_model.specs.Accepted.{IsAccepted};
 ghost use Rattle.vme_model.specs.Report.{at_power_up, trace_limit};
 ghost use Rattle.vme_backplane.specs.Sound.{IsSound};
 
 use crate::states::BusState;
+use arrayvec::ArrayVec;
 use std::marker::Model;
-use vme_backplane::{Counts, by_wire};
-use vme_model::{Delivery, Driver, Edge, Pins, Refused, TRACE_LIMIT, Version, Wire};
+use vme_backplane::{Counts, by_wire, choice};
+use vme_model::{Condition, Delivery, Driver, Edge, Pins, Refused, TRACE_LIMIT, Version, Wire};
 use vme_past::Past;
+use vme_rules::Outcome;
 use vme_slots::Plan;
 
 /// A bus: the version of its rules, its plan, and the numbers that the edges so far lead to.
@@ -118,6 +126,56 @@ impl Bus {
         }
     }
 
+    /// Whether the edge is refused for the end of the trace alone.
+    fn lacks_room(&self, edge: Edge) -> bool
+        ensures { result ≡ ((length self.now.history == self.now.max)
+            && is_ok (verdict_but_full self.now.version self.now.plan self.now.history edge)) }
+    {
+        self.is_full() && self.judge(edge).is_ok()
+    }
+
+    /// What is tested of an edge, but for the end of the trace.
+    fn told_but_full<A: Outcome>(&self, edge: Edge) -> A
+        ensures { A.tells result
+            (tested_but_full self.now.version self.now.plan self.now.history edge) }
+    {
+        self.state.told(edge)
+    }
+
+    /// What is tested of an edge, as far as the answer to it comes: the one condition that fails at E1 and E2, else those
+    /// of its rule, and where they hold, that of its settling rule; behind them, at E5, that of the room.
+    pub fn told<A: Outcome>(&self, edge: Edge) -> A
+        ensures { A.tells result (tested self.now edge) }
+    {
+        let tested: A = self.told_but_full(edge);
+        if self.lacks_room(edge) {
+            tested.and(A::asks(Condition::HasRoom, false))
+        } else {
+            tested
+        }
+    }
+
+    /// The conditions that an edge fails, but for the end of the trace.
+    fn failing_but_full(&self, edge: Edge) -> ArrayVec<Condition, 5>
+        ensures { result.items
+            ≡ unmet_but_full self.now.version self.now.plan self.now.history edge }
+    {
+        self.state.failing(edge)
+    }
+
+    /// The conditions that an edge fails, of the first of E1 to E5 that applies, in the order of its guard: none where
+    /// `step` would accept it.
+    pub fn failing(&self, edge: Edge) -> ArrayVec<Condition, 5>
+        ensures { result.items ≡ unmet self.now edge }
+    {
+        let mut failed = ArrayVec::new();
+        if self.lacks_room(edge) {
+            failed.push(Condition::HasRoom);
+            return failed;
+        }
+        self.failing_but_full(edge)
+    }
+
     /// Makes the edge where the rules allow it, and answers what it delivers.
     ///
     /// A refusal is the first that applies of E1 to E5, and leaves everything as it was. No memory is asked for.
@@ -181,6 +239,15 @@ impl Bus {
         self.made += 1;
     }
 
+    /// The same, with an arm for each wire.
+    #[inline(always)]
+    fn make_by_wire(&mut self, edge: Edge)
+        requires { verdict self.old edge ≡ Ok tt }
+        ensures { self.new ≡ made self.old edge }
+    {
+        by_wire!(edge => self.make(edge))
+    }
+
     /// Steps through all the edges, past those that are refused.
     pub fn run(&mut self, edges: &[Edge]) -> Counts
         ensures state { self.new ≡ kept self.old edges.now }
@@ -208,6 +275,83 @@ impl Bus {
         ensures { result ≡ pins self.now.plan self.now.history driver }
     {
         self.state.pins(driver)
+    }
+
+    /// The driver's edges that would be accepted, in the order of its wires, with one acknowledge and one access at
+    /// most to show.
+    pub fn offers(&self, driver: Driver) -> ArrayVec<Edge, 16>
+        ensures { result.items ≡ offered self.now driver }
+    {
+        if self.is_full() {
+            return ArrayVec::new();
+        }
+        self.offers_but_full(driver)
+    }
+
+    /// The same, but for the end of the trace.
+    fn offers_but_full(&self, driver: Driver) -> ArrayVec<Edge, 16>
+        ensures { result.items
+            ≡ offered_but_full self.now.version self.now.plan self.now.history driver }
+    {
+        self.state.offers(driver)
+    }
+
+    /// All edges that the driver can make: of those that move one of its wires, those that would be accepted, in the
+    /// order of its wires. An address group goes on with each acknowledge, by level, and then with each access, by slot.
+    ///
+    /// Each is tried, whether or not a board would consider it, so that it takes longer than `offers`.
+    pub fn open_edges(&self, driver: Driver) -> ArrayVec<Edge, 36>
+        ensures edges { result.items ≡ open_edges self.now driver }
+        ensures all { IsAllThatIsAllowed self.now driver result.items }
+    {
+        if self.is_full() {
+            ArrayVec::new()
+        } else {
+            self.state.open_edges(driver)
+        }
+    }
+
+    /// Whether the driver waits for an edge of another. It then has no offer; where it answers false, there may be none either.
+    fn is_waiting(&self, driver: Driver) -> bool
+        ensures waits { result ≡ is_waiting self.now.version self.now.plan self.now.history driver }
+        ensures none { result ≡ true
+            → offered_but_full self.now.version self.now.plan self.now.history driver ≡ [] }
+    {
+        self.state.is_waiting(driver)
+    }
+
+    /// The offer that the driver makes in a round, if it has any: of k offers the one at place `round mod k`.
+    ///
+    /// It tries no edge of a driver that waits for another's, as most do.
+    #[inline(always)]
+    pub fn offer(&self, driver: Driver, round: u32) -> Option<Edge>
+        ensures { result
+            ≡ slice_get (offered self.now driver) (round % length (offered self.now driver)) }
+    {
+        if self.is_waiting(driver) {
+            return None;
+        }
+        choice(self.offers(driver).as_slice(), round)
+    }
+
+    /// Makes the offer that the driver makes in a round, if it has any, and answers it.
+    ///
+    /// It is `offer`, and a step with what that answers: the edge is not judged again.
+    #[inline(always)]
+    pub fn make_offer(&mut self, driver: Driver, round: u32) -> Option<Edge>
+        ensures offer { result
+            ≡ slice_get (offered self.old driver) (round % length (offered self.old driver)) }
+        ensures state { self.new ≡ option_map_or (made self.old) result self.old }
+        ensures sound { IsSound self.new }
+    {
+        let offer = self.offer(driver, round);
+        match offer {
+            Some(edge) => self.make_by_wire(edge),
+            None => {}
+        }
+        self.laws();
+        self.safety();
+        offer
     }
 
     /// The version of its rules.
