@@ -4,7 +4,6 @@ ghost use Rattle.std.proofs.Common.{arith};
 ghost use Rattle.std.specs.Io.KnownBytes.{Keeps};
 ghost use Rattle.std.proofs.KnownBytes.{Keeps-refl};
 ghost use Rattle.vme_model.specs.Verdict.{kept};
-ghost use Rattle.vme_model.specs.Report.{trace_limit};
 ghost use Rattle.vme_engines.specs.Streams.{streams, ReadNothing, WroteNothing};
 ghost use Rattle.vme_engines.specs.Outcomes.{Lent};
 ghost use Rattle.vme_engines.specs.Checking.{ChecksInput, first_refusal, finding_status};
@@ -12,12 +11,12 @@ ghost use Rattle.vme_engines.specs.Steps.{ChecksPiece, FindsInput};
 
 use crate::lines::write_finding;
 use crate::pieces::{Judge, read_on};
-use crate::plans::{history_region, history_room, plan_of};
+use crate::plans::plan_of;
 use crate::traces::open;
 use crate::{EngineFault, Status};
 use std::alloc::Global;
 use std::io::{Read, Write};
-use vme_backplane::{Backplane, Trace};
+use vme_bus::Bus;
 use vme_model::{Edge, Refused};
 use vme_slots::Plan;
 use vme_trace::{Fault, Reader};
@@ -44,15 +43,15 @@ impl Finding {
 }
 
 /// Judges the edges behind the first `judged`, up to the first that is refused: its number, and why.
-fn first_refused(backplane: &mut Backplane, judged: u64, edges: &[Edge]) -> Option<(u64, Refused)>
+fn first_refused(bus: &mut Bus, judged: u64, edges: &[Edge]) -> Option<(u64, Refused)>
     requires { judged + length edges.now < 2 ^ 64 }
-    ensures found { result ≡ first_refusal (judged + 1) backplane.old edges.now }
-    ensures state { result ≡ None → backplane.new ≡ kept backplane.old edges.now }
+    ensures found { result ≡ first_refusal (judged + 1) bus.old edges.now }
+    ensures state { result ≡ None → bus.new ≡ kept bus.old edges.now }
 {
     let mut n = judged;
     for edge in edges {
         n += 1;
-        match backplane.step(*edge) {
+        match bus.step(*edge) {
             Ok(_) => {}
             Err(refused) => return Some((n, refused)),
         }
@@ -64,15 +63,15 @@ fn first_refused(backplane: &mut Backplane, judged: u64, edges: &[Edge]) -> Opti
 ///
 /// `more` is what the read of the piece answered. None where the trace goes on.
 fn check_piece(
-    backplane: &mut Backplane,
+    bus: &mut Bus,
     judged: &mut u64,
     edges: &[Edge],
     more: Result<bool, Fault>,
 ) -> Result<Option<Finding>, Fault>
     requires { judged.old + length edges.now < 2 ^ 64 }
-    ensures { ChecksPiece backplane.old judged.old edges.now more backplane.new judged.new result }
+    ensures { ChecksPiece bus.old judged.old edges.now more bus.new judged.new result }
 {
-    match first_refused(backplane, *judged, edges) {
+    match first_refused(bus, *judged, edges) {
         Some((n, refused)) => return Ok(Some(Finding::Illegal { n, refused })),
         None => {}
     }
@@ -80,8 +79,8 @@ fn check_piece(
     match more {
         Ok(true) => Ok(None),
         Ok(false) => {
-            backplane.laws();
-            backplane.safety();
+            bus.laws();
+            bus.safety();
             Ok(Some(Finding::Legal { edges: *judged }))
         }
         Err(fault) => Err(fault),
@@ -90,33 +89,30 @@ fn check_piece(
 
 /// A check under way.
 #[derive(Drop)]
-pub(crate) struct Checking<'r> {
-    backplane: Backplane<'r>,
+pub(crate) struct Checking {
+    bus: Bus,
     /// How many edges were judged.
     judged: u64,
 }
 
-impl<'r> Checking<'r> {
+impl Checking {
     /// Before the first edge.
-    fn new(backplane: Backplane<'r>) -> Checking<'r>
-        ensures backplane { result.backplane ≡ backplane.entry }
+    fn new(bus: Bus) -> Checking
+        ensures bus { result.bus ≡ bus }
         ensures judged { result.judged ≡ 0 }
     {
-        Checking {
-            backplane,
-            judged: 0,
-        }
+        Checking { bus, judged: 0 }
     }
 }
 
-impl Judge for Checking<'_> {
+impl Judge for Checking {
     type Answer = Finding;
 
     ghost count = { λ now. now.judged };
 
     ghost takes = { λ first es more old new now answer.
         Keeps old new
-        × ChecksPiece first.backplane first.judged es more now.backplane now.judged answer };
+        × ChecksPiece first.bus first.judged es more now.bus now.judged answer };
 
     fn take<W: Write>(
         &mut self,
@@ -124,7 +120,7 @@ impl Judge for Checking<'_> {
         more: Result<bool, Fault>,
         _out: &mut W,
     ) -> Result<Option<Finding>, Fault> {
-        check_piece(&mut self.backplane, &mut self.judged, edges, more)
+        check_piece(&mut self.bus, &mut self.judged, edges, more)
     }
 
     ghost begins = { λ first old. (Keeps-refl old, (refl, refl, refl, omega arith)) };
@@ -136,11 +132,9 @@ impl Judge for Checking<'_> {
 fn find<R: Read, W: Write>(
     alloc: Global,
     plan: Plan,
-    room: Trace,
     trace: &mut R,
     out: &mut W,
 ) -> Result<Finding, Fault>
-    requires { room ≡ trace_limit }
     ensures finds { FindsInput plan (R.remaining trace.old) (R.remaining trace.new) result }
     ensures kept { Keeps (W.contents out.old) (W.contents out.new) }
 {
@@ -149,7 +143,7 @@ fn find<R: Read, W: Write>(
     let (first, reads) = open(&mut reader, trace, &mut edges);
     match reader.version() {
         Some(version) => {
-            let mut check = Checking::new(Backplane::new(plan, room, version));
+            let mut check = Checking::new(Bus::new(plan, version));
             read_on(
                 &mut check,
                 &mut reader,
@@ -172,8 +166,8 @@ fn find<R: Read, W: Write>(
 /// Writes `illegal N VERDICT` where the N-th edge is the first that is refused, and reads no further; or `legal N` where
 /// all N edges are accepted, which are then a legal list and so a safe one. The status is `SomeRefused` or `Done`. It makes at most 16,777,216 reads.
 ///
-/// Errors: F2 and the faults of the scenario and F3, before anything is read or written; those of the trace, where no
-/// edge before them is refused, and then nothing is written; X8 where the output cannot be written.
+/// Errors: F2 and the faults of the scenario, before anything is read or written; those of the trace, where no edge
+/// before them is refused, and then nothing is written; X8 where the output cannot be written.
 pub fn check<R: Read, W: Write>(
     alloc: Global,
     scenario: &[u8],
@@ -185,9 +179,7 @@ pub fn check<R: Read, W: Write>(
         Lent scenario.now (ReadNothing s × WroteNothing s) (ChecksInput s) result }
 {
     let plan = plan_of(alloc, scenario)?;
-    let mut region = history_region(alloc)?;
-    let room = history_room(alloc, &mut region)?;
-    let finding = match find(alloc, plan, room, trace, out) {
+    let finding = match find(alloc, plan, trace, out) {
         Ok(finding) => finding,
         Err(fault) => return Err(EngineFault::Trace(fault)),
     };

@@ -7,13 +7,13 @@ ghost use Rattle.vme_engines.specs.Joining.{Joins};
 ghost use Rattle.vme_engines.specs.Front.{header_line, IsHeld, IsFront, IsTextOf, Takes, Finds, Starts, JoinsBehind};
 
 use crate::pieces::read_on;
-use crate::plans::{history_region, history_room, plan_of};
+use crate::plans::plan_of;
 use crate::replays::Replaying;
 use crate::{EngineFault, READS, SCENARIO_LIMIT, Status};
 use arrayvec::ArrayVec;
 use std::alloc::{AllocError, Global};
 use std::io::{Read, Write};
-use vme_backplane::Backplane;
+use vme_bus::Bus;
 use vme_model::{Edge, Version};
 use vme_trace::{Fault, Reader, header_line, header_of, read_piece};
 
@@ -163,12 +163,10 @@ fn replay_behind<R: Read, W: Write>(
 {
     let text = front.into_text();
     let plan = plan_of(alloc, &text)?;
-    let mut region = history_region(alloc)?;
-    let room = history_room(alloc, &mut region)?;
     let mut reader = Reader::new();
     let mut edges = Vec::new(alloc);
     let first = start(&mut reader, version, rest, &mut edges);
-    let mut replay = Replaying::new(Backplane::new(plan, room, version));
+    let mut replay = Replaying::new(Bus::new(plan, version));
     match read_on(
         &mut replay,
         &mut reader,

@@ -14,7 +14,7 @@ use crate::counts::Count;
 use crate::tails::push_end;
 use arrayvec::ArrayVec;
 use std::io::Write;
-use vme_backplane::Backplane;
+use vme_bus::Bus;
 use vme_model::{Delivery, Edge, Refused};
 use vme_reasons::texts::{push, push_number, push_verdict};
 use vme_text::Text;
@@ -103,20 +103,20 @@ fn finding_line(finding: Finding) -> ArrayVec<u8, LINE>
 /// Judges the edges after the first `judged`, and writes the verdict line of each. The lines are put
 /// together in `text`, whatever it held.
 pub(crate) fn write_verdicts<W: Write>(
-    backplane: &mut Backplane,
+    bus: &mut Bus,
     judged: u64,
     edges: &[Edge],
     text: &mut Text,
     out: &mut W,
 ) -> Result<(), Fault>
     requires { judged + length edges.now < 2 ^ 64 }
-    ensures state { OnOk result (backplane.new ≡ kept backplane.old edges.now) }
+    ensures state { OnOk result (bus.new ≡ kept bus.old edges.now) }
     ensures ok { OnOk result
         (Appends (W.contents out.old) (W.contents out.new)
-        (verdict_lines backplane.old (judged + 1) edges.now)) }
+        (verdict_lines bus.old (judged + 1) edges.now)) }
     ensures front { OnErr result
         (AppendsFront (W.contents out.old) (W.contents out.new)
-        (verdict_lines backplane.old (judged + 1) edges.now)) }
+        (verdict_lines bus.old (judged + 1) edges.now)) }
     ensures fault { IfErr result (λ fault. fault ≡ Fault.Write) }
 {
     let mut count = Count::new(judged);
@@ -124,7 +124,7 @@ pub(crate) fn write_verdicts<W: Write>(
     for edge in edges {
         make_room(text, out)?;
         count.advance();
-        push_line(text, &count, &backplane.step(*edge));
+        push_line(text, &count, &bus.step(*edge));
     }
     hand_on(text, out)
 }

@@ -2,19 +2,18 @@
 ghost use Rattle.std.specs.Prelude.{◌≡◌, ◌+◌, ◌<◌, ◌^◌, length, refl};
 ghost use Rattle.std.proofs.Common.{arith};
 ghost use Rattle.std.proofs.KnownBytes.{Appends-nil};
-ghost use Rattle.vme_model.specs.Report.{trace_limit};
 ghost use Rattle.vme_engines.specs.Streams.{streams, ReadNothing, WroteNothing};
 ghost use Rattle.vme_engines.specs.Outcomes.{Lent, ReplaysInput, status_with};
 ghost use Rattle.vme_engines.specs.Steps.{TakesPiece, traced};
 
 use crate::lines::{close, write_verdicts};
 use crate::pieces::{Judge, read_on};
-use crate::plans::{history_region, history_room, plan_of};
+use crate::plans::plan_of;
 use crate::traces::open;
 use crate::{EngineFault, Status};
 use std::alloc::Global;
 use std::io::{Read, Write};
-use vme_backplane::{Backplane, Trace};
+use vme_bus::Bus;
 use vme_model::Edge;
 use vme_slots::Plan;
 use vme_text::Text;
@@ -35,7 +34,7 @@ pub(crate) fn status_of(refused: u64) -> Status
 ///
 /// `more` is what the read of the piece answered. None where the trace goes on.
 fn take_piece<W: Write>(
-    backplane: &mut Backplane,
+    bus: &mut Bus,
     judged: &mut u64,
     edges: &[Edge],
     text: &mut Text,
@@ -43,15 +42,15 @@ fn take_piece<W: Write>(
     out: &mut W,
 ) -> Result<Option<Status>, Fault>
     requires { judged.old + length edges.now < 2 ^ 64 }
-    ensures { TakesPiece backplane.old judged.old edges.now more
-        (W.contents out.old) (W.contents out.new) backplane.new judged.new result }
+    ensures { TakesPiece bus.old judged.old edges.now more
+        (W.contents out.old) (W.contents out.new) bus.new judged.new result }
 {
-    write_verdicts(backplane, *judged, edges, text, out)?;
+    write_verdicts(bus, *judged, edges, text, out)?;
     *judged += edges.len() as u64;
     match more {
         Ok(true) => Ok(None),
         Ok(false) => {
-            let accepted = u64::from(backplane.len());
+            let accepted = u64::from(bus.len());
             let refused = judged.saturating_sub(accepted);
             close(accepted, refused, out)?;
             Ok(Some(status_of(refused)))
@@ -65,35 +64,35 @@ fn take_piece<W: Write>(
 
 /// A replay under way.
 #[derive(Drop)]
-pub(crate) struct Replaying<'r> {
-    backplane: Backplane<'r>,
+pub(crate) struct Replaying {
+    bus: Bus,
     /// How many edges were judged.
     judged: u64,
     /// Where verdict lines are put together.
     text: Text,
 }
 
-impl<'r> Replaying<'r> {
+impl Replaying {
     /// Before the first edge.
-    pub(crate) fn new(backplane: Backplane<'r>) -> Replaying<'r>
-        ensures backplane { result.backplane ≡ backplane.entry }
+    pub(crate) fn new(bus: Bus) -> Replaying
+        ensures bus { result.bus ≡ bus }
         ensures judged { result.judged ≡ 0 }
     {
         Replaying {
-            backplane,
+            bus,
             judged: 0,
             text: Text::new(),
         }
     }
 }
 
-impl Judge for Replaying<'_> {
+impl Judge for Replaying {
     type Answer = Status;
 
     ghost count = { λ now. now.judged };
 
     ghost takes = { λ first es more old new now answer.
-        TakesPiece first.backplane first.judged es more old new now.backplane now.judged answer };
+        TakesPiece first.bus first.judged es more old new now.bus now.judged answer };
 
     fn take<W: Write>(
         &mut self,
@@ -102,7 +101,7 @@ impl Judge for Replaying<'_> {
         out: &mut W,
     ) -> Result<Option<Status>, Fault> {
         take_piece(
-            &mut self.backplane,
+            &mut self.bus,
             &mut self.judged,
             edges,
             &mut self.text,
@@ -120,11 +119,9 @@ impl Judge for Replaying<'_> {
 fn replay_trace<R: Read, W: Write>(
     alloc: Global,
     plan: Plan,
-    room: Trace,
     trace: &mut R,
     out: &mut W,
 ) -> Result<Status, Fault>
-    requires { room ≡ trace_limit }
     ensures { ReplaysInput
         (streams (R.remaining trace.old) (R.remaining trace.new)
         (W.contents out.old) (W.contents out.new))
@@ -135,7 +132,7 @@ fn replay_trace<R: Read, W: Write>(
     let (first, reads) = open(&mut reader, trace, &mut edges);
     match reader.version() {
         Some(version) => {
-            let mut replay = Replaying::new(Backplane::new(plan, room, version));
+            let mut replay = Replaying::new(Bus::new(plan, version));
             read_on(
                 &mut replay,
                 &mut reader,
@@ -158,8 +155,8 @@ fn replay_trace<R: Read, W: Write>(
 /// Writes `n VERDICT` for the n-th edge, past those that are refused, and at the end of the trace
 /// `accepted A refused R`. It makes at most 16,777,216 reads.
 ///
-/// Errors: F2 and the faults of the scenario and F3, before anything is read or written; those of the trace, behind
-/// the verdicts on the edges before them; X8 where the output cannot be written.
+/// Errors: F2 and the faults of the scenario, before anything is read or written; those of the trace, behind the
+/// verdicts on the edges before them; X8 where the output cannot be written.
 pub fn replay<R: Read, W: Write>(
     alloc: Global,
     scenario: &[u8],
@@ -171,9 +168,7 @@ pub fn replay<R: Read, W: Write>(
         Lent scenario.now (ReadNothing s × WroteNothing s) (ReplaysInput s) result }
 {
     let plan = plan_of(alloc, scenario)?;
-    let mut region = history_region(alloc)?;
-    let room = history_room(alloc, &mut region)?;
-    match replay_trace(alloc, plan, room, trace, out) {
+    match replay_trace(alloc, plan, trace, out) {
         Ok(status) => Ok(status),
         Err(fault) => Err(EngineFault::Trace(fault)),
     }

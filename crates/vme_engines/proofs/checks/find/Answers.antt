@@ -12,14 +12,14 @@ read_on-requires-clause-well_formed g c = formed_first _ _ [] [] c.open-first.re
 pub returns-in-Some-clause-finds : goal.returns-in-Some-clause-finds
 returns-in-Some-clause-finds g c =
     let ran = c.read_on.ensures c.in-Some.version (g.R.Read.remaining c.args.trace.now) [] [] (sym c.version.ensures ∙ c.in-Some.is) c.open-first.ensures.0 in
-    let is = c.new-check.ensures.backplane ∙ rw c.requires at c.new.ensures in
-    (ran.0, ran.1, (finds_all (λ s. s.backplane) (λ s. s.judged) c.args.plan c.in-Some.version ran.0 _ c.new-check.result.backplane c.new-check.result.judged c.read_on.result is c.new-check.ensures.judged ran.2).0)
+    let is = c.new-check.ensures.bus ∙ c.new.ensures in
+    (ran.0, ran.1, (finds_all (λ s. s.bus) (λ s. s.judged) c.args.plan c.in-Some.version ran.0 _ c.new-check.result.bus c.new-check.result.judged c.read_on.result is c.new-check.ensures.judged ran.2).0)
 
 pub returns-in-Some-clause-kept : goal.returns-in-Some-clause-kept
 returns-in-Some-clause-kept g c =
     let ran = c.read_on.ensures c.in-Some.version (g.R.Read.remaining c.args.trace.now) [] [] (sym c.version.ensures ∙ c.in-Some.is) c.open-first.ensures.0 in
-    let is = c.new-check.ensures.backplane ∙ rw c.requires at c.new.ensures in
-    (finds_all (λ s. s.backplane) (λ s. s.judged) c.args.plan c.in-Some.version ran.0 _ c.new-check.result.backplane c.new-check.result.judged c.read_on.result is c.new-check.ensures.judged ran.2).1
+    let is = c.new-check.ensures.bus ∙ c.new.ensures in
+    (finds_all (λ s. s.bus) (λ s. s.judged) c.args.plan c.in-Some.version ran.0 _ c.new-check.result.bus c.new-check.result.judged c.read_on.result is c.new-check.ensures.judged ran.2).1
 
 pub returns-in-Ok-clause-finds : goal.returns-in-Ok-clause-finds
 returns-in-Ok-clause-finds g c =

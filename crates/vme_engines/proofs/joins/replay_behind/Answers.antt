@@ -23,26 +23,6 @@ returns-in_err-plan g c =
       rw (e.1, e.2) (no_plan before (Keeps (g.W.Write.contents c.args.out.now) (g.W.Write.contents c.args.out.now)) (λ p r. Replays p before ((header c.args.version ++ 10 ∷ []) ++ (c.args.rest.now ++ unwrap_or (g.R.Read.remaining c.args.input.now) [])) (streams from (g.R.Read.remaining c.args.input.now) (g.W.Write.contents c.args.out.now) (g.W.Write.contents c.args.out.now)) r) c.in_err-plan.field-0.0 (no_plan_of before c.into_text-text.result.items c.in_err-plan.field-0.0 (c.into_text-text.ensures before c.args.version held) refused) (Keeps-refl _)),
     )
 
-pub returns-in_err-region : goal.returns-in_err-region
-returns-in_err-region g c =
-    λ from before held taken.
-    let e = err_from_is_err_and c.from_residual-in_err-region.result c.from_residual-in_err-region.ensures.1 in
-    let got = plan_of_text before c.into_text-text.result.items c.in_ok-plan.plan (c.into_text-text.ensures before c.args.version held) (rw c.deref.ensures.value at c.in_ok-plan.ensures.ok.0) (rw c.deref.ensures.value at c.in_ok-plan.ensures.ok.1) in (
-      c.args.rest.now ++ unwrap_or (g.R.Read.remaining c.args.input.now) [],
-      input_behind c.args.version from _ before c.args.rest.now taken,
-      rw (e.1, e.2, c.in_err-region.ensures.fault) (c.in_ok-plan.plan, got.0, got.1, Keeps-refl _),
-    )
-
-pub returns-in_err-room : goal.returns-in_err-room
-returns-in_err-room g c =
-    λ from before held taken.
-    let e = err_from_is_err_and c.from_residual-in_err-room.result c.from_residual-in_err-room.ensures.1 in
-    let got = plan_of_text before c.into_text-text.result.items c.in_ok-plan.plan (c.into_text-text.ensures before c.args.version held) (rw c.deref.ensures.value at c.in_ok-plan.ensures.ok.0) (rw c.deref.ensures.value at c.in_ok-plan.ensures.ok.1) in (
-      c.args.rest.now ++ unwrap_or (g.R.Read.remaining c.args.input.now) [],
-      input_behind c.args.version from _ before c.args.rest.now taken,
-      rw (e.1, e.2, c.in_err-room.ensures.fault) (c.in_ok-plan.plan, got.0, got.1, Keeps-refl _),
-    )
-
 pub read_on-requires : goal.read_on-requires
 read_on-requires g c = record {
   counted = λ first. counted_start c.args.version c.args.rest.now c.args.reads _ _ _ c.start-first.ensures.starts first c.requires.rest c.requires.reads;
@@ -56,7 +36,7 @@ returns-in-Ok g c =
     let got = plan_of_text before c.into_text-text.result.items c.in_ok-plan.plan (c.into_text-text.ensures before c.args.version held) (rw c.deref.ensures.value at c.in_ok-plan.ensures.ok.0) (rw c.deref.ensures.value at c.in_ok-plan.ensures.ok.1) in
     let came = came_start c.args.version from _ before c.args.rest.now c.args.reads _ _ _ taken c.requires.rest c.requires.reads c.start-first.ensures.starts in
     let ran = c.in-Ok.ensures c.args.version from before (header c.args.version ++ 10 ∷ []) c.start-first.ensures.version came in
-    let all = replays_all (λ (s : Replaying). s.backplane) (λ (s : Replaying). s.judged) c.in_ok-plan.plan c.args.version before ((header c.args.version ++ 10 ∷ []) ++ ran.0) (streams from (g.R.Read.remaining c.read_on.new.input) (g.W.Write.contents c.args.out.now) (g.W.Write.contents c.read_on.new.out)) c.new-replay.result.backplane c.new-replay.result.judged (Ok c.in-Ok.status) (c.new-replay.ensures.backplane ∙ rw c.in_ok-room.ensures.ok at c.new.ensures) c.new-replay.ensures.judged ran.2 in
+    let all = replays_all (λ (s : Replaying). s.bus) (λ (s : Replaying). s.judged) c.in_ok-plan.plan c.args.version before ((header c.args.version ++ 10 ∷ []) ++ ran.0) (streams from (g.R.Read.remaining c.read_on.new.input) (g.W.Write.contents c.args.out.now) (g.W.Write.contents c.read_on.new.out)) c.new-replay.result.bus c.new-replay.result.judged (Ok c.in-Ok.status) (c.new-replay.ensures.bus ∙ c.new.ensures) c.new-replay.ensures.judged ran.2 in
     (ran.0, ran.1, (c.in_ok-plan.plan, got.0, got.1, all))
 
 pub returns : goal.returns
@@ -65,5 +45,5 @@ returns g c =
     let got = plan_of_text before c.into_text-text.result.items c.in_ok-plan.plan (c.into_text-text.ensures before c.args.version held) (rw c.deref.ensures.value at c.in_ok-plan.ensures.ok.0) (rw c.deref.ensures.value at c.in_ok-plan.ensures.ok.1) in
     let came = came_start c.args.version from _ before c.args.rest.now c.args.reads _ _ _ taken c.requires.rest c.requires.reads c.start-first.ensures.starts in
     let ran = c.in-Err.ensures c.args.version from before (header c.args.version ++ 10 ∷ []) c.start-first.ensures.version came in
-    let all = replays_all (λ (s : Replaying). s.backplane) (λ (s : Replaying). s.judged) c.in_ok-plan.plan c.args.version before ((header c.args.version ++ 10 ∷ []) ++ ran.0) (streams from (g.R.Read.remaining c.read_on.new.input) (g.W.Write.contents c.args.out.now) (g.W.Write.contents c.read_on.new.out)) c.new-replay.result.backplane c.new-replay.result.judged (Err c.in-Err.fault) (c.new-replay.ensures.backplane ∙ rw c.in_ok-room.ensures.ok at c.new.ensures) c.new-replay.ensures.judged ran.2 in
+    let all = replays_all (λ (s : Replaying). s.bus) (λ (s : Replaying). s.judged) c.in_ok-plan.plan c.args.version before ((header c.args.version ++ 10 ∷ []) ++ ran.0) (streams from (g.R.Read.remaining c.read_on.new.input) (g.W.Write.contents c.args.out.now) (g.W.Write.contents c.read_on.new.out)) c.new-replay.result.bus c.new-replay.result.judged (Err c.in-Err.fault) (c.new-replay.ensures.bus ∙ c.new.ensures) c.new-replay.ensures.judged ran.2 in
     (ran.0, ran.1, (c.in_ok-plan.plan, got.0, got.1, all))

@@ -12,8 +12,7 @@ read_on-requires-clause-well_formed g c = formed_first _ _ [] [] c.open-first.re
 pub returns-in-Some : goal.returns-in-Some
 returns-in-Some g c =
     let ran = c.read_on.ensures c.in-Some.version (g.R.Read.remaining c.args.trace.now) [] [] (sym c.version.ensures ∙ c.in-Some.is) c.open-first.ensures.0 in
-    let is = c.new-replay.ensures.backplane ∙ rw c.requires at c.new.ensures in
-    (ran.0, ran.1, replays_all (λ s. s.backplane) (λ s. s.judged) c.args.plan c.in-Some.version [] ran.0 _ c.new-replay.result.backplane c.new-replay.result.judged c.read_on.result is c.new-replay.ensures.judged ran.2)
+    (ran.0, ran.1, replays_all (λ s. s.bus) (λ s. s.judged) c.args.plan c.in-Some.version [] ran.0 _ c.new-replay.result.bus c.new-replay.result.judged c.read_on.result (c.new-replay.ensures.bus ∙ c.new.ensures) c.new-replay.ensures.judged ran.2)
 
 pub returns-in-Ok : goal.returns-in-Ok
 returns-in-Ok g c =
