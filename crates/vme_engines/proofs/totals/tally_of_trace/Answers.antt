@@ -6,7 +6,7 @@ use Rattle.vme_engines.specs.Steps.{Opens}
 use Rattle.vme_engines.specs.Streams.{streams}
 use Rattle.vme_engines.proofs.FirstReads.{never_unopened}
 use Rattle.vme_engines.proofs.FormedEdges.{formed_first}
-use Rattle.vme_engines.proofs.Totals.{tallies_all, tallies_unopened}
+use Rattle.vme_engines.proofs.TalliedTraces.{tallies_all, tallies_unopened}
 use Rattle.vme_engines.proofs.totals.tally_of_trace.Goals as goal
 
 pub read_on-requires-clause-well_formed : goal.read_on-requires-clause-well_formed
