@@ -81,6 +81,7 @@ impl BusState {
     /// offer.
     ///
     /// It takes a few operations on sets. A slot among them may wait too.
+    #[inline(always)]
     pub fn movers(&self) -> SlotSet
         ensures waits { OfHistory self.now (λ version p h. (s : ℕ)
             → has result s ≡ false → is_waiting version p h (Slot s) ≡ true) }

@@ -89,6 +89,7 @@ impl BusState {
     /// the edges that are considered for it.
     ///
     /// It looks at a few bits alone. Where it answers false, `offers` may still be empty.
+    #[inline(always)]
     pub fn is_waiting(&self, driver: Driver) -> bool
         ensures waits { OfHistory self.now (λ version p h.
             result ≡ is_waiting version p h driver) }

@@ -49,4 +49,4 @@ pub mod FoundSeeds
 -- the ends of verdict lines in a table
 pub mod VerdictEnds
 -- what the edges of one trace of several come to, piece by piece
-pub mod Totals
+pub mod TalliedTraces

@@ -1,4 +1,4 @@
-use Rattle.vme_engines.proofs.Totals.{tallies_more}
+use Rattle.vme_engines.proofs.TalliedTraces.{tallies_more}
 use Rattle.vme_engines.proofs.totals.TallyingJudge.take.Goals as goal
 
 pub returns : goal.returns

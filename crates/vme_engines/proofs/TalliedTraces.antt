@@ -11,11 +11,10 @@ use Rattle.vme_tallies.specs.declared.tallies.Tally.{Tally}
 use Rattle.vme_tallies.specs.Tally.{answered}
 use Rattle.vme_tallies.specs.Tallied.{IsTallyOf}
 use Rattle.vme_engines.specs.declared.summaries.Summing.{Summing}
-use Rattle.vme_engines.specs.declared.totals.Tallying.{Tallying}
 use Rattle.vme_engines.specs.Streams.{Streams, streams}
 use Rattle.vme_engines.specs.Outcomes.{bench}
 use Rattle.vme_engines.specs.Steps.{Begins, Opens}
-use Rattle.vme_engines.specs.Pieces.{Came, Answers, answered as told_by}
+use Rattle.vme_engines.specs.Pieces.{Came, answered as told_by}
 use Rattle.vme_engines.specs.Summing.{IsWaiting}
 use Rattle.vme_engines.specs.Summed.{IsSumOf}
 use Rattle.vme_engines.specs.Added.{Tallies, TalliesInput, TalliesPiece}
@@ -51,10 +50,10 @@ module _ (p : Plan) (v : Version) (all : List ℕ) (s : Streams) (es : List Edge
       let end : Came v [] all s.from s.to es (Err f) = subst (Came v [] all s.from s.to es) h came in
       stops_waiting IsWaiting v all s es begins tt f end.1
 
-pub tallies_all : (p : Plan) (v : Version) (all : List ℕ) (from to old new : Option (List ℕ)) (first : Tallying) (r : Result Tally Fault) → IsSumOf (bench p v) [] first.summing
-    → Answers (λ es more old new (now : Tallying) a. TalliesPiece first.summing es more now.summing a) v [] all (streams from to old new) r → Tallies p all (streams from to None None) r
-tallies_all p v all from to old new first r fresh h =
-    tallies_so p v all (streams from to None None) h.0 (came_begins v [] all from to h.0 h.1 h.3) first.summing fresh h.1 h.2.summing r h.3 h.4
+pub tallies_all : (p : Plan) (v : Version) (all : List ℕ) (from to : Option (List ℕ)) (first now : Summing) (es : List Edge) (more : Result Bool Fault) (r : Result Tally Fault) → IsSumOf (bench p v) [] first → Came v [] all from to es more
+    → TalliesPiece first es more now (told_by r) → Tallies p all (streams from to None None) r
+tallies_all p v all from to first now es more r fresh came h =
+    tallies_so p v all (streams from to None None) es (came_begins v [] all from to es more came) first fresh more now r came h
 
 pub tallies_unopened : (p : Plan) (s : Streams) (reader : trace.ReaderState) (es : List Edge) (left : ℕ) (f : Fault) → reader.version ≡ None → Opens s.from s.to reader es (Err f, left) → TalliesInput s p (Err f)
 tallies_unopened p s reader es left f unknown h = unopened IsWaiting tt s reader es left f unknown h
