@@ -1,5 +1,5 @@
 -- What is unfit, and not missing, is no job.
-use Rattle.std.proofs.Common.{◌≡◌, ◌≢◌, List, Option, Some, None, IsSomeAnd, refl}
+use Rattle.std.proofs.Common.{◌≢◌, List, Option, Some, None, IsSomeAnd, refl}
 use Rattle.clap.specs.Words.{Row, Text}
 use Rattle.vme_words.specs.Asked.{IsNoJob}
 use Rattle.vme_words.specs.Unfits.{IsUnfit}

@@ -1,5 +1,5 @@
 -- A text that names seeds is parted by two dots in one way alone.
-use Rattle.std.proofs.Common.{◌≡◌, ◌∙◌, ℕ, ◌<◌, ◌≤◌, ◌+◌, ◌-◌, ◌++◌, ◌==◌, List, [], ◌∷◌, Bool, true, false, None, codes, cond, length, take, drop, slice_index, sym, ap, subst, arith}
+use Rattle.std.proofs.Common.{◌≡◌, ◌∙◌, ℕ, ◌<◌, ◌≤◌, ◌+◌, ◌-◌, ◌++◌, ◌==◌, [], ◌∷◌, Bool, true, false, None, codes, cond, length, take, drop, slice_index, sym, ap, subst, arith}
 use Rattle.std.proofs.lemmas.List.{append_assoc, drop-append-le, length-append, length-drop, take-append-drop}
 use Rattle.std.proofs.Math.Seq.{drop-append-add, drop-append_seam, take-append_seam}
 use Rattle.std.specs.Str.Parse.{AllDigits, without_leading_plus}

@@ -447,11 +447,7 @@ fn run_of<'a>(scenario: &'a str, operands: &ArgMatches<'a>) -> Result<Job<'a>, U
 }
 
 /// The job of a command's name, with its operands.
-fn job_of<'a>(
-    alloc: Global,
-    name: &str,
-    operands: &ArgMatches<'a>,
-) -> Result<Job<'a>, Unfit<'a>>
+fn job_of<'a>(alloc: Global, name: &str, operands: &ArgMatches<'a>) -> Result<Job<'a>, Unfit<'a>>
     ensures within { IfOk result IsWithin }
     ensures asked { IfOk result (AsksFor name.now (rows_of (found_of operands.now))) }
     ensures unfit { IfErr result (IsUnfit name.now (rows_of (found_of operands.now))) }

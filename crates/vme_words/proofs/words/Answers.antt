@@ -1,4 +1,4 @@
-use Rattle.std.proofs.Common.{rules, ◌≡◌, ◌≢◌, inl, inr, IsSomeAnd}
+use Rattle.std.proofs.Common.{rules, ◌≢◌, inl, inr, IsSomeAnd}
 use Rattle.clap.specs.Words.{subcommand_of}
 use Rattle.vme_words.specs.Asked.{texts_of}
 use Rattle.vme_words.specs.Commands.{commands as commands_said}
