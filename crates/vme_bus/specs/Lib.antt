@@ -10,3 +10,5 @@ pub mod Asks
 pub mod Moves
 -- words: whether a board's interrupter has nothing to do
 pub mod Movers
+-- words: the arm of an edge
+pub mod Arms

@@ -14,6 +14,7 @@ ghost use Rattle.vme_model.specs.Accepted.{IsAccepted};
 ghost use Rattle.vme_model.specs.Report.{at_power_up, trace_limit};
 ghost use Rattle.vme_backplane.specs.Sound.{IsSound};
 
+use crate::arms::{arm_of, level_of};
 use crate::states::BusState;
 use arrayvec::ArrayVec;
 use std::marker::Model;
@@ -179,28 +180,70 @@ impl Bus {
     /// Makes the edge where the rules allow it, and answers what it delivers.
     ///
     /// A refusal is the first that applies of E1 to E5, and leaves everything as it was. No memory is asked for.
+    #[inline(always)]
     pub fn step(&mut self, edge: Edge) -> Result<Option<Delivery>, Refused>
         ensures answer { result ≡ answer self.old edge }
         ensures accepted { is_ok result ≡ is_ok (verdict self.old edge) }
         ensures state { self.new ≡ after self.old edge }
         ensures sound { IsSound self.new }
     {
-        let answer = self.step_by_wire(edge);
+        let answer = self.step_by_arm(edge);
         self.laws();
         self.safety();
         answer
     }
 
-    /// The same, but for what follows of every history, with an arm for each wire.
+    /// The same, but for what follows of every history, with an arm for each wire and direction.
     #[inline(always)]
-    fn step_by_wire(&mut self, edge: Edge) -> Result<Option<Delivery>, Refused>
+    fn step_by_arm(&mut self, edge: Edge) -> Result<Option<Delivery>, Refused>
         ensures answer { result ≡ answer self.old edge }
         ensures state { self.new ≡ after self.old edge }
     {
-        by_wire!(edge => match self.verdict(edge) {
+        match arm_of(edge) {
+            0 => self.step_in(edge, Wire::Bg(level_of(edge.wire)), false),
+            1 => self.step_in(edge, Wire::Bg(level_of(edge.wire)), true),
+            2 => self.step_in(edge, Wire::Bclr, false),
+            3 => self.step_in(edge, Wire::Bclr, true),
+            4 => self.step_in(edge, Wire::Iack, false),
+            5 => self.step_in(edge, Wire::Iack, true),
+            6 => self.step_in(edge, Wire::Berr, false),
+            7 => self.step_in(edge, Wire::Berr, true),
+            8 => self.step_in(edge, Wire::Br, false),
+            9 => self.step_in(edge, Wire::Br, true),
+            10 => self.step_in(edge, Wire::BgOut, false),
+            11 => self.step_in(edge, Wire::BgOut, true),
+            12 => self.step_in(edge, Wire::Bbsy, false),
+            13 => self.step_in(edge, Wire::Bbsy, true),
+            14 => self.step_in(edge, Wire::Addr, false),
+            15 => self.step_in(edge, Wire::Addr, true),
+            16 => self.step_in(edge, Wire::AddressStrobe, false),
+            17 => self.step_in(edge, Wire::AddressStrobe, true),
+            18 => self.step_in(edge, Wire::DataStrobe, false),
+            19 => self.step_in(edge, Wire::DataStrobe, true),
+            20 => self.step_in(edge, Wire::Irq, false),
+            21 => self.step_in(edge, Wire::Irq, true),
+            22 => self.step_in(edge, Wire::IackOut, false),
+            23 => self.step_in(edge, Wire::IackOut, true),
+            24 => self.step_in(edge, Wire::Dtack, false),
+            _ => self.step_in(edge, Wire::Dtack, true),
+        }
+    }
+
+    /// The same in an arm, where wire and direction are constants, so that the compiler leaves out what other edges need.
+    #[inline(always)]
+    fn step_in(&mut self, edge: Edge, wire: Wire, fall: bool) -> Result<Option<Delivery>, Refused>
+        requires wire { wire ≡ edge.wire }
+        requires fall { fall ≡ edge.fall }
+        ensures answer { result ≡ answer self.old edge }
+        ensures state { self.new ≡ after self.old edge }
+    {
+        let mut edge = edge;
+        edge.wire = wire;
+        edge.fall = fall;
+        match self.verdict(edge) {
             Ok(()) => Ok(self.take(edge)),
             Err(refused) => Err(refused),
-        })
+        }
     }
 
     /// Makes an edge that would be accepted, and answers what it delivers.

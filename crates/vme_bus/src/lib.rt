@@ -1,6 +1,7 @@
 //! The state of a bus without its history, as a plain record of numbers.
 #![tactic(auto)]
 
+mod arms;
 mod buses;
 mod judging;
 mod layouts;

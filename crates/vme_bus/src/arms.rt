@@ -1,0 +1,48 @@
+//! An arm for each wire and direction, so that an edge takes one jump.
+ghost use Rattle.std.specs.Prelude.{◌≡◌};
+ghost use Rattle.vme_bus.specs.Arms.{arm, level_of, wire_number};
+
+use vme_model::{Edge, Wire};
+
+/// The number of a wire, in the order of `Wire`.
+#[inline(always)]
+fn wire_number(wire: Wire) -> u8
+    ensures { result ≡ wire_number wire }
+{
+    match wire {
+        Wire::Bg(_) => 0,
+        Wire::Bclr => 1,
+        Wire::Iack => 2,
+        Wire::Berr => 3,
+        Wire::Br => 4,
+        Wire::BgOut => 5,
+        Wire::Bbsy => 6,
+        Wire::Addr => 7,
+        Wire::AddressStrobe => 8,
+        Wire::DataStrobe => 9,
+        Wire::Irq => 10,
+        Wire::IackOut => 11,
+        Wire::Dtack => 12,
+    }
+}
+
+/// The level of a grant's wire; 0 of any other.
+#[inline(always)]
+pub(crate) fn level_of(wire: Wire) -> u8
+    ensures { result ≡ level_of wire }
+{
+    match wire {
+        Wire::Bg(level) => level,
+        _ => 0,
+    }
+}
+
+/// The arm of an edge: two for each wire, the rise before the fall.
+///
+/// A number and no type, since the compiler makes two jumps of a match on two values, and neither can be foretold.
+#[inline(always)]
+pub(crate) fn arm_of(edge: Edge) -> u8
+    ensures { result ≡ arm edge.wire edge.fall }
+{
+    2 * wire_number(edge.wire) + u8::from(edge.fall)
+}
