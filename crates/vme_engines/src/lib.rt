@@ -36,8 +36,8 @@ pub use seeds::{Progress, drive_found};
 pub use shows::show;
 pub use states::state;
 pub use summaries::summary;
-pub use totals::{add_trace, tell_sums};
 use thiserror::Error;
+pub use totals::{add_trace, tell_sums};
 use vme_scenario::ScenarioError;
 use vme_trace::Fault;
 
