@@ -1,5 +1,5 @@
 -- The walk of a seed, and what was written of it.
-use Rattle.std.proofs.Common.{◌≡◌, refl, sym, ◌∙◌, ap, subst, ℕ, ◌≤◌, List, [], ◌∷◌, ◌++◌, length, Option, Ok, Err, Result}
+use Rattle.std.proofs.Common.{◌≡◌, refl, sym, ◌∙◌, ap, subst, ℕ, ◌≤◌, List, ◌++◌, length, Option, Ok, Err, Result}
 use Rattle.std.specs.Prelude.{OnOk, OnErr}
 use Rattle.std.specs.Io.KnownBytes.{Appends}
 use Rattle.vme_model.specs.declared.signals.Version.{Version}
@@ -10,7 +10,7 @@ use Rattle.vme_model.specs.History.{in_order}
 use Rattle.vme_model.specs.Safe.{IsSafe, IsOrderly}
 use Rattle.vme_model.specs.Verdict.{State, IsLegal}
 use Rattle.vme_model.specs.Report.{trace_limit}
-use Rattle.vme_model.specs.Text.{text, edge_lines}
+use Rattle.vme_model.specs.Text.{text}
 use Rattle.vme_scenario.specs.Format.{scenario}
 use Rattle.vme_trace.specs.declared.Fault.{Fault}
 use Rattle.vme_trace.specs.declared.Fault.TheVariants.{Write}

@@ -1,5 +1,5 @@
 -- The lines of a drive, written as its edges are made.
-use Rattle.std.proofs.Common.{◌≡◌, ℕ, zero, suc, ◌+◌, ◌<◌, ◌%◌, get_or, List, [], ◌∷◌, ◌++◌, length, Bool, true, false, drop, Option, Some, None, Result, Ok, Err, OnOk, OnErr, IfErr, refl, sym, ◌∙◌, ap, append_assoc, append-nil, subst, reverse, slice_get, ◌==◌, if◌then◌else◌, ◌≢◌, ne_eqb, eqb-true}
+use Rattle.std.proofs.Common.{◌≡◌, ℕ, zero, suc, ◌+◌, ◌<◌, ◌%◌, get_or, List, [], ◌∷◌, ◌++◌, length, Bool, true, false, drop, Option, Some, None, Result, Ok, Err, OnOk, OnErr, IfErr, refl, sym, ◌∙◌, ap, append_assoc, subst, slice_get, ◌==◌, if◌then◌else◌, ◌≢◌, ne_eqb, eqb-true}
 use Rattle.std.specs.Option.{option_map_or}
 use Rattle.std.proofs.lemmas.List.{reverse-append, drop_more}
 use Rattle.std.specs.Io.KnownBytes.{Appends, Keeps}

@@ -1,7 +1,6 @@
 -- A text that is put together before it is written.
 use Rattle.std.specs.Prelude.{◌≡◌, ℕ, List, ◌++◌, Option, Result, Ok, Err}
 use Rattle.std.specs.Io.KnownBytes.{Appends}
-use Rattle.vme_model.specs.declared.signals.Edge.{Edge}
 use Rattle.vme_model.specs.History.{in_order}
 use Rattle.vme_model.specs.Verdict.{State}
 use Rattle.vme_model.specs.Text.{edge_lines, text}

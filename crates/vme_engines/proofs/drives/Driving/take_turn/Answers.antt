@@ -1,4 +1,4 @@
-use Rattle.std.proofs.Common.{sym, ◌∙◌}
+use Rattle.std.proofs.Common.{◌∙◌}
 use Rattle.vme_engines.proofs.DrivenLines.{turn_listed}
 use Rattle.vme_engines.proofs.drives.Driving.take_turn.Goals as goal
 
