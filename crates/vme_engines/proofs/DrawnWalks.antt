@@ -1,5 +1,5 @@
 -- The walk of a seed, and what was written of it.
-use Rattle.std.proofs.Common.{◌≡◌, refl, sym, ◌∙◌, ap, subst, ℕ, ◌≤◌, List, [], ◌∷◌, ◌++◌, length, append_assoc, append-nil, Option, Ok, Err, Result}
+use Rattle.std.proofs.Common.{◌≡◌, refl, sym, ◌∙◌, ap, subst, ℕ, ◌≤◌, List, ◌++◌, length, Option, Ok, Err, Result}
 use Rattle.std.specs.Prelude.{OnOk, OnErr}
 use Rattle.std.specs.Io.KnownBytes.{Appends}
 use Rattle.vme_model.specs.declared.signals.Version.{Version}
@@ -10,11 +10,11 @@ use Rattle.vme_model.specs.History.{in_order}
 use Rattle.vme_model.specs.Safe.{IsSafe, IsOrderly}
 use Rattle.vme_model.specs.Verdict.{State, IsLegal}
 use Rattle.vme_model.specs.Report.{trace_limit}
-use Rattle.vme_model.specs.Text.{text, edge_lines, spelling}
+use Rattle.vme_model.specs.Text.{text}
 use Rattle.vme_scenario.specs.Format.{scenario}
 use Rattle.vme_trace.specs.declared.Fault.{Fault}
 use Rattle.vme_trace.specs.declared.Fault.TheVariants.{Write}
-use Rattle.vme_trace.specs.Writing.{AppendsFront, edge_line}
+use Rattle.vme_trace.specs.Writing.{AppendsFront}
 use Rattle.vme_draws.specs.Walks.{at_start}
 use Rattle.vme_draws.proofs.Walked.{IsOn}
 use Rattle.vme_events.specs.declared.goals.Goal.{Goal}
@@ -26,15 +26,6 @@ use Rattle.vme_engines.specs.Outcomes.{bench}
 use Rattle.vme_engines.specs.Drawing.{walk, missed_of, walk_text, EndsRightly, status_to, Draws, DrawsSafely, IsWellFormed}
 use Rattle.vme_engines.proofs.LegalTrace.{legal_trace}
 use Rattle.vme_engines.proofs.SoughtGoals.{walk_stays, refused_end, formed_end}
-
--- the line of an edge alone
-pub line_alone : (e : Edge) → edge_line e ≡ edge_lines (e ∷ [])
-line_alone e = sym (append-nil (edge_line e))
-
--- the lines of edges, and of others behind them
-pub lines_behind : (es fs : List Edge) → edge_lines (es ++ fs) ≡ edge_lines es ++ edge_lines fs
-lines_behind [] fs = refl
-lines_behind (e ∷ es) fs = ap (λ l. (spelling e ++ 10 ∷ []) ++ l) (lines_behind es fs) ∙ sym (append_assoc (spelling e ++ 10 ∷ []) (edge_lines es) (edge_lines fs))
 
 pub on_ok_more : {E A : Type 0} (r : Result A E) (P Q : Type 0) → (P → Q) → OnOk r P → OnOk r Q
 on_ok_more (Ok a) P Q f h = f h

@@ -114,7 +114,7 @@ later_round : (t : Bool) (b c d : State) → IsLater b c → IsLater c d → IsL
 later_round true b c d f g = same_later b
 later_round false b c d f g = later_still b c d f g
 
-rounds_later : (left r n : ℕ) (b : State) → IsLater b (rounds_from left r n b)
+pub rounds_later : (left r n : ℕ) (b : State) → IsLater b (rounds_from left r n b)
 rounds_later zero r n b = same_later b
 rounds_later (suc left) r n b =
     let next = turns r n b (drivers b.plan) in

@@ -8,7 +8,8 @@ use Rattle.vme_model.specs.Verdict.{State, after, kept}
 use Rattle.vme_model.specs.Deliveries.{answer}
 use Rattle.vme_model.specs.Report.{verdict_line, verdict_lines, closing_text}
 use Rattle.vme_trace.specs.declared.Fault.{Fault}
-use Rattle.vme_trace.specs.Writing.{AppendsFront}
+use Rattle.vme_model.specs.Text.{edge_lines, spelling}
+use Rattle.vme_trace.specs.Writing.{AppendsFront, edge_line}
 use Rattle.vme_engines.specs.Steps.{piece_text}
 use Rattle.vme_engines.specs.Texts.{HandsOn}
 
@@ -35,6 +36,15 @@ on_err (Err e) P h = h
 
 pub front_kept : (a b c : Option (List ℕ)) (x : List ℕ) → Appends a b x → Keeps b c → AppendsFront a c x
 front_kept a b c x w k = front_of_all a c x (Appends-kept a b c x w k)
+
+-- the line of an edge alone
+pub line_alone : (e : Edge) → edge_line e ≡ edge_lines (e ∷ [])
+line_alone e = sym (append-nil (edge_line e))
+
+-- the lines of edges, and of others behind them
+pub lines_behind : (es fs : List Edge) → edge_lines (es ++ fs) ≡ edge_lines es ++ edge_lines fs
+lines_behind [] fs = refl
+lines_behind (e ∷ es) fs = ap (λ l. (spelling e ++ 10 ∷ []) ++ l) (lines_behind es fs) ∙ sym (append_assoc (spelling e ++ 10 ∷ []) (edge_lines es) (edge_lines fs))
 
 pub lines_append : (b : State) (n : ℕ) (es fs : List Edge) → verdict_lines b n (es ++ fs) ≡ verdict_lines b n es ++ verdict_lines (kept b es) (n + length es) fs
 lines_append b n [] fs = ap (λ m. verdict_lines b m fs) (omega arith)

@@ -1,57 +1,142 @@
 //! Letting the drivers of a backplane make edges in turn.
-ghost use Rattle.std.specs.Prelude.{◌≡◌, ◌==◌, OnOk, OnErr, IfErr, length, if◌then◌else◌};
+ghost use Rattle.std.specs.Prelude.{◌≡◌, ◌==◌, ◌++◌, [], OnOk, OnErr, IfErr, IsTrue, length, if◌then◌else◌};
 ghost use Rattle.std.specs.Io.KnownBytes.{Appends, Keeps};
 ghost use Rattle.vme_model.specs.Plan.{drivers};
 ghost use Rattle.vme_model.specs.History.{in_order};
 ghost use Rattle.vme_model.specs.Offers.{turn, turns, rounds};
 ghost use Rattle.vme_model.specs.Text.{text, edge_lines};
-ghost use Rattle.vme_trace.specs.Writing.{AppendsFront};
+ghost use Rattle.vme_model.specs.Signals.{is_well_formed};
+ghost use Rattle.vme_trace.specs.Writing.{AppendsFront, edge_line};
+ghost use Rattle.vme_engines.specs.Texts.{HandsOn, ListsOn, trace_made};
 ghost use Rattle.vme_engines.specs.Outcomes.{Lent};
 ghost use Rattle.vme_engines.specs.declared.Status.TheVariants.{Done, Limit};
 ghost use Rattle.vme_engines.specs.Driving.{Drives, DrivesSafely};
 
 use crate::edges::push_edge;
 use crate::lines::{hand_on, make_room};
-use crate::plans::{history_region, history_room, plan_of};
+use crate::plans::plan_of;
 use crate::{EngineFault, Status};
 use std::alloc::Global;
 use std::io::Write;
 use vme_backplane::Backplane;
-use vme_model::{Driver, Version};
+use vme_bus::Bus;
+use vme_model::{Driver, Edge, Version};
 use vme_text::Text;
 use vme_trace::{Fault, flush, header_line, put};
 
-/// A driver's turn: it makes an offer, unless there is none or enough edges were made.
-fn take_turn(backplane: &mut Backplane, round: u32, edges: u32, driver: Driver)
-    ensures { backplane.new ≡ turn round edges backplane.old driver }
-{
-    if backplane.len() == edges {
-        return;
-    }
-    let _ = backplane.make_offer(driver, round);
+/// A drive under way: a bus, and of the lines of its edges those that are not yet written.
+#[derive(Drop)]
+struct Driving {
+    bus: Bus,
+    text: Text,
 }
 
-/// A turn of each driver.
-fn take_turns(backplane: &mut Backplane, round: u32, edges: u32, drivers: &[Driver])
-    ensures { backplane.new ≡ turns round edges backplane.old drivers.now }
-{
-    for driver in drivers {
-        take_turn(backplane, round, edges, *driver);
-    }
-}
-
-/// Rounds, until enough edges were made or a round makes none.
-fn take_rounds(backplane: &mut Backplane, edges: u32, all: &[Driver])
-    requires { all.now ≡ drivers backplane.old.plan }
-    ensures { backplane.new ≡ rounds backplane.old edges }
-{
-    for round in 0..edges {
-        let before = backplane.len();
-        take_turns(backplane, round, edges, all);
-        if backplane.len() == before {
-            return;
+impl Driving {
+    /// Before the first edge.
+    fn new(bus: Bus) -> Driving
+        ensures bus { result.bus ≡ bus }
+        ensures text { result.text ≡ [] }
+    {
+        Driving {
+            bus,
+            text: Text::new(),
         }
     }
+
+    /// A driver's turn: it makes an offer, unless there is none or enough edges were made.
+    fn take_turn<W: Write>(
+        &mut self,
+        round: u32,
+        edges: u32,
+        driver: Driver,
+        out: &mut W,
+    ) -> Result<(), Fault>
+        ensures { ListsOn self.old.bus self.old.text (W.contents out.old) (W.contents out.new)
+            (turn round edges self.old.bus driver) self.new.bus self.new.text result }
+    {
+        if self.bus.len() == edges {
+            return Ok(());
+        }
+        match self.bus.make_offer(driver, round) {
+            Some(edge) => put_line(&mut self.text, &edge, out),
+            None => Ok(()),
+        }
+    }
+
+    /// A turn of each driver.
+    fn take_turns<W: Write>(
+        &mut self,
+        round: u32,
+        edges: u32,
+        drivers: &[Driver],
+        out: &mut W,
+    ) -> Result<(), Fault>
+        ensures { ListsOn self.old.bus self.old.text (W.contents out.old) (W.contents out.new)
+            (turns round edges self.old.bus drivers.now) self.new.bus self.new.text result }
+    {
+        for driver in drivers {
+            self.take_turn(round, edges, *driver, out)?;
+        }
+        Ok(())
+    }
+
+    /// Rounds, until enough edges were made or a round makes none.
+    fn take_rounds<W: Write>(
+        &mut self,
+        edges: u32,
+        all: &[Driver],
+        out: &mut W,
+    ) -> Result<(), Fault>
+        requires { all.now ≡ drivers self.old.bus.plan }
+        ensures { ListsOn self.old.bus self.old.text (W.contents out.old) (W.contents out.new)
+            (rounds self.old.bus edges) self.new.bus self.new.text result }
+    {
+        for round in 0..edges {
+            let before = self.bus.len();
+            self.take_turns(round, edges, all, out)?;
+            if self.bus.len() == before {
+                return Ok(());
+            }
+        }
+        Ok(())
+    }
+
+    /// Writes the trace of the edges that all the drivers make.
+    fn write<W: Write>(&mut self, edges: u32, all: &[Driver], out: &mut W) -> Result<(), Fault>
+        requires all { all.now ≡ drivers self.old.bus.plan }
+        requires start { self.old.bus.history ≡ [] }
+        requires empty { self.old.text ≡ [] }
+        ensures state { OnOk result (self.new.bus ≡ rounds self.old.bus edges) }
+        ensures ok { OnOk result
+            (Appends (W.contents out.old) (W.contents out.new)
+            (trace_made (rounds self.old.bus edges))) }
+        ensures front { OnErr result
+            (AppendsFront (W.contents out.old) (W.contents out.new)
+            (trace_made (rounds self.old.bus edges))) }
+        ensures fault { IfErr result (λ fault. fault ≡ Fault.Write) }
+    {
+        put(out, header_line(self.bus.version()))?;
+        self.take_rounds(edges, all, out)?;
+        hand_on(&mut self.text, out)?;
+        flush(out)
+    }
+}
+
+/// Puts the line of an edge to a text, which is written first where it has no room for it.
+///
+/// Errors: X8 where that failed; a prefix of the text was then written.
+fn put_line<W: Write>(text: &mut Text, edge: &Edge, out: &mut W) -> Result<(), Fault>
+    requires { IsTrue (is_well_formed edge.now) }
+    ensures ok { OnOk result
+        (HandsOn (W.contents out.old) (W.contents out.new)
+        (text.old ++ edge_line edge.now) text.new) }
+    ensures front { OnErr result
+        (AppendsFront (W.contents out.old) (W.contents out.new) text.old) }
+    ensures fault { IfErr result (λ fault. fault ≡ Fault.Write) }
+{
+    make_room(text, out)?;
+    push_edge(text, edge);
+    Ok(())
 }
 
 /// Writes the lines of the edges that were made.
@@ -106,7 +191,9 @@ pub fn status_of(made: u32, edges: u32) -> Status
 /// The status is `Limit` where `edges` of them were made, and else `Done`. A driver with k offers makes, in round r, the
 /// one at place `r mod k`; a round that makes no edge is the last.
 ///
-/// Errors: F2, the faults of the scenario and F3, before anything is written; X8 where the output cannot be written.
+/// The lines are written as the edges are made, and no edge is kept.
+///
+/// Errors: F2 and the faults of the scenario, before anything is written; X8 where the output cannot be written.
 pub fn drive<W: Write>(
     alloc: Global,
     scenario: &[u8],
@@ -121,15 +208,14 @@ pub fn drive<W: Write>(
     ensures safe { OnOk result (DrivesSafely scenario.now version edges) }
 {
     let plan = plan_of(alloc, scenario)?;
-    let mut region = history_region(alloc)?;
-    let room = history_room(alloc, &mut region)?;
     let all = plan.drivers();
-    let mut backplane = Backplane::new(plan, room, version);
-    take_rounds(&mut backplane, edges, &all);
-    backplane.laws();
-    backplane.safety();
-    match write_history(&backplane, out) {
-        Ok(()) => Ok(status_of(backplane.len(), edges)),
+    let mut drive = Driving::new(Bus::new(plan, version));
+    match drive.write(edges, &all, out) {
+        Ok(()) => {
+            drive.bus.laws();
+            drive.bus.safety();
+            Ok(status_of(drive.bus.len(), edges))
+        }
         Err(fault) => Err(EngineFault::Trace(fault)),
     }
 }

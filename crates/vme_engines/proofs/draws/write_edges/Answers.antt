@@ -5,8 +5,8 @@ use Rattle.vme_model.specs.Text.{edge_lines}
 use Rattle.vme_model.specs.History.{in_order}
 use Rattle.vme_trace.specs.Writing.{AppendsFront}
 use Rattle.vme_engines.specs.Drawing.{missed_of}
-use Rattle.vme_engines.proofs.WrittenLines.{front_of_more, front_behind, on_err}
-use Rattle.vme_engines.proofs.DrawnWalks.{lines_behind, on_ok_more, on_err_more}
+use Rattle.vme_engines.proofs.WrittenLines.{front_of_more, front_behind, lines_behind, on_err}
+use Rattle.vme_engines.proofs.DrawnWalks.{on_ok_more, on_err_more}
 use Rattle.vme_engines.proofs.draws.write_edges.Goals as goal
 
 pub returns-in_err-write_lines-clause-front : goal.returns-in_err-write_lines-clause-front
