@@ -25,9 +25,9 @@ const LINE: usize = 80;
 
 /// Appends the verdict line of the edge with this number.
 #[inline(always)]
-fn push_line(text: &mut Text, count: &Count, answer: &Result<Option<Delivery>, Refused>)
+fn push_line(text: &mut Text, count: &Count, answer: Result<Option<Delivery>, Refused>)
     requires { length text.old + 64 ≤ 8192 }
-    ensures { text.new ≡ text.old ++ verdict_line count.now answer.now }
+    ensures { text.new ≡ text.old ++ verdict_line count.now answer }
 {
     count.push_digits(text);
     push_end(text, answer);
@@ -124,7 +124,7 @@ pub(crate) fn write_verdicts<W: Write>(
     for edge in edges {
         make_room(text, out)?;
         count.advance();
-        push_line(text, &count, &bus.step(*edge));
+        push_line(text, &count, bus.step(*edge));
     }
     hand_on(text, out)
 }

@@ -1,5 +1,5 @@
 //! The ends of verdict lines: what stands after the number.
-ghost use Rattle.std.specs.Prelude.{◌≡◌, ◌+◌, ◌<◌, ◌≤◌, ◌++◌, ◌∷◌, [], length, codes, decimal, Err};
+ghost use Rattle.std.specs.Prelude.{◌≡◌, ◌+◌, ◌<◌, ◌≤◌, ◌++◌, ◌∷◌, [], length, codes, decimal, take, Err};
 ghost use Rattle.vme_model.specs.Report.{verdict_text};
 
 use arrayvec::ArrayVec;
@@ -46,6 +46,17 @@ static RULES: [[u8; 8]; 32] = [
     *b" E3 G31\n",
 ];
 
+/// Appends the first `many` bytes of the end of a line. It is handed over as a value, since the bytes of a
+/// constant could be the text's own, for all that the compiler knows.
+#[inline(always)]
+fn push_tail(text: &mut Text, tail: [u8; 8], many: usize)
+    requires many { many ≤ 8 }
+    requires room { length text.old + 8 ≤ 8192 }
+    ensures { text.new ≡ text.old ++ take many tail }
+{
+    text.append::<8>(&tail, many);
+}
+
 /// Appends the end of the line of an edge that a rule refuses.
 #[inline(always)]
 fn push_rule(text: &mut Text, rule: u8)
@@ -55,33 +66,33 @@ fn push_rule(text: &mut Text, rule: u8)
         ++ ((codes " " ++ verdict_text (Err (Refused.Rule rule))) ++ 10 ∷ []) }
 {
     let len = if rule < 10 { 7 } else { 8 };
-    text.append::<8>(&RULES[usize::from(rule)], len);
+    push_tail(text, RULES[usize::from(rule)], len);
 }
 
 /// Appends the end of any verdict line, put together anew.
 #[inline(never)]
-fn push_rare(text: &mut Text, answer: &Result<Option<Delivery>, Refused>)
+fn push_rare(text: &mut Text, answer: Result<Option<Delivery>, Refused>)
     requires { length text.old + 40 ≤ 8192 }
-    ensures { text.new ≡ text.old ++ ((codes " " ++ verdict_text answer.now) ++ 10 ∷ []) }
+    ensures { text.new ≡ text.old ++ ((codes " " ++ verdict_text answer) ++ 10 ∷ []) }
 {
     let mut end: ArrayVec<u8, 40> = ArrayVec::new();
     push(&mut end, b" ");
-    push_verdict(&mut end, answer);
+    push_verdict(&mut end, &answer);
     push(&mut end, b"\n");
     text.push(end.as_slice());
 }
 
 /// Appends the end of the verdict line of an answer.
 #[inline(always)]
-pub(crate) fn push_end(text: &mut Text, answer: &Result<Option<Delivery>, Refused>)
+pub(crate) fn push_end(text: &mut Text, answer: Result<Option<Delivery>, Refused>)
     requires { length text.old + 40 ≤ 8192 }
-    ensures { text.new ≡ text.old ++ ((codes " " ++ verdict_text answer.now) ++ 10 ∷ []) }
+    ensures { text.new ≡ text.old ++ ((codes " " ++ verdict_text answer) ++ 10 ∷ []) }
 {
     match answer {
-        Ok(None) => text.append::<8>(b" ok\n....", 4),
-        Err(Refused::Rule(rule)) if *rule < RULE_COUNT => push_rule(text, *rule),
-        Err(Refused::NoSuchDriver) => text.append::<8>(b" E1\n....", 4),
-        Err(Refused::AlreadyThere) => text.append::<8>(b" E2\n....", 4),
+        Ok(None) => push_tail(text, *b" ok\n....", 4),
+        Err(Refused::Rule(rule)) if rule < RULE_COUNT => push_rule(text, rule),
+        Err(Refused::NoSuchDriver) => push_tail(text, *b" E1\n....", 4),
+        Err(Refused::AlreadyThere) => push_tail(text, *b" E2\n....", 4),
         _ => push_rare(text, answer),
     }
 }

@@ -12,5 +12,5 @@ returns c =
       | then-rule-lt10 w ↦ w.len-is ∙ cond_below c.args.rule 10 7 8 w.if-rule-lt10.true
       | else-rule-lt10 w ↦ cond_above c.args.rule 10 7 8 c.if-rule-lt10.len w.if-rule-lt10.false w.len-is
     ] in
-    c.append.ensures ∙ ap (λ k. c.args.text.now ++ take c.if-rule-lt10.len (get_or RULES k [])) c.from.ensures
+    c.push_tail.ensures ∙ ap (λ k. c.args.text.now ++ take c.if-rule-lt10.len (get_or RULES k [])) c.from.ensures
     ∙ ap (λ n. c.args.text.now ++ take n (get_or RULES c.args.rule [])) size_is ∙ ap (λ l. c.args.text.now ++ l) (row_is_end c.args.rule c.requires.known)
