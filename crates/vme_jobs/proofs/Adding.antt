@@ -10,8 +10,9 @@ use Rattle.vme_model.specs.Text.{read_of}
 use Rattle.vme_scenario.specs.Format.{scenario as read}
 use Rattle.vme_trace.specs.declared.Fault.{Fault}
 use Rattle.vme_tallies.specs.declared.sums.Sums.{Sums as Added}
+use Rattle.vme_tallies.specs.Tally.{Answers}
 use Rattle.vme_tallies.specs.Sums.{Traces}
-use Rattle.vme_tallies.specs.Summed.{AreSumsOf}
+use Rattle.vme_tallies.specs.Summed.{AreSumsOf, OfSums}
 use Rattle.vme_engines.specs.declared.Status.{Status}
 use Rattle.vme_engines.specs.declared.EngineFault.TheVariants as fault
 use Rattle.vme_engines.specs.Streams.{ReadNothing, streams}
@@ -65,12 +66,13 @@ SoFar text before sums = (p : Plan) → read text ≡ Ok p → (ts : Traces) × 
 pub none_read : (text : List ℕ) (sums : Added) → AreSumsOf [] sums → SoFar text 0 sums
 none_read text sums is p has = ([], ([], refl, tt), is)
 
-pub one_more : (text : List ℕ) (scenario trace : Bor (List ℕ)) (old new : Added) (status : Status) (before : ℕ) → AddsFile text scenario trace old new (Ok status) → SoFar text before old → SoFar text (before + 1) new
-one_more text scenario trace old new status before h so_far p is =
+pub one_more : (text : List ℕ) (old new : Added) (before : ℕ) → (p : Plan) × (read text ≡ Ok p) × (bytes : List ℕ) × (t : Answers) × IsWhole p (read_of bytes) t × OfSums old (λ ts. AreSumsOf (t ∷ ts) new)
+    → SoFar text before old → SoFar text (before + 1) new
+one_more text old new before h so_far p is =
     let had = so_far p is in
     let same = plan_is (read text) h.0 p h.1 is in (
       h.3 ∷ had.0,
-      (h.2 ∷ had.1.0, (let n = had.1.1 in omega (arith, n)), subst (λ (x : Plan). IsWhole x (read_of h.2) h.3) same h.4, had.1.2),
+      (h.2 ∷ had.1.0, (let n = had.1.1 in omega (arith, n)), (subst (λ (x : Plan). IsWhole x (read_of h.2) h.3) same h.4, had.1.2)),
       h.5 had.0 had.2,
     )
 
@@ -104,10 +106,10 @@ sums_lent text n sums old new (Err (fault.Trace f)) all h = let had = all h.0 h.
 sums_lent text n sums old new (Err (fault.Beyond edges)) all h = absurd h.3
 sums_lent text n sums old new (Err fault.NoMemory) all h = h
 
-pub sums_done : {Stops : List ℕ → Fault → Type 0} (scenario : Bor (List ℕ)) (text : List ℕ) (n : ℕ) (sums : Added) (old new : Known) (answer : Answer) → SoFar text n sums → Lent text (Keeps old new) (Tells sums old new) answer
+pub sums_done : (Stops : List ℕ → Fault → Type 0) (scenario : Bor (List ℕ)) (text : List ℕ) (n : ℕ) (sums : Added) (old new : Known) (answer : Answer) → SoFar text n sums → Lent text (Keeps old new) (Tells sums old new) answer
     → Hands (Alone (λ a. (t : List ℕ) × Lent t (Keeps old new) (SumsUp n old new) a)) Stops (Keeps old new) (told_answer scenario answer)
-sums_done scenario text n sums old new answer all told =
-    handed (λ a. (t : List ℕ) × Lent t (Keeps old new) (SumsUp n old new) a) (Keeps old new) scenario answer (text, sums_lent text n sums old new answer all told) (λ h. absurd h.1) (λ h. h.1.1)
+sums_done Stops scenario text n sums old new answer all told =
+    handed Stops (λ a. (t : List ℕ) × Lent t (Keeps old new) (SumsUp n old new) a) (Keeps old new) scenario answer (text, sums_lent text n sums old new answer all told) (λ h. absurd h.1) (λ h. h.1.1)
 
 -- a fault before the sums are written
 pub sums_stopped : (text : List ℕ) (scenario : Bor (List ℕ)) (traces : List (Bor (List ℕ))) (held : Known) (f : ProgramFault) → Blames text scenario (Contains (texts_of traces)) (λ p name g. StopsAt (texts_of traces) name g p) f

@@ -25,47 +25,47 @@ use Rattle.vme_jobs.specs.declared.faults.ProgramFault.TheVariants.{CannotRead, 
 use Rattle.vme_jobs.specs.Done.{Alone, Hands, IsDone, Known, OnTrace}
 use Rattle.vme_jobs.specs.Names.{told_answer, told_run_answer}
 
-pub handed : {Stops : List ℕ → Fault → Type 0} (Does : Answer → Type 0) (nothing : Type 0) (name : Bor (List ℕ)) (answer : Answer) → Does answer
+pub handed : (Stops : List ℕ → Fault → Type 0) (Does : Answer → Type 0) (nothing : Type 0) (name : Bor (List ℕ)) (answer : Answer) → Does answer
     → (Does (Err fault.CannotRead) → nothing) → (Does (Err fault.TooLong) → nothing) → Hands (Alone Does) Stops nothing (told_answer name answer)
-handed Does nothing name (Ok status) does unread long = does
-handed Does nothing name (Err fault.CannotRead) does unread long = unread does
-handed Does nothing name (Err fault.TooLong) does unread long = long does
-handed Does nothing name (Err (fault.Scenario e)) does unread long = inl does
-handed Does nothing name (Err (fault.Trace f)) does unread long = inl does
-handed Does nothing name (Err (fault.Beyond edges)) does unread long = inl does
-handed Does nothing name (Err fault.NoMemory) does unread long = inl does
+handed Stops Does nothing name (Ok status) does unread long = does
+handed Stops Does nothing name (Err fault.CannotRead) does unread long = unread does
+handed Stops Does nothing name (Err fault.TooLong) does unread long = long does
+handed Stops Does nothing name (Err (fault.Scenario e)) does unread long = inl does
+handed Stops Does nothing name (Err (fault.Trace f)) does unread long = inl does
+handed Stops Does nothing name (Err (fault.Beyond edges)) does unread long = inl does
+handed Stops Does nothing name (Err fault.NoMemory) does unread long = inl does
 
 pub joined_done : (name : Bor (List ℕ)) (from to old new : Known) (answer : Answer) → Joins (streams from to old new) answer
     → IsDone Joined old new (told_answer name answer)
 joined_done name from to old new answer does =
-    handed (λ a. (x : Known) × (y : Known) × Joins (streams x y old new) a) (Keeps old new) name answer (from, to, does)
+    handed _ (λ a. (x : Known) × (y : Known) × Joins (streams x y old new) a) (Keeps old new) name answer (from, to, does)
     (λ h. elim h.2 [ inl found ↦ absurd found.4 | inr none ↦ none.2 ])
     (λ h. elim h.2 [ inl found ↦ found.4.1 | inr none ↦ absurd none.3 ])
 
 -- an engine on a scenario and a trace
-pub on_trace : {Stops : List ℕ → Fault → Type 0} (Ends : Streams → Plan → Answer → Type 0) (name : Bor (List ℕ)) (text : List ℕ) (from to old new : Known) (answer : Answer)
+pub on_trace : (Stops : List ℕ → Fault → Type 0) (Ends : Streams → Plan → Answer → Type 0) (name : Bor (List ℕ)) (text : List ℕ) (from to old new : Known) (answer : Answer)
     → Lent text (ReadNothing (streams from to old new) × WroteNothing (streams from to old new)) (Ends (streams from to old new)) answer
     → Hands (Alone (OnTrace Ends old new)) Stops (Keeps old new) (told_answer name answer)
-on_trace Ends name text from to old new answer does =
-    handed (OnTrace Ends old new) (Keeps old new) name answer (text, from, to, does) (λ h. absurd h.3) (λ h. h.3.1.1)
+on_trace Stops Ends name text from to old new answer does =
+    handed Stops (OnTrace Ends old new) (Keeps old new) name answer (text, from, to, does) (λ h. absurd h.3) (λ h. h.3.1.1)
 
 pub drive_done : (scenario : Bor (List ℕ)) (text : List ℕ) (edges : ℕ) (version : Version) (old new : Known) (answer : Answer)
     → Lent text (Keeps old new) (Drives version edges old new) answer → IsDone (Drive scenario edges version) old new (told_answer scenario answer)
 drive_done scenario text edges version old new answer does =
-    handed (λ a. (t : List ℕ) × Lent t (Keeps old new) (Drives version edges old new) a)
+    handed _ (λ a. (t : List ℕ) × Lent t (Keeps old new) (Drives version edges old new) a)
     (Keeps old new) scenario answer (text, does) (λ h. absurd h.1) (λ h. h.1.1)
 
 pub draw_done : (scenario : Bor (List ℕ)) (text : List ℕ) (edges seed : ℕ) (until : Option Goal) (version : Version) (old new : Known) (answer : Answer)
     → Lent text (Keeps old new) (Draws version seed edges until old new) answer → IsDone (Draw scenario edges seed until version) old new (told_answer scenario answer)
 draw_done scenario text edges seed until version old new answer does =
-    handed (λ a. (t : List ℕ) × Lent t (Keeps old new) (Draws version seed edges until old new) a)
+    handed _ (λ a. (t : List ℕ) × Lent t (Keeps old new) (Draws version seed edges until old new) a)
     (Keeps old new) scenario answer (text, does) (λ h. absurd h.1) (λ h. h.1.1)
 
 pub search_done : (scenario : Bor (List ℕ)) (text : List ℕ) (edges first last : ℕ) (goal : Goal) (version : Version) (progress : Bool) (old new : Known) (found : Found)
     → Lent text (Keeps old new) (Finds version edges first last goal old new found) (found_answer found)
     → IsDone (Search scenario edges first last goal version progress) old new (told_answer scenario (found_answer found))
 search_done scenario text edges first last goal version progress old new found does =
-    handed (λ a. (t : List ℕ) × (f : Found) × (a ≡ found_answer f) × Lent t (Keeps old new) (Finds version edges first last goal old new f) a)
+    handed _ (λ a. (t : List ℕ) × (f : Found) × (a ≡ found_answer f) × Lent t (Keeps old new) (Finds version edges first last goal old new f) a)
     (Keeps old new) scenario (found_answer found) (text, found, refl, does) (λ h. absurd h.3) (λ h. h.3.1)
 
 -- a file that cannot be read, or a scenario that is too long, or no memory, before an engine begins
