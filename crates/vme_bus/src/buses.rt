@@ -1,6 +1,8 @@
 //! A bus, which takes edges one by one and stores none of them.
-ghost use Rattle.std.specs.Prelude.{◌≡◌, ◌==◌, ◌&&◌, ◌+◌, ◌%◌, ◌≤◌, ◌↔◌, [], IsTrue, Ok, false, true, is_ok, length, slice_get};
+ghost use Rattle.std.specs.Prelude.{◌≡◌, ◌==◌, ◌&&◌, ◌+◌, ◌%◌, ◌≤◌, ◌↔◌, [], ℕ, IsTrue, Ok, false, true, is_ok, length, slice_get};
 ghost use Rattle.std.specs.Option.{option_map_or};
+ghost use Rattle.vme_model.specs.declared.signals.Driver.TheVariants.{Slot};
+ghost use Rattle.vme_bus.specs.Sets.{has};
 ghost use Rattle.vme_model.specs.Verdict.{verdict, verdict_but_full, made, after, kept, IsLegal};
 ghost use Rattle.vme_model.specs.Failing.{tested, tested_but_full, unmet, unmet_but_full};
 ghost use Rattle.vme_model.specs.Safe.{IsSafe, IsOrderly};
@@ -14,6 +16,7 @@ ghost use Rattle.vme_model.specs.Accepted.{IsAccepted};
 ghost use Rattle.vme_model.specs.Report.{at_power_up, trace_limit};
 ghost use Rattle.vme_backplane.specs.Sound.{IsSound};
 
+use crate::sets::SlotSet;
 use crate::states::BusState;
 use arrayvec::ArrayVec;
 use std::marker::Model;
@@ -352,6 +355,24 @@ impl Bus {
         self.laws();
         self.safety();
         offer
+    }
+
+    /// Slots that may have an offer: each other slot waits for an edge of another driver, and has none.
+    ///
+    /// It takes a few operations on sets. A slot among them may have none either.
+    pub fn movers(&self) -> SlotSet
+        ensures { (s : ℕ) → has result s ≡ false → offered self.now (Slot s) ≡ [] }
+    {
+        self.movers_but_full()
+    }
+
+    /// The same, but for the end of the trace.
+    #[inline(always)]
+    fn movers_but_full(&self) -> SlotSet
+        ensures { (s : ℕ) → has result s ≡ false
+            → offered_but_full self.now.version self.now.plan self.now.history (Slot s) ≡ [] }
+    {
+        self.state.movers()
     }
 
     /// The version of its rules.
