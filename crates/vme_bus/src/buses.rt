@@ -28,7 +28,8 @@ use vme_slots::Plan;
 
 /// A bus: the version of its rules, its plan, and the numbers that the edges so far lead to.
 ///
-/// It answers as a backplane does that has room for 1,048,576 edges, but stores no edge and asks for no memory.
+/// It answers as a backplane does that has room for 1,048,576 edges, but stores no edge and asks
+/// for no memory.
 #[derive(Drop)]
 pub struct Bus {
     version: Version,
@@ -101,7 +102,8 @@ impl Bus {
         self.state.judge(edge)
     }
 
-    /// The answer to an edge, but for what it delivers: the first that applies of E1 to E5, or none.
+    /// The answer to an edge, but for what it delivers: the first that applies of E1 to E5, or
+    /// none.
     #[tactic(auto, using(vme_backplane::proofs::Judged::refused, vme_backplane::proofs::Judged::passed))]
     #[inline(always)]
     pub fn verdict(&self, edge: Edge) -> Result<(), Refused>
@@ -119,7 +121,8 @@ impl Bus {
         }
     }
 
-    /// What `step` would answer to an edge: what it delivers, or the first that applies of E1 to E5. Nothing is made.
+    /// What `step` would answer to an edge: what it delivers, or the first that applies of E1 to
+    /// E5. Nothing is made.
     pub fn answer(&self, edge: Edge) -> Result<Option<Delivery>, Refused>
         ensures { result ≡ answer self.now edge }
     {
@@ -145,8 +148,9 @@ impl Bus {
         self.state.told(edge)
     }
 
-    /// What is tested of an edge, as far as the answer to it comes: the one condition that fails at E1 and E2, else those
-    /// of its rule, and where they hold, that of its settling rule; behind them, at E5, that of the room.
+    /// What is tested of an edge, as far as the answer to it comes: the one condition that fails at
+    /// E1 and E2, else those of its rule, and where they hold, that of its settling rule; behind
+    /// them, at E5, that of the room.
     pub fn told<A: Outcome>(&self, edge: Edge) -> A
         ensures { A.tells result (tested self.now edge) }
     {
@@ -166,8 +170,8 @@ impl Bus {
         self.state.failing(edge)
     }
 
-    /// The conditions that an edge fails, of the first of E1 to E5 that applies, in the order of its guard: none where
-    /// `step` would accept it.
+    /// The conditions that an edge fails, of the first of E1 to E5 that applies, in the order of
+    /// its guard: none where `step` would accept it.
     pub fn failing(&self, edge: Edge) -> ArrayVec<Condition, 5>
         ensures { result.items ≡ unmet self.now edge }
     {
@@ -181,7 +185,8 @@ impl Bus {
 
     /// Makes the edge where the rules allow it, and answers what it delivers.
     ///
-    /// A refusal is the first that applies of E1 to E5, and leaves everything as it was. No memory is asked for.
+    /// A refusal is the first that applies of E1 to E5, and leaves everything as it was. No memory
+    /// is asked for.
     pub fn step(&mut self, edge: Edge) -> Result<Option<Delivery>, Refused>
         ensures answer { result ≡ answer self.old edge }
         ensures accepted { is_ok result ≡ is_ok (verdict self.old edge) }
@@ -280,8 +285,8 @@ impl Bus {
         self.state.pins(driver)
     }
 
-    /// The driver's edges that would be accepted, in the order of its wires, with one acknowledge and one access at
-    /// most to show.
+    /// The driver's edges that would be accepted, in the order of its wires, with one acknowledge
+    /// and one access at most to show.
     pub fn offers(&self, driver: Driver) -> ArrayVec<Edge, 16>
         ensures { result.items ≡ offered self.now driver }
     {
@@ -299,10 +304,12 @@ impl Bus {
         self.state.offers(driver)
     }
 
-    /// All edges that the driver can make: of those that move one of its wires, those that would be accepted, in the
-    /// order of its wires. An address group goes on with each acknowledge, by level, and then with each access, by slot.
+    /// All edges that the driver can make: of those that move one of its wires, those that would be
+    /// accepted, in the order of its wires. An address group goes on with each acknowledge, by
+    /// level, and then with each access, by slot.
     ///
-    /// Each is tried, whether or not a board would consider it, so that it takes longer than `offers`.
+    /// Each is tried, whether or not a board would consider it, so that it takes longer than
+    /// `offers`.
     pub fn open_edges(&self, driver: Driver) -> ArrayVec<Edge, 36>
         ensures edges { result.items ≡ open_edges self.now driver }
         ensures all { IsAllThatIsAllowed self.now driver result.items }
@@ -314,7 +321,8 @@ impl Bus {
         }
     }
 
-    /// Whether the driver waits for an edge of another. It then has no offer; where it answers false, there may be none either.
+    /// Whether the driver waits for an edge of another. It then has no offer; where it answers
+    /// false, there may be none either.
     fn is_waiting(&self, driver: Driver) -> bool
         ensures waits { result ≡ is_waiting self.now.version self.now.plan self.now.history driver }
         ensures none { result ≡ true
@@ -323,7 +331,8 @@ impl Bus {
         self.state.is_waiting(driver)
     }
 
-    /// The offer that the driver makes in a round, if it has any: of k offers the one at place `round mod k`.
+    /// The offer that the driver makes in a round, if it has any: of k offers the one at place
+    /// `round mod k`.
     ///
     /// It tries no edge of a driver that waits for another's, as most do.
     #[inline(always)]
@@ -357,7 +366,8 @@ impl Bus {
         offer
     }
 
-    /// Slots that may have an offer: each other slot waits for an edge of another driver, and has none.
+    /// Slots that may have an offer: each other slot waits for an edge of another driver, and has
+    /// none.
     ///
     /// It takes a few operations on sets. A slot among them may have none either.
     pub fn movers(&self) -> SlotSet
