@@ -1,6 +1,8 @@
 //! A bus, which takes edges one by one and stores none of them.
-ghost use Rattle.std.specs.Prelude.{◌≡◌, ◌==◌, ◌&&◌, ◌+◌, ◌%◌, ◌≤◌, ◌↔◌, [], IsTrue, Ok, false, true, is_ok, length, slice_get};
+ghost use Rattle.std.specs.Prelude.{◌≡◌, ◌==◌, ◌&&◌, ◌+◌, ◌%◌, ◌≤◌, ◌↔◌, [], ℕ, IsTrue, Ok, false, true, is_ok, length, slice_get};
 ghost use Rattle.std.specs.Option.{option_map_or};
+ghost use Rattle.vme_model.specs.declared.signals.Driver.TheVariants.{Slot};
+ghost use Rattle.vme_bus.specs.Sets.{has};
 ghost use Rattle.vme_model.specs.Verdict.{verdict, verdict_but_full, made, after, kept, IsLegal};
 ghost use Rattle.vme_model.specs.Failing.{tested, tested_but_full, unmet, unmet_but_full};
 ghost use Rattle.vme_model.specs.Safe.{IsSafe, IsOrderly};
@@ -15,6 +17,7 @@ ghost use Rattle.vme_model.specs.Report.{at_power_up, trace_limit};
 ghost use Rattle.vme_backplane.specs.Sound.{IsSound};
 
 use crate::arms::{arm_of, level_of};
+use crate::sets::SlotSet;
 use crate::states::BusState;
 use arrayvec::ArrayVec;
 use std::marker::Model;
@@ -26,7 +29,8 @@ use vme_slots::Plan;
 
 /// A bus: the version of its rules, its plan, and the numbers that the edges so far lead to.
 ///
-/// It answers as a backplane does that has room for 1,048,576 edges, but stores no edge and asks for no memory.
+/// It answers as a backplane does that has room for 1,048,576 edges, but stores no edge and asks
+/// for no memory.
 #[derive(Drop)]
 pub struct Bus {
     version: Version,
@@ -99,7 +103,8 @@ impl Bus {
         self.state.judge(edge)
     }
 
-    /// The answer to an edge, but for what it delivers: the first that applies of E1 to E5, or none.
+    /// The answer to an edge, but for what it delivers: the first that applies of E1 to E5, or
+    /// none.
     #[tactic(auto, using(vme_backplane::proofs::Judged::refused, vme_backplane::proofs::Judged::passed))]
     #[inline(always)]
     pub fn verdict(&self, edge: Edge) -> Result<(), Refused>
@@ -117,7 +122,8 @@ impl Bus {
         }
     }
 
-    /// What `step` would answer to an edge: what it delivers, or the first that applies of E1 to E5. Nothing is made.
+    /// What `step` would answer to an edge: what it delivers, or the first that applies of E1 to
+    /// E5. Nothing is made.
     pub fn answer(&self, edge: Edge) -> Result<Option<Delivery>, Refused>
         ensures { result ≡ answer self.now edge }
     {
@@ -143,8 +149,9 @@ impl Bus {
         self.state.told(edge)
     }
 
-    /// What is tested of an edge, as far as the answer to it comes: the one condition that fails at E1 and E2, else those
-    /// of its rule, and where they hold, that of its settling rule; behind them, at E5, that of the room.
+    /// What is tested of an edge, as far as the answer to it comes: the one condition that fails at
+    /// E1 and E2, else those of its rule, and where they hold, that of its settling rule; behind
+    /// them, at E5, that of the room.
     pub fn told<A: Outcome>(&self, edge: Edge) -> A
         ensures { A.tells result (tested self.now edge) }
     {
@@ -164,8 +171,8 @@ impl Bus {
         self.state.failing(edge)
     }
 
-    /// The conditions that an edge fails, of the first of E1 to E5 that applies, in the order of its guard: none where
-    /// `step` would accept it.
+    /// The conditions that an edge fails, of the first of E1 to E5 that applies, in the order of
+    /// its guard: none where `step` would accept it.
     pub fn failing(&self, edge: Edge) -> ArrayVec<Condition, 5>
         ensures { result.items ≡ unmet self.now edge }
     {
@@ -179,7 +186,8 @@ impl Bus {
 
     /// Makes the edge where the rules allow it, and answers what it delivers.
     ///
-    /// A refusal is the first that applies of E1 to E5, and leaves everything as it was. No memory is asked for.
+    /// A refusal is the first that applies of E1 to E5, and leaves everything as it was. No memory
+    /// is asked for.
     #[inline(always)]
     pub fn step(&mut self, edge: Edge) -> Result<Option<Delivery>, Refused>
         ensures answer { result ≡ answer self.old edge }
@@ -320,8 +328,8 @@ impl Bus {
         self.state.pins(driver)
     }
 
-    /// The driver's edges that would be accepted, in the order of its wires, with one acknowledge and one access at
-    /// most to show.
+    /// The driver's edges that would be accepted, in the order of its wires, with one acknowledge
+    /// and one access at most to show.
     pub fn offers(&self, driver: Driver) -> ArrayVec<Edge, 16>
         ensures { result.items ≡ offered self.now driver }
     {
@@ -339,10 +347,12 @@ impl Bus {
         self.state.offers(driver)
     }
 
-    /// All edges that the driver can make: of those that move one of its wires, those that would be accepted, in the
-    /// order of its wires. An address group goes on with each acknowledge, by level, and then with each access, by slot.
+    /// All edges that the driver can make: of those that move one of its wires, those that would be
+    /// accepted, in the order of its wires. An address group goes on with each acknowledge, by
+    /// level, and then with each access, by slot.
     ///
-    /// Each is tried, whether or not a board would consider it, so that it takes longer than `offers`.
+    /// Each is tried, whether or not a board would consider it, so that it takes longer than
+    /// `offers`.
     pub fn open_edges(&self, driver: Driver) -> ArrayVec<Edge, 36>
         ensures edges { result.items ≡ open_edges self.now driver }
         ensures all { IsAllThatIsAllowed self.now driver result.items }
@@ -354,7 +364,8 @@ impl Bus {
         }
     }
 
-    /// Whether the driver waits for an edge of another. It then has no offer; where it answers false, there may be none either.
+    /// Whether the driver waits for an edge of another. It then has no offer; where it answers
+    /// false, there may be none either.
     fn is_waiting(&self, driver: Driver) -> bool
         ensures waits { result ≡ is_waiting self.now.version self.now.plan self.now.history driver }
         ensures none { result ≡ true
@@ -363,7 +374,8 @@ impl Bus {
         self.state.is_waiting(driver)
     }
 
-    /// The offer that the driver makes in a round, if it has any: of k offers the one at place `round mod k`.
+    /// The offer that the driver makes in a round, if it has any: of k offers the one at place
+    /// `round mod k`.
     ///
     /// It tries no edge of a driver that waits for another's, as most do.
     #[inline(always)]
@@ -395,6 +407,25 @@ impl Bus {
         self.laws();
         self.safety();
         offer
+    }
+
+    /// Slots that may have an offer: each other slot waits for an edge of another driver, and has
+    /// none.
+    ///
+    /// It takes a few operations on sets. A slot among them may have none either.
+    pub fn movers(&self) -> SlotSet
+        ensures { (s : ℕ) → has result s ≡ false → offered self.now (Slot s) ≡ [] }
+    {
+        self.movers_but_full()
+    }
+
+    /// The same, but for the end of the trace.
+    #[inline(always)]
+    fn movers_but_full(&self) -> SlotSet
+        ensures { (s : ℕ) → has result s ≡ false
+            → offered_but_full self.now.version self.now.plan self.now.history (Slot s) ≡ [] }
+    {
+        self.state.movers()
     }
 
     /// The version of its rules.

@@ -1,9 +1,11 @@
 //! Letting the drivers of a backplane make edges in turn.
-ghost use Rattle.std.specs.Prelude.{◌≡◌, ◌==◌, ◌++◌, [], OnOk, OnErr, IfErr, IsTrue, length, if◌then◌else◌};
+ghost use Rattle.std.specs.Prelude.{◌≡◌, ◌==◌, ◌++◌, [], ℕ, false, OnOk, OnErr, IfErr, IsTrue, length, if◌then◌else◌};
 ghost use Rattle.std.specs.Io.KnownBytes.{Appends, Keeps};
 ghost use Rattle.vme_model.specs.Plan.{drivers};
 ghost use Rattle.vme_model.specs.History.{in_order};
-ghost use Rattle.vme_model.specs.Offers.{turn, turns, rounds};
+ghost use Rattle.vme_model.specs.declared.signals.Driver.TheVariants.{Slot};
+ghost use Rattle.vme_model.specs.Offers.{offered, turn, turns, rounds};
+ghost use Rattle.vme_bus.specs.Sets.{has};
 ghost use Rattle.vme_model.specs.Text.{text, edge_lines};
 ghost use Rattle.vme_model.specs.Signals.{is_well_formed};
 ghost use Rattle.vme_trace.specs.Writing.{AppendsFront, edge_line};
@@ -19,16 +21,20 @@ use crate::{EngineFault, Status};
 use std::alloc::Global;
 use std::io::Write;
 use vme_backplane::Backplane;
-use vme_bus::Bus;
+use vme_bus::{Bus, SlotSet};
 use vme_model::{Driver, Edge, Version};
 use vme_text::Text;
 use vme_trace::{Fault, flush, header_line, put};
 
-/// A drive under way: a bus, and of the lines of its edges those that are not yet written.
+/// A drive under way.
 #[derive(Drop)]
 struct Driving {
     bus: Bus,
+    /// Slots that may have an offer on it.
+    movers: SlotSet,
+    /// Of the lines of its edges those that are not yet written.
     text: Text,
+    ghost idle: { (s : ℕ) → has movers s ≡ false → offered bus (Slot s) ≡ [] },
 }
 
 impl Driving {
@@ -37,9 +43,22 @@ impl Driving {
         ensures bus { result.bus ≡ bus }
         ensures text { result.text ≡ [] }
     {
+        let movers = bus.movers();
         Driving {
             bus,
+            movers,
             text: Text::new(),
+        }
+    }
+
+    /// Whether the driver may have an offer.
+    #[inline(always)]
+    fn may_move(&self, driver: Driver) -> bool
+        ensures { result ≡ false → offered self.now.bus driver ≡ [] }
+    {
+        match driver {
+            Driver::Controller => true,
+            Driver::Slot(slot) => self.movers.has(slot),
         }
     }
 
@@ -57,8 +76,14 @@ impl Driving {
         if self.bus.len() == edges {
             return Ok(());
         }
+        if !self.may_move(driver) {
+            return Ok(());
+        }
         match self.bus.make_offer(driver, round) {
-            Some(edge) => put_line(&mut self.text, &edge, out),
+            Some(edge) => {
+                self.movers = self.bus.movers();
+                put_line(&mut self.text, &edge, out)
+            }
             None => Ok(()),
         }
     }
