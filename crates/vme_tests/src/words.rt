@@ -43,7 +43,7 @@ fn reads_several_traces(rt: HostRuntime) {
     match words(rt.alloc(), &given) {
         Ok(Job::Sums { scenario, traces }) => {
             assert!(rt; scenario == "board.toml");
-            assert!(rt; traces.as_slice() == &["a.vme", "b.vme", "-c.vme"]);
+            assert!(rt; traces.as_slice() == ["a.vme", "b.vme", "-c.vme"].as_slice());
         }
         _ => panic!(rt; "no sums"),
     }
