@@ -69,7 +69,7 @@ impl BusState {
     }
 
     /// The rule that names an edge of a board's requester, and what its guard answers (G9 to G14).
-    #[inline(always)]
+    #[inline]
     fn requester_rule<A: Outcome>(
         &self,
         slot: u8,
@@ -131,7 +131,7 @@ impl BusState {
     }
 
     /// What the guard answers of an address group that goes on (G15).
-    #[inline(always)]
+    #[inline]
     fn going_on<A: Outcome>(
         &self,
         slot: u8,
@@ -155,7 +155,7 @@ impl BusState {
     }
 
     /// The rule that names an edge of a board's master, and what its guard answers (G15 to G20).
-    #[inline(always)]
+    #[inline]
     fn master_rule<A: Outcome>(
         &self,
         slot: u8,
@@ -255,7 +255,7 @@ impl BusState {
     }
 
     /// The rule that names an edge of a board's interrupter, or of its answer, and what its guard answers (G21 to G26).
-    #[inline(always)]
+    #[inline]
     fn interrupter_rule<A: Outcome>(&self, slot: u8, seat: &Seat, wire: Wire, fall: bool) -> (u8, A)
         requires { slot < 22 }
         ensures number { OfSeat self.now slot seat.now (λ version p h _. (v : OptionValue CycleValue)
