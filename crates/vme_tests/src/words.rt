@@ -530,7 +530,7 @@ const OVERVIEW: [&str; 12] = [
     "explain  Tells why an edge",
     "state    Tells where the bus stands",
     "show     Draws a timing picture of a trace",
-    "summary  Counts what a trace exercised",
+    "summary  Counts what traces exercised",
     "drive    Writes a trace",
     "cat board.toml tenure.vme | vmebus",
     "`vme 1`",
