@@ -575,8 +575,8 @@ const SHOW: [&str; 8] = [
 ];
 
 const SUMMARY: [&str; 3] = [
-    "Usage: vmebus summary <SCENARIO> <TRACE>",
-    "<TRACE>     The edges, one a line",
+    "Usage: vmebus summary <SCENARIO> <TRACE>...\n",
+    "<TRACE>...  The edges, one a line",
     "  vmebus summary board.toml tenure.vme\n",
 ];
 
