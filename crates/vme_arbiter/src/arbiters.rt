@@ -28,17 +28,18 @@ use vme_rules::{Outcome, allowed};
 
 /// What a controller's own edges left: which of its wires are low, and the level that it last granted.
 #[derive(Clone, Copy, PartialEq, Eq, Debug)]
-struct Controller {
-    kind: ArbiterKind,
-    version: Version,
-    bg0: bool,
-    bg1: bool,
-    bg2: bool,
-    bg3: bool,
-    bclr: bool,
-    iack: bool,
-    berr: bool,
-    last_level: u8,
+pub struct Controller {
+    pub kind: ArbiterKind,
+    pub version: Version,
+    pub bg0: bool,
+    pub bg1: bool,
+    pub bg2: bool,
+    pub bg3: bool,
+    pub bclr: bool,
+    pub iack: bool,
+    pub berr: bool,
+    /// 0 to 3; 0 at power-up.
+    pub last_level: u8,
 }
 
 impl Model for Controller {
@@ -266,6 +267,14 @@ impl<P: Policy> Arbiter<P> {
             policy,
             controller: Controller::new(kind, version),
         }
+    }
+
+    /// The arbiter over a policy whose controller's edges left that.
+    #[inline(always)]
+    pub fn of(policy: P, controller: Controller) -> Arbiter<P>
+        ensures { result ≡ (policy, controller) }
+    {
+        Arbiter { policy, controller }
     }
 
     /// Whether the controller drives the wire low; only `bg0` to `bg3`, `bclr`, `iack` and `berr` are its own.

@@ -4,7 +4,7 @@ use Rattle.std.specs.Prelude.{◌==◌, min, not, Option, Some, None, option_map
 use Rattle.std.specs.Option.{option_map_or}
 use Rattle.std.proofs.Math.Bool.{beq}
 use Rattle.std.proofs.lemmas.Bool.Decides.{nat_tests}
-use Rattle.vme_bus.specs.declared.layouts.Seat.{Seat}
+use Rattle.vme_bus.specs.declared.records.Seat.{Seat}
 use Rattle.vme_model.specs.declared.boards.Row.{Row}
 use Rattle.vme_model.specs.declared.refusals.Refused.TheVariants.{AlreadyThere, Rule}
 use Rattle.vme_model.specs.declared.signals.Version.{Version}

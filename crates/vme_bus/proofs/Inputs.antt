@@ -15,7 +15,7 @@ use Rattle.vme_model.specs.History.{drive, segment, input, is_past_end}
 use Rattle.vme_model.specs.Readings.{grant_in, iack_in}
 use Rattle.vme_model.proofs.Ranges.{in_range}
 use Rattle.vme_wiring.proofs.AllowedBoards.{stands}
-use Rattle.vme_bus.specs.declared.layouts.Seat.{Seat}
+use Rattle.vme_bus.specs.declared.records.Seat.{Seat}
 use Rattle.vme_bus.specs.declared.sets.SlotSet.{SlotSet}
 use Rattle.vme_bus.specs.Sets.{has}
 use Rattle.vme_bus.specs.Layouts.{seat_of, place_of, grant_head, acknowledge_head, grant_source}

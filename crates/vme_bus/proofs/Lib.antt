@@ -6,6 +6,8 @@ pub mod Boards
 pub mod Seats
 -- before any edge: `BusState::new`
 pub mod PowerUp
+-- what the numbers say of the arbiter: `BusState::arbiter`
+pub mod Arbiters
 -- what the sets of slots say of the lines that boards pull: `BusState::bbsy`, `request` and their like
 pub mod Lines
 -- what a board reads at its inputs: `BusState::grant_in`, `iack_in`
@@ -26,3 +28,5 @@ pub mod OneSlot
 pub mod WaitingParts
 -- slots that are in none of the sets at work wait: `BusState::movers` and the parts of it
 pub mod AtWork
+-- where a grant stops, it travels: `BusState::grant_at`
+pub mod Standing

@@ -39,9 +39,10 @@ use Rattle.vme_wiring.proofs.AddressNotes.{IsShownAt, shown_at}
 use Rattle.vme_bus.specs.declared.sets.SlotSet.{SlotSet}
 use Rattle.vme_bus.specs.declared.states.BusState.{BusState}
 use Rattle.vme_bus.specs.Sets.{has}
+use Rattle.vme_bus.specs.Records.{version_in, kind_in, cycle_in, slot_in}
 use Rattle.vme_bus.specs.Layouts.{IsLayoutOf, grant_head, acknowledge_head}
-use Rattle.vme_bus.specs.Moves.{MovesPlace, FollowsWire, FollowsGrants, turned_by, grant_turned_by, served_by, strobed_by, cycles_by, shown_by, is_serving, release_of}
-use Rattle.vme_bus.specs.States.{HoldsWire, IsStateOf, counted}
+use Rattle.vme_bus.specs.Moves.{MovesPlace, FollowsWire, FollowsGrants, turned_by, grant_turned_by, served_by, strobed_by, cycles_by, shown_by, last_level_by, is_serving, release_of}
+use Rattle.vme_bus.specs.States.{HoldsWire, IsStateOf, counted, bus_clear_place, bus_error_place}
 use Rattle.vme_bus.proofs.Places.{moved_to, unmoved}
 
 self : (n : ℕ) → (n == n) ≡ true
@@ -219,7 +220,9 @@ shown_kept p h w fall v has = absurd (cc)
 pub record IsNotedByBoard (p : Plan) (h : List Edge) (s : ℕ) (e : Edge) (old new : BusState) : Type 0 where
   pub rules : new.version ≡ old.version
   pub layout : new.layout ≡ old.layout
-  pub arbiter : new.arbiter ≡ old.arbiter
+  pub kind : new.kind ≡ old.kind
+  pub last_level : new.last_level ≡ old.last_level
+  pub controls : new.controls ≡ old.controls
   pub br : FollowsWire Br s e.wire old.br new.br
   pub bbsy : FollowsWire Bbsy s e.wire old.bbsy new.bbsy
   pub addr : FollowsWire Addr s e.wire old.addr new.addr
@@ -236,8 +239,8 @@ pub record IsNotedByBoard (p : Plan) (h : List Edge) (s : ℕ) (e : Edge) (old n
   pub release : Release
   pub is_release : release ≡ release_of (board p s)
   pub cycles : new.cycles ≡ set old.cycles s (cycles_by e.wire e.fall release (get_or old.cycles s 0))
-  pub shown : new.shown ≡ shown_by e.wire e.value old.shown
-  pub addressing : new.addressing ≡ addressing_after old.addressing s e.wire e.fall
+  pub shown : cycle_in new.shown ≡ shown_by e.wire e.value (cycle_in old.shown)
+  pub addressing : slot_in new.addressing ≡ addressing_after (slot_in old.addressing) s e.wire e.fall
 
 board_noted : (version : Version) (p : Plan) (h : List Edge) (s : ℕ) (r : Row) (w : Wire) (fall : Bool) (v : Option Cycle) (old new : BusState) → IsStateOf version p h old → verdict_but_full version p h (at s w fall v) ≡ Ok tt → board p s ≡ Some r → IsNotedByBoard p h s (at s w fall v) old new →
     IsStateOf version p (at s w fall v ∷ h) new
@@ -247,9 +250,12 @@ board_noted version p h s r w fall v old new is allowed found n =
     record {
       accepted = is.accepted;
       legal = (allowed, is.legal);
-      rules = n.rules ∙ is.rules;
+      rules = ap version_in n.rules ∙ is.rules;
       layout = subst (IsLayoutOf p) (sym n.layout) is.layout;
-      arbiter = n.arbiter ∙ is.arbiter ∙ ap (λ (c : ControllerState). (record { kind = p.arbiter }, c)) (controller_kept p.arbiter version h s w fall v d.wire);
+      kind = ap kind_in n.kind ∙ is.kind;
+      last_level = n.last_level ∙ is.last_level ∙ ap (λ (c : ControllerState). c.last_level) (controller_kept p.arbiter version h s w fall v d.wire);
+      bus_clear = ap (λ x. has x bus_clear_place) n.controls ∙ is.bus_clear ∙ ap (λ (c : ControllerState). c.bclr) (controller_kept p.arbiter version h s w fall v d.wire);
+      bus_error = ap (λ x. has x bus_error_place) n.controls ∙ is.bus_error ∙ ap (λ (c : ControllerState). c.berr) (controller_kept p.arbiter version h s w fall v d.wire);
       br = wire_moved h s Br w fall v old.br new.br d.before n.br is.br;
       bbsy = wire_moved h s Bbsy w fall v old.bbsy new.bbsy d.before n.bbsy is.bbsy;
       addr = wire_moved h s Addr w fall v old.addr new.addr d.before n.addr is.addr;
@@ -320,14 +326,29 @@ acknowledge_moved : (h : List Edge) (w : Wire) (fall : Bool) (v : Option Cycle) 
     has new acknowledge_head ≡ drive (at_head w fall v ∷ h) Controller Iack
 acknowledge_moved h w fall v old new before moves held = moves acknowledge_head ∙ ap (turned_by Iack w) held ∙ own_moved h Controller Iack w fall v refl before
 
--- the state after an edge of the controller
-abbrev pub headed : BusState → AnyPolicy × ControllerState → SlotSet → SlotSet → BusState
-headed b arbiter grants acknowledges = record b { arbiter = arbiter; grants = grants; acknowledges = acknowledges }
+-- the lines of the controller's: each keeps its place while the other moves
+clear_moved : (h : List Edge) (w : Wire) (fall : Bool) (v : Option Cycle) (old mid new : SlotSet) → drive h Controller w ≡ not fall → FollowsWire Bclr bus_clear_place w old mid → FollowsWire Berr bus_error_place w mid new → has old bus_clear_place ≡ drive h Controller Bclr →
+    has new bus_clear_place ≡ drive (at_head w fall v ∷ h) Controller Bclr
+clear_moved h w fall v old mid new before cleared failed held =
+    unmoved (turned_by Berr w) bus_error_place bus_clear_place mid new failed refl
+    ∙ cleared bus_clear_place ∙ ap (turned_by Bclr w) held ∙ own_moved h Controller Bclr w fall v refl before
 
-controller_noted : (version : Version) (p : Plan) (h : List Edge) (w : Wire) (fall : Bool) (v : Option Cycle) (b : BusState) (arbiter : AnyPolicy × ControllerState) (grants acknowledges : SlotSet) → IsStateOf version p h b → verdict_but_full version p h (at_head w fall v) ≡ Ok tt →
-    arbiter.0 ≡ b.arbiter.0 → (b.arbiter.1 ≡ controller_of p.arbiter version h → arbiter.1 ≡ controller_of p.arbiter version (at_head w fall v ∷ h)) → FollowsGrants w b.grants grants → FollowsWire Iack acknowledge_head w b.acknowledges acknowledges →
-    IsStateOf version p (at_head w fall v ∷ h) (headed b arbiter grants acknowledges)
-controller_noted version p h w fall v b arbiter grants acknowledges is allowed policy state granted acknowledged =
+error_moved : (h : List Edge) (w : Wire) (fall : Bool) (v : Option Cycle) (old mid new : SlotSet) → drive h Controller w ≡ not fall → FollowsWire Bclr bus_clear_place w old mid → FollowsWire Berr bus_error_place w mid new → has old bus_error_place ≡ drive h Controller Berr →
+    has new bus_error_place ≡ drive (at_head w fall v ∷ h) Controller Berr
+error_moved h w fall v old mid new before cleared failed held =
+    failed bus_error_place
+    ∙ ap (turned_by Berr w) (unmoved (turned_by Bclr w) bus_clear_place bus_error_place old mid cleared refl ∙ held)
+    ∙ own_moved h Controller Berr w fall v refl before
+
+-- the state after an edge of the controller
+abbrev pub headed : BusState → ℕ → SlotSet → SlotSet → SlotSet → BusState
+headed b last grants acknowledges controls = record b { last_level = last; grants = grants; acknowledges = acknowledges; controls = controls }
+
+controller_noted : (version : Version) (p : Plan) (h : List Edge) (w : Wire) (fall : Bool) (v : Option Cycle) (b : BusState) (last : ℕ) (grants acknowledges mid controls : SlotSet) → IsStateOf version p h b → verdict_but_full version p h (at_head w fall v) ≡ Ok tt →
+    last ≡ last_level_by (at_head w fall v) b.last_level → FollowsGrants w b.grants grants → FollowsWire Iack acknowledge_head w b.acknowledges acknowledges →
+    FollowsWire Bclr bus_clear_place w b.controls mid → FollowsWire Berr bus_error_place w mid controls →
+    IsStateOf version p (at_head w fall v ∷ h) (headed b last grants acknowledges controls)
+controller_noted version p h w fall v b last grants acknowledges mid controls is allowed level granted acknowledged cleared failed =
     let e = at_head w fall v in
     let passed = all_passed version p h Controller w fall v allowed in
     record {
@@ -335,9 +356,10 @@ controller_noted version p h w fall v b arbiter grants acknowledges is allowed p
       legal = (allowed, is.legal);
       rules = is.rules;
       layout = is.layout;
-      arbiter =
-          ap (λ (a : AnyPolicy). (a, arbiter.1)) (policy ∙ ap (λ a. a.0) is.arbiter)
-          ∙ ap (λ (c : ControllerState). (record { kind = p.arbiter }, c)) (state (ap (λ a. a.1) is.arbiter));
+      kind = is.kind;
+      last_level = level ∙ ap (last_level_by e) is.last_level;
+      bus_clear = clear_moved h w fall v b.controls mid controls passed.before cleared failed is.bus_clear;
+      bus_error = error_moved h w fall v b.controls mid controls passed.before cleared failed is.bus_error;
       br = wire_kept h Br w fall v b.br is.br;
       bbsy = wire_kept h Bbsy w fall v b.bbsy is.bbsy;
       addr = wire_kept h Addr w fall v b.addr is.addr;
@@ -357,11 +379,12 @@ controller_noted version p h w fall v b arbiter grants acknowledges is allowed p
       addressing = is.addressing ∙ addressing_kept p h w fall v passed.wire;
     }
 
-pub noted_by_controller : (version : Version) (p : Plan) (h : List Edge) (e : Edge) (b : BusState) (arbiter : AnyPolicy × ControllerState) (grants acknowledges : SlotSet) → IsStateOf version p h b → verdict_but_full version p h e ≡ Ok tt → e.driver ≡ Controller →
-    arbiter.0 ≡ b.arbiter.0 → (b.arbiter.1 ≡ controller_of p.arbiter version h → arbiter.1 ≡ controller_of p.arbiter version (e ∷ h)) → FollowsGrants e.wire b.grants grants → FollowsWire Iack acknowledge_head e.wire b.acknowledges acknowledges →
-    IsStateOf version p (e ∷ h) (headed b arbiter grants acknowledges)
-noted_by_controller version p h e b arbiter grants acknowledges is allowed driver policy state granted acknowledged =
+pub noted_by_controller : (version : Version) (p : Plan) (h : List Edge) (e : Edge) (b : BusState) (last : ℕ) (grants acknowledges mid controls : SlotSet) → IsStateOf version p h b → verdict_but_full version p h e ≡ Ok tt → e.driver ≡ Controller →
+    last ≡ last_level_by e b.last_level → FollowsGrants e.wire b.grants grants → FollowsWire Iack acknowledge_head e.wire b.acknowledges acknowledges →
+    FollowsWire Bclr bus_clear_place e.wire b.controls mid → FollowsWire Berr bus_error_place e.wire mid controls →
+    IsStateOf version p (e ∷ h) (headed b last grants acknowledges controls)
+noted_by_controller version p h e b last grants acknowledges mid controls is allowed driver level granted acknowledged cleared failed =
     let of = λ (d : Driver). by d e.wire e.fall e.value in
-    let P : Driver → Type 0 = λ d. verdict_but_full version p h (of d) ≡ Ok tt → (b.arbiter.1 ≡ controller_of p.arbiter version h → arbiter.1 ≡ controller_of p.arbiter version (of d ∷ h)) → IsStateOf version p (of d ∷ h) (headed b arbiter grants acknowledges) in
-    let all : P Controller = λ a m. controller_noted version p h e.wire e.fall e.value b arbiter grants acknowledges is a policy m granted acknowledged in
-    subst P (sym driver) all allowed state
+    let P : Driver → Type 0 = λ d. verdict_but_full version p h (of d) ≡ Ok tt → last ≡ last_level_by (of d) b.last_level → IsStateOf version p (of d ∷ h) (headed b last grants acknowledges controls) in
+    let all : P Controller = λ a m. controller_noted version p h e.wire e.fall e.value b last grants acknowledges mid controls is a m granted acknowledged cleared failed in
+    subst P (sym driver) all allowed level

@@ -14,7 +14,7 @@ use Rattle.vme_model.specs.History.{drive}
 use Rattle.vme_model.specs.Verdict.{IsLegal}
 use Rattle.vme_wiring.proofs.AllowedBoards.{stands}
 use Rattle.vme_wiring.proofs.FieldReads.{never_drove}
-use Rattle.vme_bus.specs.declared.layouts.Seat.{Seat}
+use Rattle.vme_bus.specs.declared.records.Seat.{Seat}
 use Rattle.vme_bus.specs.Layouts.{seat_of}
 
 -- no board drives a wire of the controller's

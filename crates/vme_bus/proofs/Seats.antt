@@ -9,12 +9,13 @@ use Rattle.vme_model.specs.declared.boards.Row.{Row}
 use Rattle.vme_model.specs.Plan.{Plan, board}
 use Rattle.vme_model.specs.Accepted.{IsAccepted}
 use Rattle.vme_wiring.proofs.AllowedBoards.{stands}
-use Rattle.vme_bus.specs.declared.layouts.Seat.{Seat}
+use Rattle.vme_bus.specs.declared.records.SeatRecord.{SeatRecord}
 use Rattle.vme_bus.specs.declared.sets.SlotSet.{SlotSet}
+use Rattle.vme_bus.specs.Records.{seat_in}
 use Rattle.vme_bus.specs.Layouts.{seat, seat_of, set_at}
 
 -- a place beyond the slots has no board
-pub seats_in_places : (p : Plan) (seats : List (Option Seat)) → IsAccepted p → length seats ≡ 22 → ((s : ℕ) → s < 22 → slice_get seats s ≡ Some (option_map (seat_of p) (board p s))) →
+pub seats_in_places : (p : Plan) (seats : List SeatRecord) → IsAccepted p → length seats ≡ 22 → ((s : ℕ) → s < 22 → seat seats s ≡ option_map (seat_of p) (board p s)) →
     (s : ℕ) → seat seats s ≡ option_map (seat_of p) (board p s)
 seats_in_places p seats ok room at s = by_place (nat_lt s 22) refl
   where
@@ -25,11 +26,11 @@ seats_in_places p seats ok room at s = by_place (nat_lt s 22) refl
     by_place : (b : Bool) → nat_lt s 22 ≡ b → seat seats s ≡ option_map (seat_of p) (board p s)
     by_place true is =
         let near : s < 22 = grind (arith, nat_tests) in
-        ap (option_and_then (λ x. x)) (at s near)
+        at s near
     by_place false is =
         let far : 22 ≤ s = grind (arith, nat_tests) in
         let past : length seats ≤ s = omega arith in
-        ap (option_and_then (λ x. x)) (slice_get_past seats s past) ∙ sym (ap (option_map (seat_of p)) (beyond far (board p s) refl))
+        ap (option_and_then seat_in) (slice_get_past seats s past) ∙ sym (ap (option_map (seat_of p)) (beyond far (board p s) refl))
 
 -- a fact of each place of four and of eight
 pub each_of_four : (P : ℕ → SlotSet → Type 0) (a b c d : SlotSet) → P 0 a → P 1 b → P 2 c → P 3 d → (n : ℕ) → n < 4 → P n (set_at (a ∷ b ∷ c ∷ d ∷ []) n)

@@ -7,10 +7,12 @@ use Rattle.vme_model.specs.declared.sets.ChainId.TheVariants as chain
 use Rattle.vme_model.specs.Plan.{Plan, board, grant_chain, upstream, last_active, requests_on, interrupts_on}
 use Rattle.vme_bus.specs.declared.layouts.Line.{Line}
 use Rattle.vme_bus.specs.declared.layouts.Line.TheVariants as line
-use Rattle.vme_bus.specs.declared.layouts.Seat.{Seat}
+use Rattle.vme_bus.specs.declared.records.Seat.{Seat}
+use Rattle.vme_bus.specs.declared.records.SeatRecord.{SeatRecord}
 use Rattle.vme_bus.specs.declared.layouts.Layout.{Layout}
 use Rattle.vme_bus.specs.declared.sets.SlotSet.{SlotSet}
 use Rattle.vme_bus.specs.Sets.{has}
+use Rattle.vme_bus.specs.Records.{seat_in}
 
 -- Where a chain's controller stands in the set of its low segments: the heads of the four grants stand
 -- from 24 on, and that of the acknowledge at 24, behind every slot.
@@ -40,8 +42,8 @@ seat_of p r = record {
 }
 
 -- the seat in a place, if there is one
-abbrev pub seat : List (Option Seat) → ℕ → Option Seat
-seat seats s = option_and_then (λ x. x) (slice_get seats s)
+abbrev pub seat : List SeatRecord → ℕ → Option Seat
+seat seats s = option_and_then seat_in (slice_get seats s)
 
 -- the board can pull the line
 abbrev pub is_on : Line → Row → Bool

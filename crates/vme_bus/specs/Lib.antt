@@ -1,5 +1,7 @@
 -- words: which slots a set holds
 pub mod Sets
+-- words: what numbers of a record stand for
+pub mod Records
 -- words: what a plan says of each slot and line
 pub mod Layouts
 -- words: which numbers a history leads to; `BusState::new` and `note` say all that a user needs of it
@@ -10,5 +12,7 @@ pub mod Asks
 pub mod Moves
 -- words: whether a board's interrupter has nothing to do
 pub mod Movers
+-- believe, for who keeps a `BusState`: what a step answers and leaves, and where a grant stops
+pub mod Steps
 -- words: the arm of an edge
 pub mod Arms

@@ -7,7 +7,8 @@ use Rattle.vme_model.specs.declared.boards.Release.TheVariants.{Request}
 use Rattle.vme_model.specs.declared.signals.Cycle.{Cycle}
 use Rattle.vme_model.specs.declared.signals.Wire.{Wire}
 use Rattle.vme_model.specs.declared.signals.Wire.TheVariants.{Bbsy, Addr, AddressStrobe, DataStrobe, Irq, Dtack}
-use Rattle.vme_model.specs.Signals.{is_same_wire, is_grant_wire, grant_level}
+use Rattle.vme_model.specs.declared.signals.Edge.{Edge}
+use Rattle.vme_model.specs.Signals.{is_same_wire, is_grant, is_grant_wire, grant_level}
 use Rattle.vme_master.specs.Local.{most_cycles}
 use Rattle.vme_interrupter.specs.Local.{serves_board}
 use Rattle.vme_bus.specs.declared.sets.SlotSet.{SlotSet}
@@ -56,6 +57,10 @@ cycles_by _ _ release cycles = cycles
 abbrev pub shown_by : Wire → Option Cycle → Option Cycle → Option Cycle
 shown_by Addr value shown = value
 shown_by _ value shown = shown
+
+-- the level last granted
+abbrev pub last_level_by : Edge → ℕ → ℕ
+last_level_by e last = if is_grant e then grant_level e.wire else last
 
 -- the board's answer to what is shown serves its interrupter
 abbrev pub is_serving : Option Row → Option Cycle → Bool

@@ -6,18 +6,18 @@ use Rattle.vme_model.specs.declared.signals.Version.{Version}
 use Rattle.vme_model.specs.declared.signals.Edge.{Edge}
 use Rattle.vme_model.specs.declared.signals.Driver.TheVariants.{Controller, Slot}
 use Rattle.vme_model.specs.declared.signals.Wire.{Wire}
-use Rattle.vme_model.specs.declared.signals.Wire.TheVariants.{Bg, Iack, Br, BgOut, Bbsy, Addr, AddressStrobe, DataStrobe, Irq, IackOut, Dtack}
+use Rattle.vme_model.specs.declared.signals.Wire.TheVariants.{Bg, Bclr, Iack, Berr, Br, BgOut, Bbsy, Addr, AddressStrobe, DataStrobe, Irq, IackOut, Dtack}
 use Rattle.vme_model.specs.Plan.{Plan, board}
 use Rattle.vme_model.specs.Accepted.{IsAccepted}
-use Rattle.vme_model.specs.History.{drive, shown, addressing, cycles, has_strobed}
+use Rattle.vme_model.specs.History.{drive, shown, addressing, cycles, has_strobed, last_level}
 use Rattle.vme_model.specs.Readings.{is_served}
 use Rattle.vme_model.specs.Verdict.{IsLegal}
 use Rattle.vme_master.specs.Local.{most_cycles}
-use Rattle.vme_arbiter.specs.Local.{controller_of}
-use Rattle.vme_bus.specs.declared.layouts.Seat.{Seat}
+use Rattle.vme_bus.specs.declared.records.Seat.{Seat}
 use Rattle.vme_bus.specs.declared.sets.SlotSet.{SlotSet}
 use Rattle.vme_bus.specs.declared.states.BusState.{BusState}
 use Rattle.vme_bus.specs.Sets.{has}
+use Rattle.vme_bus.specs.Records.{version_in, kind_in, cycle_in, slot_in}
 use Rattle.vme_bus.specs.Layouts.{IsLayoutOf, seat_of, grant_head, acknowledge_head}
 
 -- a set holds the slots whose wire is low, or whose address group is on
@@ -34,12 +34,22 @@ counted p h s =
     option_map_or (λ r. option_map_or (λ q. min (cycles h (Slot s)) (most_cycles q.release))
     r.requester 0) (board p s) 0
 
+-- where BCLR* and BERR* stand among the controller's lines
+abbrev pub bus_clear_place : ℕ
+bus_clear_place = 0
+
+abbrev pub bus_error_place : ℕ
+bus_error_place = 1
+
 pub record IsStateOf (version : Version) (p : Plan) (h : List Edge) (b : BusState) : Type 0 where
   pub accepted : IsAccepted p
   pub legal : IsLegal version p h
-  pub rules : b.version ≡ version
+  pub rules : version_in b.version ≡ version
   pub layout : IsLayoutOf p b.layout
-  pub arbiter : b.arbiter ≡ (record { kind = p.arbiter }, controller_of p.arbiter version h)
+  pub kind : kind_in b.kind ≡ p.arbiter
+  pub last_level : b.last_level ≡ last_level h
+  pub bus_clear : has b.controls bus_clear_place ≡ drive h Controller Bclr
+  pub bus_error : has b.controls bus_error_place ≡ drive h Controller Berr
   pub br : HoldsWire h Br b.br
   pub bbsy : HoldsWire h Bbsy b.bbsy
   pub addr : HoldsWire h Addr b.addr
@@ -55,8 +65,8 @@ pub record IsStateOf (version : Version) (p : Plan) (h : List Edge) (b : BusStat
   pub strobed : (s : ℕ) → has b.strobed s ≡ has_strobed h (Slot s)
   pub cycles_room : length b.cycles ≡ 22
   pub cycles : (s : ℕ) → s < 22 → get_or b.cycles s 0 ≡ counted p h s
-  pub shown : b.shown ≡ shown p h
-  pub addressing : b.addressing ≡ addressing p h
+  pub shown : cycle_in b.shown ≡ shown p h
+  pub addressing : slot_in b.addressing ≡ addressing p h
 
 -- what holds of each history that a state is of
 abbrev pub OfHistory : BusState → (Version → Plan → List Edge → Type 0) → Type 0

@@ -7,7 +7,7 @@ ghost use Rattle.vme_model.specs.Verdict.{verdict, verdict_but_full, made, after
 ghost use Rattle.vme_model.specs.Failing.{tested, tested_but_full, unmet, unmet_but_full};
 ghost use Rattle.vme_model.specs.Safe.{IsSafe, IsOrderly};
 ghost use Rattle.vme_model.specs.Views.{pins};
-ghost use Rattle.vme_model.specs.Deliveries.{answer, delivery};
+ghost use Rattle.vme_model.specs.Deliveries.{answer};
 ghost use Rattle.vme_model.specs.Offers.{offered};
 ghost use Rattle.vme_model.specs.Open.{open_edges, IsAllThatIsAllowed};
 ghost use Rattle.vme_wiring.specs.Offered.{offered_but_full};
@@ -16,7 +16,6 @@ ghost use Rattle.vme_model.specs.Accepted.{IsAccepted};
 ghost use Rattle.vme_model.specs.Report.{at_power_up, trace_limit};
 ghost use Rattle.vme_backplane.specs.Sound.{IsSound};
 
-use crate::arms::{arm_of, level_of};
 use crate::sets::SlotSet;
 use crate::states::BusState;
 use arrayvec::ArrayVec;
@@ -201,69 +200,23 @@ impl Bus {
         answer
     }
 
-    /// The same, but for what follows of every history, with an arm for each wire and direction.
+    /// The same, but for what follows of every history.
     #[inline(always)]
     fn step_by_arm(&mut self, edge: Edge) -> Result<Option<Delivery>, Refused>
         ensures answer { result ≡ answer self.old edge }
         ensures state { self.new ≡ after self.old edge }
     {
-        match arm_of(edge) {
-            0 => self.step_in(edge, Wire::Bg(level_of(edge.wire)), false),
-            1 => self.step_in(edge, Wire::Bg(level_of(edge.wire)), true),
-            2 => self.step_in(edge, Wire::Bclr, false),
-            3 => self.step_in(edge, Wire::Bclr, true),
-            4 => self.step_in(edge, Wire::Iack, false),
-            5 => self.step_in(edge, Wire::Iack, true),
-            6 => self.step_in(edge, Wire::Berr, false),
-            7 => self.step_in(edge, Wire::Berr, true),
-            8 => self.step_in(edge, Wire::Br, false),
-            9 => self.step_in(edge, Wire::Br, true),
-            10 => self.step_in(edge, Wire::BgOut, false),
-            11 => self.step_in(edge, Wire::BgOut, true),
-            12 => self.step_in(edge, Wire::Bbsy, false),
-            13 => self.step_in(edge, Wire::Bbsy, true),
-            14 => self.step_in(edge, Wire::Addr, false),
-            15 => self.step_in(edge, Wire::Addr, true),
-            16 => self.step_in(edge, Wire::AddressStrobe, false),
-            17 => self.step_in(edge, Wire::AddressStrobe, true),
-            18 => self.step_in(edge, Wire::DataStrobe, false),
-            19 => self.step_in(edge, Wire::DataStrobe, true),
-            20 => self.step_in(edge, Wire::Irq, false),
-            21 => self.step_in(edge, Wire::Irq, true),
-            22 => self.step_in(edge, Wire::IackOut, false),
-            23 => self.step_in(edge, Wire::IackOut, true),
-            24 => self.step_in(edge, Wire::Dtack, false),
-            _ => self.step_in(edge, Wire::Dtack, true),
+        if self.is_full() {
+            return self.answer(edge);
         }
-    }
-
-    /// The same in an arm, where wire and direction are constants, so that the compiler leaves out what other edges need.
-    #[inline(always)]
-    fn step_in(&mut self, edge: Edge, wire: Wire, fall: bool) -> Result<Option<Delivery>, Refused>
-        requires wire { wire ≡ edge.wire }
-        requires fall { fall ≡ edge.fall }
-        ensures answer { result ≡ answer self.old edge }
-        ensures state { self.new ≡ after self.old edge }
-    {
-        let mut edge = edge;
-        edge.wire = wire;
-        edge.fall = fall;
-        match self.verdict(edge) {
-            Ok(()) => Ok(self.take(edge)),
-            Err(refused) => Err(refused),
+        self.laws();
+        let answer = self.state.step(edge);
+        let is_accepted = answer.is_ok();
+        self.made += u32::from(is_accepted);
+        if is_accepted {
+            self.past.note(edge)
         }
-    }
-
-    /// Makes an edge that would be accepted, and answers what it delivers.
-    #[inline(always)]
-    fn take(&mut self, edge: Edge) -> Option<Delivery>
-        requires { verdict self.old edge ≡ Ok tt }
-        ensures delivery { result ≡ delivery self.old.plan self.old.history edge }
-        ensures state { self.new ≡ made self.old edge }
-    {
-        let delivery = self.state.delivery(edge);
-        self.make(edge);
-        delivery
+        answer
     }
 
     /// What holds of an edge that would be accepted.

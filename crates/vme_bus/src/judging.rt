@@ -24,11 +24,11 @@ impl Judges for BusState {
 
     fn told_by_rule<A: Outcome>(&self, edge: Edge) -> A {
         match edge.driver {
-            Driver::Controller => self.arbiter.told(edge, self.shared()),
+            Driver::Controller => self.arbiter().told(edge, self.shared()),
             Driver::Slot(slot) => match self.seat(slot) {
                 Some(seat) => {
                     let (_number, told) = self.board_rule(
-                        slot, seat, edge.wire, edge.fall, edge.value,
+                        slot, &seat, edge.wire, edge.fall, edge.value,
                     );
                     told
                 }
@@ -45,14 +45,14 @@ impl Judges for BusState {
     #[inline(always)]
     fn is_low(&self, driver: Driver, wire: Wire) -> bool {
         match driver {
-            Driver::Controller => self.arbiter.is_low(wire),
+            Driver::Controller => self.arbiter().is_low(wire),
             Driver::Slot(slot) => slot < 22 && self.is_slot_low(slot, wire),
         }
     }
 
     #[inline(always)]
     fn may_grant(&self) -> bool {
-        self.arbiter.may_grant(self.shared())
+        self.arbiter().may_grant(self.shared())
     }
 
     #[inline(always)]
@@ -66,9 +66,9 @@ impl Judges for BusState {
     }
 
     #[inline(always)]
-    fn row(&self, slot: u8) -> Option<&Row> {
+    fn row(&self, slot: u8) -> Option<Row> {
         match self.seat(slot) {
-            Some(seat) => Some(&seat.row),
+            Some(seat) => Some(seat.row),
             None => None,
         }
     }

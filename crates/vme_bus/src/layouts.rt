@@ -6,6 +6,7 @@ ghost use Rattle.vme_model.specs.declared.sets.ChainId.TheVariants as chain;
 ghost use Rattle.vme_model.specs.Plan.{board, upstream, last_active, grant_chain};
 ghost use Rattle.vme_wiring.specs.Counts.{request_level};
 
+use crate::records::{Seat, SeatRecord};
 use crate::sets::SlotSet;
 use vme_model::{ChainId, Row};
 use vme_slots::Plan;
@@ -29,20 +30,11 @@ pub enum Line {
     AnyInterrupt,
 }
 
-/// A board in its slot, and where its inputs stand among the low segments of its chains.
-#[derive(Clone, Copy)]
-pub struct Seat {
-    pub row: Row,
-    /// Of its grant chain; 0 where it has no requester.
-    pub grant_source: u8,
-    /// Of the acknowledge chain.
-    pub acknowledge_source: u8,
-}
-
-/// What a plan says of each slot and line.
+/// What a plan says of each slot and line, as numbers alone.
+#[repr(C)]
 #[derive(Clone, Copy)]
 pub struct Layout {
-    pub seats: [Option<Seat>; 22],
+    pub seats: [SeatRecord; 22],
     /// The slots that can pull BR0* to BR3*.
     pub requests: [SlotSet; 4],
     /// The slots that can pull IRQ1* to IRQ7*, from place 1 on.
@@ -126,14 +118,14 @@ fn seat_of(plan: &Plan, slot: u8) -> Option<Seat>
 }
 
 /// The boards of a plan, with their inputs.
-fn seats_of(plan: &Plan) -> [Option<Seat>; 22]
+fn seats_of(plan: &Plan) -> [SeatRecord; 22]
     ensures room { length result ≡ 22 }
     ensures seats { (s : ℕ) → s < 22
-        → slice_get result s ≡ Some (option_map (seat_of plan.now) (board plan.now s)) }
+        → seat result s ≡ option_map (seat_of plan.now) (board plan.now s) }
 {
-    let mut seats = [None; 22];
+    let mut seats = [SeatRecord::of(None); 22];
     for slot in 0..22_u8 {
-        seats[usize::from(slot)] = seat_of(plan, slot);
+        seats[usize::from(slot)] = SeatRecord::of(seat_of(plan, slot));
     }
     seats
 }

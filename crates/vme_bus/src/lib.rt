@@ -7,10 +7,13 @@ mod judging;
 mod layouts;
 mod movers;
 mod moves;
+mod records;
 mod rules;
 mod sets;
 mod sights;
+mod stands;
 mod states;
+mod steps;
 mod verdicts;
 mod waits;
 

@@ -7,6 +7,7 @@ ghost use Rattle.vme_wiring.specs.Offered.{offered_but_full};
 ghost use Rattle.vme_wiring.specs.Judged.{requester_waits, master_waits, interrupter_waits};
 ghost use Rattle.vme_wiring.specs.Waits.{is_access_to, is_waiting};
 ghost use Rattle.vme_bus.specs.Sets.{has};
+ghost use Rattle.vme_bus.specs.Records.{cycle_in};
 ghost use Rattle.vme_bus.specs.Movers.{interrupter_rests};
 
 use crate::sets::SlotSet;
@@ -22,7 +23,7 @@ impl BusState {
         ensures { OfHistory self.now (λ version p h. (s : ℕ)
             → has result s ≡ false → requester_waits version p h s ≡ true) }
     {
-        if self.version.is_two() | self.grants.is_some() {
+        if self.version().is_two() | self.grants.is_some() {
             self.layout.requesters
         } else {
             self.layout.requesters.except(self.br.except(self.bbsy))
@@ -58,9 +59,9 @@ impl BusState {
     /// The slot that an access is shown to.
     #[inline(always)]
     fn accessed(&self) -> SlotSet
-        ensures { (s : ℕ) → s < 22 → has result s ≡ is_access_to s self.now.shown }
+        ensures { (s : ℕ) → s < 22 → has result s ≡ is_access_to s (cycle_in self.now.shown) }
     {
-        match self.shown {
+        match self.shown() {
             Some(Cycle::Access(slot)) if slot < 22 => SlotSet::NONE.with(slot),
             _ => SlotSet::NONE,
         }

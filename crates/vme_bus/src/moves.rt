@@ -5,14 +5,16 @@ ghost use Rattle.vme_model.specs.Plan.{board};
 ghost use Rattle.vme_model.specs.History.{shown};
 ghost use Rattle.vme_model.specs.Verdict.{verdict_but_full};
 ghost use Rattle.vme_wiring.specs.Counts.{addressing_after};
-ghost use Rattle.vme_bus.specs.Moves.{MovesPlace, FollowsWire, FollowsGrants, served_by, strobed_by, cycles_by, shown_by, is_serving, release_of};
+ghost use Rattle.vme_bus.specs.Records.{cycle_in, slot_in};
+ghost use Rattle.vme_bus.specs.Moves.{MovesPlace, FollowsWire, FollowsGrants, served_by, strobed_by, cycles_by, shown_by, last_level_by, is_serving, release_of};
 
 use crate::layouts::{ACKNOWLEDGE_HEAD, grant_head};
+use crate::records::{CycleRecord, NO_SLOT};
 use crate::sets::SlotSet;
-use crate::states::BusState;
+use crate::states::{BUS_CLEAR, BUS_ERROR, BusState};
 use vme_interrupter::serves;
 use vme_master::one_more;
-use vme_model::{Cycle, Driver, Edge, Release, Wire};
+use vme_model::{Driver, Edge, Release, Wire};
 
 /// The set of the places whose own wire is low, after an edge of a wire of the place.
 #[inline(always)]
@@ -78,23 +80,36 @@ fn cycles_after(cycles: u8, release: Release, edge: Edge) -> u8
 
 /// What is shown, after an edge of a board.
 #[inline(always)]
-fn shown_after(shown: Option<Cycle>, edge: Edge) -> Option<Cycle>
-    ensures { result ≡ shown_by edge.wire edge.value shown }
+fn shown_after(shown: CycleRecord, edge: Edge) -> CycleRecord
+    ensures { cycle_in result ≡ shown_by edge.wire edge.value (cycle_in shown) }
 {
     match edge.wire {
-        Wire::Addr => edge.value,
+        Wire::Addr => CycleRecord::of(edge.value),
         _ => shown,
+    }
+}
+
+/// The level last granted, after an edge of the controller.
+#[inline(always)]
+fn last_level_after(last: u8, edge: Edge) -> u8
+    ensures { result ≡ last_level_by edge last }
+{
+    if edge.is_grant() {
+        edge.wire.grant_level()
+    } else {
+        last
     }
 }
 
 /// The slot whose address group is on, after an edge of a slot's board.
 #[inline(always)]
-fn addressing_after(addressing: Option<u8>, slot: u8, edge: Edge) -> Option<u8>
-    ensures { result ≡ addressing_after addressing slot edge.wire edge.fall }
+fn addressing_after(addressing: u8, slot: u8, edge: Edge) -> u8
+    requires { slot < 22 }
+    ensures { slot_in result ≡ addressing_after (slot_in addressing) slot edge.wire edge.fall }
 {
     match (edge.wire, edge.fall) {
-        (Wire::Addr, true) => Some(slot),
-        (Wire::Addr, false) => None,
+        (Wire::Addr, true) => slot,
+        (Wire::Addr, false) => NO_SLOT,
         _ => addressing,
     }
 }
@@ -109,7 +124,7 @@ impl BusState {
     {
         match self.seat(slot) {
             Some(seat) => match seat.row.interrupter {
-                Some(interrupter) => serves(interrupter.kind, self.shown),
+                Some(interrupter) => serves(interrupter.kind, self.shown()),
                 None => false,
             },
             None => false,
@@ -137,9 +152,11 @@ impl BusState {
             → verdict_but_full version p h edge ≡ Ok tt
             → IsStateOf version p (edge ∷ h) self.new) }
     {
-        self.arbiter.note(edge);
+        self.last_level = last_level_after(self.last_level, edge);
         self.grants = grants_after(self.grants, edge.wire);
         self.acknowledges = low_after(self.acknowledges, Wire::Iack, ACKNOWLEDGE_HEAD, edge.wire);
+        let bus_clear = low_after(self.controls, Wire::Bclr, BUS_CLEAR, edge.wire);
+        self.controls = low_after(bus_clear, Wire::Berr, BUS_ERROR, edge.wire);
     }
 
     /// Takes in an edge of the slot's board that is allowed after a history that the state is of.

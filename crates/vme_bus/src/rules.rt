@@ -12,11 +12,12 @@ ghost use Rattle.vme_model.specs.declared.boards.Row.{Row as RowValue};
 ghost use Rattle.vme_model.specs.Rules.{guard, bus_numbers, burst_guard, show_guard, pass_guard, answer_guard};
 ghost use Rattle.vme_wiring.specs.Waits.{is_access_to};
 ghost use Rattle.vme_bus.specs.Asks.{asks_at};
+ghost use Rattle.vme_bus.specs.Records.{cycle_in};
 ghost use Rattle.vme_requester.specs.Local.{is_requesters};
 ghost use Rattle.vme_master.specs.Local.{is_masters};
 ghost use Rattle.vme_interrupter.specs.Local.{is_interrupters};
 
-use crate::layouts::Seat;
+use crate::records::Seat;
 use crate::states::BusState;
 use vme_model::{Cycle, RequesterRow, Wire};
 use vme_rules::Outcome;
@@ -87,7 +88,7 @@ impl BusState {
     {
         match (wire, fall) {
             (Wire::Br, true) => (9, br_falls(self.bbsy.has(slot))),
-            (Wire::Br, false) => (10, br_rises(self.version, self.bbsy.has(slot))),
+            (Wire::Br, false) => (10, br_rises(self.version(), self.bbsy.has(slot))),
             (Wire::BgOut, true) => {
                 let (br, bbsy) = (self.br.has(slot), self.bbsy.has(slot));
                 (11, bgout_falls(self.grant_in(slot, seat), br, bbsy))
@@ -216,7 +217,7 @@ impl BusState {
         ensures { OfSeat self.now slot seat.now (λ _ p h _.
             result ≡ asks_at (readings p h (Slot slot)) (shown p h)) }
     {
-        match self.shown {
+        match self.shown() {
             Some(Cycle::Acknowledge(level)) => self.is_pending(slot, seat, level),
             _ => false,
         }
@@ -225,9 +226,9 @@ impl BusState {
     /// Whether an access to the slot is shown.
     #[inline(always)]
     pub(crate) fn is_accessed(&self, slot: u8) -> bool
-        ensures { result ≡ is_access_to slot self.now.shown }
+        ensures { result ≡ is_access_to slot (cycle_in self.now.shown) }
     {
-        match self.shown {
+        match self.shown() {
             Some(Cycle::Access(target)) => slot == target,
             _ => false,
         }
@@ -239,7 +240,7 @@ impl BusState {
         ensures { OfSeat self.now slot seat.now (λ _ p h _.
             A.tells result (pass_guard (readings p h (Slot slot)) (shown p h))) }
     {
-        passes(self.asks(slot, seat), self.shown)
+        passes(self.asks(slot, seat), self.shown())
     }
 
     /// What the guard's part on the cycle that is answered answers.
@@ -251,7 +252,7 @@ impl BusState {
     {
         let (iack_in, iackout) = (self.iack_in(slot, seat), self.acknowledges.has(slot));
         let (is_pending, is_accessed) = (self.asks(slot, seat), self.is_accessed(slot));
-        answers(iack_in, iackout, is_pending, is_accessed, self.shown)
+        answers(iack_in, iackout, is_pending, is_accessed, self.shown())
     }
 
     /// The rule that names an edge of a board's interrupter, or of its answer, and what its guard answers (G21 to G26).

@@ -2,6 +2,7 @@
 ghost use Rattle.std.specs.Prelude.{◌≡◌, ◌≢◌, ◌&&◌, ◌||◌, ◌*◌, ◌^◌, ◌%◌, ◌<◌, ℕ, not, false, true, nat_lt};
 
 /// A set of slots, a bit for each.
+#[repr(C)]
 #[derive(Clone, Copy)]
 pub struct SlotSet {
     bits: u32,

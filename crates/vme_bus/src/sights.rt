@@ -1,6 +1,5 @@
 //! What a driver sees of a bus.
 ghost use Rattle.std.specs.Prelude.{◌≡◌, ◌<◌};
-ghost use Rattle.std.specs.Option.{option_copied};
 ghost use Rattle.vme_model.specs.declared.signals.Driver.TheVariants.{Controller, Slot};
 ghost use Rattle.vme_model.specs.declared.signals.Wire.TheVariants as wire;
 ghost use Rattle.vme_model.specs.History.{drive, line, request_line, interrupt_line};
@@ -8,11 +7,15 @@ ghost use Rattle.vme_model.specs.Sets.{bus_levels, irq_levels};
 ghost use Rattle.vme_model.specs.Plan.{board_of};
 ghost use Rattle.vme_model.specs.Views.{pins};
 ghost use Rattle.vme_model.specs.Deliveries.{delivery};
+ghost use Rattle.vme_arbiter.specs.Local.{controller_of};
 ghost use Rattle.vme_bus.specs.Layouts.{seat};
+ghost use Rattle.vme_bus.specs.Records.{version_in, cycle_in};
 
-use crate::layouts::Seat;
-use crate::states::BusState;
-use vme_model::{BusLevels, Delivery, Driver, Edge, Levels, Pins, Row, Wire};
+use crate::layouts::{ACKNOWLEDGE_HEAD, grant_head};
+use crate::records::{Seat, kind_in, slot_in, version_in};
+use crate::states::{BUS_CLEAR, BUS_ERROR, BusState};
+use vme_arbiter::{AnyPolicy, Arbiter, Controller};
+use vme_model::{BusLevels, Cycle, Delivery, Driver, Edge, Levels, Pins, Row, Version, Wire};
 use vme_wiring::delivered_by;
 
 impl BusState {
@@ -20,13 +23,51 @@ impl BusState {
 
     /// The board of a slot, with the places of its inputs.
     #[inline(always)]
-    pub(crate) fn seat(&self, slot: u8) -> Option<&Seat>
-        ensures { option_copied result ≡ seat self.now.layout.seats slot }
+    pub(crate) fn seat(&self, slot: u8) -> Option<Seat>
+        ensures { result ≡ seat self.now.layout.seats slot }
     {
         match self.layout.seats.get(usize::from(slot)) {
-            Some(Some(seat)) => Some(seat),
-            _ => None,
+            Some(record) => record.seat(),
+            None => None,
         }
+    }
+
+    /// The version of the rules.
+    #[inline(always)]
+    pub(crate) fn version(&self) -> Version
+        ensures { result ≡ version_in self.now.version }
+    {
+        version_in(self.version)
+    }
+
+    /// What is shown.
+    #[inline(always)]
+    pub(crate) fn shown(&self) -> Option<Cycle>
+        ensures { result ≡ cycle_in self.now.shown }
+    {
+        self.shown.cycle()
+    }
+
+    /// The arbiter, with the controller's own wires.
+    #[inline(always)]
+    pub(crate) fn arbiter(&self) -> Arbiter<AnyPolicy>
+        ensures { OfHistory self.now (λ version p h. result
+            ≡ (record { kind = p.arbiter }, controller_of p.arbiter version h)) }
+    {
+        let kind = kind_in(self.kind);
+        let controller = Controller {
+            kind,
+            version: self.version(),
+            bg0: self.grants.has(grant_head(0)),
+            bg1: self.grants.has(grant_head(1)),
+            bg2: self.grants.has(grant_head(2)),
+            bg3: self.grants.has(grant_head(3)),
+            bclr: self.controls.has(BUS_CLEAR),
+            iack: self.acknowledges.has(ACKNOWLEDGE_HEAD),
+            berr: self.controls.has(BUS_ERROR),
+            last_level: self.last_level,
+        };
+        Arbiter::of(AnyPolicy::from(kind), controller)
     }
 
     /// Whether BBSY* is low.
@@ -66,7 +107,7 @@ impl BusState {
     pub(crate) fn berr(&self) -> bool
         ensures { OfHistory self.now (λ _ _ h. result ≡ drive h Controller wire.Berr) }
     {
-        self.arbiter.is_low(Wire::Berr)
+        self.controls.has(BUS_ERROR)
     }
 
     /// Whether the bus request line of a level is low.
@@ -128,13 +169,13 @@ impl BusState {
         Pins {
             requests: self.requests(),
             bbsy: self.bbsy(),
-            bclr: self.arbiter.is_low(Wire::Bclr),
+            bclr: self.controls.has(BUS_CLEAR),
             address_strobe: self.address_strobe(),
             data_strobe: self.data_strobe(),
             dtack: self.dtack(),
             berr: self.berr(),
             irq: self.interrupts(),
-            shown: self.shown,
+            shown: self.shown(),
             grant_in: false,
             iack_in: false,
         }
@@ -159,7 +200,7 @@ impl BusState {
         match driver {
             Driver::Controller => self.shared(),
             Driver::Slot(slot) => match self.seat(slot) {
-                Some(seat) => self.pins_at(slot, seat),
+                Some(seat) => self.pins_at(slot, &seat),
                 None => self.shared(),
             },
         }
@@ -167,13 +208,13 @@ impl BusState {
 
     /// The row of the driver's board.
     #[inline(always)]
-    fn row(&self, driver: Driver) -> Option<&Row>
-        ensures { OfHistory self.now (λ _ p _. option_copied result ≡ board_of p driver) }
+    fn row(&self, driver: Driver) -> Option<Row>
+        ensures { OfHistory self.now (λ _ p _. result ≡ board_of p driver) }
     {
         match driver {
             Driver::Controller => None,
             Driver::Slot(slot) => match self.seat(slot) {
-                Some(seat) => Some(&seat.row),
+                Some(seat) => Some(seat.row),
                 None => None,
             },
         }
@@ -187,6 +228,7 @@ impl BusState {
         if !(edge.fall && edge.wire.is_same(Wire::Dtack)) {
             return None;
         }
-        delivered_by(self.shown, self.addressing, self.row(edge.driver))
+        let row = self.row(edge.driver);
+        delivered_by(self.shown(), slot_in(self.addressing), row.as_ref())
     }
 }

@@ -2,19 +2,25 @@
 ghost use Rattle.std.specs.Prelude.{◌≡◌, []};
 
 use crate::layouts::Layout;
+use crate::records::{CycleRecord, NO_SLOT, number_of_kind, number_of_version};
 use crate::sets::SlotSet;
-use vme_arbiter::{AnyPolicy, Arbiter};
-use vme_model::{Cycle, Version};
+use vme_model::Version;
 use vme_slots::Plan;
+
+/// Where BCLR* stands among the controller's lines.
+pub(crate) const BUS_CLEAR: u8 = 0;
+
+/// Where BERR* stands among them.
+pub(crate) const BUS_ERROR: u8 = 1;
 
 /// What the edges so far lead to: of each wire the set of the slots that drive it low, and a few numbers.
 ///
-/// It holds no history and no memory but its own, so that it may be copied and kept.
+/// It holds no history and no memory but its own, so that it may be copied and kept; and it holds numbers alone, so that
+/// a program in C may keep it too.
+#[repr(C)]
 #[derive(Clone, Copy)]
 pub struct BusState {
-    pub(crate) version: Version,
     pub(crate) layout: Layout,
-    pub(crate) arbiter: Arbiter<AnyPolicy>,
     pub(crate) br: SlotSet,
     pub(crate) bbsy: SlotSet,
     pub(crate) addr: SlotSet,
@@ -30,11 +36,18 @@ pub struct BusState {
     pub(crate) served: SlotSet,
     // the boards whose cycle had its data strobe
     pub(crate) strobed: SlotSet,
+    // the controller's lines that are low, at `BUS_CLEAR` and `BUS_ERROR`
+    pub(crate) controls: SlotSet,
     // the cycles of each board's tenure, as far as they count
     pub(crate) cycles: [u8; 22],
-    pub(crate) shown: Option<Cycle>,
+    pub(crate) shown: CycleRecord,
     // the slot whose address group is on
-    pub(crate) addressing: Option<u8>,
+    pub(crate) addressing: u8,
+    // the level last granted
+    pub(crate) last_level: u8,
+    // the arbiter's policy
+    pub(crate) kind: u8,
+    pub(crate) version: u8,
 }
 
 impl BusState {
@@ -46,9 +59,7 @@ impl BusState {
     {
         plan.accepted();
         BusState {
-            version,
             layout: Layout::new(plan),
-            arbiter: Arbiter::new(AnyPolicy::from(plan.arbiter()), plan.arbiter(), version),
             br: SlotSet::NONE,
             bbsy: SlotSet::NONE,
             addr: SlotSet::NONE,
@@ -60,9 +71,13 @@ impl BusState {
             acknowledges: SlotSet::NONE,
             served: SlotSet::NONE,
             strobed: SlotSet::NONE,
+            controls: SlotSet::NONE,
             cycles: [0; 22],
-            shown: None,
-            addressing: None,
+            shown: CycleRecord::of(None),
+            addressing: NO_SLOT,
+            last_level: 0,
+            kind: number_of_kind(plan.arbiter()),
+            version: number_of_version(version),
         }
     }
 }

@@ -10,7 +10,8 @@ ghost use Rattle.vme_model.specs.Verdict.{check, settled, verdict_but_full};
 ghost use Rattle.vme_wiring.specs.Asked.{asked, asked_guard, exists};
 ghost use Rattle.vme_model.specs.Rules.{guard};
 
-use crate::layouts::{ACKNOWLEDGE_HEAD, Seat};
+use crate::layouts::ACKNOWLEDGE_HEAD;
+use crate::records::Seat;
 use crate::states::BusState;
 use vme_model::{ChainId, Cycle, Driver, Edge, Refused, Wire};
 use vme_rules::settlings::{as_settles, berr_settles, bg_fall_settles, bg_rise_settles};
@@ -100,7 +101,7 @@ impl BusState {
     fn is_unanswerable(&self) -> bool
         ensures { OfHistory self.now (λ _ p h. result ≡ is_unanswerable p h (shown p h)) }
     {
-        match self.shown {
+        match self.shown() {
             Some(Cycle::Acknowledge(_)) => self.is_acknowledge_past(),
             Some(Cycle::Access(slot)) => self.seat(slot).is_none(),
             None => false,
@@ -120,9 +121,9 @@ impl BusState {
             (Wire::Berr, true) => (2, berr_settles(self.is_unanswerable())),
             (Wire::Bg(level), false) => {
                 let is_past = self.is_grant_past(level);
-                (3, bg_rise_settles(self.version, self.bbsy(), is_past))
+                (3, bg_rise_settles(self.version(), self.bbsy(), is_past))
             }
-            (Wire::Bg(_), true) => (4, bg_fall_settles(self.version, self.are_grants_through())),
+            (Wire::Bg(_), true) => (4, bg_fall_settles(self.version(), self.are_grants_through())),
             _ => (0, A::free()),
         }
     }
@@ -147,9 +148,9 @@ impl BusState {
             → result ≡ asked version p h edge) }
     {
         match edge.driver {
-            Driver::Controller => self.arbiter.may(edge, self.shared()),
+            Driver::Controller => self.arbiter().may(edge, self.shared()),
             Driver::Slot(slot) => match self.seat(slot) {
-                Some(seat) => self.ask_board(slot, seat, edge),
+                Some(seat) => self.ask_board(slot, &seat, edge),
                 None => Err(Refused::NoSuchDriver),
             },
         }

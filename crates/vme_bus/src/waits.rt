@@ -6,7 +6,7 @@ ghost use Rattle.vme_wiring.specs.Offered.{offered_but_full};
 ghost use Rattle.vme_wiring.specs.Judged.{requester_waits, master_waits, interrupter_waits};
 ghost use Rattle.vme_wiring.specs.Waits.{waits_for_grant, waits_for_bus, waits_for_cycle, is_unserved, is_waiting};
 
-use crate::layouts::Seat;
+use crate::records::Seat;
 use crate::states::BusState;
 use vme_model::Driver;
 use vme_wiring::Waiting;
@@ -25,7 +25,7 @@ impl BusState {
         match seat.row.requester {
             Some(_) => {
                 let requests = self.br.has(slot) & !self.grants.has(slot) & !self.bbsy.has(slot);
-                requests & !self.version.is_two() & !self.grant_in(slot, seat)
+                requests & !self.version().is_two() & !self.grant_in(slot, seat)
             }
             None => true,
         }
@@ -72,9 +72,9 @@ impl BusState {
     {
         match self.seat(slot) {
             Some(seat) => Waiting {
-                requester: self.waits_for_grant(slot, seat),
+                requester: self.waits_for_grant(slot, &seat),
                 master: self.waits_for_bus(slot),
-                interrupter: self.waits_for_service(slot, seat),
+                interrupter: self.waits_for_service(slot, &seat),
             },
             None => Waiting {
                 requester: true,

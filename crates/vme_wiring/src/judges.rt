@@ -1,6 +1,5 @@
 //! What is asked of a state of the bus, whatever it is kept as.
 ghost use Rattle.std.specs.Prelude.{◌≡◌, List, true};
-ghost use Rattle.std.specs.Option.{option_copied};
 ghost use Rattle.vme_model.specs.declared.signals.Edge.{Edge as EdgeValue};
 ghost use Rattle.vme_model.specs.declared.signals.Version.{Version as VersionValue};
 ghost use Rattle.vme_model.specs.Plan.{Plan as PlanValue, board};
@@ -64,8 +63,8 @@ pub trait Judges {
         ensures { OfState is_of self.now (λ _ p _. result ≡ p.slots) };
 
     /// The row of a slot's board.
-    fn row(&self, slot: u8) -> Option<&Row>
-        ensures { OfState is_of self.now (λ _ p _. option_copied result ≡ board p slot) };
+    fn row(&self, slot: u8) -> Option<Row>
+        ensures { OfState is_of self.now (λ _ p _. result ≡ board p slot) };
 
     /// Which parts of a slot's board wait; all where there is no board.
     fn waiting(&self, slot: u8) -> Waiting

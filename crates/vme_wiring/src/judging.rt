@@ -67,9 +67,9 @@ impl Judges for Wiring {
     }
 
     #[inline(always)]
-    fn row(&self, slot: u8) -> Option<&Row> {
+    fn row(&self, slot: u8) -> Option<Row> {
         match self.board(slot) {
-            Some(board) => Some(&board.row),
+            Some(board) => Some(board.row),
             None => None,
         }
     }

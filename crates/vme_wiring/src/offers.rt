@@ -92,7 +92,7 @@ fn going_on<J: Judges>(state: &J, driver: Driver) -> ArrayVec<Edge, 2>
         return ArrayVec::new();
     };
     match state.row(slot) {
-        Some(row) => showings(slot, wanted(state, row), next_board(state, row.slot)),
+        Some(row) => showings(slot, wanted(state, &row), next_board(state, row.slot)),
         None => ArrayVec::new(),
     }
 }

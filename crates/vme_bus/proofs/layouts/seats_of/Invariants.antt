@@ -1,12 +1,11 @@
 use Rattle.std.proofs.Common.{◌≡◌, ℕ, ◌<◌, length}
-use Rattle.std.specs.Prelude.{Some, option_map}
-use Rattle.std.specs.List.{slice_get}
+use Rattle.std.specs.Prelude.{option_map}
 use Rattle.vme_model.specs.Plan.{board}
-use Rattle.vme_bus.specs.Layouts.{seat_of}
+use Rattle.vme_bus.specs.Layouts.{seat, seat_of}
 use Rattle.vme_bus.proofs.layouts.seats_of.Given as goal
 
 abbrev pub invariant-loop-slot : goal.invariant-loop-slot
 invariant-loop-slot l = record {
   room : length l.seats ≡ 22;
-  made : (s : ℕ) → s < l.slot → slice_get l.seats s ≡ Some (option_map (seat_of l.plan) (board l.plan s));
+  made : (s : ℕ) → s < l.slot → seat l.seats s ≡ option_map (seat_of l.plan) (board l.plan s);
 }

@@ -10,7 +10,7 @@ use Rattle.vme_bus.proofs.judging.BusStateJudges.is_low.Goals as goal
 
 pub returns-in-Controller : goal.returns-in-Controller
 returns-in-Controller c version p h is =
-    c.is_low.ensures ∙ ap (λ a. low a.1 c.args.wire) is.arbiter ∙ own_of_controller version p h c.args.wire is.legal
+    c.is_low.ensures ∙ ap (λ a. low a.1 c.args.wire) (c.arbiter.ensures version p h is) ∙ own_of_controller version p h c.args.wire is.legal
     ∙ sym (ap (λ (d : Driver). drive h d c.args.wire) c.in-Controller.is)
 
 pub returns-else-slot-lt22 : goal.returns-else-slot-lt22

@@ -20,8 +20,8 @@ returns-in-Controller c version p h is exists =
     let e = c.args.edge in
     let formed = and_left (is_well_formed e) (has_driver p e.driver e.wire) exists in
     let own = subst (λ d. has_wire d e.wire ≡ true) c.in-Controller.is (and_left (has_wire e.driver e.wire) (has_value e.wire e.fall e.value) formed) in
-    let picks = ap (λ (a : AnyPolicy). pick a.kind (has_bus_level c.shared.result.requests) (last_level h)) (ap (λ a. a.0) is.arbiter) in
-    c.may.ensures.rows p.arbiter version h (ap (λ a. a.1) is.arbiter) own (λ grant. picks)
+    let picks = ap (λ (a : AnyPolicy). pick a.kind (has_bus_level c.shared.result.requests) (last_level h)) (ap (λ a. a.0) (c.arbiter.ensures version p h is)) in
+    c.may.ensures.rows p.arbiter version h (ap (λ a. a.1) (c.arbiter.ensures version p h is)) own (λ grant. picks)
     ∙ ap (λ (x : Pins). ruling version (over p.arbiter h x) e) (c.shared.ensures version p h is)
     ∙ controller_asked version p h e c.in-Controller.is formed
 
@@ -30,6 +30,6 @@ returns-in-None c version p h is exists =
     let e = c.args.edge in
     let s = c.in-Slot.slot in
     let has = subst (λ d. has_driver p d e.wire ≡ true) c.in-Slot.is (and_right (is_well_formed e) (has_driver p e.driver e.wire) exists) in
-    let none = sym (is.layout.seats s) ∙ sym c.seat.ensures ∙ ap option_copied c.in-None.is in
+    let none = sym (is.layout.seats s) ∙ sym c.seat.ensures ∙ c.in-None.is in
     let bad : false ≡ true = sym (unseated p (seat_of p) (board p s) e.wire none) ∙ has in
     absurd (cc)

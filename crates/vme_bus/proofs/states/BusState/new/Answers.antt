@@ -1,8 +1,8 @@
 use Rattle.std.proofs.Common.{◌∙◌, refl, ap}
 use Rattle.vme_model.specs.declared.pins.Pins.{Pins}
 use Rattle.vme_wiring.proofs.Fresh.{high_shared, none_addresses}
-use Rattle.vme_wiring.proofs.FieldReads.{arbiter_of}
 use Rattle.vme_bus.specs.Layouts.{grant_head, acknowledge_head}
+use Rattle.vme_bus.specs.States.{bus_clear_place, bus_error_place}
 use Rattle.vme_bus.proofs.PowerUp.{none_held, none_served, no_cycles}
 use Rattle.vme_bus.proofs.states.BusState.new.Goals as goal
 
@@ -12,9 +12,12 @@ returns c =
     record {
       accepted = c.accepted.ensures;
       legal = tt;
-      rules = refl;
+      rules = c.number_of_version.ensures;
       layout = c.new.ensures;
-      arbiter = c.new-2.ensures ∙ arbiter_of c.from.result p.arbiter c.arbiter-2.result c.args.version (c.from.ensures ∙ c.arbiter.ensures) c.arbiter-2.ensures;
+      kind = c.number_of_kind.ensures ∙ c.arbiter.ensures;
+      last_level = refl;
+      bus_clear = none_held bus_clear_place;
+      bus_error = none_held bus_error_place;
       br = none_held;
       bbsy = none_held;
       addr = none_held;
@@ -30,6 +33,6 @@ returns c =
       strobed = none_held;
       cycles_room = refl;
       cycles = no_cycles p;
-      shown = ap (λ (x : Pins). x.shown) (high_shared p);
+      shown = c.of.ensures ∙ ap (λ (x : Pins). x.shown) (high_shared p);
       addressing = none_addresses p;
     }

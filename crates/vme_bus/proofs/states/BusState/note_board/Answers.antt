@@ -10,7 +10,9 @@ returns c version p h is driver allowed =
     noted_by_board version p h s k.row c.args.edge c.args.self.now _ is allowed driver k.found (record {
       rules = refl;
       layout = refl;
-      arbiter = refl;
+      kind = refl;
+      last_level = refl;
+      controls = refl;
       br = c.low_after-self.ensures;
       bbsy = c.low_after-self-2.ensures;
       addr = c.low_after-self-3.ensures;

@@ -10,12 +10,12 @@ use Rattle.vme_bus.proofs.states.BusState.pins.Goals as goal
 pub returns-in-Some : goal.returns-in-Some
 returns-in-Some c version p h is =
     let s = c.in-Slot.slot in
-    let k = seated p s c.in-Some.seat.now (sym (ap option_copied c.in-Some.is) ∙ c.seat.ensures ∙ is.layout.seats s) in
+    let k = seated p s c.in-Some.seat (sym c.in-Some.is ∙ c.seat.ensures ∙ is.layout.seats s) in
     c.pins_at.ensures version p h k.row is k.found k.same ∙ sym (ap (λ (d : Driver). pins p h d) c.in-Slot.is)
 
 pub returns-in-None : goal.returns-in-None
 returns-in-None c version p h is =
     let s = c.in-Slot.slot in
-    let none = unseated p (board p s) (sym (is.layout.seats s) ∙ sym c.seat.ensures ∙ ap option_copied c.in-None.is) in
+    let none = unseated p (board p s) (sym (is.layout.seats s) ∙ sym c.seat.ensures ∙ c.in-None.is) in
     let alike : pins p h Controller ≡ pins p h (Slot s) = rw none in
     c.shared-in-None.ensures version p h is ∙ alike ∙ sym (ap (λ (d : Driver). pins p h d) c.in-Slot.is)

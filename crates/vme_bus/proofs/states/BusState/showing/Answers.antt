@@ -2,7 +2,7 @@ use Rattle.std.proofs.Common.{◌∙◌, ap, subst}
 use Rattle.vme_model.specs.declared.sets.Levels.{Levels}
 use Rattle.vme_model.specs.Sets.{has_level}
 use Rattle.vme_model.specs.Rules.{shows}
-use Rattle.vme_bus.specs.declared.layouts.Seat.{Seat}
+use Rattle.vme_bus.specs.declared.records.Seat.{Seat}
 use Rattle.vme_bus.proofs.Guards.{shown_by}
 use Rattle.vme_bus.proofs.states.BusState.showing.Goals as goal
 

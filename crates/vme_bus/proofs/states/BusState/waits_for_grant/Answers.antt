@@ -5,7 +5,7 @@ use Rattle.vme_model.specs.declared.signals.Wire.TheVariants.{Br, BgOut, Bbsy}
 use Rattle.vme_model.specs.Signals.{is_two}
 use Rattle.vme_model.specs.History.{drive}
 use Rattle.vme_model.specs.Readings.{grant_in}
-use Rattle.vme_bus.specs.declared.layouts.Seat.{Seat}
+use Rattle.vme_bus.specs.declared.records.Seat.{Seat}
 use Rattle.vme_bus.proofs.WaitingParts.{for_grant, same_five}
 use Rattle.vme_bus.proofs.states.BusState.waits_for_grant.Goals as goal
 

@@ -7,7 +7,7 @@ use Rattle.vme_model.specs.History.{drive, shown}
 use Rattle.vme_model.specs.Readings.{iack_in, is_served}
 use Rattle.vme_wiring.specs.Waits.{is_access_to}
 use Rattle.vme_wiring.proofs.AllowedBoards.{stands}
-use Rattle.vme_bus.specs.declared.layouts.Seat.{Seat}
+use Rattle.vme_bus.specs.declared.records.Seat.{Seat}
 use Rattle.vme_bus.proofs.WaitingParts.{for_service, for_answers, same_five}
 use Rattle.vme_bus.proofs.states.BusState.waits_for_service.Goals as goal
 

@@ -1,0 +1,49 @@
+//! Where a bus stands: who holds it, and where a grant travels.
+ghost use Rattle.std.specs.Prelude.{◌≡◌, option_map};
+ghost use Rattle.vme_model.specs.Stands.{grant_at, holder};
+ghost use Rattle.vme_bus.specs.Steps.{is_stop};
+
+use crate::states::BusState;
+
+impl BusState {
+    ghost use Rattle.vme_bus.specs.States.{OfHistory};
+
+    /// The slot that holds the bus.
+    pub fn holder(&self) -> Option<u8>
+        ensures { OfHistory self.now (λ _ p h. result ≡ holder p h) }
+    {
+        for slot in 1..=self.layout.slots {
+            if self.bbsy.has(slot) {
+                return Some(slot);
+            }
+        }
+        None
+    }
+
+    /// Whether a grant stands at the slot, whose board has neither passed it on nor taken the bus.
+    fn is_stop(&self, slot: u8) -> bool
+        ensures { OfHistory self.now (λ _ p h. result ≡ is_stop p h slot) }
+    {
+        match self.seat(slot) {
+            Some(seat) => {
+                let is_granted = self.grant_in(slot, &seat);
+                is_granted & !self.grants.has(slot) & !self.bbsy.has(slot)
+            }
+            None => false,
+        }
+    }
+
+    /// The slot at which a grant travels: its input is low, while its board has neither passed the grant on nor taken
+    /// the bus (chapter 3 of the standard). There is one at most.
+    pub fn grant_at(&self) -> Option<u8>
+        ensures { OfHistory self.now (λ _ p h.
+            result ≡ option_map (λ at. at.1) (grant_at p h)) }
+    {
+        for slot in 1..=self.layout.slots {
+            if self.is_stop(slot) {
+                return Some(slot);
+            }
+        }
+        None
+    }
+}
