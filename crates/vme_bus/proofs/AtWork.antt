@@ -19,6 +19,7 @@ use Rattle.vme_wiring.proofs.AllowedBoards.{stands}
 use Rattle.vme_bus.specs.declared.sets.SlotSet.{SlotSet}
 use Rattle.vme_bus.specs.declared.states.BusState.{BusState}
 use Rattle.vme_bus.specs.Sets.{has}
+use Rattle.vme_bus.specs.Records.{cycle_in}
 use Rattle.vme_bus.specs.Layouts.{seat_of}
 use Rattle.vme_bus.specs.States.{IsStateOf}
 use Rattle.vme_bus.specs.Movers.{interrupter_rests}
@@ -123,7 +124,7 @@ module _ (version : Version) (p : Plan) (h : List Edge) (b : BusState) (s : ℕ)
           (sym (is.irq s) ∙ t.0) (sym (is.served s) ∙ t.1)
 
   -- nothing to answer either
-  pub answers_none : ((r : Row) → board p s ≡ Some r → interrupter_rests p h s r ≡ true) → has b.dtack s ≡ false → (s < 22 → is_access_to s b.shown ≡ false) → interrupter_waits p h s ≡ true
+  pub answers_none : ((r : Row) → board p s ≡ Some r → interrupter_rests p h s r ≡ true) → has b.dtack s ≡ false → (s < 22 → is_access_to s (cycle_in b.shown) ≡ false) → interrupter_waits p h s ≡ true
   answers_none rests dtack other = by_board (board p s) refl
     where
       by_part : (r : Row) (o : Option InterrupterRow) (dtack access out iack irq done : Bool) → dtack ≡ false → access ≡ false →

@@ -30,3 +30,5 @@ pub mod WaitingParts
 pub mod AtWork
 -- where a grant stops, it travels: `BusState::grant_at`
 pub mod Standing
+-- where a trace has room, E5 does not come: `Bus::step`, `BusState::step`
+pub mod Room

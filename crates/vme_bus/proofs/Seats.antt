@@ -1,21 +1,21 @@
 -- What a plan says of each slot and line: `Layout::new`.
-use Rattle.std.proofs.Common.{◌≡◌, ◌∙◌, refl, sym, ap, ℕ, zero, suc, Bool, true, false, List, [], ◌∷◌, ◌<◌, ◌≤◌, length, arith}
+use Rattle.std.proofs.Common.{◌≡◌, ◌∙◌, refl, sym, ap, ℕ, zero, suc, Bool, true, false, List, [], ◌∷◌, ◌<◌, ◌≤◌, length, get_or, arith}
 use Rattle.std.specs.Prelude.{Option, Some, None, option_map, nat_lt}
 use Rattle.std.specs.List.{slice_get}
 use Rattle.std.specs.Option.{option_and_then}
 use Rattle.std.proofs.lemmas.Bool.Decides.{nat_tests}
-use Rattle.std.proofs.lemmas.Option.{slice_get_past}
+use Rattle.std.proofs.lemmas.Option.{slice_get_past, slice_get-get_or}
 use Rattle.vme_model.specs.declared.boards.Row.{Row}
 use Rattle.vme_model.specs.Plan.{Plan, board}
 use Rattle.vme_model.specs.Accepted.{IsAccepted}
 use Rattle.vme_wiring.proofs.AllowedBoards.{stands}
 use Rattle.vme_bus.specs.declared.records.SeatRecord.{SeatRecord}
 use Rattle.vme_bus.specs.declared.sets.SlotSet.{SlotSet}
-use Rattle.vme_bus.specs.Records.{seat_in}
+use Rattle.vme_bus.specs.Records.{seat_in, no_seat}
 use Rattle.vme_bus.specs.Layouts.{seat, seat_of, set_at}
 
 -- a place beyond the slots has no board
-pub seats_in_places : (p : Plan) (seats : List SeatRecord) → IsAccepted p → length seats ≡ 22 → ((s : ℕ) → s < 22 → seat seats s ≡ option_map (seat_of p) (board p s)) →
+pub seats_in_places : (p : Plan) (seats : List SeatRecord) → IsAccepted p → length seats ≡ 22 → ((s : ℕ) → s < 22 → seat_in (get_or seats s no_seat) ≡ option_map (seat_of p) (board p s)) →
     (s : ℕ) → seat seats s ≡ option_map (seat_of p) (board p s)
 seats_in_places p seats ok room at s = by_place (nat_lt s 22) refl
   where
@@ -26,7 +26,8 @@ seats_in_places p seats ok room at s = by_place (nat_lt s 22) refl
     by_place : (b : Bool) → nat_lt s 22 ≡ b → seat seats s ≡ option_map (seat_of p) (board p s)
     by_place true is =
         let near : s < 22 = grind (arith, nat_tests) in
-        at s near
+        let here : s < length seats = omega arith in
+        ap (option_and_then seat_in) (slice_get-get_or seats s no_seat here) ∙ at s near
     by_place false is =
         let far : 22 ≤ s = grind (arith, nat_tests) in
         let past : length seats ≤ s = omega arith in

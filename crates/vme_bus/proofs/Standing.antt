@@ -1,6 +1,6 @@
 -- Where a grant stops, it travels: `BusState::grant_at`.
 use Rattle.std.proofs.Common.{◌≡◌, ◌∙◌, refl, sym, ap, subst, ℕ, Bool, true, false, List, [], ◌∷◌, ◌<◌, ◌≤◌, Option, Some, None, arith}
-use Rattle.std.specs.Prelude.{◌&&◌, ◌==◌, not, option_map, is_some}
+use Rattle.std.specs.Prelude.{◌&&◌, ◌+◌, ◌==◌, not, option_map, is_some}
 use Rattle.std.specs.Option.{option_map_or}
 use Rattle.vme_model.specs.declared.boards.Row.{Row}
 use Rattle.vme_model.specs.declared.boards.RequesterRow.{RequesterRow}
@@ -21,6 +21,7 @@ use Rattle.vme_model.proofs.Members.{on, member_of, is_member, within, one_chain
 use Rattle.vme_model.proofs.Ranges.{in_range}
 use Rattle.vme_model.proofs.Safety.{legal_is_safe}
 use Rattle.vme_model.proofs.Standing.{grant_travels, none_travels}
+use Rattle.vme_slots.proofs.Slots.{up_to_here}
 use Rattle.vme_bus.specs.Steps.{is_stop}
 
 requests_some : (p : Plan) (h : List Edge) (n s : ℕ) (o : Option Row) → option_map_or (requests_on n) o false ≡ true → option_map_or (λ r. is_some r.requester) o false ≡ true
@@ -54,14 +55,16 @@ travels_there p ok h s stops =
     let bbsy = drive h (Slot s) Bbsy in
     let front = and_left (g && not out) (not bbsy) stops in
     let low = and_left g (not out) front in
-    let k = level_of p (in_range p ok) h s (grants_some p h (board p s) low) in
-    (k.level, record {
-      level = k.in_range;
-      member = is_member p (in_range p ok) k.level s k.in_range k.member;
-      granted = sym k.grant ∙ low;
-      unpassed = was_high out (and_right g (not out) front);
-      untaken = was_high bbsy (and_right (g && not out) (not bbsy) stops);
-    })
+    let k = level_of p (in_range p ok) h s (grants_some p h (board p s) low) in (
+      k.level,
+      record {
+        level = k.in_range;
+        member = is_member p (in_range p ok) k.level s k.in_range k.member;
+        granted = sym k.grant ∙ low;
+        unpassed = was_high out (and_right g (not out) front);
+        untaken = was_high bbsy (and_right (g && not out) (not bbsy) stops);
+      },
+    )
 
 pub stops_there : (p : Plan) → IsAccepted p → (h : List Edge) (n s : ℕ) → Travels p h n s → is_stop p h s ≡ true
 stops_there p ok h n s t =
@@ -98,3 +101,7 @@ no_stop p h ok none = by_found (grant_at p h) refl
         let off = none r place.0 place.1 in
         let low = stops_there p ok h m r t in
         absurd (cc)
+
+-- no slot up to one passes a test, where none before it does and it does not
+pub all_below : (test : ℕ → Bool) (s : ℕ) → ((k : ℕ) → 1 ≤ k → k < s → test k ≡ false) → test s ≡ false → (k : ℕ) → 1 ≤ k → k < s + 1 → test k ≡ false
+all_below test s before here k from to = up_to_here (λ x. test x ≡ false) s before here k from (omega arith)

@@ -47,6 +47,18 @@ interrupter_in x =
     if x.stands == 0 then None
     else Some (record { level = x.level; kind = irq_kind_in x; status = x.status })
 
+-- what stands in an empty slot
+abbrev pub no_seat : SeatRecord
+no_seat = record {
+  stands = 0;
+  slot = 0;
+  requester = record { stands = 0; level = 0; is_done = 0; burst = 0 };
+  interrupter = record { stands = 0; level = 0; is_rora = 0; status = 0 };
+  handler = 0;
+  grant_source = 0;
+  acknowledge_source = 0;
+}
+
 abbrev pub seat_in : SeatRecord → Option Seat
 seat_in x =
     if x.stands == 0 then None

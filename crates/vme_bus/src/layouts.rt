@@ -1,5 +1,5 @@
 //! What a plan says of each slot and line, as sets and small numbers.
-ghost use Rattle.std.specs.Prelude.{◌≡◌, ◌<◌, ℕ, Some, option_map, length};
+ghost use Rattle.std.specs.Prelude.{◌≡◌, ◌<◌, ℕ, Some, option_map, length, get_or};
 ghost use Rattle.std.specs.List.{slice_get};
 ghost use Rattle.std.specs.Option.{option_copied};
 ghost use Rattle.vme_model.specs.declared.sets.ChainId.TheVariants as chain;
@@ -69,7 +69,8 @@ impl Line {
     }
 }
 
-ghost use Rattle.vme_bus.specs.Layouts.{seat, seat_of, slot_is_on, grant_source, grant_head, acknowledge_head, place_of, HoldsLine};
+ghost use Rattle.vme_bus.specs.Records.{seat_in, no_seat};
+ghost use Rattle.vme_bus.specs.Layouts.{seat_of, slot_is_on, grant_source, grant_head, acknowledge_head, place_of, HoldsLine};
 
 /// Where the head of a grant chain stands, by its level.
 #[inline(always)]
@@ -117,15 +118,23 @@ fn seat_of(plan: &Plan, slot: u8) -> Option<Seat>
     }
 }
 
+/// What stands in a slot.
+fn record_of(plan: &Plan, slot: u8) -> SeatRecord
+    ensures { seat_in result ≡ option_map (seat_of plan.now) (board plan.now slot) }
+{
+    SeatRecord::of(seat_of(plan, slot))
+}
+
 /// The boards of a plan, with their inputs.
 fn seats_of(plan: &Plan) -> [SeatRecord; 22]
     ensures room { length result ≡ 22 }
     ensures seats { (s : ℕ) → s < 22
-        → seat result s ≡ option_map (seat_of plan.now) (board plan.now s) }
+        → seat_in (get_or result s no_seat)
+        ≡ option_map (seat_of plan.now) (board plan.now s) }
 {
     let mut seats = [SeatRecord::of(None); 22];
     for slot in 0..22_u8 {
-        seats[usize::from(slot)] = SeatRecord::of(seat_of(plan, slot));
+        seats[usize::from(slot)] = record_of(plan, slot);
     }
     seats
 }

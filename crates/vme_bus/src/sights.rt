@@ -1,6 +1,6 @@
 //! What a driver sees of a bus.
 ghost use Rattle.std.specs.Prelude.{◌≡◌, ◌<◌};
-ghost use Rattle.vme_model.specs.declared.signals.Driver.TheVariants.{Controller, Slot};
+ghost use Rattle.vme_model.specs.declared.signals.Driver.TheVariants as driver;
 ghost use Rattle.vme_model.specs.declared.signals.Wire.TheVariants as wire;
 ghost use Rattle.vme_model.specs.History.{drive, line, request_line, interrupt_line};
 ghost use Rattle.vme_model.specs.Sets.{bus_levels, irq_levels};
@@ -105,7 +105,7 @@ impl BusState {
     /// Whether BERR* is low.
     #[inline(always)]
     pub(crate) fn berr(&self) -> bool
-        ensures { OfHistory self.now (λ _ _ h. result ≡ drive h Controller wire.Berr) }
+        ensures { OfHistory self.now (λ _ _ h. result ≡ drive h driver.Controller wire.Berr) }
     {
         self.controls.has(BUS_ERROR)
     }
@@ -164,7 +164,7 @@ impl BusState {
     /// What the controller reads on its pins: the lines that all boards share.
     #[inline(always)]
     pub(crate) fn shared(&self) -> Pins
-        ensures { OfHistory self.now (λ _ p h. result ≡ pins p h Controller) }
+        ensures { OfHistory self.now (λ _ p h. result ≡ pins p h driver.Controller) }
     {
         Pins {
             requests: self.requests(),
@@ -184,7 +184,7 @@ impl BusState {
     /// What a board reads on its pins.
     #[inline(always)]
     fn pins_at(&self, slot: u8, seat: &Seat) -> Pins
-        ensures { OfSeat self.now slot seat.now (λ _ p h _. result ≡ pins p h (Slot slot)) }
+        ensures { OfSeat self.now slot seat.now (λ _ p h _. result ≡ pins p h (driver.Slot slot)) }
     {
         let mut pins = self.shared();
         pins.grant_in = self.grant_in(slot, seat);

@@ -1,12 +1,25 @@
 //! Where a bus stands: who holds it, and where a grant travels.
-ghost use Rattle.std.specs.Prelude.{◌≡◌, option_map};
+ghost use Rattle.std.specs.Prelude.{◌≡◌, true, option_map};
+ghost use Rattle.vme_model.specs.Signals.{is_slot};
 ghost use Rattle.vme_model.specs.Stands.{grant_at, holder};
 ghost use Rattle.vme_bus.specs.Steps.{is_stop};
 
 use crate::states::BusState;
 
+/// The most slots of a backplane.
+const MOST_SLOTS: u8 = 21;
+
 impl BusState {
     ghost use Rattle.vme_bus.specs.States.{OfHistory};
+
+    /// Whether it has as many slots as a backplane can have: false of a record that no bus was made in.
+    #[inline(always)]
+    pub fn is_bus(&self) -> bool
+        ensures bus { OfHistory self.now (λ _ _ _. result ≡ true) }
+        ensures slots { result ≡ is_slot self.now.layout.slots }
+    {
+        (1..=MOST_SLOTS).contains(&self.layout.slots)
+    }
 
     /// The slot that holds the bus.
     pub fn holder(&self) -> Option<u8>

@@ -123,7 +123,10 @@ impl BusState {
                 let is_past = self.is_grant_past(level);
                 (3, bg_rise_settles(self.version(), self.bbsy(), is_past))
             }
-            (Wire::Bg(_), true) => (4, bg_fall_settles(self.version(), self.are_grants_through())),
+            (Wire::Bg(_), true) => (
+                4,
+                bg_fall_settles(self.version(), self.are_grants_through()),
+            ),
             _ => (0, A::free()),
         }
     }

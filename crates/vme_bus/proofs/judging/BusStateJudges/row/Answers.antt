@@ -1,6 +1,5 @@
 use Rattle.std.proofs.Common.{◌∙◌, sym, ap}
 use Rattle.std.specs.Prelude.{Some}
-use Rattle.std.specs.Option.{option_copied}
 use Rattle.vme_model.specs.Plan.{board}
 use Rattle.vme_bus.specs.declared.records.Seat.{Seat}
 use Rattle.vme_bus.proofs.OneSlot.{seated, unseated}

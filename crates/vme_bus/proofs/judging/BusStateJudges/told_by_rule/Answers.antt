@@ -1,5 +1,4 @@
 use Rattle.std.proofs.Common.{◌≡◌, ◌∙◌, sym, ap, subst, true, false}
-use Rattle.std.specs.Option.{option_copied}
 use Rattle.vme_model.specs.declared.pins.Pins.{Pins}
 use Rattle.vme_model.specs.Signals.{is_well_formed, has_wire, has_value}
 use Rattle.vme_model.specs.Sets.{has_bus_level}

@@ -1,6 +1,5 @@
-use Rattle.std.proofs.Common.{◌≡◌, ℕ, ◌≤◌, ◌<◌, false, List}
+use Rattle.std.proofs.Common.{◌≡◌, ℕ, ◌≤◌, ◌<◌, false}
 use Rattle.vme_model.specs.declared.signals.Driver.TheVariants.{Slot}
-use Rattle.vme_model.specs.declared.signals.Edge.{Edge}
 use Rattle.vme_model.specs.declared.signals.Wire.TheVariants.{Bbsy}
 use Rattle.vme_model.specs.History.{drive}
 use Rattle.vme_bus.specs.States.{OfHistory}

@@ -11,7 +11,7 @@ pub returns : goal.returns
 returns g c version p h r is found same =
     let reads = readings p h (Slot c.args.slot) in
     subst (λ k. g.A.Outcome.tells c.passes.result k)
-    (ap (λ b. passes (λ level. b) c.args.self.now.shown) (c.asks.ensures version p h r is found same)
-    ∙ ap (λ v. passes (λ level. asks_at reads (shown p h)) v) is.shown
+    (ap (λ b. passes (λ level. b) c.shown.result) (c.asks.ensures version p h r is found same)
+    ∙ ap (λ v. passes (λ level. asks_at reads (shown p h)) v) (c.shown.ensures ∙ is.shown)
     ∙ passed_by reads (shown p h))
     c.passes.ensures

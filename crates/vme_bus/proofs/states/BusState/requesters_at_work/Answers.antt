@@ -10,6 +10,6 @@ returns-else-is_two-is_some c version p h is s off =
     let b = c.args.self.now in
     let t = neither c.is_two.result c.is_some.result c.if-is_two-is_some.false in
     requester_rests version p h b s is
-    (ap is_two (sym is.rules) ∙ sym c.is_two.ensures ∙ t.0)
+    (ap is_two (sym is.rules) ∙ sym (ap is_two c.version.ensures) ∙ sym c.is_two.ensures ∙ t.0)
     (all_high b.grants c.is_some.result c.is_some.ensures.none t.1)
     (sym (c.except-else-is_two-is_some.ensures s ∙ ap (λ x. has b.layout.requesters s && not x) (c.except.ensures s)) ∙ off)

@@ -1,6 +1,6 @@
 use Rattle.std.proofs.Common.{◌∙◌, sym, ap, true}
 use Rattle.std.specs.Prelude.{◌&&◌, Option}
-use Rattle.std.specs.Option.{option_copied, option_map_or}
+use Rattle.std.specs.Option.{option_map_or}
 use Rattle.vme_model.specs.declared.boards.Row.{Row}
 use Rattle.vme_model.specs.declared.signals.Driver.TheVariants.{Slot}
 use Rattle.vme_model.specs.Readings.{readings}
