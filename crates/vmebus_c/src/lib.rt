@@ -1,0 +1,6 @@
+//! The bus for C: a record of numbers that the caller owns, and functions that judge an edge at a time on it.
+#![tactic(auto)]
+
+mod bits;
+mod named;
+mod told;
