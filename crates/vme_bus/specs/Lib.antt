@@ -12,3 +12,5 @@ pub mod Moves
 pub mod Movers
 -- words: the arm of an edge
 pub mod Arms
+-- believe: what an edge is answered and leaves, where a trace has no end
+pub mod Steps

@@ -10,7 +10,9 @@ mod moves;
 mod rules;
 mod sets;
 mod sights;
+mod stands;
 mod states;
+mod steps;
 mod verdicts;
 mod waits;
 

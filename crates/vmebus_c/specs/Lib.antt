@@ -7,3 +7,7 @@ pub mod Named
 pub mod Told
 -- believe: the bits by which C is told pins
 pub mod Bits
+-- believe: what a scenario opens, or by which number it is refused
+pub mod Opened
+-- believe: what an edge that is named, or spelled, is answered and leaves
+pub mod Stepped

@@ -2,5 +2,7 @@
 #![tactic(auto)]
 
 mod bits;
+mod exports;
 mod named;
+mod opens;
 mod told;
