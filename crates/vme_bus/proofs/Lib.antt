@@ -26,3 +26,5 @@ pub mod OneSlot
 pub mod WaitingParts
 -- slots that are in none of the sets at work wait: `BusState::movers` and the parts of it
 pub mod AtWork
+-- where a bus stands: `BusState::holder`, `grant_at` and the parts of it
+pub mod Standing

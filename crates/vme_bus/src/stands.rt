@@ -45,9 +45,9 @@ impl BusState {
         match self.seat(slot) {
             Some(seat) => {
                 seat.row.requests_on(level)
-                    && self.grant_in(slot, seat)
-                    && !self.is_slot_low(slot, Wire::BgOut)
-                    && !self.is_slot_low(slot, Wire::Bbsy)
+                    & self.grant_in(slot, seat)
+                    & !self.is_slot_low(slot, Wire::BgOut)
+                    & !self.is_slot_low(slot, Wire::Bbsy)
             }
             None => false,
         }

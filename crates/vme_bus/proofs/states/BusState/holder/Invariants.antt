@@ -1,0 +1,10 @@
+use Rattle.std.proofs.Common.{◌≡◌, find, None}
+use Rattle.vme_model.specs.declared.signals.Driver.TheVariants.{Slot}
+use Rattle.vme_model.specs.declared.signals.Wire.TheVariants.{Bbsy}
+use Rattle.vme_model.specs.Plan.{up_to}
+use Rattle.vme_model.specs.History.{drive}
+use Rattle.vme_bus.specs.States.{OfHistory}
+use Rattle.vme_bus.proofs.states.BusState.holder.Given as goal
+
+abbrev pub invariant-loop-below : goal.invariant-loop-below
+invariant-loop-below l = OfHistory l.self (λ _ p h. find (λ s. drive h (Slot s) Bbsy) (up_to l.below) ≡ None)
