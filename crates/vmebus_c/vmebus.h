@@ -17,7 +17,7 @@
 extern "C" {
 #endif
 
-#define VMEBUS_WORDS 97
+#define VMEBUS_WORDS 107
 
 /* A bus. Its words are the library's; a bus of zeros is none, and is answered VMEBUS_NO_BUS. */
 struct vmebus {
