@@ -1,5 +1,5 @@
 -- What the text of a scenario opens, or by which number it is refused.
-use Rattle.std.specs.Prelude.{◌≡◌, ◌⊎◌, ◌×◌, ◌<◌, ◌≤◌, ℕ, List, [], length, Option, Some, None, Ok}
+use Rattle.std.specs.Prelude.{◌≡◌, ◌⊎◌, ◌<◌, ◌≤◌, ℕ, List, [], length, Option, Some, None, Ok}
 use Rattle.vme_model.specs.declared.refusals.PlanError.{PlanError}
 use Rattle.vme_model.specs.declared.refusals.PlanError.TheVariants as refusal
 use Rattle.vme_model.specs.declared.signals.Version.{Version}

@@ -24,9 +24,9 @@ answered_or none version p h (Some e) = answer_number (answer_but_full version p
 answered_or none version p h None = none
 
 -- what is told to be delivered
-abbrev pub delivered : Version → Plan → List Edge → Option Edge → ℕ
-delivered version p h (Some e) = delivered_number (answer_but_full version p h e)
-delivered version p h None = 0
+abbrev pub told_delivery : Version → Plan → List Edge → Option Edge → ℕ
+told_delivery version p h (Some e) = delivered_number (answer_but_full version p h e)
+told_delivery version p h None = 0
 
 -- the history with the edge where it is accepted, and else as it was
 abbrev pub followed : Version → Plan → List Edge → Option Edge → List Edge

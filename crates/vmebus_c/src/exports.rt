@@ -12,7 +12,7 @@ ghost use Rattle.vme_bus.specs.States.{IsStateOf, OfHistory};
 ghost use Rattle.vmebus_c.specs.Bits.{pins_number};
 ghost use Rattle.vmebus_c.specs.Named.{version_of_number, driver_of_number, edge_of_numbers};
 ghost use Rattle.vmebus_c.specs.Opened.{IsOpened, IsFault};
-ghost use Rattle.vmebus_c.specs.Stepped.{answered_or, delivered, followed, no_bus, no_driver, no_edge};
+ghost use Rattle.vmebus_c.specs.Stepped.{answered_or, told_delivery, followed, no_bus, no_driver, no_edge};
 
 use crate::bits::pins_number;
 use crate::named::{driver_of, edge_of_numbers, version_of};
@@ -61,7 +61,7 @@ fn step(bus: &mut BusState, edge: Option<Edge>, none: u32, delivered: &mut u32) 
     ensures answer { OfHistory bus.old (λ version p h.
         result ≡ answered_or none version p h edge) }
     ensures delivered { OfHistory bus.old (λ version p h.
-        delivered.new ≡ delivered version p h edge) }
+        delivered.new ≡ told_delivery version p h edge) }
     ensures state { OfHistory bus.old (λ version p h.
         IsStateOf version p (followed version p h edge) bus.new) }
     ensures unchanged { result ≢ 0 → bus.new ≡ bus.old }
@@ -101,7 +101,7 @@ pub fn vmebus_step(
     ensures answer { OfHistory bus.old (λ version p h. result
         ≡ answered_or no_driver version p h (edge_of_numbers driver wire fall value)) }
     ensures delivered { OfHistory bus.old (λ version p h. delivered.new
-        ≡ delivered version p h (edge_of_numbers driver wire fall value)) }
+        ≡ told_delivery version p h (edge_of_numbers driver wire fall value)) }
     ensures state { OfHistory bus.old (λ version p h. IsStateOf version p
         (followed version p h (edge_of_numbers driver wire fall value)) bus.new) }
     ensures unchanged { result ≢ 0 → bus.new ≡ bus.old }
@@ -118,7 +118,7 @@ pub fn vmebus_line(bus: &mut BusState, line: &[u8], delivered: &mut u32) -> u32
     ensures answer { OfHistory bus.old (λ version p h. result
         ≡ answered_or no_edge version p h (edge_of line.now)) }
     ensures delivered { OfHistory bus.old (λ version p h. delivered.new
-        ≡ delivered version p h (edge_of line.now)) }
+        ≡ told_delivery version p h (edge_of line.now)) }
     ensures state { OfHistory bus.old (λ version p h. IsStateOf version p
         (followed version p h (edge_of line.now)) bus.new) }
     ensures unchanged { result ≢ 0 → bus.new ≡ bus.old }
