@@ -3,7 +3,7 @@
 import re
 from dataclasses import dataclass
 
-FUNCTION = re.compile(r"( *)(?:pub(?:\([a-z: ]+\))? )?(?:const |unsafe )*fn (\w+)")
+FUNCTION = re.compile(r'( *)(?:pub(?:\([a-z: ]+\))? )?(?:const |unsafe |extern "C" )*fn (\w+)')
 IMPL = re.compile(r"(?:unsafe )?impl\b")
 NAMED = re.compile(r"(?:pub(?:\([a-z: ]+\))? )?(?:const|static|macro_rules!) (\w+)")
 

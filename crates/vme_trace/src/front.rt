@@ -244,7 +244,7 @@ pub(crate) fn edge_at(text: &[u8]) -> Option<(Edge, &[u8])>
 }
 
 /// The edge that a line spells, without its line feed, if there is one.
-pub(crate) fn edge_of(line: &[u8]) -> Option<Edge>
+pub fn edge_of(line: &[u8]) -> Option<Edge>
     ensures { result ≡ edge_of line.now }
 {
     if line.len() >= LINE {

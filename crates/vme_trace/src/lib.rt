@@ -14,6 +14,7 @@ mod patience;
 mod reader;
 mod writer;
 
+pub use front::edge_of;
 pub use headers::{header_line, header_of};
 pub use input::{pump, pump_with, read_piece};
 pub use patience::Patient;

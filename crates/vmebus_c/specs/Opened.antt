@@ -1,0 +1,55 @@
+-- What the text of a scenario opens, or by which number it is refused.
+use Rattle.std.specs.Prelude.{◌≡◌, ◌⊎◌, ◌<◌, ◌≤◌, ℕ, List, [], length, Option, Some, None, Ok}
+use Rattle.vme_model.specs.declared.refusals.PlanError.{PlanError}
+use Rattle.vme_model.specs.declared.refusals.PlanError.TheVariants as refusal
+use Rattle.vme_model.specs.declared.signals.Version.{Version}
+use Rattle.vme_model.specs.Plan.{Plan}
+use Rattle.vme_scenario.specs.declared.errors.ScenarioError.{ScenarioError}
+use Rattle.vme_scenario.specs.declared.errors.ScenarioError.TheVariants as error
+use Rattle.vme_scenario.specs.Errors.{IsErrorOf}
+use Rattle.vme_scenario.specs.Format.{scenario}
+use Rattle.vme_bus.specs.declared.states.BusState.{BusState}
+use Rattle.vme_bus.specs.States.{IsStateOf}
+
+-- the most bytes of a scenario (profile)
+abbrev pub scenario_limit : ℕ
+scenario_limit = 1048576
+
+-- P1 to P9 by their own numbers
+abbrev pub plan_number : PlanError → ℕ
+plan_number refusal.NoController = 1
+plan_number (refusal.TooManySlots slots) = 2
+plan_number (refusal.SlotTwice slot) = 3
+plan_number (refusal.ChainBroken slot chain) = 4
+plan_number (refusal.LevelNotServed slot) = 5
+plan_number (refusal.HandlerTwice level) = 6
+plan_number (refusal.HandlerWithoutRequester slot) = 7
+plan_number (refusal.OutOfRange field) = 8
+plan_number refusal.Memory = 9
+
+-- and Q1 to Q4 and Q6 from 11 on
+abbrev pub fault_number : ScenarioError → ℕ
+fault_number error.NotToml = 11
+fault_number (error.UnknownKey key) = 12
+fault_number (error.Missing key) = 13
+fault_number (error.BadValue key) = 14
+fault_number (error.Plan e) = plan_number e
+fault_number error.Memory = 16
+
+-- F2 is 20: the scenario is too long; and else it is the first fault of the scenario
+abbrev pub IsScenarioFault : List ℕ → ℕ → Type 0
+IsScenarioFault text n =
+    ((scenario_limit < length text) × (n ≡ 20))
+    ⊎ ((e : ScenarioError) × (length text ≤ scenario_limit) × IsErrorOf (scenario text) e
+    × (n ≡ fault_number e))
+
+-- X1 is 31: there is no such version
+abbrev pub IsFault : Option Version → List ℕ → ℕ → Type 0
+IsFault None text n = n ≡ 31
+IsFault (Some version) text n = IsScenarioFault text n
+
+-- the bus of the scenario's plan under the rules of that version, before any edge
+abbrev pub IsOpened : Option Version → List ℕ → BusState → Type 0
+IsOpened None text b = ⊥
+IsOpened (Some version) text b =
+    (p : Plan) × (length text ≤ scenario_limit) × (scenario text ≡ Ok p) × IsStateOf version p [] b

@@ -1,0 +1,8 @@
+//! The bus for C: a record of numbers that the caller owns, and functions that judge an edge at a time on it.
+#![tactic(auto)]
+
+mod bits;
+mod exports;
+mod named;
+mod opens;
+mod told;
