@@ -6,8 +6,6 @@ pub mod Boards
 pub mod Seats
 -- before any edge: `BusState::new`
 pub mod PowerUp
--- what the numbers say of the arbiter: `BusState::arbiter`
-pub mod Arbiters
 -- what the sets of slots say of the lines that boards pull: `BusState::bbsy`, `request` and their like
 pub mod Lines
 -- what a board reads at its inputs: `BusState::grant_in`, `iack_in`

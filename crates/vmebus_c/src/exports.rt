@@ -1,8 +1,7 @@
 //! What C calls. Its header is `vmebus.h`.
 //!
 //! No function has a condition: each argument is tested, and each is answered.
-ghost use Rattle.std.specs.Prelude.{◌≡◌, ◌≢◌, ◌<◌, false, unwrap_or};
-ghost use Rattle.std.specs.Option.{option_map_or};
+ghost use Rattle.std.specs.Prelude.{◌≡◌, ◌≢◌, ◌<◌, false, option_map, unwrap_or};
 ghost use Rattle.vme_model.specs.Signals.{is_slot};
 ghost use Rattle.vme_model.specs.declared.signals.Driver.TheVariants.{Controller};
 ghost use Rattle.vme_model.specs.Stands.{holder, grant_at};
@@ -23,6 +22,11 @@ use vme_bus::BusState;
 use vme_model::{Driver, Edge};
 use vme_trace::edge_of;
 
+/// How many words of C a bus has, as its header says.
+const WORDS: usize = 107;
+
+const _: () = prove!(size_of::<BusState>() == 4 * WORDS);
+
 /// What is answered where the struct is no bus.
 const NO_BUS: u32 = 0xffff_ffff;
 
@@ -37,7 +41,13 @@ const NO_EDGE: u32 = 0x500;
 /// Answers 0, or the number of the first fault: 31 where there is no such version; 20 where the scenario has more than
 /// 1,048,576 bytes; 1 to 9 for P1 to P9, and 11 to 14 and 16 for Q1 to Q4 and Q6. Want of memory, 9 or 16, may be answered
 /// in place of any of the scenario's. At a fault the bus is as it was.
-pub fn vmebus_open(bus: &mut BusState, version: u32, scenario: &[u8], alloc: Global) -> u32
+#[unsafe(no_mangle)]
+pub extern "C" fn vmebus_open(
+    bus: &mut BusState,
+    version: u32,
+    scenario: &[u8],
+    alloc: Global,
+) -> u32
     ensures opened { result ≡ 0 → IsOpened (version_of_number version) scenario.now bus.new }
     ensures fault { result ≢ 0 → IsFault (version_of_number version) scenario.now result }
     ensures unchanged { result ≢ 0 → bus.new ≡ bus.old }
@@ -90,7 +100,8 @@ fn step(bus: &mut BusState, edge: Option<Edge>, none: u32, delivered: &mut u32) 
 /// accepted leaves the bus as it was.
 ///
 /// What is delivered is 0, or level << 24 | handler << 16 | slot << 8 | status, with bit 31 set.
-pub fn vmebus_step(
+#[unsafe(no_mangle)]
+pub extern "C" fn vmebus_step(
     bus: &mut BusState,
     driver: u32,
     wire: u32,
@@ -114,7 +125,8 @@ pub fn vmebus_step(
 /// Judges the edge that a line of a trace spells, without its line feed, and takes it in where it is accepted.
 ///
 /// Answers as `vmebus_step`, and 0x500 where the line spells no edge.
-pub fn vmebus_line(bus: &mut BusState, line: &[u8], delivered: &mut u32) -> u32
+#[unsafe(no_mangle)]
+pub extern "C" fn vmebus_line(bus: &mut BusState, line: &[u8], delivered: &mut u32) -> u32
     ensures answer { OfHistory bus.old (λ version p h. result
         ≡ answered_or no_edge version p h (edge_of line.now)) }
     ensures delivered { OfHistory bus.old (λ version p h. delivered.new
@@ -128,16 +140,18 @@ pub fn vmebus_line(bus: &mut BusState, line: &[u8], delivered: &mut u32) -> u32
 }
 
 /// The slot that holds the bus, or 0.
-pub fn vmebus_holder(bus: &BusState) -> u32
+#[unsafe(no_mangle)]
+pub extern "C" fn vmebus_holder(bus: &BusState) -> u32
     ensures { OfHistory bus.now (λ _ p h. result ≡ unwrap_or (holder p h) 0) }
 {
     u32::from(bus.holder().unwrap_or(0))
 }
 
 /// The slot at which a grant travels, or 0.
-pub fn vmebus_grant_at(bus: &BusState) -> u32
+#[unsafe(no_mangle)]
+pub extern "C" fn vmebus_grant_at(bus: &BusState) -> u32
     ensures { OfHistory bus.now (λ _ p h. result
-        ≡ option_map_or (λ at. at.1) (grant_at p h) 0) }
+        ≡ unwrap_or (option_map (λ at. at.1) (grant_at p h)) 0) }
 {
     u32::from(bus.grant_at().unwrap_or(0))
 }
@@ -147,7 +161,8 @@ pub fn vmebus_grant_at(bus: &BusState) -> u32
 /// Bits 0 to 3 are BR0* to BR3*, 4 BBSY*, 5 BCLR*, 6 AS*, 7 DS0*, 8 DTACK*, 9 BERR*, 10 the own grant-in, 11 the own iackin,
 /// 12 to 18 IRQ1* to IRQ7*; bits 24 to 29 are what is shown, as the value of an edge. A driver that there is not reads as
 /// the controller does.
-pub fn vmebus_pins(bus: &BusState, driver: u32) -> u32
+#[unsafe(no_mangle)]
+pub extern "C" fn vmebus_pins(bus: &BusState, driver: u32) -> u32
     ensures { OfHistory bus.now (λ _ p h. result
         ≡ pins_number (pins p h (unwrap_or (driver_of_number driver) Controller))) }
 {

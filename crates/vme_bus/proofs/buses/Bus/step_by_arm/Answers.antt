@@ -1,10 +1,9 @@
-use Rattle.std.proofs.Common.{◌≡◌, ◌∙◌, sym, ap, subst, ℕ, true, false, List, ◌∷◌, length, ◌+◌, ◌≤◌}
-use Rattle.std.specs.Prelude.{◌==◌, is_ok}
+use Rattle.std.proofs.Common.{◌≡◌, ◌∙◌, sym, ap, subst, true, false, List, length}
+use Rattle.std.specs.Prelude.{◌==◌}
 use Rattle.vme_model.specs.declared.signals.Edge.{Edge}
 use Rattle.vme_model.specs.Deliveries.{answer}
 use Rattle.vme_model.specs.Verdict.{State, after}
 use Rattle.vme_bus.specs.States.{IsStateOf}
-use Rattle.vme_bus.specs.Steps.{kept_but_full}
 use Rattle.vme_bus.proofs.Room.{answer_with_room, after_with_room, after_without_room, kept_where, one_more}
 use Rattle.vme_bus.proofs.buses.Bus.step_by_arm.Goals as goal
 
