@@ -2,8 +2,8 @@
  *
  *     any_words SCENARIO TRACE [ROUNDS]
  *
- * The numbers are drawn from a fixed seed. Some records are of drawn words, and some of a bus with a few words changed. It
- * ends with status 1 where a refusal changed a bus, or an answer is none that the header names. */
+ * The numbers are drawn from a fixed seed. The records are those of a bus on which the trace is made, with few or all of their
+ * words drawn. It ends with status 1 where a refusal changed a bus, or an answer is none that the header names. */
 #include <stdio.h>
 #include <stdlib.h>
 #include <string.h>
@@ -40,15 +40,29 @@ static size_t read_some(const char *path, uint8_t *text, size_t room) {
     return bytes;
 }
 
-/* Draws a record: of any words, of small bytes, or of an opened bus with up to four words or bytes changed. */
-static void draw_bus(struct vmebus *bus, const struct vmebus *opened) {
+/* Draws a record: of a bus with many words drawn, of small bytes, or of a bus with up to four words or bytes changed. */
+static void draw_bus(struct vmebus *bus, const struct vmebus *from) {
     uint8_t *bytes = (uint8_t *)bus->words;
-    uint32_t kind = draw() % 4;
-    *bus = *opened;
-    for (size_t at = 0; kind == 0 && at < VMEBUS_WORDS; at++) bus->words[at] = draw();
+    uint32_t kind = draw() % 4, drawn = 1 + draw() % 8;
+    *bus = *from;
+    for (size_t at = 0; kind == 0 && at < VMEBUS_WORDS; at++)
+        if (draw() % 8 < drawn) bus->words[at] = draw();
     for (size_t at = 0; kind == 1 && at < sizeof *bus; at++) bytes[at] = (uint8_t)(draw() % 24);
     for (uint32_t left = draw() % 5; kind == 2 && left > 0; left--) bus->words[draw() % VMEBUS_WORDS] = draw();
     for (uint32_t left = draw() % 5; kind == 3 && left > 0; left--) bytes[draw() % sizeof *bus] = (uint8_t)draw();
+}
+
+/* Makes the next edge of the trace, or begins it again. */
+static void go_on(struct vmebus *bus, const struct vmebus *opened, const uint8_t *trace, size_t bytes, size_t *at) {
+    uint32_t told;
+    const uint8_t *feed = memchr(trace + *at, '\n', bytes - *at);
+    if (feed) {
+        vmebus_line(bus, trace + *at, (size_t)(feed - trace) - *at, &told);
+        *at = (size_t)(feed - trace) + 1;
+    } else {
+        *bus = *opened;
+        *at = 6;
+    }
 }
 
 /* Looks at an answer to an edge on a bus that was as `before`. */
@@ -111,9 +125,12 @@ int main(int count, char **words) {
     if (vmebus_line(&opened, trace, 0, &told) != VMEBUS_NO_BUS) fail("a bus of zeros that is one", 0);
     if (vmebus_open(&opened, 1, scenario, scenario_bytes) != 0) fail("a scenario that opens no bus", 0);
 
+    struct vmebus running = opened;
+    size_t at = 6;
     bus = opened;
     for (unsigned long round = 1; round <= rounds; round++) {
-        if (round % 4 == 0) draw_bus(&bus, &opened);
+        go_on(&running, &opened, trace, trace_bytes, &at);
+        if (round % 4 == 0) draw_bus(&bus, &running);
         if (round % 512 == 0) open_round(&bus, scenario, scenario_bytes, round);
         step_round(&bus, trace, trace_bytes, round);
     }

@@ -107,11 +107,13 @@ int main(int count, char **words) {
     }
     size_t scenario_bytes, trace_bytes;
     uint8_t *scenario = read_file(words[1], &scenario_bytes), *trace = read_file(words[2], &trace_bytes);
-    struct vmebus by_line;
+    uint32_t version = version_of(trace, trace_bytes);
+    struct vmebus by_line, by_numbers;
     memset(&by_line, 0, sizeof by_line);
-    uint32_t fault = vmebus_open(&by_line, version_of(trace, trace_bytes), scenario, scenario_bytes);
+    memset(&by_numbers, 0xff, sizeof by_numbers);
+    uint32_t fault = vmebus_open(&by_line, version, scenario, scenario_bytes);
+    if (fault == 0) fault = vmebus_open(&by_numbers, version, scenario, scenario_bytes);
     if (fault != 0) fail("the bus is not opened: fault", fault);
-    struct vmebus by_numbers = by_line;
 
     unsigned long accepted = 0, refused = 0;
     const uint8_t *end = trace + trace_bytes, *line = trace + 6, *feed;

@@ -31,24 +31,26 @@ pub enum Line {
 }
 
 /// What a plan says of each slot and line, as numbers alone.
+///
+/// The sets stand first, so that no bytes lie between the fields: equal records have equal bytes.
 #[repr(C)]
 #[derive(Clone, Copy)]
 pub struct Layout {
-    pub seats: [SeatRecord; 22],
     /// The slots that can pull BR0* to BR3*.
     pub requests: [SlotSet; 4],
     /// The slots that can pull IRQ1* to IRQ7*, from place 1 on.
     pub interrupts: [SlotSet; 8],
+    /// The slots of boards with a requester.
+    pub requesters: SlotSet,
+    /// The slots of boards with an interrupter.
+    pub interrupters: SlotSet,
+    pub seats: [SeatRecord; 22],
     /// Where the last segments of the grant chains stand.
     pub grant_ends: [u8; 4],
     /// Where the last segment of the acknowledge chain stands.
     pub acknowledge_end: u8,
     /// How many slots the backplane has.
     pub slots: u8,
-    /// The slots of boards with a requester.
-    pub requesters: SlotSet,
-    /// The slots of boards with an interrupter.
-    pub interrupters: SlotSet,
 }
 
 impl Line {
