@@ -15,7 +15,7 @@ mod reader;
 mod writer;
 
 pub use headers::{header_line, header_of};
-pub use input::{pump, pump_with, read_piece};
+pub use input::{pump, pump_counted, pump_with, read_piece};
 pub use patience::Patient;
 pub use reader::{Reader, parse};
 use thiserror::Error;
