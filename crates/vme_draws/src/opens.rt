@@ -5,7 +5,7 @@ ghost use Rattle.vme_model.specs.Open.{open_edges};
 ghost use Rattle.vme_draws.specs.Choices.{all_open};
 
 use arrayvec::ArrayVec;
-use vme_backplane::Backplane;
+use vme_bus::Bus;
 use vme_model::{Driver, Edge};
 
 /// The most open edges: 36 of each of 22 drivers.
@@ -22,24 +22,20 @@ fn append(edges: &mut ArrayVec<Edge, OPEN_EDGES>, others: &[Edge])
 }
 
 /// Puts the open edges of drivers, in their order, where there are none.
-fn append_open(
-    backplane: &Backplane<'_>,
-    drivers: &[Driver],
-    edges: &mut ArrayVec<Edge, OPEN_EDGES>,
-)
+fn append_open(bus: &Bus, drivers: &[Driver], edges: &mut ArrayVec<Edge, OPEN_EDGES>)
     requires empty { edges.old.items ≡ [] }
     requires few { length drivers.now ≤ 22 }
-    ensures { edges.new.items ≡ flat_map (open_edges backplane.now) drivers.now }
+    ensures { edges.new.items ≡ flat_map (open_edges bus.now) drivers.now }
 {
     for driver in drivers {
-        append(edges, backplane.open_edges(*driver).as_slice());
+        append(edges, bus.open_edges(*driver).as_slice());
     }
 }
 
 /// Lists the open edges of all drivers: the controller's, then each board's by slot.
-pub(crate) fn all_open(backplane: &Backplane<'_>, edges: &mut ArrayVec<Edge, OPEN_EDGES>)
-    ensures { edges.new.items ≡ all_open backplane.now }
+pub(crate) fn all_open(bus: &Bus, edges: &mut ArrayVec<Edge, OPEN_EDGES>)
+    ensures { edges.new.items ≡ all_open bus.now }
 {
     edges.clear();
-    append_open(backplane, backplane.plan().drivers().as_slice(), edges);
+    append_open(bus, bus.plan().drivers().as_slice(), edges);
 }

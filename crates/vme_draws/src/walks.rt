@@ -1,9 +1,9 @@
 //! A walk, whose next edge is drawn.
 ghost use Rattle.std.specs.Prelude.{◌≡◌, IfSome, Ok, slice_get};
-ghost use Rattle.vme_model.specs.Report.{at_power_up};
+ghost use Rattle.vme_model.specs.Report.{at_power_up, trace_limit};
 ghost use Rattle.vme_model.specs.Verdict.{verdict};
 ghost use Rattle.vme_draws.specs.Kinds.{of_kind};
-ghost use Rattle.vme_draws.specs.Walks.{at_start, chosen, drawn, next_edge, walked, with_edge};
+ghost use Rattle.vme_draws.specs.Walks.{at_start, chosen, drawn, next_edge, with_edge};
 
 use crate::chances::Chances;
 use crate::kinds::Kind;
@@ -15,19 +15,19 @@ use arrayvec::ArrayVec;
 use rand_core::utils::NextWord;
 use rand_pcg::Pcg32;
 use std::marker::Model;
-use vme_backplane::{Backplane, Trace};
+use vme_bus::Bus;
 use vme_model::{Edge, Version};
 use vme_slots::Plan;
 
-/// A walk: a backplane whose next edge is drawn among all that the rules allow, by the numbers of a
+/// A walk: a bus whose next edge is drawn among all that the rules allow, by the numbers of a
 /// seed.
 ///
 /// First a kind of edge is drawn, by the kinds' weights and how many of each were made, and then one
 /// of its open edges.
 #[derive(Drop)]
-pub struct Walk<'r> {
+pub struct Walk {
     seed: u64,
-    backplane: Backplane<'r>,
+    bus: Bus,
     numbers: Pcg32,
     weights: Weights,
     made: Tally,
@@ -35,7 +35,7 @@ pub struct Walk<'r> {
     open: ArrayVec<Edge, OPEN_EDGES>,
 }
 
-impl<'r> Model for Walk<'r> {
+impl Model for Walk {
     ghost use Rattle.std.specs.Prelude.{◌≡◌, slice_index};
     ghost use Rattle.vme_draws.specs.declared.kinds.Kind.{Kind as KindOf};
     ghost use Rattle.vme_draws.specs.Kinds.{number};
@@ -46,11 +46,11 @@ impl<'r> Model for Walk<'r> {
 
     ghost Value = { WalkValue };
 
-    ghost view = { λ w. record { seed = w.seed; state = w.backplane; numbers = w.numbers } };
+    ghost view = { λ w. record { seed = w.seed; state = w.bus; numbers = w.numbers } };
 
     ghost invariant = { λ w.
         ((k : KindOf) → slice_index w.weights.by_kind (number k) ≡ weight (generator w.seed) k)
-        × AreCounts w.backplane.plan w.backplane.history w.made.counts };
+        × AreCounts w.bus.plan w.bus.history w.made.counts };
 }
 
 /// Of the edges of a kind the one at a place.
@@ -69,16 +69,16 @@ fn edge_of(plan: &Plan, edges: &[Edge], kind: Kind, place: u32) -> Option<Edge>
     None
 }
 
-impl<'r> Walk<'r> {
+impl Walk {
     /// A walk before its first edge.
-    pub fn new(plan: Plan, trace: Trace<'r>, version: Version, seed: u64) -> Walk<'r>
-        ensures { result ≡ at_start (at_power_up version plan trace.entry) seed }
+    pub fn new(plan: Plan, version: Version, seed: u64) -> Walk
+        ensures { result ≡ at_start (at_power_up version plan trace_limit) seed }
     {
         let mut numbers = Pcg32::new(seed, 0);
         let weights = Weights::draw(&mut numbers);
         Walk {
             seed,
-            backplane: Backplane::new(plan, trace, version),
+            bus: Bus::new(plan, version),
             numbers,
             weights,
             made: Tally::new(),
@@ -91,9 +91,9 @@ impl<'r> Walk<'r> {
         ensures edge { result ≡ chosen self.old first second }
         ensures kept { self.new ≡ self.old }
     {
-        all_open(&self.backplane, &mut self.open);
+        all_open(&self.bus, &mut self.open);
         let edges = self.open.as_slice();
-        let plan = self.backplane.plan();
+        let plan = self.bus.plan();
         let ready = Tally::of(plan, edges);
         let chances = Chances::new(&self.weights, &self.made, &ready);
         let kind = chances.kind_at(scaled(first, chances.sum()))?;
@@ -117,27 +117,15 @@ impl<'r> Walk<'r> {
         requires { verdict self.old.state edge ≡ Ok tt }
         ensures { self.new ≡ with_edge self.old edge }
     {
-        self.backplane.laws();
-        self.made.add(self.backplane.plan(), &edge);
-        let _ = self.backplane.step(edge);
+        self.bus.laws();
+        self.made.add(self.bus.plan(), &edge);
+        let _ = self.bus.step(edge);
     }
 
-    /// Draws edges and makes them, so many, or until none is open.
-    pub fn take(&mut self, edges: u32)
-        ensures { self.new ≡ walked edges self.old }
-    {
-        for _made in 0..edges {
-            match self.draw() {
-                Some(edge) => self.make(edge),
-                None => return,
-            }
-        }
-    }
-
-    /// The backplane, with the edges that were made.
-    pub fn backplane(&self) -> &Backplane<'r>
+    /// The bus, with the edges that were made.
+    pub fn bus(&self) -> &Bus
         ensures { result.now ≡ self.now.state }
     {
-        &self.backplane
+        &self.bus
     }
 }

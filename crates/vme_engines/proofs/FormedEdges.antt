@@ -10,6 +10,7 @@ use Rattle.vme_model.specs.Locality.{AreWellFormed}
 use Rattle.vme_model.specs.Text.{TextFault, no_header, too_long, cut_off, split_lines, read_lines, before_others, behind_header, read_from_header, is_too_long, version_of, edge_of, next_number, unread, read_of}
 use Rattle.vme_trace.specs.declared.Fault.{Fault}
 use Rattle.vme_trace.specs.Reading as trace
+use Rattle.vme_trace.specs.Pieces.{PumpedUpTo}
 use Rattle.vme_trace.proofs.OneSpelling.{reads}
 use Rattle.vme_engines.specs.Steps.{Comes}
 use Rattle.vme_engines.specs.Front.{Starts}
@@ -61,7 +62,7 @@ formed_read_by reader bytes es h = subst AreWellFormed h.edges (formed_read byte
 -- ---- read by read
 
 pub formed_piece : (at to : Option (List ℕ)) (bytes : List ℕ) (next : trace.ReaderState) (es new : List Edge) (answer : Result Bool Fault)
-    → trace.Pumped at to bytes es [] new next answer → AreWellFormed new
+    → PumpedUpTo 69632 at to bytes es [] new next answer → AreWellFormed new
 formed_piece at to bytes next es new (Ok true) h = rw h.4.1 (formed_both es h.4.0 (formed_read_by next (bytes ++ h.0) (es ++ h.4.0) h.4.2)).1
 formed_piece at to bytes next es new (Ok false) h = rw h.2 refl
 formed_piece at to bytes next es new (Err f) h = elim h [

@@ -9,6 +9,7 @@ use Rattle.vme_model.specs.Text.{TextFault, no_header, no_edge, too_long, cut_of
 use Rattle.vme_trace.specs.declared.Fault.{Fault}
 use Rattle.vme_trace.specs.declared.Fault.TheVariants.{Read, Memory, Failed, Write}
 use Rattle.vme_trace.specs.Reading as trace
+use Rattle.vme_trace.specs.Pieces.{PumpedUpTo, StopsUpTo}
 use Rattle.vme_engines.specs.Streams.{IsInput}
 use Rattle.vme_engines.specs.Steps.{IsBounded, IsCounted, Begins, Comes}
 use Rattle.vme_engines.proofs.TraceSoFar.{reads_on, few_edges, unknown_version}
@@ -29,11 +30,11 @@ reading_of text head from to reader left es h = record { later = h.0; taken = h.
 
 -- the edges of a trace that is being read are few
 pub few : (text head : List ℕ) (from at : Option (List ℕ)) (reader : trace.ReaderState) (left : ℕ) (es : List Edge)
-    → IsReading text head from at reader left es → length es ≤ 2 ^ 34
+    → IsReading text head from at reader left es → length es ≤ 2 ^ 41
 few text head from at reader left es r =
     let bound : length (read_of (head ++ r.later)).edges ≤ length (head ++ r.later) = few_edges (head ++ r.later) in
     let all : length (read_of (head ++ r.later)).edges ≡ length es = ap length r.read.edges in
-    let bounded : length (head ++ r.later) + 512 * left ≤ 2 ^ 34 = r.bounded in
+    let bounded : length (head ++ r.later) + 69632 * left ≤ 2 ^ 41 = r.bounded in
     omega arith
 
 pub begins_more : (v : Version) (r : trace.ReaderState) (bytes : List ℕ) (es : List Edge) → trace.HasRead r bytes es → r.version ≡ Some v → (more : List ℕ) → Begins (read_of (bytes ++ more)) v es
@@ -51,16 +52,16 @@ module _ (text head : List ℕ) (from at to : Option (List ℕ)) (reader next : 
   behind : (piece : List ℕ) → (head ++ r.later) ++ piece ≡ head ++ (r.later ++ piece)
   behind piece = append_assoc head r.later piece
 
-  came_true : trace.Pumped at to (head ++ r.later) es [] new next (Ok true) → Comes from to text head left next (es ++ new) (Ok true)
+  came_true : PumpedUpTo 69632 at to (head ++ r.later) es [] new next (Ok true) → Comes from to text head left next (es ++ new) (Ok true)
   came_true h =
       let same : new ≡ h.4.0 = h.4.1 in
       let read : trace.HasRead next ((head ++ r.later) ++ h.0) (es ++ new) = rw same h.4.2 in
       let length_is : length (head ++ (r.later ++ h.0)) ≡ length (head ++ r.later) + length h.0 = ap length (sym (behind h.0)) ∙ length-append (head ++ r.later) h.0 in
-      let bounded : length (head ++ r.later) + 512 * (left + 1) ≤ 2 ^ 34 = r.bounded in
-      let short : length h.0 ≤ 512 = h.2 in
+      let bounded : length (head ++ r.later) + 69632 * (left + 1) ≤ 2 ^ 41 = r.bounded in
+      let short : length h.0 ≤ 69632 = h.2 in
       (r.later ++ h.0, joined h.0 h.3, omega arith, subst (λ (l : List ℕ). trace.HasRead next l (es ++ new)) (behind h.0) read)
 
-  came_false : trace.Pumped at to (head ++ r.later) es [] new next (Ok false) → Comes from to text head left next (es ++ new) (Ok false)
+  came_false : PumpedUpTo 69632 at to (head ++ r.later) es [] new next (Ok false) → Comes from to text head left next (es ++ new) (Ok false)
   came_false h =
       (r.later, Consumes-kept from at to (text ++ (head ++ r.later)) r.taken h.1, h.0, h.4, r.read.edges ∙ sym (append-nil es) ∙ ap (λ l. es ++ l) (sym h.2), h.5)
 
@@ -81,7 +82,7 @@ module _ (text head : List ℕ) (from at to : Option (List ℕ)) (reader next : 
         ),
       )
 
-  came_fault : (f : Fault) → trace.StopsWithin at to (head ++ r.later) es [] new next f → Comes from to text head left next (es ++ new) (Err f)
+  came_fault : (f : Fault) → StopsUpTo 69632 at to (head ++ r.later) es [] new next f → Comes from to text head left next (es ++ new) (Err f)
   came_fault f h =
       let same : new ≡ h.1 = h.4 in
       let stops : trace.HasFaultAfter (read_of (((head ++ r.later) ++ h.0) ++ unwrap_or to [])) next.version (es ++ new) f = rw same h.5.1 in (
@@ -90,13 +91,13 @@ module _ (text head : List ℕ) (from at to : Option (List ℕ)) (reader next : 
         inr (subst (λ (l : List ℕ). trace.HasFaultAfter (read_of (l ++ unwrap_or to [])) next.version (es ++ new) f) (behind h.0) stops),
       )
 
-  pub came : (answer : Result Bool Fault) → trace.Pumped at to (head ++ r.later) es [] new next answer → Comes from to text head left next (es ++ new) answer
+  pub came : (answer : Result Bool Fault) → PumpedUpTo 69632 at to (head ++ r.later) es [] new next answer → Comes from to text head left next (es ++ new) answer
   came (Ok true) h = came_true h
   came (Ok false) h = came_false h
   came (Err f) h = elim h [ inl failed ↦ came_read f failed | inr stopped ↦ came_fault f stopped ]
 
   -- the version stays known
-  pub stays_known : (v : Version) → reader.version ≡ Some v → (answer : Result Bool Fault) → trace.Pumped at to (head ++ r.later) es [] new next answer → next.version ≡ Some v
+  pub stays_known : (v : Version) → reader.version ≡ Some v → (answer : Result Bool Fault) → PumpedUpTo 69632 at to (head ++ r.later) es [] new next answer → next.version ≡ Some v
   stays_known v known (Ok true) h = sym h.4.2.version ∙ (reads_on v reader (head ++ r.later) es r.read known h.0).2
   stays_known v known (Ok false) h = h.4 ∙ r.read.version ∙ known
   stays_known v known (Err f) h = elim h [
@@ -105,28 +106,28 @@ module _ (text head : List ℕ) (from at to : Option (List ℕ)) (reader next : 
         ∙ (reads_on v reader (head ++ r.later) es r.read known (stopped.0 ++ unwrap_or to [])).2
   ]
 
-pub counted_few : (reader : trace.ReaderState) (left judged : ℕ) → IsCounted reader left judged → judged ≤ 2 ^ 34
+pub counted_few : (reader : trace.ReaderState) (left judged : ℕ) → IsCounted reader left judged → judged ≤ 2 ^ 41
 counted_few reader left judged r =
     let bound : length (read_of r.bytes).edges ≤ length r.bytes = few_edges r.bytes in
     let all : length (read_of r.bytes).edges ≡ length r.es = ap length r.read.edges in
-    let bounded : length r.bytes + 512 * left ≤ 2 ^ 34 = r.bounded in
+    let bounded : length r.bytes + 69632 * left ≤ 2 ^ 41 = r.bounded in
     let count : judged ≡ length r.es = r.count in
     omega arith
 
 pub counted_more : (at to : Option (List ℕ)) (reader next : trace.ReaderState) (left judged : ℕ) (new : List Edge) (r : IsCounted reader (left + 1) judged)
-    → trace.Pumped at to r.bytes r.es [] new next (Ok true) → IsCounted next left (judged + length new)
+    → PumpedUpTo 69632 at to r.bytes r.es [] new next (Ok true) → IsCounted next left (judged + length new)
 counted_more at to reader next left judged new r h =
     let same : new ≡ h.4.0 = h.4.1 in
     let longer = length-append r.bytes h.0 in
     let more = length-append r.es new in
-    let bounded : length r.bytes + 512 * (left + 1) ≤ 2 ^ 34 = r.bounded in
-    let short : length h.0 ≤ 512 = h.2 in
+    let bounded : length r.bytes + 69632 * (left + 1) ≤ 2 ^ 41 = r.bounded in
+    let short : length h.0 ≤ 69632 = h.2 in
     let count : judged ≡ length r.es = r.count in
     record { bytes = r.bytes ++ h.0; es = r.es ++ new; read = rw same h.4.2; bounded = omega (arith, longer); count = omega (arith, more) }
 
 -- a read before the header line
 pub opens_more : (from at to : Option (List ℕ)) (reader next : trace.ReaderState) (left : ℕ) (new : List Edge) (r : IsReading [] [] from at reader (left + 1) [])
-    → trace.Pumped at to r.later [] [] new next (Ok true) → next.version ≡ None → IsReading [] [] from to next left [] × (new ≡ [])
+    → PumpedUpTo 69632 at to r.later [] [] new next (Ok true) → next.version ≡ None → IsReading [] [] from to next left [] × (new ≡ [])
 opens_more from at to reader next left new r h unknown =
     let all : IsReading [] [] from to next left new = reading_of [] [] from to next left new (came [] [] from at to reader next left [] new r (Ok true) h) in
     let none : new ≡ [] = sym all.read.edges ∙ (unknown_version all.later (all.read.version ∙ unknown)).0 in

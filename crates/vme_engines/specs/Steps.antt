@@ -31,9 +31,9 @@ IsNoPlan text _ = ⊥
 
 -- ---- reading
 
--- room for so many reads keeps every count far from its limit
+-- room for so many reads, of a piece each, keeps every count far from its limit
 abbrev pub IsBounded : List ℕ → ℕ → Type 0
-IsBounded bytes left = length bytes + 512 * left ≤ 2 ^ 34
+IsBounded bytes left = length bytes + 69632 * left ≤ 2 ^ 41
 
 -- a trace of this version begins with these edges
 pub record Begins (r : Reading) (v : Version) (es : List Edge) : Type 0 where

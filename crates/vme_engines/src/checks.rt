@@ -118,6 +118,7 @@ impl Judge for Checking {
         &mut self,
         edges: &[Edge],
         more: Result<bool, Fault>,
+        _paused: bool,
         _out: &mut W,
     ) -> Result<Option<Finding>, Fault> {
         check_piece(&mut self.bus, &mut self.judged, edges, more)

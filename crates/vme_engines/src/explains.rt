@@ -132,6 +132,7 @@ impl Judge for Explaining<'_> {
         &mut self,
         edges: &[Edge],
         more: Result<bool, Fault>,
+        _paused: bool,
         out: &mut W,
     ) -> Result<Option<Told>, Fault> {
         explain_piece(&mut self.following, self.edge, edges, more, out)

@@ -47,6 +47,10 @@ pub const SCENARIO_LIMIT: usize = 1_048_576;
 /// The most reads of one engine.
 pub const READS: u32 = 16_777_216;
 
+/// How many bytes of a trace are asked for at once: more than a pipe or a terminal has waiting, so that their pieces are
+/// short. Of a file the last piece alone is.
+const PIECE: usize = 69_632;
+
 /// How an engine ended that met no fault.
 #[derive(Clone, Copy, PartialEq, Eq, Debug)]
 pub enum Status {

@@ -6,9 +6,10 @@ ghost use Rattle.vme_trace.specs.declared.Fault.{Fault};
 ghost use Rattle.vme_engines.specs.Steps.{IsCounted};
 ghost use Rattle.vme_engines.specs.Pieces.{ReadsOn};
 
+use crate::PIECE;
 use std::io::{Read, Write};
 use vme_model::Edge;
-use vme_trace::{Fault, Reader, pump};
+use vme_trace::{Fault, Reader, pump_counted};
 
 /// What an engine does with the edges of a trace, in the order in which they come.
 pub(crate) trait Judge {
@@ -25,11 +26,13 @@ pub(crate) trait Judge {
 
     /// Takes the edges of a piece. None where it has no answer yet, and the trace goes on.
     ///
-    /// `more` is what the read of the piece answered.
+    /// `more` is what the read of the piece answered. Where whoever writes the trace has `paused` behind it, all that is
+    /// written so far is to be handed on.
     fn take<W: Write>(
         &mut self,
         edges: &[Edge],
         more: Result<bool, Fault>,
+        paused: bool,
         out: &mut W,
     ) -> Result<Option<Self::Answer>, Fault>
         requires count { count self.old + length edges.now < 2 ^ 64 }
@@ -50,6 +53,9 @@ pub(crate) trait Judge {
 }
 
 /// Reads a trace on whose first piece was read, with at most so many further reads, and gives what the engine answers.
+///
+/// Behind the first piece and each one that is shorter than was asked for, the engine hands on what it has written, since
+/// the next read may wait for whoever reads that.
 pub(crate) fn read_on<J: Judge, R: Read, W: Write>(
     judge: &mut J,
     reader: &mut Reader,
@@ -66,19 +72,20 @@ pub(crate) fn read_on<J: Judge, R: Read, W: Write>(
         (R.remaining input.old) (R.remaining input.new)
         (W.contents out.old) (W.contents out.new) result }
 {
-    match judge.take(edges, first, out)? {
+    match judge.take(edges, first, true, out)? {
         Some(answer) => return Ok(answer),
         None => {}
     }
+    let mut buffer = [0u8; PIECE];
     'reads: for _ in 0..reads {
         edges.clear();
-        let more = pump(reader, input, edges);
-        match judge.take(edges, more, out)? {
+        let (more, count) = pump_counted(reader, input, edges, &mut buffer);
+        match judge.take(edges, more, count < PIECE, out)? {
             Some(answer) => return Ok(answer),
             None => {}
         }
     }
-    match judge.take(&[], Err(Fault::Read), out)? {
+    match judge.take(&[], Err(Fault::Read), false, out)? {
         Some(answer) => Ok(answer),
         None => Err(Fault::Read),
     }

@@ -32,13 +32,15 @@ pub(crate) fn status_of(refused: u64) -> Status
 
 /// Writes the verdicts on the edges of a piece, and at the end of the trace the closing line.
 ///
-/// `more` is what the read of the piece answered. None where the trace goes on.
+/// `more` is what the read of the piece answered. None where the trace goes on; where its writer has `paused`, `out`
+/// hands on what it holds back.
 fn take_piece<W: Write>(
     bus: &mut Bus,
     judged: &mut u64,
     edges: &[Edge],
     text: &mut Text,
     more: Result<bool, Fault>,
+    paused: bool,
     out: &mut W,
 ) -> Result<Option<Status>, Fault>
     requires { judged.old + length edges.now < 2 ^ 64 }
@@ -48,7 +50,12 @@ fn take_piece<W: Write>(
     write_verdicts(bus, *judged, edges, text, out)?;
     *judged += edges.len() as u64;
     match more {
-        Ok(true) => Ok(None),
+        Ok(true) => {
+            if paused {
+                flush(out)?;
+            }
+            Ok(None)
+        }
         Ok(false) => {
             let accepted = u64::from(bus.len());
             let refused = judged.saturating_sub(accepted);
@@ -98,6 +105,7 @@ impl Judge for Replaying {
         &mut self,
         edges: &[Edge],
         more: Result<bool, Fault>,
+        paused: bool,
         out: &mut W,
     ) -> Result<Option<Status>, Fault> {
         take_piece(
@@ -106,6 +114,7 @@ impl Judge for Replaying {
             edges,
             &mut self.text,
             more,
+            paused,
             out,
         )
     }
@@ -153,7 +162,8 @@ fn replay_trace<R: Read, W: Write>(
 /// Replays a trace on the plan of a scenario.
 ///
 /// Writes `n VERDICT` for the n-th edge, past those that are refused, and at the end of the trace
-/// `accepted A refused R`. It makes at most 16,777,216 reads.
+/// `accepted A refused R`. It makes at most 16,777,216 reads. Where one gave fewer bytes than were asked for, the writer
+/// hands on what it holds back before the next.
 ///
 /// Errors: F2 and the faults of the scenario, before anything is read or written; those of the trace, behind the
 /// verdicts on the edges before them; X8 where the output cannot be written.

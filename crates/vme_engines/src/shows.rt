@@ -230,6 +230,7 @@ impl Judge for Showing<'_> {
         &mut self,
         edges: &[Edge],
         more: Result<bool, Fault>,
+        _paused: bool,
         out: &mut W,
     ) -> Result<Option<Told>, Fault> {
         self.take_piece(edges, more, out)

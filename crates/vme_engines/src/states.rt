@@ -113,6 +113,7 @@ impl Judge for Stating<'_> {
         &mut self,
         edges: &[Edge],
         more: Result<bool, Fault>,
+        _paused: bool,
         out: &mut W,
     ) -> Result<Option<Told>, Fault> {
         state_piece(&mut self.following, self.after, edges, more, out)

@@ -129,6 +129,7 @@ impl Judge for Summing<'_> {
         &mut self,
         edges: &[Edge],
         more: Result<bool, Fault>,
+        _paused: bool,
         out: &mut W,
     ) -> Result<Option<Status>, Fault> {
         sum_piece(self, edges, more, out)

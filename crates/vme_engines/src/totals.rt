@@ -69,6 +69,7 @@ impl Judge for Tallying<'_> {
         &mut self,
         edges: &[Edge],
         more: Result<bool, Fault>,
+        _paused: bool,
         _out: &mut W,
     ) -> Result<Option<Tally>, Fault> {
         tally_piece(&mut self.summing, edges, more)

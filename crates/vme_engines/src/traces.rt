@@ -3,10 +3,10 @@ ghost use Rattle.std.specs.Prelude.{◌≡◌, ◌≢◌, [], Ok, None, true, fa
 ghost use Rattle.vme_trace.specs.Reading.{HasRead};
 ghost use Rattle.vme_engines.specs.Steps.{Opens};
 
-use crate::READS;
+use crate::{PIECE, READS};
 use std::io::Read;
 use vme_model::Edge;
-use vme_trace::{Fault, Reader, pump};
+use vme_trace::{Fault, Reader, pump_with};
 
 /// Reads until the header line was read, or to a fault or the end.
 ///
@@ -21,8 +21,9 @@ pub(crate) fn open<R: Read>(
     ensures { Opens (R.remaining input.old) (R.remaining input.new)
         reader.new edges.new.items result }
 {
+    let mut buffer = [0u8; PIECE];
     'reads: for done in 0..READS {
-        let more = pump(reader, input, edges);
+        let more = pump_with(reader, input, edges, &mut buffer);
         if is_settled(more, reader) {
             return (more, READS - 1 - done);
         }

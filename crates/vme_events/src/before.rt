@@ -13,68 +13,68 @@ ghost use Rattle.vme_events.specs.Events.{asked_before, fills_burst, has_rival, 
 ghost use Rattle.vme_events.specs.Ordered.{OfOrdered};
 
 use crate::wires::{is_low, since};
-use vme_backplane::Backplane;
+use vme_bus::Bus;
 use vme_model::{Driver, InterrupterRow, IrqKind, Release, RequesterRow, Row, Wire};
 use vme_reasons::Marks;
 
 /// The board that a driver stands on; none for the controller.
-fn board_of(backplane: &Backplane, driver: Driver) -> Option<Row>
-    ensures row { result ≡ board_of backplane.now.plan driver }
+fn board_of(bus: &Bus, driver: Driver) -> Option<Row>
+    ensures row { result ≡ board_of bus.now.plan driver }
     ensures slot { (r : RowValue) → result ≡ Some r → is_driver driver ≡ true }
 {
-    backplane.plan().accepted();
+    bus.plan().accepted();
     match driver {
         Driver::Controller => None,
-        Driver::Slot(slot) => backplane.plan().row(slot).copied(),
+        Driver::Slot(slot) => bus.plan().row(slot).copied(),
     }
 }
 
 /// Its requester.
-fn requester_of(backplane: &Backplane, driver: Driver) -> Option<RequesterRow>
+fn requester_of(bus: &Bus, driver: Driver) -> Option<RequesterRow>
     ensures part { result
-        ≡ option_and_then (λ r. r.requester) (board_of backplane.now.plan driver) }
+        ≡ option_and_then (λ r. r.requester) (board_of bus.now.plan driver) }
     ensures slot { is_some result ≡ true → is_driver driver ≡ true }
 {
-    board_of(backplane, driver)?.requester
+    board_of(bus, driver)?.requester
 }
 
 /// Its interrupter.
-pub(crate) fn interrupter_of(backplane: &Backplane, driver: Driver) -> Option<InterrupterRow>
+pub(crate) fn interrupter_of(bus: &Bus, driver: Driver) -> Option<InterrupterRow>
     ensures { result
-        ≡ option_and_then (λ r. r.interrupter) (board_of backplane.now.plan driver) }
+        ≡ option_and_then (λ r. r.interrupter) (board_of bus.now.plan driver) }
 {
-    board_of(backplane, driver)?.interrupter
+    board_of(bus, driver)?.interrupter
 }
 
 /// The number of the last edge of the driver's request, 0 where it never moved.
-fn asked_at(backplane: &Backplane, marks: &Marks, driver: Driver) -> u64
-    ensures { OfTrace backplane.now marks.now (λ k. result
+fn asked_at(bus: &Bus, marks: &Marks, driver: Driver) -> u64
+    ensures { OfTrace bus.now marks.now (λ k. result
         ≡ unwrap_or (since_in k driver Wire.Br) 0) }
 {
-    since(backplane, marks, driver, Wire::Br).unwrap_or(0)
+    since(bus, marks, driver, Wire::Br).unwrap_or(0)
 }
 
 /// Whether the slot waits for the bus, and requested it before the driver, whose request is low.
-fn asked_before(backplane: &Backplane, marks: &Marks, driver: Driver, slot: u8) -> bool
-    ensures { OfOrdered backplane.now marks.now (λ _.
-        drive backplane.now.history driver Wire.Br ≡ true
-        → result ≡ asked_before backplane.now.history driver slot) }
+fn asked_before(bus: &Bus, marks: &Marks, driver: Driver, slot: u8) -> bool
+    ensures { OfOrdered bus.now marks.now (λ _.
+        drive bus.now.history driver Wire.Br ≡ true
+        → result ≡ asked_before bus.now.history driver slot) }
 {
     let other = Driver::Slot(slot);
-    is_low(backplane, marks, other, Wire::Br)
-        && asked_at(backplane, marks, other) < asked_at(backplane, marks, driver)
+    is_low(bus, marks, other, Wire::Br)
+        && asked_at(bus, marks, other) < asked_at(bus, marks, driver)
 }
 
 /// Whether the driver's request is low, and another that is low is older.
-pub(crate) fn overtakes(backplane: &Backplane, marks: &Marks, driver: Driver) -> bool
-    ensures { OfOrdered backplane.now marks.now (λ _. result
-        ≡ overtakes backplane.now.plan backplane.now.history driver) }
+pub(crate) fn overtakes(bus: &Bus, marks: &Marks, driver: Driver) -> bool
+    ensures { OfOrdered bus.now marks.now (λ _. result
+        ≡ overtakes bus.now.plan bus.now.history driver) }
 {
-    if !is_low(backplane, marks, driver, Wire::Br) {
+    if !is_low(bus, marks, driver, Wire::Br) {
         return false;
     }
-    for below in 0..backplane.plan().slots() {
-        if asked_before(backplane, marks, driver, below + 1) {
+    for below in 0..bus.plan().slots() {
+        if asked_before(bus, marks, driver, below + 1) {
             return true;
         }
     }
@@ -92,26 +92,26 @@ fn is_filled(cycles: u64, release: Release) -> bool
 }
 
 /// Whether one more cycle of the driver is the last of a burst above 1.
-pub(crate) fn fills_burst(backplane: &Backplane, marks: &Marks, driver: Driver) -> bool
-    ensures { OfTrace backplane.now marks.now (λ _. result
-        ≡ fills_burst backplane.now.plan backplane.now.history driver) }
+pub(crate) fn fills_burst(bus: &Bus, marks: &Marks, driver: Driver) -> bool
+    ensures { OfTrace bus.now marks.now (λ _. result
+        ≡ fills_burst bus.now.plan bus.now.history driver) }
 {
-    backplane.laws();
-    match (driver, requester_of(backplane, driver)) {
+    bus.laws();
+    match (driver, requester_of(bus, driver)) {
         (Driver::Slot(slot), Some(requester)) => is_filled(marks.made(slot), requester.release),
         _ => false,
     }
 }
 
 /// Whether the slot is pending at the level.
-fn is_pending(backplane: &Backplane, marks: &Marks, slot: u8, level: u8) -> bool
-    ensures { OfTrace backplane.now marks.now (λ _. result
-        ≡ pending backplane.now.plan backplane.now.history slot level) }
+fn is_pending(bus: &Bus, marks: &Marks, slot: u8, level: u8) -> bool
+    ensures { OfTrace bus.now marks.now (λ _. result
+        ≡ pending bus.now.plan bus.now.history slot level) }
 {
     let driver = Driver::Slot(slot);
-    match interrupter_of(backplane, driver) {
+    match interrupter_of(bus, driver) {
         Some(interrupter) if interrupter.level == level => {
-            is_low(backplane, marks, driver, Wire::Irq)
+            is_low(bus, marks, driver, Wire::Irq)
                 && marks.served_since(slot, interrupter.kind).is_none()
         }
         _ => false,
@@ -119,32 +119,32 @@ fn is_pending(backplane: &Backplane, marks: &Marks, slot: u8, level: u8) -> bool
 }
 
 /// Whether the slot is not the driver's, and pending at the level.
-fn is_rival(backplane: &Backplane, marks: &Marks, driver: Driver, level: u8, slot: u8) -> bool
-    ensures { OfTrace backplane.now marks.now (λ _. result
-        ≡ is_rival backplane.now.plan backplane.now.history driver level slot) }
+fn is_rival(bus: &Bus, marks: &Marks, driver: Driver, level: u8, slot: u8) -> bool
+    ensures { OfTrace bus.now marks.now (λ _. result
+        ≡ is_rival bus.now.plan bus.now.history driver level slot) }
 {
-    !Driver::Slot(slot).is_same(driver) && is_pending(backplane, marks, slot, level)
+    !Driver::Slot(slot).is_same(driver) && is_pending(bus, marks, slot, level)
 }
 
 /// Whether another board is pending at the level of the driver's interrupter.
-pub(crate) fn has_rival(backplane: &Backplane, marks: &Marks, driver: Driver) -> bool
-    ensures { OfTrace backplane.now marks.now (λ _. result
-        ≡ has_rival backplane.now.plan backplane.now.history driver) }
+pub(crate) fn has_rival(bus: &Bus, marks: &Marks, driver: Driver) -> bool
+    ensures { OfTrace bus.now marks.now (λ _. result
+        ≡ has_rival bus.now.plan bus.now.history driver) }
 {
-    match interrupter_of(backplane, driver) {
-        Some(interrupter) => is_any_rival(backplane, marks, driver, interrupter.level),
+    match interrupter_of(bus, driver) {
+        Some(interrupter) => is_any_rival(bus, marks, driver, interrupter.level),
         None => false,
     }
 }
 
 /// Whether another board is pending at the level.
-fn is_any_rival(backplane: &Backplane, marks: &Marks, driver: Driver, level: u8) -> bool
-    ensures { OfTrace backplane.now marks.now (λ _. result
-        ≡ list_any (is_rival backplane.now.plan backplane.now.history driver level)
-        (up_to backplane.now.plan.slots)) }
+fn is_any_rival(bus: &Bus, marks: &Marks, driver: Driver, level: u8) -> bool
+    ensures { OfTrace bus.now marks.now (λ _. result
+        ≡ list_any (is_rival bus.now.plan bus.now.history driver level)
+        (up_to bus.now.plan.slots)) }
 {
-    for below in 0..backplane.plan().slots() {
-        if is_rival(backplane, marks, driver, level, below + 1) {
+    for below in 0..bus.plan().slots() {
+        if is_rival(bus, marks, driver, level, below + 1) {
             return true;
         }
     }
@@ -152,11 +152,11 @@ fn is_any_rival(backplane: &Backplane, marks: &Marks, driver: Driver, level: u8)
 }
 
 /// Whether the driver answered an acknowledge since its last interrupt request.
-pub(crate) fn has_acknowledged(backplane: &Backplane, marks: &Marks, driver: Driver) -> bool
-    ensures { OfTrace backplane.now marks.now (λ _. result
-        ≡ served_since_request backplane.now.plan backplane.now.history driver IrqKind.Roak) }
+pub(crate) fn has_acknowledged(bus: &Bus, marks: &Marks, driver: Driver) -> bool
+    ensures { OfTrace bus.now marks.now (λ _. result
+        ≡ served_since_request bus.now.plan bus.now.history driver IrqKind.Roak) }
 {
-    backplane.laws();
+    bus.laws();
     match driver {
         Driver::Controller => false,
         Driver::Slot(slot) => {

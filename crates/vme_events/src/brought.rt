@@ -11,7 +11,7 @@ use crate::before::{fills_burst, has_acknowledged, has_rival, overtakes};
 use crate::events::Event;
 use crate::wires::is_low;
 use arrayvec::ArrayVec;
-use vme_backplane::Backplane;
+use vme_bus::Bus;
 use vme_model::{Cycle, Driver, Edge, Wire};
 use vme_reasons::Marks;
 
@@ -53,14 +53,14 @@ fn is_acknowledge(shown: Option<Cycle>) -> bool
 }
 
 /// The situations that a fall of a driver's wire brings about, in their order.
-fn at_fall(backplane: &Backplane, marks: &Marks, driver: Driver, wire: Wire) -> ArrayVec<Event, 2>
-    ensures { OfOrdered backplane.now marks.now (λ _. result.items
-        ≡ at_fall backplane.now.plan backplane.now.history driver wire) }
+fn at_fall(bus: &Bus, marks: &Marks, driver: Driver, wire: Wire) -> ArrayVec<Event, 2>
+    ensures { OfOrdered bus.now marks.now (λ _. result.items
+        ≡ at_fall bus.now.plan bus.now.history driver wire) }
 {
     match wire {
         Wire::Bclr => alone(true, Event::BusClear),
         Wire::Berr => {
-            let shown = backplane.pins(driver).shown;
+            let shown = bus.pins(driver).shown;
             both(
                 is_acknowledge(shown),
                 Event::Spurious,
@@ -69,25 +69,22 @@ fn at_fall(backplane: &Backplane, marks: &Marks, driver: Driver, wire: Wire) -> 
             )
         }
         Wire::Br => {
-            let has_passed = is_low(backplane, marks, driver, Wire::BgOut);
-            alone(
-                has_passed && !backplane.pins(driver).bbsy,
-                Event::LateRequest,
-            )
+            let has_passed = is_low(bus, marks, driver, Wire::BgOut);
+            alone(has_passed && !bus.pins(driver).bbsy, Event::LateRequest)
         }
         Wire::BgOut => alone(true, Event::GrantPassed),
         Wire::Bbsy => both(
-            overtakes(backplane, marks, driver),
+            overtakes(bus, marks, driver),
             Event::Overtaken,
-            backplane.pins(driver).address_strobe,
+            bus.pins(driver).address_strobe,
             Event::Overlap,
         ),
-        Wire::AddressStrobe => alone(fills_burst(backplane, marks, driver), Event::FullBurst),
-        Wire::Irq => alone(has_rival(backplane, marks, driver), Event::Rivals),
+        Wire::AddressStrobe => alone(fills_burst(bus, marks, driver), Event::FullBurst),
+        Wire::Irq => alone(has_rival(bus, marks, driver), Event::Rivals),
         Wire::IackOut => alone(true, Event::IackPassed),
         Wire::Dtack => {
-            let is_delivery = is_acknowledge(backplane.pins(driver).shown);
-            let again = is_delivery && has_acknowledged(backplane, marks, driver);
+            let is_delivery = is_acknowledge(bus.pins(driver).shown);
+            let again = is_delivery && has_acknowledged(bus, marks, driver);
             both(is_delivery, Event::Delivery, again, Event::AnsweredAgain)
         }
         Wire::Bg(_) | Wire::Iack | Wire::Addr | Wire::DataStrobe => ArrayVec::new(),
@@ -95,18 +92,18 @@ fn at_fall(backplane: &Backplane, marks: &Marks, driver: Driver, wire: Wire) -> 
 }
 
 /// The situations that a rise of a driver's wire brings about.
-fn at_rise(backplane: &Backplane, marks: &Marks, driver: Driver, wire: Wire) -> ArrayVec<Event, 2>
-    ensures { OfOrdered backplane.now marks.now (λ _. result.items
-        ≡ at_rise backplane.now.plan backplane.now.history driver wire) }
+fn at_rise(bus: &Bus, marks: &Marks, driver: Driver, wire: Wire) -> ArrayVec<Event, 2>
+    ensures { OfOrdered bus.now marks.now (λ _. result.items
+        ≡ at_rise bus.now.plan bus.now.history driver wire) }
 {
     match wire {
-        Wire::Bg(_) => alone(!backplane.pins(driver).bbsy, Event::GrantTimeout),
+        Wire::Bg(_) => alone(!bus.pins(driver).bbsy, Event::GrantTimeout),
         Wire::Br => {
-            let is_owner = is_low(backplane, marks, driver, Wire::Bbsy);
+            let is_owner = is_low(bus, marks, driver, Wire::Bbsy);
             alone(!is_owner, Event::Withdrawn)
         }
         Wire::Bbsy => {
-            let in_cycle = is_low(backplane, marks, driver, Wire::AddressStrobe);
+            let in_cycle = is_low(bus, marks, driver, Wire::AddressStrobe);
             alone(in_cycle, Event::EarlyRelease)
         }
         _ => ArrayVec::new(),
@@ -115,16 +112,16 @@ fn at_rise(backplane: &Backplane, marks: &Marks, driver: Driver, wire: Wire) -> 
 
 /// The situations that an edge brings about that is about to be made, in their order: two at most.
 ///
-/// The marks are those of the backplane's edges, whose numbers grow. Nothing is searched but the
+/// The marks are those of the bus's edges, whose numbers grow. Nothing is searched but the
 /// slots.
-pub fn events_of(backplane: &Backplane, marks: &Marks, edge: &Edge) -> ArrayVec<Event, 2>
-    ensures { OfOrdered backplane.now marks.now (λ _. result.items
-        ≡ events_of backplane.now.plan backplane.now.history edge.now) }
+pub fn events_of(bus: &Bus, marks: &Marks, edge: &Edge) -> ArrayVec<Event, 2>
+    ensures { OfOrdered bus.now marks.now (λ _. result.items
+        ≡ events_of bus.now.plan bus.now.history edge.now) }
 {
     if edge.fall {
-        at_fall(backplane, marks, edge.driver, edge.wire)
+        at_fall(bus, marks, edge.driver, edge.wire)
     } else {
-        at_rise(backplane, marks, edge.driver, edge.wire)
+        at_rise(bus, marks, edge.driver, edge.wire)
     }
 }
 
@@ -137,10 +134,10 @@ fn has(events: &[Event], event: Event) -> bool
 
 /// Whether an edge brings the situation about that is about to be made.
 ///
-/// The marks are those of the backplane's edges, whose numbers grow.
-pub fn comes(backplane: &Backplane, marks: &Marks, edge: &Edge, event: Event) -> bool
-    ensures { OfOrdered backplane.now marks.now (λ _. result
-        ≡ comes backplane.now.plan backplane.now.history edge.now event) }
+/// The marks are those of the bus's edges, whose numbers grow.
+pub fn comes(bus: &Bus, marks: &Marks, edge: &Edge, event: Event) -> bool
+    ensures { OfOrdered bus.now marks.now (λ _. result
+        ≡ comes bus.now.plan bus.now.history edge.now event) }
 {
-    has(events_of(backplane, marks, edge).as_slice(), event)
+    has(events_of(bus, marks, edge).as_slice(), event)
 }

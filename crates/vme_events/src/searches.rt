@@ -11,7 +11,7 @@ ghost use Rattle.vme_events.specs.Turned.{is_rule, is_settling, refusal, turned_
 
 use crate::before::interrupter_of;
 use crate::misses::Miss;
-use vme_backplane::Backplane;
+use vme_bus::Bus;
 use vme_model::{Condition, Cycle, Driver, Edge, IrqKind, Refused, Wire};
 
 /// The controller's wires, in the order of offers.
@@ -71,10 +71,10 @@ const CYCLES: [Cycle; 28] = [
 ];
 
 /// What refuses the edge, if anything does.
-fn refusal(backplane: &Backplane, edge: Edge) -> Option<Refused>
-    ensures { result ≡ refusal (verdict backplane.now edge) }
+fn refusal(bus: &Bus, edge: Edge) -> Option<Refused>
+    ensures { result ≡ refusal (verdict bus.now edge) }
 {
-    backplane.answer(edge).err()
+    bus.answer(edge).err()
 }
 
 /// Whether that condition fails, and no other.
@@ -99,17 +99,17 @@ fn is_settling(refused: Option<Refused>, rule: u8) -> bool
 }
 
 /// Whether the rule refuses the edge.
-fn fails_rule(backplane: &Backplane, edge: Edge, rule: u8) -> bool
-    ensures { result ≡ fails_rule rule (verdict backplane.now edge) }
+fn fails_rule(bus: &Bus, edge: Edge, rule: u8) -> bool
+    ensures { result ≡ fails_rule rule (verdict bus.now edge) }
 {
-    is_rule(refusal(backplane, edge), rule)
+    is_rule(refusal(bus, edge), rule)
 }
 
 /// Whether the settling rule refuses the edge.
-fn fails_settling(backplane: &Backplane, edge: Edge, rule: u8) -> bool
-    ensures { result ≡ fails_settling rule (verdict backplane.now edge) }
+fn fails_settling(bus: &Bus, edge: Edge, rule: u8) -> bool
+    ensures { result ≡ fails_settling rule (verdict bus.now edge) }
 {
-    is_settling(refusal(backplane, edge), rule)
+    is_settling(refusal(bus, edge), rule)
 }
 
 /// Whether the two are one kind.
@@ -120,28 +120,25 @@ fn is_same_kind(kind: IrqKind, other: IrqKind) -> bool
 }
 
 /// Whether the driver's board has an interrupter of that kind.
-fn has_kind(backplane: &Backplane, driver: Driver, kind: IrqKind) -> bool
-    ensures { result ≡ has_kind kind (board_of backplane.now.plan driver) }
+fn has_kind(bus: &Bus, driver: Driver, kind: IrqKind) -> bool
+    ensures { result ≡ has_kind kind (board_of bus.now.plan driver) }
 {
-    match interrupter_of(backplane, driver) {
+    match interrupter_of(bus, driver) {
         Some(interrupter) => is_same_kind(interrupter.kind, kind),
         None => false,
     }
 }
 
 /// Whether this alone refuses the edge.
-fn refuses(backplane: &Backplane, miss: Miss, edge: Edge) -> bool
-    ensures { result ≡ refuses backplane.now miss edge }
+fn refuses(bus: &Bus, miss: Miss, edge: Edge) -> bool
+    ensures { result ≡ refuses bus.now miss edge }
 {
     match miss {
         Miss::Rule(rule, condition) => {
-            fails_rule(backplane, edge, rule)
-                && is_alone(condition, backplane.failing(edge).as_slice())
+            fails_rule(bus, edge, rule) && is_alone(condition, bus.failing(edge).as_slice())
         }
-        Miss::Unserved(kind) => {
-            fails_rule(backplane, edge, 22) && has_kind(backplane, edge.driver, kind)
-        }
-        Miss::Settling(rule) => fails_settling(backplane, edge, rule),
+        Miss::Unserved(kind) => { fails_rule(bus, edge, 22) && has_kind(bus, edge.driver, kind) }
+        Miss::Settling(rule) => fails_settling(bus, edge, rule),
     }
 }
 
@@ -170,65 +167,65 @@ fn showing(driver: Driver, cycle: Cycle) -> Edge
 }
 
 /// The first of these cycles that the driver is refused to show by this alone.
-fn shown(backplane: &Backplane, miss: Miss, driver: Driver, cycles: &[Cycle]) -> Option<Cycle>
-    ensures { result ≡ find (λ c. refuses backplane.now miss (showing driver c)) cycles.now }
+fn shown(bus: &Bus, miss: Miss, driver: Driver, cycles: &[Cycle]) -> Option<Cycle>
+    ensures { result ≡ find (λ c. refuses bus.now miss (showing driver c)) cycles.now }
 {
     cycles
         .iter()
         .copied()
-        .find(|cycle| refuses(backplane, miss, showing(driver, *cycle)))
+        .find(|cycle| refuses(bus, miss, showing(driver, *cycle)))
 }
 
 /// The edge that moves the driver's address group, where this alone refuses it.
 ///
 /// One to the state that the group is in is refused by E2, and never by this.
-fn on_address(backplane: &Backplane, miss: Miss, driver: Driver) -> Option<Edge>
-    ensures { result ≡ find (refuses backplane.now miss)
-        (moves backplane.now.history driver Wire.Addr) }
+fn on_address(bus: &Bus, miss: Miss, driver: Driver) -> Option<Edge>
+    ensures { result ≡ find (refuses bus.now miss)
+        (moves bus.now.history driver Wire.Addr) }
 {
     let off = turned(driver, Wire::Addr, false);
-    if refuses(backplane, miss, off) {
+    if refuses(bus, miss, off) {
         return Some(off);
     }
-    match shown(backplane, miss, driver, &CYCLES) {
+    match shown(bus, miss, driver, &CYCLES) {
         Some(cycle) => Some(showing(driver, cycle)),
         None => None,
     }
 }
 
 /// The edge that moves another wire of the driver, where this alone refuses it.
-fn on_other(backplane: &Backplane, miss: Miss, driver: Driver, wire: Wire) -> Option<Edge>
-    ensures { result ≡ find (refuses backplane.now miss)
-        (turned backplane.now.history driver wire ∷ []) }
+fn on_other(bus: &Bus, miss: Miss, driver: Driver, wire: Wire) -> Option<Edge>
+    ensures { result ≡ find (refuses bus.now miss)
+        (turned bus.now.history driver wire ∷ []) }
 {
     let fall = turned(driver, wire, true);
-    if refuses(backplane, miss, fall) {
+    if refuses(bus, miss, fall) {
         return Some(fall);
     }
     let rise = turned(driver, wire, false);
-    if refuses(backplane, miss, rise) {
+    if refuses(bus, miss, rise) {
         return Some(rise);
     }
     None
 }
 
 /// The first edge that moves the driver's wire and that this alone refuses.
-fn on_wire(backplane: &Backplane, miss: Miss, driver: Driver, wire: Wire) -> Option<Edge>
-    ensures { result ≡ find (refuses backplane.now miss) (moves backplane.now.history driver wire) }
+fn on_wire(bus: &Bus, miss: Miss, driver: Driver, wire: Wire) -> Option<Edge>
+    ensures { result ≡ find (refuses bus.now miss) (moves bus.now.history driver wire) }
 {
     match wire {
-        Wire::Addr => on_address(backplane, miss, driver),
-        _ => on_other(backplane, miss, driver, wire),
+        Wire::Addr => on_address(bus, miss, driver),
+        _ => on_other(bus, miss, driver, wire),
     }
 }
 
 /// The first edge of these wires of the driver.
-fn on_wires(backplane: &Backplane, miss: Miss, driver: Driver, wires: &[Wire]) -> Option<Edge>
-    ensures { result ≡ find (refuses backplane.now miss)
-        (flat_map (moves backplane.now.history driver) wires.now) }
+fn on_wires(bus: &Bus, miss: Miss, driver: Driver, wires: &[Wire]) -> Option<Edge>
+    ensures { result ≡ find (refuses bus.now miss)
+        (flat_map (moves bus.now.history driver) wires.now) }
 {
     for wire in wires {
-        let edge = on_wire(backplane, miss, driver, *wire);
+        let edge = on_wire(bus, miss, driver, *wire);
         if edge.is_some() {
             return edge;
         }
@@ -237,23 +234,23 @@ fn on_wires(backplane: &Backplane, miss: Miss, driver: Driver, wires: &[Wire]) -
 }
 
 /// The first edge of the driver.
-fn of_driver(backplane: &Backplane, miss: Miss, driver: Driver) -> Option<Edge>
-    ensures { result ≡ find (refuses backplane.now miss)
-        (flat_map (moves backplane.now.history driver) (wires driver)) }
+fn of_driver(bus: &Bus, miss: Miss, driver: Driver) -> Option<Edge>
+    ensures { result ≡ find (refuses bus.now miss)
+        (flat_map (moves bus.now.history driver) (wires driver)) }
 {
     match driver {
-        Driver::Controller => on_wires(backplane, miss, driver, &CONTROLLERS),
-        Driver::Slot(_) => on_wires(backplane, miss, driver, &BOARDS),
+        Driver::Controller => on_wires(bus, miss, driver, &CONTROLLERS),
+        Driver::Slot(_) => on_wires(bus, miss, driver, &BOARDS),
     }
 }
 
 /// The first edge of these drivers.
-fn of_drivers(backplane: &Backplane, miss: Miss, drivers: &[Driver]) -> Option<Edge>
-    ensures { result ≡ find (refuses backplane.now miss)
-        (flat_map (λ d. flat_map (moves backplane.now.history d) (wires d)) drivers.now) }
+fn of_drivers(bus: &Bus, miss: Miss, drivers: &[Driver]) -> Option<Edge>
+    ensures { result ≡ find (refuses bus.now miss)
+        (flat_map (λ d. flat_map (moves bus.now.history d) (wires d)) drivers.now) }
 {
     for driver in drivers {
-        let edge = of_driver(backplane, miss, *driver);
+        let edge = of_driver(bus, miss, *driver);
         if edge.is_some() {
             return edge;
         }
@@ -266,8 +263,8 @@ fn of_drivers(backplane: &Backplane, miss: Miss, drivers: &[Driver]) -> Option<E
 /// goes on by acknowledges, then by accesses. None where there is none.
 ///
 /// It tries some 800 edges at most.
-pub fn miss(backplane: &Backplane, miss: Miss) -> Option<Edge>
-    ensures { result ≡ misses backplane.now miss }
+pub fn miss(bus: &Bus, miss: Miss) -> Option<Edge>
+    ensures { result ≡ misses bus.now miss }
 {
-    of_drivers(backplane, miss, backplane.plan().drivers().as_slice())
+    of_drivers(bus, miss, bus.plan().drivers().as_slice())
 }

@@ -6,7 +6,7 @@ ghost use Rattle.vme_pictures.specs.Picture.{cycle_mark, edge_mark, slot_mark, s
 ghost use Rattle.vme_pictures.specs.Columns.{cell, column_of, is_accepted, low_after, verdict_cell, verdict_of, wire_cell};
 
 use crate::grants::{granted, holder, shown};
-use vme_backplane::Backplane;
+use vme_bus::Bus;
 use vme_model::{Cycle, Delivery, Driver, Edge, Refused, Wire};
 
 /// What became of an edge.
@@ -114,18 +114,18 @@ fn state_mark(low: bool) -> u8
 }
 
 impl Column {
-    /// Steps a backplane by an edge, and tells of it and of what is so after it.
-    pub(crate) fn step(backplane: &mut Backplane, edge: Edge) -> Column
-        ensures column { result ≡ column_of (backplane.old, edge) }
-        ensures backplane { backplane.new ≡ after backplane.old edge }
+    /// Steps a bus by an edge, and tells of it and of what is so after it.
+    pub(crate) fn step(bus: &mut Bus, edge: Edge) -> Column
+        ensures column { result ≡ column_of (bus.old, edge) }
+        ensures bus { bus.new ≡ after bus.old edge }
     {
-        let verdict = Verdict::of(backplane.step(edge));
+        let verdict = Verdict::of(bus.step(edge));
         Column {
             edge,
             verdict,
-            grant_at: slot_mark(granted(backplane)),
-            holder: slot_mark(holder(backplane)),
-            shown: cycle_mark(shown(backplane)),
+            grant_at: slot_mark(granted(bus)),
+            holder: slot_mark(holder(bus)),
+            shown: cycle_mark(shown(bus)),
         }
     }
 

@@ -7,7 +7,7 @@ ghost use Rattle.vme_model.specs.GrantSafety.{Travels};
 ghost use Rattle.vme_model.specs.Stands.{grant_at, holder, is_granted_at};
 
 use crate::wires::is_low;
-use vme_backplane::Backplane;
+use vme_bus::Bus;
 use vme_model::{ChainId, Cycle, Driver, Wire};
 
 /// A grant that travels, by where it stands.
@@ -20,14 +20,14 @@ pub struct Grant {
 }
 
 /// The slot that holds the bus.
-pub(crate) fn holder(backplane: &Backplane) -> Option<u8>
-    ensures slot { result ≡ holder backplane.now.plan backplane.now.history }
+pub(crate) fn holder(bus: &Bus) -> Option<u8>
+    ensures slot { result ≡ holder bus.now.plan bus.now.history }
     ensures range { IfSome result (λ s. s < 22) }
 {
-    backplane.laws();
-    for below in 0..backplane.plan().slots() {
+    bus.laws();
+    for below in 0..bus.plan().slots() {
         let slot = below + 1;
-        if is_low(backplane, Driver::Slot(slot), Wire::Bbsy) {
+        if is_low(bus, Driver::Slot(slot), Wire::Bbsy) {
             return Some(slot);
         }
     }
@@ -47,38 +47,38 @@ fn grant_chain(level: u8) -> ChainId
 }
 
 /// Whether the slot's input on the chain of a grant level below 4 is low.
-fn is_input_low(backplane: &Backplane, level: u8, slot: u8) -> bool
+fn is_input_low(bus: &Bus, level: u8, slot: u8) -> bool
     requires { level < 4 }
     ensures { result
-        ≡ input backplane.now.plan backplane.now.history (grant_chain level) slot }
+        ≡ input bus.now.plan bus.now.history (grant_chain level) slot }
 {
-    match backplane.plan().upstream(grant_chain(level), slot) {
-        None => is_low(backplane, Driver::Controller, Wire::Bg(level)),
-        Some(below) => is_low(backplane, Driver::Slot(below), Wire::BgOut),
+    match bus.plan().upstream(grant_chain(level), slot) {
+        None => is_low(bus, Driver::Controller, Wire::Bg(level)),
+        Some(below) => is_low(bus, Driver::Slot(below), Wire::BgOut),
     }
 }
 
 /// Whether a grant of a level below 4 stands at the slot, which has neither passed it on nor taken it.
-fn is_granted_at(backplane: &Backplane, level: u8, slot: u8) -> bool
+fn is_granted_at(bus: &Bus, level: u8, slot: u8) -> bool
     requires { level < 4 }
-    ensures { result ≡ is_granted_at backplane.now.plan backplane.now.history (level, slot) }
+    ensures { result ≡ is_granted_at bus.now.plan bus.now.history (level, slot) }
 {
-    is_input_low(backplane, level, slot)
-        && !is_low(backplane, Driver::Slot(slot), Wire::BgOut)
-        && !is_low(backplane, Driver::Slot(slot), Wire::Bbsy)
+    is_input_low(bus, level, slot)
+        && !is_low(bus, Driver::Slot(slot), Wire::BgOut)
+        && !is_low(bus, Driver::Slot(slot), Wire::Bbsy)
 }
 
 /// The least slot of its chain at which a grant of a level below 4 stands.
-fn granted_on(backplane: &Backplane, level: u8) -> Option<u8>
+fn granted_on(bus: &Bus, level: u8) -> Option<u8>
     requires { level < 4 }
     ensures slot { result
-        ≡ find (λ s. is_granted_at backplane.now.plan backplane.now.history (level, s))
-        (active backplane.now.plan (grant_chain level)) }
+        ≡ find (λ s. is_granted_at bus.now.plan bus.now.history (level, s))
+        (active bus.now.plan (grant_chain level)) }
     ensures range { IfSome result (λ s. s < 22) }
 {
-    backplane.laws();
-    for slot in backplane.plan().active(grant_chain(level)) {
-        if is_granted_at(backplane, level, *slot) {
+    bus.laws();
+    for slot in bus.plan().active(grant_chain(level)) {
+        if is_granted_at(bus, level, *slot) {
             return Some(*slot);
         }
     }
@@ -87,16 +87,16 @@ fn granted_on(backplane: &Backplane, level: u8) -> Option<u8>
 
 /// The grant that travels: it stands at the slot whose input of its level is low, while the board there
 /// has neither passed it on nor taken the bus (chapter 3 of the standard). There is one at most.
-pub fn grant_at(backplane: &Backplane) -> Option<Grant>
+pub fn grant_at(bus: &Bus) -> Option<Grant>
     ensures at { option_map (λ g. (g.level, g.slot)) result
-        ≡ grant_at backplane.now.plan backplane.now.history }
+        ≡ grant_at bus.now.plan bus.now.history }
     ensures range { IfSome result (λ g. (g.level < 4) × (g.slot < 22)) }
-    ensures only { (n s : ℕ) → Travels backplane.now.plan backplane.now.history n s
+    ensures only { (n s : ℕ) → Travels bus.now.plan bus.now.history n s
         → IsSomeAnd result (λ g. (g.level ≡ n) × (g.slot ≡ s)) }
 {
-    backplane.safety();
+    bus.safety();
     for level in 0..4 {
-        if let Some(slot) = granted_on(backplane, level) {
+        if let Some(slot) = granted_on(bus, level) {
             return Some(Grant { level, slot });
         }
     }
@@ -104,22 +104,22 @@ pub fn grant_at(backplane: &Backplane) -> Option<Grant>
 }
 
 /// The slot at which a grant travels.
-pub(crate) fn granted(backplane: &Backplane) -> Option<u8>
+pub(crate) fn granted(bus: &Bus) -> Option<u8>
     ensures slot { result
-        ≡ option_map (λ at. at.1) (grant_at backplane.now.plan backplane.now.history) }
+        ≡ option_map (λ at. at.1) (grant_at bus.now.plan bus.now.history) }
     ensures range { IfSome result (λ s. s < 22) }
 {
-    match grant_at(backplane) {
+    match grant_at(bus) {
         Some(grant) => Some(grant.slot),
         None => None,
     }
 }
 
 /// What the address lines show.
-pub(crate) fn shown(backplane: &Backplane) -> Option<Cycle>
-    ensures cycle { result ≡ shown backplane.now.plan backplane.now.history }
+pub(crate) fn shown(bus: &Bus) -> Option<Cycle>
+    ensures cycle { result ≡ shown bus.now.plan bus.now.history }
     ensures range { IfSome result (λ c. IsTrue (is_in_range c)) }
 {
-    backplane.laws();
-    backplane.pins(Driver::Controller).shown
+    bus.laws();
+    bus.pins(Driver::Controller).shown
 }

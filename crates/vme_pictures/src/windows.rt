@@ -13,7 +13,7 @@ use crate::wires::{PlanWire, WIRES, plan_wires};
 use arrayvec::ArrayVec;
 use std::io::Write;
 use std::marker::Model;
-use vme_backplane::Backplane;
+use vme_bus::Bus;
 use vme_model::Edge;
 use vme_trace::{Fault, put};
 
@@ -47,13 +47,13 @@ impl Model for Window {
 }
 
 impl Window {
-    /// Before an edge of a trace, with this number, that the backplane is about to be stepped by.
-    pub fn new(first: u64, backplane: &Backplane) -> Window
-        ensures { IsWindowOf backplane.now first [] result }
+    /// Before an edge of a trace, with this number, that the bus is about to be stepped by.
+    pub fn new(first: u64, bus: &Bus) -> Window
+        ensures { IsWindowOf bus.now first [] result }
     {
         Window {
             first,
-            wires: plan_wires(backplane),
+            wires: plan_wires(bus),
             columns: ArrayVec::new(),
         }
     }
@@ -73,13 +73,13 @@ impl Window {
         self.columns.is_empty()
     }
 
-    /// Steps a backplane by the next edge, which is refused or accepted, and keeps what is drawn of it.
-    pub fn step(&mut self, backplane: &mut Backplane, edge: Edge)
+    /// Steps a bus by the next edge, which is refused or accepted, and keeps what is drawn of it.
+    pub fn step(&mut self, bus: &mut Bus, edge: Edge)
         requires room { length self.old.columns < 200 }
-        ensures window { self.new ≡ with_column self.old (column_of (backplane.old, edge)) }
-        ensures backplane { backplane.new ≡ after backplane.old edge }
+        ensures window { self.new ≡ with_column self.old (column_of (bus.old, edge)) }
+        ensures bus { bus.new ≡ after bus.old edge }
     {
-        self.columns.push(Column::step(backplane, edge));
+        self.columns.push(Column::step(bus, edge));
     }
 
     /// Whether an edge is of the wire, accepted or refused.

@@ -7,7 +7,7 @@ ghost use Rattle.vme_model.specs.Offers.{wires};
 ghost use Rattle.vme_pictures.specs.Columns.{low_by, plan_wires_in, wires_of};
 
 use arrayvec::ArrayVec;
-use vme_backplane::Backplane;
+use vme_bus::Bus;
 use vme_model::{Delivery, Driver, Edge, Refused, Wire};
 
 /// The most wires of a plan: at most nine of each of 22 drivers.
@@ -59,26 +59,26 @@ fn low_by(answer: Result<Option<Delivery>, Refused>) -> Option<bool>
 }
 
 /// Whether a driver's wire is low, or its address group on; none where the plan has no such wire.
-fn state(backplane: &Backplane, driver: Driver, wire: Wire) -> Option<bool>
-    ensures { result ≡ (if has_driver backplane.now.plan driver wire
-        then Some (drive backplane.now.history driver wire) else None) }
+fn state(bus: &Bus, driver: Driver, wire: Wire) -> Option<bool>
+    ensures { result ≡ (if has_driver bus.now.plan driver wire
+        then Some (drive bus.now.history driver wire) else None) }
 {
-    backplane.laws();
+    bus.laws();
     let rise = Edge {
         driver,
         wire,
         fall: false,
         value: None,
     };
-    low_by(backplane.answer(rise))
+    low_by(bus.answer(rise))
 }
 
 /// Whether a driver's wire is low, or its address group on; not where the plan has no such wire.
-pub(crate) fn is_low(backplane: &Backplane, driver: Driver, wire: Wire) -> bool
-    ensures { result ≡ drive backplane.now.history driver wire }
+pub(crate) fn is_low(bus: &Bus, driver: Driver, wire: Wire) -> bool
+    ensures { result ≡ drive bus.now.history driver wire }
 {
-    backplane.laws();
-    state(backplane, driver, wire).unwrap_or(false)
+    bus.laws();
+    state(bus, driver, wire).unwrap_or(false)
 }
 
 /// A driver's wires, in the order of its offers.
@@ -92,13 +92,13 @@ fn wires(driver: Driver) -> &'static [Wire]
 }
 
 /// Appends the wires of a driver that the plan has.
-fn push_wires(found: &mut ArrayVec<PlanWire, WIRES>, backplane: &Backplane, driver: Driver)
+fn push_wires(found: &mut ArrayVec<PlanWire, WIRES>, bus: &Bus, driver: Driver)
     requires { array_vec_len found.old + 9 ≤ 198 }
-    ensures items { found.new.items ≡ found.old.items ++ wires_of backplane.now driver }
+    ensures items { found.new.items ≡ found.old.items ++ wires_of bus.now driver }
     ensures len { array_vec_len found.new ≤ array_vec_len found.old + 9 }
 {
     for wire in wires(driver) {
-        if let Some(low) = state(backplane, driver, *wire) {
+        if let Some(low) = state(bus, driver, *wire) {
             found.push(PlanWire {
                 driver,
                 wire: *wire,
@@ -109,13 +109,13 @@ fn push_wires(found: &mut ArrayVec<PlanWire, WIRES>, backplane: &Backplane, driv
 }
 
 /// The wires of the plan, the controller's first and then by slot, and which of them are low.
-pub(crate) fn plan_wires(backplane: &Backplane) -> ArrayVec<PlanWire, WIRES>
-    ensures { result.items ≡ plan_wires_in backplane.now }
+pub(crate) fn plan_wires(bus: &Bus) -> ArrayVec<PlanWire, WIRES>
+    ensures { result.items ≡ plan_wires_in bus.now }
 {
     let mut found = ArrayVec::new();
-    let drivers = backplane.plan().drivers();
+    let drivers = bus.plan().drivers();
     for driver in drivers.as_slice() {
-        push_wires(&mut found, backplane, *driver);
+        push_wires(&mut found, bus, *driver);
     }
     found
 }

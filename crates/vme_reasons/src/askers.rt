@@ -10,7 +10,7 @@ use crate::lines::{
 };
 use crate::marks::Marks;
 use arrayvec::ArrayVec;
-use vme_backplane::Backplane;
+use vme_bus::Bus;
 use vme_model::{Condition, Cycle, Edge, Wire, Witness};
 
 /// Whether a condition is told by who asks for something, or what they are granted.
@@ -38,51 +38,51 @@ fn level_of(cycle: Option<Cycle>) -> u8
 }
 
 /// Puts who requests the bus and the level last granted behind the others.
-fn tell_asked(backplane: &Backplane, marks: &Marks, told: &mut ArrayVec<Witness, ROOM>)
+fn tell_asked(bus: &Bus, marks: &Marks, told: &mut ArrayVec<Witness, ROOM>)
     requires { length told.old.items + 23 ≤ 64 }
-    ensures told { OfTrace backplane.now marks.now (λ k. told.new.items ≡ told.old.items
-        ++ (requests backplane.now k ++ granted backplane.now k ∷ [])) }
+    ensures told { OfTrace bus.now marks.now (λ k. told.new.items ≡ told.old.items
+        ++ (requests bus.now k ++ granted bus.now k ∷ [])) }
     ensures few { length told.new.items ≤ length told.old.items + 23 }
 {
-    tell_requests(backplane, marks, told);
-    told.push(granted(backplane, marks));
+    tell_requests(bus, marks, told);
+    told.push(granted(bus, marks));
 }
 
 /// Puts who requests the bus, the level last granted and the one that the policy picks behind the
 /// others.
-fn tell_picked(backplane: &Backplane, marks: &Marks, told: &mut ArrayVec<Witness, ROOM>)
+fn tell_picked(bus: &Bus, marks: &Marks, told: &mut ArrayVec<Witness, ROOM>)
     requires { length told.old.items + 24 ≤ 64 }
-    ensures told { OfTrace backplane.now marks.now (λ k. told.new.items ≡ told.old.items
-        ++ (requests backplane.now k ++ granted backplane.now k ∷ picked backplane.now ∷ [])) }
+    ensures told { OfTrace bus.now marks.now (λ k. told.new.items ≡ told.old.items
+        ++ (requests bus.now k ++ granted bus.now k ∷ picked bus.now ∷ [])) }
     ensures few { length told.new.items ≤ length told.old.items + 24 }
 {
-    tell_requests(backplane, marks, told);
-    told.push(granted(backplane, marks));
-    told.push(picked(backplane, marks));
+    tell_requests(bus, marks, told);
+    told.push(granted(bus, marks));
+    told.push(picked(bus, marks));
 }
 
 /// What is told of a condition of those that ask.
 pub(crate) fn askers(
-    backplane: &Backplane,
+    bus: &Bus,
     marks: &Marks,
     edge: &Edge,
     condition: Condition,
 ) -> ArrayVec<Witness, ROOM>
-    ensures { OfTrace backplane.now marks.now (λ k.
-        result.items ≡ askers_told backplane.now k edge.now condition) }
+    ensures { OfTrace bus.now marks.now (λ k.
+        result.items ≡ askers_told bus.now k edge.now condition) }
 {
     let mut told = ArrayVec::new();
     match condition {
-        Condition::GrantsHigh => tell_low_grants(backplane, marks, &mut told),
-        Condition::Picked => tell_picked(backplane, marks, &mut told),
-        Condition::HigherAsked => tell_asked(backplane, marks, &mut told),
+        Condition::GrantsHigh => tell_low_grants(bus, marks, &mut told),
+        Condition::Picked => tell_picked(bus, marks, &mut told),
+        Condition::HigherAsked => tell_asked(bus, marks, &mut told),
         Condition::ClearNotDue => {
-            tell_low(backplane, marks, Wire::Bbsy, &mut told);
-            tell_low_grants(backplane, marks, &mut told);
-            tell_asked(backplane, marks, &mut told);
+            tell_low(bus, marks, Wire::Bbsy, &mut told);
+            tell_low_grants(bus, marks, &mut told);
+            tell_asked(bus, marks, &mut told);
         }
         Condition::InterruptLow => {
-            tell_interrupts(backplane, marks, level_of(edge.value), &mut told);
+            tell_interrupts(bus, marks, level_of(edge.value), &mut told);
         }
         _ => {}
     }

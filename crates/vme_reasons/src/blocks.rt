@@ -15,40 +15,40 @@ use crate::tested::Conditions;
 use crate::texts::{LINE, push, push_number, push_verdict, witness_line};
 use arrayvec::ArrayVec;
 use std::io::Write;
-use vme_backplane::Backplane;
+use vme_bus::Bus;
 use vme_model::{Cycle, Driver, Edge, Tested, Witness};
 use vme_trace::{Fault, put, spelling_of};
 
 /// The first line: the number of the edge, the edge, and its verdict.
-fn verdict_line(n: u64, backplane: &Backplane, edge: &Edge) -> ArrayVec<u8, LINE>
+fn verdict_line(n: u64, bus: &Bus, edge: &Edge) -> ArrayVec<u8, LINE>
     requires { IsTrue (is_well_formed edge.now) }
-    ensures { result.items ≡ edge_verdict n backplane.now edge.now }
+    ensures { result.items ≡ edge_verdict n bus.now edge.now }
 {
     let mut line = ArrayVec::new();
     push_number(&mut line, n);
     push(&mut line, b" ");
     push(&mut line, spelling_of(edge).as_slice());
     push(&mut line, b" ");
-    push_verdict(&mut line, &backplane.answer(*edge));
+    push_verdict(&mut line, &bus.answer(*edge));
     push(&mut line, b"\n");
     line
 }
 
 /// What is shown.
-fn shown(backplane: &Backplane) -> Option<Cycle>
-    ensures { result ≡ shown backplane.now.plan backplane.now.history }
+fn shown(bus: &Bus) -> Option<Cycle>
+    ensures { result ≡ shown bus.now.plan bus.now.history }
 {
-    backplane.pins(Driver::Controller).shown
+    bus.pins(Driver::Controller).shown
 }
 
 /// The line of a condition.
-fn condition_line(backplane: &Backplane, edge: &Edge, tested: Tested) -> ArrayVec<u8, LINE>
+fn condition_line(bus: &Bus, edge: &Edge, tested: Tested) -> ArrayVec<u8, LINE>
     requires { IsTrue (is_well_formed edge.now) }
-    ensures { result.items ≡ condition_line backplane.now edge.now tested }
+    ensures { result.items ≡ condition_line bus.now edge.now tested }
 {
     let text = tested
         .condition
-        .text(edge, board_of(backplane, edge.driver), shown(backplane));
+        .text(edge, board_of(bus, edge.driver), shown(bus));
     let mut line = ArrayVec::new();
     push(&mut line, if tested.holds { b"holds " } else { b"fails " });
     push(&mut line, text.as_slice());
@@ -73,45 +73,45 @@ fn write_witnesses<W: Write>(witnesses: &[Witness], out: &mut W) -> Result<(), F
 
 /// Writes the line of a condition, and one for each of its witnesses.
 fn write_reason<W: Write>(
-    backplane: &Backplane,
+    bus: &Bus,
     marks: &Marks,
     edge: &Edge,
     tested: Tested,
     out: &mut W,
 ) -> Result<(), Fault>
     requires { IsTrue (is_well_formed edge.now) }
-    ensures ok { OnOk result (OfTrace backplane.now marks.now
+    ensures ok { OnOk result (OfTrace bus.now marks.now
         (λ k. Appends (W.contents out.old) (W.contents out.new)
-        (reason_lines backplane.now edge.now (reason backplane.now k edge.now tested)))) }
-    ensures front { OnErr result (OfTrace backplane.now marks.now
+        (reason_lines bus.now edge.now (reason bus.now k edge.now tested)))) }
+    ensures front { OnErr result (OfTrace bus.now marks.now
         (λ k. AppendsFront (W.contents out.old) (W.contents out.new)
-        (reason_lines backplane.now edge.now (reason backplane.now k edge.now tested)))) }
+        (reason_lines bus.now edge.now (reason bus.now k edge.now tested)))) }
     ensures fault { IfErr result (λ fault. fault ≡ Fault.Write) }
 {
-    put(out, condition_line(backplane, edge, tested).as_slice())?;
-    let found = witnesses(backplane, marks, edge, tested.condition);
+    put(out, condition_line(bus, edge, tested).as_slice())?;
+    let found = witnesses(bus, marks, edge, tested.condition);
     write_witnesses(found.as_slice(), out)
 }
 
 /// Writes the lines of the tested conditions.
 fn write_reasons<W: Write>(
-    backplane: &Backplane,
+    bus: &Bus,
     marks: &Marks,
     edge: &Edge,
     told: &[Tested],
     out: &mut W,
 ) -> Result<(), Fault>
     requires { IsTrue (is_well_formed edge.now) }
-    ensures ok { OnOk result (OfTrace backplane.now marks.now
+    ensures ok { OnOk result (OfTrace bus.now marks.now
         (λ k. Appends (W.contents out.old) (W.contents out.new)
-        (reasons_text backplane.now k edge.now told.now))) }
-    ensures front { OnErr result (OfTrace backplane.now marks.now
+        (reasons_text bus.now k edge.now told.now))) }
+    ensures front { OnErr result (OfTrace bus.now marks.now
         (λ k. AppendsFront (W.contents out.old) (W.contents out.new)
-        (reasons_text backplane.now k edge.now told.now))) }
+        (reasons_text bus.now k edge.now told.now))) }
     ensures fault { IfErr result (λ fault. fault ≡ Fault.Write) }
 {
     for tested in told {
-        write_reason(backplane, marks, edge, *tested, out)?;
+        write_reason(bus, marks, edge, *tested, out)?;
     }
     Ok(())
 }
@@ -119,27 +119,27 @@ fn write_reasons<W: Write>(
 /// Writes why an edge has its verdict: a line with its number `n`, the edge and the verdict, and for
 /// each condition that is tested of it a line, with one behind it for each of its witnesses.
 ///
-/// The edge is well formed and not yet made, and the marks are of the backplane's edges.
+/// The edge is well formed and not yet made, and the marks are of the bus's edges.
 ///
 /// # Errors
 /// X8 where the output cannot be written; a prefix of the block was then written.
 pub fn write_why<W: Write>(
     n: u64,
-    backplane: &Backplane,
+    bus: &Bus,
     marks: &Marks,
     edge: &Edge,
     out: &mut W,
 ) -> Result<(), Fault>
     requires { IsTrue (is_well_formed edge.now) }
-    ensures ok { OnOk result (OfTrace backplane.now marks.now
+    ensures ok { OnOk result (OfTrace bus.now marks.now
         (λ k. Appends (W.contents out.old) (W.contents out.new)
-        (why_text n backplane.now k edge.now))) }
-    ensures front { OnErr result (OfTrace backplane.now marks.now
+        (why_text n bus.now k edge.now))) }
+    ensures front { OnErr result (OfTrace bus.now marks.now
         (λ k. AppendsFront (W.contents out.old) (W.contents out.new)
-        (why_text n backplane.now k edge.now))) }
+        (why_text n bus.now k edge.now))) }
     ensures fault { IfErr result (λ fault. fault ≡ Fault.Write) }
 {
-    put(out, verdict_line(n, backplane, edge).as_slice())?;
-    let told: Conditions = backplane.told(*edge);
-    write_reasons(backplane, marks, edge, told.as_slice(), out)
+    put(out, verdict_line(n, bus, edge).as_slice())?;
+    let told: Conditions = bus.told(*edge);
+    write_reasons(bus, marks, edge, told.as_slice(), out)
 }

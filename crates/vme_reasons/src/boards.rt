@@ -5,33 +5,33 @@ ghost use Rattle.vme_model.specs.Plan.{board_of, interrupts_on};
 ghost use Rattle.vme_model.specs.Witnesses.{requester_of, interrupter_of};
 ghost use Rattle.vme_reasons.specs.Told.{is_driver};
 
-use vme_backplane::Backplane;
+use vme_bus::Bus;
 use vme_model::{Driver, InterrupterRow, RequesterRow, Row};
 
 /// The board that a driver stands on; none for the controller.
-pub(crate) fn board_of(backplane: &Backplane, driver: Driver) -> Option<Row>
-    ensures row { result ≡ board_of backplane.now.plan driver }
+pub(crate) fn board_of(bus: &Bus, driver: Driver) -> Option<Row>
+    ensures row { result ≡ board_of bus.now.plan driver }
     ensures slot { (r : RowValue) → result ≡ Some r → is_driver driver ≡ true }
 {
-    backplane.plan().accepted();
+    bus.plan().accepted();
     match driver {
         Driver::Controller => None,
-        Driver::Slot(slot) => backplane.plan().row(slot).copied(),
+        Driver::Slot(slot) => bus.plan().row(slot).copied(),
     }
 }
 
 /// Its requester.
-pub(crate) fn requester_of(backplane: &Backplane, driver: Driver) -> Option<RequesterRow>
-    ensures { result ≡ requester_of backplane.now driver }
+pub(crate) fn requester_of(bus: &Bus, driver: Driver) -> Option<RequesterRow>
+    ensures { result ≡ requester_of bus.now driver }
 {
-    board_of(backplane, driver)?.requester
+    board_of(bus, driver)?.requester
 }
 
 /// Its interrupter.
-pub(crate) fn interrupter_of(backplane: &Backplane, driver: Driver) -> Option<InterrupterRow>
-    ensures { result ≡ interrupter_of backplane.now driver }
+pub(crate) fn interrupter_of(bus: &Bus, driver: Driver) -> Option<InterrupterRow>
+    ensures { result ≡ interrupter_of bus.now driver }
 {
-    board_of(backplane, driver)?.interrupter
+    board_of(bus, driver)?.interrupter
 }
 
 /// Whether the board has an interrupter on that level.

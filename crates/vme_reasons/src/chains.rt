@@ -10,7 +10,7 @@ ghost use Rattle.vme_reasons.specs.Traced.{OfTrace};
 use crate::boards::board_of;
 use crate::marks::Marks;
 use crate::wires::seen;
-use vme_backplane::Backplane;
+use vme_bus::Bus;
 use vme_model::{ChainId, Driver, Wire, Witness};
 
 /// The controller's wire at the head of a chain.
@@ -39,59 +39,55 @@ fn out_wire(chain: ChainId) -> Wire
 }
 
 /// A segment of a chain: the controller's, or that of a slot.
-fn segment_at(backplane: &Backplane, marks: &Marks, chain: ChainId, slot: Option<u8>) -> Witness
+fn segment_at(bus: &Bus, marks: &Marks, chain: ChainId, slot: Option<u8>) -> Witness
     requires { (s : ℕ) → slot ≡ Some s → is_slot s ≡ true }
-    ensures { OfTrace backplane.now marks.now (λ k.
-        result ≡ segment_at backplane.now k chain slot) }
+    ensures { OfTrace bus.now marks.now (λ k.
+        result ≡ segment_at bus.now k chain slot) }
 {
     match slot {
-        None => seen(backplane, marks, Driver::Controller, head_wire(chain)),
-        Some(slot) => seen(backplane, marks, Driver::Slot(slot), out_wire(chain)),
+        None => seen(bus, marks, Driver::Controller, head_wire(chain)),
+        Some(slot) => seen(bus, marks, Driver::Slot(slot), out_wire(chain)),
     }
 }
 
 /// The segment at a slot's input of a chain.
-fn input_of(backplane: &Backplane, marks: &Marks, chain: ChainId, slot: u8) -> Witness
-    ensures { OfTrace backplane.now marks.now (λ k.
-        result ≡ segment_at backplane.now k chain (upstream backplane.now.plan chain slot)) }
+fn input_of(bus: &Bus, marks: &Marks, chain: ChainId, slot: u8) -> Witness
+    ensures { OfTrace bus.now marks.now (λ k.
+        result ≡ segment_at bus.now k chain (upstream bus.now.plan chain slot)) }
 {
-    backplane.plan().accepted();
-    let upstream = backplane.plan().upstream(chain, slot);
-    segment_at(backplane, marks, chain, upstream)
+    bus.plan().accepted();
+    let upstream = bus.plan().upstream(chain, slot);
+    segment_at(bus, marks, chain, upstream)
 }
 
 /// The segment at the board's input of its grant chain.
-pub(crate) fn grant_input(backplane: &Backplane, marks: &Marks, driver: Driver) -> Option<Witness>
-    ensures { OfTrace backplane.now marks.now (λ k.
-        option_to_list result ≡ grant_input backplane.now k driver) }
+pub(crate) fn grant_input(bus: &Bus, marks: &Marks, driver: Driver) -> Option<Witness>
+    ensures { OfTrace bus.now marks.now (λ k.
+        option_to_list result ≡ grant_input bus.now k driver) }
 {
-    let row = board_of(backplane, driver)?;
+    let row = board_of(bus, driver)?;
     let chain = ChainId::of_grant(row.requester?.level);
-    Some(input_of(backplane, marks, chain, row.slot))
+    Some(input_of(bus, marks, chain, row.slot))
 }
 
 /// The segment at the board's input of the acknowledge chain.
-pub(crate) fn acknowledge_input(
-    backplane: &Backplane,
-    marks: &Marks,
-    driver: Driver,
-) -> Option<Witness>
-    ensures { OfTrace backplane.now marks.now (λ k.
-        option_to_list result ≡ acknowledge_input backplane.now k driver) }
+pub(crate) fn acknowledge_input(bus: &Bus, marks: &Marks, driver: Driver) -> Option<Witness>
+    ensures { OfTrace bus.now marks.now (λ k.
+        option_to_list result ≡ acknowledge_input bus.now k driver) }
 {
-    let row = board_of(backplane, driver)?;
+    let row = board_of(bus, driver)?;
     match row.interrupter {
-        Some(_) => Some(input_of(backplane, marks, ChainId::Iack, row.slot)),
+        Some(_) => Some(input_of(bus, marks, ChainId::Iack, row.slot)),
         None => None,
     }
 }
 
 /// The last segment of a chain.
-pub(crate) fn last_segment(backplane: &Backplane, marks: &Marks, chain: ChainId) -> Witness
-    ensures { OfTrace backplane.now marks.now (λ k.
-        result ≡ last_segment backplane.now k chain) }
+pub(crate) fn last_segment(bus: &Bus, marks: &Marks, chain: ChainId) -> Witness
+    ensures { OfTrace bus.now marks.now (λ k.
+        result ≡ last_segment bus.now k chain) }
 {
-    backplane.plan().accepted();
-    let last = backplane.plan().last_active(chain);
-    segment_at(backplane, marks, chain, last)
+    bus.plan().accepted();
+    let last = bus.plan().last_active(chain);
+    segment_at(bus, marks, chain, last)
 }

@@ -14,7 +14,7 @@ use crate::owns::{own_first, own_second};
 use crate::parts::addressed;
 use crate::wires::seen;
 use arrayvec::ArrayVec;
-use vme_backplane::Backplane;
+use vme_bus::Bus;
 use vme_model::{ChainId, Condition, Driver, Edge, Wire, Witness};
 
 /// Puts one more behind the others, where there is one.
@@ -57,30 +57,25 @@ fn second_line(condition: Condition) -> Option<Wire>
 }
 
 /// Puts who holds a line low behind the others, where there is a line.
-fn tell_line(
-    backplane: &Backplane,
-    marks: &Marks,
-    line: Option<Wire>,
-    told: &mut ArrayVec<Witness, ROOM>,
-)
+fn tell_line(bus: &Bus, marks: &Marks, line: Option<Wire>, told: &mut ArrayVec<Witness, ROOM>)
     requires { length told.old.items + 22 ≤ 64 }
-    ensures told { OfTrace backplane.now marks.now (λ k.
-        told.new.items ≡ told.old.items ++ line_told backplane.now k line) }
+    ensures told { OfTrace bus.now marks.now (λ k.
+        told.new.items ≡ told.old.items ++ line_told bus.now k line) }
     ensures few { length told.new.items ≤ length told.old.items + 22 }
 {
     if let Some(wire) = line {
-        tell_low(backplane, marks, wire, told);
+        tell_low(bus, marks, wire, told);
     }
 }
 
 /// The segment of the acknowledge chain that an acknowledge has to pass last.
-fn last_acknowledge(backplane: &Backplane, marks: &Marks) -> Option<Witness>
-    ensures { OfTrace backplane.now marks.now (λ k.
-        option_to_list result ≡ last_told backplane.now k) }
+fn last_acknowledge(bus: &Bus, marks: &Marks) -> Option<Witness>
+    ensures { OfTrace bus.now marks.now (λ k.
+        option_to_list result ≡ last_told bus.now k) }
 {
-    let cycle = backplane.pins(Driver::Controller).shown?;
+    let cycle = bus.pins(Driver::Controller).shown?;
     if cycle.is_acknowledge() {
-        Some(last_segment(backplane, marks, ChainId::Iack))
+        Some(last_segment(bus, marks, ChainId::Iack))
     } else {
         None
     }
@@ -88,7 +83,7 @@ fn last_acknowledge(backplane: &Backplane, marks: &Marks) -> Option<Witness>
 
 /// Puts what is shown, a last segment, or the edge's own wire behind the others.
 fn tell_place(
-    backplane: &Backplane,
+    bus: &Bus,
     marks: &Marks,
     edge: &Edge,
     condition: Condition,
@@ -96,50 +91,39 @@ fn tell_place(
 )
     requires formed { is_well_formed edge.now ≡ true }
     requires room { length told.old.items + 2 ≤ 64 }
-    ensures told { OfTrace backplane.now marks.now (λ k. told.new.items ≡ told.old.items
-        ++ places_told backplane.now k edge.now condition) }
+    ensures told { OfTrace bus.now marks.now (λ k. told.new.items ≡ told.old.items
+        ++ places_told bus.now k edge.now condition) }
     ensures few { length told.new.items ≤ length told.old.items + 2 }
 {
     match condition {
         Condition::AcknowledgeShown | Condition::CycleShown | Condition::OwnSlotShown => {
-            tell(addressed(backplane, marks), told);
+            tell(addressed(bus, marks), told);
         }
         Condition::NobodyCanAnswer => {
-            tell(addressed(backplane, marks), told);
-            tell(last_acknowledge(backplane, marks), told);
+            tell(addressed(bus, marks), told);
+            tell(last_acknowledge(bus, marks), told);
         }
         Condition::PassedTheLastBoard => {
             let chain = ChainId::of_grant(edge.wire.grant_level());
-            told.push(last_segment(backplane, marks, chain));
+            told.push(last_segment(bus, marks, chain));
         }
-        Condition::OtherState => told.push(seen(backplane, marks, edge.driver, edge.wire)),
+        Condition::OtherState => told.push(seen(bus, marks, edge.driver, edge.wire)),
         _ => {}
     }
 }
 
 /// What is told of a condition that is not of those that ask.
-fn others(
-    backplane: &Backplane,
-    marks: &Marks,
-    edge: &Edge,
-    condition: Condition,
-) -> ArrayVec<Witness, ROOM>
+fn others(bus: &Bus, marks: &Marks, edge: &Edge, condition: Condition) -> ArrayVec<Witness, ROOM>
     requires { is_well_formed edge.now ≡ true }
-    ensures { OfTrace backplane.now marks.now (λ k.
-        result.items ≡ others_told backplane.now k edge.now condition) }
+    ensures { OfTrace bus.now marks.now (λ k.
+        result.items ≡ others_told bus.now k edge.now condition) }
 {
     let mut told = ArrayVec::new();
-    tell_line(backplane, marks, first_line(condition), &mut told);
-    tell_line(backplane, marks, second_line(condition), &mut told);
-    tell_place(backplane, marks, edge, condition, &mut told);
-    tell(
-        own_first(backplane, marks, edge.driver, condition),
-        &mut told,
-    );
-    tell(
-        own_second(backplane, marks, edge.driver, condition),
-        &mut told,
-    );
+    tell_line(bus, marks, first_line(condition), &mut told);
+    tell_line(bus, marks, second_line(condition), &mut told);
+    tell_place(bus, marks, edge, condition, &mut told);
+    tell(own_first(bus, marks, edge.driver, condition), &mut told);
+    tell(own_second(bus, marks, edge.driver, condition), &mut told);
     told
 }
 
@@ -147,20 +131,20 @@ fn others(
 /// condition speaks of, or that hold its line low, since which edges they are so, and what it
 /// counts.
 ///
-/// The marks are to be of the edges of the backplane.
+/// The marks are to be of the edges of the bus.
 pub fn witnesses(
-    backplane: &Backplane,
+    bus: &Bus,
     marks: &Marks,
     edge: &Edge,
     condition: Condition,
 ) -> ArrayVec<Witness, ROOM>
     requires { IsTrue (is_well_formed edge.now) }
-    ensures { OfTrace backplane.now marks.now (λ k.
-        result.items ≡ witnesses_of backplane.now k edge.now condition) }
+    ensures { OfTrace bus.now marks.now (λ k.
+        result.items ≡ witnesses_of bus.now k edge.now condition) }
 {
     if is_of_askers(condition) {
-        askers(backplane, marks, edge, condition)
+        askers(bus, marks, edge, condition)
     } else {
-        others(backplane, marks, edge, condition)
+        others(bus, marks, edge, condition)
     }
 }

@@ -14,7 +14,7 @@ use crate::marks::Marks;
 use crate::wires::{holds_low, seen, wire_at};
 use arrayvec::ArrayVec;
 use vme_arbiter::{AnyPolicy, Policy};
-use vme_backplane::Backplane;
+use vme_bus::Bus;
 use vme_model::{Driver, Wire, Witness};
 
 /// Room for what is told of any condition: of bus clear 22 that hold BBSY* low, four grants, 22
@@ -23,110 +23,92 @@ pub(crate) const ROOM: usize = 64;
 
 /// Puts the driver's wire behind the others where it is low.
 fn tell_holder(
-    backplane: &Backplane,
+    bus: &Bus,
     marks: &Marks,
     wire: Wire,
     driver: Driver,
     told: &mut ArrayVec<Witness, ROOM>,
 )
     requires { length told.old.items < 64 }
-    ensures told { OfTrace backplane.now marks.now (λ k. told.new.items ≡ told.old.items
-        ++ map (λ d. seen backplane.now k d wire)
-        (filter (holds_low backplane.now wire) (driver ∷ []))) }
+    ensures told { OfTrace bus.now marks.now (λ k. told.new.items ≡ told.old.items
+        ++ map (λ d. seen bus.now k d wire)
+        (filter (holds_low bus.now wire) (driver ∷ []))) }
     ensures few { length told.new.items ≤ length told.old.items + 1 }
 {
-    if holds_low(backplane, marks, wire, driver) {
-        told.push(seen(backplane, marks, driver, wire));
+    if holds_low(bus, marks, wire, driver) {
+        told.push(seen(bus, marks, driver, wire));
     }
 }
 
 /// Puts who holds the wire low behind the others, the controller first, then by slot.
-pub(crate) fn tell_low(
-    backplane: &Backplane,
-    marks: &Marks,
-    wire: Wire,
-    told: &mut ArrayVec<Witness, ROOM>,
-)
+pub(crate) fn tell_low(bus: &Bus, marks: &Marks, wire: Wire, told: &mut ArrayVec<Witness, ROOM>)
     requires { length told.old.items + 22 ≤ 64 }
-    ensures told { OfTrace backplane.now marks.now (λ k.
-        told.new.items ≡ told.old.items ++ low backplane.now k wire) }
+    ensures told { OfTrace bus.now marks.now (λ k.
+        told.new.items ≡ told.old.items ++ low bus.now k wire) }
     ensures few { length told.new.items ≤ length told.old.items + 22 }
 {
-    for driver in backplane.plan().drivers().as_slice() {
-        tell_holder(backplane, marks, wire, *driver, told);
+    for driver in bus.plan().drivers().as_slice() {
+        tell_holder(bus, marks, wire, *driver, told);
     }
 }
 
 /// Puts the controller's grant of that level behind the others where it is low.
-fn tell_grant(backplane: &Backplane, marks: &Marks, level: u8, told: &mut ArrayVec<Witness, ROOM>)
+fn tell_grant(bus: &Bus, marks: &Marks, level: u8, told: &mut ArrayVec<Witness, ROOM>)
     requires level { level < 4 }
     requires room { length told.old.items < 64 }
-    ensures told { OfTrace backplane.now marks.now (λ k. told.new.items ≡ told.old.items
-        ++ map (λ n. seen backplane.now k Controller (Bg n))
-        (filter (λ n. drive backplane.now.history Controller (Bg n)) (level ∷ []))) }
+    ensures told { OfTrace bus.now marks.now (λ k. told.new.items ≡ told.old.items
+        ++ map (λ n. seen bus.now k Controller (Bg n))
+        (filter (λ n. drive bus.now.history Controller (Bg n)) (level ∷ []))) }
     ensures few { length told.new.items ≤ length told.old.items + 1 }
 {
     if marks.is_low(Driver::Controller, Wire::Bg(level)) {
-        told.push(seen(backplane, marks, Driver::Controller, Wire::Bg(level)));
+        told.push(seen(bus, marks, Driver::Controller, Wire::Bg(level)));
     }
 }
 
 /// Puts the controller's grants that are low behind the others.
-pub(crate) fn tell_low_grants(
-    backplane: &Backplane,
-    marks: &Marks,
-    told: &mut ArrayVec<Witness, ROOM>,
-)
+pub(crate) fn tell_low_grants(bus: &Bus, marks: &Marks, told: &mut ArrayVec<Witness, ROOM>)
     requires { length told.old.items + 4 ≤ 64 }
-    ensures told { OfTrace backplane.now marks.now (λ k.
-        told.new.items ≡ told.old.items ++ low_grants backplane.now k) }
+    ensures told { OfTrace bus.now marks.now (λ k.
+        told.new.items ≡ told.old.items ++ low_grants bus.now k) }
     ensures few { length told.new.items ≤ length told.old.items + 4 }
 {
-    tell_grant(backplane, marks, 0, told);
-    tell_grant(backplane, marks, 1, told);
-    tell_grant(backplane, marks, 2, told);
-    tell_grant(backplane, marks, 3, told);
+    tell_grant(bus, marks, 0, told);
+    tell_grant(bus, marks, 1, told);
+    tell_grant(bus, marks, 2, told);
+    tell_grant(bus, marks, 3, told);
 }
 
 /// Puts the driver's bus request with its level behind the others where it is low.
-fn tell_request(
-    backplane: &Backplane,
-    marks: &Marks,
-    driver: Driver,
-    told: &mut ArrayVec<Witness, ROOM>,
-)
+fn tell_request(bus: &Bus, marks: &Marks, driver: Driver, told: &mut ArrayVec<Witness, ROOM>)
     requires { length told.old.items < 64 }
-    ensures told { OfTrace backplane.now marks.now (λ k. told.new.items ≡ told.old.items
-        ++ map (λ d. wire_at backplane.now k d Br
-        (option_map (λ q. q.level) (requester_of backplane.now d)))
-        (filter (holds_low backplane.now Br) (driver ∷ []))) }
+    ensures told { OfTrace bus.now marks.now (λ k. told.new.items ≡ told.old.items
+        ++ map (λ d. wire_at bus.now k d Br
+        (option_map (λ q. q.level) (requester_of bus.now d)))
+        (filter (holds_low bus.now Br) (driver ∷ []))) }
     ensures few { length told.new.items ≤ length told.old.items + 1 }
 {
-    if holds_low(backplane, marks, Wire::Br, driver) {
-        let level = requester_of(backplane, driver).map(|requester| requester.level);
-        told.push(wire_at(backplane, marks, driver, Wire::Br, level));
+    if holds_low(bus, marks, Wire::Br, driver) {
+        let level = requester_of(bus, driver).map(|requester| requester.level);
+        told.push(wire_at(bus, marks, driver, Wire::Br, level));
     }
 }
 
 /// Puts who requests the bus behind the others, each with its level.
-pub(crate) fn tell_requests(
-    backplane: &Backplane,
-    marks: &Marks,
-    told: &mut ArrayVec<Witness, ROOM>,
-)
+pub(crate) fn tell_requests(bus: &Bus, marks: &Marks, told: &mut ArrayVec<Witness, ROOM>)
     requires { length told.old.items + 22 ≤ 64 }
-    ensures told { OfTrace backplane.now marks.now (λ k.
-        told.new.items ≡ told.old.items ++ requests backplane.now k) }
+    ensures told { OfTrace bus.now marks.now (λ k.
+        told.new.items ≡ told.old.items ++ requests bus.now k) }
     ensures few { length told.new.items ≤ length told.old.items + 22 }
 {
-    for driver in backplane.plan().drivers().as_slice() {
-        tell_request(backplane, marks, *driver, told);
+    for driver in bus.plan().drivers().as_slice() {
+        tell_request(bus, marks, *driver, told);
     }
 }
 
 /// The level last granted.
-pub(crate) fn granted(backplane: &Backplane, marks: &Marks) -> Witness
-    ensures { OfTrace backplane.now marks.now (λ k. result ≡ granted backplane.now k) }
+pub(crate) fn granted(bus: &Bus, marks: &Marks) -> Witness
+    ensures { OfTrace bus.now marks.now (λ k. result ≡ granted bus.now k) }
 {
     Witness::Granted {
         level: marks.last_level(),
@@ -135,23 +117,23 @@ pub(crate) fn granted(backplane: &Backplane, marks: &Marks) -> Witness
 }
 
 /// The level that the policy picks.
-pub(crate) fn picked(backplane: &Backplane, marks: &Marks) -> Witness
-    ensures { OfTrace backplane.now marks.now (λ _. result ≡ picked backplane.now) }
+pub(crate) fn picked(bus: &Bus, marks: &Marks) -> Witness
+    ensures { OfTrace bus.now marks.now (λ _. result ≡ picked bus.now) }
 {
-    let requests = backplane.pins(Driver::Controller).requests;
-    let policy = AnyPolicy::from(backplane.plan().arbiter());
+    let requests = bus.pins(Driver::Controller).requests;
+    let policy = AnyPolicy::from(bus.plan().arbiter());
     Witness::Picks {
         level: policy.pick(requests, marks.last_level()),
     }
 }
 
 /// Whether the driver's interrupter asks for that level.
-fn asks_at(backplane: &Backplane, marks: &Marks, level: u8, driver: Driver) -> bool
-    ensures asks { OfTrace backplane.now marks.now (λ _.
-        result ≡ asks_at backplane.now level driver) }
+fn asks_at(bus: &Bus, marks: &Marks, level: u8, driver: Driver) -> bool
+    ensures asks { OfTrace bus.now marks.now (λ _.
+        result ≡ asks_at bus.now level driver) }
     ensures wire { result ≡ true → has_wire driver Irq ≡ true }
 {
-    match board_of(backplane, driver) {
+    match board_of(bus, driver) {
         Some(row) => interrupts_on(&row, level) && marks.is_low(driver, Wire::Irq),
         None => false,
     }
@@ -159,36 +141,36 @@ fn asks_at(backplane: &Backplane, marks: &Marks, level: u8, driver: Driver) -> b
 
 /// Puts the driver's interrupt request behind the others where it asks for that level.
 fn tell_interrupt(
-    backplane: &Backplane,
+    bus: &Bus,
     marks: &Marks,
     level: u8,
     driver: Driver,
     told: &mut ArrayVec<Witness, ROOM>,
 )
     requires { length told.old.items < 64 }
-    ensures told { OfTrace backplane.now marks.now (λ k. told.new.items ≡ told.old.items
-        ++ map (λ d. seen backplane.now k d Irq)
-        (filter (asks_at backplane.now level) (driver ∷ []))) }
+    ensures told { OfTrace bus.now marks.now (λ k. told.new.items ≡ told.old.items
+        ++ map (λ d. seen bus.now k d Irq)
+        (filter (asks_at bus.now level) (driver ∷ []))) }
     ensures few { length told.new.items ≤ length told.old.items + 1 }
 {
-    if asks_at(backplane, marks, level, driver) {
-        told.push(seen(backplane, marks, driver, Wire::Irq));
+    if asks_at(bus, marks, level, driver) {
+        told.push(seen(bus, marks, driver, Wire::Irq));
     }
 }
 
 /// Puts who asks for that interrupt level behind the others.
 pub(crate) fn tell_interrupts(
-    backplane: &Backplane,
+    bus: &Bus,
     marks: &Marks,
     level: u8,
     told: &mut ArrayVec<Witness, ROOM>,
 )
     requires { length told.old.items + 22 ≤ 64 }
-    ensures told { OfTrace backplane.now marks.now (λ k.
-        told.new.items ≡ told.old.items ++ interrupts backplane.now k level) }
+    ensures told { OfTrace bus.now marks.now (λ k.
+        told.new.items ≡ told.old.items ++ interrupts bus.now k level) }
     ensures few { length told.new.items ≤ length told.old.items + 22 }
 {
-    for driver in backplane.plan().drivers().as_slice() {
-        tell_interrupt(backplane, marks, level, *driver, told);
+    for driver in bus.plan().drivers().as_slice() {
+        tell_interrupt(bus, marks, level, *driver, told);
     }
 }

@@ -9,7 +9,7 @@ use crate::chains::{acknowledge_input, grant_input};
 use crate::marks::Marks;
 use crate::parts::{bursts, request, service, strobe};
 use crate::wires::own;
-use vme_backplane::Backplane;
+use vme_bus::Bus;
 use vme_model::{Condition, Driver, Wire, Witness};
 
 /// The board's own wire that a condition speaks of, or the first of two.
@@ -34,40 +34,40 @@ fn own_wire(condition: Condition) -> Option<Wire>
 
 /// The board's own wire that a condition speaks of.
 pub(crate) fn own_first(
-    backplane: &Backplane,
+    bus: &Bus,
     marks: &Marks,
     driver: Driver,
     condition: Condition,
 ) -> Option<Witness>
     requires { is_driver driver ≡ true }
-    ensures { OfTrace backplane.now marks.now (λ k.
-        option_to_list result ≡ own_first backplane.now k driver condition) }
+    ensures { OfTrace bus.now marks.now (λ k.
+        option_to_list result ≡ own_first bus.now k driver condition) }
 {
     match condition {
-        Condition::Pending | Condition::NotPending => request(backplane, marks, driver),
-        _ => own(backplane, marks, driver, own_wire(condition)?),
+        Condition::Pending | Condition::NotPending => request(bus, marks, driver),
+        _ => own(bus, marks, driver, own_wire(condition)?),
     }
 }
 
 /// What else of the board a condition speaks of.
 pub(crate) fn own_second(
-    backplane: &Backplane,
+    bus: &Bus,
     marks: &Marks,
     driver: Driver,
     condition: Condition,
 ) -> Option<Witness>
     requires { is_driver driver ≡ true }
-    ensures { OfTrace backplane.now marks.now (λ k.
-        option_to_list result ≡ own_second backplane.now k driver condition) }
+    ensures { OfTrace bus.now marks.now (λ k.
+        option_to_list result ≡ own_second bus.now k driver condition) }
 {
     match condition {
-        Condition::GrantInHigh | Condition::GrantInLow => grant_input(backplane, marks, driver),
-        Condition::AcknowledgeInLow => acknowledge_input(backplane, marks, driver),
-        Condition::AddressFree => own(backplane, marks, driver, Wire::AddressStrobe),
-        Condition::Strobed | Condition::NotStrobed => strobe(backplane, marks, driver),
-        Condition::WithinBurst => bursts(backplane, marks, driver),
+        Condition::GrantInHigh | Condition::GrantInLow => grant_input(bus, marks, driver),
+        Condition::AcknowledgeInLow => acknowledge_input(bus, marks, driver),
+        Condition::AddressFree => own(bus, marks, driver, Wire::AddressStrobe),
+        Condition::Strobed | Condition::NotStrobed => strobe(bus, marks, driver),
+        Condition::WithinBurst => bursts(bus, marks, driver),
         Condition::Served | Condition::Pending | Condition::NotPending => {
-            service(backplane, marks, driver)
+            service(bus, marks, driver)
         }
         _ => None,
     }

@@ -11,17 +11,17 @@ ghost use Rattle.vme_reasons.specs.Told.{is_driver, request_told};
 use crate::boards::{interrupter_of, requester_of};
 use crate::marks::Marks;
 use crate::wires::{seen, wire_at};
-use vme_backplane::Backplane;
+use vme_bus::Bus;
 use vme_model::{Driver, Release, Wire, Witness};
 
 /// The slot whose address group is on; the least, where there were several.
-fn addressing(backplane: &Backplane, marks: &Marks) -> Option<u8>
-    ensures least { OfTrace backplane.now marks.now (λ _.
-        result ≡ addressing backplane.now.plan backplane.now.history) }
+fn addressing(bus: &Bus, marks: &Marks) -> Option<u8>
+    ensures least { OfTrace bus.now marks.now (λ _.
+        result ≡ addressing bus.now.plan bus.now.history) }
     ensures slot { (s : ℕ) → result ≡ Some s → is_slot s ≡ true }
 {
-    backplane.plan().accepted();
-    for slot in 1..=backplane.plan().slots() {
+    bus.plan().accepted();
+    for slot in 1..=bus.plan().slots() {
         if marks.is_low(Driver::Slot(slot), Wire::Addr) {
             return Some(slot);
         }
@@ -30,35 +30,35 @@ fn addressing(backplane: &Backplane, marks: &Marks) -> Option<u8>
 }
 
 /// The address group that is on.
-pub(crate) fn addressed(backplane: &Backplane, marks: &Marks) -> Option<Witness>
-    ensures { OfTrace backplane.now marks.now (λ k.
-        option_to_list result ≡ addressed backplane.now k) }
+pub(crate) fn addressed(bus: &Bus, marks: &Marks) -> Option<Witness>
+    ensures { OfTrace bus.now marks.now (λ k.
+        option_to_list result ≡ addressed bus.now k) }
 {
-    let slot = addressing(backplane, marks)?;
-    Some(seen(backplane, marks, Driver::Slot(slot), Wire::Addr))
+    let slot = addressing(bus, marks)?;
+    Some(seen(bus, marks, Driver::Slot(slot), Wire::Addr))
 }
 
 /// How many cycles a slot began in this tenure.
-fn made(backplane: &Backplane, marks: &Marks, slot: u8) -> u64
+fn made(bus: &Bus, marks: &Marks, slot: u8) -> u64
     requires { is_slot slot ≡ true }
-    ensures { OfTrace backplane.now marks.now (λ _.
-        result ≡ cycles backplane.now.history (Slot slot)) }
+    ensures { OfTrace bus.now marks.now (λ _.
+        result ≡ cycles bus.now.history (Slot slot)) }
 {
-    backplane.laws();
+    bus.laws();
     marks.made(slot)
 }
 
 /// The board's cycles in this tenure, where it gives the bus up after a burst.
-pub(crate) fn bursts(backplane: &Backplane, marks: &Marks, driver: Driver) -> Option<Witness>
+pub(crate) fn bursts(bus: &Bus, marks: &Marks, driver: Driver) -> Option<Witness>
     requires { is_driver driver ≡ true }
-    ensures { OfTrace backplane.now marks.now (λ _.
-        option_to_list result ≡ bursts backplane.now driver) }
+    ensures { OfTrace bus.now marks.now (λ _.
+        option_to_list result ≡ bursts bus.now driver) }
 {
-    let requester = requester_of(backplane, driver)?;
+    let requester = requester_of(bus, driver)?;
     match (driver, requester.release) {
         (Driver::Slot(slot), Release::Done { burst }) => Some(Witness::Cycles {
             driver,
-            made: made(backplane, marks, slot),
+            made: made(bus, marks, slot),
             burst,
         }),
         _ => None,
@@ -66,11 +66,11 @@ pub(crate) fn bursts(backplane: &Backplane, marks: &Marks, driver: Driver) -> Op
 }
 
 /// The board's `ds-` of this cycle.
-pub(crate) fn strobe(backplane: &Backplane, marks: &Marks, driver: Driver) -> Option<Witness>
+pub(crate) fn strobe(bus: &Bus, marks: &Marks, driver: Driver) -> Option<Witness>
     requires { is_driver driver ≡ true }
-    ensures { OfTrace backplane.now marks.now (λ k. option_to_list result ≡ strobe k driver) }
+    ensures { OfTrace bus.now marks.now (λ k. option_to_list result ≡ strobe k driver) }
 {
-    backplane.laws();
+    bus.laws();
     match driver {
         Driver::Controller => None,
         Driver::Slot(slot) => {
@@ -81,12 +81,12 @@ pub(crate) fn strobe(backplane: &Backplane, marks: &Marks, driver: Driver) -> Op
 }
 
 /// The board's first answer that served its request, while that is low.
-pub(crate) fn service(backplane: &Backplane, marks: &Marks, driver: Driver) -> Option<Witness>
+pub(crate) fn service(bus: &Bus, marks: &Marks, driver: Driver) -> Option<Witness>
     requires { is_driver driver ≡ true }
-    ensures { OfTrace backplane.now marks.now (λ k.
-        option_to_list result ≡ service backplane.now k driver) }
+    ensures { OfTrace bus.now marks.now (λ k.
+        option_to_list result ≡ service bus.now k driver) }
 {
-    let interrupter = interrupter_of(backplane, driver)?;
+    let interrupter = interrupter_of(bus, driver)?;
     match driver {
         Driver::Slot(slot) if marks.is_low(driver, Wire::Irq) => {
             let since = marks.served_since(slot, interrupter.kind)?;
@@ -97,11 +97,11 @@ pub(crate) fn service(backplane: &Backplane, marks: &Marks, driver: Driver) -> O
 }
 
 /// The board's request and its level.
-pub(crate) fn request(backplane: &Backplane, marks: &Marks, driver: Driver) -> Option<Witness>
+pub(crate) fn request(bus: &Bus, marks: &Marks, driver: Driver) -> Option<Witness>
     requires { is_driver driver ≡ true }
-    ensures { OfTrace backplane.now marks.now (λ k.
-        option_to_list result ≡ request_told backplane.now k driver) }
+    ensures { OfTrace bus.now marks.now (λ k.
+        option_to_list result ≡ request_told bus.now k driver) }
 {
-    let interrupter = interrupter_of(backplane, driver)?;
-    Some(wire_at(backplane, marks, driver, Wire::Irq, Some(interrupter.level)))
+    let interrupter = interrupter_of(bus, driver)?;
+    Some(wire_at(bus, marks, driver, Wire::Irq, Some(interrupter.level)))
 }

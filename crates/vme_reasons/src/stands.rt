@@ -19,7 +19,7 @@ use crate::texts::{push, push_argument, push_driver, push_number, push_since};
 use crate::wires::holds_low;
 use arrayvec::ArrayVec;
 use std::io::Write;
-use vme_backplane::Backplane;
+use vme_bus::Bus;
 use vme_model::{Cycle, Driver, Edge, Wire};
 use vme_trace::{Fault, put};
 
@@ -83,30 +83,27 @@ fn after_line(n: u64, accepted: u32) -> Line
 }
 
 /// Who holds the bus.
-fn holder_line(backplane: &Backplane, marks: &Marks) -> Line
-    ensures { OfTrace backplane.now marks.now (λ k. result.items ≡ holder_text backplane.now k) }
+fn holder_line(bus: &Bus, marks: &Marks) -> Line
+    ensures { OfTrace bus.now marks.now (λ k. result.items ≡ holder_text bus.now k) }
 {
     let mut line = ArrayVec::new();
-    match holder(backplane, marks) {
+    match holder(bus, marks) {
         None => push(&mut line, b"holder none"),
         Some(slot) => {
             push(&mut line, b"holder ");
             push_number(&mut line, u64::from(slot));
-            push_since(
-                &mut line,
-                since(backplane, marks, Driver::Slot(slot), Wire::Bbsy),
-            );
+            push_since(&mut line, since(bus, marks, Driver::Slot(slot), Wire::Bbsy));
         }
     }
     line
 }
 
 /// Where the grant travels.
-fn grant_line(backplane: &Backplane, marks: &Marks) -> Line
-    ensures { OfTrace backplane.now marks.now (λ _. result.items ≡ grant_text backplane.now) }
+fn grant_line(bus: &Bus, marks: &Marks) -> Line
+    ensures { OfTrace bus.now marks.now (λ _. result.items ≡ grant_text bus.now) }
 {
     let mut line = ArrayVec::new();
-    match grant_at(backplane, marks) {
+    match grant_at(bus, marks) {
         None => push(&mut line, b"grant none"),
         Some(grant) => {
             push(&mut line, b"grant bg");
@@ -119,21 +116,18 @@ fn grant_line(backplane: &Backplane, marks: &Marks) -> Line
 }
 
 /// What is shown, and who shows it.
-fn shown_line(backplane: &Backplane, marks: &Marks) -> Line
-    ensures { OfTrace backplane.now marks.now (λ k. result.items ≡ shown_text backplane.now k) }
+fn shown_line(bus: &Bus, marks: &Marks) -> Line
+    ensures { OfTrace bus.now marks.now (λ k. result.items ≡ shown_text bus.now k) }
 {
     let mut line = ArrayVec::new();
-    match addressing(backplane, marks) {
+    match addressing(bus, marks) {
         None => push(&mut line, b"shown none"),
         Some(slot) => {
             push(&mut line, b"shown");
-            push_argument(&mut line, backplane.pins(Driver::Controller).shown);
+            push_argument(&mut line, bus.pins(Driver::Controller).shown);
             push(&mut line, b" by ");
             push_number(&mut line, u64::from(slot));
-            push_since(
-                &mut line,
-                since(backplane, marks, Driver::Slot(slot), Wire::Addr),
-            );
+            push_since(&mut line, since(bus, marks, Driver::Slot(slot), Wire::Addr));
         }
     }
     line
@@ -154,32 +148,32 @@ fn level_line(first: &str, driver: Driver, level: u8, since: Option<u64>) -> Lin
 }
 
 /// Whether the driver requests the bus.
-fn asks_line(backplane: &Backplane, marks: &Marks, driver: Driver) -> Line
-    ensures { OfTrace backplane.now marks.now (λ k. result.items
-        ≡ asks_text backplane.now k driver) }
+fn asks_line(bus: &Bus, marks: &Marks, driver: Driver) -> Line
+    ensures { OfTrace bus.now marks.now (λ k. result.items
+        ≡ asks_text bus.now k driver) }
 {
-    match requester_of(backplane, driver) {
-        Some(requester) if is_low(backplane, marks, driver, Wire::Br) => level_line(
+    match requester_of(bus, driver) {
+        Some(requester) if is_low(bus, marks, driver, Wire::Br) => level_line(
             "asks ",
             driver,
             requester.level,
-            since(backplane, marks, driver, Wire::Br),
+            since(bus, marks, driver, Wire::Br),
         ),
         _ => ArrayVec::new(),
     }
 }
 
 /// Whether the driver's interrupter is pending.
-fn pending_line(backplane: &Backplane, marks: &Marks, driver: Driver) -> Line
-    ensures { OfTrace backplane.now marks.now (λ k. result.items
-        ≡ pending_text backplane.now k driver) }
+fn pending_line(bus: &Bus, marks: &Marks, driver: Driver) -> Line
+    ensures { OfTrace bus.now marks.now (λ k. result.items
+        ≡ pending_text bus.now k driver) }
 {
-    match interrupter_of(backplane, driver) {
-        Some(interrupter) if is_pending(backplane, marks, driver, interrupter) => level_line(
+    match interrupter_of(bus, driver) {
+        Some(interrupter) if is_pending(bus, marks, driver, interrupter) => level_line(
             "pending ",
             driver,
             interrupter.level,
-            since(backplane, marks, driver, Wire::Irq),
+            since(bus, marks, driver, Wire::Irq),
         ),
         _ => ArrayVec::new(),
     }
@@ -241,12 +235,12 @@ fn wires(driver: Driver) -> &'static [Wire]
 }
 
 /// The wires that the driver holds low; of its address group `shown` tells.
-fn low_line(backplane: &Backplane, marks: &Marks, driver: Driver) -> Line
-    ensures { OfTrace backplane.now marks.now (λ _. result.items ≡ low_text backplane.now driver) }
+fn low_line(bus: &Bus, marks: &Marks, driver: Driver) -> Line
+    ensures { OfTrace bus.now marks.now (λ _. result.items ≡ low_text bus.now driver) }
 {
     let mut line = ArrayVec::new();
     for wire in wires(driver) {
-        if !wire.is_same(Wire::Addr) && holds_low(backplane, marks, *wire, driver) {
+        if !wire.is_same(Wire::Addr) && holds_low(bus, marks, *wire, driver) {
             push_word(&mut line, "low ", driver, wire.word().as_bytes());
         }
     }
@@ -261,11 +255,11 @@ fn is_later_access(value: Option<Cycle>) -> bool
 }
 
 /// The edges that the driver can make.
-fn open_line(backplane: &Backplane, driver: Driver) -> Line
-    ensures { result.items ≡ open_line backplane.now driver }
+fn open_line(bus: &Bus, driver: Driver) -> Line
+    ensures { result.items ≡ open_line bus.now driver }
 {
     let mut line = ArrayVec::new();
-    for edge in backplane.open_edges(driver).as_slice() {
+    for edge in bus.open_edges(driver).as_slice() {
         if !is_later_access(edge.value) {
             push_word(&mut line, "open ", driver, &word_of(edge));
         }
@@ -274,15 +268,15 @@ fn open_line(backplane: &Backplane, driver: Driver) -> Line
 }
 
 /// What is told of a driver; nothing, where there is nothing to tell.
-fn topic_line(backplane: &Backplane, marks: &Marks, topic: Topic, driver: Driver) -> Line
-    ensures { OfTrace backplane.now marks.now (λ k. result.items
-        ≡ topic_text topic backplane.now k driver) }
+fn topic_line(bus: &Bus, marks: &Marks, topic: Topic, driver: Driver) -> Line
+    ensures { OfTrace bus.now marks.now (λ k. result.items
+        ≡ topic_text topic bus.now k driver) }
 {
     match topic {
-        Topic::Asks => asks_line(backplane, marks, driver),
-        Topic::Pending => pending_line(backplane, marks, driver),
-        Topic::Low => low_line(backplane, marks, driver),
-        Topic::Open => open_line(backplane, driver),
+        Topic::Asks => asks_line(bus, marks, driver),
+        Topic::Pending => pending_line(bus, marks, driver),
+        Topic::Low => low_line(bus, marks, driver),
+        Topic::Open => open_line(bus, driver),
     }
 }
 
@@ -299,42 +293,32 @@ fn write_line<W: Write>(line: &Line, out: &mut W) -> Result<(), Fault>
 }
 
 /// Writes what is told of the whole bus.
-fn write_bus<W: Write>(
-    n: u64,
-    backplane: &Backplane,
-    marks: &Marks,
-    out: &mut W,
-) -> Result<(), Fault>
-    ensures ok { OnOk result (OfTrace backplane.now marks.now (λ k.
-        Appends (W.contents out.old) (W.contents out.new) (bus_text n backplane.now k))) }
-    ensures front { OnErr result (OfTrace backplane.now marks.now (λ k.
-        AppendsFront (W.contents out.old) (W.contents out.new) (bus_text n backplane.now k))) }
+fn write_bus<W: Write>(n: u64, bus: &Bus, marks: &Marks, out: &mut W) -> Result<(), Fault>
+    ensures ok { OnOk result (OfTrace bus.now marks.now (λ k.
+        Appends (W.contents out.old) (W.contents out.new) (bus_text n bus.now k))) }
+    ensures front { OnErr result (OfTrace bus.now marks.now (λ k.
+        AppendsFront (W.contents out.old) (W.contents out.new) (bus_text n bus.now k))) }
     ensures fault { IfErr result (λ fault. fault ≡ Fault.Write) }
 {
-    write_line(&after_line(n, backplane.len()), out)?;
-    write_line(&holder_line(backplane, marks), out)?;
-    write_line(&grant_line(backplane, marks), out)?;
-    write_line(&shown_line(backplane, marks), out)
+    write_line(&after_line(n, bus.len()), out)?;
+    write_line(&holder_line(bus, marks), out)?;
+    write_line(&grant_line(bus, marks), out)?;
+    write_line(&shown_line(bus, marks), out)
 }
 
 /// Writes a line for each driver of which there is something to tell.
-fn write_lines<W: Write>(
-    backplane: &Backplane,
-    marks: &Marks,
-    topic: Topic,
-    out: &mut W,
-) -> Result<(), Fault>
-    ensures ok { OnOk result (OfTrace backplane.now marks.now (λ k.
+fn write_lines<W: Write>(bus: &Bus, marks: &Marks, topic: Topic, out: &mut W) -> Result<(), Fault>
+    ensures ok { OnOk result (OfTrace bus.now marks.now (λ k.
         Appends (W.contents out.old) (W.contents out.new)
-        (lines_of backplane.now (topic_text topic backplane.now k)))) }
-    ensures front { OnErr result (OfTrace backplane.now marks.now (λ k.
+        (lines_of bus.now (topic_text topic bus.now k)))) }
+    ensures front { OnErr result (OfTrace bus.now marks.now (λ k.
         AppendsFront (W.contents out.old) (W.contents out.new)
-        (lines_of backplane.now (topic_text topic backplane.now k)))) }
+        (lines_of bus.now (topic_text topic bus.now k)))) }
     ensures fault { IfErr result (λ fault. fault ≡ Fault.Write) }
 {
-    let drivers = backplane.plan().drivers();
+    let drivers = bus.plan().drivers();
     for driver in drivers.as_slice() {
-        let line = topic_line(backplane, marks, topic, *driver);
+        let line = topic_line(bus, marks, topic, *driver);
         if !line.is_empty() {
             write_line(&line, out)?;
         }
@@ -343,37 +327,32 @@ fn write_lines<W: Write>(
 }
 
 /// Writes what is told of the drivers.
-fn write_drivers<W: Write>(backplane: &Backplane, marks: &Marks, out: &mut W) -> Result<(), Fault>
-    ensures ok { OnOk result (OfTrace backplane.now marks.now (λ k.
-        Appends (W.contents out.old) (W.contents out.new) (drivers_text backplane.now k))) }
-    ensures front { OnErr result (OfTrace backplane.now marks.now (λ k.
-        AppendsFront (W.contents out.old) (W.contents out.new) (drivers_text backplane.now k))) }
+fn write_drivers<W: Write>(bus: &Bus, marks: &Marks, out: &mut W) -> Result<(), Fault>
+    ensures ok { OnOk result (OfTrace bus.now marks.now (λ k.
+        Appends (W.contents out.old) (W.contents out.new) (drivers_text bus.now k))) }
+    ensures front { OnErr result (OfTrace bus.now marks.now (λ k.
+        AppendsFront (W.contents out.old) (W.contents out.new) (drivers_text bus.now k))) }
     ensures fault { IfErr result (λ fault. fault ≡ Fault.Write) }
 {
-    write_lines(backplane, marks, Topic::Asks, out)?;
-    write_lines(backplane, marks, Topic::Pending, out)?;
-    write_lines(backplane, marks, Topic::Low, out)?;
-    write_lines(backplane, marks, Topic::Open, out)
+    write_lines(bus, marks, Topic::Asks, out)?;
+    write_lines(bus, marks, Topic::Pending, out)?;
+    write_lines(bus, marks, Topic::Low, out)?;
+    write_lines(bus, marks, Topic::Open, out)
 }
 
-/// Writes where the bus stands behind the first `n` edges of a trace, of which the backplane took in
+/// Writes where the bus stands behind the first `n` edges of a trace, of which the bus took in
 /// those that were accepted, and the marks are of these: how many there are, who holds the bus, where
 /// the grant travels and what is shown; and of the drivers, the controller first and then by slot, who
 /// asks, whose interrupter is pending, the wires that each holds low, and the edges that each can make.
 ///
 /// Errors: X8 where a write failed or took no byte; a front of the block was then written.
-pub fn write_stands<W: Write>(
-    n: u64,
-    backplane: &Backplane,
-    marks: &Marks,
-    out: &mut W,
-) -> Result<(), Fault>
-    ensures ok { OnOk result (OfTrace backplane.now marks.now (λ k.
-        Appends (W.contents out.old) (W.contents out.new) (stands_text n backplane.now k))) }
-    ensures front { OnErr result (OfTrace backplane.now marks.now (λ k.
-        AppendsFront (W.contents out.old) (W.contents out.new) (stands_text n backplane.now k))) }
+pub fn write_stands<W: Write>(n: u64, bus: &Bus, marks: &Marks, out: &mut W) -> Result<(), Fault>
+    ensures ok { OnOk result (OfTrace bus.now marks.now (λ k.
+        Appends (W.contents out.old) (W.contents out.new) (stands_text n bus.now k))) }
+    ensures front { OnErr result (OfTrace bus.now marks.now (λ k.
+        AppendsFront (W.contents out.old) (W.contents out.new) (stands_text n bus.now k))) }
     ensures fault { IfErr result (λ fault. fault ≡ Fault.Write) }
 {
-    write_bus(n, backplane, marks, out)?;
-    write_drivers(backplane, marks, out)
+    write_bus(n, bus, marks, out)?;
+    write_drivers(bus, marks, out)
 }

@@ -9,7 +9,7 @@ ghost use Rattle.vme_reasons.specs.Traced.{OfTrace};
 ghost use Rattle.vme_reasons.specs.Told.{value_told};
 
 use crate::marks::Marks;
-use vme_backplane::Backplane;
+use vme_bus::Bus;
 use vme_model::{Cycle, Driver, Wire, Witness};
 use vme_slots::Plan;
 
@@ -29,69 +29,64 @@ pub(crate) fn has_driver(plan: &Plan, driver: Driver, wire: Wire) -> bool
 }
 
 /// What an address group that is on shows.
-fn value_told(backplane: &Backplane, wire: Wire, low: bool) -> Option<Cycle>
+fn value_told(bus: &Bus, wire: Wire, low: bool) -> Option<Cycle>
     ensures { result
-        ≡ value_told wire low (shown backplane.now.plan backplane.now.history) }
+        ≡ value_told wire low (shown bus.now.plan bus.now.history) }
 {
     match wire {
-        Wire::Addr if low => backplane.pins(Driver::Controller).shown,
+        Wire::Addr if low => bus.pins(Driver::Controller).shown,
         _ => None,
     }
 }
 
 /// A driver's wire, the level told with it.
 pub(crate) fn wire_at(
-    backplane: &Backplane,
+    bus: &Bus,
     marks: &Marks,
     driver: Driver,
     wire: Wire,
     level: Option<u8>,
 ) -> Witness
     requires { has_wire driver wire ≡ true }
-    ensures { OfTrace backplane.now marks.now (λ k.
-        result ≡ wire_at backplane.now k driver wire level) }
+    ensures { OfTrace bus.now marks.now (λ k.
+        result ≡ wire_at bus.now k driver wire level) }
 {
     let low = marks.is_low(driver, wire);
     Witness::Wire {
         driver,
         wire,
         low,
-        value: value_told(backplane, wire, low),
+        value: value_told(bus, wire, low),
         level,
         since: marks.since(driver, wire),
     }
 }
 
 /// The same without a level.
-pub(crate) fn seen(backplane: &Backplane, marks: &Marks, driver: Driver, wire: Wire) -> Witness
+pub(crate) fn seen(bus: &Bus, marks: &Marks, driver: Driver, wire: Wire) -> Witness
     requires { has_wire driver wire ≡ true }
-    ensures { OfTrace backplane.now marks.now (λ k. result ≡ seen backplane.now k driver wire) }
+    ensures { OfTrace bus.now marks.now (λ k. result ≡ seen bus.now k driver wire) }
 {
-    wire_at(backplane, marks, driver, wire, None)
+    wire_at(bus, marks, driver, wire, None)
 }
 
 /// The driver's own wire, where it has it.
-pub(crate) fn own(
-    backplane: &Backplane,
-    marks: &Marks,
-    driver: Driver,
-    wire: Wire,
-) -> Option<Witness>
-    ensures { OfTrace backplane.now marks.now (λ k.
-        option_to_list result ≡ own backplane.now k driver wire) }
+pub(crate) fn own(bus: &Bus, marks: &Marks, driver: Driver, wire: Wire) -> Option<Witness>
+    ensures { OfTrace bus.now marks.now (λ k.
+        option_to_list result ≡ own bus.now k driver wire) }
 {
-    if has_driver(backplane.plan(), driver, wire) {
-        Some(seen(backplane, marks, driver, wire))
+    if has_driver(bus.plan(), driver, wire) {
+        Some(seen(bus, marks, driver, wire))
     } else {
         None
     }
 }
 
 /// Whether the driver holds the wire low.
-pub(crate) fn holds_low(backplane: &Backplane, marks: &Marks, wire: Wire, driver: Driver) -> bool
-    ensures low { OfTrace backplane.now marks.now (λ _.
-        result ≡ holds_low backplane.now wire driver) }
+pub(crate) fn holds_low(bus: &Bus, marks: &Marks, wire: Wire, driver: Driver) -> bool
+    ensures low { OfTrace bus.now marks.now (λ _.
+        result ≡ holds_low bus.now wire driver) }
     ensures wire { result ≡ true → has_wire driver wire ≡ true }
 {
-    has_driver(backplane.plan(), driver, wire) && marks.is_low(driver, wire)
+    has_driver(bus.plan(), driver, wire) && marks.is_low(driver, wire)
 }

@@ -1,5 +1,6 @@
 //! How often an input is read, and how often an interrupted call is tried: no clause counts them.
 use crate::asserts::assert_same;
+use std::alloc::AllocError;
 use std::io::{self, ErrorKind, Read, Write};
 use std::process::Abort;
 use vme_engines::{EngineFault, Status, check, joined, replay};
@@ -138,6 +139,63 @@ fn a_long_trace_is_read_to_its_end(rt: HostRuntime) {
     let answer = check(rt.alloc(), ONE_BOARD, &mut trace, &mut out);
     assert!(&rt; matches!(answer, Ok(Status::Done)));
     assert_same(&rt, out.as_slice(), b"legal 60000\n".as_slice());
+}
+
+/// A writer that counts how often it is to hand on what it holds back.
+#[derive(Drop)]
+struct Flushes {
+    count: u32,
+}
+
+impl Write for Flushes {
+    fn write(&mut self, buf: &[u8]) -> io::Result<usize> {
+        Ok(buf.len())
+    }
+
+    fn flush(&mut self) -> io::Result<()> {
+        self.count = self.count.saturating_add(1);
+        Ok(())
+    }
+}
+
+// Behind the byte that ends the header line, each of the 42 others, and the closing line.
+#[test]
+fn each_short_piece_is_handed_on(rt: HostRuntime) {
+    let mut out = Flushes { count: 0 };
+    let mut trace = Drops::new(b"vme 1\n", TENURE, 48);
+    let answer = replay(rt.alloc(), ONE_BOARD, &mut trace, &mut out);
+    assert!(&rt; matches!(answer, Ok(Status::Done)));
+    assert_same(&rt, out.count, 44);
+    let mut out = Flushes { count: 0 };
+    let mut input = Drops::new(BOARD_AND_HEADER, TENURE, 148);
+    let answer = joined(rt.alloc(), &mut input, &mut out);
+    assert!(&rt; matches!(answer, Ok(Status::Done)));
+    assert_same(&rt, out.count, 44);
+}
+
+// A check writes its one line at its end.
+#[test]
+fn a_check_is_handed_on_once(rt: HostRuntime) {
+    let mut out = Flushes { count: 0 };
+    let mut trace = Drops::new(b"vme 1\n", TENURE, 48);
+    let answer = check(rt.alloc(), ONE_BOARD, &mut trace, &mut out);
+    assert!(&rt; matches!(answer, Ok(Status::Done)));
+    assert_same(&rt, out.count, 1);
+}
+
+// 147,006 bytes are two pieces of 69,632 and a short one: behind the first, the last, and the closing line.
+#[test]
+fn a_whole_piece_is_held_back(rt: HostRuntime) -> Result<(), AllocError> {
+    let mut text = Vec::new(rt.alloc());
+    text.extend_from_slice(b"vme 1\n")?;
+    for _tenure in 0..3_500 {
+        text.extend_from_slice(TENURE)?;
+    }
+    let mut out = Flushes { count: 0 };
+    let answer = replay(rt.alloc(), ONE_BOARD, &mut text.as_slice(), &mut out);
+    assert!(&rt; matches!(answer, Ok(Status::Done)));
+    assert_same(&rt, out.count, 3);
+    Ok(())
 }
 
 /// A text behind a reader or a writer whose first calls are interrupted, so many of them.

@@ -1,8 +1,8 @@
 //! Reading a trace from a reader of bytes.
-ghost use Rattle.std.specs.Prelude.{◌≡◌, ◌<◌, ◌≤◌, ℕ, List, None, Err, IfOk, IfErr, length, take};
+ghost use Rattle.std.specs.Prelude.{◌≡◌, ◌<◌, ◌≤◌, ℕ, List, None, Ok, Err, true, false, IfOk, IfErr, length, take};
 ghost use Rattle.std.specs.Io.KnownBytes.{Consumes, IsAtEnd, Keeps};
 ghost use Rattle.vme_model.specs.declared.signals.Edge.{Edge};
-ghost use Rattle.vme_trace.specs.Pieces.{PumpedUpTo};
+ghost use Rattle.vme_trace.specs.Pieces.{PumpedUpTo, ReadsUpTo};
 ghost use Rattle.vme_trace.specs.Reading.{HasRead, Pumped, ReadsPiece};
 
 use crate::Fault;
@@ -52,19 +52,49 @@ pub fn pump_with<R: Read, A: Allocator>(
     ensures none_appended { reader.old.place ≡ None → edges.new.items ≡ edges.old.items }
     ensures none_read { reader.old.place ≡ None → input.new ≡ input.old }
 {
+    pump_counted(reader, input, edges, buffer).0
+}
+
+/// What [`pump_with`] does and answers, and how many bytes the read gave, which are the first of the buffer.
+///
+/// Where they are fewer than it has room for, nothing else was waiting: whoever writes the input pauses, or it ends.
+/// They are none where the read failed, or there was no read.
+pub fn pump_counted<R: Read, A: Allocator>(
+    reader: &mut Reader,
+    input: &mut R,
+    edges: &mut Vec<Edge, A>,
+    buffer: &mut [u8],
+) -> (Result<bool, Fault>, usize)
+    requires { 0 < length buffer.old }
+    ensures reads { (bytes : List ℕ) (es : List Edge) → HasRead reader.old bytes es
+        → PumpedUpTo (length buffer.old) (R.remaining input.old) (R.remaining input.new)
+        bytes es edges.old.items edges.new.items reader.new result.0 }
+    ensures count { IfOk result.0 (λ _. ReadsUpTo (length buffer.old)
+        (R.remaining input.old) (R.remaining input.new) buffer.new result.1) }
+    ensures some { result.0 ≡ Ok true → 0 < result.1 }
+    ensures none { result.0 ≡ Ok false → result.1 ≡ 0 }
+    ensures failed { reader.old.place ≡ None → result ≡ (Err Fault.Failed, 0) }
+    ensures unchanged { reader.old.place ≡ None → reader.new ≡ reader.old }
+    ensures none_appended { reader.old.place ≡ None → edges.new.items ≡ edges.old.items }
+    ensures none_read { reader.old.place ≡ None → input.new ≡ input.old }
+{
     if reader.is_used_up() {
-        return Err(Fault::Failed);
+        return (Err(Fault::Failed), 0);
     }
     let Ok(count) = read_patiently(input, buffer) else {
         reader.give_up();
-        return Err(Fault::Read);
+        return (Err(Fault::Read), 0);
     };
     if count == 0 {
-        reader.finish()?;
-        return Ok(false);
+        return match reader.finish() {
+            Ok(()) => (Ok(false), 0),
+            Err(fault) => (Err(fault), 0),
+        };
     }
-    reader.feed(&buffer[..count], edges)?;
-    Ok(true)
+    match reader.feed(&buffer[..count], edges) {
+        Ok(()) => (Ok(true), count),
+        Err(fault) => (Err(fault), count),
+    }
 }
 
 /// One read of up to 512 bytes, which was not interrupted: how many bytes it gave, none only at the end of the input.

@@ -16,7 +16,7 @@ mod writer;
 
 pub use front::edge_of;
 pub use headers::{header_line, header_of};
-pub use input::{pump, pump_with, read_piece};
+pub use input::{pump, pump_counted, pump_with, read_piece};
 pub use patience::Patient;
 pub use reader::{Reader, parse};
 use thiserror::Error;

@@ -5,6 +5,6 @@ use Rattle.vme_draws.proofs.opens.append_open.Given as goal
 
 abbrev pub invariant-loop-driver : goal.invariant-loop-driver
 invariant-loop-driver l = record {
-  listed : l.edges.items ≡ flat_map (open_edges l.backplane) (take l.driver-index l.drivers);
+  listed : l.edges.items ≡ flat_map (open_edges l.bus) (take l.driver-index l.drivers);
   fits : length l.edges.items ≤ 36 * l.driver-index;
 }

@@ -10,7 +10,7 @@ use Rattle.vme_events.proofs.before.asked_before.Goals as goal
 
 pub returns-then-is_low : goal.returns-then-is_low
 returns-then-is_low c = λ k n same marks below low.
-    let h = c.args.backplane.now.history in
+    let h = c.args.bus.now.history in
     let d = c.args.driver in
     let other = Slot c.args.slot in
     let waits : drive h other Br ≡ true = sym (c.is_low.ensures.low k same marks) ∙ c.if-is_low.true in

@@ -10,7 +10,7 @@ use Rattle.vme_events.proofs.before.fills_burst.Goals as goal
 
 pub returns-in-Slot-Some : goal.returns-in-Slot-Some
 returns-in-Slot-Some c = λ k same marks.
-    let b = c.args.backplane.now in
+    let b = c.args.bus.now in
     let d = c.args.driver in
     let own = Slot c.in-Slot-Some.slot in
     let within : cycles b.history own ≤ length b.history = cycles_within b.history own in

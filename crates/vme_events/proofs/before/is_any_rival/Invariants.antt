@@ -6,4 +6,4 @@ use Rattle.vme_reasons.specs.Traced.{OfTrace}
 use Rattle.vme_events.proofs.before.is_any_rival.Given as goal
 
 abbrev pub invariant-loop-below : goal.invariant-loop-below
-invariant-loop-below l = OfTrace l.backplane l.marks (λ _. list_any (is_rival l.backplane.plan l.backplane.history l.driver l.level) (up_to l.below) ≡ false)
+invariant-loop-below l = OfTrace l.bus l.marks (λ _. list_any (is_rival l.bus.plan l.bus.history l.driver l.level) (up_to l.below) ≡ false)

@@ -7,7 +7,7 @@ use Rattle.vme_events.proofs.before.is_pending.Goals as goal
 
 pub returns-then-is_low : goal.returns-then-is_low
 returns-then-is_low c = λ k same marks.
-    let b = c.args.backplane.now in
+    let b = c.args.bus.now in
     let d = Slot c.args.slot in
     pending_unless_served b.plan b.history d c.in-Some.interrupter k c.is_none.result (sym c.interrupter_of.ensures ∙ c.in-Some.is) same
     (sym (c.is_low.ensures.low k same marks) ∙ c.if-is_low.true)

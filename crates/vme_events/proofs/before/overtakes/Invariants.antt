@@ -6,4 +6,4 @@ use Rattle.vme_events.specs.Ordered.{OfOrdered}
 use Rattle.vme_events.proofs.before.overtakes.Given as goal
 
 abbrev pub invariant-loop-below : goal.invariant-loop-below
-invariant-loop-below l = OfOrdered l.backplane l.marks (λ _. list_any (asked_before l.backplane.history l.driver) (up_to l.below) ≡ false)
+invariant-loop-below l = OfOrdered l.bus l.marks (λ _. list_any (asked_before l.bus.history l.driver) (up_to l.below) ≡ false)

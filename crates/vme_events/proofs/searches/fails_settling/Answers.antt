@@ -5,4 +5,4 @@ use Rattle.vme_events.proofs.Searched.{settling_alike}
 use Rattle.vme_events.proofs.searches.fails_settling.Goals as goal
 
 pub returns : goal.returns
-returns c = c.is_settling.ensures ∙ ap (is_settling c.args.rule) c.refusal.ensures ∙ settling_alike c.args.rule (verdict c.args.backplane.now c.args.edge)
+returns c = c.is_settling.ensures ∙ ap (is_settling c.args.rule) c.refusal.ensures ∙ settling_alike c.args.rule (verdict c.args.bus.now c.args.edge)

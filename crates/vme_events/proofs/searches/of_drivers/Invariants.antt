@@ -7,5 +7,5 @@ use Rattle.vme_events.proofs.searches.of_drivers.Given as goal
 
 abbrev pub invariant-loop-driver : goal.invariant-loop-driver
 invariant-loop-driver l =
-    find (refuses l.backplane l.miss) (flat_map (λ d. flat_map (moves l.backplane.history d) (wires d)) l.drivers)
-    ≡ find (refuses l.backplane l.miss) (flat_map (λ d. flat_map (moves l.backplane.history d) (wires d)) (drop l.driver-index l.drivers))
+    find (refuses l.bus l.miss) (flat_map (λ d. flat_map (moves l.bus.history d) (wires d)) l.drivers)
+    ≡ find (refuses l.bus l.miss) (flat_map (λ d. flat_map (moves l.bus.history d) (wires d)) (drop l.driver-index l.drivers))

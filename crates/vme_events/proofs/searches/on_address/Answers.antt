@@ -8,16 +8,16 @@ use Rattle.vme_events.proofs.Searched.{off_found, on_found}
 use Rattle.vme_events.proofs.searches.on_address.Goals as goal
 
 pub returns-then-refuses : goal.returns-then-refuses
-returns-then-refuses c = let b = c.args.backplane.now in let m = c.args.miss in let d = c.args.driver in
+returns-then-refuses c = let b = c.args.bus.now in let m = c.args.miss in let d = c.args.driver in
     let off : refuses b m (turned_to d Addr false) ≡ true = ap (refuses b m) (sym c.turned-off.ensures) ∙ sym c.refuses.ensures ∙ c.if-refuses.true in
     ap (λ e. Some e) c.turned-off.ensures ∙ sym (off_found b m d off)
 
 pub returns-in-Some : goal.returns-in-Some
-returns-in-Some c = let b = c.args.backplane.now in let m = c.args.miss in let d = c.args.driver in
+returns-in-Some c = let b = c.args.bus.now in let m = c.args.miss in let d = c.args.driver in
     let off : refuses b m (turned_to d Addr false) ≡ false = ap (refuses b m) (sym c.turned-off.ensures) ∙ sym c.refuses.ensures ∙ c.if-refuses.false in
     ap (λ e. Some e) c.showing.ensures ∙ sym (on_found b m d off ∙ ap (option_map (showing d)) (sym c.shown.ensures ∙ c.in-Some.is))
 
 pub returns-in-None : goal.returns-in-None
-returns-in-None c = let b = c.args.backplane.now in let m = c.args.miss in let d = c.args.driver in
+returns-in-None c = let b = c.args.bus.now in let m = c.args.miss in let d = c.args.driver in
     let off : refuses b m (turned_to d Addr false) ≡ false = ap (refuses b m) (sym c.turned-off.ensures) ∙ sym c.refuses.ensures ∙ c.if-refuses.false in
     sym (on_found b m d off ∙ ap (option_map (showing d)) (sym c.shown.ensures ∙ c.in-None.is))

@@ -6,5 +6,5 @@ use Rattle.vme_events.proofs.searches.on_wires.Given as goal
 
 abbrev pub invariant-loop-wire : goal.invariant-loop-wire
 invariant-loop-wire l =
-    find (refuses l.backplane l.miss) (flat_map (moves l.backplane.history l.driver) l.wires)
-    ≡ find (refuses l.backplane l.miss) (flat_map (moves l.backplane.history l.driver) (drop l.wire-index l.wires))
+    find (refuses l.bus l.miss) (flat_map (moves l.bus.history l.driver) l.wires)
+    ≡ find (refuses l.bus l.miss) (flat_map (moves l.bus.history l.driver) (drop l.wire-index l.wires))

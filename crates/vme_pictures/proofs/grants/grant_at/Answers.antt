@@ -9,21 +9,21 @@ use Rattle.vme_pictures.proofs.Letters.{only_grant}
 use Rattle.vme_pictures.proofs.grants.grant_at.Goals as goal
 
 pub returns-in-Some-clause-at : goal.returns-in-Some-clause-at
-returns-in-Some-clause-at c = let b = c.args.backplane.now in
+returns-in-Some-clause-at c = let b = c.args.bus.now in
     sym (c.loop-level.invariant ∙ found_on (is_granted_at b.plan b.history) (λ n. active b.plan (grant_chain n)) c.loop-level.level c.in-Some.slot (omega arith)
     (sym c.granted_on.ensures.slot ∙ c.in-Some.is))
 
 pub returns-in-Some-clause-only : goal.returns-in-Some-clause-only
-returns-in-Some-clause-only c = let b = c.args.backplane.now in
+returns-in-Some-clause-only c = let b = c.args.bus.now in
     only_grant b.plan b.history c.safety.ensures.safe c.loop-level.level c.in-Some.slot (returns-in-Some-clause-at c)
 
 pub returns-clause-only : goal.returns-clause-only
-returns-clause-only c = let b = c.args.backplane.now in
+returns-clause-only c = let b = c.args.bus.now in
     let all : c.loop-level.level ≡ 4 = omega arith in
     none_travels b.plan b.history
     (c.loop-level.invariant ∙ ap (λ (l : ℕ). find (is_granted_at b.plan b.history) (flat_map (λ n. map (λ s. (n, s)) (active b.plan (grant_chain n))) (drop l bus_numbers))) all)
 
 pub loop-level-preserved : goal.loop-level-preserved
-loop-level-preserved c = let b = c.args.backplane.now in
+loop-level-preserved c = let b = c.args.bus.now in
     c.loop-level.invariant ∙ found_on_later (is_granted_at b.plan b.history) (λ n. active b.plan (grant_chain n)) c.loop-level.level (omega arith)
     (sym c.granted_on.ensures.slot ∙ absent c.granted_on.result c.in_default.not-Some)

@@ -7,6 +7,6 @@ use Rattle.vme_pictures.proofs.grants.grant_at.Given as goal
 
 abbrev pub invariant-loop-level : goal.invariant-loop-level
 invariant-loop-level l =
-    find (is_granted_at l.backplane.plan l.backplane.history) (grant_places l.backplane.plan)
-    ≡ find (is_granted_at l.backplane.plan l.backplane.history)
-    (flat_map (λ n. map (λ s. (n, s)) (active l.backplane.plan (grant_chain n))) (drop l.level bus_numbers))
+    find (is_granted_at l.bus.plan l.bus.history) (grant_places l.bus.plan)
+    ≡ find (is_granted_at l.bus.plan l.bus.history)
+    (flat_map (λ n. map (λ s. (n, s)) (active l.bus.plan (grant_chain n))) (drop l.level bus_numbers))

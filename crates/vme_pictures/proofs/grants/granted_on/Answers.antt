@@ -8,14 +8,14 @@ use Rattle.vme_pictures.proofs.grants.granted_on.Goals as goal
 
 pub returns-then-is_granted_at-clause-range : goal.returns-then-is_granted_at-clause-range
 returns-then-is_granted_at-clause-range c =
-    let b = c.args.backplane.now in
+    let b = c.args.bus.now in
     let i = c.loop-slot.slot-index in
     let same : c.active-slot-items.result.now ≡ active b.plan c.grant_chain.result = c.active-slot-items.ensures ∙ ap (λ (p : Plan). active p c.grant_chain.result) c.plan.ensures in
     subst (λ (xs : List ℕ). get_or xs i 0 < 22) (sym same) (slot_of_chain b.plan c.laws.ensures.accepted c.grant_chain.result i 0 (subst (λ (xs : List ℕ). i < length xs) same c.loop-slot-test.true))
 
 pub loop-slot-preserved : goal.loop-slot-preserved
 loop-slot-preserved c =
-    let b = c.args.backplane.now in
+    let b = c.args.bus.now in
     let i = c.loop-slot.slot-index in
     let test = λ (s : ℕ). is_granted_at b.plan b.history (c.args.level, s) in
     let chain = active b.plan (grant_chain c.args.level) in

@@ -6,4 +6,4 @@ use Rattle.vme_model.specs.History.{drive}
 use Rattle.vme_pictures.proofs.grants.holder.Given as goal
 
 abbrev pub invariant-loop-below : goal.invariant-loop-below
-invariant-loop-below l = find (λ s. drive l.backplane.history (Slot s) Bbsy) (up_to l.below) ≡ None
+invariant-loop-below l = find (λ s. drive l.bus.history (Slot s) Bbsy) (up_to l.below) ≡ None

@@ -7,6 +7,6 @@ use Rattle.vme_pictures.proofs.wires.is_low.Goals as goal
 
 pub returns : goal.returns
 returns c =
-    let b = c.args.backplane.now in
+    let b = c.args.bus.now in
     c.unwrap_or.ensures ∙ ap (λ (o : Option Bool). unwrap_or o false) c.state.ensures
     ∙ or_high (has_driver b.plan c.args.driver c.args.wire) (drive b.history c.args.driver c.args.wire) (never_drove b.version b.plan b.history c.args.driver c.args.wire c.laws.ensures.legal)

@@ -5,6 +5,6 @@ use Rattle.vme_pictures.proofs.wires.plan_wires.Given as goal
 
 abbrev pub invariant-loop-driver : goal.invariant-loop-driver
 invariant-loop-driver l = record {
-  items : l.found.items ≡ flat_map (wires_of l.backplane) (take l.driver-index l.driver-items);
+  items : l.found.items ≡ flat_map (wires_of l.bus) (take l.driver-index l.driver-items);
   len : length l.found.items ≤ 9 * l.driver-index;
 }

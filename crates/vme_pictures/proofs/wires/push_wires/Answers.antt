@@ -20,7 +20,7 @@ before b d w = seen d w (drive b.history d w)
 
 pub loop-wire-preserved : goal.loop-wire-preserved
 loop-wire-preserved c =
-    let b = c.args.backplane.now in
+    let b = c.args.bus.now in
     let d = c.args.driver in
     let ws = c.wires-wire-items.result.now in
     let i = c.loop-wire.wire-index in

@@ -5,4 +5,4 @@ use Rattle.vme_pictures.proofs.wires.state.Goals as goal
 
 pub returns : goal.returns
 returns c =
-    c.low_by.ensures ∙ ap low_by c.answer.ensures ∙ rise_told c.args.backplane.now c.args.driver c.args.wire c.laws.ensures.accepted
+    c.low_by.ensures ∙ ap low_by c.answer.ensures ∙ rise_told c.args.bus.now c.args.driver c.args.wire c.laws.ensures.accepted

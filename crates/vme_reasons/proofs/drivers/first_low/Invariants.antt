@@ -6,4 +6,4 @@ use Rattle.vme_reasons.specs.Traced.{OfTrace}
 use Rattle.vme_reasons.proofs.drivers.first_low.Given as goal
 
 abbrev pub invariant-loop-below : goal.invariant-loop-below
-invariant-loop-below l = OfTrace l.backplane l.marks (λ _. find (λ s. drive l.backplane.history (Slot s) l.wire) (up_to l.below) ≡ None)
+invariant-loop-below l = OfTrace l.bus l.marks (λ _. find (λ s. drive l.bus.history (Slot s) l.wire) (up_to l.below) ≡ None)

@@ -5,7 +5,7 @@ use Rattle.vme_reasons.specs.Traced.{OfTrace}
 use Rattle.vme_reasons.proofs.grants.granted_slot.Given as goal
 
 abbrev pub invariant-loop-slot : goal.invariant-loop-slot
-invariant-loop-slot l = OfTrace l.backplane l.marks (λ _.
-    let chain = active l.backplane.plan (grant_chain l.level) in
-    let test = is_granted_at l.backplane.plan l.backplane.history in
+invariant-loop-slot l = OfTrace l.bus l.marks (λ _.
+    let chain = active l.bus.plan (grant_chain l.level) in
+    let test = is_granted_at l.bus.plan l.bus.history in
     find (λ s. test (l.level, s)) chain ≡ find (λ s. test (l.level, s)) (drop l.slot-index chain))

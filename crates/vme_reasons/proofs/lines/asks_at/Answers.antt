@@ -10,7 +10,7 @@ use Rattle.vme_reasons.proofs.lines.asks_at.Goals as goal
 
 pub returns-then-interrupts_on-clause-asks : goal.returns-then-interrupts_on-clause-asks
 returns-then-interrupts_on-clause-asks c = λ k at is.
-    let b = c.args.backplane.now in
+    let b = c.args.bus.now in
     let d = c.args.driver in
     let level = c.args.level in
     let asks : option_map_or (interrupts_on level) (board_of b.plan d) false ≡ true = ap (λ (r : Option Row). option_map_or (interrupts_on level) r false) (sym c.board_of.ensures.row ∙ c.in-Some.is) ∙ sym c.interrupts_on.ensures ∙ c.if-interrupts_on.true in

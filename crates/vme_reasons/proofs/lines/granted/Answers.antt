@@ -5,7 +5,7 @@ use Rattle.vme_reasons.proofs.lines.granted.Goals as goal
 
 pub returns : goal.returns
 returns c = λ k at is.
-    let b = c.args.backplane.now in
+    let b = c.args.bus.now in
     let level : c.last_level.result ≡ last_level b.history = c.last_level.ensures b.plan k is ∙ ap last_level at in
     let grant : c.granted_since.result ≡ granted_since k = c.granted_since.ensures b.plan k is in
     cc

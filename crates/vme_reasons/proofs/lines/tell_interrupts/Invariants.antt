@@ -9,7 +9,7 @@ use Rattle.vme_reasons.proofs.lines.tell_interrupts.Given as goal
 
 abbrev pub invariant-loop-driver : goal.invariant-loop-driver
 invariant-loop-driver l = record {
-  told : (k : Numbered) → edges_in k ≡ l.backplane.history → IsMarksOf l.backplane.plan k l.marks →
-      l.told.items ≡ l.fn.told.items ++ map (λ d. seen l.backplane k d Irq) (filter (asks_at l.backplane l.level) (take l.driver-index l.driver-items));
+  told : (k : Numbered) → edges_in k ≡ l.bus.history → IsMarksOf l.bus.plan k l.marks →
+      l.told.items ≡ l.fn.told.items ++ map (λ d. seen l.bus k d Irq) (filter (asks_at l.bus l.level) (take l.driver-index l.driver-items));
   few : length l.told.items ≤ length l.fn.told.items + l.driver-index;
 }

@@ -7,7 +7,7 @@ use Rattle.vme_reasons.proofs.lines.tell_low.Given as goal
 
 abbrev pub invariant-loop-driver : goal.invariant-loop-driver
 invariant-loop-driver l = record {
-  told : (k : Numbered) → edges_in k ≡ l.backplane.history → IsMarksOf l.backplane.plan k l.marks →
-      l.told.items ≡ l.fn.told.items ++ map (λ d. seen l.backplane k d l.wire) (filter (holds_low l.backplane l.wire) (take l.driver-index l.driver-items));
+  told : (k : Numbered) → edges_in k ≡ l.bus.history → IsMarksOf l.bus.plan k l.marks →
+      l.told.items ≡ l.fn.told.items ++ map (λ d. seen l.bus k d l.wire) (filter (holds_low l.bus l.wire) (take l.driver-index l.driver-items));
   few : length l.told.items ≤ length l.fn.told.items + l.driver-index;
 }

@@ -9,7 +9,7 @@ use Rattle.vme_reasons.proofs.lines.tell_low_grants.Goals as goal
 
 pub returns-clause-told : goal.returns-clause-told
 returns-clause-told c = λ k at is.
-    let b = c.args.backplane.now in
+    let b = c.args.bus.now in
     let f : ℕ → Witness = λ n. seen b k Controller (Bg n) in
     let low : ℕ → Bool = λ n. drive b.history Controller (Bg n) in
     let o = c.args.told.now.items in

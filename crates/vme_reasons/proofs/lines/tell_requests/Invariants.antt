@@ -8,7 +8,7 @@ use Rattle.vme_reasons.proofs.lines.tell_requests.Given as goal
 
 abbrev pub invariant-loop-driver : goal.invariant-loop-driver
 invariant-loop-driver l = record {
-  told : (k : Numbered) → edges_in k ≡ l.backplane.history → IsMarksOf l.backplane.plan k l.marks →
-      l.told.items ≡ l.fn.told.items ++ map (λ d. wire_at l.backplane k d Br (option_map (λ q. q.level) (requester_of l.backplane d))) (filter (holds_low l.backplane Br) (take l.driver-index l.driver-items));
+  told : (k : Numbered) → edges_in k ≡ l.bus.history → IsMarksOf l.bus.plan k l.marks →
+      l.told.items ≡ l.fn.told.items ++ map (λ d. wire_at l.bus k d Br (option_map (λ q. q.level) (requester_of l.bus d))) (filter (holds_low l.bus Br) (take l.driver-index l.driver-items));
   few : length l.told.items ≤ length l.fn.told.items + l.driver-index;
 }

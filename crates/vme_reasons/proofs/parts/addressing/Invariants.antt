@@ -7,5 +7,5 @@ use Rattle.vme_reasons.specs.Marked.{IsMarksOf}
 use Rattle.vme_reasons.proofs.parts.addressing.Given as goal
 
 abbrev pub invariant-loop-slot : goal.invariant-loop-slot
-invariant-loop-slot l = (k : Numbered) → edges_in k ≡ l.backplane.history → IsMarksOf l.backplane.plan k l.marks →
-    (s : ℕ) → 1 ≤ s → s < l.slot → drive l.backplane.history (Slot s) Addr ≡ false
+invariant-loop-slot l = (k : Numbered) → edges_in k ≡ l.bus.history → IsMarksOf l.bus.plan k l.marks →
+    (s : ℕ) → 1 ≤ s → s < l.slot → drive l.bus.history (Slot s) Addr ≡ false

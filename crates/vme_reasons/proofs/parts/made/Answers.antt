@@ -11,7 +11,7 @@ made-requires c = below_22 c.args.slot c.requires
 
 pub returns : goal.returns
 returns c = λ k at is.
-    let b = c.args.backplane.now in
+    let b = c.args.bus.now in
     let d = Slot c.args.slot in
     let within : cycles b.history d ≤ length b.history = cycles_within b.history d in
     let few : cycles b.history d < 2 ^ 64 = omega (arith, c.laws.ensures.fits, c.laws.ensures.bounded) in

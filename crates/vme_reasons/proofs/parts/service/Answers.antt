@@ -6,7 +6,7 @@ use Rattle.vme_reasons.proofs.parts.service.Goals as goal
 
 pub returns-in_ok-since-in-Slot : goal.returns-in_ok-since-in-Slot
 returns-in_ok-since-in-Slot c = λ k at is.
-    let b = c.args.backplane.now in
+    let b = c.args.bus.now in
     let d = c.args.driver in
     let low : drive b.history d Irq ≡ true = cc (c.is_low.ensures b.plan k is, c.if-is_low.true, at) in
     service_told b k d c.in-Slot.slot c.in_ok-interrupter.interrupter c.in_ok-since-in-Slot.since c.in-Slot.is low
@@ -14,7 +14,7 @@ returns-in_ok-since-in-Slot c = λ k at is.
 
 pub returns-in_default : goal.returns-in_default
 returns-in_default c = λ k at is.
-    let b = c.args.backplane.now in
+    let b = c.args.bus.now in
     let d = c.args.driver in
     let high : drive b.history d Irq ≡ false = cc (c.is_low.ensures b.plan k is, c.if-is_low.false, at) in
     service_high b k d high

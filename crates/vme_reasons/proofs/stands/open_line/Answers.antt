@@ -9,6 +9,6 @@ use Rattle.vme_reasons.proofs.stands.open_line.Goals as goal
 
 pub word_of-requires : goal.word_of-requires
 word_of-requires c =
-    let b = c.args.backplane.now in
+    let b = c.args.bus.now in
     let e = get_or c.as_slice-edge-items.result.now c.loop-edge.edge-index (record { driver = Controller; wire = Bg 0; fall = false; value = None }) in
     open_has_word b e ((c.open_edges.ensures.all e).1 (subst (λ (es : List Edge). Contains es e) c.as_slice-edge-items.ensures.value (Contains-get_or c.as_slice-edge-items.result.now c.loop-edge.edge-index (record { driver = Controller; wire = Bg 0; fall = false; value = None }) c.loop-edge-test.true))).1

@@ -9,20 +9,20 @@ use Rattle.vme_reasons.proofs.stands.write_drivers.Goals as goal
 
 pub returns-in_err-write_lines-clause-front : goal.returns-in_err-write_lines-clause-front
 returns-in_err-write_lines-clause-front g c = on_err c.from_residual.result _ (λ k same marks.
-    let b = c.args.backplane.now in
+    let b = c.args.bus.now in
     front_of_first _ _ (lines_of b (asks_text b k)) (lines_of b (pending_text b k)) (lines_of b (low_text b)) (lines_of b (open_line b))
     (c.in_err-write_lines.ensures.front k same marks))
 
 pub returns-in_err-write_lines-2-clause-front : goal.returns-in_err-write_lines-2-clause-front
 returns-in_err-write_lines-2-clause-front g c = on_err c.from_residual-in_err-write_lines-2.result _ (λ k same marks.
-    let b = c.args.backplane.now in
+    let b = c.args.bus.now in
     front_of_second _ _ _ (lines_of b (asks_text b k)) (lines_of b (pending_text b k)) (lines_of b (low_text b)) (lines_of b (open_line b))
     (c.in_ok-write_lines.ensures.ok k same marks)
     (c.in_err-write_lines-2.ensures.front k same marks))
 
 pub returns-in_err-write_lines-3-clause-front : goal.returns-in_err-write_lines-3-clause-front
 returns-in_err-write_lines-3-clause-front g c = on_err c.from_residual-in_err-write_lines-3.result _ (λ k same marks.
-    let b = c.args.backplane.now in
+    let b = c.args.bus.now in
     front_of_third _ _ _ _ (lines_of b (asks_text b k)) (lines_of b (pending_text b k)) (lines_of b (low_text b)) (lines_of b (open_line b))
     (c.in_ok-write_lines.ensures.ok k same marks)
     (c.in_ok-write_lines-2.ensures.ok k same marks)
@@ -30,8 +30,8 @@ returns-in_err-write_lines-3-clause-front g c = on_err c.from_residual-in_err-wr
 
 pub returns-clause-ok : goal.returns-clause-ok
 returns-clause-ok g c =
-    at_ok c.write_lines-4.result (OfTrace c.args.backplane.now c.args.marks.now (λ k. Appends (g.W.Write.contents c.write_lines-3.new.out) (g.W.Write.contents c.write_lines-4.new.out) (lines_of c.args.backplane.now (open_line c.args.backplane.now)))) _
-    (λ w k same marks. let b = c.args.backplane.now in
+    at_ok c.write_lines-4.result (OfTrace c.args.bus.now c.args.marks.now (λ k. Appends (g.W.Write.contents c.write_lines-3.new.out) (g.W.Write.contents c.write_lines-4.new.out) (lines_of c.args.bus.now (open_line c.args.bus.now)))) _
+    (λ w k same marks. let b = c.args.bus.now in
     Appends-trans _ _ _ ((lines_of b (asks_text b k) ++ lines_of b (pending_text b k)) ++ lines_of b (low_text b)) (lines_of b (open_line b))
     (all_three _ _ _ _ (lines_of b (asks_text b k)) (lines_of b (pending_text b k)) (lines_of b (low_text b))
     (c.in_ok-write_lines.ensures.ok k same marks)
@@ -42,8 +42,8 @@ returns-clause-ok g c =
 
 pub returns-clause-front : goal.returns-clause-front
 returns-clause-front g c =
-    at_err c.write_lines-4.result (OfTrace c.args.backplane.now c.args.marks.now (λ k. AppendsFront (g.W.Write.contents c.write_lines-3.new.out) (g.W.Write.contents c.write_lines-4.new.out) (lines_of c.args.backplane.now (open_line c.args.backplane.now)))) _
-    (λ w k same marks. let b = c.args.backplane.now in
+    at_err c.write_lines-4.result (OfTrace c.args.bus.now c.args.marks.now (λ k. AppendsFront (g.W.Write.contents c.write_lines-3.new.out) (g.W.Write.contents c.write_lines-4.new.out) (lines_of c.args.bus.now (open_line c.args.bus.now)))) _
+    (λ w k same marks. let b = c.args.bus.now in
     front_behind _ _ _ ((lines_of b (asks_text b k) ++ lines_of b (pending_text b k)) ++ lines_of b (low_text b)) (lines_of b (open_line b))
     (all_three _ _ _ _ (lines_of b (asks_text b k)) (lines_of b (pending_text b k)) (lines_of b (low_text b))
     (c.in_ok-write_lines.ensures.ok k same marks)

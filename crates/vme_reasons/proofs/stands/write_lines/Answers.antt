@@ -11,7 +11,7 @@ use Rattle.vme_reasons.proofs.stands.write_lines.Goals.{then-not-is_empty+in_ok-
 
 pub returns-in_err-write_line-clause-front : goal.returns-in_err-write_line-clause-front
 returns-in_err-write_line-clause-front g c = on_err c.from_residual.result _ (λ k same marks.
-    let text = topic_text c.args.topic c.args.backplane.now k in
+    let text = topic_text c.args.topic c.args.bus.now k in
     let ds = c.as_slice-driver-items.result.now in
     let i = c.loop-driver.driver-index in
     let line = c.topic_line-line.ensures k same marks in
@@ -22,7 +22,7 @@ returns-in_err-write_line-clause-front g c = on_err c.from_residual.result _ (λ
 
 pub loop-driver-preserved : goal.loop-driver-preserved
 loop-driver-preserved g c = λ k same marks.
-    let text = topic_text c.args.topic c.args.backplane.now k in
+    let text = topic_text c.args.topic c.args.bus.now k in
     let ds = c.as_slice-driver-items.result.now in
     let i = c.loop-driver.driver-index in
     let line = c.topic_line-line.ensures k same marks in

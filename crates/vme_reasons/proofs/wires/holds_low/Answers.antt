@@ -7,7 +7,7 @@ use Rattle.vme_reasons.proofs.wires.holds_low.Goals as goal
 
 pub returns-then-has_driver-clause-low : goal.returns-then-has_driver-clause-low
 returns-then-has_driver-clause-low c = λ k at is.
-    let b = c.args.backplane.now in
+    let b = c.args.bus.now in
     let d = c.args.driver in
     let w = c.args.wire in
     let has : has_driver b.plan d w ≡ true = ap (λ (p : Plan). has_driver p d w) (sym c.plan.ensures) ∙ sym c.has_driver.ensures.has ∙ c.if-has_driver.true in

@@ -8,7 +8,7 @@ use Rattle.vme_reasons.proofs.wires.wire_at.Goals as goal
 
 pub returns : goal.returns
 returns c = λ k at is.
-    let b = c.args.backplane.now in
+    let b = c.args.bus.now in
     let d = c.args.driver in
     let w = c.args.wire in
     let low : c.is_low-low.result ≡ drive b.history d w = c.is_low-low.ensures b.plan k is ∙ ap (λ (h : List Edge). drive h d w) at in

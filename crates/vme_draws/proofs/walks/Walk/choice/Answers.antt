@@ -12,7 +12,7 @@ use Rattle.vme_draws.proofs.walks.Walk.choice.Goals as goal
 
 pub returns-in_err-kind-clause-edge : goal.returns-in_err-kind-clause-edge
 returns-in_err-kind-clause-edge c =
-    let w : Walk = record { seed = c.self.inside.seed; state = c.self.inside.backplane; numbers = c.self.inside.numbers } in
+    let w : Walk = record { seed = c.self.inside.seed; state = c.self.inside.bus; numbers = c.self.inside.numbers } in
     let xs = c.new-chances.result.by_kind in
     let listed = c.as_slice-edges.ensures.value ∙ c.all_open.ensures in
     let ready : AreCounts w.state.plan (all_open w.state) c.of-ready.result.counts = λ k. c.of-ready.ensures k ∙ ap (λ (p : Plan). count p k c.as_slice-edges.result.now) c.plan-plan.ensures ∙ ap (λ (es : List Edge). count w.state.plan k es) listed in
@@ -25,7 +25,7 @@ pub returns-clause-edge : goal.returns-clause-edge
 returns-clause-edge c =
     let k = c.in_ok-kind.kind in
     let y = c.scaled-place.result in
-    let w : Walk = record { seed = c.self.inside.seed; state = c.self.inside.backplane; numbers = c.self.inside.numbers } in
+    let w : Walk = record { seed = c.self.inside.seed; state = c.self.inside.bus; numbers = c.self.inside.numbers } in
     let xs = c.new-chances.result.by_kind in
     let listed = c.as_slice-edges.ensures.value ∙ c.all_open.ensures in
     let ready : AreCounts w.state.plan (all_open w.state) c.of-ready.result.counts = λ k. c.of-ready.ensures k ∙ ap (λ (p : Plan). count p k c.as_slice-edges.result.now) c.plan-plan.ensures ∙ ap (λ (es : List Edge). count w.state.plan k es) listed in

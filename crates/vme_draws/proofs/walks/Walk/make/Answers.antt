@@ -10,13 +10,13 @@ use Rattle.vme_draws.proofs.walks.Walk.make.Goals as goal
 
 pub add-requires : goal.add-requires
 add-requires c =
-    let b = c.self.inside.backplane in
+    let b = c.self.inside.bus in
     let k = kind_of c.plan.result.now c.args.edge in
     omega (arith, c.self.invariant.1 k, few b.plan k b.history, c.laws.ensures.fits, c.laws.ensures.bounded)
 
 pub invariant_of-self : goal.invariant_of-self
 invariant_of-self c =
-    let b = c.self.inside.backplane in
+    let b = c.self.inside.bus in
     let e = c.args.edge in
     let ok = subst (λ (v : Walk). verdict v.state e ≡ Ok tt) (sym c.self.view_is) c.requires in
     let more = subst (λ (p : Plan). CountsIn p e c.self.inside.made.counts c.add.new.self.counts) c.plan.ensures c.add.ensures in (
