@@ -1,5 +1,5 @@
 -- What a plan says of each slot and line, as numbers.
-use Rattle.std.specs.Prelude.{◌≡◌, ◌+◌, ◌<◌, ℕ, Bool, false, Option, Some, None, List, option_map, is_some, length, get_or}
+use Rattle.std.specs.Prelude.{◌≡◌, ◌+◌, ◌<◌, ℕ, Bool, true, false, Option, Some, None, List, option_map, is_some, length, get_or}
 use Rattle.std.specs.List.{slice_get}
 use Rattle.std.specs.Option.{option_and_then, option_map_or}
 use Rattle.vme_model.specs.declared.boards.Row.{Row}
@@ -51,6 +51,7 @@ is_on (line.Request level) r = requests_on level r
 is_on (line.Interrupt level) r = interrupts_on level r
 is_on line.AnyRequest r = is_some r.requester
 is_on line.AnyInterrupt r = is_some r.interrupter
+is_on line.DataAcknowledge r = true
 
 abbrev pub slot_is_on : Plan → Line → ℕ → Bool
 slot_is_on p l s = option_map_or (is_on l) (board p s) false
@@ -76,3 +77,4 @@ pub record IsLayoutOf (p : Plan) (l : Layout) : Type 0 where
   pub slots : l.slots ≡ p.slots
   pub requesters : HoldsLine p line.AnyRequest l.requesters
   pub interrupters : HoldsLine p line.AnyInterrupt l.interrupters
+  pub boards : HoldsLine p line.DataAcknowledge l.boards

@@ -28,6 +28,8 @@ pub enum Line {
     AnyRequest,
     /// Any of IRQ1* to IRQ7*.
     AnyInterrupt,
+    /// DTACK*.
+    DataAcknowledge,
 }
 
 /// What a plan says of each slot and line, as numbers alone.
@@ -44,6 +46,8 @@ pub struct Layout {
     pub requesters: SlotSet,
     /// The slots of boards with an interrupter.
     pub interrupters: SlotSet,
+    /// The slots of boards.
+    pub boards: SlotSet,
     pub seats: [SeatRecord; 22],
     /// Where the last segments of the grant chains stand.
     pub grant_ends: [u8; 4],
@@ -67,6 +71,7 @@ impl Line {
             }
             Line::AnyRequest => row.requester.is_some(),
             Line::AnyInterrupt => row.interrupter.is_some(),
+            Line::DataAcknowledge => true,
         }
     }
 }
@@ -212,6 +217,7 @@ impl Layout {
             slots: plan.slots(),
             requesters: slots_on(plan, Line::AnyRequest),
             interrupters: slots_on(plan, Line::AnyInterrupt),
+            boards: slots_on(plan, Line::DataAcknowledge),
         }
     }
 }

@@ -20,6 +20,25 @@ use vme_rules::{Outcome, allowed};
 impl BusState {
     ghost use Rattle.vme_bus.specs.States.{OfHistory, OfSeat};
 
+    /// Whether the slot has a board with the part that drives the wire.
+    #[inline(always)]
+    fn can_drive(&self, slot: u8, wire: Wire) -> bool
+        ensures { OfHistory self.now (λ _ p _. result ≡ has_driver p (Slot slot) wire) }
+    {
+        match wire {
+            Wire::Br => self.layout.requesters.has(slot),
+            Wire::BgOut => self.layout.requesters.has(slot),
+            Wire::Bbsy => self.layout.requesters.has(slot),
+            Wire::Addr => self.layout.requesters.has(slot),
+            Wire::AddressStrobe => self.layout.requesters.has(slot),
+            Wire::DataStrobe => self.layout.requesters.has(slot),
+            Wire::Irq => self.layout.interrupters.has(slot),
+            Wire::IackOut => self.layout.interrupters.has(slot),
+            Wire::Dtack => self.layout.boards.has(slot),
+            Wire::Bg(_) | Wire::Bclr | Wire::Iack | Wire::Berr => false,
+        }
+    }
+
     /// Whether the backplane has the driver, with such a wire.
     #[inline(always)]
     fn has_driver(&self, driver: Driver, wire: Wire) -> bool
@@ -27,10 +46,7 @@ impl BusState {
     {
         match driver {
             Driver::Controller => wire.is_controllers(),
-            Driver::Slot(slot) => match self.seat(slot) {
-                Some(seat) => seat.row.drives(wire),
-                None => false,
-            },
+            Driver::Slot(slot) => self.can_drive(slot, wire),
         }
     }
 

@@ -20,6 +20,7 @@ returns c =
       slots = c.slots.ensures;
       requesters = c.slots_on-13.ensures;
       interrupters = c.slots_on-14.ensures;
+      boards = c.slots_on-15.ensures;
     }
   where
     four : (n : ℕ) → n < 4 → get_or (c.grant_end.result ∷ c.grant_end-2.result ∷ c.grant_end-3.result ∷ c.grant_end-4.result ∷ []) n 0 ≡ place_of (grant_head n) (last_active c.args.plan.now (grant_chain n))
