@@ -88,7 +88,7 @@ module _ (p : Plan) (v : Version) (all : List ℕ) (s : Streams) (es : List Edge
     | inr write ↦ cut more came write.1 write.2 f write.0
   ]
 
-pub shows_all : (p : Plan) (v : Version) (all : List ℕ) (s : Streams) (first : Stage) (answer : Result Told Fault) → first.backplane ≡ bench p v → IsFresh first
+pub shows_all : (p : Plan) (v : Version) (all : List ℕ) (s : Streams) (first : Stage) (answer : Result Told Fault) → first.bus ≡ bench p v → IsFresh first
     → Answers (λ es more old new (now : Stage) a. ShowsPiece first es more old new now a) v [] all s answer → Shows first.stretch.from first.stretch.to first.stretch.color p all s (told_answer answer)
 shows_all p v all s first answer is fresh h =
     shows_so p v all s h.0 (came_begins v [] all s.from s.to h.0 h.1 h.3) first.stretch fresh.stretch h.1 h.2 answer h.3

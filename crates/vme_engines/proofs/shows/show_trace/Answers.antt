@@ -21,7 +21,7 @@ read_on-requires-clause-begun g c = c.new-showing.ensures.fresh.none.judged
 pub returns-in-Some : goal.returns-in-Some
 returns-in-Some g c =
     let ran = c.read_on.ensures c.in-Some.version (g.R.Read.remaining c.args.trace.now) [] [] (sym c.version.ensures ∙ c.in-Some.is) c.open-first.ensures.0 in
-    let is = c.new-showing.ensures.backplane ∙ rw c.requires.room at c.new.ensures in (
+    let is = c.new-showing.ensures.bus ∙ c.new.ensures in (
       ran.0,
       ran.1,
       rw (← c.new-showing.ensures.stretch) (shows_all c.args.plan c.in-Some.version ran.0 _ c.new-showing.result c.read_on.result is c.new-showing.ensures.fresh ran.2),
