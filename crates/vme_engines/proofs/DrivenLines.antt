@@ -1,21 +1,21 @@
 -- The lines of a drive, written as its edges are made.
-use Rattle.std.proofs.Common.{◌≡◌, ℕ, zero, suc, ◌+◌, ◌<◌, ◌%◌, get_or, List, [], ◌∷◌, ◌++◌, length, Bool, true, false, drop, Option, Some, None, Result, Ok, Err, OnOk, OnErr, IfErr, refl, sym, ◌∙◌, ap, append_assoc, subst, slice_get, ◌==◌, if◌then◌else◌, ◌≢◌, ne_eqb, eqb-true}
+use Rattle.std.proofs.Common.{◌≡◌, ℕ, zero, suc, ◌+◌, ◌<◌, ◌%◌, get_or, List, [], ◌∷◌, ◌++◌, length, Bool, true, false, drop, Option, Some, Result, Ok, Err, OnOk, OnErr, IfErr, refl, sym, ◌∙◌, ap, subst, slice_get, ◌==◌, if◌then◌else◌, ◌≢◌, ne_eqb, eqb-true}
 use Rattle.std.specs.Option.{option_map_or}
-use Rattle.std.proofs.lemmas.List.{reverse-append, drop_more}
+use Rattle.std.proofs.lemmas.List.{drop_more}
 use Rattle.std.specs.Io.KnownBytes.{Appends, Keeps}
-use Rattle.std.proofs.KnownBytes.{Appends-trans, Appends-nil, Appends-kept}
+use Rattle.std.proofs.KnownBytes.{Appends-trans, Appends-kept}
 use Rattle.vme_model.specs.declared.signals.Driver.{Driver}
 use Rattle.vme_model.specs.declared.signals.Edge.{Edge}
 use Rattle.vme_model.specs.Plan.{drivers}
 use Rattle.vme_model.specs.History.{in_order}
 use Rattle.vme_model.specs.Verdict.{State, made}
 use Rattle.vme_model.specs.Offers.{offered, turn, turns, rounds_from, rounds}
-use Rattle.vme_model.specs.Text.{header, edge_lines, text}
+use Rattle.vme_model.specs.Text.{header, text}
 use Rattle.vme_trace.specs.declared.Fault.{Fault}
 use Rattle.vme_trace.specs.declared.Fault.TheVariants.{Write}
 use Rattle.vme_trace.specs.Writing.{AppendsFront, edge_line}
 use Rattle.vme_engines.specs.Texts.{HandsOn, IsListed, KeepsListed, ListsOn, lines_made, trace_made}
-use Rattle.vme_engines.proofs.WrittenLines.{front_of_more, front_behind, line_alone, lines_behind}
+use Rattle.vme_engines.proofs.WrittenLines.{front_of_more, front_behind}
 use Rattle.vme_engines.proofs.DriveRounds.{later, same_length, rounds_later}
 use Rattle.vme_engines.proofs.ListedLines.{IsBefore, itself, before_both, before_made, before_if, front_later, listed_edge, listed_part, lines_cut, lines_written, lines_part}
 

@@ -1,19 +1,13 @@
 -- A trace that is followed edge by edge.
 use Rattle.std.proofs.Common.{◌≡◌, ℕ, ◌+◌, ◌<◌, ◌≤◌, List, [], ◌∷◌, ◌++◌, length, Bool, true, false, Option, Some, None, Ok, Err, is_ok, get_or, take, drop, if◌then◌else◌, refl, sym, ◌∙◌, ap, subst, arith, take-append-drop}
 use Rattle.std.proofs.Math.ListN.{length-append}
-use Rattle.std.proofs.lemmas.Bool.{and_parts}
 use Rattle.std.proofs.lemmas.List.{take_more, drop_more, length-take-le}
-use Rattle.std.specs.Prelude.{◌&&◌}
-use Rattle.vme_model.specs.declared.deliveries.Delivery.{Delivery}
-use Rattle.vme_model.specs.declared.refusals.Refused.TheVariants.{NoSuchDriver}
 use Rattle.vme_model.specs.declared.signals.Cycle.{Cycle}
 use Rattle.vme_model.specs.declared.signals.Edge.{Edge}
 use Rattle.vme_model.specs.declared.signals.Wire.TheVariants.{Dtack}
-use Rattle.vme_model.specs.Signals.{is_well_formed}
-use Rattle.vme_model.specs.Plan.{Plan, has_driver}
+use Rattle.vme_model.specs.Plan.{Plan}
 use Rattle.vme_model.specs.History.{shown}
-use Rattle.vme_model.specs.Verdict.{State, Judgement, check, verdict, made, after, kept}
-use Rattle.vme_model.specs.Deliveries.{answer, delivery, with_delivery}
+use Rattle.vme_model.specs.Verdict.{State, Judgement, verdict, made, after, kept}
 use Rattle.vme_model.specs.Numbered.{Numbered, edges_in, numbered_with, numbered_on}
 use Rattle.vme_reasons.specs.declared.marks.Marks.{Marks}
 use Rattle.vme_reasons.specs.Marked.{IsMarksOf}

@@ -2,23 +2,20 @@
 use Rattle.std.proofs.Common.{◌≡◌, ◌⊎◌, inl, inr, ℕ, ◌+◌, ◌-◌, ◌<◌, ◌≤◌, List, [], ◌∷◌, ◌++◌, length, take, drop, map, Bool, true, false, Option, Some, None, Result, Ok, Err, OnErr, refl, sym, ◌∙◌, ap, subst, arith, append_assoc, append-nil, take-append-drop}
 use Rattle.std.proofs.lemmas.List.{length-append, length-take-le, take_all, take-take, take-append-le, drop-append-le, drop_all, map_push, nil_from_length, take_at}
 use Rattle.std.specs.Io.KnownBytes.{Keeps, Appends}
-use Rattle.std.proofs.KnownBytes.{Keeps-trans, Appends-nil, Appends-kept}
+use Rattle.std.proofs.KnownBytes.{Keeps-trans}
 use Rattle.vme_model.specs.declared.signals.Edge.{Edge}
 use Rattle.vme_model.specs.Verdict.{State, after, kept}
 use Rattle.vme_pictures.specs.declared.columns.Column.{Column}
 use Rattle.vme_pictures.specs.Picture.{columns, picture}
 use Rattle.vme_pictures.specs.Columns.{Seen, IsWindowOf, column_of, with_column}
 use Rattle.vme_trace.specs.declared.Fault.{Fault}
-use Rattle.vme_trace.specs.declared.Fault.TheVariants.{Write}
 use Rattle.vme_trace.specs.Writing.{AppendsFront}
-use Rattle.vme_engines.specs.declared.Status.{Status}
 use Rattle.vme_engines.specs.declared.following.Told.{Told}
 use Rattle.vme_engines.specs.declared.following.Told.TheVariants.{Block, Beyond}
 use Rattle.vme_engines.specs.declared.shows.Stretch.{Stretch}
 use Rattle.vme_engines.specs.Outcomes.{status_with}
-use Rattle.vme_engines.specs.Stretches.{Stage, IsStretch, IsOpened, IsCount}
-use Rattle.vme_engines.specs.Showing.{picture_of}
-use Rattle.vme_engines.specs.Shown.{Ends, EndsStretch, GoesOn, IsBefore, IsEnd, IsKept, IsShown, ShowsPiece, status_to, stretch_text}
+use Rattle.vme_engines.specs.Stretches.{Stage}
+use Rattle.vme_engines.specs.Shown.{Ends, EndsStretch, GoesOn, IsBefore, IsKept, IsShown, ShowsPiece, stretch_text}
 use Rattle.vme_engines.specs.Pieces.{answered}
 use Rattle.vme_engines.proofs.WrittenLines.{kept_append, on_err}
 use Rattle.vme_engines.proofs.ToldPieces.{appends_behind, front_after, front_then}

@@ -1,5 +1,5 @@
 -- What the edges of a trace come to, piece by piece.
-use Rattle.std.proofs.Common.{◌≡◌, inl, inr, ℕ, ◌+◌, ◌-◌, ◌<◌, ◌≤◌, ◌^◌, List, [], ◌∷◌, ◌++◌, length, Bool, true, false, Option, Some, None, Result, Ok, Err, is_ok, refl, sym, ◌∙◌, ap, subst, arith, append_assoc, append-nil}
+use Rattle.std.proofs.Common.{◌≡◌, inl, inr, ℕ, ◌+◌, ◌-◌, ◌<◌, ◌^◌, List, [], ◌∷◌, ◌++◌, length, Bool, true, false, Option, Some, None, Result, Ok, Err, is_ok, refl, sym, ◌∙◌, ap, subst, arith, append_assoc, append-nil}
 use Rattle.std.specs.Prelude.{if◌then◌else◌}
 use Rattle.std.proofs.Math.ListN.{length-append}
 use Rattle.std.specs.Io.KnownBytes.{Keeps, Appends}
@@ -9,20 +9,19 @@ use Rattle.vme_model.specs.declared.signals.Version.{Version}
 use Rattle.vme_model.specs.declared.signals.Edge.{Edge}
 use Rattle.vme_model.specs.Plan.{Plan}
 use Rattle.vme_model.specs.Verdict.{State, Judgement, verdict, made, after, kept}
-use Rattle.vme_model.specs.Deliveries.{answer, delivery, with_delivery}
-use Rattle.vme_model.specs.Text.{Reading, read_of}
-use Rattle.vme_model.specs.Numbered.{Numbered, numbered_with, numbered_on, numbered}
+use Rattle.vme_model.specs.Deliveries.{delivery, with_delivery}
+use Rattle.vme_model.specs.Text.{read_of}
+use Rattle.vme_model.specs.Numbered.{Numbered, numbered_with, numbered}
 use Rattle.vme_reasons.specs.Marked.{IsMarksOf}
 use Rattle.vme_reasons.specs.Traced.{OfTrace}
 use Rattle.vme_trace.specs.declared.Fault.{Fault}
-use Rattle.vme_trace.specs.declared.Fault.TheVariants.{Write}
 use Rattle.vme_trace.specs.Reading as trace
 use Rattle.vme_trace.specs.Writing.{AppendsFront}
 use Rattle.vme_events.specs.declared.events.Event.{Event}
 use Rattle.vme_events.specs.Events.{events_of}
 use Rattle.vme_events.specs.Ordered.{OfOrdered}
 use Rattle.vme_events.proofs.Places.{numbers_below}
-use Rattle.vme_tallies.specs.Tally.{Answers as Told, Answered, answered_edge, answered_on, answered, is_accepted, accepted, refused}
+use Rattle.vme_tallies.specs.Tally.{Answers as Told, answered_edge, answered_on, answered, is_accepted, accepted, refused}
 use Rattle.vme_tallies.specs.Tallied.{IsTallyOf}
 use Rattle.vme_tallies.specs.Summary.{summary_text}
 use Rattle.vme_tallies.proofs.Counted.{count_step}
@@ -30,12 +29,12 @@ use Rattle.vme_tallies.proofs.Words.{each_once}
 use Rattle.vme_engines.specs.declared.Status.{Status}
 use Rattle.vme_engines.specs.declared.EngineFault.TheVariants as fault
 use Rattle.vme_engines.specs.declared.summaries.Summing.{Summing}
-use Rattle.vme_engines.specs.Streams.{Streams, streams}
-use Rattle.vme_engines.specs.Outcomes.{bench, refused_count, status_with, status_of}
+use Rattle.vme_engines.specs.Streams.{Streams}
+use Rattle.vme_engines.specs.Outcomes.{bench, refused_count, status_with}
 use Rattle.vme_engines.specs.Steps.{Begins, Opens, traced}
 use Rattle.vme_engines.specs.Pieces.{Came, Answers, answered as told_by}
 use Rattle.vme_engines.specs.Summing.{IsSummedUp, IsWaiting, Sums, SumsInput}
-use Rattle.vme_engines.specs.Summed.{IsSumOf, OfSum, SumsPiece}
+use Rattle.vme_engines.specs.Summed.{IsSumOf, SumsPiece}
 use Rattle.vme_engines.proofs.WrittenLines.{kept_append}
 use Rattle.vme_engines.proofs.FollowedEdges.{kept_plan, edges_on, numbered_append}
 use Rattle.vme_engines.proofs.ReadOn.{came_begins}

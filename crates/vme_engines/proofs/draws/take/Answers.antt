@@ -1,6 +1,6 @@
 use Rattle.std.proofs.Common.{◌≡◌, ◌∙◌, ap, sym, subst, suc, ◌+◌, ◌-◌, arith}
 use Rattle.std.proofs.lemmas.Result.{err_from_is_err_and}
-use Rattle.vme_model.specs.Verdict.{State, made}
+use Rattle.vme_model.specs.Verdict.{made}
 use Rattle.vme_draws.specs.Walks.{Walk, walked}
 use Rattle.vme_draws.proofs.Walked.{walk_ends, walk_goes_on}
 use Rattle.vme_engines.specs.Texts.{IsListed, lines_made}

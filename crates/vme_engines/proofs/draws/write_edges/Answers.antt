@@ -1,4 +1,4 @@
-use Rattle.std.proofs.Common.{◌∙◌, sym, subst}
+use Rattle.std.proofs.Common.{sym, subst}
 use Rattle.vme_engines.specs.Seeking.{walk_to}
 use Rattle.vme_engines.specs.Drawing.{IsWellFormed}
 use Rattle.vme_engines.proofs.WrittenLines.{on_err}

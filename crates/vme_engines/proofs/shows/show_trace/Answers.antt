@@ -1,12 +1,8 @@
-use Rattle.std.proofs.Common.{◌≡◌, [], Bool, Result, None, sym, ◌∙◌, ap, subst}
+use Rattle.std.proofs.Common.{[], Bool, Result, None, sym, ◌∙◌, subst}
 use Rattle.std.proofs.KnownBytes.{Appends-nil}
 use Rattle.vme_trace.specs.declared.Fault.{Fault}
-use Rattle.vme_engines.specs.declared.shows.Stretch.{Stretch}
-use Rattle.vme_engines.specs.Stretches.{Stage}
 use Rattle.vme_engines.specs.Steps.{Opens}
 use Rattle.vme_engines.specs.Streams.{streams}
-use Rattle.vme_engines.specs.Showing.{ShowsInput}
-use Rattle.vme_engines.specs.Followed.{told_answer}
 use Rattle.vme_engines.proofs.FirstReads.{never_unopened}
 use Rattle.vme_engines.proofs.FormedEdges.{formed_first}
 use Rattle.vme_engines.proofs.ShownTraces.{shows_all, shows_unopened}

@@ -1,4 +1,4 @@
-use Rattle.std.proofs.Common.{◌≡◌, [], Bool, Result, None, refl, sym, ◌∙◌, ap, subst}
+use Rattle.std.proofs.Common.{[], Bool, Result, None, refl, sym, ◌∙◌, ap, subst}
 use Rattle.std.proofs.KnownBytes.{Keeps-refl}
 use Rattle.vme_trace.specs.declared.Fault.{Fault}
 use Rattle.vme_reasons.specs.Marked.{IsMarksOf}

@@ -1,4 +1,4 @@
-use Rattle.std.proofs.Common.{◌≡◌, ◌+◌, ◌≤◌, Option, List, OnErr, length, subst, arith}
+use Rattle.std.proofs.Common.{Option, List, OnErr, subst, arith}
 use Rattle.vme_model.specs.declared.signals.Edge.{Edge}
 use Rattle.vme_model.specs.Verdict.{State}
 use Rattle.vme_trace.specs.Writing.{AppendsFront}

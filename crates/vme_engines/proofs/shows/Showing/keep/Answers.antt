@@ -1,4 +1,4 @@
-use Rattle.std.proofs.Common.{◌≡◌, ◌+◌, ◌<◌, ◌≤◌, Option, Some, None, length, refl, sym, ap, subst, arith}
+use Rattle.std.proofs.Common.{◌+◌, ◌<◌, ◌≤◌, Option, length, refl, sym, ap, subst, arith}
 use Rattle.vme_pictures.specs.Columns.{Seen}
 use Rattle.vme_engines.specs.Stretches.{Stage}
 use Rattle.vme_engines.specs.Shown.{IsKept, IsShown}
