@@ -1,31 +1,25 @@
 -- The walk of a seed, and what was written of it.
-use Rattle.std.proofs.Common.{◌≡◌, refl, sym, ◌∙◌, ap, subst, ℕ, ◌≤◌, List, ◌++◌, length, Option, Ok, Err, Result}
+use Rattle.std.proofs.Common.{◌≡◌, refl, ◌∙◌, ap, subst, ℕ, ◌≤◌, List, length, Option, Ok, Err, Result}
 use Rattle.std.specs.Prelude.{OnOk, OnErr}
 use Rattle.std.specs.Io.KnownBytes.{Appends}
 use Rattle.vme_model.specs.declared.signals.Version.{Version}
 use Rattle.vme_model.specs.declared.signals.Edge.{Edge}
 use Rattle.vme_model.specs.Plan.{Plan}
 use Rattle.vme_model.specs.Accepted.{IsAccepted}
-use Rattle.vme_model.specs.History.{in_order}
 use Rattle.vme_model.specs.Safe.{IsSafe, IsOrderly}
 use Rattle.vme_model.specs.Verdict.{State, IsLegal}
 use Rattle.vme_model.specs.Report.{trace_limit}
-use Rattle.vme_model.specs.Text.{text}
 use Rattle.vme_scenario.specs.Format.{scenario}
-use Rattle.vme_trace.specs.declared.Fault.{Fault}
-use Rattle.vme_trace.specs.declared.Fault.TheVariants.{Write}
-use Rattle.vme_trace.specs.Writing.{AppendsFront}
 use Rattle.vme_draws.specs.Walks.{at_start}
 use Rattle.vme_draws.proofs.Walked.{IsOn}
 use Rattle.vme_events.specs.declared.goals.Goal.{Goal}
 use Rattle.vme_engines.specs.declared.Status.{Status}
-use Rattle.vme_engines.specs.declared.EngineFault.TheVariants as fault
 use Rattle.vme_engines.specs.declared.seeks.Ending.{Ending}
 use Rattle.vme_engines.specs.declared.seeks.Ending.TheVariants.{Over, Came, Missed}
 use Rattle.vme_engines.specs.Outcomes.{bench}
-use Rattle.vme_engines.specs.Drawing.{walk, missed_of, walk_text, EndsRightly, status_to, Draws, DrawsSafely, IsWellFormed}
+use Rattle.vme_engines.specs.Drawing.{walk, walk_text, EndsRightly, status_to, Draws, DrawsSafely}
 use Rattle.vme_engines.proofs.LegalTrace.{legal_trace}
-use Rattle.vme_engines.proofs.SoughtGoals.{walk_stays, refused_end, formed_end}
+use Rattle.vme_engines.proofs.SoughtGoals.{walk_stays, refused_end}
 
 pub on_ok_more : {E A : Type 0} (r : Result A E) (P Q : Type 0) → (P → Q) → OnOk r P → OnOk r Q
 on_ok_more (Ok a) P Q f h = f h
@@ -48,15 +42,6 @@ module _ (p : Plan) (version : Version) (seed n : ℕ) (g : Option Goal) (b : St
   history_is : b.history ≡ (walk p version seed n g).walk.state.history
   history_is = ap (λ (s : State). s.history) is
 
-  text_is : text b.version (in_order b.history ++ missed_of ending) ≡ walk_text p version seed n g
-  text_is =
-      ap (λ v. text v (in_order b.history ++ missed_of ending)) version_is
-      ∙ ap (λ h. text version (in_order h ++ missed_of ending)) history_is
-      ∙ ap (λ x. text version (in_order (walk p version seed n g).walk.state.history ++ missed_of x)) ends
-
-  pub is_formed_end : IsWellFormed ending
-  is_formed_end = subst IsWellFormed (sym ends) (formed_end g n (at_start (bench p version) seed))
-
   module _ (legal : IsLegal b.version b.plan b.history) (accepted : IsAccepted b.plan) (fits : length b.history ≤ trace_limit) where
     is_legal : IsLegal version p (walk p version seed n g).walk.state.history
     is_legal = subst (IsLegal version p) history_is (subst (λ (q : Plan). IsLegal version q b.history) plan_is (subst (λ (v : Version). IsLegal v b.plan b.history) version_is legal))
@@ -66,17 +51,14 @@ module _ (p : Plan) (version : Version) (seed n : ℕ) (g : Option Goal) (b : St
     rightly Came same = legal_trace p version _ (subst IsAccepted plan_is accepted) is_legal (subst (λ (h : List Edge). length h ≤ trace_limit) history_is fits)
     rightly (Missed e) same = refused_end g n (at_start (bench p version) seed) e same
 
-    pub draws_done : (old new : Option (List ℕ)) (status : Status) → Appends old new (text b.version (in_order b.history ++ missed_of ending)) → status ≡ status_to g n (length b.history) ending
+    pub draws_done : (old new : Option (List ℕ)) (status : Status) → Appends old new (walk_text p version seed n g) → status ≡ status_to g n (length b.history) ending
         → Draws version seed n g old new p (Ok status)
     draws_done old new status w said = (
-      subst (Appends old new) text_is w,
+      w,
       is_legal,
       rightly (walk p version seed n g).ending refl,
       said ∙ ap (λ h. status_to g n (length h) ending) history_is ∙ ap (status_to g n (length (walk p version seed n g).walk.state.history)) ends,
     )
-
-  pub draws_cut : (old new : Option (List ℕ)) (f : Fault) → f ≡ Write → AppendsFront old new (text b.version (in_order b.history ++ missed_of ending)) → Draws version seed n g old new p (Err (fault.Trace f))
-  draws_cut old new f e w = (e, subst (AppendsFront old new) text_is w)
 
   pub draws_safely : (old : List ℕ) → scenario old ≡ Ok p → IsSafe b.plan b.history → IsOrderly b.version b.plan b.history → DrawsSafely old version seed n g
   draws_safely old read safe orderly = (

@@ -1,42 +1,25 @@
 -- The lines of a drive, written as its edges are made.
-use Rattle.std.proofs.Common.{◌≡◌, ℕ, zero, suc, ◌+◌, ◌<◌, ◌%◌, get_or, List, [], ◌∷◌, ◌++◌, length, Bool, true, false, drop, Option, Some, None, Result, Ok, Err, OnOk, OnErr, IfErr, refl, sym, ◌∙◌, ap, append_assoc, subst, slice_get, ◌==◌, if◌then◌else◌, ◌≢◌, ne_eqb, eqb-true}
+use Rattle.std.proofs.Common.{◌≡◌, ℕ, zero, suc, ◌+◌, ◌<◌, ◌%◌, get_or, List, [], ◌∷◌, ◌++◌, length, Bool, true, false, drop, Option, Some, Result, Ok, Err, OnOk, OnErr, IfErr, refl, sym, ◌∙◌, ap, subst, slice_get, ◌==◌, if◌then◌else◌, ◌≢◌, ne_eqb, eqb-true}
 use Rattle.std.specs.Option.{option_map_or}
-use Rattle.std.proofs.lemmas.List.{reverse-append, drop_more}
+use Rattle.std.proofs.lemmas.List.{drop_more}
 use Rattle.std.specs.Io.KnownBytes.{Appends, Keeps}
-use Rattle.std.proofs.KnownBytes.{Appends-trans, Appends-nil, Appends-kept}
+use Rattle.std.proofs.KnownBytes.{Appends-trans, Appends-kept}
 use Rattle.vme_model.specs.declared.signals.Driver.{Driver}
 use Rattle.vme_model.specs.declared.signals.Edge.{Edge}
 use Rattle.vme_model.specs.Plan.{drivers}
 use Rattle.vme_model.specs.History.{in_order}
 use Rattle.vme_model.specs.Verdict.{State, made}
 use Rattle.vme_model.specs.Offers.{offered, turn, turns, rounds_from, rounds}
-use Rattle.vme_model.specs.Text.{header, edge_lines, text}
+use Rattle.vme_model.specs.Text.{header, text}
 use Rattle.vme_trace.specs.declared.Fault.{Fault}
 use Rattle.vme_trace.specs.declared.Fault.TheVariants.{Write}
 use Rattle.vme_trace.specs.Writing.{AppendsFront, edge_line}
-use Rattle.vme_engines.specs.Texts.{HandsOn, IsListed, ListsOn, lines_made, trace_made}
-use Rattle.vme_engines.proofs.WrittenLines.{front_of_more, front_behind, line_alone, lines_behind}
+use Rattle.vme_engines.specs.Texts.{HandsOn, IsListed, KeepsListed, ListsOn, lines_made, trace_made}
+use Rattle.vme_engines.proofs.WrittenLines.{front_of_more, front_behind}
 use Rattle.vme_engines.proofs.DriveRounds.{later, same_length, rounds_later}
+use Rattle.vme_engines.proofs.ListedLines.{IsBefore, itself, before_both, before_made, before_if, front_later, listed_edge, listed_part, lines_cut, lines_written, lines_part}
 
 -- ---- edges are only added
-
--- the edges of the first are those of the second, but for the last of these
-abbrev IsBefore : State → State → Type 0
-IsBefore b c = (more : List Edge) × (c.history ≡ more ++ b.history)
-
-itself : (b : State) → IsBefore b b
-itself b = ([], refl)
-
-before_both : (b c d : State) → IsBefore b c → IsBefore c d → IsBefore b d
-before_both b c d f g = (g.0 ++ f.0, g.1 ∙ ap (λ h. g.0 ++ h) f.1 ∙ sym (append_assoc g.0 f.0 b.history))
-
-before_made : (b : State) (o : Option Edge) → IsBefore b (option_map_or (made b) o b)
-before_made b None = itself b
-before_made b (Some e) = (e ∷ [], refl)
-
-before_if : (t : Bool) (b c : State) → IsBefore b c → IsBefore b (if t then b else c)
-before_if true b c h = itself b
-before_if false b c h = h
 
 before_turn : (r n : ℕ) (b : State) (d : Driver) → IsBefore b (turn r n b d)
 before_turn r n b d = before_if (length b.history == n) b _ (before_made b (slice_get (offered b d) (r % length (offered b d))))
@@ -51,42 +34,6 @@ before_rounds (suc left) r n b =
     let next = turns r n b (drivers b.plan) in
     before_if (length next.history == length b.history) b (rounds_from left (r + 1) n next)
     (before_both b next (rounds_from left (r + 1) n next) (before_turns r n b (drivers b.plan)) (before_rounds left (r + 1) n next))
-
--- ---- the lines of edges that are added
-
-lines_of_both : (more h : List Edge) → edge_lines (in_order (more ++ h)) ≡ edge_lines (in_order h) ++ edge_lines (in_order more)
-lines_of_both more h = ap (λ (es : List Edge). edge_lines es) (reverse-append more h) ∙ lines_behind (in_order h) (in_order more)
-
--- a front of the lines is one of those with more behind them
-front_later : (a c : Option (List ℕ)) (s t : State) → IsBefore s t → AppendsFront a c (lines_made s) → AppendsFront a c (lines_made t)
-front_later a c s t later w =
-    subst (AppendsFront a c) (sym (ap (λ (h : List Edge). edge_lines (in_order h)) later.1 ∙ lines_of_both later.0 s.history)) (front_of_more a c (lines_made s) (edge_lines (in_order later.0)) w)
-
-module _ (first old new : Option (List ℕ)) (held : List ℕ) (b : State) (listed : IsListed first old held (lines_made b)) where
-  -- the line of one more edge
-  listed_edge : (e : Edge) (left : List ℕ) → HandsOn old new (held ++ edge_line e) left → IsListed first new left (lines_made (made b e))
-  listed_edge e left w = (
-    listed.0 ++ w.0,
-    lines_of_both (e ∷ []) b.history
-        ∙ ap (λ l. lines_made b ++ l) (sym (line_alone e))
-        ∙ ap (λ l. l ++ edge_line e) listed.1
-        ∙ append_assoc listed.0 held (edge_line e)
-        ∙ ap (λ l. listed.0 ++ l) w.1
-        ∙ sym (append_assoc listed.0 w.0 left),
-    Appends-trans first old new listed.0 w.0 listed.2 w.2,
-  )
-
-  -- what was held is written
-  listed_all : Appends old new held → Appends first new (lines_made b)
-  listed_all w = subst (Appends first new) (sym listed.1) (Appends-trans first old new listed.0 held listed.2 w)
-
-  -- what was held could not be written
-  listed_part : AppendsFront old new held → AppendsFront first new (lines_made b)
-  listed_part w = subst (AppendsFront first new) (sym listed.1) (front_behind first old new listed.0 held listed.2 w)
-
--- before the first edge nothing is held
-none_listed : (a : Option (List ℕ)) (held : List ℕ) (b : State) → held ≡ [] → b.history ≡ [] → IsListed a a held (lines_made b)
-none_listed a held b empty start = ([], ap (λ (h : List Edge). edge_lines (in_order h)) start ∙ sym empty, Appends-nil a)
 
 -- ---- a turn
 
@@ -158,18 +105,17 @@ module _ (b : State) (n : ℕ) (old headed : Option (List ℕ)) (header_line : L
 
   module _ (wrote : Appends old headed header_line) (held : List ℕ) (empty : held ≡ []) (start : b.history ≡ []) (listed : Option (List ℕ)) (now : State) (left : List ℕ) where
     -- the rounds were cut off
-    pub cut_off : (f : Fault) → ListsOn b held headed listed (rounds b n) now left (Err f) → AppendsFront old listed (trace_made (rounds b n))
-    cut_off f h = part_behind listed wrote (h.1 headed (none_listed headed held b empty start))
+    pub cut_off : ((first : Option (List ℕ)) → IsListed first headed held (lines_made b) → AppendsFront first listed (lines_made (rounds b n))) → AppendsFront old listed (trace_made (rounds b n))
+    cut_off h = part_behind listed wrote (lines_cut headed listed held left b now (rounds b n) empty start h)
 
-    -- what was held behind them is written
-    pub all_written : (new : Option (List ℕ)) → ListsOn b held headed listed (rounds b n) now left (Ok tt) → Appends listed new left → Appends old new (trace_made (rounds b n))
-    all_written new h w =
-        behind new wrote (subst (λ (s : State). Appends headed new (lines_made s)) h.0 (listed_all headed listed new left now (h.1 headed (none_listed headed held b empty start)) w))
+    module _ (is_end : now ≡ rounds b n) (keeps : KeepsListed b held headed listed now left) (new : Option (List ℕ)) where
+      -- what was held behind them is written
+      pub all_written : Appends listed new left → Appends old new (trace_made (rounds b n))
+      all_written w = behind new wrote (lines_written headed listed held left b now (rounds b n) empty start is_end keeps new w)
 
-    -- what was held could not be written
-    pub part_written : (new : Option (List ℕ)) → ListsOn b held headed listed (rounds b n) now left (Ok tt) → AppendsFront listed new left → AppendsFront old new (trace_made (rounds b n))
-    part_written new h w =
-        part_behind new wrote (subst (λ (s : State). AppendsFront headed new (lines_made s)) h.0 (listed_part headed listed new left now (h.1 headed (none_listed headed held b empty start)) w))
+      -- what was held could not be written
+      pub part_written : AppendsFront listed new left → AppendsFront old new (trace_made (rounds b n))
+      part_written w = part_behind new wrote (lines_part headed listed held left b now (rounds b n) empty start is_end keeps new w)
 
 pub on_kept : {E A : Type 0} (r : Result A E) (a b c : Option (List ℕ)) (x : List ℕ) → Appends a b x → Keeps b c → OnOk r (Appends a c x)
 on_kept (Ok u) a b c x w k = Appends-kept a b c x w k

@@ -1,19 +1,13 @@
 -- A trace that is followed edge by edge.
 use Rattle.std.proofs.Common.{◌≡◌, ℕ, ◌+◌, ◌<◌, ◌≤◌, List, [], ◌∷◌, ◌++◌, length, Bool, true, false, Option, Some, None, Ok, Err, is_ok, get_or, take, drop, if◌then◌else◌, refl, sym, ◌∙◌, ap, subst, arith, take-append-drop}
 use Rattle.std.proofs.Math.ListN.{length-append}
-use Rattle.std.proofs.lemmas.Bool.{and_parts}
 use Rattle.std.proofs.lemmas.List.{take_more, drop_more, length-take-le}
-use Rattle.std.specs.Prelude.{◌&&◌}
-use Rattle.vme_model.specs.declared.deliveries.Delivery.{Delivery}
-use Rattle.vme_model.specs.declared.refusals.Refused.TheVariants.{NoSuchDriver}
 use Rattle.vme_model.specs.declared.signals.Cycle.{Cycle}
 use Rattle.vme_model.specs.declared.signals.Edge.{Edge}
 use Rattle.vme_model.specs.declared.signals.Wire.TheVariants.{Dtack}
-use Rattle.vme_model.specs.Signals.{is_well_formed}
-use Rattle.vme_model.specs.Plan.{Plan, has_driver}
+use Rattle.vme_model.specs.Plan.{Plan}
 use Rattle.vme_model.specs.History.{shown}
-use Rattle.vme_model.specs.Verdict.{State, Judgement, check, verdict, made, after, kept}
-use Rattle.vme_model.specs.Deliveries.{answer, delivery, with_delivery}
+use Rattle.vme_model.specs.Verdict.{State, Judgement, verdict, made, after, kept}
 use Rattle.vme_model.specs.Numbered.{Numbered, edges_in, numbered_with, numbered_on}
 use Rattle.vme_reasons.specs.declared.marks.Marks.{Marks}
 use Rattle.vme_reasons.specs.Marked.{IsMarksOf}
@@ -51,37 +45,37 @@ numbered_append b n k (e ∷ es) fs =
 -- ---- edges behind others
 
 module _ (first mid : Following) (es : List Edge) (one : Follows first es mid) where
-  mid_plan : mid.backplane.plan ≡ first.backplane.plan
-  mid_plan = ap (λ s. s.plan) one.backplane ∙ kept_plan first.backplane es
+  mid_plan : mid.bus.plan ≡ first.bus.plan
+  mid_plan = ap (λ s. s.plan) one.bus ∙ kept_plan first.bus es
 
   -- what holds of the numbered edges behind these
-  pub of_trace_behind : (P : Numbered → Type 0) → OfTrace mid.backplane mid.marks P → OfTrace first.backplane first.marks (λ k. P (numbered_on first.backplane first.judged k es))
+  pub of_trace_behind : (P : Numbered → Type 0) → OfTrace mid.bus mid.marks P → OfTrace first.bus first.marks (λ k. P (numbered_on first.bus first.judged k es))
   of_trace_behind P h =
       λ k is of.
-      h (numbered_on first.backplane first.judged k es)
-      (edges_on first.backplane first.judged k es is ∙ ap (λ s. s.history) (sym one.backplane))
-      (subst (λ (p : Plan). IsMarksOf p (numbered_on first.backplane first.judged k es) mid.marks) (sym mid_plan) (one.marks k is of))
+      h (numbered_on first.bus first.judged k es)
+      (edges_on first.bus first.judged k es is ∙ ap (λ s. s.history) (sym one.bus))
+      (subst (λ (p : Plan). IsMarksOf p (numbered_on first.bus first.judged k es) mid.marks) (sym mid_plan) (one.marks k is of))
 
-  pub kept_behind : (fs : List Edge) → kept first.backplane (es ++ fs) ≡ kept mid.backplane fs
-  kept_behind fs = kept_append first.backplane es fs ∙ ap (λ s. kept s fs) (sym one.backplane)
+  pub kept_behind : (fs : List Edge) → kept first.bus (es ++ fs) ≡ kept mid.bus fs
+  kept_behind fs = kept_append first.bus es fs ∙ ap (λ s. kept s fs) (sym one.bus)
 
-  pub numbered_behind : (k : Numbered) (fs : List Edge) → numbered_on first.backplane first.judged k (es ++ fs) ≡ numbered_on mid.backplane mid.judged (numbered_on first.backplane first.judged k es) fs
+  pub numbered_behind : (k : Numbered) (fs : List Edge) → numbered_on first.bus first.judged k (es ++ fs) ≡ numbered_on mid.bus mid.judged (numbered_on first.bus first.judged k es) fs
   numbered_behind k fs =
-      numbered_append first.backplane first.judged k es fs
-      ∙ ap (λ s. numbered_on s (first.judged + length es) (numbered_on first.backplane first.judged k es) fs) (sym one.backplane)
-      ∙ ap (λ n. numbered_on mid.backplane n (numbered_on first.backplane first.judged k es) fs) (sym one.judged)
+      numbered_append first.bus first.judged k es fs
+      ∙ ap (λ s. numbered_on s (first.judged + length es) (numbered_on first.bus first.judged k es) fs) (sym one.bus)
+      ∙ ap (λ n. numbered_on mid.bus n (numbered_on first.bus first.judged k es) fs) (sym one.judged)
 
   pub count_behind : (fs : List Edge) → first.judged + length (es ++ fs) ≡ mid.judged + length fs
   count_behind fs = let is = length-append es fs in let here = one.judged in omega (arith, is, here)
 
   pub follows_more : (fs : List Edge) (now : Following) → Follows mid fs now → Follows first (es ++ fs) now
   follows_more fs now two = record {
-    backplane = two.backplane ∙ sym (kept_behind fs);
+    bus = two.bus ∙ sym (kept_behind fs);
     judged = two.judged ∙ sym (count_behind fs);
     marks = λ k is of.
-        subst (λ (p : Plan). IsMarksOf p (numbered_on first.backplane first.judged k (es ++ fs)) now.marks) mid_plan
-        (subst (λ (m : Numbered). IsMarksOf mid.backplane.plan m now.marks) (sym (numbered_behind k fs))
-        (of_trace_behind (λ m. IsMarksOf mid.backplane.plan (numbered_on mid.backplane mid.judged m fs) now.marks) two.marks k is of));
+        subst (λ (p : Plan). IsMarksOf p (numbered_on first.bus first.judged k (es ++ fs)) now.marks) mid_plan
+        (subst (λ (m : Numbered). IsMarksOf mid.bus.plan m now.marks) (sym (numbered_behind k fs))
+        (of_trace_behind (λ m. IsMarksOf mid.bus.plan (numbered_on mid.bus mid.judged m fs) now.marks) two.marks k is of));
   }
 
 -- ---- one edge
@@ -98,9 +92,9 @@ noted b n e old new v accepted is h =
     subst (λ (m : Numbered). IsMarksOf b.plan m new) (sym (with_by (is_ok (verdict b e)) n e k accepted))
     (h b.plan k of (λ dtack. is dtack ∙ ap (shown b.plan) (sym edges)))
 
-pub follows_one : (first now : Following) (e : Edge) → now.backplane ≡ after first.backplane e → now.judged ≡ first.judged + 1
-    → OfTrace first.backplane first.marks (λ k. IsMarksOf first.backplane.plan (numbered_with first.backplane (first.judged + 1) e k) now.marks) → Follows first (e ∷ []) now
-follows_one first now e is count marks = record { backplane = is; judged = omega (arith, count); marks = marks }
+pub follows_one : (first now : Following) (e : Edge) → now.bus ≡ after first.bus e → now.judged ≡ first.judged + 1
+    → OfTrace first.bus first.marks (λ k. IsMarksOf first.bus.plan (numbered_with first.bus (first.judged + 1) e k) now.marks) → Follows first (e ∷ []) now
+follows_one first now e is count marks = record { bus = is; judged = omega (arith, count); marks = marks }
 
 after_refused : (t : Bool) (b : State) (e : Edge) → t ≡ false → (if t then made b e else b) ≡ b
 after_refused t b e is = rw is refl
@@ -109,23 +103,23 @@ numbered_refused : (t : Bool) (n : ℕ) (e : Edge) (k : Numbered) → t ≡ fals
 numbered_refused t n e k is = rw is refl
 
 -- a refused edge leaves what was followed
-pub follows_refused : (first mid now : Following) (es : List Edge) (e : Edge) → Follows first es mid → is_ok (verdict mid.backplane e) ≡ false
-    → now.backplane ≡ after mid.backplane e → now.judged ≡ mid.judged
-    → OfTrace mid.backplane mid.marks (λ k. IsMarksOf mid.backplane.plan (numbered_with mid.backplane (mid.judged + 1) e k) now.marks) → Follows first es now
+pub follows_refused : (first mid now : Following) (es : List Edge) (e : Edge) → Follows first es mid → is_ok (verdict mid.bus e) ≡ false
+    → now.bus ≡ after mid.bus e → now.judged ≡ mid.judged
+    → OfTrace mid.bus mid.marks (λ k. IsMarksOf mid.bus.plan (numbered_with mid.bus (mid.judged + 1) e k) now.marks) → Follows first es now
 follows_refused first mid now es e one refused is count marks = record {
-  backplane = is ∙ after_refused (is_ok (verdict mid.backplane e)) mid.backplane e refused ∙ one.backplane;
+  bus = is ∙ after_refused (is_ok (verdict mid.bus e)) mid.bus e refused ∙ one.bus;
   judged = count ∙ one.judged;
   marks = λ k edges of.
-      subst (λ (p : Plan). IsMarksOf p (numbered_on first.backplane first.judged k es) now.marks) (mid_plan first mid es one)
-      (of_trace_behind first mid es one (λ m. IsMarksOf mid.backplane.plan m now.marks)
-      (λ m e2 of2. subst (λ (l : Numbered). IsMarksOf mid.backplane.plan l now.marks) (numbered_refused (is_ok (verdict mid.backplane e)) (mid.judged + 1) e m refused) (marks m e2 of2)) k edges of);
+      subst (λ (p : Plan). IsMarksOf p (numbered_on first.bus first.judged k es) now.marks) (mid_plan first mid es one)
+      (of_trace_behind first mid es one (λ m. IsMarksOf mid.bus.plan m now.marks)
+      (λ m e2 of2. subst (λ (l : Numbered). IsMarksOf mid.bus.plan l now.marks) (numbered_refused (is_ok (verdict mid.bus e)) (mid.judged + 1) e m refused) (marks m e2 of2)) k edges of);
 }
 
 -- ---- in the loops over edges
 
 pub followed_more : (first mid now : Following) (es : List Edge) (i : ℕ) (d : Edge) → i < length es → Follows first (take i es) mid
-    → now.backplane ≡ after mid.backplane (get_or es i d) → now.judged ≡ mid.judged + 1
-    → OfTrace mid.backplane mid.marks (λ k. IsMarksOf mid.backplane.plan (numbered_with mid.backplane (mid.judged + 1) (get_or es i d) k) now.marks)
+    → now.bus ≡ after mid.bus (get_or es i d) → now.judged ≡ mid.judged + 1
+    → OfTrace mid.bus mid.marks (λ k. IsMarksOf mid.bus.plan (numbered_with mid.bus (mid.judged + 1) (get_or es i d) k) now.marks)
     → Follows first (take (i + 1) es) now
 followed_more first mid now es i d h one is count marks =
     subst (λ (l : List Edge). Follows first l now) (sym (take_more es i d h))
@@ -137,28 +131,28 @@ ok_none n (Err r) h = absurd cc
 
 -- none is refused, with the next one
 pub none_more : (first mid : Following) (es : List Edge) (i : ℕ) (d : Edge) → i < length es → Follows first (take i es) mid
-    → first_refusal (first.judged + 1) first.backplane (take i es) ≡ None → is_ok (verdict mid.backplane (get_or es i d)) ≡ true
-    → first_refusal (first.judged + 1) first.backplane (take (i + 1) es) ≡ None
+    → first_refusal (first.judged + 1) first.bus (take i es) ≡ None → is_ok (verdict mid.bus (get_or es i d)) ≡ true
+    → first_refusal (first.judged + 1) first.bus (take (i + 1) es) ≡ None
 none_more first mid es i d h one none accepted =
-    ap (first_refusal (first.judged + 1) first.backplane) (take_more es i d h)
-    ∙ refusal_behind (first.judged + 1) first.backplane (take i es) (get_or es i d ∷ []) none
-    ∙ ap (λ s. first_refusal ((first.judged + 1) + length (take i es)) s (get_or es i d ∷ [])) (sym one.backplane)
-    ∙ ok_none ((first.judged + 1) + length (take i es)) (verdict mid.backplane (get_or es i d)) accepted
+    ap (first_refusal (first.judged + 1) first.bus) (take_more es i d h)
+    ∙ refusal_behind (first.judged + 1) first.bus (take i es) (get_or es i d ∷ []) none
+    ∙ ap (λ s. first_refusal ((first.judged + 1) + length (take i es)) s (get_or es i d ∷ [])) (sym one.bus)
+    ∙ ok_none ((first.judged + 1) + length (take i es)) (verdict mid.bus (get_or es i d)) accepted
 
 split_at : (es : List Edge) (i : ℕ) (d : Edge) → i < length es → es ≡ take i es ++ (get_or es i d ∷ drop (i + 1) es)
 split_at es i d h = sym (take-append-drop i es) ∙ ap (λ l. take i es ++ l) (drop_more es i d h)
 
 -- the first that is refused
 pub comes_to_refused : (first mid now : Following) (es : List Edge) (i : ℕ) (d : Edge) → i < length es → Follows first (take i es) mid
-    → first_refusal (first.judged + 1) first.backplane (take i es) ≡ None → is_ok (verdict mid.backplane (get_or es i d)) ≡ false
-    → now.backplane ≡ after mid.backplane (get_or es i d) → now.judged ≡ mid.judged
-    → OfTrace mid.backplane mid.marks (λ k. IsMarksOf mid.backplane.plan (numbered_with mid.backplane (mid.judged + 1) (get_or es i d) k) now.marks)
+    → first_refusal (first.judged + 1) first.bus (take i es) ≡ None → is_ok (verdict mid.bus (get_or es i d)) ≡ false
+    → now.bus ≡ after mid.bus (get_or es i d) → now.judged ≡ mid.judged
+    → OfTrace mid.bus mid.marks (λ k. IsMarksOf mid.bus.plan (numbered_with mid.bus (mid.judged + 1) (get_or es i d) k) now.marks)
     → ComesTo None first es (get_or es i d) now
 comes_to_refused first mid now es i d h one none refused is count marks = record {
   front = take i es;
   rest = drop (i + 1) es;
   split = split_at es i d h;
-  asked = (none, ap (λ s. is_ok (verdict s (get_or es i d))) (sym one.backplane) ∙ refused);
+  asked = (none, ap (λ s. is_ok (verdict s (get_or es i d))) (sym one.bus) ∙ refused);
   follows = follows_refused first mid now (take i es) (get_or es i d) one refused is count marks;
 }
 

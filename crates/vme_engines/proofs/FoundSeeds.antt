@@ -1,19 +1,24 @@
 -- Seeds that are tried one after the other.
-use Rattle.std.proofs.Common.{◌≡◌, ◌∙◌, refl, sym, ap, subst, ℕ, ◌+◌, ◌≤◌, ◌<◌, ◌⊎◌, ⊎_elim, ◌++◌, Bool, true, false, List, Option, Some, None, Ok, Err, arith}
+use Rattle.std.proofs.Common.{◌≡◌, ◌∙◌, refl, sym, ap, subst, ℕ, ◌+◌, ◌≤◌, ◌<◌, ◌⊎◌, ⊎_elim, ◌++◌, Bool, true, false, not, List, length, Option, Some, None, Ok, Err, arith}
+use Rattle.std.specs.Prelude.{⊤}
 use Rattle.std.specs.Io.KnownBytes.{Appends, Keeps}
+use Rattle.std.proofs.KnownBytes.{Keeps-refl}
 use Rattle.vme_model.specs.declared.signals.Version.{Version}
 use Rattle.vme_model.specs.Plan.{Plan}
 use Rattle.vme_scenario.specs.Format.{scenario}
 use Rattle.vme_events.specs.declared.goals.Goal.{Goal}
+use Rattle.vme_trace.specs.declared.Fault.TheVariants.{Write}
+use Rattle.vme_engines.specs.declared.Status.{Status}
 use Rattle.vme_engines.specs.declared.Status.TheVariants.{Done, Limit}
 use Rattle.vme_engines.specs.declared.EngineFault.{EngineFault}
 use Rattle.vme_engines.specs.declared.EngineFault.TheVariants as fault
 use Rattle.vme_engines.specs.declared.seeks.Ending.{Ending}
 use Rattle.vme_engines.specs.declared.seeks.Ending.TheVariants.{Over, Came, Missed}
 use Rattle.vme_engines.specs.Outcomes.{Answer, Lent}
-use Rattle.vme_engines.specs.Drawing.{walk, status_to, Draws}
+use Rattle.vme_engines.specs.Drawing.{walk, walk_text, status_to, Draws}
 use Rattle.vme_engines.specs.Seeking.{is_over}
-use Rattle.vme_engines.specs.Found.{NoneBelow, Attempts, Finds, tried_answer}
+use Rattle.vme_engines.specs.Found.{NoneBelow, Attempts, Finds, Sees, tried_answer}
+use Rattle.vme_engines.proofs.WrittenLines.{front_of_none}
 
 -- what is kept, and then kept or grown
 pub keeps_trans : (a b c : Option (List ℕ)) → Keeps a b → Keeps b c → Keeps a c
@@ -47,6 +52,36 @@ pub over_is : (x : Ending) → is_over x ≡ true → x ≡ Over
 over_is Over h = refl
 over_is Came h = absurd (cc)
 over_is (Missed e) h = absurd (cc)
+
+-- ---- a try of one seed
+
+over_not : (x : Bool) → true ≡ not x → x ≡ false
+over_not true h = absurd (cc)
+over_not false h = refl
+
+module _ (version : Version) (seed n : ℕ) (g : Goal) (text : List ℕ) where
+  -- a fault, before anything is written
+  pub seen_fault : (a : Option (List ℕ)) (f : EngineFault) → Lent text ⊤ (Sees version seed n g (Err f)) (Err f) → Lent text (Keeps a a) (Attempts version seed n g a a (Err f)) (Err f)
+  seen_fault a fault.TooLong l = (l.0, Keeps-refl a)
+  seen_fault a (fault.Scenario e) l = (l.0, l.1, Keeps-refl a)
+  seen_fault a fault.NoMemory l = (l.0, l.1, l.2, Keeps-refl a)
+  seen_fault a (fault.Trace f) l = let is : f ≡ Write = let h = l.3 in cc in (l.0, l.1, l.2, (is, front_of_none a (walk_text l.0 version seed n (Some g))))
+  seen_fault a (fault.Beyond e) l = let h = l.3 in absurd (cc)
+  seen_fault a fault.CannotRead l = absurd l
+
+  -- the seed comes to the goal, and is drawn once more
+  pub came_done : (a b : Option (List ℕ)) (came : Bool) (status : Status) → came ≡ true → Lent text ⊤ (Sees version seed n g (Ok came)) (tried_answer (Ok came)) → Lent text (Keeps a b) (Draws version seed n (Some g) a b) (Ok status)
+      → Lent text (Keeps a b) (Attempts version seed n g a b (Ok true)) (Ok Done)
+  came_done a b false status is seen l = absurd (cc)
+  came_done a b true status is seen l =
+      let x = walk l.0 version seed n (Some g) in
+      let not_over : is_over x.ending ≡ false = over_not (is_over x.ending) (subst (λ (q : Plan). true ≡ not (is_over (walk q version seed n (Some g)).ending)) (same seen.0 l.0 seen.2 l.2) seen.3) in
+      (l.0, l.1, l.2, (l.3.0, l.3.1, l.3.2, came_to g n (length x.walk.state.history) x.ending not_over))
+    where
+      same : (q p : Plan) → scenario text ≡ Ok q → scenario text ≡ Ok p → q ≡ p
+      same q p one other = cc
+
+-- ---- one seed after the other
 
 module _ (version : Version) (n first last : ℕ) (g : Goal) (text : List ℕ) (a b c : Option (List ℕ)) (seed : ℕ) (k : Keeps a b)
     (from : first ≤ seed) (to : seed ≤ last) (none : (p : Plan) → scenario text ≡ Ok p → NoneBelow p version n g first seed) where

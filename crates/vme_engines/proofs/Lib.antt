@@ -38,8 +38,12 @@ pub mod ShownTraces
 pub mod LegalTrace
 -- the rounds of a drive, and the lines of what it made: src/drives.rt
 pub mod DriveRounds
+-- the lines of edges, put to a text as they are made: `DrivenLines`, `DrawnLines`
+pub mod ListedLines
 -- the lines of a drive, written as its edges are made: `Driving::write`
 pub mod DrivenLines
+-- the lines of a walk, written as its edges are made: `seeks::seek`, `draws::take`
+pub mod DrawnLines
 -- a walk that seeks a goal, turn by turn: src/seeks.rt, `draws::drive_drawn`
 pub mod SoughtGoals
 -- the walk of a seed, and what was written of it: src/draws.rt

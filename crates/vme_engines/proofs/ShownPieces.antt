@@ -2,23 +2,20 @@
 use Rattle.std.proofs.Common.{◌≡◌, ◌⊎◌, inl, inr, ℕ, ◌+◌, ◌-◌, ◌<◌, ◌≤◌, List, [], ◌∷◌, ◌++◌, length, take, drop, map, Bool, true, false, Option, Some, None, Result, Ok, Err, OnErr, refl, sym, ◌∙◌, ap, subst, arith, append_assoc, append-nil, take-append-drop}
 use Rattle.std.proofs.lemmas.List.{length-append, length-take-le, take_all, take-take, take-append-le, drop-append-le, drop_all, map_push, nil_from_length, take_at}
 use Rattle.std.specs.Io.KnownBytes.{Keeps, Appends}
-use Rattle.std.proofs.KnownBytes.{Keeps-trans, Appends-nil, Appends-kept}
+use Rattle.std.proofs.KnownBytes.{Keeps-trans}
 use Rattle.vme_model.specs.declared.signals.Edge.{Edge}
 use Rattle.vme_model.specs.Verdict.{State, after, kept}
 use Rattle.vme_pictures.specs.declared.columns.Column.{Column}
 use Rattle.vme_pictures.specs.Picture.{columns, picture}
 use Rattle.vme_pictures.specs.Columns.{Seen, IsWindowOf, column_of, with_column}
 use Rattle.vme_trace.specs.declared.Fault.{Fault}
-use Rattle.vme_trace.specs.declared.Fault.TheVariants.{Write}
 use Rattle.vme_trace.specs.Writing.{AppendsFront}
-use Rattle.vme_engines.specs.declared.Status.{Status}
 use Rattle.vme_engines.specs.declared.following.Told.{Told}
 use Rattle.vme_engines.specs.declared.following.Told.TheVariants.{Block, Beyond}
 use Rattle.vme_engines.specs.declared.shows.Stretch.{Stretch}
 use Rattle.vme_engines.specs.Outcomes.{status_with}
-use Rattle.vme_engines.specs.Stretches.{Stage, IsStretch, IsOpened, IsCount}
-use Rattle.vme_engines.specs.Showing.{picture_of}
-use Rattle.vme_engines.specs.Shown.{Ends, EndsStretch, GoesOn, IsBefore, IsEnd, IsKept, IsShown, ShowsPiece, status_to, stretch_text}
+use Rattle.vme_engines.specs.Stretches.{Stage}
+use Rattle.vme_engines.specs.Shown.{Ends, EndsStretch, GoesOn, IsBefore, IsKept, IsShown, ShowsPiece, stretch_text}
 use Rattle.vme_engines.specs.Pieces.{answered}
 use Rattle.vme_engines.proofs.WrittenLines.{kept_append, on_err}
 use Rattle.vme_engines.proofs.ToldPieces.{appends_behind, front_after, front_then}
@@ -30,10 +27,10 @@ skips b es fs from w h (inl none) = subst (λ l. IsKept b l from w) (sym (append
 skips b es fs from None h (inr before) = let both = length-append es fs in omega (arith, both, before)
 skips b es fs from (Some w) h (inr before) = absurd (let at = h.0 in omega (arith, at, before))
 
-pub skipped : (b : State) (es fs : List Edge) (old new : Stage) → IsBefore old (length fs) → new.backplane ≡ kept old.backplane fs → new.judged ≡ old.judged + length fs → new.stretch ≡ old.stretch → new.window ≡ old.window
+pub skipped : (b : State) (es fs : List Edge) (old new : Stage) → IsBefore old (length fs) → new.bus ≡ kept old.bus fs → new.judged ≡ old.judged + length fs → new.stretch ≡ old.stretch → new.window ≡ old.window
     → IsShown b es old → IsShown b (es ++ fs) new
 skipped b es fs old new before is count same window h = record {
-  backplane = is ∙ ap (λ s. kept s fs) h.backplane ∙ sym (kept_append b es fs);
+  bus = is ∙ ap (λ s. kept s fs) h.bus ∙ sym (kept_append b es fs);
   judged = count ∙ ap (λ n. n + length fs) h.judged ∙ sym (length-append es fs);
   window =
       subst (λ (w : Option Seen). IsKept b (es ++ fs) new.stretch.from w) (sym window)
@@ -87,10 +84,10 @@ grown b here es e from w v is h added =
           })),
     )
 
-pub next_shown : (b : State) (es : List Edge) (e : Edge) (old new : Stage) → new.backplane ≡ after old.backplane e → new.judged ≡ old.judged + 1 → new.stretch ≡ old.stretch → IsShown b es old
+pub next_shown : (b : State) (es : List Edge) (e : Edge) (old new : Stage) → new.bus ≡ after old.bus e → new.judged ≡ old.judged + 1 → new.stretch ≡ old.stretch → IsShown b es old
     → IsKept b (es ++ e ∷ []) old.stretch.from new.window → IsShown b (es ++ e ∷ []) new
 next_shown b es e old new is count same h window = record {
-  backplane = is ∙ ap (λ s. after s e) h.backplane ∙ sym (kept_append b es (e ∷ []));
+  bus = is ∙ ap (λ s. after s e) h.bus ∙ sym (kept_append b es (e ∷ []));
   judged = count ∙ ap (λ n. n + 1) h.judged ∙ sym (length-append es (e ∷ []));
   window = subst (λ (s : Stretch). IsKept b (es ++ e ∷ []) s.from new.window) (sym same) window;
 }
@@ -192,7 +189,7 @@ shows_more first mid now es fs more old at new answer before goes same ends = (
   goes_behind more (length es) (length fs) (length (es ++ fs)) first mid now answer (length-append es fs) before.0.1 goes,
   same ∙ before.1,
   λ fresh. let h = before.2 fresh in
-      ends_behind first.stretch first.backplane (es ++ fs) more old at new now answer h.0
-      (subst (λ (s : Stretch). Ends s first.backplane (es ++ fs) more at new now answer) before.1
-      (ends first.backplane es h.2 (subst (λ (s : Stretch). length es < s.to) (sym before.1) h.1))),
+      ends_behind first.stretch first.bus (es ++ fs) more old at new now answer h.0
+      (subst (λ (s : Stretch). Ends s first.bus (es ++ fs) more at new now answer) before.1
+      (ends first.bus es h.2 (subst (λ (s : Stretch). length es < s.to) (sym before.1) h.1))),
 )

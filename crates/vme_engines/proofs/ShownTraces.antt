@@ -1,29 +1,27 @@
 -- What is shown of the whole trace.
-use Rattle.std.proofs.Common.{◌≡◌, ◌⊎◌, inl, inr, ℕ, ◌+◌, ◌-◌, ◌<◌, ◌≤◌, List, [], ◌++◌, length, take, drop, Bool, true, false, Option, Some, None, Result, Ok, Err, refl, sym, ◌∙◌, ap, subst, arith}
+use Rattle.std.proofs.Common.{◌≡◌, ◌⊎◌, inl, inr, ℕ, ◌-◌, ◌<◌, ◌≤◌, List, [], length, take, drop, Bool, false, Option, Some, None, Result, Ok, Err, sym, ◌∙◌, ap, subst, arith}
 use Rattle.std.proofs.lemmas.List.{length-append, take-append-le}
-use Rattle.std.specs.Io.KnownBytes.{Keeps, Appends}
-use Rattle.std.proofs.KnownBytes.{Appends-nil}
+use Rattle.std.specs.Io.KnownBytes.{Appends}
 use Rattle.vme_model.specs.declared.signals.Version.{Version}
 use Rattle.vme_model.specs.declared.signals.Edge.{Edge}
 use Rattle.vme_model.specs.Plan.{Plan}
 use Rattle.vme_model.specs.Verdict.{State, kept}
-use Rattle.vme_model.specs.Text.{Reading, read_of}
+use Rattle.vme_model.specs.Text.{read_of}
 use Rattle.vme_pictures.specs.Picture.{picture}
 use Rattle.vme_trace.specs.declared.Fault.{Fault}
 use Rattle.vme_trace.specs.declared.Fault.TheVariants.{Write}
 use Rattle.vme_trace.specs.Reading as trace
 use Rattle.vme_trace.specs.Writing.{AppendsFront}
-use Rattle.vme_engines.specs.declared.Status.{Status}
 use Rattle.vme_engines.specs.declared.EngineFault.TheVariants as fault
 use Rattle.vme_engines.specs.declared.following.Told.{Told}
 use Rattle.vme_engines.specs.declared.following.Told.TheVariants.{Block, Beyond}
 use Rattle.vme_engines.specs.declared.shows.Stretch.{Stretch}
-use Rattle.vme_engines.specs.Streams.{Streams, streams}
+use Rattle.vme_engines.specs.Streams.{Streams}
 use Rattle.vme_engines.specs.Outcomes.{bench, refused_count, status_with}
 use Rattle.vme_engines.specs.Pieces.{Answers, Came, answered}
 use Rattle.vme_engines.specs.Steps.{Begins, Opens}
 use Rattle.vme_engines.specs.Stretches.{Stage, IsStretch}
-use Rattle.vme_engines.specs.Showing.{IsShownOut, Shows, ShowsInput, StopsShowing, picture_of, shown_text}
+use Rattle.vme_engines.specs.Showing.{IsShownOut, Shows, ShowsInput, StopsShowing, shown_text}
 use Rattle.vme_engines.specs.Shown.{Ends, IsEnd, IsFresh, ShowsPiece, status_to, stretch_text}
 use Rattle.vme_engines.specs.Followed.{told_answer}
 use Rattle.vme_engines.proofs.ReadOn.{came_begins}
@@ -88,7 +86,7 @@ module _ (p : Plan) (v : Version) (all : List ℕ) (s : Streams) (es : List Edge
     | inr write ↦ cut more came write.1 write.2 f write.0
   ]
 
-pub shows_all : (p : Plan) (v : Version) (all : List ℕ) (s : Streams) (first : Stage) (answer : Result Told Fault) → first.backplane ≡ bench p v → IsFresh first
+pub shows_all : (p : Plan) (v : Version) (all : List ℕ) (s : Streams) (first : Stage) (answer : Result Told Fault) → first.bus ≡ bench p v → IsFresh first
     → Answers (λ es more old new (now : Stage) a. ShowsPiece first es more old new now a) v [] all s answer → Shows first.stretch.from first.stretch.to first.stretch.color p all s (told_answer answer)
 shows_all p v all s first answer is fresh h =
     shows_so p v all s h.0 (came_begins v [] all s.from s.to h.0 h.1 h.3) first.stretch fresh.stretch h.1 h.2 answer h.3

@@ -1,5 +1,5 @@
 -- What the edges of a trace come to, piece by piece.
-use Rattle.std.proofs.Common.{◌≡◌, inl, inr, ℕ, ◌+◌, ◌-◌, ◌<◌, ◌≤◌, ◌^◌, List, [], ◌∷◌, ◌++◌, length, Bool, true, false, Option, Some, None, Result, Ok, Err, is_ok, refl, sym, ◌∙◌, ap, subst, arith, append_assoc, append-nil}
+use Rattle.std.proofs.Common.{◌≡◌, inl, inr, ℕ, ◌+◌, ◌-◌, ◌<◌, ◌^◌, List, [], ◌∷◌, ◌++◌, length, Bool, true, false, Option, Some, None, Result, Ok, Err, is_ok, refl, sym, ◌∙◌, ap, subst, arith, append_assoc, append-nil}
 use Rattle.std.specs.Prelude.{if◌then◌else◌}
 use Rattle.std.proofs.Math.ListN.{length-append}
 use Rattle.std.specs.Io.KnownBytes.{Keeps, Appends}
@@ -9,20 +9,19 @@ use Rattle.vme_model.specs.declared.signals.Version.{Version}
 use Rattle.vme_model.specs.declared.signals.Edge.{Edge}
 use Rattle.vme_model.specs.Plan.{Plan}
 use Rattle.vme_model.specs.Verdict.{State, Judgement, verdict, made, after, kept}
-use Rattle.vme_model.specs.Deliveries.{answer, delivery, with_delivery}
-use Rattle.vme_model.specs.Text.{Reading, read_of}
-use Rattle.vme_model.specs.Numbered.{Numbered, numbered_with, numbered_on, numbered}
+use Rattle.vme_model.specs.Deliveries.{delivery, with_delivery}
+use Rattle.vme_model.specs.Text.{read_of}
+use Rattle.vme_model.specs.Numbered.{Numbered, numbered_with, numbered}
 use Rattle.vme_reasons.specs.Marked.{IsMarksOf}
 use Rattle.vme_reasons.specs.Traced.{OfTrace}
 use Rattle.vme_trace.specs.declared.Fault.{Fault}
-use Rattle.vme_trace.specs.declared.Fault.TheVariants.{Write}
 use Rattle.vme_trace.specs.Reading as trace
 use Rattle.vme_trace.specs.Writing.{AppendsFront}
 use Rattle.vme_events.specs.declared.events.Event.{Event}
 use Rattle.vme_events.specs.Events.{events_of}
 use Rattle.vme_events.specs.Ordered.{OfOrdered}
 use Rattle.vme_events.proofs.Places.{numbers_below}
-use Rattle.vme_tallies.specs.Tally.{Answers as Told, Answered, answered_edge, answered_on, answered, is_accepted, accepted, refused}
+use Rattle.vme_tallies.specs.Tally.{Answers as Told, answered_edge, answered_on, answered, is_accepted, accepted, refused}
 use Rattle.vme_tallies.specs.Tallied.{IsTallyOf}
 use Rattle.vme_tallies.specs.Summary.{summary_text}
 use Rattle.vme_tallies.proofs.Counted.{count_step}
@@ -30,12 +29,12 @@ use Rattle.vme_tallies.proofs.Words.{each_once}
 use Rattle.vme_engines.specs.declared.Status.{Status}
 use Rattle.vme_engines.specs.declared.EngineFault.TheVariants as fault
 use Rattle.vme_engines.specs.declared.summaries.Summing.{Summing}
-use Rattle.vme_engines.specs.Streams.{Streams, streams}
-use Rattle.vme_engines.specs.Outcomes.{bench, refused_count, status_with, status_of}
+use Rattle.vme_engines.specs.Streams.{Streams}
+use Rattle.vme_engines.specs.Outcomes.{bench, refused_count, status_with}
 use Rattle.vme_engines.specs.Steps.{Begins, Opens, traced}
 use Rattle.vme_engines.specs.Pieces.{Came, Answers, answered as told_by}
 use Rattle.vme_engines.specs.Summing.{IsSummedUp, IsWaiting, Sums, SumsInput}
-use Rattle.vme_engines.specs.Summed.{IsSumOf, OfSum, SumsPiece}
+use Rattle.vme_engines.specs.Summed.{IsSumOf, SumsPiece}
 use Rattle.vme_engines.proofs.WrittenLines.{kept_append}
 use Rattle.vme_engines.proofs.FollowedEdges.{kept_plan, edges_on, numbered_append}
 use Rattle.vme_engines.proofs.ReadOn.{came_begins}
@@ -76,29 +75,29 @@ refused_is p v es =
 
 -- ---- one edge
 
-pub one_summed : (b : State) (es : List Edge) (e : Edge) (old now : Summing) (vs : List Event) → IsSumOf b es old → now.following.backplane ≡ after old.following.backplane e → now.following.judged ≡ old.following.judged + 1
-    → OfTrace old.following.backplane old.following.marks (λ k. IsMarksOf old.following.backplane.plan (numbered_with old.following.backplane (old.following.judged + 1) e k) now.following.marks)
-    → OfOrdered old.following.backplane old.following.marks (λ _. vs ≡ events_of old.following.backplane.plan old.following.backplane.history e)
-    → (IsTallyOf (answered b es) old.tally → length (answered b es) + 1 < 2 ^ 64 → vs ≡ events_of old.following.backplane.plan old.following.backplane.history e → IsTallyOf (answered_edge old.following.backplane e ∷ answered b es) now.tally)
+pub one_summed : (b : State) (es : List Edge) (e : Edge) (old now : Summing) (vs : List Event) → IsSumOf b es old → now.following.bus ≡ after old.following.bus e → now.following.judged ≡ old.following.judged + 1
+    → OfTrace old.following.bus old.following.marks (λ k. IsMarksOf old.following.bus.plan (numbered_with old.following.bus (old.following.judged + 1) e k) now.following.marks)
+    → OfOrdered old.following.bus old.following.marks (λ _. vs ≡ events_of old.following.bus.plan old.following.bus.history e)
+    → (IsTallyOf (answered b es) old.tally → length (answered b es) + 1 < 2 ^ 64 → vs ≡ events_of old.following.bus.plan old.following.bus.history e → IsTallyOf (answered_edge old.following.bus e ∷ answered b es) now.tally)
     → old.following.judged + 1 < 2 ^ 64 → IsSumOf b (es ++ e ∷ []) now
-one_summed b es e old now vs is backplane judged marks events tally few =
-    let edges = edges_on b 0 [] es (sym is.empty) ∙ ap (λ s. s.history) (sym is.backplane) in
-    let plan : old.following.backplane.plan ≡ b.plan = ap (λ s. s.plan) is.backplane ∙ kept_plan b es in
+one_summed b es e old now vs is bus judged marks events tally few =
+    let edges = edges_on b 0 [] es (sym is.empty) ∙ ap (λ s. s.history) (sym is.bus) in
+    let plan : old.following.bus.plan ≡ b.plan = ap (λ s. s.plan) is.bus ∙ kept_plan b es in
     let of = subst (λ (p : Plan). IsMarksOf p (numbered b es) old.following.marks) (sym plan) is.marks in
     let count : old.following.judged + 1 ≡ (0 + length es) + 1 = let n = is.judged in omega (arith, n) in
     let size : length (answered b es) ≡ length es = answered_length b [] es ∙ omega arith in
     let short : length (answered b es) + 1 < 2 ^ 64 = let n = is.judged in omega (arith, n, size, few) in
     record {
       empty = is.empty;
-      backplane = backplane ∙ ap (λ s. after s e) is.backplane ∙ sym (kept_append b es (e ∷ []));
+      bus = bus ∙ ap (λ s. after s e) is.bus ∙ sym (kept_append b es (e ∷ []));
       judged = let n = is.judged in let more = length-append es (e ∷ []) in omega (arith, judged, n, more);
       marks =
           subst (λ (p : Plan). IsMarksOf p (numbered b (es ++ e ∷ [])) now.following.marks) plan
-          (subst (λ (k : Numbered). IsMarksOf old.following.backplane.plan k now.following.marks)
-          (ap (λ n. numbered_with old.following.backplane n e (numbered b es)) count ∙ ap (λ s. numbered_with s ((0 + length es) + 1) e (numbered b es)) is.backplane ∙ sym (numbered_append b 0 [] es (e ∷ [])))
+          (subst (λ (k : Numbered). IsMarksOf old.following.bus.plan k now.following.marks)
+          (ap (λ n. numbered_with old.following.bus n e (numbered b es)) count ∙ ap (λ s. numbered_with s ((0 + length es) + 1) e (numbered b es)) is.bus ∙ sym (numbered_append b 0 [] es (e ∷ [])))
           (marks (numbered b es) edges of));
       tally =
-          subst (λ (t : Told). IsTallyOf t now.tally) (ap (λ s. answered_edge s e ∷ answered b es) is.backplane ∙ sym (answered_append b [] es (e ∷ [])))
+          subst (λ (t : Told). IsTallyOf t now.tally) (ap (λ s. answered_edge s e ∷ answered b es) is.bus ∙ sym (answered_append b [] es (e ∷ [])))
           (tally is.tally short (events (numbered b es) (length es + 1) edges of (numbers_below b es)));
     }
 
@@ -167,5 +166,5 @@ pub sums_unopened : (p : Plan) (s : Streams) (reader : trace.ReaderState) (es : 
 sums_unopened p s reader es left f kept unknown h = let t = unopened IsWaiting tt s reader es left f unknown h in (t.0, t.1, inl (t.2, kept))
 
 -- the plan stays
-pub plan_of : (b : State) (es : List Edge) (now : Summing) → IsSumOf b es now → now.following.backplane.plan ≡ b.plan
-plan_of b es now is = ap (λ s. s.plan) is.backplane ∙ kept_plan b es
+pub plan_of : (b : State) (es : List Edge) (now : Summing) → IsSumOf b es now → now.following.bus.plan ≡ b.plan
+plan_of b es now is = ap (λ s. s.plan) is.bus ∙ kept_plan b es

@@ -47,53 +47,53 @@ flushed_front r s m T a b c w kept = on_err r (OfTrace s m (λ k. AppendsFront a
 
 module _ (first mid : Following) (es : List Edge) (one : Follows first es mid) where
   block_text : (T : ℕ → State → Numbered → List ℕ) (front : List Edge) (k : Numbered)
-      → T (mid.judged + length front) (kept mid.backplane front) (numbered_on mid.backplane mid.judged (numbered_on first.backplane first.judged k es) front)
-      ≡ T (first.judged + length (es ++ front)) (kept first.backplane (es ++ front)) (numbered_on first.backplane first.judged k (es ++ front))
+      → T (mid.judged + length front) (kept mid.bus front) (numbered_on mid.bus mid.judged (numbered_on first.bus first.judged k es) front)
+      ≡ T (first.judged + length (es ++ front)) (kept first.bus (es ++ front)) (numbered_on first.bus first.judged k (es ++ front))
   block_text T front k =
-      ap (λ n. T n (kept mid.backplane front) (numbered_on mid.backplane mid.judged (numbered_on first.backplane first.judged k es) front)) (sym (count_behind first mid es one front))
-      ∙ ap (λ b. T (first.judged + length (es ++ front)) b (numbered_on mid.backplane mid.judged (numbered_on first.backplane first.judged k es) front)) (sym (kept_behind first mid es one front))
-      ∙ ap (λ m. T (first.judged + length (es ++ front)) (kept first.backplane (es ++ front)) m) (sym (numbered_behind first mid es one k front))
+      ap (λ n. T n (kept mid.bus front) (numbered_on mid.bus mid.judged (numbered_on first.bus first.judged k es) front)) (sym (count_behind first mid es one front))
+      ∙ ap (λ b. T (first.judged + length (es ++ front)) b (numbered_on mid.bus mid.judged (numbered_on first.bus first.judged k es) front)) (sym (kept_behind first mid es one front))
+      ∙ ap (λ m. T (first.judged + length (es ++ front)) (kept first.bus (es ++ front)) m) (sym (numbered_behind first mid es one k front))
 
   pub block_behind : (T : ℕ → State → Numbered → List ℕ) (W V : List ℕ → Type 0) (front : List Edge) → ((t : List ℕ) → W t → V t)
-      → OfTrace mid.backplane mid.marks (λ k. W (T (mid.judged + length front) (kept mid.backplane front) (numbered_on mid.backplane mid.judged k front)))
-      → OfTrace first.backplane first.marks (λ k. V (T (first.judged + length (es ++ front)) (kept first.backplane (es ++ front)) (numbered_on first.backplane first.judged k (es ++ front))))
+      → OfTrace mid.bus mid.marks (λ k. W (T (mid.judged + length front) (kept mid.bus front) (numbered_on mid.bus mid.judged k front)))
+      → OfTrace first.bus first.marks (λ k. V (T (first.judged + length (es ++ front)) (kept first.bus (es ++ front)) (numbered_on first.bus first.judged k (es ++ front))))
   block_behind T W V front go h =
       λ k is of.
       subst V (block_text T front k)
-      (go _ (of_trace_behind first mid es one (λ m. W (T (mid.judged + length front) (kept mid.backplane front) (numbered_on mid.backplane mid.judged m front))) h k is of))
+      (go _ (of_trace_behind first mid es one (λ m. W (T (mid.judged + length front) (kept mid.bus front) (numbered_on mid.bus mid.judged m front))) h k is of))
 
   -- a block of what was followed
-  pub block_here : (T : ℕ → State → Numbered → List ℕ) (W : List ℕ → Type 0) → OfTrace mid.backplane mid.marks (λ k. W (T mid.judged mid.backplane k))
-      → OfTrace first.backplane first.marks (λ k. W (T (first.judged + length es) (kept first.backplane es) (numbered_on first.backplane first.judged k es)))
+  pub block_here : (T : ℕ → State → Numbered → List ℕ) (W : List ℕ → Type 0) → OfTrace mid.bus mid.marks (λ k. W (T mid.judged mid.bus k))
+      → OfTrace first.bus first.marks (λ k. W (T (first.judged + length es) (kept first.bus es) (numbered_on first.bus first.judged k es)))
   block_here T W h =
       λ k is of.
-      subst (λ (b : State). W (T (first.judged + length es) b (numbered_on first.backplane first.judged k es))) one.backplane
-      (subst (λ (n : ℕ). W (T n mid.backplane (numbered_on first.backplane first.judged k es))) one.judged
-      (of_trace_behind first mid es one (λ m. W (T mid.judged mid.backplane m)) h k is of))
+      subst (λ (b : State). W (T (first.judged + length es) b (numbered_on first.bus first.judged k es))) one.bus
+      (subst (λ (n : ℕ). W (T n mid.bus (numbered_on first.bus first.judged k es))) one.judged
+      (of_trace_behind first mid es one (λ m. W (T mid.judged mid.bus m)) h k is of))
 
 -- ---- explain
 
 -- two pieces, one behind the other
 module _ (first mid : Following) (es fs : List Edge) (old at new : Option (List ℕ)) (keeps : Keeps old at) (one : Follows first es mid) where
-  refusal_is : (gs : List Edge) → first_refusal (first.judged + 1) first.backplane es ≡ None
-      → first_refusal (first.judged + 1) first.backplane (es ++ gs) ≡ first_refusal (mid.judged + 1) mid.backplane gs
+  refusal_is : (gs : List Edge) → first_refusal (first.judged + 1) first.bus es ≡ None
+      → first_refusal (first.judged + 1) first.bus (es ++ gs) ≡ first_refusal (mid.judged + 1) mid.bus gs
   refusal_is gs none =
-      refusal_behind (first.judged + 1) first.backplane es gs none
-      ∙ ap (λ s. first_refusal ((first.judged + 1) + length es) s gs) (sym one.backplane)
-      ∙ ap (λ n. first_refusal n mid.backplane gs) (let is = one.judged in omega (arith, is))
+      refusal_behind (first.judged + 1) first.bus es gs none
+      ∙ ap (λ s. first_refusal ((first.judged + 1) + length es) s gs) (sym one.bus)
+      ∙ ap (λ n. first_refusal n mid.bus gs) (let is = one.judged in omega (arith, is))
 
-  missing_more : (edge : Option ℕ) → IsMissing edge first.backplane first.judged es → IsMissing edge mid.backplane mid.judged fs → IsMissing edge first.backplane first.judged (es ++ fs)
+  missing_more : (edge : Option ℕ) → IsMissing edge first.bus first.judged es → IsMissing edge mid.bus mid.judged fs → IsMissing edge first.bus first.judged (es ++ fs)
   missing_more edge a b = (
     λ asked given h. let low = a.0 asked given h in let is = one.judged in let both = count_behind first mid es one fs in let high = b.0 asked given (omega (arith, is, low)) in omega (arith, both, high),
     λ none. refusal_is fs (a.1 none) ∙ b.1 none,
   )
 
-  next_more : (edge : Option ℕ) (front : List Edge) (e : Edge) → IsMissing edge first.backplane first.judged es → IsNext edge mid.backplane mid.judged front e
-      → IsNext edge first.backplane first.judged (es ++ front) e
+  next_more : (edge : Option ℕ) (front : List Edge) (e : Edge) → IsMissing edge first.bus first.judged es → IsNext edge mid.bus mid.judged front e
+      → IsNext edge first.bus first.judged (es ++ front) e
   next_more (Some asked) front e a b = b ∙ ap (λ n. n + 1) (sym (count_behind first mid es one front))
   next_more None front e a b = (refusal_is front (a.1 refl) ∙ b.0, ap (λ s. is_ok (verdict s e)) (kept_behind first mid es one front) ∙ b.1)
 
-  edge_more : (edge : Option ℕ) (status : Status) (W V : List ℕ → Type 0) → ((t : List ℕ) → W t → V t) → IsMissing edge first.backplane first.judged es
+  edge_more : (edge : Option ℕ) (status : Status) (W V : List ℕ → Type 0) → ((t : List ℕ) → W t → V t) → IsMissing edge first.bus first.judged es
       → TellsEdge edge mid fs status W → TellsEdge edge first (es ++ fs) status V
   edge_more edge status W V go none t = record {
     front = es ++ t.front;
@@ -105,17 +105,17 @@ module _ (first mid : Following) (es fs : List Edge) (old at new : Option (List 
     block = block_behind first mid es one (λ n b k. why_text (n + 1) b k t.e) W V t.front go t.block;
   }
 
-  legal_more : (edge : Option ℕ) (more : Result Bool Fault) (status : Status) (W V : List ℕ → Type 0) → ((t : List ℕ) → W t → V t) → IsMissing edge first.backplane first.judged es
+  legal_more : (edge : Option ℕ) (more : Result Bool Fault) (status : Status) (W V : List ℕ → Type 0) → ((t : List ℕ) → W t → V t) → IsMissing edge first.bus first.judged es
       → TellsLegal edge mid fs more status W → TellsLegal edge first (es ++ fs) more status V
   legal_more (Some asked) more status W V go none t = absurd (let no = t.0 in cc)
   legal_more None more status W V go none t =
       (t.0, t.1, refusal_is fs (none.1 refl) ∙ t.2, t.3, subst (λ (n : ℕ). V (finding_line (Legal n))) (sym (count_behind first mid es one fs)) (go _ t.4))
 
-  tells_more : (edge : Option ℕ) (more : Result Bool Fault) (status : Status) (W V : List ℕ → Type 0) → ((t : List ℕ) → W t → V t) → IsMissing edge first.backplane first.judged es
+  tells_more : (edge : Option ℕ) (more : Result Bool Fault) (status : Status) (W V : List ℕ → Type 0) → ((t : List ℕ) → W t → V t) → IsMissing edge first.bus first.judged es
       → Tells edge mid fs more status W → Tells edge first (es ++ fs) more status V
   tells_more edge more status W V go none t = elim t [ inl told ↦ inl (edge_more edge status W V go none told) | inr legal ↦ inr (legal_more edge more status W V go none legal) ]
 
-  pub explains_more : (edge : Option ℕ) (more : Result Bool Fault) (now : Following) (answer : Result (Option Told) Fault) → IsMissing edge first.backplane first.judged es
+  pub explains_more : (edge : Option ℕ) (more : Result Bool Fault) (now : Following) (answer : Result (Option Told) Fault) → IsMissing edge first.bus first.judged es
       → ExplainsPiece edge mid fs more at new now answer → ExplainsPiece edge first (es ++ fs) more old new now answer
   explains_more edge more now (Ok None) none h = (h.0, Keeps-trans old at new keeps h.1, missing_more edge none h.2, follows_more first mid es one fs now h.3)
   explains_more edge more now (Ok (Some (Block status))) none h = tells_more edge more status (Appends at new) (Appends old new) (λ t w. appends_behind old at new t keeps w) none h
@@ -162,20 +162,20 @@ module _ (first mid : Following) (es fs : List Edge) (old at new : Option (List 
 
 -- the edge that was come to is told
 pub edge_told : (edge : Option ℕ) (first mid : Following) (es : List Edge) (e : Edge) (status : Status) (W : List ℕ → Type 0) → ComesTo edge first es e mid
-    → status ≡ edge_status mid.backplane e → OfTrace mid.backplane mid.marks (λ k. W (why_text (mid.judged + 1) mid.backplane k e)) → TellsEdge edge first es status W
+    → status ≡ edge_status mid.bus e → OfTrace mid.bus mid.marks (λ k. W (why_text (mid.judged + 1) mid.bus k e)) → TellsEdge edge first es status W
 edge_told edge first mid es e status W here ends block = record {
   front = here.front;
   e = e;
   rest = here.rest;
   split = here.split;
   asked = here.asked;
-  ends = ends ∙ ap (λ s. edge_status s e) here.follows.backplane;
+  ends = ends ∙ ap (λ s. edge_status s e) here.follows.bus;
   block = block_here first mid here.front here.follows (λ n b k. why_text (n + 1) b k e) W block;
 }
 
 -- the place that was reached is told
 pub place_told : (after : Option ℕ) (first mid : Following) (es : List Edge) (more : Result Bool Fault) (W : List ℕ → Type 0) (h : Reaches after first es mid true)
-    → OfTrace mid.backplane mid.marks (λ k. W (stands_text mid.judged mid.backplane k)) → TellsPlace after first es more W
+    → OfTrace mid.bus mid.marks (λ k. W (stands_text mid.judged mid.bus k)) → TellsPlace after first es more W
 place_told after first mid es more W h block = record {
   front = h.0;
   rest = h.1;
@@ -186,7 +186,7 @@ place_told after first mid es more W h block = record {
 
 -- the end of the trace is told
 end_told : (after : Option ℕ) (first mid : Following) (es : List Edge) (more : Result Bool Fault) (W : List ℕ → Type 0) → after ≡ None → more ≡ Ok false → Follows first es mid
-    → OfTrace mid.backplane mid.marks (λ k. W (stands_text mid.judged mid.backplane k)) → TellsPlace after first es more W
+    → OfTrace mid.bus mid.marks (λ k. W (stands_text mid.judged mid.bus k)) → TellsPlace after first es more W
 end_told after first mid es more W none is h block = record {
   front = es;
   rest = [];

@@ -108,20 +108,20 @@ module _ (all es front rest others : List Edge) (begins : all ≡ es ++ others) 
   front_short = let is = ap length whole_is in let both = length-append front (rest ++ others) in omega (arith, is, both)
 
 -- what was followed from the first edge on tells of the numbered edges
-module _ (p : Plan) (v : Version) (f : Following) (is : f.backplane ≡ bench p v) (zero : f.judged ≡ 0) (marks : (q : Plan) → IsMarksOf q [] f.marks) where
+module _ (p : Plan) (v : Version) (f : Following) (is : f.bus ≡ bench p v) (zero : f.judged ≡ 0) (marks : (q : Plan) → IsMarksOf q [] f.marks) where
   pub text_of : (T : ℕ → State → Numbered → List ℕ) (W : List ℕ → Type 0) (front : List Edge)
-      → OfTrace f.backplane f.marks (λ k. W (T (f.judged + length front) (kept f.backplane front) (numbered_on f.backplane f.judged k front)))
+      → OfTrace f.bus f.marks (λ k. W (T (f.judged + length front) (kept f.bus front) (numbered_on f.bus f.judged k front)))
       → W (T (length front) (kept (bench p v) front) (numbered (bench p v) front))
   text_of T W front h =
-      let nothing : [] ≡ f.backplane.history = sym (ap (λ b. b.history) is) in
+      let nothing : [] ≡ f.bus.history = sym (ap (λ b. b.history) is) in
       let count : 0 + length front ≡ length front = omega arith in
       subst (λ (n : ℕ). W (T n (kept (bench p v) front) (numbered_on (bench p v) 0 [] front))) count
       (subst (λ (n : ℕ). W (T (n + length front) (kept (bench p v) front) (numbered_on (bench p v) n [] front))) zero
-      (subst (λ (b : State). W (T (f.judged + length front) (kept b front) (numbered_on b f.judged [] front))) is (h [] nothing (marks f.backplane.plan))))
+      (subst (λ (b : State). W (T (f.judged + length front) (kept b front) (numbered_on b f.judged [] front))) is (h [] nothing (marks f.bus.plan))))
 
 -- ---- state
 
-module _ (p : Plan) (v : Version) (all : List ℕ) (s : Streams) (es : List Edge) (begins : Begins (read_of all) v es) (f : Following) (is : f.backplane ≡ bench p v) (zero : f.judged ≡ 0) (marks : (q : Plan) → IsMarksOf q [] f.marks) where
+module _ (p : Plan) (v : Version) (all : List ℕ) (s : Streams) (es : List Edge) (begins : Begins (read_of all) v es) (f : Following) (is : f.bus ≡ bench p v) (zero : f.judged ≡ 0) (marks : (q : Plan) → IsMarksOf q [] f.marks) where
   reached_is : (place : Option ℕ) (front rest : List Edge) (more : Result Bool Fault) → es ≡ front ++ rest → IsPlace place f.judged front rest more → Came v [] all s.from s.to es more
       → IsReached place (read_of all) s (length front)
   reached_is (Some n) front rest more split h came = (let none = zero in omega (arith, h, none), front_short (read_of all).edges es front rest begins.others begins.edges split)
@@ -166,7 +166,7 @@ module _ (p : Plan) (v : Version) (all : List ℕ) (s : Streams) (es : List Edge
     | inr cut ↦ (let t = stated place more (AppendsFront s.old s.new) came cut.1 in inr (cut.0, t.0, t.1, t.2))
   ]
 
-pub states_all : {S : Type 0} (state : S → Following) (kept_so : S → Type 0) (p : Plan) (v : Version) (all : List ℕ) (s : Streams) (place : Option ℕ) (f : Following) (r : Result Told Fault) → f.backplane ≡ bench p v → f.judged ≡ 0
+pub states_all : {S : Type 0} (state : S → Following) (kept_so : S → Type 0) (p : Plan) (v : Version) (all : List ℕ) (s : Streams) (place : Option ℕ) (f : Following) (r : Result Told Fault) → f.bus ≡ bench p v → f.judged ≡ 0
     → ((q : Plan) → IsMarksOf q [] f.marks) → Answers (λ es more old new (now : S) a. kept_so now × StatesPiece place f es more old new (state now) a) v [] all s r → States place p all s (told_answer r)
 states_all state kept_so p v all s place f r is zero marks h =
     states_so p v all s h.0 (came_begins v [] all s.from s.to h.0 h.1 h.3) f is zero marks place h.1 (state h.2) r h.3 h.4.1
@@ -196,18 +196,18 @@ first_behind b front rest e r none is =
     ∙ ap (λ j. or_refusal (1 + length front) j (first_refusal ((1 + length front) + 1) (after (kept b front) e) rest)) is
     ∙ ap (λ n. Some (n, r)) (omega arith)
 
-module _ (p : Plan) (v : Version) (all : List ℕ) (s : Streams) (es : List Edge) (begins : Begins (read_of all) v es) (f : Following) (is : f.backplane ≡ bench p v) (zero : f.judged ≡ 0) (marks : (q : Plan) → IsMarksOf q [] f.marks) where
-  refusal_at : (gs : List Edge) → first_refusal (f.judged + 1) f.backplane gs ≡ first_refusal 1 (bench p v) gs
-  refusal_at gs = ap (λ n. first_refusal (n + 1) f.backplane gs) zero ∙ ap (λ b. first_refusal 1 b gs) is
+module _ (p : Plan) (v : Version) (all : List ℕ) (s : Streams) (es : List Edge) (begins : Begins (read_of all) v es) (f : Following) (is : f.bus ≡ bench p v) (zero : f.judged ≡ 0) (marks : (q : Plan) → IsMarksOf q [] f.marks) where
+  refusal_at : (gs : List Edge) → first_refusal (f.judged + 1) f.bus gs ≡ first_refusal 1 (bench p v) gs
+  refusal_at gs = ap (λ n. first_refusal (n + 1) f.bus gs) zero ∙ ap (λ b. first_refusal 1 b gs) is
 
-  unasked : (edge : Option ℕ) → IsMissing edge f.backplane f.judged es → IsUnasked edge p (Some v) es
+  unasked : (edge : Option ℕ) → IsMissing edge f.bus f.judged es → IsUnasked edge p (Some v) es
   unasked (Some asked) h = λ low. let none = zero in let high = h.0 asked refl (omega (arith, none, low)) in omega (arith, none, high)
   unasked None h = sym (refusal_at es) ∙ h.1 refl
 
-  asked_is : (edge : Option ℕ) (front rest : List Edge) (e : Edge) → es ≡ front ++ (e ∷ rest) → IsNext edge f.backplane f.judged front e → IsAsked edge (bench p v) (read_of all).edges (length front + 1)
+  asked_is : (edge : Option ℕ) (front rest : List Edge) (e : Edge) → es ≡ front ++ (e ∷ rest) → IsNext edge f.bus f.judged front e → IsAsked edge (bench p v) (read_of all).edges (length front + 1)
   asked_is (Some asked) front rest e split h = let none = zero in omega (arith, none, h)
   asked_is None front rest e split h =
-      let r = refused_by (verdict (kept f.backplane front) e) h.1 in (
+      let r = refused_by (verdict (kept f.bus front) e) h.1 in (
         r.0,
         ap (first_refusal 1 (bench p v)) (whole_is (read_of all).edges es front (e ∷ rest) begins.others begins.edges split)
             ∙ first_behind (bench p v) front (rest ++ begins.others) e r.0 (sym (refusal_at front) ∙ h.0) (ap (λ b. verdict (kept b front) e) (sym is) ∙ r.1),
@@ -271,7 +271,7 @@ module _ (p : Plan) (v : Version) (all : List ℕ) (s : Streams) (es : List Edge
     | inr cut ↦ (let t = told edge more cut.1 (AppendsFront s.old s.new) came cut.2 in inr (cut.0, cut.1, t.0, t.1, t.2))
   ]
 
-pub explains_all : {S : Type 0} (state : S → Following) (kept_so : S → Type 0) (p : Plan) (v : Version) (all : List ℕ) (s : Streams) (edge : Option ℕ) (f : Following) (r : Result Told Fault) → f.backplane ≡ bench p v → f.judged ≡ 0
+pub explains_all : {S : Type 0} (state : S → Following) (kept_so : S → Type 0) (p : Plan) (v : Version) (all : List ℕ) (s : Streams) (edge : Option ℕ) (f : Following) (r : Result Told Fault) → f.bus ≡ bench p v → f.judged ≡ 0
     → ((q : Plan) → IsMarksOf q [] f.marks) → Answers (λ es more old new (now : S) a. kept_so now × ExplainsPiece edge f es more old new (state now) a) v [] all s r → Explains edge p all s (told_answer r)
 explains_all state kept_so p v all s edge f r is zero marks h =
     explains_so p v all s h.0 (came_begins v [] all s.from s.to h.0 h.1 h.3) f is zero marks edge h.1 (state h.2) r h.3 h.4.1

@@ -8,7 +8,7 @@ use Rattle.vme_model.specs.History.{in_order}
 use Rattle.vme_model.specs.Signals.{is_well_formed}
 use Rattle.vme_model.specs.Verdict.{State, IsLegal}
 use Rattle.vme_model.specs.Safe.{IsSafe, IsOrderly}
-use Rattle.vme_model.specs.Text.{text, read_of}
+use Rattle.vme_model.specs.Text.{edge_lines, text, read_of}
 use Rattle.vme_scenario.specs.Format.{scenario}
 use Rattle.vme_trace.specs.declared.Fault.TheVariants.{Write}
 use Rattle.vme_trace.specs.Writing.{AppendsFront}
@@ -34,7 +34,11 @@ abbrev pub missed_of : Ending → List Edge
 missed_of (Missed e) = e ∷ []
 missed_of _ = []
 
--- the text of the edges that were made, and of the one that was missed
+-- the lines of the edges that were made, and of the one that was missed
+abbrev pub ended_lines : Ended → List ℕ
+ended_lines x = edge_lines (in_order x.walk.state.history ++ missed_of x.ending)
+
+-- their text
 abbrev pub ended_text : Version → Ended → List ℕ
 ended_text version x = text version (in_order x.walk.state.history ++ missed_of x.ending)
 

@@ -30,11 +30,11 @@ told_answer (Err f) = Err (fault.Trace f)
 
 -- these edges were followed
 pub record Follows (first : Following) (es : List Edge) (now : Following) : Type 0 where
-  pub backplane : now.backplane ≡ kept first.backplane es
+  pub bus : now.bus ≡ kept first.bus es
   pub judged : now.judged ≡ first.judged + length es
-  pub marks : OfTrace first.backplane first.marks
-      (λ k. IsMarksOf first.backplane.plan
-      (numbered_on first.backplane first.judged k es) now.marks)
+  pub marks : OfTrace first.bus first.marks
+      (λ k. IsMarksOf first.bus.plan
+      (numbered_on first.bus first.judged k es) now.marks)
 
 -- ---- explain
 
@@ -57,7 +57,7 @@ pub record ComesTo
   pub front : List Edge
   pub rest : List Edge
   pub split : es ≡ front ++ e ∷ rest
-  pub asked : IsNext edge first.backplane first.judged front e
+  pub asked : IsNext edge first.bus first.judged front e
   pub follows : Follows first front now
 
 -- the edge that is asked for is told by its block
@@ -69,18 +69,18 @@ pub record TellsEdge
   pub e : Edge
   pub rest : List Edge
   pub split : es ≡ front ++ e ∷ rest
-  pub asked : IsNext edge first.backplane first.judged front e
-  pub ends : status ≡ edge_status (kept first.backplane front) e
-  pub block : OfTrace first.backplane first.marks
-      (λ k. Writes (why_text ((first.judged + length front) + 1) (kept first.backplane front)
-      (numbered_on first.backplane first.judged k front) e))
+  pub asked : IsNext edge first.bus first.judged front e
+  pub ends : status ≡ edge_status (kept first.bus front) e
+  pub block : OfTrace first.bus first.marks
+      (λ k. Writes (why_text ((first.judged + length front) + 1) (kept first.bus front)
+      (numbered_on first.bus first.judged k front) e))
 
 -- no number is asked for, and at the end of the trace no edge is refused
 abbrev pub TellsLegal :
     Option ℕ → Following → List Edge → Result Bool Fault → Status → (List ℕ → Type 0) → Type 0
 TellsLegal edge first es more status Writes =
     (edge ≡ None) × (more ≡ Ok false)
-    × (first_refusal (first.judged + 1) first.backplane es ≡ None) × (status ≡ Done)
+    × (first_refusal (first.judged + 1) first.bus es ≡ None) × (status ≡ Done)
     × Writes (finding_line (Legal (first.judged + length es)))
 
 abbrev pub Tells :
@@ -105,15 +105,15 @@ abbrev pub ExplainsPiece :
     → Following → Result (Option Told) Fault → Type 0
 ExplainsPiece edge first es more old new now (Ok None) =
     (more ≡ Ok true) × Keeps old new
-    × IsMissing edge first.backplane first.judged es × Follows first es now
+    × IsMissing edge first.bus first.judged es × Follows first es now
 ExplainsPiece edge first es more old new now (Ok (Some (Block status))) =
     Tells edge first es more status (Appends old new)
 ExplainsPiece edge first es more old new now (Ok (Some (Beyond edges))) =
     (more ≡ Ok false) × Keeps old new
-    × IsMissing edge first.backplane first.judged es × (edges ≡ first.judged + length es)
+    × IsMissing edge first.bus first.judged es × (edges ≡ first.judged + length es)
     × (asked : ℕ) × (edge ≡ Some asked)
 ExplainsPiece edge first es more old new now (Err f) =
-    ((more ≡ Err f) × Keeps old new × IsMissing edge first.backplane first.judged es)
+    ((more ≡ Err f) × Keeps old new × IsMissing edge first.bus first.judged es)
     ⊎ ((f ≡ Write) × (status : Status)
     × Tells edge first es more status (AppendsFront old new))
 
@@ -150,9 +150,9 @@ pub record TellsPlace
   pub rest : List Edge
   pub split : es ≡ front ++ rest
   pub reached : IsPlace after first.judged front rest more
-  pub block : OfTrace first.backplane first.marks
-      (λ k. Writes (stands_text (first.judged + length front) (kept first.backplane front)
-      (numbered_on first.backplane first.judged k front)))
+  pub block : OfTrace first.bus first.marks
+      (λ k. Writes (stands_text (first.judged + length front) (kept first.bus front)
+      (numbered_on first.bus first.judged k front)))
 
 -- At the end of a trace that was followed: where the bus stands is told, or nothing, where a place
 -- further on was asked for.
@@ -160,14 +160,14 @@ abbrev pub EndsBehind :
     Option ℕ → Following → Option (List ℕ) → Option (List ℕ) → Result Told Fault → Type 0
 EndsBehind after now old new (Ok (Block status)) =
     (after ≡ None) × (status ≡ Done)
-    × OfTrace now.backplane now.marks
-    (λ k. Appends old new (stands_text now.judged now.backplane k))
+    × OfTrace now.bus now.marks
+    (λ k. Appends old new (stands_text now.judged now.bus k))
 EndsBehind after now old new (Ok (Beyond edges)) =
     (edges ≡ now.judged) × Keeps old new × (wanted : ℕ) × (after ≡ Some wanted)
 EndsBehind after now old new (Err f) =
     (f ≡ Write) × (after ≡ None)
-    × OfTrace now.backplane now.marks
-    (λ k. AppendsFront old new (stands_text now.judged now.backplane k))
+    × OfTrace now.bus now.marks
+    (λ k. AppendsFront old new (stands_text now.judged now.bus k))
 
 -- What the edges of a piece do to an engine that tells where the bus stands.
 abbrev pub StatesPiece :

@@ -1,14 +1,17 @@
 -- What a drive over seeds leaves and answers.
-use Rattle.std.specs.Prelude.{◌≡◌, ◌≤◌, ◌<◌, ◌+◌, ℕ, Bool, true, false, List, Option, Some, None, Result, Ok, Err}
+use Rattle.std.specs.Prelude.{◌≡◌, ◌≤◌, ◌<◌, ◌+◌, ℕ, Bool, true, false, not, List, Option, Some, None, Result, Ok, Err}
 use Rattle.std.specs.Io.KnownBytes.{Keeps}
 use Rattle.vme_model.specs.declared.signals.Version.{Version}
 use Rattle.vme_model.specs.Plan.{Plan}
 use Rattle.vme_events.specs.declared.goals.Goal.{Goal}
+use Rattle.vme_trace.specs.declared.Fault.TheVariants.{Write}
 use Rattle.vme_engines.specs.declared.EngineFault.{EngineFault}
+use Rattle.vme_engines.specs.declared.EngineFault.TheVariants as fault
 use Rattle.vme_engines.specs.declared.Status.TheVariants.{Done, Limit}
 use Rattle.vme_engines.specs.declared.seeks.Ending.TheVariants.{Over}
 use Rattle.vme_engines.specs.Outcomes.{Answer}
 use Rattle.vme_engines.specs.Drawing.{walk, Draws}
+use Rattle.vme_engines.specs.Seeking.{is_over}
 
 -- whether a seed comes to the goal
 abbrev pub Tried : Type 0
@@ -33,6 +36,12 @@ found_answer (Err f) = Err f
 abbrev pub NoneBelow : Plan → Version → ℕ → Goal → ℕ → ℕ → Type 0
 NoneBelow p version n g first seed =
     (s : ℕ) → first ≤ s → s < seed → (walk p version s n (Some g)).ending ≡ Over
+
+-- What is seen of the walk of one seed: whether it comes to the goal.
+abbrev pub Sees : Version → ℕ → ℕ → Goal → Tried → Plan → Answer → Type 0
+Sees version seed n g (Ok has_come) p answer =
+    has_come ≡ not (is_over (walk p version seed n (Some g)).ending)
+Sees version seed n g (Err f) p answer = f ≡ fault.Trace Write
 
 -- What a try of one seed leaves: what a drive with it leaves where it comes to the goal, and else
 -- nothing.

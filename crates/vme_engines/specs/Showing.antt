@@ -5,7 +5,6 @@ use Rattle.vme_model.specs.declared.signals.Edge.{Edge}
 use Rattle.vme_model.specs.Plan.{Plan}
 use Rattle.vme_model.specs.Verdict.{State, kept}
 use Rattle.vme_model.specs.Text.{Reading, read_of}
-use Rattle.vme_model.specs.Report.{accepted_count}
 use Rattle.vme_trace.specs.declared.Fault.{Fault}
 use Rattle.vme_trace.specs.declared.Fault.TheVariants.{Write}
 use Rattle.vme_pictures.specs.Picture.{picture}

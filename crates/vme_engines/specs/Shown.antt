@@ -23,16 +23,16 @@ IsKept b es from None = length es < from
 IsKept b es from (Some w) =
     (from ≤ length es) × IsWindowOf (kept b (take (from - 1) es)) from (drop (from - 1) es) w
 
--- these edges came, from a backplane on
+-- these edges came, from a bus on
 pub record IsShown (b : State) (es : List Edge) (s : Stage) : Type 0 where
-  pub backplane : s.backplane ≡ kept b es
+  pub bus : s.bus ≡ kept b es
   pub judged : s.judged ≡ length es
   pub window : IsKept b es s.stretch.from s.window
 
 -- none did
 pub record IsFresh (s : Stage) : Type 0 where
   pub stretch : IsStretch s.stretch
-  pub none : IsShown s.backplane [] s
+  pub none : IsShown s.bus [] s
 
 -- so many more edges stand before the stretch
 abbrev pub IsBefore : Stage → ℕ → Type 0
@@ -87,4 +87,4 @@ abbrev pub ShowsPiece :
 ShowsPiece first es more old new now answer =
     GoesOn more (length es) first now answer
     × (now.stretch ≡ first.stretch)
-    × (IsFresh first → Ends first.stretch first.backplane es more old new now answer)
+    × (IsFresh first → Ends first.stretch first.bus es more old new now answer)

@@ -4,9 +4,9 @@ use Rattle.vme_model.specs.Verdict.{State}
 use Rattle.vme_pictures.specs.Columns.{Seen}
 use Rattle.vme_engines.specs.declared.shows.Stretch.{Stretch}
 
--- the backplane, what is shown, how many edges were judged, and what is kept of the stretch
+-- the bus, what is shown, how many edges were judged, and what is kept of the stretch
 pub record Stage : Type 0 where
-  pub backplane : State
+  pub bus : State
   pub stretch : Stretch
   pub judged : ℕ
   pub window : Option Seen

@@ -15,10 +15,10 @@ use Rattle.vme_engines.specs.declared.Status.{Status}
 use Rattle.vme_engines.specs.declared.summaries.Summing.{Summing}
 use Rattle.vme_engines.specs.Outcomes.{status_with}
 
--- the edges of a trace were summed up, on a backplane without edges
+-- the edges of a trace were summed up, on a bus without edges
 pub record IsSumOf (b : State) (es : List Edge) (now : Summing) : Type 0 where
   pub empty : b.history ≡ []
-  pub backplane : now.following.backplane ≡ kept b es
+  pub bus : now.following.bus ≡ kept b es
   pub judged : now.following.judged ≡ length es
   pub marks : IsMarksOf b.plan (numbered b es) now.following.marks
   pub tally : IsTallyOf (answered b es) now.tally

@@ -35,8 +35,8 @@ KeepsListed b held old new b' held' =
 -- What becomes of a bus and of such a text, where edges are made up to an end and each line is put
 -- to the text: at X8 a prefix of the lines of all was written.
 abbrev pub ListsOn :
-    State → List ℕ → Option (List ℕ) → Option (List ℕ)
-    → State → State → List ℕ → Result (Unit {0}) Fault → Type 0
+    {A : Type 0} → State → List ℕ → Option (List ℕ) → Option (List ℕ)
+    → State → State → List ℕ → Result A Fault → Type 0
 ListsOn b held old new end b' held' (Ok _) =
     (b' ≡ end) × KeepsListed b held old new b' held'
 ListsOn b held old new end b' held' (Err f) =

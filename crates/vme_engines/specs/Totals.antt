@@ -1,5 +1,5 @@
 -- What traces of one scenario come to together.
-use Rattle.std.specs.Prelude.{◌≡◌, ◌∷◌, [], ℕ, List, Option, Some, None, Ok, Err}
+use Rattle.std.specs.Prelude.{◌≡◌, ◌∷◌, ℕ, List, Option, Some, None, Ok, Err}
 use Rattle.std.specs.Io.KnownBytes.{Appends}
 use Rattle.vme_model.specs.declared.signals.Version.{Version}
 use Rattle.vme_model.specs.Plan.{Plan}
@@ -8,7 +8,7 @@ use Rattle.vme_trace.specs.declared.Fault.TheVariants.{Write}
 use Rattle.vme_trace.specs.Writing.{AppendsFront}
 use Rattle.vme_tallies.specs.declared.sums.Sums.{Sums}
 use Rattle.vme_tallies.specs.Tally.{Answers, answered, refused}
-use Rattle.vme_tallies.specs.Sums.{Traces, total, sums_text}
+use Rattle.vme_tallies.specs.Sums.{total, sums_text}
 use Rattle.vme_tallies.specs.Summed.{AreSumsOf, OfSums}
 use Rattle.vme_engines.specs.declared.EngineFault.TheVariants as fault
 use Rattle.vme_engines.specs.Streams.{Streams, IsInput, IsReadOut}

@@ -1,36 +1,63 @@
-//! Letting the edges of a backplane be drawn by the numbers of a seed.
-ghost use Rattle.std.specs.Prelude.{◌≡◌, ◌++◌, [], OnOk, OnErr, IfErr};
+//! Letting the edges of a bus be drawn by the numbers of a seed.
+ghost use Rattle.std.specs.Prelude.{◌≡◌, [], OnOk, OnErr, IfOk, IfErr};
 ghost use Rattle.std.specs.Io.KnownBytes.{Appends, Keeps};
-ghost use Rattle.vme_model.specs.History.{in_order};
-ghost use Rattle.vme_model.specs.Text.{text, edge_lines};
+ghost use Rattle.vme_model.specs.Text.{edge_lines};
 ghost use Rattle.vme_trace.specs.Writing.{AppendsFront};
+ghost use Rattle.vme_draws.specs.Walks.{walked};
 ghost use Rattle.vme_engines.specs.Outcomes.{Lent};
-ghost use Rattle.vme_engines.specs.Drawing.{Draws, DrawsSafely, IsWellFormed, missed_of, status_to};
+ghost use Rattle.vme_engines.specs.Drawing.{Draws, DrawsSafely, IsWellFormed, ended_lines, ended_text, missed_of, status_to};
 ghost use Rattle.vme_engines.specs.Seeking.{walk_to};
+ghost use Rattle.vme_engines.specs.Texts.{ListsOn};
 
-use crate::drives::{status_of, write_lines};
-use crate::plans::{history_region, history_room, plan_of};
+use crate::drives::{put_line, status_of};
+use crate::lines::hand_on;
+use crate::plans::plan_of;
 use crate::seeks::{Ending, seek};
 use crate::{EngineFault, Status};
 use std::alloc::Global;
 use std::io::Write;
-use vme_backplane::Backplane;
 use vme_draws::Walk;
 use vme_events::Goal;
 use vme_model::Version;
+use vme_text::Text;
 use vme_trace::{Fault, flush, header_line, line_of, put};
 
-/// Takes a walk to its goal, or so many edges.
-pub(crate) fn walk_to(walk: &mut Walk<'_>, goal: Option<Goal>, edges: u32) -> Ending
+/// Draws edges and makes them, so many, or until none is open. The line of each is put to a text,
+/// which is written whenever it has no room for the next.
+fn take<W: Write>(walk: &mut Walk, edges: u32, text: &mut Text, out: &mut W) -> Result<(), Fault>
+    ensures { ListsOn walk.old.state text.old (W.contents out.old) (W.contents out.new)
+        (walked edges walk.old).state walk.new.state text.new result }
+{
+    for _made in 0..edges {
+        match walk.draw() {
+            Some(edge) => {
+                walk.make(edge);
+                put_line(text, &edge, out)?;
+            }
+            None => return Ok(()),
+        }
+    }
+    Ok(())
+}
+
+/// The same up to a goal, if there is one, and how the walk ended.
+fn walk_to<W: Write>(
+    walk: &mut Walk,
+    goal: Option<Goal>,
+    edges: u32,
+    text: &mut Text,
+    out: &mut W,
+) -> Result<Ending, Fault>
     requires { walk.old.state.history ≡ [] }
-    ensures ending { result ≡ (walk_to goal edges walk.old).ending }
-    ensures walk { walk.new ≡ (walk_to goal edges walk.old).walk }
+    ensures ending { IfOk result (λ ending. ending ≡ (walk_to goal edges walk.old).ending) }
+    ensures listed { ListsOn walk.old.state text.old (W.contents out.old) (W.contents out.new)
+        (walk_to goal edges walk.old).walk.state walk.new.state text.new result }
 {
     match goal {
-        Some(goal) => seek(walk, goal, edges),
+        Some(goal) => seek(walk, goal, edges, text, out),
         None => {
-            walk.take(edges);
-            Ending::Over
+            take(walk, edges, text, out)?;
+            Ok(Ending::Over)
         }
     }
 }
@@ -50,45 +77,57 @@ fn write_missed<W: Write>(ending: Ending, out: &mut W) -> Result<(), Fault>
     }
 }
 
-/// Writes the lines of the edges that were made on a backplane, and of the one that was missed.
+/// Writes the lines of the edges of a walk, as they are made, and of the one that is missed.
 fn write_edges<W: Write>(
-    backplane: &Backplane<'_>,
-    ending: Ending,
+    walk: &mut Walk,
+    goal: Option<Goal>,
+    edges: u32,
     out: &mut W,
-) -> Result<(), Fault>
-    requires { IsWellFormed ending }
+) -> Result<Ending, Fault>
+    requires { walk.old.state.history ≡ [] }
+    ensures ending { IfOk result (λ ending. ending ≡ (walk_to goal edges walk.old).ending) }
+    ensures state { OnOk result
+        (walk.new.state ≡ (walk_to goal edges walk.old).walk.state) }
     ensures ok { OnOk result
         (Appends (W.contents out.old) (W.contents out.new)
-        (edge_lines (in_order backplane.now.history ++ missed_of ending))) }
+        (ended_lines (walk_to goal edges walk.old))) }
     ensures front { OnErr result
         (AppendsFront (W.contents out.old) (W.contents out.new)
-        (edge_lines (in_order backplane.now.history ++ missed_of ending))) }
+        (ended_lines (walk_to goal edges walk.old))) }
     ensures fault { IfErr result (λ fault. fault ≡ Fault.Write) }
 {
-    write_lines(backplane, out)?;
-    write_missed(ending, out)
+    let mut text = Text::new();
+    let ending = walk_to(walk, goal, edges, &mut text, out)?;
+    hand_on(&mut text, out)?;
+    write_missed(ending, out)?;
+    Ok(ending)
 }
 
-/// Writes the trace of the edges that were made on a backplane, and of the one that was missed.
+/// Writes the trace of a walk: the header line, and the line of each edge as it is made.
 ///
 /// Errors: X8 where the output cannot be written; a prefix of the trace was then written.
 pub(crate) fn write_walk<W: Write>(
-    backplane: &Backplane<'_>,
-    ending: Ending,
+    walk: &mut Walk,
+    goal: Option<Goal>,
+    edges: u32,
     out: &mut W,
-) -> Result<(), Fault>
-    requires { IsWellFormed ending }
+) -> Result<Ending, Fault>
+    requires { walk.old.state.history ≡ [] }
+    ensures ending { IfOk result (λ ending. ending ≡ (walk_to goal edges walk.old).ending) }
+    ensures state { OnOk result
+        (walk.new.state ≡ (walk_to goal edges walk.old).walk.state) }
     ensures ok { OnOk result
         (Appends (W.contents out.old) (W.contents out.new)
-        (text backplane.now.version (in_order backplane.now.history ++ missed_of ending))) }
+        (ended_text walk.old.state.version (walk_to goal edges walk.old))) }
     ensures front { OnErr result
         (AppendsFront (W.contents out.old) (W.contents out.new)
-        (text backplane.now.version (in_order backplane.now.history ++ missed_of ending))) }
+        (ended_text walk.old.state.version (walk_to goal edges walk.old))) }
     ensures fault { IfErr result (λ fault. fault ≡ Fault.Write) }
 {
-    put(out, header_line(backplane.version()))?;
-    write_edges(backplane, ending, out)?;
-    flush(out)
+    put(out, header_line(walk.bus().version()))?;
+    let ending = write_edges(walk, goal, edges, out)?;
+    flush(out)?;
+    Ok(ending)
 }
 
 /// The status of a walk that made so many edges, of so many that were asked for, and ended so.
@@ -102,14 +141,16 @@ fn status_to(goal: Option<Goal>, edges: u32, made: u32, ending: Ending) -> Statu
     }
 }
 
-/// Draws edges of a scenario's backplane among all that the rules allow, by the numbers of a seed, and writes their
+/// Draws edges of a scenario's bus among all that the rules allow, by the numbers of a seed, and writes their
 /// trace: at most `edges`, and with a goal up to the edge that brings it about. Where the goal is a condition, it ends
 /// with the first edge that this condition alone refuses, which is written after the others and counts as one of them.
 ///
 /// The status without a goal is `Limit` where `edges` of them were made, and else `Done`; with one it is `Done` where the
 /// goal came, and else `Limit`.
 ///
-/// Errors: F2, the faults of the scenario and F3, before anything is written; X8 where the output cannot be written.
+/// The lines are written as the edges are made, and no edge is kept.
+///
+/// Errors: F2 and the faults of the scenario, before anything is written; X8 where the output cannot be written.
 pub fn drive_drawn<W: Write>(
     alloc: Global,
     scenario: &[u8],
@@ -126,15 +167,14 @@ pub fn drive_drawn<W: Write>(
     ensures safe { OnOk result (DrawsSafely scenario.now version seed edges until) }
 {
     let plan = plan_of(alloc, scenario)?;
-    let mut region = history_region(alloc)?;
-    let room = history_room(alloc, &mut region)?;
-    let mut walk = Walk::new(plan, room, version, seed);
-    let ending = walk_to(&mut walk, until, edges);
-    let backplane = walk.backplane();
-    backplane.laws();
-    backplane.safety();
-    match write_walk(backplane, ending, out) {
-        Ok(()) => Ok(status_to(until, edges, backplane.len(), ending)),
+    let mut walk = Walk::new(plan, version, seed);
+    match write_walk(&mut walk, until, edges, out) {
+        Ok(ending) => {
+            let bus = walk.bus();
+            bus.laws();
+            bus.safety();
+            Ok(status_to(until, edges, bus.len(), ending))
+        }
         Err(fault) => Err(EngineFault::Trace(fault)),
     }
 }

@@ -150,7 +150,7 @@ impl Driving {
 /// Puts the line of an edge to a text, which is written first where it has no room for it.
 ///
 /// Errors: X8 where that failed; a prefix of the text was then written.
-fn put_line<W: Write>(text: &mut Text, edge: &Edge, out: &mut W) -> Result<(), Fault>
+pub(crate) fn put_line<W: Write>(text: &mut Text, edge: &Edge, out: &mut W) -> Result<(), Fault>
     requires { IsTrue (is_well_formed edge.now) }
     ensures ok { OnOk result
         (HandsOn (W.contents out.old) (W.contents out.new)

@@ -3,7 +3,6 @@ ghost use Rattle.std.specs.Prelude.{◌≡◌, ◌+◌, ◌<◌, ◌^◌, length
 ghost use Rattle.std.specs.Io.KnownBytes.{Appends};
 ghost use Rattle.vme_model.specs.Signals.{is_well_formed};
 ghost use Rattle.vme_model.specs.Locality.{AreWellFormed};
-ghost use Rattle.vme_model.specs.Report.{trace_limit};
 ghost use Rattle.vme_model.specs.Why.{why_text};
 ghost use Rattle.vme_trace.specs.Writing.{AppendsFront};
 ghost use Rattle.vme_engines.specs.Streams.{streams, ReadNothing, WroteNothing};
@@ -18,12 +17,12 @@ use crate::checks::Finding;
 use crate::following::{Following, Told, answer_of};
 use crate::lines::write_finding;
 use crate::pieces::{Judge, read_on};
-use crate::plans::{history_region, history_room, plan_of};
+use crate::plans::plan_of;
 use crate::traces::open;
 use crate::{EngineFault, Status};
 use std::alloc::Global;
 use std::io::{Read, Write};
-use vme_backplane::{Backplane, Trace};
+use vme_bus::Bus;
 use vme_model::Edge;
 use vme_reasons::write_why;
 use vme_slots::Plan;
@@ -35,24 +34,24 @@ fn tell_edge<W: Write>(following: &mut Following, edge: &Edge, out: &mut W) -> R
     requires room { following.old.judged + 1 < 2 ^ 64 }
     requires well_formed { IsTrue (is_well_formed edge.now) }
     ensures status { IfOk result
-        (λ status. status ≡ edge_status following.old.backplane edge.now) }
-    ensures ok { OnOk result (OfTrace following.old.backplane following.old.marks
+        (λ status. status ≡ edge_status following.old.bus edge.now) }
+    ensures ok { OnOk result (OfTrace following.old.bus following.old.marks
         (λ k. Appends (W.contents out.old) (W.contents out.new)
-        (why_text (following.old.judged + 1) following.old.backplane k edge.now))) }
-    ensures front { OnErr result (OfTrace following.old.backplane following.old.marks
+        (why_text (following.old.judged + 1) following.old.bus k edge.now))) }
+    ensures front { OnErr result (OfTrace following.old.bus following.old.marks
         (λ k. AppendsFront (W.contents out.old) (W.contents out.new)
-        (why_text (following.old.judged + 1) following.old.backplane k edge.now))) }
+        (why_text (following.old.judged + 1) following.old.bus k edge.now))) }
     ensures fault { IfErr result (λ fault. fault ≡ Fault.Write) }
 {
     write_why(
         following.judged + 1,
-        &following.backplane,
+        &following.bus,
         &following.marks,
         edge,
         out,
     )?;
     flush(out)?;
-    match following.backplane.step(*edge) {
+    match following.bus.step(*edge) {
         Ok(_) => Ok(Status::Done),
         Err(_) => Ok(Status::SomeRefused),
     }
@@ -103,23 +102,23 @@ fn explain_piece<W: Write>(
 
 /// An explanation under way.
 #[derive(Drop)]
-struct Explaining<'r> {
-    following: Following<'r>,
+struct Explaining {
+    following: Following,
     /// The number of the edge that is asked for; without one the first that is refused.
     edge: Option<u64>,
 }
 
-impl<'r> Explaining<'r> {
+impl Explaining {
     /// Before the first edge.
-    fn new(following: Following<'r>, edge: Option<u64>) -> Explaining<'r>
-        ensures following { result.following ≡ following.entry }
+    fn new(following: Following, edge: Option<u64>) -> Explaining
+        ensures following { result.following ≡ following }
         ensures edge { result.edge ≡ edge }
     {
         Explaining { following, edge }
     }
 }
 
-impl Judge for Explaining<'_> {
+impl Judge for Explaining {
     type Answer = Told;
 
     ghost count = { λ now. now.following.judged };
@@ -144,7 +143,7 @@ impl Judge for Explaining<'_> {
         refl,
         Keeps-refl old,
         (λ asked is low. omega arith, λ none. refl),
-        record { backplane = refl; judged = omega arith; marks = λ k is of. of },
+        record { bus = refl; judged = omega arith; marks = λ k is of. of },
       ),
     ) };
 
@@ -155,12 +154,10 @@ impl Judge for Explaining<'_> {
 fn explain_trace<R: Read, W: Write>(
     alloc: Global,
     plan: Plan,
-    room: Trace,
     trace: &mut R,
     edge: Option<u64>,
     out: &mut W,
 ) -> Result<Told, Fault>
-    requires { room ≡ trace_limit }
     ensures { ExplainsInput edge
         (streams (R.remaining trace.old) (R.remaining trace.new)
         (W.contents out.old) (W.contents out.new))
@@ -171,7 +168,7 @@ fn explain_trace<R: Read, W: Write>(
     let (first, reads) = open(&mut reader, trace, &mut edges);
     match reader.version() {
         Some(version) => {
-            let following = Following::new(Backplane::new(plan, room, version));
+            let following = Following::new(Bus::new(plan, version));
             let mut explanation = Explaining::new(following, edge);
             read_on(
                 &mut explanation,
@@ -197,7 +194,7 @@ fn explain_trace<R: Read, W: Write>(
 /// status is `SomeRefused` where the edge is refused, and else `Done`. Without a number, where no edge is refused, it
 /// writes `legal N`. Behind that edge it judges none. It makes at most 16,777,216 reads.
 ///
-/// Errors: F2 and the faults of the scenario and F3, before anything is read or written; those of the trace before the
+/// Errors: F2 and the faults of the scenario, before anything is read or written; those of the trace before the
 /// edge, and X9 where a trace without fault has fewer edges, or the number is 0: then nothing is written; X8 where the
 /// output cannot be written.
 pub fn explain<R: Read, W: Write>(
@@ -212,7 +209,5 @@ pub fn explain<R: Read, W: Write>(
         Lent scenario.now (ReadNothing s × WroteNothing s) (ExplainsInput edge s) result }
 {
     let plan = plan_of(alloc, scenario)?;
-    let mut region = history_region(alloc)?;
-    let room = history_room(alloc, &mut region)?;
-    answer_of(explain_trace(alloc, plan, room, trace, edge, out))
+    answer_of(explain_trace(alloc, plan, trace, edge, out))
 }

@@ -14,7 +14,8 @@ ghost use Rattle.vme_engines.specs.Followed.{Follows, IsMissing, ComesTo, Reache
 
 use crate::{EngineFault, Status};
 use arrayvec::ArrayVec;
-use vme_backplane::{Backplane, by_wire};
+use vme_backplane::by_wire;
+use vme_bus::Bus;
 use vme_events::{Event, events_of};
 use vme_model::{Cycle, Delivery, Driver, Edge, Refused, Wire};
 use vme_reasons::Marks;
@@ -29,10 +30,10 @@ pub(crate) enum Told {
     Beyond(u64),
 }
 
-/// A trace under way: the backplane, and the numbers of the edges that it accepted.
+/// A trace under way: the bus, and the numbers of the edges that it accepted.
 #[derive(Drop)]
-pub(crate) struct Following<'r> {
-    pub(crate) backplane: Backplane<'r>,
+pub(crate) struct Following {
+    pub(crate) bus: Bus,
     pub(crate) marks: Marks,
     /// How many edges were judged.
     pub(crate) judged: u64,
@@ -72,15 +73,15 @@ fn place_of(n: u64, judged: u64, len: usize) -> Option<usize>
     if place < len { Some(place) } else { None }
 }
 
-impl<'r> Following<'r> {
+impl Following {
     /// Before the first edge.
-    pub(crate) fn new(backplane: Backplane<'r>) -> Following<'r>
-        ensures backplane { result.backplane ≡ backplane.entry }
+    pub(crate) fn new(bus: Bus) -> Following
+        ensures bus { result.bus ≡ bus }
         ensures marks { (p : Plan) → IsMarksOf p [] result.marks }
         ensures judged { result.judged ≡ 0 }
     {
         Following {
-            backplane,
+            bus,
             marks: Marks::new(),
             judged: 0,
         }
@@ -90,10 +91,10 @@ impl<'r> Following<'r> {
     #[inline(always)]
     fn shown_at(&self, edge: Edge) -> Option<Cycle>
         ensures { edge.wire ≡ Dtack
-            → result ≡ shown self.now.backplane.plan self.now.backplane.history }
+            → result ≡ shown self.now.bus.plan self.now.bus.history }
     {
         match edge.wire {
-            Wire::Dtack => self.backplane.pins(Driver::Controller).shown,
+            Wire::Dtack => self.bus.pins(Driver::Controller).shown,
             _ => None,
         }
     }
@@ -102,12 +103,12 @@ impl<'r> Following<'r> {
     #[inline(always)]
     fn note(&mut self, edge: Edge)
         requires room { self.old.judged + 1 < 2 ^ 64 }
-        requires accepted { verdict self.old.backplane edge ≡ Ok tt }
-        ensures backplane { self.new.backplane ≡ self.old.backplane }
+        requires accepted { verdict self.old.bus edge ≡ Ok tt }
+        ensures bus { self.new.bus ≡ self.old.bus }
         ensures judged { self.new.judged ≡ self.old.judged }
-        ensures marks { OfTrace self.old.backplane self.old.marks
-            (λ k. IsMarksOf self.old.backplane.plan
-            (numbered_with self.old.backplane (self.old.judged + 1) edge k) self.new.marks) }
+        ensures marks { OfTrace self.old.bus self.old.marks
+            (λ k. IsMarksOf self.old.bus.plan
+            (numbered_with self.old.bus (self.old.judged + 1) edge k) self.new.marks) }
     {
         let shown = self.shown_at(edge);
         self.marks.note(&edge, self.judged + 1, shown);
@@ -116,17 +117,17 @@ impl<'r> Following<'r> {
     /// Makes the next edge where it is accepted, and answers whether it was. It is not yet counted.
     fn step(&mut self, edge: Edge) -> bool
         requires { self.old.judged + 1 < 2 ^ 64 }
-        ensures accepted { result ≡ is_ok (verdict self.old.backplane edge) }
-        ensures backplane { self.new.backplane ≡ after self.old.backplane edge }
+        ensures accepted { result ≡ is_ok (verdict self.old.bus edge) }
+        ensures bus { self.new.bus ≡ after self.old.bus edge }
         ensures judged { self.new.judged ≡ self.old.judged }
-        ensures marks { OfTrace self.old.backplane self.old.marks
-            (λ k. IsMarksOf self.old.backplane.plan
-            (numbered_with self.old.backplane (self.old.judged + 1) edge k) self.new.marks) }
+        ensures marks { OfTrace self.old.bus self.old.marks
+            (λ k. IsMarksOf self.old.bus.plan
+            (numbered_with self.old.bus (self.old.judged + 1) edge k) self.new.marks) }
     {
-        by_wire!(edge => match self.backplane.verdict(edge) {
+        by_wire!(edge => match self.bus.verdict(edge) {
             Ok(()) => {
                 self.note(edge);
-                self.backplane.make(edge);
+                self.bus.make(edge);
                 true
             }
             Err(_) => false,
@@ -135,26 +136,26 @@ impl<'r> Following<'r> {
 
     /// The situations that an edge brings about that is about to be made.
     pub(crate) fn events(&self, edge: &Edge) -> ArrayVec<Event, 2>
-        ensures { OfOrdered self.now.backplane self.now.marks (λ _. result.items
-            ≡ events_of self.now.backplane.plan self.now.backplane.history edge.now) }
+        ensures { OfOrdered self.now.bus self.now.marks (λ _. result.items
+            ≡ events_of self.now.bus.plan self.now.bus.history edge.now) }
     {
-        events_of(&self.backplane, &self.marks, edge)
+        events_of(&self.bus, &self.marks, edge)
     }
 
     /// Makes the next edge where it is accepted, and gives the answer to it. It is not yet counted.
     #[inline(always)]
     pub(crate) fn answer(&mut self, edge: &Edge) -> Result<Option<Delivery>, Refused>
         requires { self.old.judged + 1 < 2 ^ 64 }
-        ensures answer { result ≡ answer self.old.backplane edge.now }
-        ensures accepted { is_ok result ≡ is_ok (verdict self.old.backplane edge.now) }
-        ensures backplane { self.new.backplane ≡ after self.old.backplane edge.now }
+        ensures answer { result ≡ answer self.old.bus edge.now }
+        ensures accepted { is_ok result ≡ is_ok (verdict self.old.bus edge.now) }
+        ensures bus { self.new.bus ≡ after self.old.bus edge.now }
         ensures judged { self.new.judged ≡ self.old.judged }
-        ensures marks { OfTrace self.old.backplane self.old.marks
-            (λ k. IsMarksOf self.old.backplane.plan
-            (numbered_with self.old.backplane (self.old.judged + 1) edge.now k) self.new.marks) }
+        ensures marks { OfTrace self.old.bus self.old.marks
+            (λ k. IsMarksOf self.old.bus.plan
+            (numbered_with self.old.bus (self.old.judged + 1) edge.now k) self.new.marks) }
     {
         let shown = self.shown_at(*edge);
-        match self.backplane.step(*edge) {
+        match self.bus.step(*edge) {
             Ok(delivery) => {
                 self.marks.note(edge, self.judged + 1, shown);
                 Ok(delivery)
@@ -179,7 +180,7 @@ impl<'r> Following<'r> {
         requires { self.old.judged + length edges.now < 2 ^ 64 }
         ensures some { IfSome result (λ e. ComesTo None self.old edges.now e self.new) }
         ensures none { IfNone result
-            (IsMissing None self.old.backplane self.old.judged edges.now
+            (IsMissing None self.old.bus self.old.judged edges.now
             × Follows self.old edges.now self.new) }
     {
         for edge in edges {
@@ -196,7 +197,7 @@ impl<'r> Following<'r> {
         requires { self.old.judged + length edges.now < 2 ^ 64 }
         ensures some { IfSome result (λ e. ComesTo (Some n) self.old edges.now e self.new) }
         ensures none { IfNone result
-            (IsMissing (Some n) self.old.backplane self.old.judged edges.now
+            (IsMissing (Some n) self.old.bus self.old.judged edges.now
             × Follows self.old edges.now self.new) }
     {
         match place_of(n, self.judged, edges.len()) {
@@ -216,7 +217,7 @@ impl<'r> Following<'r> {
         requires { self.old.judged + length edges.now < 2 ^ 64 }
         ensures some { IfSome result (λ e. ComesTo edge self.old edges.now e self.new) }
         ensures none { IfNone result
-            (IsMissing edge self.old.backplane self.old.judged edges.now
+            (IsMissing edge self.old.bus self.old.judged edges.now
             × Follows self.old edges.now self.new) }
     {
         match edge {

@@ -1,15 +1,15 @@
 //! Seeds, tried in order until the walk of one comes to a goal.
-ghost use Rattle.std.specs.Prelude.{◌≡◌, ◌≤◌, Some, IfOk, IfSome, IsTrue};
+ghost use Rattle.std.specs.Prelude.{◌≡◌, ◌≤◌, ⊤, Some, IfOk, IfSome, IsTrue};
 ghost use Rattle.std.specs.Io.KnownBytes.{Keeps};
 ghost use Rattle.vme_engines.specs.Outcomes.{Lent};
 ghost use Rattle.vme_engines.specs.Drawing.{DrawsSafely};
-ghost use Rattle.vme_engines.specs.Found.{Attempts, Finds, found_answer, tried_answer};
+ghost use Rattle.vme_engines.specs.Found.{Attempts, Finds, Sees, found_answer, tried_answer};
 
 use crate::EngineFault;
-use crate::draws::{walk_to, write_walk};
-use crate::plans::{history_region, history_room, plan_of};
+use crate::draws::{drive_drawn, write_walk};
+use crate::plans::plan_of;
 use std::alloc::Global;
-use std::io::Write;
+use std::io::{Write, sink};
 use vme_draws::Walk;
 use vme_events::Goal;
 use vme_model::Version;
@@ -20,7 +20,28 @@ pub trait Progress {
     fn trying(&mut self, seed: u64);
 }
 
+/// Whether the walk of a seed comes to the goal. Nothing is written of it.
+fn comes_to(
+    alloc: Global,
+    scenario: &[u8],
+    edges: u32,
+    seed: u64,
+    goal: Goal,
+    version: Version,
+) -> Result<bool, EngineFault>
+    ensures { Lent scenario.now ⊤ (Sees version seed edges goal result) (tried_answer result) }
+{
+    let plan = plan_of(alloc, scenario)?;
+    let mut walk = Walk::new(plan, version, seed);
+    match write_walk(&mut walk, Some(goal), edges, &mut sink()) {
+        Ok(ending) => Ok(!ending.is_over()),
+        Err(fault) => Err(EngineFault::Trace(fault)),
+    }
+}
+
 /// Whether the walk of a seed comes to the goal; its trace is then written.
+///
+/// It is drawn once to see that, and once to be written.
 fn attempt<W: Write>(
     alloc: Global,
     scenario: &[u8],
@@ -37,28 +58,18 @@ fn attempt<W: Write>(
     ensures safe { IfOk result (λ has_come. IsTrue has_come
         → DrawsSafely scenario.now version seed edges (Some goal)) }
 {
-    let plan = plan_of(alloc, scenario)?;
-    let mut region = history_region(alloc)?;
-    let room = history_room(alloc, &mut region)?;
-    let mut walk = Walk::new(plan, room, version, seed);
-    let ending = walk_to(&mut walk, Some(goal), edges);
-    if ending.is_over() {
+    if !comes_to(alloc, scenario, edges, seed, goal, version)? {
         return Ok(false);
     }
-    let backplane = walk.backplane();
-    backplane.laws();
-    backplane.safety();
-    match write_walk(backplane, ending, out) {
-        Ok(()) => Ok(true),
-        Err(fault) => Err(EngineFault::Trace(fault)),
-    }
+    drive_drawn(alloc, scenario, edges, seed, Some(goal), out, version)?;
+    Ok(true)
 }
 
-/// Draws edges of a scenario's backplane by one seed after the other, from the first to the last, until the walk of one
+/// Draws edges of a scenario's bus by one seed after the other, from the first to the last, until the walk of one
 /// comes to the goal within `edges`. Its trace is written, and the seed is answered. Where none comes to it, nothing is
 /// written, and the answer is none. Each seed is told to `progress` before it is tried.
 ///
-/// Errors: F2, the faults of the scenario and F3, before anything is written; X8 where the output cannot be written.
+/// Errors: F2 and the faults of the scenario, before anything is written; X8 where the output cannot be written.
 pub fn drive_found<W: Write, P: Progress>(
     alloc: Global,
     scenario: &[u8],

@@ -1,16 +1,21 @@
 //! A walk that seeks a goal.
-ghost use Rattle.std.specs.Prelude.{◌≡◌, [], Ok};
+ghost use Rattle.std.specs.Prelude.{◌≡◌, [], Ok, IfOk};
 ghost use Rattle.vme_model.specs.Verdict.{verdict};
 ghost use Rattle.vme_draws.specs.Walks.{with_edge};
 ghost use Rattle.vme_events.specs.Places.{by_place};
 ghost use Rattle.vme_reasons.specs.Marked.{IsMarksOf};
 ghost use Rattle.vme_engines.specs.Seeking.{brings, ends_at, is_over, missed_by, sought, turned};
+ghost use Rattle.vme_engines.specs.Texts.{ListsOn};
 
-use vme_backplane::Backplane;
+use crate::drives::put_line;
+use std::io::Write;
+use vme_bus::Bus;
 use vme_draws::Walk;
 use vme_events::{Goal, comes, miss};
 use vme_model::{Driver, Edge};
 use vme_reasons::Marks;
+use vme_text::Text;
+use vme_trace::Fault;
 
 /// How a walk that seeks a goal ended.
 #[derive(Clone, Copy, PartialEq, Eq, Debug)]
@@ -33,73 +38,94 @@ impl Ending {
 }
 
 /// The first edge that the goal's condition alone refuses, where the goal is one.
-fn missed_by(backplane: &Backplane<'_>, goal: Goal) -> Option<Edge>
-    ensures { result ≡ missed_by goal backplane.now }
+fn missed_by(bus: &Bus, goal: Goal) -> Option<Edge>
+    ensures { result ≡ missed_by goal bus.now }
 {
     match goal {
         Goal::Event(_) => None,
-        Goal::Miss(condition) => miss(backplane, condition),
+        Goal::Miss(condition) => miss(bus, condition),
     }
 }
 
 /// Whether the edge, which is about to be made, brings the goal about.
-fn brings(walk: &Walk<'_>, marks: &Marks, edge: &Edge, goal: Goal) -> bool
+fn brings(walk: &Walk, marks: &Marks, edge: &Edge, goal: Goal) -> bool
     requires { IsMarksOf walk.now.state.plan (by_place walk.now.state.history) marks.now }
     ensures { result ≡ brings goal walk.now.state edge.now }
 {
     match goal {
-        Goal::Event(event) => comes(walk.backplane(), marks, edge, event),
+        Goal::Event(event) => comes(walk.bus(), marks, edge, event),
         Goal::Miss(_) => false,
     }
 }
 
 /// Makes an edge that would be accepted, and marks it by its place.
-fn make(walk: &mut Walk<'_>, marks: &mut Marks, edge: Edge)
+fn make(walk: &mut Walk, marks: &mut Marks, edge: Edge)
     requires accepted { verdict walk.old.state edge ≡ Ok tt }
     requires marked { IsMarksOf walk.old.state.plan (by_place walk.old.state.history) marks.old }
     ensures walk { walk.new ≡ with_edge walk.old edge }
     ensures marks { IsMarksOf walk.new.state.plan (by_place walk.new.state.history) marks.new }
 {
-    let backplane = walk.backplane();
-    let shown = backplane.pins(Driver::Controller).shown;
-    let place = u64::from(backplane.len()) + 1;
+    let bus = walk.bus();
+    let shown = bus.pins(Driver::Controller).shown;
+    let place = u64::from(bus.len()) + 1;
     marks.note(&edge, place, shown);
     walk.make(edge);
 }
 
-/// A turn: how it ends the walk, if it does.
-fn turn(walk: &mut Walk<'_>, marks: &mut Marks, goal: Goal) -> Option<Ending>
+/// A turn: how it ends the walk, if it does. The line of an edge that is made is put to a text.
+fn take_turn<W: Write>(
+    walk: &mut Walk,
+    marks: &mut Marks,
+    goal: Goal,
+    text: &mut Text,
+    out: &mut W,
+) -> Result<Option<Ending>, Fault>
     requires { IsMarksOf walk.old.state.plan (by_place walk.old.state.history) marks.old }
-    ensures ending { result ≡ ends_at goal walk.old }
+    ensures ending { IfOk result (λ ending. ending ≡ ends_at goal walk.old) }
     ensures walk { walk.new ≡ turned goal walk.old }
     ensures marks { IsMarksOf walk.new.state.plan (by_place walk.new.state.history) marks.new }
+    ensures listed { ListsOn walk.old.state text.old (W.contents out.old) (W.contents out.new)
+        (turned goal walk.old).state walk.new.state text.new result }
 {
-    match missed_by(walk.backplane(), goal) {
-        Some(edge) => return Some(Ending::Missed(edge)),
+    match missed_by(walk.bus(), goal) {
+        Some(edge) => return Ok(Some(Ending::Missed(edge))),
         None => {}
     }
     match walk.draw() {
         Some(edge) => {
             let has_come = brings(walk, marks, &edge, goal);
             make(walk, marks, edge);
-            if has_come { Some(Ending::Came) } else { None }
+            put_line(text, &edge, out)?;
+            if has_come {
+                Ok(Some(Ending::Came))
+            } else {
+                Ok(None)
+            }
         }
-        None => Some(Ending::Over),
+        None => Ok(Some(Ending::Over)),
     }
 }
 
-/// Draws edges and makes them, so many, or until the goal has come, or none is open.
-pub(crate) fn seek(walk: &mut Walk<'_>, goal: Goal, edges: u32) -> Ending
+/// Draws edges and makes them, so many, or until the goal has come, or none is open. The line of each
+/// is put to a text, which is written whenever it has no room for the next.
+pub(crate) fn seek<W: Write>(
+    walk: &mut Walk,
+    goal: Goal,
+    edges: u32,
+    text: &mut Text,
+    out: &mut W,
+) -> Result<Ending, Fault>
     requires { walk.old.state.history ≡ [] }
-    ensures ending { result ≡ (sought goal edges walk.old).ending }
-    ensures walk { walk.new ≡ (sought goal edges walk.old).walk }
+    ensures ending { IfOk result (λ ending. ending ≡ (sought goal edges walk.old).ending) }
+    ensures listed { ListsOn walk.old.state text.old (W.contents out.old) (W.contents out.new)
+        (sought goal edges walk.old).walk.state walk.new.state text.new result }
 {
     let mut marks = Marks::new();
     for _made in 0..edges {
-        match turn(walk, &mut marks, goal) {
-            Some(ending) => return ending,
+        match take_turn(walk, &mut marks, goal, text, out)? {
+            Some(ending) => return Ok(ending),
             None => {}
         }
     }
-    Ending::Over
+    Ok(Ending::Over)
 }

@@ -3,7 +3,6 @@ ghost use Rattle.std.specs.Prelude.{◌≡◌, ◌+◌, ◌-◌, ◌<◌, ◌≤
 ghost use Rattle.std.specs.Io.KnownBytes.{Appends};
 ghost use Rattle.vme_model.specs.declared.signals.Edge.{Edge as EdgeValue};
 ghost use Rattle.vme_model.specs.Verdict.{State};
-ghost use Rattle.vme_model.specs.Report.{trace_limit};
 ghost use Rattle.vme_trace.specs.Writing.{AppendsFront};
 ghost use Rattle.vme_engines.specs.Streams.{streams, ReadNothing, WroteNothing};
 ghost use Rattle.vme_engines.specs.Outcomes.{Lent};
@@ -16,14 +15,14 @@ ghost use Rattle.std.proofs.KnownBytes.{Keeps-refl};
 
 use crate::following::{Told, answer_of};
 use crate::pieces::{Judge, read_on};
-use crate::plans::{history_region, history_room, plan_of};
+use crate::plans::plan_of;
 use crate::replays::status_of;
 use crate::traces::open;
 use crate::{EngineFault, Status};
 use std::alloc::Global;
 use std::io::{Read, Write};
 use std::marker::Model;
-use vme_backplane::{Backplane, Trace};
+use vme_bus::Bus;
 use vme_model::Edge;
 use vme_pictures::Window;
 use vme_slots::Plan;
@@ -46,8 +45,8 @@ struct Stretch {
 
 /// A trace under way to the end of a stretch.
 #[derive(Drop)]
-struct Showing<'r> {
-    backplane: Backplane<'r>,
+struct Showing {
+    bus: Bus,
     stretch: Stretch,
     /// How many edges were judged.
     judged: u64,
@@ -55,13 +54,13 @@ struct Showing<'r> {
     window: Option<Window>,
 }
 
-impl<'r> Model for Showing<'r> {
+impl Model for Showing {
     ghost use Rattle.vme_engines.specs.Stretches.{IsOpened, Stage};
 
     ghost Value = { Stage };
 
     ghost view = { λ s. record {
-      backplane = s.backplane;
+      bus = s.bus;
       stretch = s.stretch;
       judged = s.judged;
       window = s.window;
@@ -70,16 +69,16 @@ impl<'r> Model for Showing<'r> {
     ghost invariant = { λ s. IsOpened s.stretch s.judged s.window };
 }
 
-impl<'r> Showing<'r> {
+impl Showing {
     /// Before the first edge.
-    fn new(backplane: Backplane<'r>, stretch: Stretch) -> Showing<'r>
+    fn new(bus: Bus, stretch: Stretch) -> Showing
         requires { IsStretch stretch }
-        ensures backplane { result.backplane ≡ backplane.entry }
+        ensures bus { result.bus ≡ bus }
         ensures stretch { result.stretch ≡ stretch }
         ensures fresh { IsFresh result }
     {
         Showing {
-            backplane,
+            bus,
             stretch,
             judged: 0,
             window: None,
@@ -95,7 +94,7 @@ impl<'r> Showing<'r> {
         ensures shown { (b : State) (es : List EdgeValue)
             → IsShown b es self.old → IsShown b (es ++ edges.now) self.new }
     {
-        self.backplane.run(edges);
+        self.bus.run(edges);
         self.judged += edges.len() as u64;
     }
 
@@ -110,10 +109,10 @@ impl<'r> Showing<'r> {
     {
         self.judged += 1;
         match &mut self.window {
-            Some(window) => window.step(&mut self.backplane, edge),
+            Some(window) => window.step(&mut self.bus, edge),
             None => {
-                let mut window = Window::new(self.stretch.from, &self.backplane);
-                window.step(&mut self.backplane, edge);
+                let mut window = Window::new(self.stretch.from, &self.bus);
+                window.step(&mut self.bus, edge);
                 self.window = Some(window);
             }
         }
@@ -170,7 +169,7 @@ impl<'r> Showing<'r> {
         ensures { (b : State) (es : List EdgeValue)
             → IsShown b es self.now → result ≡ status_to self.now.stretch.to b es }
     {
-        let accepted = u64::from(self.backplane.len());
+        let accepted = u64::from(self.bus.len());
         status_of(self.judged.saturating_sub(accepted))
     }
 
@@ -218,7 +217,7 @@ impl<'r> Showing<'r> {
     }
 }
 
-impl Judge for Showing<'_> {
+impl Judge for Showing {
     type Answer = Told;
 
     ghost count = { λ now. now.judged };
@@ -253,12 +252,10 @@ impl Judge for Showing<'_> {
 fn show_trace<R: Read, W: Write>(
     alloc: Global,
     plan: Plan,
-    room: Trace,
     trace: &mut R,
     stretch: Stretch,
     out: &mut W,
 ) -> Result<Told, Fault>
-    requires room { room ≡ trace_limit }
     requires stretch { IsStretch stretch }
     ensures { ShowsInput stretch.from stretch.to stretch.color
         (streams (R.remaining trace.old) (R.remaining trace.new)
@@ -270,7 +267,7 @@ fn show_trace<R: Read, W: Write>(
     let (first, reads) = open(&mut reader, trace, &mut edges);
     match reader.version() {
         Some(version) => {
-            let mut showing = Showing::new(Backplane::new(plan, room, version), stretch);
+            let mut showing = Showing::new(Bus::new(plan, version), stretch);
             read_on(
                 &mut showing,
                 &mut reader,
@@ -295,7 +292,7 @@ fn show_trace<R: Read, W: Write>(
 /// delivery green. The status is `SomeRefused` where an edge up to the last of them is refused, and else `Done`. After
 /// that edge it judges none. It makes at most 16,777,216 reads.
 ///
-/// Errors: F2 and the faults of the scenario and F3, before anything is read or written; those of the trace up to the edge
+/// Errors: F2 and the faults of the scenario, before anything is read or written; those of the trace up to the edge
 /// `to`, after the picture of the edges before them; X9 where a trace without fault has fewer than `from` edges: then
 /// nothing is written; X8 where the output cannot be written.
 pub fn show<R: Read, W: Write>(
@@ -315,8 +312,6 @@ pub fn show<R: Read, W: Write>(
         Lent scenario.now (ReadNothing s × WroteNothing s) (ShowsInput from to color s) result }
 {
     let plan = plan_of(alloc, scenario)?;
-    let mut region = history_region(alloc)?;
-    let room = history_room(alloc, &mut region)?;
     let stretch = Stretch { from, to, color };
-    answer_of(show_trace(alloc, plan, room, trace, stretch, out))
+    answer_of(show_trace(alloc, plan, trace, stretch, out))
 }

@@ -1,7 +1,6 @@
 //! Telling where the bus stands behind a trace, or behind a front of it.
 ghost use Rattle.std.specs.Prelude.{◌≡◌, ◌+◌, ◌<◌, ◌^◌, length, refl, OnOk, OnErr, IfOk, IfErr};
 ghost use Rattle.std.specs.Io.KnownBytes.{Appends};
-ghost use Rattle.vme_model.specs.Report.{trace_limit};
 ghost use Rattle.vme_model.specs.Stands.{stands_text};
 ghost use Rattle.vme_trace.specs.Writing.{AppendsFront};
 ghost use Rattle.vme_engines.specs.Streams.{streams, ReadNothing, WroteNothing};
@@ -14,12 +13,12 @@ ghost use Rattle.std.proofs.KnownBytes.{Keeps-refl};
 
 use crate::following::{Following, Told, answer_of};
 use crate::pieces::{Judge, read_on};
-use crate::plans::{history_region, history_room, plan_of};
+use crate::plans::plan_of;
 use crate::traces::open;
 use crate::{EngineFault, Status};
 use std::alloc::Global;
 use std::io::{Read, Write};
-use vme_backplane::{Backplane, Trace};
+use vme_bus::Bus;
 use vme_model::Edge;
 use vme_reasons::write_stands;
 use vme_slots::Plan;
@@ -28,20 +27,15 @@ use vme_trace::{Fault, Reader, flush};
 /// Writes where the bus stands, and has the writer hand on what it holds back.
 fn tell_place<W: Write>(following: &Following, out: &mut W) -> Result<Told, Fault>
     ensures told { IfOk result (λ told. told ≡ Told.Block Status.Done) }
-    ensures ok { OnOk result (OfTrace following.now.backplane following.now.marks
+    ensures ok { OnOk result (OfTrace following.now.bus following.now.marks
         (λ k. Appends (W.contents out.old) (W.contents out.new)
-        (stands_text following.now.judged following.now.backplane k))) }
-    ensures front { OnErr result (OfTrace following.now.backplane following.now.marks
+        (stands_text following.now.judged following.now.bus k))) }
+    ensures front { OnErr result (OfTrace following.now.bus following.now.marks
         (λ k. AppendsFront (W.contents out.old) (W.contents out.new)
-        (stands_text following.now.judged following.now.backplane k))) }
+        (stands_text following.now.judged following.now.bus k))) }
     ensures fault { IfErr result (λ fault. fault ≡ Fault.Write) }
 {
-    write_stands(
-        following.judged,
-        &following.backplane,
-        &following.marks,
-        out,
-    )?;
+    write_stands(following.judged, &following.bus, &following.marks, out)?;
     flush(out)?;
     Ok(Told::Block(Status::Done))
 }
@@ -84,23 +78,23 @@ fn state_piece<W: Write>(
 
 /// A trace on the way to the place that is asked for.
 #[derive(Drop)]
-struct Stating<'r> {
-    following: Following<'r>,
+struct Stating {
+    following: Following,
     /// How many edges stand before it; without a number all.
     after: Option<u64>,
 }
 
-impl<'r> Stating<'r> {
+impl Stating {
     /// Before the first edge.
-    fn new(following: Following<'r>, after: Option<u64>) -> Stating<'r>
-        ensures following { result.following ≡ following.entry }
+    fn new(following: Following, after: Option<u64>) -> Stating
+        ensures following { result.following ≡ following }
         ensures after { result.after ≡ after }
     {
         Stating { following, after }
     }
 }
 
-impl Judge for Stating<'_> {
+impl Judge for Stating {
     type Answer = Told;
 
     ghost count = { λ now. now.following.judged };
@@ -125,7 +119,7 @@ impl Judge for Stating<'_> {
         refl,
         Keeps-refl old,
         λ wanted is low. omega arith,
-        record { backplane = refl; judged = omega arith; marks = λ k is of. of },
+        record { bus = refl; judged = omega arith; marks = λ k is of. of },
       ),
     ) };
 
@@ -136,12 +130,10 @@ impl Judge for Stating<'_> {
 fn state_trace<R: Read, W: Write>(
     alloc: Global,
     plan: Plan,
-    room: Trace,
     trace: &mut R,
     after: Option<u64>,
     out: &mut W,
 ) -> Result<Told, Fault>
-    requires { room ≡ trace_limit }
     ensures { StatesInput after
         (streams (R.remaining trace.old) (R.remaining trace.new)
         (W.contents out.old) (W.contents out.new))
@@ -152,7 +144,7 @@ fn state_trace<R: Read, W: Write>(
     let (first, reads) = open(&mut reader, trace, &mut edges);
     match reader.version() {
         Some(version) => {
-            let following = Following::new(Backplane::new(plan, room, version));
+            let following = Following::new(Bus::new(plan, version));
             let mut state = Stating::new(following, after);
             read_on(
                 &mut state,
@@ -177,7 +169,7 @@ fn state_trace<R: Read, W: Write>(
 /// interrupts are pending, which wires are low and which edges are open. The status is `Done`. Behind the first `after`
 /// edges it judges none. It makes at most 16,777,216 reads.
 ///
-/// Errors: F2 and the faults of the scenario and F3, before anything is read or written; those of the trace up to that
+/// Errors: F2 and the faults of the scenario, before anything is read or written; those of the trace up to that
 /// place, and X9 where a trace without fault ends before it: then nothing is written; X8 where the output cannot be
 /// written.
 pub fn state<R: Read, W: Write>(
@@ -192,7 +184,5 @@ pub fn state<R: Read, W: Write>(
         Lent scenario.now (ReadNothing s × WroteNothing s) (StatesInput after s) result }
 {
     let plan = plan_of(alloc, scenario)?;
-    let mut region = history_region(alloc)?;
-    let room = history_room(alloc, &mut region)?;
-    answer_of(state_trace(alloc, plan, room, trace, after, out))
+    answer_of(state_trace(alloc, plan, trace, after, out))
 }

@@ -3,7 +3,6 @@ ghost use Rattle.std.specs.Prelude.{◌≡◌, ◌+◌, ◌<◌, ◌^◌, ◌++�
 ghost use Rattle.std.specs.Io.KnownBytes.{Appends};
 ghost use Rattle.vme_model.specs.Signals.{is_well_formed};
 ghost use Rattle.vme_model.specs.Locality.{AreWellFormed};
-ghost use Rattle.vme_model.specs.Report.{trace_limit};
 ghost use Rattle.vme_trace.specs.Writing.{AppendsFront};
 ghost use Rattle.vme_tallies.specs.Tally.{answered, refused};
 ghost use Rattle.vme_tallies.specs.Tallied.{IsTallyOf};
@@ -19,13 +18,13 @@ ghost use Rattle.vme_model.specs.declared.signals.Edge.{Edge as EdgeValue};
 
 use crate::following::Following;
 use crate::pieces::{Judge, read_on};
-use crate::plans::{history_region, history_room, plan_of};
+use crate::plans::plan_of;
 use crate::replays::status_of;
 use crate::traces::open;
 use crate::{EngineFault, Status};
 use std::alloc::Global;
 use std::io::{Read, Write};
-use vme_backplane::{Backplane, Trace};
+use vme_bus::Bus;
 use vme_model::Edge;
 use vme_slots::Plan;
 use vme_tallies::{Tally, write_summary};
@@ -33,15 +32,15 @@ use vme_trace::{Fault, Reader, flush};
 
 /// A trace on the way to its end, with what its edges came to.
 #[derive(Drop)]
-pub(crate) struct Summing<'r> {
-    pub(crate) following: Following<'r>,
+pub(crate) struct Summing {
+    pub(crate) following: Following,
     pub(crate) tally: Tally,
 }
 
-impl<'r> Summing<'r> {
+impl Summing {
     /// Before the first edge.
-    pub(crate) fn new(following: Following<'r>) -> Summing<'r>
-        ensures following { result.following ≡ following.entry }
+    pub(crate) fn new(following: Following) -> Summing
+        ensures following { result.following ≡ following }
         ensures tally { IsTallyOf [] result.tally }
     {
         Summing {
@@ -89,7 +88,7 @@ impl<'r> Summing<'r> {
             (summary_text b.plan (answered b es)))) }
         ensures fault { IfErr result (λ fault. fault ≡ Fault.Write) }
     {
-        write_summary(self.following.backplane.plan(), &self.tally, out)?;
+        write_summary(self.following.bus.plan(), &self.tally, out)?;
         flush(out)?;
         Ok(status_of(self.tally.refused()))
     }
@@ -117,7 +116,7 @@ fn sum_piece<W: Write>(
     }
 }
 
-impl Judge for Summing<'_> {
+impl Judge for Summing {
     type Answer = Status;
 
     ghost count = { λ now. now.following.judged };
@@ -149,11 +148,9 @@ impl Judge for Summing<'_> {
 fn summary_of_trace<R: Read, W: Write>(
     alloc: Global,
     plan: Plan,
-    room: Trace,
     trace: &mut R,
     out: &mut W,
 ) -> Result<Status, Fault>
-    requires { room ≡ trace_limit }
     ensures { SumsInput
         (streams (R.remaining trace.old) (R.remaining trace.new)
         (W.contents out.old) (W.contents out.new))
@@ -164,7 +161,7 @@ fn summary_of_trace<R: Read, W: Write>(
     let (first, reads) = open(&mut reader, trace, &mut edges);
     match reader.version() {
         Some(version) => {
-            let following = Following::new(Backplane::new(plan, room, version));
+            let following = Following::new(Bus::new(plan, version));
             let mut summing = Summing::new(following);
             read_on(
                 &mut summing,
@@ -190,7 +187,7 @@ fn summary_of_trace<R: Read, W: Write>(
 /// it, and how many cycles and answers it made. The status is that of a replay. It makes at most
 /// 16,777,216 reads.
 ///
-/// Errors: F2 and the faults of the scenario and F3, before anything is read or written; those of the
+/// Errors: F2 and the faults of the scenario, before anything is read or written; those of the
 /// trace, and then nothing is written; X8 where the output cannot be written.
 pub fn summary<R: Read, W: Write>(
     alloc: Global,
@@ -203,9 +200,7 @@ pub fn summary<R: Read, W: Write>(
         Lent scenario.now (ReadNothing s × WroteNothing s) (SumsInput s) result }
 {
     let plan = plan_of(alloc, scenario)?;
-    let mut region = history_region(alloc)?;
-    let room = history_room(alloc, &mut region)?;
-    match summary_of_trace(alloc, plan, room, trace, out) {
+    match summary_of_trace(alloc, plan, trace, out) {
         Ok(status) => Ok(status),
         Err(fault) => Err(EngineFault::Trace(fault)),
     }

@@ -2,7 +2,6 @@
 ghost use Rattle.std.specs.Prelude.{◌≡◌, ◌+◌, ◌<◌, ◌^◌, ◌++◌, None, List, length, refl, IfOk, IfErr, OnOk, OnErr};
 ghost use Rattle.std.specs.Io.KnownBytes.{Appends, Keeps};
 ghost use Rattle.vme_model.specs.Locality.{AreWellFormed};
-ghost use Rattle.vme_model.specs.Report.{trace_limit};
 ghost use Rattle.vme_trace.specs.Writing.{AppendsFront};
 ghost use Rattle.vme_tallies.specs.Tally.{refused};
 ghost use Rattle.vme_tallies.specs.Summed.{OfSums};
@@ -17,7 +16,7 @@ ghost use Rattle.vme_model.specs.declared.signals.Edge.{Edge as EdgeValue};
 
 use crate::following::Following;
 use crate::pieces::{Judge, read_on};
-use crate::plans::{history_region, history_room, plan_of};
+use crate::plans::plan_of;
 use crate::replays::status_of;
 use crate::summaries::Summing;
 use crate::traces::open;
@@ -25,7 +24,7 @@ use crate::{EngineFault, Status};
 use std::alloc::Global;
 use std::io::{Read, Write, sink};
 use std::mem::replace;
-use vme_backplane::{Backplane, Trace};
+use vme_bus::Bus;
 use vme_model::Edge;
 use vme_slots::Plan;
 use vme_tallies::{Sums, Tally, write_sums};
@@ -33,8 +32,8 @@ use vme_trace::{Fault, Reader, flush};
 
 /// A trace on the way to its end, where it gives its tally away.
 #[derive(Drop)]
-pub(crate) struct Tallying<'r> {
-    pub(crate) summing: Summing<'r>,
+pub(crate) struct Tallying {
+    pub(crate) summing: Summing,
 }
 
 /// Takes in the edges of a piece, and gives what all came to at the end of the trace.
@@ -57,7 +56,7 @@ fn tally_piece(
     }
 }
 
-impl Judge for Tallying<'_> {
+impl Judge for Tallying {
     type Answer = Tally;
 
     ghost count = { λ now. now.summing.following.judged };
@@ -85,13 +84,7 @@ impl Judge for Tallying<'_> {
 }
 
 /// What the edges of a trace that stands alone come to, on a plan.
-fn tally_of_trace<R: Read>(
-    alloc: Global,
-    plan: Plan,
-    room: Trace,
-    trace: &mut R,
-) -> Result<Tally, Fault>
-    requires { room ≡ trace_limit }
+fn tally_of_trace<R: Read>(alloc: Global, plan: Plan, trace: &mut R) -> Result<Tally, Fault>
     ensures { TalliesInput (streams (R.remaining trace.old) (R.remaining trace.new) None None)
         plan result }
 {
@@ -100,7 +93,7 @@ fn tally_of_trace<R: Read>(
     let (first, reads) = open(&mut reader, trace, &mut edges);
     match reader.version() {
         Some(version) => {
-            let following = Following::new(Backplane::new(plan, room, version));
+            let following = Following::new(Bus::new(plan, version));
             let mut tallying = Tallying {
                 summing: Summing::new(following),
             };
@@ -126,7 +119,7 @@ fn tally_of_trace<R: Read>(
 /// The trace begins at power-up, whatever was added before. The status says whether some edge of it
 /// was refused. It makes at most 16,777,216 reads.
 ///
-/// Errors: F2 and the faults of the scenario and F3, before anything is read; those of the trace.
+/// Errors: F2 and the faults of the scenario, before anything is read; those of the trace.
 /// Nothing is added then.
 pub fn add_trace<R: Read>(
     alloc: Global,
@@ -139,9 +132,7 @@ pub fn add_trace<R: Read>(
     ensures kept { IfErr result (λ _. sums.new ≡ sums.old) }
 {
     let plan = plan_of(alloc, scenario)?;
-    let mut region = history_region(alloc)?;
-    let room = history_room(alloc, &mut region)?;
-    match tally_of_trace(alloc, plan, room, trace) {
+    match tally_of_trace(alloc, plan, trace) {
         Ok(tally) => {
             sums.add(&tally);
             Ok(status_of(tally.refused()))

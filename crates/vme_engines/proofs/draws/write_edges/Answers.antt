@@ -1,29 +1,39 @@
 use Rattle.std.proofs.Common.{sym, subst}
-use Rattle.std.specs.Io.KnownBytes.{Appends}
-use Rattle.std.proofs.KnownBytes.{Appends-trans}
-use Rattle.vme_model.specs.Text.{edge_lines}
-use Rattle.vme_model.specs.History.{in_order}
-use Rattle.vme_trace.specs.Writing.{AppendsFront}
-use Rattle.vme_engines.specs.Drawing.{missed_of}
-use Rattle.vme_engines.proofs.WrittenLines.{front_of_more, front_behind, lines_behind, on_err}
-use Rattle.vme_engines.proofs.DrawnWalks.{on_ok_more, on_err_more}
+use Rattle.vme_engines.specs.Seeking.{walk_to}
+use Rattle.vme_engines.specs.Drawing.{IsWellFormed}
+use Rattle.vme_engines.proofs.WrittenLines.{on_err}
+use Rattle.vme_engines.proofs.DrawnLines.{ended_cut, ended_part, ended_all, ended_front}
+use Rattle.vme_engines.proofs.SoughtGoals.{formed_end}
 use Rattle.vme_engines.proofs.draws.write_edges.Goals as goal
 
-pub returns-in_err-write_lines-clause-front : goal.returns-in_err-write_lines-clause-front
-returns-in_err-write_lines-clause-front g c =
-    let made = in_order c.args.backplane.now.history in
-    let missed = missed_of c.args.ending in
+pub returns-in_err-ending-clause-front : goal.returns-in_err-ending-clause-front
+returns-in_err-ending-clause-front g c =
+    let w = c.args.walk.now in
     on_err c.from_residual.result _
-    (subst (AppendsFront _ _) (sym (lines_behind made missed)) (front_of_more _ _ (edge_lines made) (edge_lines missed) c.in_err-write_lines.ensures.front))
+    (ended_cut (walk_to c.args.goal c.args.edges w) (g.W.Write.contents c.args.out.now) (g.W.Write.contents c.walk_to.new.out) c.new-text.result c.walk_to.new.text w.state c.walk_to.new.walk.state c.new-text.ensures c.requires
+    c.in_err-ending.ensures.listed.1)
+
+pub returns-in_err-hand_on-clause-front : goal.returns-in_err-hand_on-clause-front
+returns-in_err-hand_on-clause-front g c =
+    let w = c.args.walk.now in
+    on_err c.from_residual-in_err-hand_on.result _
+    (ended_part (walk_to c.args.goal c.args.edges w) (g.W.Write.contents c.args.out.now) (g.W.Write.contents c.walk_to.new.out) c.new-text.result c.walk_to.new.text w.state c.walk_to.new.walk.state c.new-text.ensures c.requires
+    c.in_ok-ending.ensures.listed.0 c.in_ok-ending.ensures.listed.1 (g.W.Write.contents c.hand_on.new.out) c.in_err-hand_on.ensures.front)
+
+pub write_missed-requires : goal.write_missed-requires
+write_missed-requires g c = subst IsWellFormed (sym c.in_ok-ending.ensures.ending) (formed_end c.args.goal c.args.edges c.args.walk.now)
+
+pub returns-in_err-write_missed-clause-front : goal.returns-in_err-write_missed-clause-front
+returns-in_err-write_missed-clause-front g c =
+    let w = c.args.walk.now in
+    on_err c.from_residual-in_err-write_missed.result _
+    (ended_front (walk_to c.args.goal c.args.edges w) (g.W.Write.contents c.args.out.now) (g.W.Write.contents c.walk_to.new.out) c.new-text.result c.walk_to.new.text w.state c.walk_to.new.walk.state c.new-text.ensures c.requires
+    c.in_ok-ending.ensures.listed.0 c.in_ok-ending.ensures.listed.1 (g.W.Write.contents c.hand_on.new.out) c.in_ok-hand_on.ensures.ok (g.W.Write.contents c.write_missed.new.out) c.in_ok-ending.ending c.in_ok-ending.ensures.ending
+    c.in_err-write_missed.ensures.front)
 
 pub returns-clause-ok : goal.returns-clause-ok
 returns-clause-ok g c =
-    let made = in_order c.args.backplane.now.history in
-    let missed = missed_of c.args.ending in
-    on_ok_more c.write_missed.result _ _ (λ w. subst (Appends _ _) (sym (lines_behind made missed)) (Appends-trans _ _ _ (edge_lines made) (edge_lines missed) c.in_ok-write_lines.ensures.ok w)) c.write_missed.ensures.ok
-
-pub returns-clause-front : goal.returns-clause-front
-returns-clause-front g c =
-    let made = in_order c.args.backplane.now.history in
-    let missed = missed_of c.args.ending in
-    on_err_more c.write_missed.result _ _ (λ w. subst (AppendsFront _ _) (sym (lines_behind made missed)) (front_behind _ _ _ (edge_lines made) (edge_lines missed) c.in_ok-write_lines.ensures.ok w)) c.write_missed.ensures.front
+    let w = c.args.walk.now in
+    ended_all (walk_to c.args.goal c.args.edges w) (g.W.Write.contents c.args.out.now) (g.W.Write.contents c.walk_to.new.out) c.new-text.result c.walk_to.new.text w.state c.walk_to.new.walk.state c.new-text.ensures c.requires
+    c.in_ok-ending.ensures.listed.0 c.in_ok-ending.ensures.listed.1 (g.W.Write.contents c.hand_on.new.out) c.in_ok-hand_on.ensures.ok (g.W.Write.contents c.write_missed.new.out) c.in_ok-ending.ending c.in_ok-ending.ensures.ending
+    c.in_ok-write_missed.ensures.ok

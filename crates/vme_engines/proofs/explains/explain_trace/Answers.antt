@@ -18,7 +18,7 @@ pub returns-in-Some : goal.returns-in-Some
 returns-in-Some g c =
     let ran = c.read_on.ensures c.in-Some.version (g.R.Read.remaining c.args.trace.now) [] [] (sym c.version.ensures ∙ c.in-Some.is) c.open-first.ensures.0 in
     let same = c.new-explanation.ensures.following in
-    let is = ap (λ (f : Following). f.backplane) same ∙ c.new-following.ensures.backplane ∙ rw c.requires at c.new.ensures in
+    let is = ap (λ (f : Following). f.bus) same ∙ c.new-following.ensures.bus ∙ c.new.ensures in
     let zero = ap (λ (f : Following). f.judged) same ∙ c.new-following.ensures.judged in (
       ran.0,
       ran.1,

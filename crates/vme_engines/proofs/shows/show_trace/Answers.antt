@@ -1,12 +1,8 @@
-use Rattle.std.proofs.Common.{◌≡◌, [], Bool, Result, None, sym, ◌∙◌, ap, subst}
+use Rattle.std.proofs.Common.{[], Bool, Result, None, sym, ◌∙◌, subst}
 use Rattle.std.proofs.KnownBytes.{Appends-nil}
 use Rattle.vme_trace.specs.declared.Fault.{Fault}
-use Rattle.vme_engines.specs.declared.shows.Stretch.{Stretch}
-use Rattle.vme_engines.specs.Stretches.{Stage}
 use Rattle.vme_engines.specs.Steps.{Opens}
 use Rattle.vme_engines.specs.Streams.{streams}
-use Rattle.vme_engines.specs.Showing.{ShowsInput}
-use Rattle.vme_engines.specs.Followed.{told_answer}
 use Rattle.vme_engines.proofs.FirstReads.{never_unopened}
 use Rattle.vme_engines.proofs.FormedEdges.{formed_first}
 use Rattle.vme_engines.proofs.ShownTraces.{shows_all, shows_unopened}
@@ -21,7 +17,7 @@ read_on-requires-clause-begun g c = c.new-showing.ensures.fresh.none.judged
 pub returns-in-Some : goal.returns-in-Some
 returns-in-Some g c =
     let ran = c.read_on.ensures c.in-Some.version (g.R.Read.remaining c.args.trace.now) [] [] (sym c.version.ensures ∙ c.in-Some.is) c.open-first.ensures.0 in
-    let is = c.new-showing.ensures.backplane ∙ rw c.requires.room at c.new.ensures in (
+    let is = c.new-showing.ensures.bus ∙ c.new.ensures in (
       ran.0,
       ran.1,
       rw (← c.new-showing.ensures.stretch) (shows_all c.args.plan c.in-Some.version ran.0 _ c.new-showing.result c.read_on.result is c.new-showing.ensures.fresh ran.2),

@@ -1,4 +1,4 @@
-use Rattle.std.proofs.Common.{inr, ◌++◌, ◌∙◌, ap, Ok, Err}
+use Rattle.std.proofs.Common.{inr, ◌++◌, ◌∙◌, ap, Ok}
 use Rattle.std.proofs.lemmas.Result.{err_from_is_err_and}
 use Rattle.vme_engines.proofs.summaries.sum_piece.Goals as goal
 

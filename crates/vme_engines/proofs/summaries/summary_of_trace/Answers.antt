@@ -1,4 +1,4 @@
-use Rattle.std.proofs.Common.{◌≡◌, [], Bool, Result, None, refl, sym, ◌∙◌, ap, subst}
+use Rattle.std.proofs.Common.{[], Bool, Result, None, refl, sym, ◌∙◌, ap, subst}
 use Rattle.std.proofs.KnownBytes.{Keeps-refl}
 use Rattle.vme_trace.specs.declared.Fault.{Fault}
 use Rattle.vme_reasons.specs.Marked.{IsMarksOf}
@@ -17,12 +17,12 @@ pub returns-in-Some : goal.returns-in-Some
 returns-in-Some g c =
     let ran = c.read_on.ensures c.in-Some.version (g.R.Read.remaining c.args.trace.now) [] [] (sym c.version.ensures ∙ c.in-Some.is) c.open-first.ensures.0 in
     let same = c.new-summing.ensures.following in
-    let is = ap (λ (f : Following). f.backplane) same ∙ c.new-following.ensures.backplane ∙ rw c.requires at c.new.ensures in
+    let is = ap (λ (f : Following). f.bus) same ∙ c.new-following.ensures.bus ∙ c.new.ensures in
     let zero = ap (λ (f : Following). f.judged) same ∙ c.new-following.ensures.judged in (
       ran.0,
       ran.1,
       sums_all c.args.plan c.in-Some.version ran.0 _ c.new-summing.result c.read_on.result
-          (record { empty = refl; backplane = is; judged = zero; marks = subst (λ (f : Following). IsMarksOf c.args.plan [] f.marks) (sym same) (c.new-following.ensures.marks c.args.plan); tally = c.new-summing.ensures.tally })
+          (record { empty = refl; bus = is; judged = zero; marks = subst (λ (f : Following). IsMarksOf c.args.plan [] f.marks) (sym same) (c.new-following.ensures.marks c.args.plan); tally = c.new-summing.ensures.tally })
           ran.2,
     )
 

@@ -1,4 +1,4 @@
-use Rattle.std.proofs.Common.{◌≡◌, [], Bool, Result, None, refl, sym, ◌∙◌, ap, subst}
+use Rattle.std.proofs.Common.{[], Bool, Result, None, refl, sym, ◌∙◌, ap, subst}
 use Rattle.vme_trace.specs.declared.Fault.{Fault}
 use Rattle.vme_reasons.specs.Marked.{IsMarksOf}
 use Rattle.vme_engines.specs.declared.following.Following.{Following}
@@ -16,12 +16,12 @@ pub returns-in-Some : goal.returns-in-Some
 returns-in-Some g c =
     let ran = c.read_on.ensures c.in-Some.version (g.R.Read.remaining c.args.trace.now) [] [] (sym c.version.ensures ∙ c.in-Some.is) c.open-first.ensures.0 in
     let same = c.new-in-Some.ensures.following in
-    let is = ap (λ (f : Following). f.backplane) same ∙ c.new-following.ensures.backplane ∙ rw c.requires at c.new.ensures in
+    let is = ap (λ (f : Following). f.bus) same ∙ c.new-following.ensures.bus ∙ c.new.ensures in
     let zero = ap (λ (f : Following). f.judged) same ∙ c.new-following.ensures.judged in (
       ran.0,
       ran.1,
       tallies_all c.args.plan c.in-Some.version ran.0 (g.R.Read.remaining c.args.trace.now) _ c.new-in-Some.result ran.2.2.summing ran.2.0 ran.2.1 c.read_on.result
-          (record { empty = refl; backplane = is; judged = zero; marks = subst (λ (f : Following). IsMarksOf c.args.plan [] f.marks) (sym same) (c.new-following.ensures.marks c.args.plan); tally = c.new-in-Some.ensures.tally })
+          (record { empty = refl; bus = is; judged = zero; marks = subst (λ (f : Following). IsMarksOf c.args.plan [] f.marks) (sym same) (c.new-following.ensures.marks c.args.plan); tally = c.new-in-Some.ensures.tally })
           ran.2.3 ran.2.4,
     )
 

@@ -4,4 +4,4 @@ use Rattle.vme_engines.proofs.following.Following.follow.Goals as goal
 
 pub loop-edge-preserved : goal.loop-edge-preserved
 loop-edge-preserved c =
-    followed_more c.args.self.now c.loop-edge.self _ c.args.edges.now c.loop-edge.edge-index _ c.loop-edge-test.true c.loop-edge.invariant c.step.ensures.backplane (ap (λ n. n + 1) c.step.ensures.judged) c.step.ensures.marks
+    followed_more c.args.self.now c.loop-edge.self _ c.args.edges.now c.loop-edge.edge-index _ c.loop-edge-test.true c.loop-edge.invariant c.step.ensures.bus (ap (λ n. n + 1) c.step.ensures.judged) c.step.ensures.marks

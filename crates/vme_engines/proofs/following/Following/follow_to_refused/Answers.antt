@@ -5,10 +5,10 @@ use Rattle.vme_engines.proofs.following.Following.follow_to_refused.Goals as goa
 pub returns-then-not-step-clause-some : goal.returns-then-not-step-clause-some
 returns-then-not-step-clause-some c =
     comes_to_refused c.args.self.now c.loop-edge.self c.step.new.self c.args.edges.now c.loop-edge.edge-index _ c.loop-edge-test.true c.loop-edge.invariant.follows c.loop-edge.invariant.none
-    (sym c.step.ensures.accepted ∙ search rules) c.step.ensures.backplane c.step.ensures.judged c.step.ensures.marks
+    (sym c.step.ensures.accepted ∙ search rules) c.step.ensures.bus c.step.ensures.judged c.step.ensures.marks
 
 pub loop-edge-preserved : goal.loop-edge-preserved
 loop-edge-preserved c = record {
-  follows = followed_more c.args.self.now c.loop-edge.self _ c.args.edges.now c.loop-edge.edge-index _ c.loop-edge-test.true c.loop-edge.invariant.follows c.step.ensures.backplane (ap (λ n. n + 1) c.step.ensures.judged) c.step.ensures.marks;
+  follows = followed_more c.args.self.now c.loop-edge.self _ c.args.edges.now c.loop-edge.edge-index _ c.loop-edge-test.true c.loop-edge.invariant.follows c.step.ensures.bus (ap (λ n. n + 1) c.step.ensures.judged) c.step.ensures.marks;
   none = none_more c.args.self.now c.loop-edge.self c.args.edges.now c.loop-edge.edge-index _ c.loop-edge-test.true c.loop-edge.invariant.follows c.loop-edge.invariant.none (sym c.step.ensures.accepted ∙ search rules);
 }

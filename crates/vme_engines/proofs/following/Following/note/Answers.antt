@@ -5,5 +5,5 @@ use Rattle.vme_engines.proofs.following.Following.note.Goals as goal
 
 pub returns-clause-marks : goal.returns-clause-marks
 returns-clause-marks c =
-    noted c.args.self.now.backplane (c.args.self.now.judged + 1) c.args.edge c.args.self.now.marks c.note.new.self _ (ap is_ok c.requires.accepted) c.shown_at-shown.ensures
+    noted c.args.self.now.bus (c.args.self.now.judged + 1) c.args.edge c.args.self.now.marks c.note.new.self _ (ap is_ok c.requires.accepted) c.shown_at-shown.ensures
     c.note.ensures

@@ -1,5 +1,5 @@
-use Rattle.std.proofs.Common.{◌≡◌, ◌∙◌, ◌+◌, ◌++◌, ◌∷◌, [], List, false, None, get_or, length, take, sym, ap, subst, arith, append_assoc}
-use Rattle.std.proofs.lemmas.List.{take_all, take_more}
+use Rattle.std.proofs.Common.{◌∙◌, ◌++◌, ◌∷◌, [], List, false, None, get_or, take, sym, ap, subst, arith, append_assoc}
+use Rattle.std.proofs.lemmas.List.{take_more}
 use Rattle.vme_model.specs.declared.signals.Driver.TheVariants.{Controller}
 use Rattle.vme_model.specs.declared.signals.Wire.TheVariants.{Bg}
 use Rattle.vme_model.specs.declared.signals.Edge.{Edge}
