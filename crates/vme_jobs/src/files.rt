@@ -11,8 +11,12 @@ use std::io::{BufReader, BufWriter, Read, Stdout};
 use vme_engines::{EngineFault, SCENARIO_LIMIT};
 use vme_trace::Patient;
 
-/// How many bytes are read or written at once.
-const BUFFER: usize = 65_536;
+/// How many bytes are read at once of an input that is read in small pieces.
+const READ: usize = 65_536;
+
+/// How many bytes are written at once: so many that no write of a long report is shorter than 65,536, since an engine
+/// hands on up to 8,192 bytes of it.
+const WRITTEN: usize = 73_728;
 
 /// Opens a file. Errors: F1 where it does not open.
 pub fn open<'a>(rt: &HostRuntime, name: &'a str) -> Result<File, ProgramFault<'a>>
@@ -63,7 +67,7 @@ pub fn buffered<R: Read + Drop>(
     ensures room { IfOk result (λ reader. reader_capacity reader ≡ 65536) }
     ensures fault { IfErr result (λ fault. fault ≡ ProgramFault.Engine EngineFault.NoMemory) }
 {
-    match BufReader::with_capacity(rt.alloc(), BUFFER, input) {
+    match BufReader::with_capacity(rt.alloc(), READ, input) {
         Ok(reader) => Ok(reader),
         Err(_) => Err(ProgramFault::Engine(EngineFault::NoMemory)),
     }
@@ -72,10 +76,10 @@ pub fn buffered<R: Read + Drop>(
 /// Standard output, written much at once.
 pub fn output(rt: &HostRuntime) -> Result<BufWriter<Patient<Stdout>>, ProgramFault<'static>>
     ensures empty { IfOk result (λ writer. writer_buffer writer ≡ []) }
-    ensures room { IfOk result (λ writer. writer_capacity writer ≡ 65536) }
+    ensures room { IfOk result (λ writer. writer_capacity writer ≡ 73728) }
     ensures fault { IfErr result (λ fault. fault ≡ ProgramFault.Engine EngineFault.NoMemory) }
 {
-    match BufWriter::with_capacity(rt.alloc(), BUFFER, Patient(rt.stdout())) {
+    match BufWriter::with_capacity(rt.alloc(), WRITTEN, Patient(rt.stdout())) {
         Ok(out) => Ok(out),
         Err(_) => Err(ProgramFault::Engine(EngineFault::NoMemory)),
     }

@@ -105,7 +105,7 @@ fn run_replay<'a, W: Write>(
         (W.contents out.old) (W.contents out.new) result }
 {
     let text = read_scenario(rt, scenario)?;
-    let mut input = buffered(rt, open(rt, trace)?)?;
+    let mut input = open(rt, trace)?;
     told(scenario, replay(rt.alloc(), &text, &mut input, out))
 }
 
@@ -122,7 +122,7 @@ fn run_check<'a, W: Write>(
         (W.contents out.old) (W.contents out.new) result }
 {
     let text = read_scenario(rt, scenario)?;
-    let mut input = buffered(rt, open(rt, trace)?)?;
+    let mut input = open(rt, trace)?;
     told(scenario, check(rt.alloc(), &text, &mut input, out))
 }
 
@@ -140,7 +140,7 @@ fn run_explain<'a, W: Write>(
         (W.contents out.old) (W.contents out.new) result }
 {
     let text = read_scenario(rt, scenario)?;
-    let mut input = buffered(rt, open(rt, trace)?)?;
+    let mut input = open(rt, trace)?;
     told(scenario, explain(rt.alloc(), &text, &mut input, edge, out))
 }
 
@@ -158,7 +158,7 @@ fn run_state<'a, W: Write>(
         (W.contents out.old) (W.contents out.new) result }
 {
     let text = read_scenario(rt, scenario)?;
-    let mut input = buffered(rt, open(rt, trace)?)?;
+    let mut input = open(rt, trace)?;
     told(scenario, state(rt.alloc(), &text, &mut input, after, out))
 }
 
@@ -179,7 +179,7 @@ fn run_show<'a, W: Write>(
         (W.contents out.old) (W.contents out.new) result }
 {
     let text = read_scenario(rt, scenario)?;
-    let mut input = buffered(rt, open(rt, trace)?)?;
+    let mut input = open(rt, trace)?;
     told(
         scenario,
         show(rt.alloc(), &text, &mut input, from, to, color, out),
@@ -199,7 +199,7 @@ fn run_summary<'a, W: Write>(
         (W.contents out.old) (W.contents out.new) result }
 {
     let text = read_scenario(rt, scenario)?;
-    let mut input = buffered(rt, open(rt, trace)?)?;
+    let mut input = open(rt, trace)?;
     told(scenario, summary(rt.alloc(), &text, &mut input, out))
 }
 
@@ -213,7 +213,7 @@ fn add_file<'a>(
 ) -> Result<Status, ProgramFault<'a>>
     ensures { AddsFile text.now scenario.entry trace.entry sums.old sums.new result }
 {
-    let mut input = buffered(rt, open(rt, trace)?)?;
+    let mut input = open(rt, trace)?;
     told_trace(
         scenario,
         trace,
