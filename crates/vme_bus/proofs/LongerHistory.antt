@@ -24,8 +24,7 @@ use Rattle.vme_model.specs.Readings.{is_served}
 use Rattle.vme_model.specs.Verdict.{verdict_but_full}
 use Rattle.vme_model.proofs.Bools.{same_number}
 use Rattle.vme_model.proofs.AllowedEdges.{all_passed}
-use Rattle.vme_arbiter.specs.declared.policies.AnyPolicy.{AnyPolicy}
-use Rattle.vme_arbiter.specs.Local.{ControllerState, controller_of}
+use Rattle.vme_arbiter.specs.Local.{ControllerState}
 use Rattle.vme_master.specs.Local.{most_cycles}
 use Rattle.vme_master.proofs.Counts.{one_more}
 use Rattle.vme_interrupter.specs.Local.{seen, served, serves_board}

@@ -1,5 +1,5 @@
 -- Where a grant stops, it travels: `BusState::grant_at`.
-use Rattle.std.proofs.Common.{◌≡◌, ◌∙◌, refl, sym, ap, subst, ℕ, Bool, true, false, List, [], ◌∷◌, ◌<◌, ◌≤◌, Option, Some, None, arith}
+use Rattle.std.proofs.Common.{◌≡◌, ◌∙◌, refl, sym, ap, ℕ, Bool, true, false, List, [], ◌∷◌, ◌<◌, ◌≤◌, Option, Some, None, arith}
 use Rattle.std.specs.Prelude.{◌&&◌, ◌+◌, ◌==◌, not, option_map, is_some}
 use Rattle.std.specs.Option.{option_map_or}
 use Rattle.vme_model.specs.declared.boards.Row.{Row}
@@ -17,7 +17,7 @@ use Rattle.vme_model.specs.Safe.{OnEachPrefix}
 use Rattle.vme_model.specs.Verdict.{IsLegal}
 use Rattle.vme_model.specs.Stands.{grant_at}
 use Rattle.vme_model.proofs.Bools.{and_left, and_right}
-use Rattle.vme_model.proofs.Members.{on, member_of, is_member, within, one_chain, HasLevel, level_of}
+use Rattle.vme_model.proofs.Members.{member_of, is_member, within, one_chain, level_of}
 use Rattle.vme_model.proofs.Ranges.{in_range}
 use Rattle.vme_model.proofs.Safety.{legal_is_safe}
 use Rattle.vme_model.proofs.Standing.{grant_travels, none_travels}

@@ -59,16 +59,18 @@ no_seat = record {
   acknowledge_source = 0;
 }
 
+-- the board of a record that has one
+abbrev pub seat_of_record : SeatRecord → Seat
+seat_of_record x = record {
+  row = record {
+    slot = x.slot;
+    requester = requester_in x.requester;
+    interrupter = interrupter_in x.interrupter;
+    handler = record { 0 = x.handler };
+  };
+  grant_source = x.grant_source;
+  acknowledge_source = x.acknowledge_source;
+}
+
 abbrev pub seat_in : SeatRecord → Option Seat
-seat_in x =
-    if x.stands == 0 then None
-    else Some (record {
-      row = record {
-        slot = x.slot;
-        requester = requester_in x.requester;
-        interrupter = interrupter_in x.interrupter;
-        handler = record { 0 = x.handler };
-      };
-      grant_source = x.grant_source;
-      acknowledge_source = x.acknowledge_source;
-    })
+seat_in x = if x.stands == 0 then None else Some (seat_of_record x)

@@ -13,11 +13,11 @@ use Rattle.vme_model.specs.History.{drive, shown, addressing, cycles, has_strobe
 use Rattle.vme_model.specs.Readings.{is_served}
 use Rattle.vme_model.specs.Verdict.{IsLegal}
 use Rattle.vme_master.specs.Local.{most_cycles}
-use Rattle.vme_bus.specs.declared.records.Seat.{Seat}
+use Rattle.vme_bus.specs.declared.records.SeatRecord.{SeatRecord}
 use Rattle.vme_bus.specs.declared.sets.SlotSet.{SlotSet}
 use Rattle.vme_bus.specs.declared.states.BusState.{BusState}
 use Rattle.vme_bus.specs.Sets.{has}
-use Rattle.vme_bus.specs.Records.{version_in, kind_in, cycle_in, slot_in}
+use Rattle.vme_bus.specs.Records.{version_in, kind_in, cycle_in, slot_in, seat_of_record}
 use Rattle.vme_bus.specs.Layouts.{IsLayoutOf, seat_of, grant_head, acknowledge_head}
 
 -- a set holds the slots whose wire is low, or whose address group is on
@@ -74,7 +74,7 @@ OfHistory b P =
     (version : Version) (p : Plan) (h : List Edge) → IsStateOf version p h b → P version p h
 
 -- the same, and of a seat that is a board's
-abbrev pub OfSeat : BusState → ℕ → Seat → (Version → Plan → List Edge → Row → Type 0) → Type 0
+abbrev pub OfSeat : BusState → ℕ → SeatRecord → (Version → Plan → List Edge → Row → Type 0) → Type 0
 OfSeat b s x P =
     (version : Version) (p : Plan) (h : List Edge) (r : Row)
-    → IsStateOf version p h b → board p s ≡ Some r → x ≡ seat_of p r → P version p h r
+    → IsStateOf version p h b → board p s ≡ Some r → seat_of_record x ≡ seat_of p r → P version p h r

@@ -25,10 +25,10 @@ impl Judges for BusState {
     fn told_by_rule<A: Outcome>(&self, edge: Edge) -> A {
         match edge.driver {
             Driver::Controller => self.arbiter().told(edge, self.shared()),
-            Driver::Slot(slot) => match self.seat(slot) {
+            Driver::Slot(slot) => match self.record(slot) {
                 Some(seat) => {
                     let (_number, told) = self.board_rule(
-                        slot, &seat, edge.wire, edge.fall, edge.value,
+                        slot, seat, edge.wire, edge.fall, edge.value,
                     );
                     told
                 }

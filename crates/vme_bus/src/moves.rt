@@ -118,7 +118,7 @@ impl BusState {
     ghost use Rattle.vme_bus.specs.States.{IsStateOf, OfHistory};
 
     /// Whether an answer of the slot's board to what is shown serves its interrupter.
-    #[inline(always)]
+    #[inline]
     fn is_serving(&self, slot: u8) -> bool
         ensures { OfHistory self.now (λ _ p h. result ≡ is_serving (board p slot) (shown p h)) }
     {
@@ -132,7 +132,7 @@ impl BusState {
     }
 
     /// When the requester of the slot's board gives up the bus; without one no cycle counts.
-    #[inline(always)]
+    #[inline]
     fn release(&self, slot: u8) -> Release
         ensures { OfHistory self.now (λ _ p _. result ≡ release_of (board p slot)) }
     {

@@ -1,7 +1,8 @@
 //! What enums and options say, as numbers alone, so that a record of them may lie in the memory of a program in C.
 //!
 //! Each number has a meaning, also one that no code here writes.
-ghost use Rattle.std.specs.Prelude.{◌≡◌};
+ghost use Rattle.std.specs.Prelude.{◌≡◌, ◌==◌, false, is_some};
+ghost use Rattle.std.specs.Option.{option_map_or};
 ghost use Rattle.vme_bus.specs.Records.{version_in, kind_in, cycle_in, slot_in, requester_in, interrupter_in, seat_in};
 
 use bitflags::Flags;
@@ -186,9 +187,17 @@ impl RequesterRecord {
         }
     }
 
+    /// Whether there is one.
+    #[inline(always)]
+    pub fn is_some(self) -> bool
+        ensures { result ≡ is_some (requester_in self) }
+    {
+        self.stands != 0
+    }
+
     /// The requester.
     #[inline(always)]
-    fn requester(self) -> Option<RequesterRow>
+    pub fn requester(self) -> Option<RequesterRow>
         ensures { result ≡ requester_in self }
     {
         if self.stands == 0 {
@@ -230,9 +239,25 @@ impl InterrupterRecord {
         }
     }
 
+    /// Whether there is one.
+    #[inline(always)]
+    pub fn is_some(self) -> bool
+        ensures { result ≡ is_some (interrupter_in self) }
+    {
+        self.stands != 0
+    }
+
+    /// Whether there is one of the level.
+    #[inline(always)]
+    pub fn is_on(self, level: u8) -> bool
+        ensures { result ≡ option_map_or (λ i. i.level == level) (interrupter_in self) false }
+    {
+        self.stands != 0 && self.level == level
+    }
+
     /// The interrupter.
     #[inline(always)]
-    fn interrupter(self) -> Option<InterrupterRow>
+    pub fn interrupter(self) -> Option<InterrupterRow>
         ensures { result ≡ interrupter_in self }
     {
         if self.stands == 0 {
@@ -278,8 +303,16 @@ impl SeatRecord {
         }
     }
 
-    /// What stands in the slot.
+    /// The levels that the board handles.
     #[inline(always)]
+    pub fn handler(&self) -> Levels
+        ensures { result ≡ record { 0 = self.now.handler } }
+    {
+        Levels::from_bits_retain(self.handler)
+    }
+
+    /// What stands in the slot.
+    #[inline]
     pub fn seat(self) -> Option<Seat>
         ensures { result ≡ seat_in self }
     {

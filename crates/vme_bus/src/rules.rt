@@ -17,7 +17,7 @@ ghost use Rattle.vme_requester.specs.Local.{is_requesters};
 ghost use Rattle.vme_master.specs.Local.{is_masters};
 ghost use Rattle.vme_interrupter.specs.Local.{is_interrupters};
 
-use crate::records::Seat;
+use crate::records::SeatRecord;
 use crate::states::BusState;
 use vme_model::{Cycle, RequesterRow, Wire};
 use vme_rules::Outcome;
@@ -36,20 +36,20 @@ impl BusState {
 
     /// The input of the board's own grant chain, for a board with a requester.
     #[inline(always)]
-    pub(crate) fn grant_in(&self, slot: u8, seat: &Seat) -> bool
+    pub(crate) fn grant_in(&self, slot: u8, seat: &SeatRecord) -> bool
         ensures { OfSeat self.now slot seat.now (λ _ p h _.
             result ≡ grant_in p h (Slot slot)) }
     {
-        seat.row.requester.is_some() & self.grants.has(seat.grant_source)
+        seat.requester.is_some() & self.grants.has(seat.grant_source)
     }
 
     /// The input of the acknowledge chain, for a board with an interrupter.
     #[inline(always)]
-    pub(crate) fn iack_in(&self, slot: u8, seat: &Seat) -> bool
+    pub(crate) fn iack_in(&self, slot: u8, seat: &SeatRecord) -> bool
         ensures { OfSeat self.now slot seat.now (λ _ p h _.
             result ≡ iack_in p h (Slot slot)) }
     {
-        seat.row.interrupter.is_some() & self.acknowledges.has(seat.acknowledge_source)
+        seat.interrupter.is_some() & self.acknowledges.has(seat.acknowledge_source)
     }
 
     /// Whether the slot's address group is off or its address strobe low.
@@ -74,7 +74,7 @@ impl BusState {
     fn requester_rule<A: Outcome>(
         &self,
         slot: u8,
-        seat: &Seat,
+        seat: &SeatRecord,
         requester: RequesterRow,
         wire: Wire,
         fall: bool,
@@ -123,12 +123,12 @@ impl BusState {
 
     /// What the guard's part on what is to be shown answers.
     #[inline(always)]
-    fn showing<A: Outcome>(&self, seat: &Seat, value: Option<Cycle>) -> A
+    fn showing<A: Outcome>(&self, seat: &SeatRecord, value: Option<Cycle>) -> A
         ensures { (s : ℕ) → OfSeat self.now s seat.now (λ _ p h _.
             has_value wire.Addr true value ≡ true
             → A.tells result (show_guard (readings p h (Slot s)) value)) }
     {
-        shows(seat.row.handler, self.interrupts(), value)
+        shows(seat.handler(), self.interrupts(), value)
     }
 
     /// What the guard answers of an address group that goes on (G15).
@@ -136,7 +136,7 @@ impl BusState {
     fn going_on<A: Outcome>(
         &self,
         slot: u8,
-        seat: &Seat,
+        seat: &SeatRecord,
         requester: RequesterRow,
         value: Option<Cycle>,
     ) -> A
@@ -160,7 +160,7 @@ impl BusState {
     fn master_rule<A: Outcome>(
         &self,
         slot: u8,
-        seat: &Seat,
+        seat: &SeatRecord,
         requester: RequesterRow,
         wire: Wire,
         fall: bool,
@@ -203,17 +203,17 @@ impl BusState {
 
     /// Whether the board's interrupter asks at the level.
     #[inline(always)]
-    fn is_pending(&self, slot: u8, seat: &Seat, level: u8) -> bool
+    fn is_pending(&self, slot: u8, seat: &SeatRecord, level: u8) -> bool
         ensures { OfSeat self.now slot seat.now (λ _ p h _.
             result ≡ is_pending (readings p h (Slot slot)) level) }
     {
-        let has_level = seat.row.interrupter.is_some_and(|it| it.level == level);
+        let has_level = seat.interrupter.is_on(level);
         has_level & self.irq.has(slot) & !self.served.has(slot)
     }
 
     /// Whether it asks at the level of the acknowledge that is shown.
     #[inline(always)]
-    fn asks(&self, slot: u8, seat: &Seat) -> bool
+    fn asks(&self, slot: u8, seat: &SeatRecord) -> bool
         ensures { OfSeat self.now slot seat.now (λ _ p h _.
             result ≡ asks_at (readings p h (Slot slot)) (shown p h)) }
     {
@@ -236,7 +236,7 @@ impl BusState {
 
     /// What the guard's part on the acknowledge that is passed answers.
     #[inline(always)]
-    fn passing<A: Outcome>(&self, slot: u8, seat: &Seat) -> A
+    fn passing<A: Outcome>(&self, slot: u8, seat: &SeatRecord) -> A
         ensures { OfSeat self.now slot seat.now (λ _ p h _.
             A.tells result (pass_guard (readings p h (Slot slot)) (shown p h))) }
     {
@@ -245,7 +245,7 @@ impl BusState {
 
     /// What the guard's part on the cycle that is answered answers.
     #[inline(always)]
-    fn answering<A: Outcome>(&self, slot: u8, seat: &Seat) -> A
+    fn answering<A: Outcome>(&self, slot: u8, seat: &SeatRecord) -> A
         requires { slot < 22 }
         ensures { OfSeat self.now slot seat.now (λ _ p h _.
             A.tells result (answer_guard (readings p h (Slot slot)) (shown p h))) }
@@ -257,7 +257,13 @@ impl BusState {
 
     /// The rule that names an edge of a board's interrupter, or of its answer, and what its guard answers (G21 to G26).
     #[inline]
-    fn interrupter_rule<A: Outcome>(&self, slot: u8, seat: &Seat, wire: Wire, fall: bool) -> (u8, A)
+    fn interrupter_rule<A: Outcome>(
+        &self,
+        slot: u8,
+        seat: &SeatRecord,
+        wire: Wire,
+        fall: bool,
+    ) -> (u8, A)
         requires { slot < 22 }
         ensures number { OfSeat self.now slot seat.now (λ version p h _. (v : OptionValue CycleValue)
             → is_interrupters wire ≡ true
@@ -295,7 +301,7 @@ impl BusState {
     pub(crate) fn board_rule<A: Outcome>(
         &self,
         slot: u8,
-        seat: &Seat,
+        seat: &SeatRecord,
         wire: Wire,
         fall: bool,
         value: Option<Cycle>,
@@ -308,11 +314,14 @@ impl BusState {
             → A.tells result.1 (guard version (readings p h (Slot slot)) wire fall value).1) }
     {
         match wire {
-            Wire::Br | Wire::BgOut | Wire::Bbsy => match seat.row.requester {
+            Wire::Br | Wire::BgOut | Wire::Bbsy => match seat.requester.requester() {
                 Some(requester) => self.requester_rule(slot, seat, requester, wire, fall),
                 None => (0, A::free()),
             },
-            Wire::Addr | Wire::AddressStrobe | Wire::DataStrobe => match seat.row.requester {
+            Wire::Addr | Wire::AddressStrobe | Wire::DataStrobe => match seat
+                .requester
+                .requester()
+            {
                 Some(requester) => self.master_rule(slot, seat, requester, wire, fall, value),
                 None => (0, A::free()),
             },

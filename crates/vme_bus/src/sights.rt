@@ -1,5 +1,6 @@
 //! What a driver sees of a bus.
-ghost use Rattle.std.specs.Prelude.{◌≡◌, ◌<◌};
+ghost use Rattle.std.specs.Prelude.{◌≡◌, ◌<◌, option_map};
+ghost use Rattle.std.specs.Option.{option_copied};
 ghost use Rattle.vme_model.specs.declared.signals.Driver.TheVariants as driver;
 ghost use Rattle.vme_model.specs.declared.signals.Wire.TheVariants as wire;
 ghost use Rattle.vme_model.specs.History.{drive, line, request_line, interrupt_line};
@@ -9,10 +10,10 @@ ghost use Rattle.vme_model.specs.Views.{pins};
 ghost use Rattle.vme_model.specs.Deliveries.{delivery};
 ghost use Rattle.vme_arbiter.specs.Local.{controller_of};
 ghost use Rattle.vme_bus.specs.Layouts.{seat};
-ghost use Rattle.vme_bus.specs.Records.{version_in, cycle_in};
+ghost use Rattle.vme_bus.specs.Records.{version_in, cycle_in, seat_of_record};
 
 use crate::layouts::{ACKNOWLEDGE_HEAD, grant_head};
-use crate::records::{Seat, kind_in, slot_in, version_in};
+use crate::records::{Seat, SeatRecord, kind_in, slot_in, version_in};
 use crate::states::{BUS_CLEAR, BUS_ERROR, BusState};
 use vme_arbiter::{AnyPolicy, Arbiter, Controller};
 use vme_model::{BusLevels, Cycle, Delivery, Driver, Edge, Levels, Pins, Row, Version, Wire};
@@ -22,12 +23,30 @@ impl BusState {
     ghost use Rattle.vme_bus.specs.States.{OfHistory, OfSeat};
 
     /// The board of a slot, with the places of its inputs.
-    #[inline(always)]
+    #[inline]
     pub(crate) fn seat(&self, slot: u8) -> Option<Seat>
         ensures { result ≡ seat self.now.layout.seats slot }
     {
         match self.layout.seats.get(usize::from(slot)) {
             Some(record) => record.seat(),
+            None => None,
+        }
+    }
+
+    /// The board of a slot, as numbers.
+    #[inline(always)]
+    pub(crate) fn record(&self, slot: u8) -> Option<&SeatRecord>
+        ensures { option_map seat_of_record (option_copied result)
+            ≡ seat self.now.layout.seats slot }
+    {
+        match self.layout.seats.get(usize::from(slot)) {
+            Some(record) => {
+                if record.stands == 0 {
+                    None
+                } else {
+                    Some(record)
+                }
+            }
             None => None,
         }
     }
@@ -49,7 +68,7 @@ impl BusState {
     }
 
     /// The arbiter, with the controller's own wires.
-    #[inline(always)]
+    #[inline]
     pub(crate) fn arbiter(&self) -> Arbiter<AnyPolicy>
         ensures { OfHistory self.now (λ version p h. result
             ≡ (record { kind = p.arbiter }, controller_of p.arbiter version h)) }
@@ -183,7 +202,7 @@ impl BusState {
 
     /// What a board reads on its pins.
     #[inline(always)]
-    fn pins_at(&self, slot: u8, seat: &Seat) -> Pins
+    fn pins_at(&self, slot: u8, seat: &SeatRecord) -> Pins
         ensures { OfSeat self.now slot seat.now (λ _ p h _. result ≡ pins p h (driver.Slot slot)) }
     {
         let mut pins = self.shared();
@@ -199,15 +218,15 @@ impl BusState {
     {
         match driver {
             Driver::Controller => self.shared(),
-            Driver::Slot(slot) => match self.seat(slot) {
-                Some(seat) => self.pins_at(slot, &seat),
+            Driver::Slot(slot) => match self.record(slot) {
+                Some(seat) => self.pins_at(slot, seat),
                 None => self.shared(),
             },
         }
     }
 
     /// The row of the driver's board.
-    #[inline(always)]
+    #[inline]
     fn row(&self, driver: Driver) -> Option<Row>
         ensures { OfHistory self.now (λ _ p _. result ≡ board_of p driver) }
     {

@@ -37,9 +37,9 @@ impl BusState {
     fn is_stop(&self, slot: u8) -> bool
         ensures { OfHistory self.now (λ _ p h. result ≡ is_stop p h slot) }
     {
-        match self.seat(slot) {
+        match self.record(slot) {
             Some(seat) => {
-                let is_granted = self.grant_in(slot, &seat);
+                let is_granted = self.grant_in(slot, seat);
                 is_granted & !self.grants.has(slot) & !self.bbsy.has(slot)
             }
             None => false,

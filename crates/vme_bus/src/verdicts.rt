@@ -11,7 +11,7 @@ ghost use Rattle.vme_wiring.specs.Asked.{asked, asked_guard, exists};
 ghost use Rattle.vme_model.specs.Rules.{guard};
 
 use crate::layouts::ACKNOWLEDGE_HEAD;
-use crate::records::Seat;
+use crate::records::SeatRecord;
 use crate::states::BusState;
 use vme_model::{ChainId, Cycle, Driver, Edge, Refused, Wire};
 use vme_rules::settlings::{as_settles, berr_settles, bg_fall_settles, bg_rise_settles};
@@ -149,7 +149,7 @@ impl BusState {
 
     /// E2 and E3 of an edge of a slot's board.
     #[inline(always)]
-    fn ask_board(&self, slot: u8, seat: &Seat, edge: Edge) -> Result<(), Refused>
+    fn ask_board(&self, slot: u8, seat: &SeatRecord, edge: Edge) -> Result<(), Refused>
         requires { slot < 22 }
         ensures { OfSeat self.now slot seat.now (λ version p h _. edge.driver ≡ Slot slot
             → exists p edge ≡ true → result ≡ asked version p h edge) }
@@ -168,8 +168,8 @@ impl BusState {
     {
         match edge.driver {
             Driver::Controller => self.arbiter().may(edge, self.shared()),
-            Driver::Slot(slot) => match self.seat(slot) {
-                Some(seat) => self.ask_board(slot, &seat, edge),
+            Driver::Slot(slot) => match self.record(slot) {
+                Some(seat) => self.ask_board(slot, seat, edge),
                 None => Err(Refused::NoSuchDriver),
             },
         }

@@ -6,7 +6,7 @@ ghost use Rattle.vme_wiring.specs.Offered.{offered_but_full};
 ghost use Rattle.vme_wiring.specs.Judged.{requester_waits, master_waits, interrupter_waits};
 ghost use Rattle.vme_wiring.specs.Waits.{waits_for_grant, waits_for_bus, waits_for_cycle, is_unserved, is_waiting};
 
-use crate::records::Seat;
+use crate::records::SeatRecord;
 use crate::states::BusState;
 use vme_model::Driver;
 use vme_wiring::Waiting;
@@ -17,12 +17,12 @@ impl BusState {
     /// Whether the board's requester, if it has one, requests the bus, may not withdraw, and no
     /// grant has reached it.
     #[inline(always)]
-    fn waits_for_grant(&self, slot: u8, seat: &Seat) -> bool
+    fn waits_for_grant(&self, slot: u8, seat: &SeatRecord) -> bool
         requires { slot < 22 }
         ensures { OfSeat self.now slot seat.now (λ version p h r.
             result ≡ waits_for_grant version (readings p h (Slot slot)) r) }
     {
-        match seat.row.requester {
+        match seat.requester.requester() {
             Some(_) => {
                 let requests = self.br.has(slot) & !self.grants.has(slot) & !self.bbsy.has(slot);
                 requests & !self.version().is_two() & !self.grant_in(slot, seat)
@@ -45,14 +45,14 @@ impl BusState {
     /// Whether the board has nothing to answer or to pass on, and its interrupter, if it has one,
     /// requests and was not served.
     #[inline(always)]
-    fn waits_for_service(&self, slot: u8, seat: &Seat) -> bool
+    fn waits_for_service(&self, slot: u8, seat: &SeatRecord) -> bool
         requires { slot < 22 }
         ensures { OfSeat self.now slot seat.now (λ _ p h r. result
             ≡ (waits_for_cycle (readings p h (Slot slot)) r
             && is_unserved (readings p h (Slot slot)) r)) }
     {
         let is_unaddressed = !self.dtack.has(slot) & !self.is_accessed(slot);
-        match seat.row.interrupter {
+        match seat.interrupter.interrupter() {
             Some(_) => {
                 let is_unreached = !self.acknowledges.has(slot) & !self.iack_in(slot, seat);
                 is_unaddressed & is_unreached & self.irq.has(slot) & !self.served.has(slot)
@@ -70,11 +70,11 @@ impl BusState {
         ensures interrupter { OfHistory self.now (λ _ p h.
             result.interrupter ≡ interrupter_waits p h slot) }
     {
-        match self.seat(slot) {
+        match self.record(slot) {
             Some(seat) => Waiting {
-                requester: self.waits_for_grant(slot, &seat),
+                requester: self.waits_for_grant(slot, seat),
                 master: self.waits_for_bus(slot),
-                interrupter: self.waits_for_service(slot, &seat),
+                interrupter: self.waits_for_service(slot, seat),
             },
             None => Waiting {
                 requester: true,

@@ -11,6 +11,9 @@ use Rattle.vme_arbiter.specs.declared.policies.AnyPolicy.{AnyPolicy}
 use Rattle.vme_arbiter.specs.Local.{over}
 use Rattle.vme_wiring.proofs.RuleRows.{controller_guarded}
 use Rattle.vme_bus.specs.Layouts.{seat_of}
+use Rattle.std.specs.Prelude.{option_map}
+use Rattle.std.specs.Option.{option_copied}
+use Rattle.vme_bus.specs.Records.{seat_of_record}
 use Rattle.vme_bus.proofs.Asked.{asks_for, unseated}
 use Rattle.vme_bus.proofs.OneSlot.{seated}
 use Rattle.vme_bus.proofs.judging.BusStateJudges.told_by_rule.Goals as goal
@@ -29,7 +32,7 @@ pub returns-in-Some : goal.returns-in-Some
 returns-in-Some g c = λ version p h is exists.
     let e = c.args.edge in
     let s = c.in-Slot.slot in
-    let k = seated p s c.in-Some.seat (sym c.in-Some.is ∙ c.seat.ensures ∙ is.layout.seats s) in
+    let k = seated p s (seat_of_record c.in-Some.seat.now) (sym (ap (option_map seat_of_record) (ap option_copied c.in-Some.is)) ∙ c.record.ensures ∙ is.layout.seats s) in
     let q = asks_for p s k.row e k.found c.in-Slot.is exists in
     subst (λ d. g.A.Outcome.tells c.board_rule-number.result.1 (guard version (readings p h d) e.wire e.fall e.value).1) (sym c.in-Slot.is)
     (c.board_rule-number.ensures.answer version p h k.row is k.found k.same q.drives q.value)
@@ -39,6 +42,6 @@ returns-in-None g c = λ version p h is exists.
     let e = c.args.edge in
     let s = c.in-Slot.slot in
     let has = subst (λ d. has_driver p d e.wire ≡ true) c.in-Slot.is (and_right (is_well_formed e) (has_driver p e.driver e.wire) exists) in
-    let none = sym (is.layout.seats s) ∙ sym c.seat.ensures ∙ c.in-None.is in
+    let none = sym (is.layout.seats s) ∙ sym c.record.ensures ∙ ap (option_map seat_of_record) (ap option_copied c.in-None.is) in
     let bad : false ≡ true = sym (unseated p (seat_of p) (board p s) e.wire none) ∙ has in
     absurd (cc)

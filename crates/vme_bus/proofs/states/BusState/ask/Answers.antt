@@ -11,6 +11,9 @@ use Rattle.vme_arbiter.specs.declared.policies.AnyPolicy.{AnyPolicy}
 use Rattle.vme_arbiter.specs.Local.{over}
 use Rattle.vme_wiring.proofs.RuleRows.{controller_asked}
 use Rattle.vme_bus.specs.Layouts.{seat_of}
+use Rattle.std.specs.Prelude.{option_map}
+use Rattle.std.specs.Option.{option_copied}
+use Rattle.vme_bus.specs.Records.{seat_of_record}
 use Rattle.vme_bus.proofs.Asked.{unseated}
 use Rattle.vme_bus.proofs.states.BusState.ask.Goals as goal
 
@@ -29,6 +32,6 @@ returns-in-None c version p h is exists =
     let e = c.args.edge in
     let s = c.in-Slot.slot in
     let has = subst (λ d. has_driver p d e.wire ≡ true) c.in-Slot.is (and_right (is_well_formed e) (has_driver p e.driver e.wire) exists) in
-    let none = sym (is.layout.seats s) ∙ sym c.seat.ensures ∙ c.in-None.is in
+    let none = sym (is.layout.seats s) ∙ sym c.record.ensures ∙ ap (option_map seat_of_record) (ap option_copied c.in-None.is) in
     let bad : false ≡ true = sym (unseated p (seat_of p) (board p s) e.wire none) ∙ has in
     absurd (cc)

@@ -17,4 +17,4 @@ returns-in-Some c version p h r is found same =
     (c.has.ensures ∙ is.br s) (c.has-in-Some.ensures ∙ is.grants s c.requires) (c.has-in-Some-2.ensures ∙ is.bbsy s)
     (c.is_two.ensures ∙ ap is_two c.version.ensures ∙ ap is_two is.rules) (c.grant_in.ensures version p h r is found same)
     ∙ for_grant r c.in-Some.field-0 (drive h (Slot s) Br) (drive h (Slot s) BgOut) (drive h (Slot s) Bbsy) (is_two version) (grant_in p h (Slot s))
-    (sym (ap (λ (x : Seat). x.row.requester) same) ∙ c.in-Some.is)
+    (sym (ap (λ (x : Seat). x.row.requester) same) ∙ sym c.requester.ensures ∙ c.in-Some.is)

@@ -21,7 +21,7 @@ returns-in-Some c version p h r is found same =
     (c.has.ensures ∙ is.dtack s) access (c.has-in-Some.ensures ∙ is.acknowledges s c.requires) (c.iack_in.ensures version p h r is found same) (c.has-in-Some-2.ensures ∙ is.irq s)
     ∙ ap (λ b. (((not (drive h (Slot s) Dtack) && not (is_access_to r.slot (shown p h))) && (not (drive h (Slot s) IackOut) && not (iack_in p h (Slot s)))) && drive h (Slot s) Irq) && not b) (c.has-in-Some-3.ensures ∙ is.served s)
     ∙ for_service r c.in-Some.field-0 (drive h (Slot s) Dtack) (is_access_to r.slot (shown p h)) (drive h (Slot s) IackOut) (iack_in p h (Slot s)) (drive h (Slot s) Irq) (is_served p h (Slot s))
-    (sym (ap (λ (x : Seat). x.row.interrupter) same) ∙ c.in-Some.is)
+    (sym (ap (λ (x : Seat). x.row.interrupter) same) ∙ sym c.interrupter.ensures ∙ c.in-Some.is)
 
 pub returns-in-None : goal.returns-in-None
 returns-in-None c version p h r is found same =
@@ -31,4 +31,4 @@ returns-in-None c version p h r is found same =
     ap (λ b. not b && not c.is_accessed.result) (c.has.ensures ∙ is.dtack s)
     ∙ ap (λ b. not (drive h (Slot s) Dtack) && not b) access
     ∙ for_answers r (drive h (Slot s) Dtack) (is_access_to r.slot (shown p h)) (drive h (Slot s) IackOut) (iack_in p h (Slot s)) (drive h (Slot s) Irq) (is_served p h (Slot s))
-    (sym (ap (λ (x : Seat). x.row.interrupter) same) ∙ c.in-None.is)
+    (sym (ap (λ (x : Seat). x.row.interrupter) same) ∙ sym c.interrupter.ensures ∙ c.in-None.is)
