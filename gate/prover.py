@@ -31,6 +31,16 @@ class Prover:
             words += ["--only", it]
         return self.commands.call(words, folder)[1]
 
+    def build_static(self, crate):
+        """Proves a static library and builds its archive, and returns the status and what was said."""
+        folder = f"{self.built}/crates/{crate}"
+        os.makedirs(f"{folder}/out", exist_ok=True)
+        words = [f"{self.kit}/bin/rattle", "build", "--crate-name", crate, "src/lib.rt", *self.libraries(self.uses[crate])]
+        words += ["--antt-project", f"{self.kit}/rattle/logic/antt-project.json", "--logic-built", f"{self.kit}/logic_built"]
+        words += ["--jobs", "2", "--links", f"{crate}=", "--crate-type", "staticlib"]
+        words += ["--toolchain", f"{self.kit}/toolchain", "--backend", "llvm", "-o", f"out/lib{crate}.a"]
+        return self.commands.call(words, folder)
+
     def libraries(self, uses):
         """The words that name the libraries that a crate uses, and where those below them lie."""
         words = ["-L", f"dependency={self.kit}/rlibs"]
