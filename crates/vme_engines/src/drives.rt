@@ -165,7 +165,7 @@ pub(crate) fn put_line<W: Write>(text: &mut Text, edge: &Edge, out: &mut W) -> R
 }
 
 /// Writes the lines of the edges that were made.
-pub(crate) fn write_lines<W: Write>(backplane: &Backplane, out: &mut W) -> Result<(), Fault>
+fn write_lines<W: Write>(backplane: &Backplane, out: &mut W) -> Result<(), Fault>
     ensures ok { OnOk result
         (Appends (W.contents out.old) (W.contents out.new)
         (edge_lines (in_order backplane.now.history))) }
