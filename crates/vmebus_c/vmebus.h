@@ -2,8 +2,8 @@
  *
  * A bus is a record of numbers that lies where its caller puts it. It can be copied and kept, as a snapshot or to try an
  * edge out, and it needs no freeing. The functions keep nothing between calls, take no lock, and start no thread: calls
- * on different buses may run at once, and calls on one may not. Only vmebus_open asks for memory, and gives it back
- * before it returns.
+ * on different buses may run at once, and on one bus those that only read it (const). Only vmebus_open asks for memory,
+ * and gives it back before it returns.
  *
  * No function has a condition on numbers: each is answered. A pointer has to point to what its type says, be no null
  * pointer, and no two of one call may overlap. */
@@ -20,7 +20,7 @@ extern "C" {
 #define VMEBUS_WORDS 107
 
 /* A bus. Its words are the library's own, with no byte between them that is not written: two buses on which the same calls
- * were made are equal by memcmp. A bus of zeros is none, and is answered VMEBUS_NO_BUS. */
+ * were made are equal by memcmp. A bus of zeros is none: vmebus_step and vmebus_line answer it VMEBUS_NO_BUS, the others 0. */
 struct vmebus {
     uint32_t words[VMEBUS_WORDS];
 };
@@ -53,13 +53,16 @@ enum vmebus_wire {
 #define VMEBUS_ACKNOWLEDGE(level) (level)
 #define VMEBUS_ACCESS(slot) (32u + (slot))
 
-/* Answers. Each other one is a refusal: VMEBUS_ERROR is 1 to 4 for E1 to E4, and VMEBUS_RULE the number of the rule, of
- * G1 to G26 at E3 and of S1 to S4 at E4. */
+/* Answers: accepted; a line that spells no edge; words that are no bus, which are told before the edge is looked at. */
 #define VMEBUS_ACCEPTED 0u
-#define VMEBUS_ERROR(answer) ((answer) >> 8)
-#define VMEBUS_RULE(answer) ((answer) & 0xffu)
 #define VMEBUS_NO_EDGE 0x500u
 #define VMEBUS_NO_BUS 0xffffffffu
+
+/* Each other answer is a refusal: VMEBUS_ERROR is 1 to 4 for E1 to E4, and VMEBUS_RULE the number of the rule, of G1 to G26
+ * at E3 and of S1 to S4 at E4. */
+#define VMEBUS_IS_REFUSED(answer) ((answer) != VMEBUS_ACCEPTED && (answer) < VMEBUS_NO_EDGE)
+#define VMEBUS_ERROR(answer) ((answer) >> 8)
+#define VMEBUS_RULE(answer) ((answer) & 0xffu)
 
 /* A delivery, where it is not 0: the status byte that went from an interrupter to a handler. */
 #define VMEBUS_LEVEL(delivered) ((delivered) >> 24 & 0x7fu)
@@ -89,8 +92,9 @@ uint32_t vmebus_open(struct vmebus *bus, uint32_t version, const uint8_t *scenar
 
 /* Judges an edge, and takes it in where it is accepted; fall is 1, or 0 for a rise.
  *
- * An edge that is not accepted leaves the bus as it was. Numbers that name no edge are answered as E1. What is delivered
- * is told in *delivered, or 0. */
+ * An edge that is not accepted leaves the bus as it was. Numbers that name no edge are answered as E1: a driver above 21, a
+ * wire above 15, a fall that is neither 0 nor 1, a value at a rise or at another wire than addr. What is delivered is told
+ * in *delivered, which is 0 after any other call. */
 uint32_t vmebus_step(struct vmebus *bus, uint32_t driver, uint32_t wire, uint32_t fall, uint32_t value,
                      uint32_t *delivered);
 

@@ -16,7 +16,7 @@ ghost use Rattle.vmebus_c.specs.Stepped.{answered_or, told_delivery, followed, n
 use crate::bits::pins_number;
 use crate::named::{driver_of, edge_of_numbers, version_of};
 use crate::opens::{NO_VERSION, plan_of};
-use crate::told::{answer_number, delivered_number};
+use crate::told::{delivery_number, refusal_number};
 use std::alloc::Global;
 use vme_bus::BusState;
 use vme_model::{Driver, Edge};
@@ -84,9 +84,14 @@ fn step(bus: &mut BusState, edge: Option<Edge>, none: u32, delivered: &mut u32) 
     let Some(edge) = edge else {
         return none;
     };
-    let answer = bus.step(edge);
-    *delivered = delivered_number(answer);
-    answer_number(answer)
+    match bus.step(edge) {
+        Ok(None) => 0,
+        Ok(Some(delivery)) => {
+            *delivered = delivery_number(delivery);
+            0
+        }
+        Err(refused) => refusal_number(refused),
+    }
 }
 
 /// Judges an edge, and takes it in where it is accepted.

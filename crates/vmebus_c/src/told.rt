@@ -1,11 +1,11 @@
 //! Answers and deliveries as the numbers that C is told.
 ghost use Rattle.std.specs.Prelude.{◌≡◌, ◌<◌};
-ghost use Rattle.vmebus_c.specs.Told.{refusal_number, answer_number, delivery_number, delivered_number};
+ghost use Rattle.vmebus_c.specs.Told.{refusal_number, delivery_number};
 
 use vme_model::{Delivery, Refused};
 
 /// A refusal by its number, with that of its rule in the lowest byte.
-fn refusal_number(refused: Refused) -> u32
+pub(crate) fn refusal_number(refused: Refused) -> u32
     ensures number { result ≡ refusal_number refused }
     ensures some { 0 < result }
 {
@@ -18,32 +18,12 @@ fn refusal_number(refused: Refused) -> u32
     }
 }
 
-/// An answer to an edge: 0 where it is accepted.
-pub(crate) fn answer_number(answer: Result<Option<Delivery>, Refused>) -> u32
-    ensures { result ≡ answer_number answer }
-{
-    match answer {
-        Ok(_) => 0,
-        Err(refused) => refusal_number(refused),
-    }
-}
-
 /// A delivery: the level under bit 31, the handler, the slot that answers, and the status byte.
-fn delivery_number(delivery: Delivery) -> u32
+pub(crate) fn delivery_number(delivery: Delivery) -> u32
     ensures { result ≡ delivery_number delivery }
 {
     let level = 0x80 + u32::from(delivery.level % 0x80);
     let to = level * 0x100 + u32::from(delivery.handler);
     let from = to * 0x100 + u32::from(delivery.answered_by);
     from * 0x100 + u32::from(delivery.status)
-}
-
-/// What an answer delivers: 0 where that is nothing.
-pub(crate) fn delivered_number(answer: Result<Option<Delivery>, Refused>) -> u32
-    ensures { result ≡ delivered_number answer }
-{
-    match answer {
-        Ok(Some(delivery)) => delivery_number(delivery),
-        _ => 0,
-    }
 }
