@@ -17,7 +17,7 @@
 extern "C" {
 #endif
 
-#define VMEBUS_WORDS 107
+#define VMEBUS_WORDS 165
 
 /* A bus. Its words are the library's own, with no byte between them that is not written: two buses on which the same calls
  * were made are equal by memcmp. A bus of zeros is none: vmebus_step and vmebus_line answer it VMEBUS_NO_BUS, the others 0. */

@@ -1,17 +1,17 @@
--- What a board's edge is answered: `BusState::ask_board`; and of a grant beyond the last level.
-use Rattle.std.proofs.Common.{◌≡◌, refl, sym, ap, subst, ℕ, zero, suc, Bool, true, false, List, ◌≤◌, arith}
-use Rattle.std.specs.Prelude.{◌==◌, min, not, Option, Some, None, option_map, Ok, Err}
+-- What a board's edge is answered: `BusState::asked_by`, `ask_requester` and its like; and of a grant beyond the last level.
+use Rattle.std.proofs.Common.{◌≡◌, refl, sym, ap, subst, ℕ, zero, suc, Bool, true, false, List, ◌<◌, ◌≤◌, arith}
+use Rattle.std.specs.Prelude.{◌==◌, min, not, Option, Some, None, Ok, Err, nat_le}
 use Rattle.std.specs.Option.{option_map_or}
 use Rattle.std.proofs.Math.Bool.{beq}
 use Rattle.std.proofs.lemmas.Bool.Decides.{nat_tests}
-use Rattle.vme_bus.specs.declared.records.Seat.{Seat}
 use Rattle.vme_model.specs.declared.boards.Row.{Row}
 use Rattle.vme_model.specs.declared.refusals.Refused.TheVariants.{AlreadyThere, Rule}
 use Rattle.vme_model.specs.declared.signals.Version.{Version}
 use Rattle.vme_model.specs.declared.signals.Driver.TheVariants.{Slot}
 use Rattle.vme_model.specs.declared.signals.Edge.{Edge}
 use Rattle.vme_model.specs.declared.signals.Wire.{Wire}
-use Rattle.vme_model.specs.Signals.{is_well_formed, has_wire, has_value}
+use Rattle.vme_model.specs.declared.signals.Wire.TheVariants.{Bg, Bclr, Iack, Berr, Br, BgOut, Bbsy, Addr, AddressStrobe, DataStrobe, Irq, IackOut, Dtack}
+use Rattle.vme_model.specs.Signals.{is_well_formed, has_wire, has_value, is_slot}
 use Rattle.vme_model.specs.Plan.{Plan, board, drives, has_driver, grant_chain}
 use Rattle.vme_model.specs.History.{drive}
 use Rattle.vme_model.specs.Readings.{readings}
@@ -86,7 +86,37 @@ unequal false true e = refl
 unequal true true e = absurd (cc)
 unequal false false e = absurd (cc)
 
--- a slot without a seat has no driver
-pub unseated : (p : Plan) (f : Row → Seat) (o : Option Row) (w : Wire) → option_map f o ≡ None → option_map_or (drives w) o false ≡ false
-unseated p f None w e = refl
-unseated p f (Some r) w e = absurd (cc)
+-- the slot of an edge that there is has a board
+pub has_board : (p : Plan) (s : ℕ) (e : Edge) → e.driver ≡ Slot s → exists p e ≡ true → (r : Row) × (board p s ≡ Some r)
+has_board p s e driver some = by_board (board p s) refl (subst (λ d. has_driver p d e.wire ≡ true) driver (and_right (is_well_formed e) (has_driver p e.driver e.wire) some))
+  where
+    by_board : (o : Option Row) → board p s ≡ o → option_map_or (drives e.wire) o false ≡ true → (r : Row) × (board p s ≡ Some r)
+    by_board None is has = absurd (cc)
+    by_board (Some r) is has = (r, is)
+
+-- and is one of the slots that a backplane can have
+pub near_slot : (s : ℕ) (e : Edge) → e.driver ≡ Slot s → is_well_formed e ≡ true → s < 22
+near_slot s e driver formed =
+    let has = subst (λ d. has_wire d e.wire ≡ true) driver (and_left (has_wire e.driver e.wire) (has_value e.wire e.fall e.value) formed) in
+    by_wire e.wire has
+  where
+    most_of : nat_le s 21 ≡ true → s ≤ 21
+    most_of e = grind (arith, nat_tests)
+
+    below : is_slot s ≡ true → s < 22
+    below e = let most : s ≤ 21 = most_of (and_right (nat_le 1 s) (nat_le s 21) e) in omega arith
+
+    by_wire : (w : Wire) → has_wire (Slot s) w ≡ true → s < 22
+    by_wire (Bg n) e = absurd (cc)
+    by_wire Bclr e = absurd (cc)
+    by_wire Iack e = absurd (cc)
+    by_wire Berr e = absurd (cc)
+    by_wire Br e = below e
+    by_wire BgOut e = below e
+    by_wire Bbsy e = below e
+    by_wire Addr e = below e
+    by_wire AddressStrobe e = below e
+    by_wire DataStrobe e = below e
+    by_wire Irq e = below e
+    by_wire IackOut e = below e
+    by_wire Dtack e = below e

@@ -1,4 +1,4 @@
--- Slots that are in none of the sets at work wait: `BusState::movers` and the parts of it.
+-- The slots whose parts do not wait are those of the sets at work: `BusState::movers` and the parts of it.
 use Rattle.std.proofs.Common.{◌≡◌, ◌∙◌, refl, sym, ap, ℕ, Bool, true, false, List, ◌<◌}
 use Rattle.std.specs.Prelude.{◌&&◌, ◌||◌, not, Option, Some, None, is_some}
 use Rattle.std.specs.Option.{option_map_or}
@@ -8,145 +8,191 @@ use Rattle.vme_model.specs.declared.boards.InterrupterRow.{InterrupterRow}
 use Rattle.vme_model.specs.declared.signals.Version.{Version}
 use Rattle.vme_model.specs.declared.signals.Edge.{Edge}
 use Rattle.vme_model.specs.declared.signals.Driver.TheVariants.{Slot}
+use Rattle.vme_model.specs.declared.signals.Wire.{Wire}
 use Rattle.vme_model.specs.declared.signals.Wire.TheVariants.{Br, BgOut, Bbsy, Addr, AddressStrobe, DataStrobe, Irq, IackOut, Dtack}
 use Rattle.vme_model.specs.Signals.{is_two}
-use Rattle.vme_model.specs.Plan.{Plan, board}
+use Rattle.vme_model.specs.Plan.{Plan, board, drives}
 use Rattle.vme_model.specs.History.{drive, shown}
 use Rattle.vme_model.specs.Readings.{readings, grant_in, iack_in, is_served}
 use Rattle.vme_wiring.specs.Waits.{waits_for_grant, waits_for_bus, waits_for_cycle, is_unserved, is_access_to}
 use Rattle.vme_wiring.specs.Judged.{requester_waits, master_waits, interrupter_waits}
 use Rattle.vme_wiring.proofs.AllowedBoards.{stands}
-use Rattle.vme_bus.specs.declared.sets.SlotSet.{SlotSet}
+use Rattle.vme_wiring.proofs.FieldReads.{never_drove}
 use Rattle.vme_bus.specs.declared.states.BusState.{BusState}
 use Rattle.vme_bus.specs.Sets.{has}
 use Rattle.vme_bus.specs.Records.{cycle_in}
-use Rattle.vme_bus.specs.Layouts.{seat_of}
 use Rattle.vme_bus.specs.States.{IsStateOf}
 use Rattle.vme_bus.specs.Movers.{interrupter_rests}
-use Rattle.vme_bus.proofs.Inputs.{grant_seen, acknowledge_seen}
 
--- of three facts that are joined by or, or by and
+-- of two facts that are joined by or
 pub neither : (a b : Bool) → (a || b) ≡ false → (a ≡ false) × (b ≡ false)
 neither false false e = (refl, refl)
 neither a b e = absurd (cc)
 
-off_there : (part low done : Bool) → part ≡ true → (part && not (low && not done)) ≡ false → (low ≡ true) × (done ≡ false)
-off_there true true false is e = (refl, refl)
-off_there part low done is e = absurd (cc)
+pub waits_then : (w : Bool) → not w ≡ false → w ≡ true
+waits_then true e = refl
+waits_then false e = absurd (cc)
 
-no_second : (a b : Bool) → b ≡ false → (a && b) ≡ false
-no_second true b e = e
-no_second false b e = refl
+pub twice : (w : Bool) → not (not w) ≡ w
+twice true = refl
+twice false = refl
 
-five_rest : (br out bbsy two grant : Bool) → br ≡ true → out ≡ false → bbsy ≡ false → two ≡ false → grant ≡ false → (((br && not out) && not bbsy) && (not two && not grant)) ≡ true
-five_rest true false false false false a b c d e = refl
-five_rest br out bbsy two grant a b c d e = absurd (cc)
+abbrev ungranted_of : Bool → Bool → Bool → Bool → Bool
+ungranted_of br out bbsy grant = ((br && not out) && not bbsy) && not grant
 
-four_rest : (a b c d : Bool) → a ≡ false → b ≡ false → c ≡ false → d ≡ false → (((not a && not b) && not c) && not d) ≡ true
-four_rest false false false false e f g i = refl
-four_rest a b c d e f g i = absurd (cc)
+abbrev unreached_of : Bool → Bool → Bool → Bool → Bool
+unreached_of irq done out iack = ((irq && not done) && not out) && not iack
 
-served_rest : (out iack irq done : Bool) → out ≡ false → iack ≡ false → irq ≡ true → done ≡ false → ((not out && not iack) && (irq && not done)) ≡ true
-served_rest false false true false e f g i = refl
-served_rest out iack irq done e f g i = absurd (cc)
+same_four : (f : Bool → Bool → Bool → Bool → Bool) (a b c d k l m n : Bool) → a ≡ k → b ≡ l → c ≡ m → d ≡ n → f a b c d ≡ f k l m n
+same_four f a b c d k l m n ak bl cm dn = ap (λ x. f x b c d) ak ∙ ap (λ x. f k x c d) bl ∙ ap (λ x. f k l x d) cm ∙ ap (λ x. f k l m x) dn
+
+two_may : (quiet two grant : Bool) → two ≡ true → true ≡ not (quiet && (not two && not grant))
+two_may true true grant e = refl
+two_may false true grant e = refl
+two_may quiet false grant e = absurd (cc)
+
+one_may : (quiet two grant : Bool) → two ≡ false → (true && not (quiet && not grant)) ≡ not (quiet && (not two && not grant))
+one_may quiet false grant e = refl
+one_may quiet true grant e = absurd (cc)
+
+any_of_four : (b a s d : Bool) → (b || ((a || s) || d)) ≡ not (((not b && not a) && not s) && not d)
+any_of_four true a s d = refl
+any_of_four false true s d = refl
+any_of_four false false true d = refl
+any_of_four false false false true = refl
+any_of_four false false false false = refl
+
+reached : (irq done out iack : Bool) → (true && not (unreached_of irq done out iack)) ≡ not ((not out && not iack) && (irq && not done))
+reached true true true iack = refl
+reached true true false true = refl
+reached true true false false = refl
+reached true false true iack = refl
+reached true false false true = refl
+reached true false false false = refl
+reached false done true iack = refl
+reached false done false true = refl
+reached false done false false = refl
+
+regrouped : (a b c d e : Bool) → ((a && b) && (c && d)) && e ≡ ((a && c) && ((b && d) && e))
+regrouped true true true d e = refl
+regrouped true true false true e = refl
+regrouped true true false false e = refl
+regrouped true false true d e = refl
+regrouped true false false d e = refl
+regrouped false b c d e = refl
+
+any_of_three : (rests dtack access : Bool) → ((not rests || dtack) || access) ≡ not ((not dtack && not access) && rests)
+any_of_three true true access = refl
+any_of_three true false true = refl
+any_of_three true false false = refl
+any_of_three false true true = refl
+any_of_three false true false = refl
+any_of_three false false true = refl
+any_of_three false false false = refl
+
+either : (a b c d e f : Bool) → a ≡ d → b ≡ e → c ≡ f → ((a || b) || c) ≡ ((d || e) || f)
+either a b c d e f ad be cf = ap (λ x. (x || b) || c) ad ∙ ap (λ x. (d || x) || c) be ∙ ap (λ x. (d || e) || x) cf
 
 module _ (version : Version) (p : Plan) (h : List Edge) (b : BusState) (s : ℕ) (is : IsStateOf version p h b) where
-  -- a board with a requester is among them
-  pub no_requester : has b.layout.requesters s ≡ false → requester_waits version p h s ≡ true
-  no_requester off = by_board (board p s) (sym (is.layout.requesters s) ∙ off)
+  -- a slot without a board drives nothing
+  nothing : (w : Wire) → board p s ≡ None → drive h (Slot s) w ≡ false
+  nothing w found = never_drove version p h (Slot s) w is.legal (ap (λ (o : Option Row). option_map_or (drives w) o false) found)
+
+  -- what the sets of the boards with a part say
+  requests : (o : Option Row) → board p s ≡ o → has b.layout.requesters s ≡ option_map_or (λ (r : Row). is_some r.requester) o false
+  requests o found = is.layout.requesters s ∙ ap (λ (o : Option Row). option_map_or (λ (r : Row). is_some r.requester) o false) found
+
+  interrupts : (o : Option Row) → board p s ≡ o → has b.layout.interrupters s ≡ option_map_or (λ (r : Row). is_some r.interrupter) o false
+  interrupts o found = is.layout.interrupters s ∙ ap (λ (o : Option Row). option_map_or (λ (r : Row). is_some r.interrupter) o false) found
+
+  stands_there : (o : Option Row) → board p s ≡ o → has b.layout.boards s ≡ option_map_or (λ (r : Row). true) o false
+  stands_there o found = is.layout.boards s ∙ ap (λ (o : Option Row). option_map_or (λ (r : Row). true) o false) found
+
+  -- a requester that may withdraw does not wait
+  pub requesters_of_two : is_two version ≡ true → has b.layout.requesters s ≡ not (requester_waits version p h s)
+  requesters_of_two two = by_board (board p s) refl
     where
-      by_part : (o : Option RequesterRow) → is_some o ≡ false →
+      by_part : (o : Option RequesterRow) → is_some o ≡ not
           (option_map_or (λ (x : RequesterRow). (drive h (Slot s) Br && not (drive h (Slot s) BgOut)) && not (drive h (Slot s) Bbsy)) o true
-          && option_map_or (λ (x : RequesterRow). not (is_two version) && not (grant_in p h (Slot s))) o true) ≡ true
-      by_part None e = refl
-      by_part (Some x) e = absurd (cc)
+          && option_map_or (λ (x : RequesterRow). not (is_two version) && not (grant_in p h (Slot s))) o true)
+      by_part None = refl
+      by_part (Some x) = two_may ((drive h (Slot s) Br && not (drive h (Slot s) BgOut)) && not (drive h (Slot s) Bbsy)) (is_two version) (grant_in p h (Slot s)) two
 
-      by_board : (o : Option Row) → option_map_or (λ (r : Row). is_some r.requester) o false ≡ false → option_map_or (waits_for_grant version (readings p h (Slot s))) o true ≡ true
-      by_board None e = refl
-      by_board (Some r) e = by_part r.requester e
+      by_board : (o : Option Row) → board p s ≡ o → has b.layout.requesters s ≡ not (option_map_or (waits_for_grant version (readings p h (Slot s))) o true)
+      by_board None found = requests None found
+      by_board (Some r) found = requests (Some r) found ∙ by_part r.requester
 
-  -- it requests, does not hold the bus, and no segment is low
-  pub requester_rests : is_two version ≡ false → ((t : ℕ) → has b.grants t ≡ false) → (has b.layout.requesters s && not (has b.br s && not (has b.bbsy s))) ≡ false → requester_waits version p h s ≡ true
-  requester_rests one high off = by_board (board p s) refl
+  -- one that may not waits for its grant
+  pub requesters_of_one : is_two version ≡ false → (has b.layout.requesters s && not (((has b.br s && not (has b.grants s)) && not (has b.bbsy s)) && not (has b.granted s))) ≡ not (requester_waits version p h s)
+  requesters_of_one one = by_board (board p s) refl
     where
-      by_part : (r : Row) → board p s ≡ Some r → (o : Option RequesterRow) → r.requester ≡ o →
+      sets : Bool
+      sets = ungranted_of (has b.br s) (has b.grants s) (has b.bbsy s) (has b.granted s)
+
+      by_part : s < 22 → (o : Option RequesterRow) → (is_some o && not sets) ≡ not
           (option_map_or (λ (x : RequesterRow). (drive h (Slot s) Br && not (drive h (Slot s) BgOut)) && not (drive h (Slot s) Bbsy)) o true
-          && option_map_or (λ (x : RequesterRow). not (is_two version) && not (grant_in p h (Slot s))) o true) ≡ true
-      by_part r found None e = refl
-      by_part r found (Some x) e =
-          let placed : has b.layout.requesters s ≡ true = is.layout.requesters s ∙ ap (λ (o : Option Row). option_map_or (λ (r : Row). is_some r.requester) o false) found ∙ ap (λ (o : Option RequesterRow). is_some o) e in
-          let t = off_there (has b.layout.requesters s) (has b.br s) (has b.bbsy s) placed off in
-          five_rest (drive h (Slot s) Br) (drive h (Slot s) BgOut) (drive h (Slot s) Bbsy) (is_two version) (grant_in p h (Slot s))
-          (sym (is.br s) ∙ t.0) (sym (is.grants s (stands p s r is.accepted found).near) ∙ high s) (sym (is.bbsy s) ∙ t.1) one
-          (sym (grant_seen version p h b s r (seat_of p r) is found refl) ∙ no_second _ _ (high (seat_of p r).grant_source))
+          && option_map_or (λ (x : RequesterRow). not (is_two version) && not (grant_in p h (Slot s))) o true)
+      by_part near None = refl
+      by_part near (Some x) =
+          ap (λ y. true && not y) (same_four ungranted_of (has b.br s) (has b.grants s) (has b.bbsy s) (has b.granted s) (drive h (Slot s) Br) (drive h (Slot s) BgOut) (drive h (Slot s) Bbsy) (grant_in p h (Slot s)) (is.br s) (is.grants s near) (is.bbsy s) (is.granted s))
+          ∙ one_may ((drive h (Slot s) Br && not (drive h (Slot s) BgOut)) && not (drive h (Slot s) Bbsy)) (is_two version) (grant_in p h (Slot s)) one
 
-      by_board : (o : Option Row) → board p s ≡ o → option_map_or (waits_for_grant version (readings p h (Slot s))) o true ≡ true
-      by_board None found = refl
-      by_board (Some r) found = by_part r found r.requester refl
+      by_board : (o : Option Row) → board p s ≡ o → (has b.layout.requesters s && not sets) ≡ not (option_map_or (waits_for_grant version (readings p h (Slot s))) o true)
+      by_board None found = ap (λ x. x && not sets) (requests None found)
+      by_board (Some r) found = ap (λ x. x && not sets) (requests (Some r) found) ∙ by_part (stands p s r is.accepted found).near r.requester
 
-  pub master_rests : (has b.bbsy s || ((has b.addr s || has b.address_strobe s) || has b.data_strobe s)) ≡ false → master_waits p h s ≡ true
-  master_rests off = by_board (board p s)
+  pub masters_work : (has b.bbsy s || ((has b.addr s || has b.address_strobe s) || has b.data_strobe s)) ≡ not (master_waits p h s)
+  masters_work =
+      same_four (λ b a s d. b || ((a || s) || d)) (has b.bbsy s) (has b.addr s) (has b.address_strobe s) (has b.data_strobe s) (drive h (Slot s) Bbsy) (drive h (Slot s) Addr) (drive h (Slot s) AddressStrobe) (drive h (Slot s) DataStrobe)
+      (is.bbsy s) (is.addr s) (is.address_strobe s) (is.data_strobe s)
+      ∙ by_board (board p s) refl
     where
-      quiet : waits_for_bus (readings p h (Slot s)) ≡ true
-      quiet =
-          let t = neither (has b.bbsy s) ((has b.addr s || has b.address_strobe s) || has b.data_strobe s) off in
-          let u = neither (has b.addr s || has b.address_strobe s) (has b.data_strobe s) t.1 in
-          let v = neither (has b.addr s) (has b.address_strobe s) u.0 in
-          four_rest (drive h (Slot s) Bbsy) (drive h (Slot s) Addr) (drive h (Slot s) AddressStrobe) (drive h (Slot s) DataStrobe)
-          (sym (is.bbsy s) ∙ t.0) (sym (is.addr s) ∙ v.0) (sym (is.address_strobe s) ∙ v.1) (sym (is.data_strobe s) ∙ u.1)
+      by_board : (o : Option Row) → board p s ≡ o → (drive h (Slot s) Bbsy || ((drive h (Slot s) Addr || drive h (Slot s) AddressStrobe) || drive h (Slot s) DataStrobe)) ≡ not (option_map_or (λ (r : Row). waits_for_bus (readings p h (Slot s))) o true)
+      by_board None found =
+          same_four (λ b a s d. b || ((a || s) || d)) (drive h (Slot s) Bbsy) (drive h (Slot s) Addr) (drive h (Slot s) AddressStrobe) (drive h (Slot s) DataStrobe) false false false false
+          (nothing Bbsy found) (nothing Addr found) (nothing AddressStrobe found) (nothing DataStrobe found)
+      by_board (Some r) found = any_of_four (drive h (Slot s) Bbsy) (drive h (Slot s) Addr) (drive h (Slot s) AddressStrobe) (drive h (Slot s) DataStrobe)
 
-      by_board : (o : Option Row) → option_map_or (λ (r : Row). waits_for_bus (readings p h (Slot s))) o true ≡ true
-      by_board None = refl
-      by_board (Some r) = quiet
-
-  -- a board with an interrupter is among them
-  pub no_interrupter : (r : Row) → board p s ≡ Some r → has b.layout.interrupters s ≡ false → interrupter_rests p h s r ≡ true
-  no_interrupter r found off =
-      by_part r.interrupter (sym (ap (λ (o : Option Row). option_map_or (λ (r : Row). is_some r.interrupter) o false) found) ∙ sym (is.layout.interrupters s) ∙ off)
+  pub interrupters_work : (has b.layout.interrupters s && not (((has b.irq s && not (has b.served s)) && not (has b.acknowledges s)) && not (has b.acknowledged s))) ≡ not (interrupter_rests p h s)
+  interrupters_work = by_board (board p s) refl
     where
-      by_part : (o : Option InterrupterRow) → is_some o ≡ false →
-          option_map_or (λ (i : InterrupterRow). (not (drive h (Slot s) IackOut) && not (iack_in p h (Slot s))) && (drive h (Slot s) Irq && not (is_served p h (Slot s)))) o true ≡ true
-      by_part None e = refl
-      by_part (Some i) e = absurd (cc)
+      sets : Bool
+      sets = unreached_of (has b.irq s) (has b.served s) (has b.acknowledges s) (has b.acknowledged s)
 
-  pub interrupter_done : (r : Row) → board p s ≡ Some r → ((t : ℕ) → has b.acknowledges t ≡ false) → (has b.layout.interrupters s && not (has b.irq s && not (has b.served s))) ≡ false → interrupter_rests p h s r ≡ true
-  interrupter_done r found high off = by_part r.interrupter refl
+      by_part : s < 22 → (o : Option InterrupterRow) → (is_some o && not sets) ≡ not
+          (option_map_or (λ (i : InterrupterRow). (not (drive h (Slot s) IackOut) && not (iack_in p h (Slot s))) && (drive h (Slot s) Irq && not (is_served p h (Slot s)))) o true)
+      by_part near None = refl
+      by_part near (Some i) =
+          ap (λ y. true && not y) (same_four unreached_of (has b.irq s) (has b.served s) (has b.acknowledges s) (has b.acknowledged s) (drive h (Slot s) Irq) (is_served p h (Slot s)) (drive h (Slot s) IackOut) (iack_in p h (Slot s)) (is.irq s) (is.served s) (is.acknowledges s near) (is.acknowledged s))
+          ∙ reached (drive h (Slot s) Irq) (is_served p h (Slot s)) (drive h (Slot s) IackOut) (iack_in p h (Slot s))
+
+      by_board : (o : Option Row) → board p s ≡ o → (has b.layout.interrupters s && not sets) ≡ not (option_map_or
+          (λ (r : Row). option_map_or (λ (i : InterrupterRow). (not (drive h (Slot s) IackOut) && not (iack_in p h (Slot s))) && (drive h (Slot s) Irq && not (is_served p h (Slot s)))) r.interrupter true) o true)
+      by_board None found = ap (λ x. x && not sets) (interrupts None found)
+      by_board (Some r) found = ap (λ x. x && not sets) (interrupts (Some r) found) ∙ by_part (stands p s r is.accepted found).near r.interrupter
+
+  -- with those that answer, and the one that is accessed
+  pub answers_work : (accessed : Bool) → (s < 22 → accessed ≡ is_access_to s (cycle_in b.shown)) → ((not (interrupter_rests p h s) || has b.dtack s) || (has b.layout.boards s && accessed)) ≡ not (interrupter_waits p h s)
+  answers_work accessed access = by_board (board p s) refl
     where
-      by_part : (o : Option InterrupterRow) → r.interrupter ≡ o →
-          option_map_or (λ (i : InterrupterRow). (not (drive h (Slot s) IackOut) && not (iack_in p h (Slot s))) && (drive h (Slot s) Irq && not (is_served p h (Slot s)))) o true ≡ true
-      by_part None e = refl
-      by_part (Some i) e =
-          let placed : has b.layout.interrupters s ≡ true = is.layout.interrupters s ∙ ap (λ (o : Option Row). option_map_or (λ (r : Row). is_some r.interrupter) o false) found ∙ ap (λ (o : Option InterrupterRow). is_some o) e in
-          let t = off_there (has b.layout.interrupters s) (has b.irq s) (has b.served s) placed off in
-          served_rest (drive h (Slot s) IackOut) (iack_in p h (Slot s)) (drive h (Slot s) Irq) (is_served p h (Slot s))
-          (sym (is.acknowledges s (stands p s r is.accepted found).near) ∙ high s)
-          (sym (acknowledge_seen version p h b s r (seat_of p r) is found refl) ∙ no_second _ _ (high (seat_of p r).acknowledge_source))
-          (sym (is.irq s) ∙ t.0) (sym (is.served s) ∙ t.1)
+      by_part : (o : Option InterrupterRow) (dtack access out iack irq done : Bool) →
+          ((not (option_map_or (λ (i : InterrupterRow). (not out && not iack) && (irq && not done)) o true) || dtack) || access)
+          ≡ not (((not dtack && option_map_or (λ (i : InterrupterRow). not out) o true) && (not access && option_map_or (λ (i : InterrupterRow). not iack) o true)) && option_map_or (λ (i : InterrupterRow). irq && not done) o true)
+      by_part None dtack access out iack irq done = any_of_three true dtack access ∙ ap not (sym (regrouped (not dtack) true (not access) true true))
+      by_part (Some i) dtack access out iack irq done =
+          any_of_three ((not out && not iack) && (irq && not done)) dtack access
+          ∙ ap not (sym (regrouped (not dtack) (not out) (not access) (not iack) (irq && not done)))
 
-  -- nothing to answer either
-  pub answers_none : ((r : Row) → board p s ≡ Some r → interrupter_rests p h s r ≡ true) → has b.dtack s ≡ false → (s < 22 → is_access_to s (cycle_in b.shown) ≡ false) → interrupter_waits p h s ≡ true
-  answers_none rests dtack other = by_board (board p s) refl
-    where
-      by_part : (r : Row) (o : Option InterrupterRow) (dtack access out iack irq done : Bool) → dtack ≡ false → access ≡ false →
-          option_map_or (λ (i : InterrupterRow). (not out && not iack) && (irq && not done)) o true ≡ true →
-          (((not dtack && option_map_or (λ (i : InterrupterRow). not out) o true) && (not access && option_map_or (λ (i : InterrupterRow). not iack) o true)) && option_map_or (λ (i : InterrupterRow). irq && not done) o true) ≡ true
-      by_part r None false false out iack irq done e f rest = refl
-      by_part r (Some i) false false false false true false e f rest = refl
-      by_part r o dtack access out iack irq done e f rest = absurd (cc)
+      rests_of : Option Row → Bool
+      rests_of o = option_map_or (λ (r : Row). option_map_or (λ (i : InterrupterRow). (not (drive h (Slot s) IackOut) && not (iack_in p h (Slot s))) && (drive h (Slot s) Irq && not (is_served p h (Slot s)))) r.interrupter true) o true
 
-      by_board : (o : Option Row) → board p s ≡ o → option_map_or (λ (r : Row). waits_for_cycle (readings p h (Slot s)) r && is_unserved (readings p h (Slot s)) r) o true ≡ true
-      by_board None found = refl
+      by_board : (o : Option Row) → board p s ≡ o → ((not (rests_of o) || has b.dtack s) || (has b.layout.boards s && accessed))
+          ≡ not (option_map_or (λ (r : Row). waits_for_cycle (readings p h (Slot s)) r && is_unserved (readings p h (Slot s)) r) o true)
+      by_board None found =
+          either false (has b.dtack s) (has b.layout.boards s && accessed) false false false refl (is.dtack s ∙ nothing Dtack found) (ap (λ x. x && accessed) (stands_there None found))
       by_board (Some r) found =
           let k = stands p s r is.accepted found in
-          by_part r r.interrupter (drive h (Slot s) Dtack) (is_access_to r.slot (shown p h)) (drive h (Slot s) IackOut) (iack_in p h (Slot s)) (drive h (Slot s) Irq) (is_served p h (Slot s))
-          (sym (is.dtack s) ∙ dtack)
-          (ap (λ t. is_access_to t (shown p h)) k.slot ∙ ap (λ v. is_access_to s v) (sym is.shown) ∙ other k.near)
-          (rests r found)
-
--- where no slot is in a set
-pub all_high : (set : SlotSet) (b : Bool) → ((s : ℕ) → has set s ≡ true → b ≡ true) → b ≡ false → (t : ℕ) → has set t ≡ false
-all_high set b none off t = by_bit (has set t) refl
-  where
-    by_bit : (x : Bool) → has set t ≡ x → x ≡ false
-    by_bit false on = refl
-    by_bit true on = let bad : true ≡ false = sym (none t on) ∙ off in cc
+          either (not (rests_of (Some r))) (has b.dtack s) (has b.layout.boards s && accessed) (not (rests_of (Some r))) (drive h (Slot s) Dtack) (is_access_to r.slot (shown p h))
+          refl (is.dtack s)
+          (ap (λ x. x && accessed) (stands_there (Some r) found) ∙ access k.near ∙ ap (λ v. is_access_to s v) is.shown ∙ ap (λ t. is_access_to t (shown p h)) (sym k.slot))
+          ∙ by_part r.interrupter (drive h (Slot s) Dtack) (is_access_to r.slot (shown p h)) (drive h (Slot s) IackOut) (iack_in p h (Slot s)) (drive h (Slot s) Irq) (is_served p h (Slot s))

@@ -1,8 +1,10 @@
 -- What parts of guards read: `BusState::showing`, `passing`, `answering`.
 use Rattle.std.proofs.Common.{◌≡◌, ◌∙◌, refl, sym, ap, ℕ, true, false, List, ◌≤◌, arith}
-use Rattle.std.specs.Prelude.{◌==◌, Option, Some, None, nat_le}
+use Rattle.std.specs.Prelude.{◌==◌, Option, Some, None, nat_le, is_some}
 use Rattle.std.specs.Option.{option_map_or}
 use Rattle.std.proofs.lemmas.Bool.Decides.{nat_tests}
+use Rattle.vme_model.specs.declared.boards.Release.TheVariants.{Request}
+use Rattle.vme_model.specs.declared.boards.RequesterRow.{RequesterRow}
 use Rattle.vme_model.specs.declared.boards.Row.{Row}
 use Rattle.vme_model.specs.declared.conditions.Condition.TheVariants.{Handled, InterruptLow, OwnSlotShown}
 use Rattle.vme_model.specs.declared.signals.Cycle.{Cycle}
@@ -21,6 +23,7 @@ use Rattle.vme_model.proofs.PinSets.{has_irq}
 use Rattle.vme_model.proofs.Bools.{and_left, and_right}
 use Rattle.vme_wiring.specs.Waits.{is_access_to}
 use Rattle.vme_bus.specs.Asks.{asks_at}
+use Rattle.vme_bus.specs.Moves.{release_of}
 
 in_order : (a b n : ℕ) → nat_le a n ≡ true → nat_le n b ≡ true → (a ≤ n) × (n ≤ b)
 in_order a b n l m = (grind (arith, nat_tests), grind (arith, nat_tests))
@@ -45,3 +48,11 @@ answered_by p h s r (Some (Acknowledge l)) found same = refl
 answered_by p h s r (Some (Access t)) found same =
     ap (λ x. asks OwnSlotShown (x == t)) (sym same)
     ∙ sym (ap (λ (o : Option Row). asks OwnSlotShown (option_map_or (λ b. b.slot == t) o false)) found)
+
+-- a board's requester, and when it gives up the bus
+pub requester_of : (o : Option RequesterRow) → is_some o ≡ true → (q : RequesterRow) × (o ≡ Some q)
+requester_of None e = absurd (cc)
+requester_of (Some q) e = (q, refl)
+
+pub released_as : (p : Plan) (s : ℕ) (r : Row) (q : RequesterRow) → board p s ≡ Some r → r.requester ≡ Some q → release_of (board p s) ≡ q.release
+released_as p s r q found has = ap release_of found ∙ ap (λ (o : Option RequesterRow). option_map_or (λ x. x.release) o Request) has

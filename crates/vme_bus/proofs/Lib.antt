@@ -10,11 +10,15 @@ pub mod PowerUp
 pub mod Lines
 -- what a board reads at its inputs: `BusState::grant_in`, `iack_in`
 pub mod Inputs
+-- which part of a board a wire is of: `BusState::board_rule`
+pub mod Parts
+-- the next slot of the set of boards is the next slot with a board: `BusState::board_above`
+pub mod NextBoards
 -- what parts of guards read: `BusState::showing`, `passing`, `answering`
 pub mod Guards
 -- what the low segments say of the settling rules: `BusState::are_grants_through` and its like
 pub mod Outputs
--- what a board's edge is answered: `BusState::ask_board`
+-- what a board's edge is answered: `BusState::asked_by`, `ask_requester` and its like
 pub mod Asked
 -- one place of a set moves: `BusState::note_board`, `note_controller`
 pub mod Places

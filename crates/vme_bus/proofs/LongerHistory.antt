@@ -39,10 +39,11 @@ use Rattle.vme_bus.specs.declared.sets.SlotSet.{SlotSet}
 use Rattle.vme_bus.specs.declared.states.BusState.{BusState}
 use Rattle.vme_bus.specs.Sets.{has}
 use Rattle.vme_bus.specs.Records.{version_in, kind_in, cycle_in, slot_in}
-use Rattle.vme_bus.specs.Layouts.{IsLayoutOf, grant_head, acknowledge_head}
-use Rattle.vme_bus.specs.Moves.{MovesPlace, FollowsWire, FollowsGrants, turned_by, grant_turned_by, served_by, strobed_by, cycles_by, shown_by, last_level_by, is_serving, release_of}
-use Rattle.vme_bus.specs.States.{HoldsWire, IsStateOf, counted, bus_clear_place, bus_error_place}
+use Rattle.vme_bus.specs.Layouts.{IsLayoutOf, set_at, grant_head, acknowledge_head}
+use Rattle.vme_bus.specs.Moves.{MovesPlace, MovesSlots, FollowsWire, FollowsGrants, turned_by, grant_turned_by, served_by, strobed_by, cycles_by, shown_by, last_level_by, is_serving, release_of}
+use Rattle.vme_bus.specs.States.{HoldsWire, HoldsOutputs, IsStateOf, counted, bus_clear_place, bus_error_place}
 use Rattle.vme_bus.proofs.Places.{moved_to, unmoved}
+use Rattle.vme_bus.proofs.Inputs.{HoldsHeads, granted_moved, acknowledged_moved}
 
 self : (n : ℕ) → (n == n) ≡ true
 self n = grind (arith, nat_tests)
@@ -231,6 +232,8 @@ pub record IsNotedByBoard (p : Plan) (h : List Edge) (s : ℕ) (e : Edge) (old n
   pub dtack : FollowsWire Dtack s e.wire old.dtack new.dtack
   pub grants : FollowsWire BgOut s e.wire old.grants new.grants
   pub acknowledges : FollowsWire IackOut s e.wire old.acknowledges new.acknowledges
+  pub granted : MovesSlots (turned_by BgOut e.wire) (set_at old.layout.granted_by s) old.granted new.granted
+  pub acknowledged : MovesSlots (turned_by IackOut e.wire) (set_at old.layout.acknowledged_by s) old.acknowledged new.acknowledged
   pub serves : Bool
   pub is_serving : serves ≡ is_serving (board p s) (shown p h)
   pub served : MovesPlace (served_by e.wire e.fall serves) s old.served new.served
@@ -246,6 +249,11 @@ board_noted : (version : Version) (p : Plan) (h : List Edge) (s : ℕ) (r : Row)
 board_noted version p h s r w fall v old new is allowed found n =
     let k = stands p s r is.accepted found in
     let d = driven version p h s r w fall v found allowed in
+    let more : List Edge = at s w fall v ∷ h in
+    let grants : HoldsOutputs more BgOut new.grants = λ t near. wire_at h s t BgOut w fall v old.grants new.grants d.before n.grants (is.grants t near) in
+    let grant_heads : HoldsHeads more new.grants = λ m near. head_kept h s (grant_head m) BgOut (Bg m) w fall v old.grants new.grants k.near (omega arith) n.grants (is.grant_heads m near) in
+    let acknowledges : HoldsOutputs more IackOut new.acknowledges = λ t near. wire_at h s t IackOut w fall v old.acknowledges new.acknowledges d.before n.acknowledges (is.acknowledges t near) in
+    let acknowledges_head : has new.acknowledges acknowledge_head ≡ drive more Controller Iack = head_kept h s acknowledge_head IackOut Iack w fall v old.acknowledges new.acknowledges k.near (omega arith) n.acknowledges is.acknowledges_head in
     record {
       accepted = is.accepted;
       legal = (allowed, is.legal);
@@ -262,10 +270,12 @@ board_noted version p h s r w fall v old new is allowed found n =
       data_strobe = wire_moved h s DataStrobe w fall v old.data_strobe new.data_strobe d.before n.data_strobe is.data_strobe;
       irq = wire_moved h s Irq w fall v old.irq new.irq d.before n.irq is.irq;
       dtack = wire_moved h s Dtack w fall v old.dtack new.dtack d.before n.dtack is.dtack;
-      grants = λ t near. wire_at h s t BgOut w fall v old.grants new.grants d.before n.grants (is.grants t near);
-      grant_heads = λ m near. head_kept h s (grant_head m) BgOut (Bg m) w fall v old.grants new.grants k.near (omega arith) n.grants (is.grant_heads m near);
-      acknowledges = λ t near. wire_at h s t IackOut w fall v old.acknowledges new.acknowledges d.before n.acknowledges (is.acknowledges t near);
-      acknowledges_head = head_kept h s acknowledge_head IackOut Iack w fall v old.acknowledges new.acknowledges k.near (omega arith) n.acknowledges is.acknowledges_head;
+      grants = grants;
+      grant_heads = grant_heads;
+      acknowledges = acknowledges;
+      acknowledges_head = acknowledges_head;
+      granted = λ t. granted_moved (turned_by BgOut w) s p h (at s w fall v ∷ h) old.layout.seats (set_at old.layout.granted_by s) old.granted new.granted old.grants new.grants is.accepted is.layout.seats (is.layout.granted_by.each s (omega arith)) n.granted n.grants is.grants is.grant_heads grants grant_heads t (is.granted t);
+      acknowledged = λ t. acknowledged_moved (turned_by IackOut w) s p h (at s w fall v ∷ h) old.layout.seats (set_at old.layout.acknowledged_by s) old.acknowledged new.acknowledged old.acknowledges new.acknowledges is.accepted is.layout.seats (is.layout.acknowledged_by.each s (omega arith)) n.acknowledged n.acknowledges is.acknowledges is.acknowledges_head acknowledges acknowledges_head t (is.acknowledged t);
       served = served_moved version p h s r w fall v n.serves old.served new.served is.accepted found n.is_serving n.served is.served;
       strobed = strobed_moved h s w fall v old.strobed new.strobed n.strobed is.strobed;
       cycles_room = ap length n.cycles ∙ length-set old.cycles s (cycles_by w fall n.release (get_or old.cycles s 0)) ∙ is.cycles_room;
@@ -340,16 +350,26 @@ error_moved h w fall v old mid new before cleared failed held =
     ∙ own_moved h Controller Berr w fall v refl before
 
 -- the state after an edge of the controller
-abbrev pub headed : BusState → ℕ → SlotSet → SlotSet → SlotSet → BusState
-headed b last grants acknowledges controls = record b { last_level = last; grants = grants; acknowledges = acknowledges; controls = controls }
+abbrev pub headed : BusState → ℕ → SlotSet → SlotSet → SlotSet → SlotSet → SlotSet → BusState
+headed b last grants granted acknowledged acknowledges controls = record b { last_level = last; grants = grants; granted = granted; acknowledged = acknowledged; acknowledges = acknowledges; controls = controls }
 
-controller_noted : (version : Version) (p : Plan) (h : List Edge) (w : Wire) (fall : Bool) (v : Option Cycle) (b : BusState) (last : ℕ) (grants acknowledges mid controls : SlotSet) → IsStateOf version p h b → verdict_but_full version p h (at_head w fall v) ≡ Ok tt →
-    last ≡ last_level_by (at_head w fall v) b.last_level → FollowsGrants w b.grants grants → FollowsWire Iack acknowledge_head w b.acknowledges acknowledges →
+-- its edge stands at a place of the grants
+head_near : (w : Wire) → has_wire Controller w ≡ true → grant_head (grant_level w) < 28
+head_near (Bg n) exists = let l : n < 4 = grind (arith, nat_tests) in omega arith
+head_near w exists = omega arith
+
+controller_noted : (version : Version) (p : Plan) (h : List Edge) (w : Wire) (fall : Bool) (v : Option Cycle) (b : BusState) (last : ℕ) (grants granted acknowledged acknowledges mid controls : SlotSet) → IsStateOf version p h b → verdict_but_full version p h (at_head w fall v) ≡ Ok tt →
+    last ≡ last_level_by (at_head w fall v) b.last_level → FollowsGrants w b.grants grants → MovesSlots (grant_turned_by w) (set_at b.layout.granted_by (grant_head (grant_level w))) b.granted granted →
+    MovesSlots (turned_by Iack w) (set_at b.layout.acknowledged_by acknowledge_head) b.acknowledged acknowledged → FollowsWire Iack acknowledge_head w b.acknowledges acknowledges →
     FollowsWire Bclr bus_clear_place w b.controls mid → FollowsWire Berr bus_error_place w mid controls →
-    IsStateOf version p (at_head w fall v ∷ h) (headed b last grants acknowledges controls)
-controller_noted version p h w fall v b last grants acknowledges mid controls is allowed level granted acknowledged cleared failed =
+    IsStateOf version p (at_head w fall v ∷ h) (headed b last grants granted acknowledged acknowledges controls)
+controller_noted version p h w fall v b last grants granted acknowledged acknowledges mid controls is allowed level moved granted_moves acknowledged_moves followed cleared failed =
     let e = at_head w fall v in
     let passed = all_passed version p h Controller w fall v allowed in
+    let outputs : HoldsOutputs (e ∷ h) BgOut grants = λ t near. output_kept (grant_turned_by w) h (grant_head (grant_level w)) t BgOut w fall v b.grants grants (omega arith) near moved (is.grants t near) in
+    let heads : HoldsHeads (e ∷ h) grants = λ m near. head_moved h m w fall v b.grants grants passed.wire passed.before moved (is.grant_heads m near) in
+    let passes : HoldsOutputs (e ∷ h) IackOut acknowledges = λ t near. output_kept (turned_by Iack w) h acknowledge_head t IackOut w fall v b.acknowledges acknowledges (omega arith) near followed (is.acknowledges t near) in
+    let head : has acknowledges acknowledge_head ≡ drive (e ∷ h) Controller Iack = acknowledge_moved h w fall v b.acknowledges acknowledges passed.before followed is.acknowledges_head in
     record {
       accepted = is.accepted;
       legal = (allowed, is.legal);
@@ -366,10 +386,12 @@ controller_noted version p h w fall v b last grants acknowledges mid controls is
       data_strobe = wire_kept h DataStrobe w fall v b.data_strobe is.data_strobe;
       irq = wire_kept h Irq w fall v b.irq is.irq;
       dtack = wire_kept h Dtack w fall v b.dtack is.dtack;
-      grants = λ t near. output_kept (grant_turned_by w) h (grant_head (grant_level w)) t BgOut w fall v b.grants grants (omega arith) near granted (is.grants t near);
-      grant_heads = λ m near. head_moved h m w fall v b.grants grants passed.wire passed.before granted (is.grant_heads m near);
-      acknowledges = λ t near. output_kept (turned_by Iack w) h acknowledge_head t IackOut w fall v b.acknowledges acknowledges (omega arith) near acknowledged (is.acknowledges t near);
-      acknowledges_head = acknowledge_moved h w fall v b.acknowledges acknowledges passed.before acknowledged is.acknowledges_head;
+      grants = outputs;
+      grant_heads = heads;
+      acknowledges = passes;
+      acknowledges_head = head;
+      granted = λ t. granted_moved (grant_turned_by w) (grant_head (grant_level w)) p h (e ∷ h) b.layout.seats (set_at b.layout.granted_by (grant_head (grant_level w))) b.granted granted b.grants grants is.accepted is.layout.seats (is.layout.granted_by.each (grant_head (grant_level w)) (head_near w passed.wire)) granted_moves moved is.grants is.grant_heads outputs heads t (is.granted t);
+      acknowledged = λ t. acknowledged_moved (turned_by Iack w) acknowledge_head p h (e ∷ h) b.layout.seats (set_at b.layout.acknowledged_by acknowledge_head) b.acknowledged acknowledged b.acknowledges acknowledges is.accepted is.layout.seats (is.layout.acknowledged_by.each acknowledge_head (omega arith)) acknowledged_moves followed is.acknowledges is.acknowledges_head passes head t (is.acknowledged t);
       served = λ t. is.served t ∙ sym (served_there version p h e t is.accepted refl);
       strobed = λ t. is.strobed t ∙ sym (strobed_same h e (Slot t) refl);
       cycles_room = is.cycles_room;
@@ -378,12 +400,13 @@ controller_noted version p h w fall v b last grants acknowledges mid controls is
       addressing = is.addressing ∙ addressing_kept p h w fall v passed.wire;
     }
 
-pub noted_by_controller : (version : Version) (p : Plan) (h : List Edge) (e : Edge) (b : BusState) (last : ℕ) (grants acknowledges mid controls : SlotSet) → IsStateOf version p h b → verdict_but_full version p h e ≡ Ok tt → e.driver ≡ Controller →
-    last ≡ last_level_by e b.last_level → FollowsGrants e.wire b.grants grants → FollowsWire Iack acknowledge_head e.wire b.acknowledges acknowledges →
+pub noted_by_controller : (version : Version) (p : Plan) (h : List Edge) (e : Edge) (b : BusState) (last : ℕ) (grants granted acknowledged acknowledges mid controls : SlotSet) → IsStateOf version p h b → verdict_but_full version p h e ≡ Ok tt → e.driver ≡ Controller →
+    last ≡ last_level_by e b.last_level → FollowsGrants e.wire b.grants grants → MovesSlots (grant_turned_by e.wire) (set_at b.layout.granted_by (grant_head (grant_level e.wire))) b.granted granted →
+    MovesSlots (turned_by Iack e.wire) (set_at b.layout.acknowledged_by acknowledge_head) b.acknowledged acknowledged → FollowsWire Iack acknowledge_head e.wire b.acknowledges acknowledges →
     FollowsWire Bclr bus_clear_place e.wire b.controls mid → FollowsWire Berr bus_error_place e.wire mid controls →
-    IsStateOf version p (e ∷ h) (headed b last grants acknowledges controls)
-noted_by_controller version p h e b last grants acknowledges mid controls is allowed driver level granted acknowledged cleared failed =
+    IsStateOf version p (e ∷ h) (headed b last grants granted acknowledged acknowledges controls)
+noted_by_controller version p h e b last grants granted acknowledged acknowledges mid controls is allowed driver level moved granted_moves acknowledged_moves followed cleared failed =
     let of = λ (d : Driver). by d e.wire e.fall e.value in
-    let P : Driver → Type 0 = λ d. verdict_but_full version p h (of d) ≡ Ok tt → last ≡ last_level_by (of d) b.last_level → IsStateOf version p (of d ∷ h) (headed b last grants acknowledges controls) in
-    let all : P Controller = λ a m. controller_noted version p h e.wire e.fall e.value b last grants acknowledges mid controls is a m granted acknowledged cleared failed in
+    let P : Driver → Type 0 = λ d. verdict_but_full version p h (of d) ≡ Ok tt → last ≡ last_level_by (of d) b.last_level → IsStateOf version p (of d ∷ h) (headed b last grants granted acknowledged acknowledges controls) in
+    let all : P Controller = λ a m. controller_noted version p h e.wire e.fall e.value b last grants granted acknowledged acknowledges mid controls is a m moved granted_moves acknowledged_moves followed cleared failed in
     subst P (sym driver) all allowed level

@@ -1,6 +1,6 @@
 -- What the sets say of one slot: `BusState::is_slot_low`, `is_low`, `row`, `told_by_rule`.
-use Rattle.std.proofs.Common.{◌≡◌, ◌⊎◌, inl, inr, ◌∙◌, refl, sym, ap, ℕ, Bool, true, false, List, ◌≤◌, arith}
-use Rattle.std.specs.Prelude.{Option, Some, None, option_map, is_none, is_some, not}
+use Rattle.std.proofs.Common.{◌≡◌, ◌⊎◌, inl, inr, ◌∙◌, refl, sym, ap, ℕ, true, false, List, ◌≤◌, arith}
+use Rattle.std.specs.Prelude.{Option, Some, None, option_map, is_none, not}
 use Rattle.std.specs.Option.{option_map_or}
 use Rattle.vme_model.specs.declared.boards.Row.{Row}
 use Rattle.vme_model.specs.declared.signals.Version.{Version}
@@ -66,12 +66,6 @@ pub unseated : (p : Plan) (o : Option Row) → option_map (seat_of p) o ≡ None
 unseated p None e = refl
 unseated p (Some r) e = absurd (cc)
 
-pub none_seated : (p : Plan) (o : Option Row) → is_none (option_map (seat_of p) o) ≡ is_none o
-none_seated p None = refl
-none_seated p (Some r) = refl
-
-pub none_is : (o : Option Seat) (b : Bool) → is_some o ≡ not b → b ≡ is_none o
-none_is None true e = refl
-none_is None false e = absurd (cc)
-none_is (Some x) true e = absurd (cc)
-none_is (Some x) false e = refl
+pub none_there : (o : Option Row) → not (option_map_or (λ (r : Row). true) o false) ≡ is_none o
+none_there None = refl
+none_there (Some r) = refl

@@ -22,6 +22,10 @@ use Rattle.vme_model.proofs.Ranges.{in_range}
 use Rattle.vme_model.proofs.Safety.{legal_is_safe}
 use Rattle.vme_model.proofs.Standing.{grant_travels, none_travels}
 use Rattle.vme_slots.proofs.Slots.{up_to_here}
+use Rattle.vme_wiring.proofs.AllowedBoards.{stands}
+use Rattle.vme_bus.specs.declared.states.BusState.{BusState}
+use Rattle.vme_bus.specs.Sets.{has}
+use Rattle.vme_bus.specs.States.{IsStateOf}
 use Rattle.vme_bus.specs.Steps.{is_stop}
 
 requests_some : (p : Plan) (h : List Edge) (n s : ℕ) (o : Option Row) → option_map_or (requests_on n) o false ≡ true → option_map_or (λ r. is_some r.requester) o false ≡ true
@@ -105,3 +109,19 @@ no_stop p h ok none = by_found (grant_at p h) refl
 -- no slot up to one passes a test, where none before it does and it does not
 pub all_below : (test : ℕ → Bool) (s : ℕ) → ((k : ℕ) → 1 ≤ k → k < s → test k ≡ false) → test s ≡ false → (k : ℕ) → 1 ≤ k → k < s + 1 → test k ≡ false
 all_below test s before here k from to = up_to_here (λ x. test x ≡ false) s before here k from (omega arith)
+
+-- the sets say where a grant stops
+pub stops_at : (version : Version) (p : Plan) (h : List Edge) (b : BusState) (s : ℕ) → IsStateOf version p h b → ((has b.granted s && not (has b.grants s)) && not (has b.bbsy s)) ≡ is_stop p h s
+stops_at version p h b s is =
+    ap (λ x. (x && not (has b.grants s)) && not (has b.bbsy s)) (is.granted s)
+    ∙ by_input (grant_in p h (Slot s)) refl
+  where
+    by_board : (o : Option Row) → board p s ≡ o → option_map_or (λ r. is_some r.requester) o false ≡ true → s < 22
+    by_board None found e = absurd (cc)
+    by_board (Some r) found e = (stands p s r is.accepted found).near
+
+    by_input : (x : Bool) → grant_in p h (Slot s) ≡ x → ((x && not (has b.grants s)) && not (has b.bbsy s)) ≡ ((x && not (drive h (Slot s) BgOut)) && not (drive h (Slot s) Bbsy))
+    by_input false e = refl
+    by_input true e =
+        let near = by_board (board p s) refl (grants_some p h (board p s) e) in
+        ap (λ y. not y && not (has b.bbsy s)) (is.grants s near) ∙ ap (λ y. not (drive h (Slot s) BgOut) && not y) (is.bbsy s)

@@ -1,10 +1,12 @@
 -- What a plan says of each slot and line, as numbers.
-use Rattle.std.specs.Prelude.{◌≡◌, ◌+◌, ◌<◌, ℕ, Bool, true, false, Option, Some, None, List, option_map, is_some, length, get_or}
+use Rattle.std.specs.Prelude.{◌≡◌, ◌==◌, ◌&&◌, ◌+◌, ◌<◌, ℕ, Bool, true, false, Option, Some, None, List, option_map, is_some, length, get_or}
 use Rattle.std.specs.List.{slice_get}
 use Rattle.std.specs.Option.{option_and_then, option_map_or}
 use Rattle.vme_model.specs.declared.boards.Row.{Row}
 use Rattle.vme_model.specs.declared.sets.ChainId.TheVariants as chain
 use Rattle.vme_model.specs.Plan.{Plan, board, grant_chain, upstream, last_active, requests_on, interrupts_on}
+use Rattle.vme_bus.specs.declared.layouts.Input.{Input}
+use Rattle.vme_bus.specs.declared.layouts.Input.TheVariants as input
 use Rattle.vme_bus.specs.declared.layouts.Line.{Line}
 use Rattle.vme_bus.specs.declared.layouts.Line.TheVariants as line
 use Rattle.vme_bus.specs.declared.records.Seat.{Seat}
@@ -60,9 +62,24 @@ slot_is_on p l s = option_map_or (is_on l) (board p s) false
 abbrev pub HoldsLine : Plan → Line → SlotSet → Type 0
 HoldsLine p l set = (s : ℕ) → has set s ≡ slot_is_on p l s
 
+-- a board has the input, and it stands at the place
+abbrev pub is_input_at : Input → ℕ → Seat → Bool
+is_input_at input.Grant place x = is_some x.row.requester && x.grant_source == place
+is_input_at input.Acknowledge place x = is_some x.row.interrupter && x.acknowledge_source == place
+
+-- a set holds the slots whose boards have the input at the place
+abbrev pub HoldsInputs : Input → List SeatRecord → ℕ → SlotSet → Type 0
+HoldsInputs i seats place set =
+    (s : ℕ) → has set s ≡ option_map_or (is_input_at i place) (seat seats s) false
+
 -- a set at a place; beyond the end an empty one
 abbrev pub set_at : List SlotSet → ℕ → SlotSet
 set_at sets n = get_or sets n (record { bits = 0 })
+
+-- sets hold those slots, each at its place
+pub record HoldInputs (i : Input) (seats : List SeatRecord) (sets : List SlotSet) : Type 0 where
+  pub room : length sets ≡ 28
+  pub each : (n : ℕ) → n < 28 → HoldsInputs i seats n (set_at sets n)
 
 pub record IsLayoutOf (p : Plan) (l : Layout) : Type 0 where
   pub seats : (s : ℕ) → seat l.seats s ≡ option_map (seat_of p) (board p s)
@@ -78,3 +95,5 @@ pub record IsLayoutOf (p : Plan) (l : Layout) : Type 0 where
   pub requesters : HoldsLine p line.AnyRequest l.requesters
   pub interrupters : HoldsLine p line.AnyInterrupt l.interrupters
   pub boards : HoldsLine p line.DataAcknowledge l.boards
+  pub granted_by : HoldInputs input.Grant l.seats l.granted_by
+  pub acknowledged_by : HoldInputs input.Acknowledge l.seats l.acknowledged_by

@@ -6,7 +6,7 @@ pub mod Records
 pub mod Layouts
 -- words: which numbers a history leads to; `BusState::new` and `note` say all that a user needs of it
 pub mod States
--- words: whether a board asks at the level that is shown
+-- words: whether a board asks at the level that is shown, which rule names an edge, and whose its wire is
 pub mod Asks
 -- words: what an edge makes of the numbers of a state
 pub mod Moves

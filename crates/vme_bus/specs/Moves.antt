@@ -19,6 +19,11 @@ use Rattle.vme_bus.specs.Layouts.{grant_head}
 abbrev pub MovesPlace : (Bool → Bool) → ℕ → SlotSet → SlotSet → Type 0
 MovesPlace f place old new = (s : ℕ) → has new s ≡ (if place == s then f (has old s) else has old s)
 
+-- some slots of a set move
+abbrev pub MovesSlots : (Bool → Bool) → SlotSet → SlotSet → SlotSet → Type 0
+MovesSlots f slots old new =
+    (s : ℕ) → has new s ≡ (if has slots s then f (has old s) else has old s)
+
 -- the state of an own wire turns with an edge of it
 abbrev pub turned_by : Wire → Wire → Bool → Bool
 turned_by own wire low = if is_same_wire wire own then not low else low

@@ -10,15 +10,14 @@ use Rattle.vme_model.specs.declared.signals.Wire.TheVariants.{Bg, Bclr, Iack, Be
 use Rattle.vme_model.specs.Plan.{Plan, board}
 use Rattle.vme_model.specs.Accepted.{IsAccepted}
 use Rattle.vme_model.specs.History.{drive, shown, addressing, cycles, has_strobed, last_level}
-use Rattle.vme_model.specs.Readings.{is_served}
+use Rattle.vme_model.specs.Readings.{grant_in, iack_in, is_served}
 use Rattle.vme_model.specs.Verdict.{IsLegal}
 use Rattle.vme_master.specs.Local.{most_cycles}
-use Rattle.vme_bus.specs.declared.records.SeatRecord.{SeatRecord}
 use Rattle.vme_bus.specs.declared.sets.SlotSet.{SlotSet}
 use Rattle.vme_bus.specs.declared.states.BusState.{BusState}
 use Rattle.vme_bus.specs.Sets.{has}
-use Rattle.vme_bus.specs.Records.{version_in, kind_in, cycle_in, slot_in, seat_of_record}
-use Rattle.vme_bus.specs.Layouts.{IsLayoutOf, seat_of, grant_head, acknowledge_head}
+use Rattle.vme_bus.specs.Records.{version_in, kind_in, cycle_in, slot_in}
+use Rattle.vme_bus.specs.Layouts.{IsLayoutOf, grant_head, acknowledge_head}
 
 -- a set holds the slots whose wire is low, or whose address group is on
 abbrev pub HoldsWire : List Edge → Wire → SlotSet → Type 0
@@ -61,6 +60,8 @@ pub record IsStateOf (version : Version) (p : Plan) (h : List Edge) (b : BusStat
   pub grant_heads : (n : ℕ) → n < 4 → has b.grants (grant_head n) ≡ drive h Controller (Bg n)
   pub acknowledges : HoldsOutputs h IackOut b.acknowledges
   pub acknowledges_head : has b.acknowledges acknowledge_head ≡ drive h Controller Iack
+  pub granted : (s : ℕ) → has b.granted s ≡ grant_in p h (Slot s)
+  pub acknowledged : (s : ℕ) → has b.acknowledged s ≡ iack_in p h (Slot s)
   pub served : (s : ℕ) → has b.served s ≡ is_served p h (Slot s)
   pub strobed : (s : ℕ) → has b.strobed s ≡ has_strobed h (Slot s)
   pub cycles_room : length b.cycles ≡ 22
@@ -73,8 +74,8 @@ abbrev pub OfHistory : BusState → (Version → Plan → List Edge → Type 0) 
 OfHistory b P =
     (version : Version) (p : Plan) (h : List Edge) → IsStateOf version p h b → P version p h
 
--- the same, and of a seat that is a board's
-abbrev pub OfSeat : BusState → ℕ → SeatRecord → (Version → Plan → List Edge → Row → Type 0) → Type 0
-OfSeat b s x P =
+-- the same, and of the board in a slot
+abbrev pub OfBoard : BusState → ℕ → (Version → Plan → List Edge → Row → Type 0) → Type 0
+OfBoard b s P =
     (version : Version) (p : Plan) (h : List Edge) (r : Row)
-    → IsStateOf version p h b → board p s ≡ Some r → seat_of_record x ≡ seat_of p r → P version p h r
+    → IsStateOf version p h b → board p s ≡ Some r → P version p h r

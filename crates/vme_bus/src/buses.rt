@@ -11,7 +11,6 @@ ghost use Rattle.vme_model.specs.Deliveries.{answer};
 ghost use Rattle.vme_model.specs.Offers.{offered};
 ghost use Rattle.vme_model.specs.Open.{open_edges, IsAllThatIsAllowed};
 ghost use Rattle.vme_wiring.specs.Offered.{offered_but_full};
-ghost use Rattle.vme_wiring.specs.Waits.{is_waiting};
 ghost use Rattle.vme_model.specs.Accepted.{IsAccepted};
 ghost use Rattle.vme_model.specs.Report.{at_power_up, trace_limit};
 ghost use Rattle.vme_backplane.specs.Sound.{IsSound};
@@ -317,28 +316,16 @@ impl Bus {
         }
     }
 
-    /// Whether the driver waits for an edge of another. It then has no offer; where it answers
-    /// false, there may be none either.
-    fn is_waiting(&self, driver: Driver) -> bool
-        ensures waits { result ≡ is_waiting self.now.version self.now.plan self.now.history driver }
-        ensures none { result ≡ true
-            → offered_but_full self.now.version self.now.plan self.now.history driver ≡ [] }
-    {
-        self.state.is_waiting(driver)
-    }
-
     /// The offer that the driver makes in a round, if it has any: of k offers the one at place
     /// `round mod k`.
     ///
-    /// It tries no edge of a driver that waits for another's, as most do.
+    /// It tries the edges of a driver that waits for another's too: `movers` tells which slots may
+    /// have an offer.
     #[inline(always)]
     pub fn offer(&self, driver: Driver, round: u32) -> Option<Edge>
         ensures { result
             ≡ slice_get (offered self.now driver) (round % length (offered self.now driver)) }
     {
-        if self.is_waiting(driver) {
-            return None;
-        }
         choice(self.offers(driver).as_slice(), round)
     }
 

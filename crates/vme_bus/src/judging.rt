@@ -6,7 +6,7 @@ ghost use Rattle.vme_wiring.specs.Opens.{open_but_full};
 
 use crate::states::BusState;
 use arrayvec::ArrayVec;
-use vme_model::{Condition, Driver, Edge, Levels, Refused, Row, Wire};
+use vme_model::{Condition, Driver, Edge, Levels, Refused, Wire};
 use vme_rules::Outcome;
 use vme_wiring::{Judges, Waiting, failing_by, offers_of, open_edges_of, told_by};
 
@@ -19,21 +19,19 @@ impl Judges for BusState {
 
     #[inline(always)]
     fn judge(&self, edge: Edge) -> Result<(), Refused> {
-        BusState::judge(self, edge)
+        self.judge_by_wire(edge)
     }
 
     fn told_by_rule<A: Outcome>(&self, edge: Edge) -> A {
         match edge.driver {
             Driver::Controller => self.arbiter().told(edge, self.shared()),
-            Driver::Slot(slot) => match self.record(slot) {
-                Some(seat) => {
-                    let (_number, told) = self.board_rule(
-                        slot, seat, edge.wire, edge.fall, edge.value,
-                    );
-                    told
+            Driver::Slot(slot) => {
+                if slot < 22 {
+                    self.board_rule(slot, edge.wire, edge.fall, edge.value).1
+                } else {
+                    A::free()
                 }
-                None => A::free(),
-            },
+            }
         }
     }
 
@@ -46,7 +44,7 @@ impl Judges for BusState {
     fn is_low(&self, driver: Driver, wire: Wire) -> bool {
         match driver {
             Driver::Controller => self.arbiter().is_low(wire),
-            Driver::Slot(slot) => slot < 22 && self.is_slot_low(slot, wire),
+            Driver::Slot(slot) => (slot < 22) & self.is_slot_low(slot, wire),
         }
     }
 
@@ -61,14 +59,14 @@ impl Judges for BusState {
     }
 
     #[inline(always)]
-    fn slots(&self) -> u8 {
-        self.layout.slots
+    fn next_board(&self, slot: u8) -> Option<u8> {
+        self.board_above(slot).or(self.board_above(0))
     }
 
     #[inline(always)]
-    fn row(&self, slot: u8) -> Option<Row> {
-        match self.seat(slot) {
-            Some(seat) => Some(seat.row),
+    fn handled(&self, slot: u8) -> Option<Levels> {
+        match self.record(slot) {
+            Some(seat) => Some(seat.handler()),
             None => None,
         }
     }

@@ -1,7 +1,7 @@
 //! What a plan says of each slot and line, as sets and small numbers.
-ghost use Rattle.std.specs.Prelude.{◌≡◌, ◌<◌, ℕ, Some, option_map, length, get_or};
+ghost use Rattle.std.specs.Prelude.{◌≡◌, ◌<◌, ℕ, false, Some, option_map, length, get_or};
 ghost use Rattle.std.specs.List.{slice_get};
-ghost use Rattle.std.specs.Option.{option_copied};
+ghost use Rattle.std.specs.Option.{option_copied, option_map_or};
 ghost use Rattle.vme_model.specs.declared.sets.ChainId.TheVariants as chain;
 ghost use Rattle.vme_model.specs.Plan.{board, upstream, last_active, grant_chain};
 ghost use Rattle.vme_wiring.specs.Counts.{request_level};
@@ -32,9 +32,19 @@ pub enum Line {
     DataAcknowledge,
 }
 
+/// An input of a board.
+#[derive(Clone, Copy)]
+pub enum Input {
+    /// That of its grant chain, where it has a requester.
+    Grant,
+    /// That of the acknowledge chain, where it has an interrupter.
+    Acknowledge,
+}
+
 /// What a plan says of each slot and line, as numbers alone.
 ///
-/// The sets stand first, so that no bytes lie between the fields: equal records have equal bytes.
+/// The numbers between the sets take 292 bytes, whole words, so that no bytes lie between the
+/// fields: equal records have equal bytes.
 #[repr(C)]
 #[derive(Clone, Copy)]
 pub struct Layout {
@@ -55,6 +65,10 @@ pub struct Layout {
     pub acknowledge_end: u8,
     /// How many slots the backplane has.
     pub slots: u8,
+    /// By the place of each segment of the grant chains, the slots whose input it is.
+    pub granted_by: [SlotSet; 28],
+    /// The same of the acknowledge chain.
+    pub acknowledged_by: [SlotSet; 28],
 }
 
 impl Line {
@@ -77,7 +91,24 @@ impl Line {
 }
 
 ghost use Rattle.vme_bus.specs.Records.{seat_in, no_seat};
-ghost use Rattle.vme_bus.specs.Layouts.{seat_of, slot_is_on, grant_source, grant_head, acknowledge_head, place_of, HoldsLine};
+ghost use Rattle.vme_bus.specs.Layouts.{seat_of, slot_is_on, grant_source, grant_head, acknowledge_head, place_of, seat, is_input_at, HoldsLine, HoldsInputs, HoldInputs};
+
+impl Input {
+    /// Whether the slot's board has it, at the place.
+    fn is_at(self, place: u8, seats: &[SeatRecord; 22], slot: u8) -> bool
+        ensures { result ≡ option_map_or (is_input_at self place) (seat seats.now slot) false }
+    {
+        match seats.get(usize::from(slot)) {
+            Some(seat) if seat.stands != 0 => match self {
+                Input::Grant => seat.requester.is_some() && seat.grant_source == place,
+                Input::Acknowledge => {
+                    seat.interrupter.is_some() && seat.acknowledge_source == place
+                }
+            },
+            _ => false,
+        }
+    }
+}
 
 /// Where the head of a grant chain stands, by its level.
 #[inline(always)]
@@ -181,6 +212,30 @@ fn grant_end(plan: &Plan, level: u8) -> u8
     )
 }
 
+/// The slots whose boards have the input at the place.
+fn fed_by(seats: &[SeatRecord; 22], input: Input, place: u8) -> SlotSet
+    ensures { HoldsInputs input seats.now place result }
+{
+    let mut fed = SlotSet::NONE;
+    for slot in 0..22_u8 {
+        if input.is_at(place, seats, slot) {
+            fed = fed.with(slot);
+        }
+    }
+    fed
+}
+
+/// By the place of each segment, the slots whose boards have the input there.
+fn fed_by_places(seats: &[SeatRecord; 22], input: Input) -> [SlotSet; 28]
+    ensures { HoldInputs input seats.now result }
+{
+    let mut sets = [SlotSet::NONE; 28];
+    for place in 0..28_u8 {
+        sets[usize::from(place)] = fed_by(seats, input, place);
+    }
+    sets
+}
+
 impl Layout {
     ghost use Rattle.vme_bus.specs.Layouts.{IsLayoutOf};
 
@@ -189,8 +244,11 @@ impl Layout {
         ensures { IsLayoutOf plan.now result }
     {
         plan.accepted();
+        let seats = seats_of(plan);
         Layout {
-            seats: seats_of(plan),
+            granted_by: fed_by_places(&seats, Input::Grant),
+            acknowledged_by: fed_by_places(&seats, Input::Acknowledge),
+            seats,
             requests: [
                 slots_on(plan, Line::Request(0)),
                 slots_on(plan, Line::Request(1)),

@@ -1,8 +1,6 @@
 //! Which slots may have an edge to make, all at once.
-ghost use Rattle.std.specs.Prelude.{◌≡◌, ◌<◌, ℕ, [], true, false, Some};
-ghost use Rattle.vme_model.specs.declared.boards.Row.{Row as RowValue};
+ghost use Rattle.std.specs.Prelude.{◌≡◌, ◌&&◌, ◌<◌, ℕ, [], true, false, not};
 ghost use Rattle.vme_model.specs.declared.signals.Driver.TheVariants.{Slot};
-ghost use Rattle.vme_model.specs.Plan.{board};
 ghost use Rattle.vme_wiring.specs.Offered.{offered_but_full};
 ghost use Rattle.vme_wiring.specs.Judged.{requester_waits, master_waits, interrupter_waits};
 ghost use Rattle.vme_wiring.specs.Waits.{is_access_to, is_waiting};
@@ -17,43 +15,63 @@ use vme_model::Cycle;
 impl BusState {
     ghost use Rattle.vme_bus.specs.States.{OfHistory};
 
-    /// The slots whose requesters may not wait for a grant: all while one is on its way.
+    /// The slots that request the bus, while no grant has reached them.
     #[inline(always)]
-    fn requesters_at_work(&self) -> SlotSet
-        ensures { OfHistory self.now (λ version p h. (s : ℕ)
-            → has result s ≡ false → requester_waits version p h s ≡ true) }
+    fn ungranted(&self) -> SlotSet
+        ensures { (s : ℕ) → has result s ≡ (has self.now.br s
+            && not (has self.now.grants s) && not (has self.now.bbsy s)
+            && not (has self.now.granted s)) }
     {
-        if self.version().is_two() | self.grants.is_some() {
+        self.br
+            .except(self.grants)
+            .except(self.bbsy)
+            .except(self.granted)
+    }
+
+    /// The slots whose requesters do not wait for a grant.
+    #[inline(always)]
+    pub(crate) fn requesters_at_work(&self) -> SlotSet
+        ensures { OfHistory self.now (λ version p h. (s : ℕ)
+            → has result s ≡ not (requester_waits version p h s)) }
+    {
+        if self.version().is_two() {
             self.layout.requesters
         } else {
-            self.layout.requesters.except(self.br.except(self.bbsy))
+            self.layout.requesters.except(self.ungranted())
         }
     }
 
     /// The slots that hold the bus, or whose address group or strobes are on.
     #[inline(always)]
-    fn masters_at_work(&self) -> SlotSet
+    pub(crate) fn masters_at_work(&self) -> SlotSet
         ensures { OfHistory self.now (λ _ p h. (s : ℕ)
-            → has result s ≡ false → master_waits p h s ≡ true) }
+            → has result s ≡ not (master_waits p h s)) }
     {
         let showing = self.addr.or(self.address_strobe).or(self.data_strobe);
         self.bbsy.or(showing)
     }
 
-    /// The slots whose interrupters may not wait to be served: all while an acknowledge is on its
-    /// way.
+    /// The slots whose interrupters request and were not served, while no acknowledge has reached
+    /// them.
+    #[inline(always)]
+    fn unreached(&self) -> SlotSet
+        ensures { (s : ℕ) → has result s ≡ (has self.now.irq s
+            && not (has self.now.served s) && not (has self.now.acknowledges s)
+            && not (has self.now.acknowledged s)) }
+    {
+        self.irq
+            .except(self.served)
+            .except(self.acknowledges)
+            .except(self.acknowledged)
+    }
+
+    /// The slots whose interrupters do not wait to be served.
     #[inline(always)]
     fn interrupters_at_work(&self) -> SlotSet
-        ensures { OfHistory self.now (λ _ p h. (s : ℕ) (r : RowValue) → board p s ≡ Some r
-            → has result s ≡ false → interrupter_rests p h s r ≡ true) }
+        ensures { OfHistory self.now (λ _ p h. (s : ℕ)
+            → has result s ≡ not (interrupter_rests p h s)) }
     {
-        if self.acknowledges.is_some() {
-            self.layout.interrupters
-        } else {
-            self.layout
-                .interrupters
-                .except(self.irq.except(self.served))
-        }
+        self.layout.interrupters.except(self.unreached())
     }
 
     /// The slot that an access is shown to.
@@ -69,13 +87,13 @@ impl BusState {
 
     /// The slots that answer, or may have a cycle to answer or to pass on.
     #[inline(always)]
-    fn answering_at_work(&self) -> SlotSet
+    pub(crate) fn answering_at_work(&self) -> SlotSet
         ensures { OfHistory self.now (λ _ p h. (s : ℕ)
-            → has result s ≡ false → interrupter_waits p h s ≡ true) }
+            → has result s ≡ not (interrupter_waits p h s)) }
     {
         self.interrupters_at_work()
             .or(self.dtack)
-            .or(self.accessed())
+            .or(self.layout.boards.and(self.accessed()))
     }
 
     /// Slots that may have an edge to make: each slot that is not among them waits, and has no

@@ -1,12 +1,14 @@
 //! What an edge makes of a state.
 ghost use Rattle.std.specs.Prelude.{◌≡◌, ◌∷◌, ◌<◌, Ok};
 ghost use Rattle.vme_model.specs.declared.signals.Driver.TheVariants as driver;
+ghost use Rattle.vme_model.specs.Signals.{grant_level};
 ghost use Rattle.vme_model.specs.Plan.{board};
 ghost use Rattle.vme_model.specs.History.{shown};
 ghost use Rattle.vme_model.specs.Verdict.{verdict_but_full};
 ghost use Rattle.vme_wiring.specs.Counts.{addressing_after};
 ghost use Rattle.vme_bus.specs.Records.{cycle_in, slot_in};
-ghost use Rattle.vme_bus.specs.Moves.{MovesPlace, FollowsWire, FollowsGrants, served_by, strobed_by, cycles_by, shown_by, last_level_by, is_serving, release_of};
+ghost use Rattle.vme_bus.specs.Layouts.{grant_head, set_at};
+ghost use Rattle.vme_bus.specs.Moves.{MovesPlace, MovesSlots, turned_by, grant_turned_by, FollowsWire, FollowsGrants, served_by, strobed_by, cycles_by, shown_by, last_level_by, is_serving, release_of};
 
 use crate::layouts::{ACKNOWLEDGE_HEAD, grant_head};
 use crate::records::{CycleRecord, NO_SLOT};
@@ -36,6 +38,26 @@ fn grants_after(set: SlotSet, wire: Wire) -> SlotSet
 {
     match wire {
         Wire::Bg(level) if level < 4 => set.turned(grant_head(level)),
+        _ => set,
+    }
+}
+
+/// The boards whose inputs are low, after an edge at a place that feeds some by its own wire.
+#[inline(always)]
+fn inputs_after(set: SlotSet, fed: SlotSet, own: Wire, wire: Wire) -> SlotSet
+    ensures { MovesSlots (turned_by own wire) fed set result }
+{
+    if wire.is_same(own) { set.xor(fed) } else { set }
+}
+
+/// The boards whose grant inputs are low, after an edge of the controller's wire.
+#[inline(always)]
+fn granted_after(set: SlotSet, fed: &[SlotSet; 28], wire: Wire) -> SlotSet
+    ensures { MovesSlots (grant_turned_by wire) (set_at fed.now (grant_head (grant_level wire)))
+        set result }
+{
+    match wire {
+        Wire::Bg(level) if level < 4 => set.xor(fed[usize::from(grant_head(level))]),
         _ => set,
     }
 }
@@ -118,12 +140,12 @@ impl BusState {
     ghost use Rattle.vme_bus.specs.States.{IsStateOf, OfHistory};
 
     /// Whether an answer of the slot's board to what is shown serves its interrupter.
-    #[inline]
+    #[inline(always)]
     fn is_serving(&self, slot: u8) -> bool
         ensures { OfHistory self.now (λ _ p h. result ≡ is_serving (board p slot) (shown p h)) }
     {
-        match self.seat(slot) {
-            Some(seat) => match seat.row.interrupter {
+        match self.record(slot) {
+            Some(seat) => match seat.interrupter.interrupter() {
                 Some(interrupter) => serves(interrupter.kind, self.shown()),
                 None => false,
             },
@@ -132,12 +154,12 @@ impl BusState {
     }
 
     /// When the requester of the slot's board gives up the bus; without one no cycle counts.
-    #[inline]
-    fn release(&self, slot: u8) -> Release
+    #[inline(always)]
+    pub(crate) fn release(&self, slot: u8) -> Release
         ensures { OfHistory self.now (λ _ p _. result ≡ release_of (board p slot)) }
     {
-        match self.seat(slot) {
-            Some(seat) => match seat.row.requester {
+        match self.record(slot) {
+            Some(seat) => match seat.requester.requester() {
                 Some(requester) => requester.release,
                 None => Release::Request,
             },
@@ -154,6 +176,13 @@ impl BusState {
     {
         self.last_level = last_level_after(self.last_level, edge);
         self.grants = grants_after(self.grants, edge.wire);
+        self.granted = granted_after(self.granted, &self.layout.granted_by, edge.wire);
+        self.acknowledged = inputs_after(
+            self.acknowledged,
+            self.layout.acknowledged_by[usize::from(ACKNOWLEDGE_HEAD)],
+            Wire::Iack,
+            edge.wire,
+        );
         self.acknowledges = low_after(self.acknowledges, Wire::Iack, ACKNOWLEDGE_HEAD, edge.wire);
         let bus_clear = low_after(self.controls, Wire::Bclr, BUS_CLEAR, edge.wire);
         self.controls = low_after(bus_clear, Wire::Berr, BUS_ERROR, edge.wire);
@@ -168,6 +197,7 @@ impl BusState {
             → IsStateOf version p (edge ∷ h) self.new) }
     {
         let wire = edge.wire;
+        let place = usize::from(slot);
         let (serves, release) = (self.is_serving(slot), self.release(slot));
         self.br = low_after(self.br, Wire::Br, slot, wire);
         self.bbsy = low_after(self.bbsy, Wire::Bbsy, slot, wire);
@@ -178,9 +208,12 @@ impl BusState {
         self.dtack = low_after(self.dtack, Wire::Dtack, slot, wire);
         self.grants = low_after(self.grants, Wire::BgOut, slot, wire);
         self.acknowledges = low_after(self.acknowledges, Wire::IackOut, slot, wire);
+        let granted_by = self.layout.granted_by[place];
+        self.granted = inputs_after(self.granted, granted_by, Wire::BgOut, wire);
+        let acknowledged_by = self.layout.acknowledged_by[place];
+        self.acknowledged = inputs_after(self.acknowledged, acknowledged_by, Wire::IackOut, wire);
         self.served = served_after(self.served, slot, edge, serves);
         self.strobed = strobed_after(self.strobed, slot, edge);
-        let place = usize::from(slot);
         self.cycles[place] = cycles_after(self.cycles[place], release, edge);
         self.shown = shown_after(self.shown, edge);
         self.addressing = addressing_after(self.addressing, slot, edge);

@@ -1,5 +1,5 @@
 //! Sets of slots.
-ghost use Rattle.std.specs.Prelude.{◌≡◌, ◌≢◌, ◌&&◌, ◌||◌, ◌*◌, ◌^◌, ◌%◌, ◌<◌, ℕ, not, false, true, nat_lt};
+ghost use Rattle.std.specs.Prelude.{◌≡◌, ◌≢◌, ◌&&◌, ◌||◌, ◌*◌, ◌^◌, ◌%◌, ◌<◌, ℕ, not, false, true, if◌then◌else◌, nat_lt, MatchOption};
 
 /// A set of slots, a bit for each.
 #[repr(C)]
@@ -9,7 +9,7 @@ pub struct SlotSet {
 }
 
 impl SlotSet {
-    ghost use Rattle.vme_bus.specs.Sets.{has};
+    ghost use Rattle.vme_bus.specs.Sets.{has, HoldsNoneAbove, IsNextAbove};
 
     /// The set that holds no slot.
     pub const NONE: SlotSet = SlotSet { bits: 0 };
@@ -104,6 +104,32 @@ impl SlotSet {
     {
         SlotSet {
             bits: self.bits & !other.bits,
+        }
+    }
+
+    /// The slots that just one of them holds.
+    #[inline(always)]
+    #[tactic(auto, using(crate::proofs::Masks::xor_bits))]
+    pub fn xor(self, other: SlotSet) -> SlotSet
+        ensures { (s : ℕ) → has result s
+            ≡ (if has other s then not (has self s) else has self s) }
+    {
+        SlotSet {
+            bits: self.bits ^ other.bits,
+        }
+    }
+
+    /// The least slot above that one that it holds, if it holds any.
+    #[inline(always)]
+    pub fn next_after(self, slot: u8) -> Option<u8>
+        requires { slot < 32 }
+        ensures { MatchOption result (HoldsNoneAbove self slot) (IsNextAbove self slot) }
+    {
+        let above = self.bits & (!1 << slot);
+        if above == 0 {
+            None
+        } else {
+            Some(above.trailing_zeros() as u8)
         }
     }
 

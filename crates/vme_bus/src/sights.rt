@@ -1,11 +1,11 @@
 //! What a driver sees of a bus.
-ghost use Rattle.std.specs.Prelude.{◌≡◌, ◌<◌, option_map};
+ghost use Rattle.std.specs.Prelude.{◌≡◌, ◌&&◌, ◌<◌, find, is_some, nat_lt, option_map};
 ghost use Rattle.std.specs.Option.{option_copied};
 ghost use Rattle.vme_model.specs.declared.signals.Driver.TheVariants as driver;
 ghost use Rattle.vme_model.specs.declared.signals.Wire.TheVariants as wire;
 ghost use Rattle.vme_model.specs.History.{drive, line, request_line, interrupt_line};
 ghost use Rattle.vme_model.specs.Sets.{bus_levels, irq_levels};
-ghost use Rattle.vme_model.specs.Plan.{board_of};
+ghost use Rattle.vme_model.specs.Plan.{board, board_of, up_to};
 ghost use Rattle.vme_model.specs.Views.{pins};
 ghost use Rattle.vme_model.specs.Deliveries.{delivery};
 ghost use Rattle.vme_arbiter.specs.Local.{controller_of};
@@ -15,12 +15,13 @@ ghost use Rattle.vme_bus.specs.Records.{version_in, cycle_in, seat_of_record};
 use crate::layouts::{ACKNOWLEDGE_HEAD, grant_head};
 use crate::records::{Seat, SeatRecord, kind_in, slot_in, version_in};
 use crate::states::{BUS_CLEAR, BUS_ERROR, BusState};
+use bitflags::Flags;
 use vme_arbiter::{AnyPolicy, Arbiter, Controller};
 use vme_model::{BusLevels, Cycle, Delivery, Driver, Edge, Levels, Pins, Row, Version, Wire};
 use vme_wiring::delivered_by;
 
 impl BusState {
-    ghost use Rattle.vme_bus.specs.States.{OfHistory, OfSeat};
+    ghost use Rattle.vme_bus.specs.States.{OfHistory, OfBoard};
 
     /// The board of a slot, with the places of its inputs.
     #[inline]
@@ -51,6 +52,30 @@ impl BusState {
         }
     }
 
+    /// The least slot with a board above that one.
+    #[inline(always)]
+    pub(crate) fn board_above(&self, slot: u8) -> Option<u8>
+        ensures { OfHistory self.now (λ _ p _. result
+            ≡ find (λ t. nat_lt slot t && is_some (board p t)) (up_to p.slots)) }
+    {
+        if slot < 32 {
+            self.layout.boards.next_after(slot)
+        } else {
+            None
+        }
+    }
+
+    /// The levels that the slot's board handles; none where there is no board.
+    #[inline(always)]
+    pub(crate) fn handler(&self, slot: u8) -> Levels
+        ensures { OfBoard self.now slot (λ _ _ _ r. result ≡ r.handler) }
+    {
+        match self.record(slot) {
+            Some(seat) => seat.handler(),
+            None => Levels::from_bits_retain(0),
+        }
+    }
+
     /// The version of the rules.
     #[inline(always)]
     pub(crate) fn version(&self) -> Version
@@ -68,7 +93,7 @@ impl BusState {
     }
 
     /// The arbiter, with the controller's own wires.
-    #[inline]
+    #[inline(always)]
     pub(crate) fn arbiter(&self) -> Arbiter<AnyPolicy>
         ensures { OfHistory self.now (λ version p h. result
             ≡ (record { kind = p.arbiter }, controller_of p.arbiter version h)) }
@@ -202,12 +227,12 @@ impl BusState {
 
     /// What a board reads on its pins.
     #[inline(always)]
-    fn pins_at(&self, slot: u8, seat: &SeatRecord) -> Pins
-        ensures { OfSeat self.now slot seat.now (λ _ p h _. result ≡ pins p h (driver.Slot slot)) }
+    fn pins_at(&self, slot: u8) -> Pins
+        ensures { OfHistory self.now (λ _ p h. result ≡ pins p h (driver.Slot slot)) }
     {
         let mut pins = self.shared();
-        pins.grant_in = self.grant_in(slot, seat);
-        pins.iack_in = self.iack_in(slot, seat);
+        pins.grant_in = self.grant_in(slot);
+        pins.iack_in = self.iack_in(slot);
         pins
     }
 
@@ -218,10 +243,7 @@ impl BusState {
     {
         match driver {
             Driver::Controller => self.shared(),
-            Driver::Slot(slot) => match self.record(slot) {
-                Some(seat) => self.pins_at(slot, seat),
-                None => self.shared(),
-            },
+            Driver::Slot(slot) => self.pins_at(slot),
         }
     }
 

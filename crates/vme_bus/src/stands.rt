@@ -37,13 +37,7 @@ impl BusState {
     fn is_stop(&self, slot: u8) -> bool
         ensures { OfHistory self.now (λ _ p h. result ≡ is_stop p h slot) }
     {
-        match self.record(slot) {
-            Some(seat) => {
-                let is_granted = self.grant_in(slot, seat);
-                is_granted & !self.grants.has(slot) & !self.bbsy.has(slot)
-            }
-            None => false,
-        }
+        self.granted.except(self.grants).except(self.bbsy).has(slot)
     }
 
     /// The slot at which a grant travels: its input is low, while its board has neither passed the grant on nor taken

@@ -13,7 +13,8 @@ pub(crate) const BUS_CLEAR: u8 = 0;
 /// Where BERR* stands among them.
 pub(crate) const BUS_ERROR: u8 = 1;
 
-/// What the edges so far lead to: of each wire the set of the slots that drive it low, and a few numbers.
+/// What the edges so far lead to: of each wire the set of the slots that drive it low, of each
+/// kind of chain the set of the slots whose input is low, and a few numbers.
 ///
 /// It holds no history and no memory but its own, so that it may be copied and kept; and it holds numbers alone, so that
 /// a program in C may keep it too.
@@ -32,6 +33,10 @@ pub struct BusState {
     pub(crate) grants: SlotSet,
     // those of the acknowledge chain
     pub(crate) acknowledges: SlotSet,
+    // the boards whose grant chain's input is low
+    pub(crate) granted: SlotSet,
+    // those whose acknowledge chain's is
+    pub(crate) acknowledged: SlotSet,
     // the boards whose interrupt request was served
     pub(crate) served: SlotSet,
     // the boards whose cycle had its data strobe
@@ -69,6 +74,8 @@ impl BusState {
             dtack: SlotSet::NONE,
             grants: SlotSet::NONE,
             acknowledges: SlotSet::NONE,
+            granted: SlotSet::NONE,
+            acknowledged: SlotSet::NONE,
             served: SlotSet::NONE,
             strobed: SlotSet::NONE,
             controls: SlotSet::NONE,

@@ -1,24 +1,28 @@
 //! The verdict on an edge, but for the end of the trace.
-ghost use Rattle.std.specs.Prelude.{◌≡◌, ◌&&◌, ◌<◌, true, not, Some, Ok};
+ghost use Rattle.std.specs.Prelude.{◌≡◌, ◌&&◌, ◌<◌, true, false, not, Some, Ok};
 ghost use Rattle.vme_model.specs.declared.signals.Driver.TheVariants.{Slot};
+ghost use Rattle.vme_model.specs.Signals.{is_well_formed};
 ghost use Rattle.vme_model.specs.Plan.{has_driver, grant_chain};
 ghost use Rattle.vme_model.specs.History.{drive, shown, is_past_end};
 ghost use Rattle.vme_model.specs.Readings.{readings};
+ghost use Rattle.vme_model.specs.Rules.{rule};
 ghost use Rattle.vme_model.specs.Settling.{is_unanswerable, settling, settling_guard, is_chain_clear, are_grants_through};
 ghost use Rattle.vme_model.specs.declared.sets.ChainId.TheVariants as chain;
 ghost use Rattle.vme_model.specs.Verdict.{check, settled, verdict_but_full};
-ghost use Rattle.vme_wiring.specs.Asked.{asked, asked_guard, exists};
-ghost use Rattle.vme_model.specs.Rules.{guard};
+ghost use Rattle.vme_wiring.specs.Asked.{asked, exists};
+ghost use Rattle.vme_requester.specs.Local.{is_requesters};
+ghost use Rattle.vme_master.specs.Local.{is_masters};
+ghost use Rattle.vme_interrupter.specs.Local.{is_interrupters};
+ghost use Rattle.vme_bus.specs.Asks.{is_boards};
 
 use crate::layouts::ACKNOWLEDGE_HEAD;
-use crate::records::SeatRecord;
 use crate::states::BusState;
 use vme_model::{ChainId, Cycle, Driver, Edge, Refused, Wire};
 use vme_rules::settlings::{as_settles, berr_settles, bg_fall_settles, bg_rise_settles};
 use vme_rules::{Outcome, allowed};
 
 impl BusState {
-    ghost use Rattle.vme_bus.specs.States.{OfHistory, OfSeat};
+    ghost use Rattle.vme_bus.specs.States.{OfHistory};
 
     /// Whether the slot has a board with the part that drives the wire.
     #[inline(always)]
@@ -53,7 +57,8 @@ impl BusState {
     /// E1: whether the edge is well formed, and there is such a driver.
     #[inline(always)]
     fn exists(&self, edge: Edge) -> bool
-        ensures { OfHistory self.now (λ _ p _. result ≡ exists p edge) }
+        ensures exists { OfHistory self.now (λ _ p _. result ≡ exists p edge) }
+        ensures formed { result ≡ true → is_well_formed edge ≡ true }
     {
         edge.is_well_formed() && self.has_driver(edge.driver, edge.wire)
     }
@@ -61,8 +66,8 @@ impl BusState {
     /// Whether a slot below 22 drives the wire low, or its address group on.
     #[inline(always)]
     pub(crate) fn is_slot_low(&self, slot: u8, wire: Wire) -> bool
-        requires { slot < 22 }
-        ensures { OfHistory self.now (λ _ _ h. result ≡ drive h (Slot slot) wire) }
+        ensures { slot < 22 → OfHistory self.now (λ _ _ h.
+            result ≡ drive h (Slot slot) wire) }
     {
         match wire {
             Wire::Br => self.br.has(slot),
@@ -119,7 +124,7 @@ impl BusState {
     {
         match self.shown() {
             Some(Cycle::Acknowledge(_)) => self.is_acknowledge_past(),
-            Some(Cycle::Access(slot)) => self.seat(slot).is_none(),
+            Some(Cycle::Access(slot)) => !self.layout.boards.has(slot),
             None => false,
         }
     }
@@ -147,31 +152,83 @@ impl BusState {
         }
     }
 
-    /// E2 and E3 of an edge of a slot's board.
+    /// E2 and E3 of an edge of the slot's board, by the rule that names it and what its guard answers.
     #[inline(always)]
-    fn ask_board(&self, slot: u8, seat: &SeatRecord, edge: Edge) -> Result<(), Refused>
+    fn asked_by(&self, slot: u8, edge: Edge, ruled: (u8, bool)) -> Result<(), Refused>
         requires { slot < 22 }
-        ensures { OfSeat self.now slot seat.now (λ version p h _. edge.driver ≡ Slot slot
-            → exists p edge ≡ true → result ≡ asked version p h edge) }
+        ensures { OfHistory self.now (λ version p h. edge.driver ≡ Slot slot
+            → ruled.0 ≡ (rule version (readings p h (Slot slot)) edge.wire edge.fall edge.value).0
+            → ruled.1 ≡ (rule version (readings p h (Slot slot)) edge.wire edge.fall edge.value).1
+            → result ≡ asked version p h edge) }
     {
         if self.is_slot_low(slot, edge.wire) == edge.fall {
             return Err(Refused::AlreadyThere);
         }
-        allowed(self.board_rule(slot, seat, edge.wire, edge.fall, edge.value))
+        allowed(ruled)
     }
 
-    /// E2 and E3.
+    /// E2 and E3 of an edge of the controller.
     #[inline(always)]
-    fn ask(&self, edge: Edge) -> Result<(), Refused>
+    fn ask_controller(&self, edge: Edge) -> Result<(), Refused>
+        requires part { is_boards edge.wire ≡ false }
+        requires formed { is_well_formed edge ≡ true }
         ensures { OfHistory self.now (λ version p h. exists p edge ≡ true
             → result ≡ asked version p h edge) }
     {
         match edge.driver {
             Driver::Controller => self.arbiter().may(edge, self.shared()),
-            Driver::Slot(slot) => match self.record(slot) {
-                Some(seat) => self.ask_board(slot, seat, edge),
-                None => Err(Refused::NoSuchDriver),
-            },
+            Driver::Slot(_) => Err(Refused::NoSuchDriver),
+        }
+    }
+
+    /// E2 and E3 of an edge of a board's requester.
+    #[inline(always)]
+    fn ask_requester(&self, edge: Edge) -> Result<(), Refused>
+        requires part { is_requesters edge.wire ≡ true }
+        requires formed { is_well_formed edge ≡ true }
+        ensures { OfHistory self.now (λ version p h. exists p edge ≡ true
+            → result ≡ asked version p h edge) }
+    {
+        match edge.driver {
+            Driver::Controller => Err(Refused::NoSuchDriver),
+            Driver::Slot(slot) => {
+                let ruled = self.requester_rule(slot, edge.wire, edge.fall);
+                self.asked_by(slot, edge, ruled)
+            }
+        }
+    }
+
+    /// E2 and E3 of an edge of a board's master.
+    #[inline(always)]
+    fn ask_master(&self, edge: Edge) -> Result<(), Refused>
+        requires part { is_masters edge.wire ≡ true }
+        requires formed { is_well_formed edge ≡ true }
+        ensures { OfHistory self.now (λ version p h. exists p edge ≡ true
+            → result ≡ asked version p h edge) }
+    {
+        match edge.driver {
+            Driver::Controller => Err(Refused::NoSuchDriver),
+            Driver::Slot(slot) => {
+                let ruled = self.master_rule(slot, edge.wire, edge.fall, edge.value);
+                self.asked_by(slot, edge, ruled)
+            }
+        }
+    }
+
+    /// E2 and E3 of an edge of a board's interrupter, or of its answer.
+    #[inline(always)]
+    fn ask_interrupter(&self, edge: Edge) -> Result<(), Refused>
+        requires part { is_interrupters edge.wire ≡ true }
+        requires formed { is_well_formed edge ≡ true }
+        ensures { OfHistory self.now (λ version p h. exists p edge ≡ true
+            → result ≡ asked version p h edge) }
+    {
+        match edge.driver {
+            Driver::Controller => Err(Refused::NoSuchDriver),
+            Driver::Slot(slot) => {
+                let ruled = self.interrupter_rule(slot, edge.wire, edge.fall);
+                self.asked_by(slot, edge, ruled)
+            }
         }
     }
 
@@ -190,17 +247,151 @@ impl BusState {
         }
     }
 
-    /// The first of E1 to E4 that applies to an edge.
+    /// The first of E1 to E4 that applies to an edge of the controller.
     #[inline(always)]
-    pub fn judge(&self, edge: Edge) -> Result<(), Refused>
+    pub(crate) fn judge_controller(&self, edge: Edge) -> Result<(), Refused>
+        requires { is_boards edge.wire ≡ false }
         ensures { OfHistory self.now (λ version p h. result ≡ verdict_but_full version p h edge) }
     {
         if !self.exists(edge) {
             return Err(Refused::NoSuchDriver);
         }
-        match self.ask(edge) {
+        match self.ask_controller(edge) {
             Ok(()) => self.settle(edge),
             Err(refused) => Err(refused),
+        }
+    }
+
+    /// The first of E1 to E4 that applies to an edge of a board's requester.
+    #[inline(always)]
+    pub(crate) fn judge_requester(&self, edge: Edge) -> Result<(), Refused>
+        requires { is_requesters edge.wire ≡ true }
+        ensures { OfHistory self.now (λ version p h. result ≡ verdict_but_full version p h edge) }
+    {
+        if !self.exists(edge) {
+            return Err(Refused::NoSuchDriver);
+        }
+        match self.ask_requester(edge) {
+            Ok(()) => self.settle(edge),
+            Err(refused) => Err(refused),
+        }
+    }
+
+    /// The first of E1 to E4 that applies to an edge of a board's master.
+    #[inline(always)]
+    pub(crate) fn judge_master(&self, edge: Edge) -> Result<(), Refused>
+        requires { is_masters edge.wire ≡ true }
+        ensures { OfHistory self.now (λ version p h. result ≡ verdict_but_full version p h edge) }
+    {
+        if !self.exists(edge) {
+            return Err(Refused::NoSuchDriver);
+        }
+        match self.ask_master(edge) {
+            Ok(()) => self.settle(edge),
+            Err(refused) => Err(refused),
+        }
+    }
+
+    /// The first of E1 to E4 that applies to an edge of a board's interrupter, or of its answer.
+    #[inline(always)]
+    pub(crate) fn judge_interrupter(&self, edge: Edge) -> Result<(), Refused>
+        requires { is_interrupters edge.wire ≡ true }
+        ensures { OfHistory self.now (λ version p h. result ≡ verdict_but_full version p h edge) }
+    {
+        if !self.exists(edge) {
+            return Err(Refused::NoSuchDriver);
+        }
+        match self.ask_interrupter(edge) {
+            Ok(()) => self.settle(edge),
+            Err(refused) => Err(refused),
+        }
+    }
+
+    /// The first of E1 to E4 that applies to an edge.
+    #[inline(always)]
+    pub fn judge(&self, edge: Edge) -> Result<(), Refused>
+        ensures { OfHistory self.now (λ version p h. result ≡ verdict_but_full version p h edge) }
+    {
+        match edge.wire {
+            Wire::Br | Wire::BgOut | Wire::Bbsy => self.judge_requester(edge),
+            Wire::Addr | Wire::AddressStrobe | Wire::DataStrobe => self.judge_master(edge),
+            Wire::Irq | Wire::IackOut | Wire::Dtack => self.judge_interrupter(edge),
+            Wire::Bg(_) | Wire::Bclr | Wire::Iack | Wire::Berr => self.judge_controller(edge),
+        }
+    }
+
+    /// The same of an edge of the controller, whose wire is told apart, so that a call with a constant
+    /// is small.
+    #[inline]
+    fn judge_controller_on(&self, edge: Edge, wire: Wire) -> Result<(), Refused>
+        requires wire { wire ≡ edge.wire }
+        requires part { is_boards wire ≡ false }
+        ensures { OfHistory self.now (λ version p h. result ≡ verdict_but_full version p h edge) }
+    {
+        let mut edge = edge;
+        edge.wire = wire;
+        self.judge_controller(edge)
+    }
+
+    /// The same of an edge of a board's requester, whose wire is told apart, so that a call with a constant
+    /// is small.
+    #[inline]
+    fn judge_requester_on(&self, edge: Edge, wire: Wire) -> Result<(), Refused>
+        requires wire { wire ≡ edge.wire }
+        requires part { is_requesters wire ≡ true }
+        ensures { OfHistory self.now (λ version p h. result ≡ verdict_but_full version p h edge) }
+    {
+        let mut edge = edge;
+        edge.wire = wire;
+        self.judge_requester(edge)
+    }
+
+    /// The same of an edge of a board's master, whose wire is told apart, so that a call with a constant
+    /// is small.
+    #[inline]
+    fn judge_master_on(&self, edge: Edge, wire: Wire) -> Result<(), Refused>
+        requires wire { wire ≡ edge.wire }
+        requires part { is_masters wire ≡ true }
+        ensures { OfHistory self.now (λ version p h. result ≡ verdict_but_full version p h edge) }
+    {
+        let mut edge = edge;
+        edge.wire = wire;
+        self.judge_master(edge)
+    }
+
+    /// The same of an edge of a board's interrupter, or of its answer, whose wire is told apart, so that a call with a constant
+    /// is small.
+    #[inline]
+    fn judge_interrupter_on(&self, edge: Edge, wire: Wire) -> Result<(), Refused>
+        requires wire { wire ≡ edge.wire }
+        requires part { is_interrupters wire ≡ true }
+        ensures { OfHistory self.now (λ version p h. result ≡ verdict_but_full version p h edge) }
+    {
+        let mut edge = edge;
+        edge.wire = wire;
+        self.judge_interrupter(edge)
+    }
+
+    /// The same as `judge`, in small calls: for who judges edges of wires that it names, one after
+    /// another.
+    #[inline(always)]
+    pub(crate) fn judge_by_wire(&self, edge: Edge) -> Result<(), Refused>
+        ensures { OfHistory self.now (λ version p h. result ≡ verdict_but_full version p h edge) }
+    {
+        match edge.wire {
+            Wire::Bg(level) => self.judge_controller_on(edge, Wire::Bg(level)),
+            Wire::Bclr => self.judge_controller_on(edge, Wire::Bclr),
+            Wire::Iack => self.judge_controller_on(edge, Wire::Iack),
+            Wire::Berr => self.judge_controller_on(edge, Wire::Berr),
+            Wire::Br => self.judge_requester_on(edge, Wire::Br),
+            Wire::BgOut => self.judge_requester_on(edge, Wire::BgOut),
+            Wire::Bbsy => self.judge_requester_on(edge, Wire::Bbsy),
+            Wire::Addr => self.judge_master_on(edge, Wire::Addr),
+            Wire::AddressStrobe => self.judge_master_on(edge, Wire::AddressStrobe),
+            Wire::DataStrobe => self.judge_master_on(edge, Wire::DataStrobe),
+            Wire::Irq => self.judge_interrupter_on(edge, Wire::Irq),
+            Wire::IackOut => self.judge_interrupter_on(edge, Wire::IackOut),
+            Wire::Dtack => self.judge_interrupter_on(edge, Wire::Dtack),
         }
     }
 }

@@ -9,7 +9,7 @@ use Rattle.vme_model.specs.Verdict.{State}
 use Rattle.vme_model.specs.Text.{edge_lines}
 use Rattle.vme_trace.specs.Writing.{AppendsFront}
 use Rattle.vme_draws.specs.Walks.{Walk, next_edge, drawn, with_edge, walked}
-use Rattle.vme_events.specs.declared.goals.Goal.{Goal}
+use Rattle.vme_goals.specs.declared.goals.Goal.{Goal}
 use Rattle.vme_engines.specs.declared.seeks.Ending.{Ending}
 use Rattle.vme_engines.specs.Seeking.{Ended, missed_by, ends_at, drawn_on, turned, sought}
 use Rattle.vme_engines.specs.Drawing.{ended_lines, missed_of}

@@ -12,7 +12,7 @@ use Rattle.vme_model.specs.Report.{trace_limit}
 use Rattle.vme_scenario.specs.Format.{scenario}
 use Rattle.vme_draws.specs.Walks.{at_start}
 use Rattle.vme_draws.proofs.Walked.{IsOn}
-use Rattle.vme_events.specs.declared.goals.Goal.{Goal}
+use Rattle.vme_goals.specs.declared.goals.Goal.{Goal}
 use Rattle.vme_engines.specs.declared.Status.{Status}
 use Rattle.vme_engines.specs.declared.seeks.Ending.{Ending}
 use Rattle.vme_engines.specs.declared.seeks.Ending.TheVariants.{Over, Came, Missed}

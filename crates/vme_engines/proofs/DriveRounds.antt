@@ -91,24 +91,18 @@ round_when t b c e = rw e refl
 round_else : (t : Bool) (b c : State) → t ≡ false → (if t then b else c) ≡ c
 round_else t b c e = rw e refl
 
-module _ (r n left : ℕ) (b next : State) (all : List Driver) (are : all ≡ drivers b.plan) (is : next ≡ turns r n b all) where
-  here : next ≡ turns r n b (drivers b.plan)
-  here = is ∙ ap (turns r n b) are
-
+module _ (r n left : ℕ) (b next : State) (is : next ≡ turns r n b (drivers b.plan)) where
   pub last_round : length next.history ≡ length b.history → next ≡ rounds_from (suc left) r n b
   last_round e =
-      let same : next ≡ b = same_length b next (subst (IsLater b) (sym is) (later r n b all)) e in
-      let none : length (turns r n b (drivers b.plan)).history ≡ length b.history = ap (λ s. length s.history) (sym here) ∙ e in
+      let same : next ≡ b = same_length b next (subst (IsLater b) (sym is) (later r n b (drivers b.plan))) e in
+      let none : length (turns r n b (drivers b.plan)).history ≡ length b.history = ap (λ s. length s.history) (sym is) ∙ e in
       same ∙ sym (round_when (length (turns r n b (drivers b.plan)).history == length b.history) b _ (eq-eqb _ _ none))
 
   pub next_round : length next.history ≢ length b.history → rounds_from (suc left) r n b ≡ rounds_from left (r + 1) n next
   next_round ne =
-      let some : length (turns r n b (drivers b.plan)).history ≢ length b.history = λ e. ne (ap (λ s. length s.history) here ∙ e) in
+      let some : length (turns r n b (drivers b.plan)).history ≢ length b.history = λ e. ne (ap (λ s. length s.history) is ∙ e) in
       round_else (length (turns r n b (drivers b.plan)).history == length b.history) b _ (ne_eqb _ _ some)
-      ∙ ap (rounds_from left (r + 1) n) (sym here)
-
-  pub plan_stays : next.plan ≡ b.plan
-  plan_stays = ap (λ s. s.plan) is ∙ (later r n b all).plan
+      ∙ ap (rounds_from left (r + 1) n) (sym is)
 
 later_round : (t : Bool) (b c d : State) → IsLater b c → IsLater c d → IsLater b (if t then b else d)
 later_round true b c d f g = same_later b

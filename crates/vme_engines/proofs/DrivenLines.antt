@@ -1,12 +1,12 @@
 -- The lines of a drive, written as its edges are made.
-use Rattle.std.proofs.Common.{◌≡◌, ℕ, zero, suc, ◌+◌, ◌<◌, ◌%◌, get_or, List, [], ◌∷◌, ◌++◌, length, Bool, true, false, drop, Option, Some, Result, Ok, Err, OnOk, OnErr, IfErr, refl, sym, ◌∙◌, ap, subst, slice_get, ◌==◌, if◌then◌else◌, ◌≢◌, ne_eqb, eqb-true}
+use Rattle.std.proofs.Common.{◌≡◌, ℕ, zero, suc, ◌+◌, ◌%◌, List, [], ◌∷◌, ◌++◌, length, Bool, true, false, Option, Some, Result, Ok, Err, OnOk, OnErr, IfErr, refl, sym, ◌∙◌, ap, subst, slice_get, ◌==◌, if◌then◌else◌, ◌≢◌, ne_eqb, eqb-true}
 use Rattle.std.specs.Option.{option_map_or}
-use Rattle.std.proofs.lemmas.List.{drop_more}
 use Rattle.std.specs.Io.KnownBytes.{Appends, Keeps}
 use Rattle.std.proofs.KnownBytes.{Appends-trans, Appends-kept}
 use Rattle.vme_model.specs.declared.signals.Driver.{Driver}
 use Rattle.vme_model.specs.declared.signals.Edge.{Edge}
-use Rattle.vme_model.specs.Plan.{drivers}
+use Rattle.vme_model.specs.declared.signals.Driver.TheVariants.{Controller}
+use Rattle.vme_model.specs.Plan.{Plan, drivers}
 use Rattle.vme_model.specs.History.{in_order}
 use Rattle.vme_model.specs.Verdict.{State, made}
 use Rattle.vme_model.specs.Offers.{offered, turn, turns, rounds_from, rounds}
@@ -15,16 +15,17 @@ use Rattle.vme_trace.specs.declared.Fault.{Fault}
 use Rattle.vme_trace.specs.declared.Fault.TheVariants.{Write}
 use Rattle.vme_trace.specs.Writing.{AppendsFront, edge_line}
 use Rattle.vme_engines.specs.Texts.{HandsOn, IsListed, KeepsListed, ListsOn, lines_made, trace_made}
+use Rattle.vme_engines.specs.Driving.{boards}
 use Rattle.vme_engines.proofs.WrittenLines.{front_of_more, front_behind}
 use Rattle.vme_engines.proofs.DriveRounds.{later, same_length, rounds_later}
 use Rattle.vme_engines.proofs.ListedLines.{IsBefore, itself, before_both, before_made, before_if, front_later, listed_edge, listed_part, lines_cut, lines_written, lines_part}
 
 -- ---- edges are only added
 
-before_turn : (r n : ℕ) (b : State) (d : Driver) → IsBefore b (turn r n b d)
+pub before_turn : (r n : ℕ) (b : State) (d : Driver) → IsBefore b (turn r n b d)
 before_turn r n b d = before_if (length b.history == n) b _ (before_made b (slice_get (offered b d) (r % length (offered b d))))
 
-before_turns : (r n : ℕ) (b : State) (ds : List Driver) → IsBefore b (turns r n b ds)
+pub before_turns : (r n : ℕ) (b : State) (ds : List Driver) → IsBefore b (turns r n b ds)
 before_turns r n b [] = itself b
 before_turns r n b (d ∷ ds) = before_both b (turn r n b d) (turns r n (turn r n b d) ds) (before_turn r n b d) (before_turns r n (turn r n b d) ds)
 
@@ -56,16 +57,24 @@ module _ (r n : ℕ) (b now : State) (d : Driver) (old new : Option (List ℕ)) 
 
 -- ---- turns and rounds
 
-module _ (r n : ℕ) (b now : State) (ds : List Driver) (i : ℕ) (d : Driver) (near : i < length ds) (rest : turns r n b ds ≡ turns r n now (drop i ds)) where
-  turns_more : turns r n b ds ≡ turns r n (turn r n now (get_or ds i d)) (drop (i + 1) ds)
-  turns_more = rest ∙ ap (turns r n now) (drop_more ds i d near)
+-- what is made and listed, and more behind it
+pub listed_both : {A : Type 0} (b b₁ b₂ end all : State) (held held₁ held₂ : List ℕ) (old mid new : Option (List ℕ)) → KeepsListed b held old mid b₁ held₁ → end ≡ all → (result : Result A Fault)
+    → ListsOn b₁ held₁ mid new end b₂ held₂ result → ListsOn b held old new all b₂ held₂ result
+listed_both b b₁ b₂ end all held held₁ held₂ old mid new keeps same (Ok a) w = (w.0 ∙ same, λ first listed. w.1 first (keeps first listed))
+listed_both b b₁ b₂ end all held held₁ held₂ old mid new keeps same (Err f) w =
+    (w.0, λ first listed. subst (λ (s : State). AppendsFront first new (lines_made s)) same (w.1 first (keeps first listed)))
 
-  -- the lines up to a turn that was cut off
-  pub turns_front : (first new : Option (List ℕ)) → AppendsFront first new (lines_made (turn r n now (get_or ds i d))) → AppendsFront first new (lines_made (turns r n b ds))
-  turns_front first new w =
-      let next = turn r n now (get_or ds i d) in
-      subst (λ (s : State). AppendsFront first new (lines_made s)) (sym turns_more)
-      (front_later first new next (turns r n next (drop (i + 1) ds)) (before_turns r n next (drop (i + 1) ds)) w)
+module _ (r n : ℕ) (b : State) where
+  -- the controller's turn, and then those of the boards
+  pub controller_first : (now : State) → now ≡ turn r n b Controller → turns r n now (boards now.plan) ≡ turns r n b (drivers b.plan)
+  controller_first now is =
+      let plan : now.plan ≡ b.plan = ap (λ (s : State). s.plan) is ∙ (later r n b (Controller ∷ [])).plan in
+      ap (λ (p : Plan). turns r n now (boards p)) plan ∙ ap (λ (s : State). turns r n s (boards b.plan)) is
+
+  -- the lines up to the controller's turn
+  pub controller_front : (first new : Option (List ℕ)) → AppendsFront first new (lines_made (turn r n b Controller)) → AppendsFront first new (lines_made (turns r n b (drivers b.plan)))
+  controller_front first new w =
+      front_later first new (turn r n b Controller) (turns r n (turn r n b Controller) (boards b.plan)) (before_turns r n (turn r n b Controller) (boards b.plan)) w
 
 before_round_by : (t : Bool) (left r n : ℕ) (b : State) → (length (turns r n b (drivers b.plan)).history == length b.history) ≡ t
     → IsBefore (turns r n b (drivers b.plan)) (if t then b else rounds_from left (r + 1) n (turns r n b (drivers b.plan)))
@@ -79,11 +88,11 @@ before_round : (left r n : ℕ) (b : State) → IsBefore (turns r n b (drivers b
 before_round left r n b = before_round_by (length (turns r n b (drivers b.plan)).history == length b.history) left r n b refl
 
 -- the lines up to a round that was cut off
-pub rounds_front : (left r n : ℕ) (b end : State) (all : List Driver) → all ≡ drivers b.plan → end ≡ rounds_from (suc left) r n b → (first new : Option (List ℕ))
-    → AppendsFront first new (lines_made (turns r n b all)) → AppendsFront first new (lines_made end)
-rounds_front left r n b end all are is first new w =
+pub rounds_front : (left r n : ℕ) (b end : State) → end ≡ rounds_from (suc left) r n b → (first new : Option (List ℕ))
+    → AppendsFront first new (lines_made (turns r n b (drivers b.plan))) → AppendsFront first new (lines_made end)
+rounds_front left r n b end is first new w =
     subst (λ (s : State). AppendsFront first new (lines_made s)) (sym is)
-    (front_later first new (turns r n b (drivers b.plan)) (rounds_from (suc left) r n b) (before_round left r n b) (subst (λ (ds : List Driver). AppendsFront first new (lines_made (turns r n b ds))) are w))
+    (front_later first new (turns r n b (drivers b.plan)) (rounds_from (suc left) r n b) (before_round left r n b) w)
 
 -- ---- the trace
 

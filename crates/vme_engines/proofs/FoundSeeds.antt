@@ -6,7 +6,7 @@ use Rattle.std.proofs.KnownBytes.{Keeps-refl}
 use Rattle.vme_model.specs.declared.signals.Version.{Version}
 use Rattle.vme_model.specs.Plan.{Plan}
 use Rattle.vme_scenario.specs.Format.{scenario}
-use Rattle.vme_events.specs.declared.goals.Goal.{Goal}
+use Rattle.vme_goals.specs.declared.goals.Goal.{Goal}
 use Rattle.vme_trace.specs.declared.Fault.TheVariants.{Write}
 use Rattle.vme_engines.specs.declared.Status.{Status}
 use Rattle.vme_engines.specs.declared.Status.TheVariants.{Done, Limit}

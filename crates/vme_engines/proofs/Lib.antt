@@ -42,6 +42,8 @@ pub mod DriveRounds
 pub mod ListedLines
 -- the lines of a drive, written as its edges are made: `Driving::write`
 pub mod DrivenLines
+-- the turns of the boards, past those that may not move: `Driving::take_slots`
+pub mod SlotsInTurn
 -- the lines of a walk, written as its edges are made: `seeks::seek`, `draws::take`
 pub mod DrawnLines
 -- a walk that seeks a goal, turn by turn: src/seeks.rt, `draws::drive_drawn`

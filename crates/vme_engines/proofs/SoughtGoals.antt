@@ -15,11 +15,11 @@ use Rattle.vme_model.proofs.AllowedEdges.{checked}
 use Rattle.vme_model.proofs.Bools.{and_left}
 use Rattle.vme_draws.specs.Walks.{Walk, next_edge, drawn, with_edge}
 use Rattle.vme_draws.proofs.Walked.{IsOn, stays_on}
-use Rattle.vme_events.specs.declared.goals.Goal.{Goal}
-use Rattle.vme_events.specs.declared.goals.Goal.TheVariants as goal
-use Rattle.vme_events.specs.declared.misses.Miss.{Miss}
-use Rattle.vme_events.specs.declared.misses.Miss.TheVariants as miss
-use Rattle.vme_events.specs.declared.events.Event.{Event}
+use Rattle.vme_goals.specs.declared.goals.Goal.{Goal}
+use Rattle.vme_goals.specs.declared.goals.Goal.TheVariants as goal
+use Rattle.vme_goals.specs.declared.misses.Miss.{Miss}
+use Rattle.vme_goals.specs.declared.misses.Miss.TheVariants as miss
+use Rattle.vme_goals.specs.declared.events.Event.{Event}
 use Rattle.vme_events.specs.Events.{comes}
 use Rattle.vme_events.specs.Ordered.{OfOrdered}
 use Rattle.vme_events.specs.Places.{by_place}

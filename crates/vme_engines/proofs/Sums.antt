@@ -17,7 +17,7 @@ use Rattle.vme_reasons.specs.Traced.{OfTrace}
 use Rattle.vme_trace.specs.declared.Fault.{Fault}
 use Rattle.vme_trace.specs.Reading as trace
 use Rattle.vme_trace.specs.Writing.{AppendsFront}
-use Rattle.vme_events.specs.declared.events.Event.{Event}
+use Rattle.vme_goals.specs.declared.events.Event.{Event}
 use Rattle.vme_events.specs.Events.{events_of}
 use Rattle.vme_events.specs.Ordered.{OfOrdered}
 use Rattle.vme_events.proofs.Places.{numbers_below}

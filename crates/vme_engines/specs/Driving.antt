@@ -1,9 +1,11 @@
 -- What a drive writes and answers.
-use Rattle.std.specs.Prelude.{◌≡◌, ◌==◌, ℕ, List, length, Option, Ok, Err, if◌then◌else◌}
+use Rattle.std.specs.Prelude.{◌≡◌, ◌==◌, ℕ, List, length, map, filter, is_some, Option, Ok, Err, if◌then◌else◌}
 use Rattle.std.specs.Io.KnownBytes.{Appends}
 use Rattle.vme_model.specs.declared.signals.Version.{Version}
+use Rattle.vme_model.specs.declared.signals.Driver.{Driver}
+use Rattle.vme_model.specs.declared.signals.Driver.TheVariants.{Slot}
 use Rattle.vme_model.specs.declared.signals.Edge.{Edge}
-use Rattle.vme_model.specs.Plan.{Plan}
+use Rattle.vme_model.specs.Plan.{Plan, board, up_to}
 use Rattle.vme_model.specs.History.{in_order}
 use Rattle.vme_model.specs.Verdict.{IsLegal}
 use Rattle.vme_model.specs.Safe.{IsSafe}
@@ -16,6 +18,10 @@ use Rattle.vme_engines.specs.declared.Status.TheVariants.{Done, Limit}
 use Rattle.vme_engines.specs.declared.EngineFault.TheVariants as fault
 use Rattle.vme_engines.specs.Outcomes.{Answer, bench}
 use Rattle.vme_engines.specs.Checking.{IsLegalTrace}
+
+-- the drivers but for the controller: each board by slot
+abbrev pub boards : Plan → List Driver
+boards p = map (λ s. Slot s) (filter (λ s. is_some (board p s)) (up_to p.slots))
 
 -- the edges that the drivers of a plan make in turn, at most n of them, the newest first
 abbrev pub driven : Plan → Version → ℕ → List Edge

@@ -1,34 +1,49 @@
 //! The numbers of verdict lines, counted up in decimal.
-ghost use Rattle.std.specs.Prelude.{◌≡◌, ◌+◌, ◌<◌, ◌≤◌, ◌^◌, ◌++◌, length, decimal};
+ghost use Rattle.std.specs.Prelude.{◌≡◌, ◌+◌, ◌%◌, ◌<◌, ◌≤◌, ◌^◌, ◌++◌, ◌∷◌, [], decimal, drop, length};
+ghost use Rattle.vme_engines.specs.Counting.{tens_text};
 
 use itoa::write_digits;
 use std::marker::Model;
 use vme_text::Text;
 
-/// Where the digits end.
+/// Where the digits of the tens end.
 const END: usize = 20;
 
 /// How many bytes of a number's row are copied at once.
 const ROW: usize = 24;
 
-/// The number of an edge, below 2^64, kept in decimal before bytes that do not matter, so that its
-/// digits can be copied as a row of fixed length.
+/// The number of an edge, below 2^64, kept in decimal. The digits of all its tens, none of 0, stand
+/// before bytes that do not matter, so that they can be copied as a row of fixed length. The last
+/// digit stands apart, since a row is slow to read just after one byte of it was stored.
 #[derive(Drop)]
 pub(crate) struct Count {
-    n: u64,
+    tens: u64,
+    last: u8,
     first: usize,
     line: [u8; 44],
 }
 
 impl Model for Count {
-    ghost use Rattle.std.specs.Prelude.{ℕ};
+    ghost use Rattle.std.specs.Prelude.{ℕ, ◌+◌, ◌-◌, ◌*◌};
     ghost use Rattle.vme_engines.specs.Counting.{IsSpelled};
 
     ghost Value = { ℕ };
 
-    ghost view = { λ c. c.n };
+    ghost view = { λ c. 10 * c.tens + (c.last - 48) };
 
-    ghost invariant = { λ c. IsSpelled c.n c.first c.line };
+    ghost invariant = { λ c. IsSpelled c.tens c.last c.first c.line };
+}
+
+/// Writes the digits of a number, none of 0, up to [`END`], and answers where they begin.
+fn spell(n: u64, line: &mut [u8; 44]) -> usize
+    ensures ends { result + length (tens_text n) ≡ 20 }
+    ensures is { drop result line.new ≡ tens_text n ++ drop 20 line.old }
+{
+    if n == 0 {
+        END
+    } else {
+        write_digits(n, line, END)
+    }
 }
 
 impl Count {
@@ -37,8 +52,13 @@ impl Count {
         ensures { result ≡ n }
     {
         let mut line = *b"00000000000000000000........................";
-        let first = write_digits(n, &mut line, END);
-        Count { n, first, line }
+        let first = spell(n / 10, &mut line);
+        Count {
+            tens: n / 10,
+            last: b'0' + (n % 10) as u8,
+            first,
+            line,
+        }
     }
 
     /// Counts on by one. Nine times in ten only the last digit changes.
@@ -47,21 +67,30 @@ impl Count {
         requires { self.old + 1 < 2 ^ 64 }
         ensures { self.new ≡ self.old + 1 }
     {
-        self.n += 1;
-        if self.line[END - 1] < b'9' {
-            self.line[END - 1] += 1;
+        if self.last < b'9' {
+            self.last += 1;
         } else {
-            self.first = write_digits(self.n, &mut self.line, END);
+            self.last = b'0';
+            self.tens += 1;
+            self.first = spell(self.tens, &mut self.line);
         }
     }
 
-    /// Appends the number in decimal: at most 20 bytes.
+    /// Appends the number in decimal but for its last digit: at most 19 bytes.
     #[inline(always)]
-    pub(crate) fn push_digits(&self, text: &mut Text)
+    pub(crate) fn push_tens(&self, text: &mut Text)
         requires { length text.old + 24 ≤ 8192 }
-        ensures text { text.new ≡ text.old ++ decimal self.now }
-        ensures short { length text.new ≤ length text.old + 20 }
+        ensures text { text.new ++ ((48 + self.now % 10) ∷ []) ≡ text.old ++ decimal self.now }
+        ensures short { length text.new ≤ length text.old + 19 }
     {
         text.append::<ROW>(&self.line[self.first..], END - self.first);
+    }
+
+    /// The last digit, as it is spelled.
+    #[inline(always)]
+    pub(crate) fn last_digit(&self) -> u8
+        ensures { result ≡ 48 + self.now % 10 }
+    {
+        self.last
     }
 }

@@ -17,7 +17,7 @@ use crate::{EngineFault, Status};
 use std::alloc::Global;
 use std::io::Write;
 use vme_draws::Walk;
-use vme_events::Goal;
+use vme_goals::Goal;
 use vme_model::Version;
 use vme_text::Text;
 use vme_trace::{Fault, flush, header_line, line_of, put};

@@ -12,7 +12,7 @@ ghost use Rattle.vme_trace.specs.Writing.{AppendsFront, edge_line};
 ghost use Rattle.vme_engines.specs.Texts.{HandsOn, ListsOn, trace_made};
 ghost use Rattle.vme_engines.specs.Outcomes.{Lent};
 ghost use Rattle.vme_engines.specs.declared.Status.TheVariants.{Done, Limit};
-ghost use Rattle.vme_engines.specs.Driving.{Drives, DrivesSafely};
+ghost use Rattle.vme_engines.specs.Driving.{boards, Drives, DrivesSafely};
 
 use crate::edges::push_edge;
 use crate::lines::{hand_on, make_room};
@@ -51,17 +51,6 @@ impl Driving {
         }
     }
 
-    /// Whether the driver may have an offer.
-    #[inline(always)]
-    fn may_move(&self, driver: Driver) -> bool
-        ensures { result ≡ false → offered self.now.bus driver ≡ [] }
-    {
-        match driver {
-            Driver::Controller => true,
-            Driver::Slot(slot) => self.movers.has(slot),
-        }
-    }
-
     /// A driver's turn: it makes an offer, unless there is none or enough edges were made.
     fn take_turn<W: Write>(
         &mut self,
@@ -76,9 +65,6 @@ impl Driving {
         if self.bus.len() == edges {
             return Ok(());
         }
-        if !self.may_move(driver) {
-            return Ok(());
-        }
         match self.bus.make_offer(driver, round) {
             Some(edge) => {
                 self.movers = self.bus.movers();
@@ -88,37 +74,39 @@ impl Driving {
         }
     }
 
-    /// A turn of each driver.
-    fn take_turns<W: Write>(
-        &mut self,
-        round: u32,
-        edges: u32,
-        drivers: &[Driver],
-        out: &mut W,
-    ) -> Result<(), Fault>
+    /// A turn of each board, by slot. Those that may not move are passed over: they have no offer.
+    fn take_slots<W: Write>(&mut self, round: u32, edges: u32, out: &mut W) -> Result<(), Fault>
         ensures { ListsOn self.old.bus self.old.text (W.contents out.old) (W.contents out.new)
-            (turns round edges self.old.bus drivers.now) self.new.bus self.new.text result }
+            (turns round edges self.old.bus (boards self.old.bus.plan))
+            self.new.bus self.new.text result }
     {
-        for driver in drivers {
-            self.take_turn(round, edges, *driver, out)?;
+        self.bus.laws();
+        let mut last = 0;
+        while let Some(slot) = self.movers.next_after(last) {
+            self.take_turn(round, edges, Driver::Slot(slot), out)?;
+            last = slot;
         }
         Ok(())
     }
 
+    /// A turn of each driver.
+    fn take_turns<W: Write>(&mut self, round: u32, edges: u32, out: &mut W) -> Result<(), Fault>
+        ensures { ListsOn self.old.bus self.old.text (W.contents out.old) (W.contents out.new)
+            (turns round edges self.old.bus (drivers self.old.bus.plan))
+            self.new.bus self.new.text result }
+    {
+        self.take_turn(round, edges, Driver::Controller, out)?;
+        self.take_slots(round, edges, out)
+    }
+
     /// Rounds, until enough edges were made or a round makes none.
-    fn take_rounds<W: Write>(
-        &mut self,
-        edges: u32,
-        all: &[Driver],
-        out: &mut W,
-    ) -> Result<(), Fault>
-        requires { all.now ≡ drivers self.old.bus.plan }
+    fn take_rounds<W: Write>(&mut self, edges: u32, out: &mut W) -> Result<(), Fault>
         ensures { ListsOn self.old.bus self.old.text (W.contents out.old) (W.contents out.new)
             (rounds self.old.bus edges) self.new.bus self.new.text result }
     {
         for round in 0..edges {
             let before = self.bus.len();
-            self.take_turns(round, edges, all, out)?;
+            self.take_turns(round, edges, out)?;
             if self.bus.len() == before {
                 return Ok(());
             }
@@ -127,8 +115,7 @@ impl Driving {
     }
 
     /// Writes the trace of the edges that all the drivers make.
-    fn write<W: Write>(&mut self, edges: u32, all: &[Driver], out: &mut W) -> Result<(), Fault>
-        requires all { all.now ≡ drivers self.old.bus.plan }
+    fn write<W: Write>(&mut self, edges: u32, out: &mut W) -> Result<(), Fault>
         requires start { self.old.bus.history ≡ [] }
         requires empty { self.old.text ≡ [] }
         ensures state { OnOk result (self.new.bus ≡ rounds self.old.bus edges) }
@@ -141,7 +128,7 @@ impl Driving {
         ensures fault { IfErr result (λ fault. fault ≡ Fault.Write) }
     {
         put(out, header_line(self.bus.version()))?;
-        self.take_rounds(edges, all, out)?;
+        self.take_rounds(edges, out)?;
         hand_on(&mut self.text, out)?;
         flush(out)
     }
@@ -233,9 +220,8 @@ pub fn drive<W: Write>(
     ensures safe { OnOk result (DrivesSafely scenario.now version edges) }
 {
     let plan = plan_of(alloc, scenario)?;
-    let all = plan.drivers();
     let mut drive = Driving::new(Bus::new(plan, version));
-    match drive.write(edges, &all, out) {
+    match drive.write(edges, out) {
         Ok(()) => {
             drive.bus.laws();
             drive.bus.safety();

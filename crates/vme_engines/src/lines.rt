@@ -29,8 +29,8 @@ fn push_line(text: &mut Text, count: &Count, answer: Result<Option<Delivery>, Re
     requires { length text.old + 64 ≤ 8192 }
     ensures { text.new ≡ text.old ++ verdict_line count.now answer }
 {
-    count.push_digits(text);
-    push_end(text, answer);
+    count.push_tens(text);
+    push_end(text, count.last_digit(), answer);
 }
 
 /// Has a text written, and forgets it.

@@ -11,7 +11,7 @@ use crate::plans::plan_of;
 use std::alloc::Global;
 use std::io::{Write, sink};
 use vme_draws::Walk;
-use vme_events::Goal;
+use vme_goals::Goal;
 use vme_model::Version;
 
 /// Who hears which seeds are tried.

@@ -1,4 +1,4 @@
-//! The ends of verdict lines: what stands after the number.
+//! The ends of verdict lines: the last digit of the number, and what stands after it.
 ghost use Rattle.std.specs.Prelude.{◌≡◌, ◌+◌, ◌<◌, ◌≤◌, ◌++◌, ◌∷◌, [], length, codes, decimal, take, Err};
 ghost use Rattle.vme_model.specs.Report.{verdict_text};
 
@@ -82,17 +82,37 @@ fn push_rare(text: &mut Text, answer: Result<Option<Delivery>, Refused>)
     text.push(end.as_slice());
 }
 
-/// Appends the end of the verdict line of an answer.
+/// Appends the end of the verdict line of an answer whose end is not always the same.
 #[inline(always)]
-pub(crate) fn push_end(text: &mut Text, answer: Result<Option<Delivery>, Refused>)
+fn push_other(text: &mut Text, answer: Result<Option<Delivery>, Refused>)
     requires { length text.old + 40 ≤ 8192 }
     ensures { text.new ≡ text.old ++ ((codes " " ++ verdict_text answer) ++ 10 ∷ []) }
 {
     match answer {
-        Ok(None) => push_tail(text, *b" ok\n....", 4),
         Err(Refused::Rule(rule)) if rule < RULE_COUNT => push_rule(text, rule),
-        Err(Refused::NoSuchDriver) => push_tail(text, *b" E1\n....", 4),
-        Err(Refused::AlreadyThere) => push_tail(text, *b" E2\n....", 4),
         _ => push_rare(text, answer),
+    }
+}
+
+/// Appends the end of the verdict line of an answer, from the last digit of its number on: one copy
+/// where it is always the same.
+#[inline(always)]
+pub(crate) fn push_end(text: &mut Text, digit: u8, answer: Result<Option<Delivery>, Refused>)
+    requires { length text.old + 41 ≤ 8192 }
+    ensures { text.new ≡ text.old
+        ++ (digit ∷ ((codes " " ++ verdict_text answer) ++ 10 ∷ [])) }
+{
+    match answer {
+        Ok(None) => push_tail(text, [digit, b' ', b'o', b'k', b'\n', b'.', b'.', b'.'], 5),
+        Err(Refused::NoSuchDriver) => {
+            push_tail(text, [digit, b' ', b'E', b'1', b'\n', b'.', b'.', b'.'], 5)
+        }
+        Err(Refused::AlreadyThere) => {
+            push_tail(text, [digit, b' ', b'E', b'2', b'\n', b'.', b'.', b'.'], 5)
+        }
+        _ => {
+            text.append::<1>(&[digit], 1);
+            push_other(text, answer);
+        }
     }
 }

@@ -10,9 +10,10 @@ use Rattle.vme_model.specs.declared.boards.IrqKind.TheVariants.{Roak}
 use Rattle.vme_model.specs.Signals.{is_acknowledge}
 use Rattle.vme_model.specs.Plan.{Plan}
 use Rattle.vme_model.specs.History.{line, shown, served_since_request}
-use Rattle.vme_events.specs.declared.events.Event.{Event}
-use Rattle.vme_events.specs.declared.events.Event.TheVariants as event
-use Rattle.vme_events.specs.Events.{all_events, events_of, is_access, overtakes}
+use Rattle.vme_goals.specs.declared.events.Event.{Event}
+use Rattle.vme_goals.specs.declared.events.Event.TheVariants as event
+use Rattle.vme_goals.specs.Events.{all_events}
+use Rattle.vme_events.specs.Events.{events_of, is_access, overtakes}
 use Rattle.vme_events.specs.Brought.{at_fall, at_rise, when}
 
 abbrev edge : Driver → Wire → Bool → Option Cycle → Edge

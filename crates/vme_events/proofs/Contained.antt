@@ -3,10 +3,10 @@ use Rattle.std.proofs.Common.{◌≡◌, ◌∙◌, Bool, true, false, List, [],
 use Rattle.std.specs.Prelude.{◌||◌, filter, if◌then◌else◌}
 use Rattle.std.specs.List.{list_any}
 use denote.Enum.Bare.{same_true}
-use Rattle.vme_events.specs.contracts.events.Event.{the_type}
-use Rattle.vme_events.specs.declared.events.Event.{Event}
-use Rattle.vme_events.specs.declared.events.Event.TheVariants as event
-use Rattle.vme_events.specs.Events.{all_events}
+use Rattle.vme_goals.specs.contracts.events.Event.{the_type}
+use Rattle.vme_goals.specs.declared.events.Event.{Event}
+use Rattle.vme_goals.specs.declared.events.Event.TheVariants as event
+use Rattle.vme_goals.specs.Events.{all_events}
 use Rattle.vme_events.specs.Brought.{is_same_event}
 
 abbrev is : Event → Event → Bool

@@ -1,5 +1,3 @@
--- `goal_of`: the first of all goals is the first event, or else the first miss
-pub mod Named
 -- numbers grow along a trace, and along a history's places
 pub mod Places
 -- `before`: of two requests that are low the older one has the smaller number

@@ -22,8 +22,8 @@ use Rattle.vme_model.specs.Open.{moves, showing, acknowledges, accesses}
 use Rattle.vme_model.specs.Plan.{board_of}
 use Rattle.vme_model.specs.Failing.{unmet}
 use Rattle.vme_model.specs.Verdict.{State, Judgement, check, is_other_state}
-use Rattle.vme_events.specs.declared.misses.Miss.{Miss}
-use Rattle.vme_events.specs.declared.misses.Miss.TheVariants as miss
+use Rattle.vme_goals.specs.declared.misses.Miss.{Miss}
+use Rattle.vme_goals.specs.declared.misses.Miss.TheVariants as miss
 use Rattle.vme_events.specs.Misses.{fails_rule, fails_settling, has_kind, is_alone, refuses}
 use Rattle.vme_events.specs.Turned.{is_rule, is_settling, refusal, turned_to}
 

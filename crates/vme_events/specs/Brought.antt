@@ -1,7 +1,7 @@
 -- The situations that an edge brings about, by its wire.
 use Rattle.std.specs.Prelude.{◌&&◌, ◌++◌, Bool, if◌then◌else◌, not, List, [], ◌∷◌}
 use denote.Enum.Bare.{sameb}
-use Rattle.vme_events.specs.contracts.events.Event.{the_type}
+use Rattle.vme_goals.specs.contracts.events.Event.{the_type}
 use Rattle.vme_model.specs.declared.boards.IrqKind.TheVariants.{Roak}
 use Rattle.vme_model.specs.declared.signals.Driver.{Driver}
 use Rattle.vme_model.specs.declared.signals.Wire.{Wire}
@@ -10,8 +10,8 @@ use Rattle.vme_model.specs.declared.signals.Edge.{Edge}
 use Rattle.vme_model.specs.Signals.{is_acknowledge}
 use Rattle.vme_model.specs.Plan.{Plan}
 use Rattle.vme_model.specs.History.{drive, line, shown, served_since_request}
-use Rattle.vme_events.specs.declared.events.Event.{Event}
-use Rattle.vme_events.specs.declared.events.Event.TheVariants as event
+use Rattle.vme_goals.specs.declared.events.Event.{Event}
+use Rattle.vme_goals.specs.declared.events.Event.TheVariants as event
 use Rattle.vme_events.specs.Events.{fills_burst, has_rival, is_access, overtakes}
 
 -- the same situation

@@ -1,13 +1,11 @@
--- Situations that an accepted edge brings about: each is a test of the edge, and of the history
--- before it. (The words are those of chapters 2 to 4; which situations have a name is this
--- project's profile.)
-use Rattle.std.specs.Prelude.{◌==◌, ◌&&◌, ◌+◌, ◌-◌, ℕ, Bool, true, false, not, if◌then◌else◌, Option, Some, List, [], ◌∷◌, codes, length, nat_lt, filter}
+-- Which situations an accepted edge brings about: each is a test of the edge, and of the history
+-- before it. (The words are those of chapters 2 to 4.)
+use Rattle.std.specs.Prelude.{◌==◌, ◌&&◌, ◌+◌, ◌-◌, ℕ, Bool, true, false, not, if◌then◌else◌, Option, Some, List, [], ◌∷◌, length, nat_lt, filter}
 use Rattle.std.specs.List.{list_any}
 use Rattle.std.specs.Option.{option_map_or, option_and_then}
 use Rattle.vme_model.specs.declared.boards.Release.{Release}
 use Rattle.vme_model.specs.declared.boards.Release.TheVariants.{Done, Request}
 use Rattle.vme_model.specs.declared.boards.IrqKind.TheVariants.{Roak}
-use Rattle.vme_model.specs.declared.signals.Version.{Version}
 use Rattle.vme_model.specs.declared.signals.Driver.{Driver}
 use Rattle.vme_model.specs.declared.signals.Driver.TheVariants.{Slot}
 use Rattle.vme_model.specs.declared.signals.Wire.{Wire}
@@ -15,44 +13,13 @@ use Rattle.vme_model.specs.declared.signals.Wire.TheVariants.{Bclr, Berr, Br, Bg
 use Rattle.vme_model.specs.declared.signals.Cycle.{Cycle}
 use Rattle.vme_model.specs.declared.signals.Cycle.TheVariants.{Access}
 use Rattle.vme_model.specs.declared.signals.Edge.{Edge}
-use Rattle.vme_model.specs.Signals.{is_two, is_same_driver, is_same_wire, is_fall_of, is_grant_wire, is_acknowledge}
+use Rattle.vme_model.specs.Signals.{is_same_driver, is_same_wire, is_fall_of, is_grant_wire, is_acknowledge}
 use Rattle.vme_model.specs.Plan.{Plan, board_of, up_to}
 use Rattle.vme_model.specs.History.{drive, line, shown, served_since_request, cycles}
 use Rattle.vme_model.specs.Readings.{pending}
-use Rattle.vme_events.specs.declared.events.Event.{Event}
-use Rattle.vme_events.specs.declared.events.Event.TheVariants as event
-
--- all of them, in the order in which they are told
-unfoldable pub all_events : List Event
-all_events =
-    event.GrantPassed ∷ event.LateRequest ∷ event.Overtaken ∷ event.EarlyRelease ∷ event.Overlap
-    ∷ event.FullBurst ∷ event.BusClear ∷ event.Rivals ∷ event.Delivery ∷ event.IackPassed
-    ∷ event.AnsweredAgain ∷ event.Spurious ∷ event.BusError ∷ event.Withdrawn
-    ∷ event.GrantTimeout ∷ []
-
--- how each is called
-abbrev pub event_text : Event → List ℕ
-event_text event.GrantPassed = codes "grant-passed"
-event_text event.LateRequest = codes "late-request"
-event_text event.Overtaken = codes "overtaken"
-event_text event.EarlyRelease = codes "early-release"
-event_text event.Overlap = codes "overlap"
-event_text event.FullBurst = codes "full-burst"
-event_text event.BusClear = codes "bus-clear"
-event_text event.Rivals = codes "rivals"
-event_text event.Delivery = codes "delivery"
-event_text event.IackPassed = codes "iack-passed"
-event_text event.AnsweredAgain = codes "answered-again"
-event_text event.Spurious = codes "spurious"
-event_text event.BusError = codes "bus-error"
-event_text event.Withdrawn = codes "withdrawn"
-event_text event.GrantTimeout = codes "grant-timeout"
-
--- a request is withdrawn, and a grant timed out, in the second version alone
-abbrev pub has_event : Version → Event → Bool
-has_event version event.Withdrawn = is_two version
-has_event version event.GrantTimeout = is_two version
-has_event version _ = true
+use Rattle.vme_goals.specs.declared.events.Event.{Event}
+use Rattle.vme_goals.specs.declared.events.Event.TheVariants as event
+use Rattle.vme_goals.specs.Events.{all_events}
 
 -- the edge is a fall of such a wire, and a rise
 abbrev pub falls : Wire → Edge → Bool

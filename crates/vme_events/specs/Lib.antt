@@ -1,9 +1,7 @@
--- believe: which situations have a name, and which of them an edge brings about
+-- believe: which situations an edge brings about
 pub mod Events
 -- believe: which edge one condition alone refuses
 pub mod Misses
--- believe: what a trace can be drawn to come to, and its words
-pub mod Goals
 -- believe: a history whose edges have their places as numbers, and numbers that grow
 pub mod Places
 -- words: what holds of a backplane and the marks of its edges, whose numbers grow

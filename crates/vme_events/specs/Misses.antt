@@ -15,8 +15,8 @@ use Rattle.vme_model.specs.Verdict.{State, Judgement, verdict}
 use Rattle.vme_model.specs.Failing.{unmet}
 use Rattle.vme_model.specs.Offers.{wires}
 use Rattle.vme_model.specs.Open.{moves}
-use Rattle.vme_events.specs.declared.misses.Miss.{Miss}
-use Rattle.vme_events.specs.declared.misses.Miss.TheVariants as miss
+use Rattle.vme_goals.specs.declared.misses.Miss.{Miss}
+use Rattle.vme_goals.specs.declared.misses.Miss.TheVariants as miss
 
 -- the same condition
 abbrev pub is_same_condition : Condition → Condition → Bool

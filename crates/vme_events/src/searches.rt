@@ -10,8 +10,8 @@ ghost use Rattle.vme_events.specs.Misses.{fails_rule, fails_settling, has_kind, 
 ghost use Rattle.vme_events.specs.Turned.{is_rule, is_settling, refusal, turned_to};
 
 use crate::before::interrupter_of;
-use crate::misses::Miss;
 use vme_bus::Bus;
+use vme_goals::Miss;
 use vme_model::{Condition, Cycle, Driver, Edge, IrqKind, Refused, Wire};
 
 /// The controller's wires, in the order of offers.

@@ -5,7 +5,7 @@ use Rattle.std.specs.Borrow.{Bor}
 use Rattle.std.proofs.KnownBytes.{Keeps-refl}
 use Rattle.vme_model.specs.declared.signals.Version.{Version}
 use Rattle.vme_model.specs.Plan.{Plan}
-use Rattle.vme_events.specs.declared.goals.Goal.{Goal}
+use Rattle.vme_goals.specs.declared.goals.Goal.{Goal}
 use Rattle.vme_trace.specs.declared.Fault.{Fault}
 use Rattle.vme_engines.specs.declared.Status.{Status}
 use Rattle.vme_engines.specs.declared.EngineFault.TheVariants as fault

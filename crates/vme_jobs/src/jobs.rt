@@ -20,7 +20,7 @@ use vme_engines::{
     EngineFault, Status, add_trace, check, drive, drive_drawn, drive_found, explain, joined,
     replay, show, state, summary, tell_sums,
 };
-use vme_events::Goal;
+use vme_goals::Goal;
 use vme_model::Version;
 use vme_run::{RunFault, run as run_scenario};
 use vme_tallies::Sums;

@@ -8,7 +8,7 @@ use Rattle.vme_model.specs.declared.signals.Driver.TheVariants.{Slot}
 use Rattle.vme_model.specs.declared.signals.Wire.{Wire}
 use Rattle.vme_model.specs.declared.signals.Wire.TheVariants.{Bg, Bclr, Iack, Berr, Br, BgOut, Bbsy, Addr, AddressStrobe, DataStrobe, Irq, IackOut, Dtack}
 use Rattle.vme_model.specs.Signals.{is_same_driver, is_same_wire, is_edge_of, is_fall_of}
-use Rattle.vme_events.specs.declared.events.Event.{Event}
+use Rattle.vme_goals.specs.declared.events.Event.{Event}
 use Rattle.vme_tallies.specs.declared.boards.BoardTally.{BoardTally}
 use Rattle.vme_tallies.specs.Tally.{Answered, Answers, is_accepted, falls, rises, delivers, board_tally}
 use Rattle.vme_tallies.specs.Tallied.{more, span, board_after}

@@ -18,7 +18,7 @@ use Rattle.vme_model.specs.declared.signals.Edge.{Edge}
 use Rattle.vme_model.specs.Readings.{Readings, readings}
 use Rattle.vme_model.specs.Rules.{rule}
 use Rattle.vme_model.specs.Verdict.{State}
-use Rattle.vme_events.specs.declared.events.Event.{Event}
+use Rattle.vme_goals.specs.declared.events.Event.{Event}
 use Rattle.vme_events.specs.Events.{events_of}
 use Rattle.vme_tallies.specs.declared.boards.BoardTally.{BoardTally}
 use Rattle.vme_tallies.specs.declared.tallies.Tally.{Tally}

@@ -8,9 +8,9 @@ use Rattle.std.proofs.lemmas.Bool.Decides.{nat_tests}
 use Rattle.std.proofs.lemmas.List.{get_or-replicate, length-replicate, length-set, get_or-set_same, get_or-set_other}
 use Rattle.std.proofs.lemmas.List.Elements.{filter-append}
 use Rattle.std.proofs.lemmas.List.Sums.{fold-append}
-use Rattle.vme_events.specs.declared.events.Event.{Event}
-use Rattle.vme_events.specs.declared.events.Event.TheVariants as event
-use Rattle.vme_events.specs.Events.{all_events}
+use Rattle.vme_goals.specs.declared.events.Event.{Event}
+use Rattle.vme_goals.specs.declared.events.Event.TheVariants as event
+use Rattle.vme_goals.specs.Events.{all_events}
 use Rattle.vme_tallies.specs.declared.met.Met.{Met}
 use Rattle.vme_tallies.specs.Tally.{Answered, Answers, is_accepted, times_met, first_met}
 use Rattle.vme_tallies.specs.Tallied.{more, event_place, met_once, met_after, IsMetOf}

@@ -10,8 +10,8 @@ use Rattle.std.proofs.lemmas.List.Elements.{All-cons, All-nil, filter-append}
 use Rattle.vme_model.specs.declared.refusals.Refused.{Refused}
 use Rattle.vme_model.specs.declared.refusals.Refused.TheVariants as refused
 use Rattle.vme_model.specs.Plan.{up_to}
-use Rattle.vme_events.specs.declared.events.Event.{Event}
-use Rattle.vme_events.specs.Events.{all_events, event_text}
+use Rattle.vme_goals.specs.declared.events.Event.{Event}
+use Rattle.vme_goals.specs.Events.{all_events, event_text}
 use Rattle.vme_tallies.specs.declared.topics.Topic.{Topic}
 use Rattle.vme_tallies.specs.declared.topics.Topic.TheVariants as topic
 use Rattle.vme_tallies.specs.Tally.{Answers, is_accepted, accepted, refused}

@@ -6,8 +6,8 @@ use Rattle.vme_model.specs.declared.refusals.Refused.{Refused}
 use Rattle.vme_model.specs.declared.refusals.Refused.TheVariants.{NoSuchDriver, AlreadyThere, Rule as by_rule, NotSettled, TraceFull}
 use Rattle.vme_model.specs.Plan.{Plan, up_to, board}
 use Rattle.vme_model.specs.Report.{verdict_text}
-use Rattle.vme_events.specs.declared.events.Event.{Event}
-use Rattle.vme_events.specs.Events.{all_events, event_text}
+use Rattle.vme_goals.specs.declared.events.Event.{Event}
+use Rattle.vme_goals.specs.Events.{all_events, event_text}
 use Rattle.vme_tallies.specs.declared.boards.BoardTally.{BoardTally}
 use Rattle.vme_tallies.specs.declared.topics.Topic.{Topic}
 use Rattle.vme_tallies.specs.declared.topics.Topic.TheVariants.{Edges, Rule, Refusal, NeverAccepted, Met, NeverMet, Board, Answered as answers_of}

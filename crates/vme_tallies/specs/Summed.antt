@@ -1,7 +1,7 @@
 -- Which sums the tallies of traces lead to.
 use Rattle.std.specs.Prelude.{◌≡◌, ◌<◌, ℕ, max, None, length, slice_index_or}
 use Rattle.vme_model.specs.declared.refusals.Refused.TheVariants.{NoSuchDriver, AlreadyThere, Rule, NotSettled, TraceFull}
-use Rattle.vme_events.specs.declared.events.Event.{Event}
+use Rattle.vme_goals.specs.declared.events.Event.{Event}
 use Rattle.vme_tallies.specs.declared.boards.BoardTally.{BoardTally}
 use Rattle.vme_tallies.specs.declared.refusals.Refusals.{Refusals}
 use Rattle.vme_tallies.specs.declared.sums.Sums.{Sums as Added}

@@ -4,8 +4,8 @@ use Rattle.std.specs.Prelude.{◌==◌, ◌-◌, ◌^◌, ◌++◌, ℕ, min, if
 use Rattle.std.specs.List.{flat_map, sum_by}
 use Rattle.vme_model.specs.declared.refusals.Refused.TheVariants.{Rule as by_rule}
 use Rattle.vme_model.specs.Plan.{Plan}
-use Rattle.vme_events.specs.declared.events.Event.{Event}
-use Rattle.vme_events.specs.Events.{event_text}
+use Rattle.vme_goals.specs.declared.events.Event.{Event}
+use Rattle.vme_goals.specs.Events.{event_text}
 use Rattle.vme_tallies.specs.declared.boards.BoardTally.{BoardTally}
 use Rattle.vme_tallies.specs.declared.topics.Topic.{Topic}
 use Rattle.vme_tallies.specs.declared.topics.Topic.TheVariants.{Edges, Rule, Refusal, NeverAccepted, Met, NeverMet, Board, Answered as answers_of}

@@ -16,7 +16,7 @@ use Rattle.vme_model.specs.Readings.{readings}
 use Rattle.vme_model.specs.Rules.{rule}
 use Rattle.vme_model.specs.Verdict.{State, after}
 use Rattle.vme_model.specs.Deliveries.{answer}
-use Rattle.vme_events.specs.declared.events.Event.{Event}
+use Rattle.vme_goals.specs.declared.events.Event.{Event}
 use Rattle.vme_events.specs.Events.{comes}
 use Rattle.vme_tallies.specs.declared.boards.BoardTally.{BoardTally}
 

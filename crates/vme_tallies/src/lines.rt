@@ -14,7 +14,7 @@ use crate::sums::Sums;
 use crate::tallies::Tally;
 use crate::topics::Topic;
 use arrayvec::ArrayVec;
-use vme_events::Event;
+use vme_goals::Event;
 use vme_model::Refused;
 use vme_reasons::texts::{push, push_byte, push_number, push_verdict};
 use vme_slots::Plan;

@@ -3,7 +3,7 @@ ghost use Rattle.std.specs.Prelude.{◌≡◌, ◌<◌, []};
 ghost use Rattle.vme_tallies.specs.Tally.{Answers, times_met, first_met};
 ghost use Rattle.vme_tallies.specs.Tallied.{event_place, met_once, met_after};
 
-use vme_events::Event;
+use vme_goals::Event;
 
 /// How many situations have a name.
 pub(crate) const EVENTS: usize = 15;

@@ -11,7 +11,7 @@ use crate::met::{EVENTS, place};
 use crate::refusals::Refusals;
 use crate::rules::RULES;
 use crate::tallies::Tally;
-use vme_events::Event;
+use vme_goals::Event;
 use vme_model::Refused;
 
 /// What several traces come to together, each from power-up on: the sums of their numbers, and the

@@ -11,7 +11,7 @@ use crate::counts::count;
 use crate::met::Met;
 use crate::refusals::Refusals;
 use crate::rules::{RULES, rule_of};
-use vme_events::Event;
+use vme_goals::Event;
 use vme_model::{Delivery, Driver, Edge, Refused};
 
 /// What the edges of a trace came to: how many each rule let pass or refused, which situations

@@ -5,7 +5,7 @@ ghost use Rattle.vme_model.specs.Plan.{up_to};
 ghost use Rattle.vme_tallies.specs.Summary.{topics};
 
 use arrayvec::ArrayVec;
-use vme_events::Event;
+use vme_goals::Event;
 use vme_model::Refused;
 
 /// What a line of a summary tells. Slots are numbered from 1.

@@ -2,7 +2,7 @@
 use crate::devices::Narrow;
 use std::process::Abort;
 use vme_engines::{EngineFault, Progress, Status, drive_drawn, drive_found};
-use vme_events::{Event, Goal, Miss};
+use vme_goals::{Event, Goal, Miss};
 use vme_model::Version;
 use vme_trace::Fault;
 

@@ -1,6 +1,6 @@
 //! What the command line means.
 use std::process::Abort;
-use vme_events::{Event, Goal, Miss};
+use vme_goals::{Event, Goal, Miss};
 use vme_model::{Condition, IrqKind, Version};
 use vme_words::{Job, words};
 

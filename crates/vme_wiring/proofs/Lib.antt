@@ -24,7 +24,7 @@ pub mod FieldReads
 pub mod JudgedParts
 -- before any edge: `Wiring::new`
 pub mod Fresh
--- what is read of the edges that are considered: `next_board`, `wanted`, `board_above`
+-- what is read of the edges that are considered: `next_board`, `board_above`, `is_low`, `offer_address`
 pub mod ConsideredReads
 -- what a part answers by its own fields: `Board::may`
 pub mod PartAnswers

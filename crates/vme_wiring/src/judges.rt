@@ -1,16 +1,17 @@
 //! What is asked of a state of the bus, whatever it is kept as.
-ghost use Rattle.std.specs.Prelude.{◌≡◌, List, true};
+ghost use Rattle.std.specs.Prelude.{◌≡◌, List, true, option_map};
 ghost use Rattle.vme_model.specs.declared.signals.Edge.{Edge as EdgeValue};
 ghost use Rattle.vme_model.specs.declared.signals.Version.{Version as VersionValue};
 ghost use Rattle.vme_model.specs.Plan.{Plan as PlanValue, board};
 ghost use Rattle.vme_model.specs.History.{drive, interrupt_line};
+ghost use Rattle.vme_model.specs.Offers.{next_board};
 ghost use Rattle.vme_model.specs.Sets.{irq_levels};
 ghost use Rattle.vme_model.specs.Settling.{settling_guard};
 ghost use Rattle.vme_model.specs.Verdict.{IsLegal, verdict_but_full};
 ghost use Rattle.vme_wiring.specs.Asked.{asked_guard, exists};
 ghost use Rattle.vme_wiring.specs.Judged.{OfState, may_grant, requester_waits, master_waits, interrupter_waits};
 
-use vme_model::{Driver, Edge, Levels, Refused, Row, Wire};
+use vme_model::{Driver, Edge, Levels, Refused, Wire};
 use vme_rules::Outcome;
 
 /// Which parts of a board wait for an edge of another: the rules then allow none of the edges that
@@ -58,13 +59,14 @@ pub trait Judges {
     fn low_interrupts(&self) -> Levels
         ensures { OfState is_of self.now (λ _ p h. result ≡ irq_levels (interrupt_line p h)) };
 
-    /// How many slots the backplane has.
-    fn slots(&self) -> u8
-        ensures { OfState is_of self.now (λ _ p _. result ≡ p.slots) };
+    /// The next slot with a board, from the least again after the greatest.
+    fn next_board(&self, slot: u8) -> Option<u8>
+        ensures { OfState is_of self.now (λ _ p _. result ≡ next_board p slot) };
 
-    /// The row of a slot's board.
-    fn row(&self, slot: u8) -> Option<Row>
-        ensures { OfState is_of self.now (λ _ p _. result ≡ board p slot) };
+    /// The levels that the slot's board handles; none where there is no board.
+    fn handled(&self, slot: u8) -> Option<Levels>
+        ensures { OfState is_of self.now (λ _ p _. result
+            ≡ option_map (λ r. r.handler) (board p slot)) };
 
     /// Which parts of a slot's board wait; all where there is no board.
     fn waiting(&self, slot: u8) -> Waiting

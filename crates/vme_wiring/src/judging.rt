@@ -1,6 +1,7 @@
 //! What a wiring answers as a state of the bus, and what is made of the answers.
-ghost use Rattle.std.specs.Prelude.{◌≡◌};
+ghost use Rattle.std.specs.Prelude.{◌≡◌, ◌&&◌, find, nat_lt, is_some};
 ghost use Rattle.vme_model.specs.Failing.{tested_but_full, unmet_but_full};
+ghost use Rattle.vme_model.specs.Plan.{board, up_to};
 ghost use Rattle.vme_wiring.specs.Offered.{offered_but_full};
 ghost use Rattle.vme_wiring.specs.Opens.{open_but_full};
 
@@ -10,7 +11,7 @@ use crate::offers::offers_of;
 use crate::opens::open_edges_of;
 use crate::wirings::Wiring;
 use arrayvec::ArrayVec;
-use vme_model::{Condition, Driver, Edge, Levels, Refused, Row, Wire};
+use vme_model::{Condition, Driver, Edge, Levels, Refused, Wire};
 use vme_rules::Outcome;
 
 impl Judges for Wiring {
@@ -61,15 +62,14 @@ impl Judges for Wiring {
         self.shared.irq
     }
 
-    #[inline(always)]
-    fn slots(&self) -> u8 {
-        self.slots
+    fn next_board(&self, slot: u8) -> Option<u8> {
+        self.board_above(slot).or(self.board_above(0))
     }
 
     #[inline(always)]
-    fn row(&self, slot: u8) -> Option<Row> {
+    fn handled(&self, slot: u8) -> Option<Levels> {
         match self.board(slot) {
-            Some(board) => Some(board.row),
+            Some(board) => Some(board.row.handler),
             None => None,
         }
     }
@@ -89,6 +89,28 @@ impl Judges for Wiring {
 
 impl Wiring {
     ghost use Rattle.vme_wiring.specs.Wired.{OfHistory};
+
+    /// Whether the slot has a board and stands above that one.
+    #[inline(always)]
+    fn is_board_above(&self, other: u8, slot: u8) -> bool
+        ensures { OfHistory self.now (λ _ p _. result
+            ≡ (nat_lt slot other && is_some (board p other))) }
+    {
+        slot < other && self.board(other).is_some()
+    }
+
+    /// The least slot with a board above that one.
+    fn board_above(&self, slot: u8) -> Option<u8>
+        ensures { OfHistory self.now (λ _ p _. result
+            ≡ find (λ t. nat_lt slot t && is_some (board p t)) (up_to p.slots)) }
+    {
+        for other in 1..=self.slots {
+            if self.is_board_above(other, slot) {
+                return Some(other);
+            }
+        }
+        None
+    }
 
     /// What is tested of an edge, but for the end of the trace: the one condition that fails at E1
     /// and E2, else those of its rule, and where they hold, that of its settling rule.

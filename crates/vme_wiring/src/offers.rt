@@ -1,17 +1,18 @@
 //! What a driver is offered, by what a state of the bus answers.
-ghost use Rattle.std.specs.Prelude.{◌≡◌, ◌≤◌, ◌<◌, ◌+◌, ◌++◌, ◌&&◌, ◌∷◌, [], true, Some, filter, find, length, map, nat_lt, is_some, option_map};
+ghost use Rattle.std.specs.Prelude.{◌≡◌, ◌≤◌, ◌<◌, ◌+◌, ◌++◌, ◌∷◌, [], true, Some, filter, length, map};
 ghost use Rattle.std.specs.Option.{option_to_list};
+ghost use Rattle.vme_model.specs.declared.boards.Row.{Row as RowValue};
 ghost use Rattle.vme_model.specs.declared.signals.Driver.TheVariants.{Controller, Slot};
 ghost use Rattle.vme_model.specs.declared.signals.Wire.TheVariants.{Bg};
-ghost use Rattle.vme_model.specs.Plan.{board, up_to};
-ghost use Rattle.vme_model.specs.Offers.{considered, going_on, next_board, turned, wanted};
+ghost use Rattle.vme_model.specs.Offers.{considered, next_board, turned, wanted};
+ghost use Rattle.vme_model.specs.Open.{showing as showing_of};
 ghost use Rattle.vme_wiring.specs.Offered.{is_open, offered_on, offered_but_full, requester_wires, master_wires, interrupter_wires};
 ghost use Rattle.vme_wiring.specs.Judged.{OfState, may_grant, requester_waits, master_waits, interrupter_waits};
 
 use crate::judges::Judges;
 use arrayvec::ArrayVec;
 use vme_handler::Handler;
-use vme_model::{Cycle, Driver, Edge, Row, Wire};
+use vme_model::{Cycle, Driver, Edge, Levels, Wire};
 
 /// The slot's address group going on.
 pub(crate) fn showing(slot: u8, cycle: Cycle) -> Edge
@@ -26,75 +27,12 @@ pub(crate) fn showing(slot: u8, cycle: Cycle) -> Edge
     }
 }
 
-/// The slot's address group going on with an acknowledge, and with an access.
-fn showings(slot: u8, level: Option<u8>, target: Option<u8>) -> ArrayVec<Edge, 2>
-    ensures { result.items
-        ≡ map (λ c. record {
-          driver = Driver.Slot slot;
-          wire = Wire.Addr;
-          fall = true;
-          value = Some c;
-        })
-        (option_to_list (option_map (λ v. Cycle.Acknowledge v) level)
-        ++ option_to_list (option_map (λ t. Cycle.Access t) target)) }
+/// The highest low level of those that a board handles.
+fn wanted<J: Judges>(state: &J, handled: Levels) -> Option<u8>
+    ensures { OfState J.is_of state.now (λ _ p h. (r : RowValue) → r.handler ≡ handled
+        → result ≡ wanted p h r) }
 {
-    let mut edges = ArrayVec::new();
-    if let Some(level) = level {
-        edges.push(showing(slot, Cycle::Acknowledge(level)));
-    }
-    if let Some(target) = target {
-        edges.push(showing(slot, Cycle::Access(target)));
-    }
-    edges
-}
-
-/// Whether the slot has a board and stands above that one.
-#[inline(always)]
-fn is_board_above<J: Judges>(state: &J, other: u8, slot: u8) -> bool
-    ensures { OfState J.is_of state.now (λ _ p _. result
-        ≡ (nat_lt slot other && is_some (board p other))) }
-{
-    slot < other && state.row(other).is_some()
-}
-
-/// The least slot with a board above that one.
-fn board_above<J: Judges>(state: &J, slot: u8) -> Option<u8>
-    ensures { OfState J.is_of state.now (λ _ p _. result
-        ≡ find (λ t. nat_lt slot t && is_some (board p t)) (up_to p.slots)) }
-{
-    for other in 1..=state.slots() {
-        if is_board_above(state, other, slot) {
-            return Some(other);
-        }
-    }
-    None
-}
-
-/// The next slot with a board, from the least again after the greatest.
-fn next_board<J: Judges>(state: &J, slot: u8) -> Option<u8>
-    ensures { OfState J.is_of state.now (λ _ p _. result ≡ next_board p slot) }
-{
-    board_above(state, slot).or(board_above(state, 0))
-}
-
-/// The highest low level that the board handles.
-fn wanted<J: Judges>(state: &J, row: &Row) -> Option<u8>
-    ensures { OfState J.is_of state.now (λ _ p h. result ≡ wanted p h row.now) }
-{
-    Handler::new(row.handler).wants(state.low_interrupts())
-}
-
-/// What the driver's board considers to show: an acknowledge, and an access.
-fn going_on<J: Judges>(state: &J, driver: Driver) -> ArrayVec<Edge, 2>
-    ensures { OfState J.is_of state.now (λ _ p h. result.items ≡ going_on p h driver) }
-{
-    let Driver::Slot(slot) = driver else {
-        return ArrayVec::new();
-    };
-    match state.row(slot) {
-        Some(row) => showings(slot, wanted(state, &row), next_board(state, row.slot)),
-        None => ArrayVec::new(),
-    }
+    Handler::new(handled).wants(state.low_interrupts())
 }
 
 /// The edge without a value that moves the wire to its other state.
@@ -107,27 +45,6 @@ fn turned<J: Judges>(state: &J, driver: Driver, wire: Wire) -> Edge
         wire,
         fall: !state.is_low(driver, wire),
         value: None,
-    }
-}
-
-/// That edge alone.
-fn turning<J: Judges>(state: &J, driver: Driver, wire: Wire) -> ArrayVec<Edge, 2>
-    ensures { OfState J.is_of state.now (λ _ _ h. result.items ≡ turned h driver wire ∷ []) }
-{
-    let mut edges = ArrayVec::new();
-    edges.push(turned(state, driver, wire));
-    edges
-}
-
-/// The edges of the address group that are considered.
-fn considered_address<J: Judges>(state: &J, driver: Driver) -> ArrayVec<Edge, 2>
-    ensures { OfState J.is_of state.now (λ _ p h. result.items
-        ≡ considered p h driver Wire.Addr) }
-{
-    if state.is_low(driver, Wire::Addr) {
-        turning(state, driver, Wire::Addr)
-    } else {
-        going_on(state, driver)
     }
 }
 
@@ -164,16 +81,57 @@ pub(crate) fn offer_turned<J: Judges, const N: usize>(
     offer(state, turned(state, driver, wire), offers);
 }
 
-/// Puts the edges of the address group after the others that the rules allow.
+/// Puts the slot's address group going on with an acknowledge after the others, where its board
+/// wants a level and the rules allow it.
 #[inline(always)]
-fn offer_address<J: Judges>(state: &J, driver: Driver, offers: &mut ArrayVec<Edge, 16>)
+fn offer_acknowledge<J: Judges>(
+    state: &J,
+    slot: u8,
+    handled: Levels,
+    offers: &mut ArrayVec<Edge, 16>,
+)
+    requires { length offers.old.items < 16 }
+    ensures offered { OfState J.is_of state.now (λ version p h. (r : RowValue)
+        → r.handler ≡ handled
+        → offers.new.items ≡ offers.old.items ++ filter (is_open version p h)
+        (map (λ v. showing_of (Slot slot) (Cycle.Acknowledge v))
+        (option_to_list (wanted p h r)))) }
+    ensures few { length offers.new.items ≤ length offers.old.items + 1 }
+{
+    if let Some(level) = wanted(state, handled) {
+        offer(state, showing(slot, Cycle::Acknowledge(level)), offers);
+    }
+}
+
+/// Puts the slot's address group going on with an access after the others, where there is a board
+/// and the rules allow it.
+#[inline(always)]
+fn offer_access<J: Judges>(state: &J, slot: u8, offers: &mut ArrayVec<Edge, 16>)
+    requires { length offers.old.items < 16 }
+    ensures offered { OfState J.is_of state.now (λ version p h. offers.new.items
+        ≡ offers.old.items ++ filter (is_open version p h)
+        (map (λ t. showing_of (Slot slot) (Cycle.Access t)) (option_to_list (next_board p slot)))) }
+    ensures few { length offers.new.items ≤ length offers.old.items + 1 }
+{
+    if let Some(target) = state.next_board(slot) {
+        offer(state, showing(slot, Cycle::Access(target)), offers);
+    }
+}
+
+/// Puts the edges of the slot's address group after the others that the rules allow.
+#[inline(always)]
+fn offer_address<J: Judges>(state: &J, slot: u8, offers: &mut ArrayVec<Edge, 16>)
     requires { length offers.old.items ≤ 14 }
     ensures offered { OfState J.is_of state.now (λ version p h. offers.new.items
-        ≡ offers.old.items ++ filter (is_open version p h) (considered p h driver Wire.Addr)) }
+        ≡ offers.old.items ++ filter (is_open version p h)
+        (considered p h (Slot slot) Wire.Addr)) }
     ensures few { length offers.new.items ≤ length offers.old.items + 2 }
 {
-    for edge in considered_address(state, driver).as_slice() {
-        offer(state, *edge, offers);
+    if state.is_low(Driver::Slot(slot), Wire::Addr) {
+        offer_turned(state, Driver::Slot(slot), Wire::Addr, offers);
+    } else if let Some(handled) = state.handled(slot) {
+        offer_acknowledge(state, slot, handled, offers);
+        offer_access(state, slot, offers);
     }
 }
 
@@ -210,7 +168,7 @@ fn offer_master<J: Judges>(state: &J, slot: u8, is_waiting: bool, offers: &mut A
     if is_waiting {
         return;
     }
-    offer_address(state, Driver::Slot(slot), offers);
+    offer_address(state, slot, offers);
     offer_turned(state, Driver::Slot(slot), Wire::AddressStrobe, offers);
     offer_turned(state, Driver::Slot(slot), Wire::DataStrobe, offers);
 }

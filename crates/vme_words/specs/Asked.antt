@@ -5,8 +5,8 @@ use Rattle.std.specs.Str.Parse.{IsNumeral, digits_value, without_leading_plus}
 use Rattle.clap.specs.Words.{Row, Text, all_of, first_of, one_of, subcommand_of}
 use Rattle.vme_model.specs.declared.Version.{Version}
 use Rattle.vme_model.specs.declared.Version.TheVariants.{One, Two}
-use Rattle.vme_events.specs.declared.goals.Goal.{Goal}
-use Rattle.vme_events.specs.Goals.{goal_of}
+use Rattle.vme_goals.specs.declared.goals.Goal.{Goal}
+use Rattle.vme_goals.specs.Goals.{goal_of}
 use Rattle.vme_words.specs.Commands.{commands}
 use Rattle.vme_words.specs.declared.Job.{Job}
 use Rattle.vme_words.specs.declared.Job.TheVariants.{Joined, Replay, Check, Explain, State, Show, Summary, Sums, Drive, Draw, Search, Run}

@@ -14,7 +14,7 @@ use clap::error::ErrorKind;
 use clap::{ArgMatches, Error};
 use commands::{commands, drive, show};
 use std::alloc::{AllocError, Global};
-use vme_events::{Goal, goal_of};
+use vme_goals::{Goal, goal_of};
 use vme_model::{TRACE_LIMIT, Version};
 
 /// The most edges that a run makes.

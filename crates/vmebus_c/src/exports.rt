@@ -23,7 +23,7 @@ use vme_model::{Driver, Edge};
 use vme_trace::edge_of;
 
 /// How many words of C a bus has, as its header says.
-const WORDS: usize = 107;
+const WORDS: usize = 165;
 
 const _: () = prove!(size_of::<BusState>() == 4 * WORDS);
 

@@ -3,8 +3,8 @@ use Rattle.std.specs.Prelude.{◌==◌, filter}
 use Rattle.std.specs.List.{flat_map}
 use Rattle.std.proofs.lemmas.Bool.{ne_eqb}
 use Rattle.std.proofs.lemmas.List.{take_all, take_more}
-use Rattle.vme_events.specs.declared.events.Event.TheVariants as event
-use Rattle.vme_events.specs.Events.{all_events, event_text}
+use Rattle.vme_goals.specs.declared.events.Event.TheVariants as event
+use Rattle.vme_goals.specs.Events.{all_events, event_text}
 use Rattle.vme_tallies.specs.Tallied.{event_place}
 use Rattle.vme_tallies.proofs.Words.{word_more}
 use Rattle.vme_tallies.proofs.lines.event_words.Goals.{then-times-place-eq0, else-times-place-eq0}

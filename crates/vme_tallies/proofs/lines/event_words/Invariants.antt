@@ -1,7 +1,7 @@
 use Rattle.std.proofs.Common.{◌≡◌, ◌*◌, ◌≤◌, ◌++◌, codes, length, get_or, take}
 use Rattle.std.specs.Prelude.{◌==◌, filter}
 use Rattle.std.specs.List.{flat_map}
-use Rattle.vme_events.specs.Events.{event_text}
+use Rattle.vme_goals.specs.Events.{event_text}
 use Rattle.vme_tallies.specs.Tallied.{event_place}
 use Rattle.vme_tallies.proofs.lines.event_words.Given as goal
 

@@ -1,5 +1,5 @@
 use Rattle.std.proofs.Common.{refl}
-use Rattle.vme_events.specs.Events.{all_events}
+use Rattle.vme_goals.specs.Events.{all_events}
 use Rattle.vme_tallies.proofs.topics.topics.Goals as goal
 
 pub returns : goal.returns

@@ -9,7 +9,7 @@ pub returns : goal.returns
 returns c =
     let p = c.args.plan.now in
     record {
-      seats = seats_in_places p c.seats_of.result c.accepted.ensures c.seats_of.ensures.room c.seats_of.ensures.seats;
+      seats = seats_in_places p c.seats_of-seats.result c.accepted.ensures c.seats_of-seats.ensures.room c.seats_of-seats.ensures.seats;
       requests_room = refl;
       interrupts_room = refl;
       ends_room = refl;
@@ -21,6 +21,8 @@ returns c =
       requesters = c.slots_on-13.ensures;
       interrupters = c.slots_on-14.ensures;
       boards = c.slots_on-15.ensures;
+      granted_by = c.fed_by_places.ensures;
+      acknowledged_by = c.fed_by_places-2.ensures;
     }
   where
     four : (n : ℕ) → n < 4 → get_or (c.grant_end.result ∷ c.grant_end-2.result ∷ c.grant_end-3.result ∷ c.grant_end-4.result ∷ []) n 0 ≡ place_of (grant_head n) (last_active c.args.plan.now (grant_chain n))

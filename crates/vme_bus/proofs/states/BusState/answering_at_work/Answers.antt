@@ -1,11 +1,15 @@
-use Rattle.std.proofs.Common.{◌∙◌, sym}
+use Rattle.std.proofs.Common.{◌∙◌, ap}
+use Rattle.std.specs.Prelude.{◌||◌, not}
 use Rattle.vme_bus.specs.Sets.{has}
-use Rattle.vme_bus.proofs.AtWork.{neither, answers_none}
+use Rattle.vme_bus.specs.Movers.{interrupter_rests}
+use Rattle.vme_bus.proofs.AtWork.{answers_work}
 use Rattle.vme_bus.proofs.states.BusState.answering_at_work.Goals as goal
 
 pub returns : goal.returns
-returns c version p h is s off =
+returns c version p h is s =
     let b = c.args.self.now in
-    let t = neither (has c.or.result s) (has c.accessed.result s) (sym (c.or-2.ensures s) ∙ off) in
-    let u = neither (has c.interrupters_at_work.result s) (has b.dtack s) (sym (c.or.ensures s) ∙ t.0) in
-    answers_none version p h b s is (λ r found. c.interrupters_at_work.ensures version p h is s r found u.0) u.1 (λ near. sym (c.accessed.ensures s near) ∙ t.1)
+    c.or-2.ensures s
+    ∙ ap (λ x. x || has c.and.result s) (c.or.ensures s)
+    ∙ ap (λ x. (x || has b.dtack s) || has c.and.result s) (c.interrupters_at_work.ensures version p h is s)
+    ∙ ap (λ x. (not (interrupter_rests p h s) || has b.dtack s) || x) (c.and.ensures s)
+    ∙ answers_work version p h b s is (has c.accessed.result s) (λ near. c.accessed.ensures s near)

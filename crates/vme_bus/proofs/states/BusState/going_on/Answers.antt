@@ -7,7 +7,7 @@ use Rattle.vme_model.specs.Rules.{addr_goes_on, burst_guard, show_guard}
 use Rattle.vme_bus.proofs.states.BusState.going_on.Goals as goal
 
 pub returns : goal.returns
-returns g c version p h r is found same has formed =
+returns g c version p h r is found some formed =
     let s = c.args.slot in
     let reads = readings p h (Slot s) in
     let bursts = burst_guard reads in
@@ -15,4 +15,4 @@ returns g c version p h r is found same has formed =
     subst (λ k. g.A.Outcome.tells c.addr_goes_on.result k)
     (ap (λ x. addr_goes_on x c.address_strobe.result bursts shows) (c.has.ensures ∙ is.bbsy s)
     ∙ ap (λ x. addr_goes_on (drive h (Slot s) Bbsy) x bursts shows) (c.address_strobe.ensures version p h is))
-    (c.addr_goes_on.ensures bursts shows (c.bursting-bursting.ensures version p h is r found has) (c.showing-showing.ensures s version p h r is found same formed))
+    (c.addr_goes_on.ensures bursts shows (c.bursting-bursting.ensures version p h r is found some) (c.showing-showing.ensures version p h r is found formed))

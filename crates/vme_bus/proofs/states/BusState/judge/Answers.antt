@@ -1,13 +1,14 @@
-use Rattle.std.proofs.Common.{◌∙◌, sym}
-use Rattle.vme_wiring.proofs.JudgedParts.{refused, passed}
+use Rattle.vme_bus.proofs.Parts.{of_requester, of_master, of_interrupter, of_controller}
 use Rattle.vme_bus.proofs.states.BusState.judge.Goals as goal
 
-pub returns-in-Ok : goal.returns-in-Ok
-returns-in-Ok c version p h is =
-    let some = sym (c.exists.ensures version p h is) ∙ c.if-not-exists.false in
-    c.settle.ensures version p h is ∙ passed version p h c.args.edge some (sym (c.ask.ensures version p h is some) ∙ c.in-Ok.is)
+pub judge_requester-requires : goal.judge_requester-requires
+judge_requester-requires c = of_requester c.args.edge.wire c.in-Br.is
 
-pub returns-in-Err : goal.returns-in-Err
-returns-in-Err c version p h is =
-    let some = sym (c.exists.ensures version p h is) ∙ c.if-not-exists.false in
-    refused version p h c.args.edge c.in-Err.refused some (sym (c.ask.ensures version p h is some) ∙ c.in-Err.is)
+pub judge_master-requires : goal.judge_master-requires
+judge_master-requires c = of_master c.args.edge.wire c.in-Addr.is
+
+pub judge_interrupter-requires : goal.judge_interrupter-requires
+judge_interrupter-requires c = of_interrupter c.args.edge.wire c.in-Irq.is
+
+pub judge_controller-requires : goal.judge_controller-requires
+judge_controller-requires c = of_controller c.args.edge.wire c.in-Bg.is

@@ -3,7 +3,7 @@ use Rattle.vme_model.specs.declared.pins.Pins.{Pins}
 use Rattle.vme_wiring.proofs.Fresh.{high_shared, none_addresses}
 use Rattle.vme_bus.specs.Layouts.{grant_head, acknowledge_head}
 use Rattle.vme_bus.specs.States.{bus_clear_place, bus_error_place}
-use Rattle.vme_bus.proofs.PowerUp.{none_held, none_served, no_cycles}
+use Rattle.vme_bus.proofs.PowerUp.{none_held, none_granted, none_acknowledged, none_served, no_cycles}
 use Rattle.vme_bus.proofs.states.BusState.new.Goals as goal
 
 pub returns : goal.returns
@@ -29,6 +29,8 @@ returns c =
       grant_heads = λ n near. none_held (grant_head n);
       acknowledges = λ s near. none_held s;
       acknowledges_head = none_held acknowledge_head;
+      granted = none_granted p;
+      acknowledged = none_acknowledged p;
       served = none_served p;
       strobed = none_held;
       cycles_room = refl;

@@ -1,0 +1,24 @@
+use Rattle.std.proofs.Common.{◌≡◌, ◌∙◌, sym, ap}
+use Rattle.std.specs.Prelude.{Some, None, option_map}
+use Rattle.std.specs.Option.{option_copied}
+use Rattle.vme_model.specs.declared.boards.Row.{Row}
+use Rattle.vme_model.specs.Plan.{board}
+use Rattle.vme_bus.specs.declared.records.Seat.{Seat}
+use Rattle.vme_bus.specs.Records.{seat_of_record}
+use Rattle.vme_bus.proofs.OneSlot.{seated, unseated}
+use Rattle.vme_bus.proofs.states.BusState.handler.Goals as goal
+
+pub returns-in-Some : goal.returns-in-Some
+returns-in-Some c version p h r is found =
+    let s = c.args.slot in
+    let k = seated p s (seat_of_record c.in-Some.seat.now) (sym (ap (option_map seat_of_record) (ap option_copied c.in-Some.is)) ∙ c.record.ensures ∙ is.layout.seats s) in
+    let one : Some k.row ≡ Some r = sym k.found ∙ found in
+    let same : k.row ≡ r = cc in
+    c.handler.ensures ∙ ap (λ (x : Seat). x.row.handler) k.same ∙ ap (λ (x : Row). x.handler) same
+
+pub returns-in-None : goal.returns-in-None
+returns-in-None c version p h r is found =
+    let s = c.args.slot in
+    let none = unseated p (board p s) (sym (is.layout.seats s) ∙ sym c.record.ensures ∙ ap (option_map seat_of_record) (ap option_copied c.in-None.is)) in
+    let bad : None ≡ Some r = sym none ∙ found in
+    absurd (cc)

@@ -1,0 +1,105 @@
+//! Situations of a bus that a trace can come to.
+ghost use Rattle.std.specs.Prelude.{◌≡◌, ◌≤◌, length, Some};
+ghost use Rattle.vme_goals.specs.Events.{event_text, has_event};
+
+use std::fmt;
+use vme_model::Version;
+
+/// A situation that an accepted edge brings about, in the order in which situations are told.
+#[derive(Clone, Copy, PartialEq, Eq, Debug, Default)]
+pub enum Event {
+    /// A board hands on a grant that it does not want.
+    #[default]
+    GrantPassed,
+    /// A board requests the bus after its grant has gone by.
+    LateRequest,
+    /// A board takes the bus while another waits that requested it before.
+    Overtaken,
+    /// A board gives up the bus before its last cycle is over.
+    EarlyRelease,
+    /// A board takes the bus while an earlier cycle still runs.
+    Overlap,
+    /// A board begins the last cycle of a burst above 1.
+    FullBurst,
+    /// The arbiter has the bus cleared.
+    BusClear,
+    /// A board requests an interrupt while another is pending at its level.
+    Rivals,
+    /// An acknowledge is answered.
+    Delivery,
+    /// A board hands on an acknowledge that it does not answer.
+    IackPassed,
+    /// A board answers a further acknowledge after one request.
+    AnsweredAgain,
+    /// An acknowledge that nobody answers is timed out.
+    Spurious,
+    /// An access that nobody answers is timed out.
+    BusError,
+    /// A board withdraws its request, in the second version of the rules.
+    Withdrawn,
+    /// A grant that nobody took is timed out, in the second version of the rules.
+    GrantTimeout,
+}
+
+impl Event {
+    /// All of them, in their order.
+    pub const ALL: [Event; 15] = [
+        Event::GrantPassed,
+        Event::LateRequest,
+        Event::Overtaken,
+        Event::EarlyRelease,
+        Event::Overlap,
+        Event::FullBurst,
+        Event::BusClear,
+        Event::Rivals,
+        Event::Delivery,
+        Event::IackPassed,
+        Event::AnsweredAgain,
+        Event::Spurious,
+        Event::BusError,
+        Event::Withdrawn,
+        Event::GrantTimeout,
+    ];
+
+    /// How it is called.
+    pub fn name(self) -> &'static str
+        ensures text { result.now ≡ event_text self }
+        ensures short { length result.now ≤ 14 }
+    {
+        match self {
+            Event::GrantPassed => "grant-passed",
+            Event::LateRequest => "late-request",
+            Event::Overtaken => "overtaken",
+            Event::EarlyRelease => "early-release",
+            Event::Overlap => "overlap",
+            Event::FullBurst => "full-burst",
+            Event::BusClear => "bus-clear",
+            Event::Rivals => "rivals",
+            Event::Delivery => "delivery",
+            Event::IackPassed => "iack-passed",
+            Event::AnsweredAgain => "answered-again",
+            Event::Spurious => "spurious",
+            Event::BusError => "bus-error",
+            Event::Withdrawn => "withdrawn",
+            Event::GrantTimeout => "grant-timeout",
+        }
+    }
+
+    /// Whether it can come in that version of the rules.
+    pub fn is_of(self, version: Version) -> bool
+        ensures { result ≡ has_event version self }
+    {
+        match self {
+            Event::Withdrawn | Event::GrantTimeout => version.is_two(),
+            _ => true,
+        }
+    }
+}
+
+impl fmt::Display for Event {
+    ghost output = { λ e. Some (event_text e) };
+
+    fn fmt<W: fmt::Write>(&self, f: &mut fmt::Formatter<W>) -> fmt::Result {
+        f.write_str(self.name())
+    }
+}

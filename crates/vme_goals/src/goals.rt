@@ -1,0 +1,80 @@
+//! What a trace can be drawn to come to.
+ghost use Rattle.std.specs.Prelude.{◌≡◌, find};
+ghost use Rattle.vme_goals.specs.Goals.{goal_of, goal_text, has_goal, is_named};
+
+use crate::events::Event;
+use crate::misses::{Miss, WORDS, push};
+use arrayvec::ArrayVec;
+use vme_model::Version;
+
+/// A situation that an accepted edge brings about, or an edge that one condition alone refuses.
+#[derive(Clone, Copy, PartialEq, Eq, Debug)]
+pub enum Goal {
+    Event(Event),
+    Miss(Miss),
+}
+
+impl Goal {
+    /// Whether the version of the rules can come to it.
+    pub fn is_of(self, version: Version) -> bool
+        ensures { result ≡ has_goal version self }
+    {
+        match self {
+            Goal::Event(event) => event.is_of(version),
+            Goal::Miss(miss) => miss.is_of(version),
+        }
+    }
+
+    /// Its words.
+    pub fn text(self) -> ArrayVec<u8, WORDS>
+        ensures { result.items ≡ goal_text self }
+    {
+        match self {
+            Goal::Event(event) => {
+                let mut words = ArrayVec::new();
+                push(&mut words, event.name());
+                words
+            }
+            Goal::Miss(miss) => miss.text(),
+        }
+    }
+
+    /// Whether these are its words, and the version of the rules can come to it.
+    fn is_named(self, words: &str, version: Version) -> bool
+        ensures { result ≡ is_named words.now version self }
+    {
+        self.is_of(version) && words.as_bytes() == self.text().as_slice()
+    }
+}
+
+/// The first of these situations that the words name.
+fn event_of(events: &[Event], words: &str, version: Version) -> Option<Event>
+    ensures { result ≡ find (λ e. is_named words.now version (Goal.Event e)) events.now }
+{
+    events
+        .iter()
+        .copied()
+        .find(|event| Goal::Event(*event).is_named(words, version))
+}
+
+/// The first of these misses that the words name.
+fn miss_of(misses: &[Miss], words: &str, version: Version) -> Option<Miss>
+    ensures { result ≡ find (λ m. is_named words.now version (Goal.Miss m)) misses.now }
+{
+    misses
+        .iter()
+        .copied()
+        .find(|miss| Goal::Miss(*miss).is_named(words, version))
+}
+
+/// The goal that these words name: a situation by its name, a condition as `G13 own br is low`, with
+/// N for a level, or a settling rule as `S2`. None where no goal has these words, or where the
+/// version of the rules cannot come to it.
+pub fn goal_of(words: &str, version: Version) -> Option<Goal>
+    ensures { result ≡ goal_of words.now version }
+{
+    match event_of(&Event::ALL, words, version) {
+        Some(event) => Some(Goal::Event(event)),
+        None => Some(Goal::Miss(miss_of(&Miss::ALL, words, version)?)),
+    }
+}

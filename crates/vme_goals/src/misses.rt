@@ -1,0 +1,177 @@
+//! Edges that one condition alone refuses.
+ghost use Rattle.std.specs.Prelude.{◌≡◌, ◌≤◌, ◌+◌, ◌++◌, decimal, length};
+ghost use Rattle.arrayvec.specs.ArrayVec.{array_vec_len};
+ghost use Rattle.vme_model.specs.Spoken.{kind_text};
+ghost use Rattle.vme_goals.specs.Goals.{has_miss, pattern, miss_text};
+
+use arrayvec::ArrayVec;
+use itoa::Buffer;
+use vme_model::{Condition, IrqKind, Version};
+
+/// Room for the words of any goal: the longest has 50 bytes.
+pub(crate) const WORDS: usize = 80;
+
+/// Appends a text that has room.
+pub(crate) fn push(words: &mut ArrayVec<u8, WORDS>, text: &str)
+    requires { array_vec_len words.old + length text.now ≤ 80 }
+    ensures items { words.new.items ≡ words.old.items ++ text.now }
+    ensures len { array_vec_len words.new ≡ array_vec_len words.old + length text.now }
+{
+    if words.try_extend_from_slice(text.as_bytes()).is_err() {
+        unreachable!()
+    }
+}
+
+/// Appends a rule's number in decimal.
+fn push_number(words: &mut ArrayVec<u8, WORDS>, rule: u8)
+    requires { array_vec_len words.old + 3 ≤ 80 }
+    ensures items { words.new.items ≡ words.old.items ++ decimal rule }
+    ensures len { array_vec_len words.new ≤ array_vec_len words.old + 3 }
+{
+    let mut digits = Buffer::new();
+    push(words, digits.format(rule));
+}
+
+/// What alone refuses an edge.
+#[derive(Clone, Copy, PartialEq, Eq, Debug)]
+pub enum Miss {
+    /// Of the guard of this rule, G1 to G26, this condition fails, and no other.
+    Rule(u8, Condition),
+    /// G22's only condition fails, of an interrupter of this kind.
+    Unserved(IrqKind),
+    /// The guard of the rule holds, and this settling rule, S1 to S4, does not.
+    Settling(u8),
+}
+
+/// How a condition is spelled, with N for a level.
+fn pattern(condition: Condition) -> &'static str
+    ensures text { result.now ≡ pattern condition }
+    ensures short { length result.now ≤ 48 }
+{
+    match condition {
+        Condition::Picked => "the arbiter picks level N",
+        Condition::Handled => "the board handles level N",
+        Condition::InterruptLow => "IRQN* is low",
+        Condition::Pending => "pending at level N",
+        Condition::NotPending => "not pending at level N",
+        _ => condition.fixed_text().unwrap_or(""),
+    }
+}
+
+/// What serves an interrupter of the kind.
+fn kind_text(kind: IrqKind) -> &'static str
+    ensures text { result.now ≡ kind_text kind }
+    ensures short { length result.now ≤ 48 }
+{
+    match kind {
+        IrqKind::Roak => "the request was served by an acknowledge",
+        IrqKind::Rora => "the request was served by an access",
+    }
+}
+
+impl Miss {
+    /// All that have words: the conditions of G1 to G26 in the order of their guards, and S1 to S4.
+    pub const ALL: [Miss; 66] = [
+        Miss::Rule(1, Condition::GrantsHigh),
+        Miss::Rule(1, Condition::BusyHigh),
+        Miss::Rule(1, Condition::Picked),
+        Miss::Rule(2, Condition::BusyLow),
+        Miss::Rule(3, Condition::ArbiterIsPri),
+        Miss::Rule(3, Condition::BusyLow),
+        Miss::Rule(3, Condition::GrantsHigh),
+        Miss::Rule(3, Condition::HigherAsked),
+        Miss::Rule(4, Condition::ClearNotDue),
+        Miss::Rule(5, Condition::AddressStrobeLow),
+        Miss::Rule(5, Condition::DataStrobeLow),
+        Miss::Rule(5, Condition::AcknowledgeShown),
+        Miss::Rule(6, Condition::AddressStrobeHigh),
+        Miss::Rule(7, Condition::DataStrobeLow),
+        Miss::Rule(7, Condition::DtackHigh),
+        Miss::Rule(8, Condition::DataStrobeHigh),
+        Miss::Rule(9, Condition::OwnBusyHigh),
+        Miss::Rule(10, Condition::OwnBusyLow),
+        Miss::Rule(11, Condition::GrantInLow),
+        Miss::Rule(11, Condition::OwnRequestHigh),
+        Miss::Rule(11, Condition::OwnBusyHigh),
+        Miss::Rule(12, Condition::GrantInHigh),
+        Miss::Rule(13, Condition::GrantInLow),
+        Miss::Rule(13, Condition::OwnGrantOutHigh),
+        Miss::Rule(13, Condition::OwnRequestLow),
+        Miss::Rule(14, Condition::OwnRequestHigh),
+        Miss::Rule(14, Condition::GrantInHigh),
+        Miss::Rule(14, Condition::AddressFree),
+        Miss::Rule(14, Condition::Asked),
+        Miss::Rule(15, Condition::OwnBusyLow),
+        Miss::Rule(15, Condition::AddressStrobeHigh),
+        Miss::Rule(15, Condition::WithinBurst),
+        Miss::Rule(15, Condition::Handled),
+        Miss::Rule(15, Condition::InterruptLow),
+        Miss::Rule(16, Condition::OwnAddressOn),
+        Miss::Rule(16, Condition::AddressStrobeHigh),
+        Miss::Rule(17, Condition::OwnAddressStrobeLow),
+        Miss::Rule(17, Condition::OwnAddressOn),
+        Miss::Rule(17, Condition::DtackHigh),
+        Miss::Rule(17, Condition::BerrHigh),
+        Miss::Rule(17, Condition::NotStrobed),
+        Miss::Rule(18, Condition::Answered),
+        Miss::Rule(19, Condition::OwnAddressStrobeLow),
+        Miss::Rule(19, Condition::OwnDataStrobeHigh),
+        Miss::Rule(19, Condition::Strobed),
+        Miss::Rule(20, Condition::OwnAddressOff),
+        Miss::Unserved(IrqKind::Roak),
+        Miss::Unserved(IrqKind::Rora),
+        Miss::Rule(23, Condition::AcknowledgeInLow),
+        Miss::Rule(23, Condition::OwnDtackHigh),
+        Miss::Rule(23, Condition::DataStrobeLow),
+        Miss::Rule(23, Condition::NotPending),
+        Miss::Rule(23, Condition::AcknowledgeShown),
+        Miss::Rule(24, Condition::AddressStrobeHigh),
+        Miss::Rule(25, Condition::DataStrobeLow),
+        Miss::Rule(25, Condition::AddressStrobeLow),
+        Miss::Rule(25, Condition::AcknowledgeInLow),
+        Miss::Rule(25, Condition::OwnAcknowledgeOutHigh),
+        Miss::Rule(25, Condition::Pending),
+        Miss::Rule(25, Condition::OwnSlotShown),
+        Miss::Rule(25, Condition::CycleShown),
+        Miss::Rule(26, Condition::DataStrobeHigh),
+        Miss::Settling(1),
+        Miss::Settling(2),
+        Miss::Settling(3),
+        Miss::Settling(4),
+    ];
+
+    /// Whether the version of the rules has such a condition.
+    pub fn is_of(self, version: Version) -> bool
+        ensures { result ≡ has_miss version self }
+    {
+        match self {
+            Miss::Rule(2 | 10, _) => !version.is_two(),
+            Miss::Rule(..) | Miss::Unserved(_) => true,
+            Miss::Settling(rule) => version.is_two() || rule <= 2,
+        }
+    }
+
+    /// Its words: a rule and the text of its condition, with N for a level, or a settling rule.
+    pub fn text(self) -> ArrayVec<u8, WORDS>
+        ensures { result.items ≡ miss_text self }
+    {
+        let mut words = ArrayVec::new();
+        match self {
+            Miss::Rule(rule, condition) => {
+                push(&mut words, "G");
+                push_number(&mut words, rule);
+                push(&mut words, " ");
+                push(&mut words, pattern(condition));
+            }
+            Miss::Unserved(kind) => {
+                push(&mut words, "G22 ");
+                push(&mut words, kind_text(kind));
+            }
+            Miss::Settling(rule) => {
+                push(&mut words, "S");
+                push_number(&mut words, rule);
+            }
+        }
+        words
+    }
+}
