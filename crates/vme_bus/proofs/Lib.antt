@@ -10,7 +10,7 @@ pub mod PowerUp
 pub mod Lines
 -- what a board reads at its inputs: `BusState::grant_in`, `iack_in`
 pub mod Inputs
--- which part of a board a wire is of: `BusState::board_rule`
+-- which part of a board a wire is of: `BusState::board_rule`, `judge`, and what its arms call
 pub mod Parts
 -- the next slot of the set of boards is the next slot with a board: `BusState::board_above`
 pub mod NextBoards
@@ -26,9 +26,9 @@ pub mod Places
 pub mod LongerHistory
 -- what the sets say of one slot: `BusState::is_slot_low`, `is_low`, `row`, `told_by_rule`
 pub mod OneSlot
--- which parts of a board wait: `BusState::waiting_parts`, `is_waiting`
+-- a slot waits where all parts of its board do: `BusState::movers`
 pub mod WaitingParts
--- slots that are in none of the sets at work wait: `BusState::movers` and the parts of it
+-- the slots whose parts do not wait are those of the sets at work: `BusState::movers` and the parts of it
 pub mod AtWork
 -- where a grant stops, it travels: `BusState::grant_at`
 pub mod Standing

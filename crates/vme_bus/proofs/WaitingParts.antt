@@ -1,4 +1,4 @@
--- Which parts of a board wait: `BusState::waiting_parts`, `is_waiting`.
+-- A slot waits where all parts of its board do: `BusState::movers`.
 use Rattle.std.proofs.Common.{◌≡◌, refl, ℕ, true, List}
 use Rattle.std.specs.Prelude.{◌&&◌, Option, Some, None}
 use Rattle.std.specs.Option.{option_map_or}

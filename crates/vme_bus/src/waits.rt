@@ -1,11 +1,8 @@
-//! Which drivers wait for an edge of another.
-ghost use Rattle.std.specs.Prelude.{◌≡◌, [], true};
-ghost use Rattle.vme_wiring.specs.Offered.{offered_but_full};
+//! Which parts of a board wait for an edge of another.
+ghost use Rattle.std.specs.Prelude.{◌≡◌};
 ghost use Rattle.vme_wiring.specs.Judged.{requester_waits, master_waits, interrupter_waits};
-ghost use Rattle.vme_wiring.specs.Waits.{is_waiting};
 
 use crate::states::BusState;
-use vme_model::Driver;
 use vme_wiring::Waiting;
 
 impl BusState {
@@ -24,27 +21,6 @@ impl BusState {
             requester: !self.requesters_at_work().has(slot),
             master: !self.masters_at_work().has(slot),
             interrupter: !self.answering_at_work().has(slot),
-        }
-    }
-
-    /// Whether the driver waits for an edge of another: each part of its board waits, the requester
-    /// for a grant, the master for the bus, and the rest for a cycle. The rules then allow none of
-    /// the edges that are considered for it.
-    ///
-    /// It looks at a few bits alone. Where it answers false, `offers` may still be empty.
-    #[inline(always)]
-    pub fn is_waiting(&self, driver: Driver) -> bool
-        ensures waits { OfHistory self.now (λ version p h.
-            result ≡ is_waiting version p h driver) }
-        ensures none { OfHistory self.now (λ version p h. result ≡ true
-            → offered_but_full version p h driver ≡ []) }
-    {
-        match driver {
-            Driver::Controller => false,
-            Driver::Slot(slot) => {
-                let waiting = self.waiting_parts(slot);
-                waiting.requester & waiting.master & waiting.interrupter
-            }
         }
     }
 }
