@@ -1,5 +1,5 @@
--- What a board's edge is answered: `BusState::asked_by`, `ask_requester` and its like; and of a grant beyond the last level.
-use Rattle.std.proofs.Common.{◌≡◌, refl, sym, ap, subst, ℕ, zero, suc, Bool, true, false, List, ◌<◌, ◌≤◌, arith}
+-- What an edge is answered: `BusState::ask_requester` and its like; and of a grant beyond the last level.
+use Rattle.std.proofs.Common.{◌≡◌, ◌∙◌, refl, sym, ap, subst, ℕ, zero, suc, Bool, true, false, List, ◌<◌, ◌≤◌, arith}
 use Rattle.std.specs.Prelude.{◌==◌, min, not, Option, Some, None, Ok, Err, nat_le}
 use Rattle.std.specs.Option.{option_map_or}
 use Rattle.std.proofs.Math.Bool.{beq}
@@ -7,6 +7,7 @@ use Rattle.std.proofs.lemmas.Bool.Decides.{nat_tests}
 use Rattle.vme_model.specs.declared.boards.Row.{Row}
 use Rattle.vme_model.specs.declared.refusals.Refused.TheVariants.{AlreadyThere, Rule}
 use Rattle.vme_model.specs.declared.signals.Version.{Version}
+use Rattle.vme_model.specs.declared.signals.Driver.{Driver}
 use Rattle.vme_model.specs.declared.signals.Driver.TheVariants.{Slot}
 use Rattle.vme_model.specs.declared.signals.Edge.{Edge}
 use Rattle.vme_model.specs.declared.signals.Wire.{Wire}
@@ -58,33 +59,16 @@ by_state low fall rest = check (is_other_state low fall) AlreadyThere rest
 abbrev pub by_rule : ℕ → Bool → Judgement
 by_rule n b = check b (Rule n) (Ok tt)
 
-pub there : (low fall : Bool) (rest : Judgement) → low ≡ fall → Err AlreadyThere ≡ by_state low fall rest
-there true true rest e = refl
-there false false rest e = refl
-there true false rest e = absurd (cc)
-there false true rest e = absurd (cc)
-
-pub moves : (low fall : Bool) (rest : Judgement) → low ≡ not fall → rest ≡ by_state low fall rest
-moves true false rest e = refl
-moves false true rest e = refl
-moves true true rest e = absurd (cc)
-moves false false rest e = absurd (cc)
-
-pub asked_at : (version : Version) (p : Plan) (h : List Edge) (s : ℕ) (e : Edge) → e.driver ≡ Slot s →
-    by_state (drive h (Slot s) e.wire) e.fall (by_rule (rule version (readings p h (Slot s)) e.wire e.fall e.value).0 (rule version (readings p h (Slot s)) e.wire e.fall e.value).1) ≡ asked version p h e
-asked_at version p h s e driver = ap (λ d. by_state (drive h d e.wire) e.fall (by_rule (rule version (readings p h d) e.wire e.fall e.value).0 (rule version (readings p h d) e.wire e.fall e.value).1)) (sym driver)
-
-pub equal : (a b : Bool) → beq a b ≡ true → a ≡ b
-equal true true e = refl
-equal false false e = refl
-equal true false e = absurd (cc)
-equal false true e = absurd (cc)
-
-pub unequal : (a b : Bool) → beq a b ≡ false → a ≡ not b
-unequal true false e = refl
-unequal false true e = refl
-unequal true true e = absurd (cc)
-unequal false false e = absurd (cc)
+-- the answer of a part is that to the edge
+pub asked_so : (version : Version) (p : Plan) (h : List Edge) (d : Driver) (e : Edge) (low : Bool) (n : ℕ) (b : Bool) → e.driver ≡ d → low ≡ drive h d e.wire →
+    n ≡ (rule version (readings p h d) e.wire e.fall e.value).0 → b ≡ (rule version (readings p h d) e.wire e.fall e.value).1 →
+    by_state low e.fall (by_rule n b) ≡ asked version p h e
+asked_so version p h d e low n b driver driven number answer =
+    let row = rule version (readings p h d) e.wire e.fall e.value in
+    ap (λ x. by_state x e.fall (by_rule n b)) driven
+    ∙ ap (λ x. by_state (drive h d e.wire) e.fall (by_rule x b)) number
+    ∙ ap (λ x. by_state (drive h d e.wire) e.fall (by_rule row.0 x)) answer
+    ∙ ap (λ x. by_state (drive h x e.wire) e.fall (by_rule (rule version (readings p h x) e.wire e.fall e.value).0 (rule version (readings p h x) e.wire e.fall e.value).1)) (sym driver)
 
 -- the slot of an edge that there is has a board
 pub has_board : (p : Plan) (s : ℕ) (e : Edge) → e.driver ≡ Slot s → exists p e ≡ true → (r : Row) × (board p s ≡ Some r)

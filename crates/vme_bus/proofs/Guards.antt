@@ -13,13 +13,13 @@ use Rattle.vme_model.specs.declared.signals.Driver.TheVariants.{Slot}
 use Rattle.vme_model.specs.declared.signals.Edge.{Edge}
 use Rattle.vme_model.specs.declared.signals.Wire.TheVariants.{Addr, IackOut}
 use Rattle.vme_model.specs.Signals.{has_value}
-use Rattle.vme_model.specs.Sets.{has_level, irq_levels}
+use Rattle.vme_model.specs.declared.sets.Levels.{Levels}
+use Rattle.vme_model.specs.Sets.{has_level}
 use Rattle.vme_model.specs.Plan.{Plan, board}
 use Rattle.vme_model.specs.History.{drive, interrupt_line}
 use Rattle.vme_model.specs.Readings.{Readings, readings, iack_in}
 use Rattle.vme_model.specs.Guards.{asks, ◌⊓◌}
 use Rattle.vme_model.specs.Rules.{shows, passes, answers, show_guard, pass_guard, answer_guard}
-use Rattle.vme_model.proofs.PinSets.{has_irq}
 use Rattle.vme_model.proofs.Bools.{and_left, and_right}
 use Rattle.vme_wiring.specs.Waits.{is_access_to}
 use Rattle.vme_bus.specs.Asks.{asks_at}
@@ -28,12 +28,15 @@ use Rattle.vme_bus.specs.Moves.{release_of}
 in_order : (a b n : ℕ) → nat_le a n ≡ true → nat_le n b ≡ true → (a ≤ n) × (n ≤ b)
 in_order a b n l m = (grind (arith, nat_tests), grind (arith, nat_tests))
 
-pub shown_by : (p : Plan) (h : List Edge) (s : ℕ) (r : Row) (v : Option Cycle) → board p s ≡ Some r → has_value Addr true v ≡ true → shows (has_level r.handler) (has_level (irq_levels (interrupt_line p h))) v ≡ show_guard (readings p h (Slot s)) v
-shown_by p h s r None found formed = refl
-shown_by p h s r (Some (Access t)) found formed = refl
-shown_by p h s r (Some (Acknowledge l)) found formed =
+-- an acknowledge reads the line of its own level alone
+pub shown_by : (p : Plan) (h : List Edge) (s : ℕ) (r : Row) (v : Option Cycle) (asked : Levels) → board p s ≡ Some r → has_value Addr true v ≡ true
+    → ((level : ℕ) → 1 ≤ level → level ≤ 7 → v ≡ Some (Acknowledge level) → has_level asked level ≡ interrupt_line p h level)
+    → shows (has_level r.handler) (has_level asked) v ≡ show_guard (readings p h (Slot s)) v
+shown_by p h s r None asked found formed reads = refl
+shown_by p h s r (Some (Access t)) asked found formed reads = refl
+shown_by p h s r (Some (Acknowledge l)) asked found formed reads =
     let k = in_order 1 7 l (and_left (nat_le 1 l) (nat_le l 7) formed) (and_right (nat_le 1 l) (nat_le l 7) formed) in
-    ap (λ b. asks Handled (has_level r.handler l) ⊓ asks InterruptLow b) (has_irq (interrupt_line p h) l k.0 k.1)
+    ap (λ b. asks Handled (has_level r.handler l) ⊓ asks InterruptLow b) (reads l k.0 k.1 refl)
     ∙ sym (ap (λ (o : Option Row). asks Handled (option_map_or (λ b. has_level b.handler l) o false) ⊓ asks InterruptLow (interrupt_line p h l)) found)
 
 pub passed_by : (r : Readings) (v : Option Cycle) → passes (λ level. asks_at r v) v ≡ pass_guard r v

@@ -18,9 +18,15 @@ pub mod NextBoards
 pub mod Guards
 -- what the low segments say of the settling rules: `BusState::are_grants_through` and its like
 pub mod Outputs
--- what a board's edge is answered: `BusState::asked_by`, `ask_requester` and its like
+-- what a board's edge is answered: `ask_requester` and its like
 pub mod Asked
--- one place of a set moves: `BusState::note_board`, `note_controller`
+-- when the edge that moves a wire to its other state is open: `BusState::may_control`, `may_request` and their like
+pub mod Turned
+-- the verdict on an edge that no settling rule names: `BusState::judge_requester`, `judge_interrupter`
+pub mod Settled
+-- what an edge of one part leaves as it is of the others: `BusState::move_requester` and its like
+pub mod Stays
+-- one place of a set moves: `BusState::move_requester` and its like, `move_controller`
 pub mod Places
 -- the state after an edge is that of the longer history: `BusState::note`
 pub mod LongerHistory

@@ -1,13 +1,15 @@
 -- Which part of a board a wire is of: `BusState::board_rule`, `judge`, and what its arms call.
-use Rattle.std.proofs.Common.{◌≡◌, ◌⊎◌, inl, inr, ◌∙◌, sym, ap, subst, ℕ, true, false}
-use Rattle.std.specs.Prelude.{is_some}
+use Rattle.std.proofs.Common.{◌≡◌, ◌⊎◌, inl, inr, ◌∙◌, refl, sym, ap, subst, ℕ, Bool, List, true, false}
+use Rattle.std.specs.Prelude.{◌&&◌, if◌then◌else◌, None, is_some}
 use Rattle.vme_model.specs.declared.boards.Row.{Row}
 use Rattle.vme_model.specs.declared.signals.Wire.{Wire}
 use Rattle.vme_model.specs.declared.signals.Wire.TheVariants.{Bg, Bclr, Iack, Berr, Br, BgOut, Bbsy, Addr, AddressStrobe, DataStrobe, Irq, IackOut, Dtack}
 use Rattle.vme_model.specs.declared.signals.Driver.TheVariants.{Controller, Slot}
 use Rattle.vme_model.specs.declared.signals.Edge.{Edge}
-use Rattle.vme_model.specs.Signals.{is_well_formed, has_wire, has_value}
-use Rattle.vme_model.specs.Plan.{drives}
+use Rattle.vme_model.specs.Signals.{is_well_formed, has_wire, has_value, is_same_wire}
+use Rattle.vme_model.specs.Plan.{Plan, board_of, drives}
+use Rattle.vme_model.specs.History.{shown, addressing}
+use Rattle.vme_model.specs.Deliveries.{delivered_by, delivery}
 use Rattle.vme_model.proofs.Bools.{and_left}
 use Rattle.vme_bus.specs.Asks.{is_boards}
 use Rattle.vme_requester.specs.Local.{is_requesters}
@@ -155,3 +157,102 @@ not_controllers_alone Dtack s other has = cc
 
 pub controllers_alone : (e : Edge) (s : ℕ) → e.driver ≡ Slot s → is_boards e.wire ≡ false → is_well_formed e ≡ true → ⊥
 controllers_alone e s driver other formed = not_controllers_alone e.wire s other (subst (λ d. has_wire d e.wire ≡ true) driver (wire_of e formed))
+
+-- an edge that is no answer delivers nothing
+not_answered : (w : Wire) → is_interrupters w ≡ false → is_same_wire w Dtack ≡ false
+not_answered (Bg n) other = refl
+not_answered Bclr other = refl
+not_answered Iack other = refl
+not_answered Berr other = refl
+not_answered Br other = refl
+not_answered BgOut other = refl
+not_answered Bbsy other = refl
+not_answered Addr other = refl
+not_answered AddressStrobe other = refl
+not_answered DataStrobe other = refl
+not_answered Irq other = absurd (cc)
+not_answered IackOut other = absurd (cc)
+not_answered Dtack other = absurd (cc)
+
+never_both : (a b : Bool) → b ≡ false → (a && b) ≡ false
+never_both true b e = e
+never_both false b e = refl
+
+pub no_delivery : (p : Plan) (h : List Edge) (e : Edge) → is_interrupters e.wire ≡ false → None ≡ delivery p h e
+no_delivery p h e other =
+    sym (ap (λ b. if b then delivered_by (shown p h) (addressing p h) (board_of p e.driver) else None) (never_both e.fall (is_same_wire e.wire Dtack) (not_answered e.wire other)))
+
+pub controllers_deliver_not : (w : Wire) → is_boards w ≡ false → is_interrupters w ≡ false
+controllers_deliver_not (Bg n) other = refl
+controllers_deliver_not Bclr other = refl
+controllers_deliver_not Iack other = refl
+controllers_deliver_not Berr other = refl
+controllers_deliver_not Br other = absurd (cc)
+controllers_deliver_not BgOut other = absurd (cc)
+controllers_deliver_not Bbsy other = absurd (cc)
+controllers_deliver_not Addr other = absurd (cc)
+controllers_deliver_not AddressStrobe other = absurd (cc)
+controllers_deliver_not DataStrobe other = absurd (cc)
+controllers_deliver_not Irq other = absurd (cc)
+controllers_deliver_not IackOut other = absurd (cc)
+controllers_deliver_not Dtack other = absurd (cc)
+
+pub requester_delivers_not : (w : Wire) → is_requesters w ≡ true → is_interrupters w ≡ false
+requester_delivers_not (Bg n) known = absurd (cc)
+requester_delivers_not Bclr known = absurd (cc)
+requester_delivers_not Iack known = absurd (cc)
+requester_delivers_not Berr known = absurd (cc)
+requester_delivers_not Br known = refl
+requester_delivers_not BgOut known = refl
+requester_delivers_not Bbsy known = refl
+requester_delivers_not Addr known = absurd (cc)
+requester_delivers_not AddressStrobe known = absurd (cc)
+requester_delivers_not DataStrobe known = absurd (cc)
+requester_delivers_not Irq known = absurd (cc)
+requester_delivers_not IackOut known = absurd (cc)
+requester_delivers_not Dtack known = absurd (cc)
+
+pub master_delivers_not : (w : Wire) → is_masters w ≡ true → is_interrupters w ≡ false
+master_delivers_not (Bg n) known = absurd (cc)
+master_delivers_not Bclr known = absurd (cc)
+master_delivers_not Iack known = absurd (cc)
+master_delivers_not Berr known = absurd (cc)
+master_delivers_not Br known = absurd (cc)
+master_delivers_not BgOut known = absurd (cc)
+master_delivers_not Bbsy known = absurd (cc)
+master_delivers_not Addr known = refl
+master_delivers_not AddressStrobe known = refl
+master_delivers_not DataStrobe known = refl
+master_delivers_not Irq known = absurd (cc)
+master_delivers_not IackOut known = absurd (cc)
+master_delivers_not Dtack known = absurd (cc)
+
+pub requester_no_master : (w : Wire) → is_requesters w ≡ true → is_masters w ≡ false
+requester_no_master (Bg n) known = absurd (cc)
+requester_no_master Bclr known = absurd (cc)
+requester_no_master Iack known = absurd (cc)
+requester_no_master Berr known = absurd (cc)
+requester_no_master Br known = refl
+requester_no_master BgOut known = refl
+requester_no_master Bbsy known = refl
+requester_no_master Addr known = absurd (cc)
+requester_no_master AddressStrobe known = absurd (cc)
+requester_no_master DataStrobe known = absurd (cc)
+requester_no_master Irq known = absurd (cc)
+requester_no_master IackOut known = absurd (cc)
+requester_no_master Dtack known = absurd (cc)
+
+pub interrupter_no_master : (w : Wire) → is_interrupters w ≡ true → is_masters w ≡ false
+interrupter_no_master (Bg n) known = absurd (cc)
+interrupter_no_master Bclr known = absurd (cc)
+interrupter_no_master Iack known = absurd (cc)
+interrupter_no_master Berr known = absurd (cc)
+interrupter_no_master Br known = absurd (cc)
+interrupter_no_master BgOut known = absurd (cc)
+interrupter_no_master Bbsy known = absurd (cc)
+interrupter_no_master Addr known = absurd (cc)
+interrupter_no_master AddressStrobe known = absurd (cc)
+interrupter_no_master DataStrobe known = absurd (cc)
+interrupter_no_master Irq known = refl
+interrupter_no_master IackOut known = refl
+interrupter_no_master Dtack known = refl

@@ -19,12 +19,12 @@ impl Judges for BusState {
 
     #[inline(always)]
     fn judge(&self, edge: Edge) -> Result<(), Refused> {
-        self.judge_by_wire(edge)
+        BusState::judge(self, edge)
     }
 
     fn told_by_rule<A: Outcome>(&self, edge: Edge) -> A {
         match edge.driver {
-            Driver::Controller => self.arbiter().told(edge, self.shared()),
+            Driver::Controller => self.controller_rule(edge.wire, edge.fall).1,
             Driver::Slot(slot) => {
                 if slot < 22 {
                     self.board_rule(slot, edge.wire, edge.fall, edge.value).1
@@ -42,15 +42,17 @@ impl Judges for BusState {
 
     #[inline(always)]
     fn is_low(&self, driver: Driver, wire: Wire) -> bool {
-        match driver {
-            Driver::Controller => self.arbiter().is_low(wire),
-            Driver::Slot(slot) => (slot < 22) & self.is_slot_low(slot, wire),
-        }
+        self.is_driven_low(driver, wire)
+    }
+
+    #[inline(always)]
+    fn may_turn(&self, driver: Driver, wire: Wire) -> bool {
+        BusState::may_turn(self, driver, wire)
     }
 
     #[inline(always)]
     fn may_grant(&self) -> bool {
-        self.arbiter().may_grant(self.shared())
+        self.are_grants_high() & !self.bbsy()
     }
 
     #[inline(always)]

@@ -14,6 +14,7 @@ mod sights;
 mod stands;
 mod states;
 mod steps;
+mod turns;
 mod verdicts;
 mod waits;
 

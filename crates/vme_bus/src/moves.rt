@@ -1,11 +1,15 @@
 //! What an edge makes of a state.
-ghost use Rattle.std.specs.Prelude.{◌≡◌, ◌∷◌, ◌<◌, Ok};
+ghost use Rattle.std.specs.Prelude.{◌≡◌, ◌∷◌, ◌<◌, Ok, true, false};
 ghost use Rattle.vme_model.specs.declared.signals.Driver.TheVariants as driver;
 ghost use Rattle.vme_model.specs.Signals.{grant_level};
 ghost use Rattle.vme_model.specs.Plan.{board};
 ghost use Rattle.vme_model.specs.History.{shown};
 ghost use Rattle.vme_model.specs.Verdict.{verdict_but_full};
 ghost use Rattle.vme_wiring.specs.Counts.{addressing_after};
+ghost use Rattle.vme_requester.specs.Local.{is_requesters};
+ghost use Rattle.vme_master.specs.Local.{is_masters};
+ghost use Rattle.vme_interrupter.specs.Local.{is_interrupters};
+ghost use Rattle.vme_bus.specs.Asks.{is_boards};
 ghost use Rattle.vme_bus.specs.Records.{cycle_in, slot_in};
 ghost use Rattle.vme_bus.specs.Layouts.{grant_head, set_at};
 ghost use Rattle.vme_bus.specs.Moves.{MovesPlace, MovesSlots, turned_by, grant_turned_by, FollowsWire, FollowsGrants, served_by, strobed_by, cycles_by, shown_by, last_level_by, is_serving, release_of};
@@ -169,7 +173,7 @@ impl BusState {
 
     /// Takes in an edge of the controller that is allowed after a history that the state is of.
     #[inline(always)]
-    fn note_controller(&mut self, edge: Edge)
+    fn move_controller(&mut self, edge: Edge)
         ensures { OfHistory self.old (λ version p h. edge.driver ≡ driver.Controller
             → verdict_but_full version p h edge ≡ Ok tt
             → IsStateOf version p (edge ∷ h) self.new) }
@@ -188,35 +192,131 @@ impl BusState {
         self.controls = low_after(bus_clear, Wire::Berr, BUS_ERROR, edge.wire);
     }
 
-    /// Takes in an edge of the slot's board that is allowed after a history that the state is of.
+    /// Takes in an edge of the slot's requester that is allowed after a history that the state is of.
     #[inline(always)]
-    fn note_board(&mut self, slot: u8, edge: Edge)
-        requires { slot < 22 }
+    fn move_requester(&mut self, slot: u8, edge: Edge)
+        requires slot { slot < 22 }
+        requires part { is_requesters edge.wire ≡ true }
         ensures { OfHistory self.old (λ version p h. edge.driver ≡ driver.Slot slot
             → verdict_but_full version p h edge ≡ Ok tt
             → IsStateOf version p (edge ∷ h) self.new) }
     {
         let wire = edge.wire;
         let place = usize::from(slot);
-        let (serves, release) = (self.is_serving(slot), self.release(slot));
         self.br = low_after(self.br, Wire::Br, slot, wire);
         self.bbsy = low_after(self.bbsy, Wire::Bbsy, slot, wire);
+        self.grants = low_after(self.grants, Wire::BgOut, slot, wire);
+        let granted_by = self.layout.granted_by[place];
+        self.granted = inputs_after(self.granted, granted_by, Wire::BgOut, wire);
+        self.cycles[place] = cycles_after(self.cycles[place], Release::Request, edge);
+    }
+
+    /// Takes in an edge of the slot's master that is allowed after a history that the state is of.
+    #[inline(always)]
+    fn move_master(&mut self, slot: u8, edge: Edge)
+        requires slot { slot < 22 }
+        requires part { is_masters edge.wire ≡ true }
+        ensures { OfHistory self.old (λ version p h. edge.driver ≡ driver.Slot slot
+            → verdict_but_full version p h edge ≡ Ok tt
+            → IsStateOf version p (edge ∷ h) self.new) }
+    {
+        let wire = edge.wire;
+        let place = usize::from(slot);
+        let release = self.release(slot);
         self.addr = low_after(self.addr, Wire::Addr, slot, wire);
         self.address_strobe = low_after(self.address_strobe, Wire::AddressStrobe, slot, wire);
         self.data_strobe = low_after(self.data_strobe, Wire::DataStrobe, slot, wire);
-        self.irq = low_after(self.irq, Wire::Irq, slot, wire);
-        self.dtack = low_after(self.dtack, Wire::Dtack, slot, wire);
-        self.grants = low_after(self.grants, Wire::BgOut, slot, wire);
-        self.acknowledges = low_after(self.acknowledges, Wire::IackOut, slot, wire);
-        let granted_by = self.layout.granted_by[place];
-        self.granted = inputs_after(self.granted, granted_by, Wire::BgOut, wire);
-        let acknowledged_by = self.layout.acknowledged_by[place];
-        self.acknowledged = inputs_after(self.acknowledged, acknowledged_by, Wire::IackOut, wire);
-        self.served = served_after(self.served, slot, edge, serves);
         self.strobed = strobed_after(self.strobed, slot, edge);
         self.cycles[place] = cycles_after(self.cycles[place], release, edge);
         self.shown = shown_after(self.shown, edge);
         self.addressing = addressing_after(self.addressing, slot, edge);
+    }
+
+    /// Takes in an edge of the slot's interrupter, or an answer of its board, that is allowed after a history that the state is of.
+    #[inline(always)]
+    fn move_interrupter(&mut self, slot: u8, edge: Edge)
+        requires slot { slot < 22 }
+        requires part { is_interrupters edge.wire ≡ true }
+        ensures { OfHistory self.old (λ version p h. edge.driver ≡ driver.Slot slot
+            → verdict_but_full version p h edge ≡ Ok tt
+            → IsStateOf version p (edge ∷ h) self.new) }
+    {
+        let wire = edge.wire;
+        let place = usize::from(slot);
+        let serves = self.is_serving(slot);
+        self.irq = low_after(self.irq, Wire::Irq, slot, wire);
+        self.dtack = low_after(self.dtack, Wire::Dtack, slot, wire);
+        self.acknowledges = low_after(self.acknowledges, Wire::IackOut, slot, wire);
+        let acknowledged_by = self.layout.acknowledged_by[place];
+        self.acknowledged = inputs_after(self.acknowledged, acknowledged_by, Wire::IackOut, wire);
+        self.served = served_after(self.served, slot, edge, serves);
+    }
+
+    /// Takes in an edge of the controller that the rules allow after a history that the state is of.
+    #[inline(always)]
+    pub(crate) fn note_controller(&mut self, edge: Edge)
+        requires { is_boards edge.wire ≡ false }
+        ensures { OfHistory self.old (λ version p h. verdict_but_full version p h edge ≡ Ok tt
+            → IsStateOf version p (edge ∷ h) self.new) }
+    {
+        match edge.driver {
+            Driver::Controller => self.move_controller(edge),
+            Driver::Slot(_) => {}
+        }
+    }
+
+    /// Takes in an edge of a board's requester that the rules allow after a history that the state is of.
+    #[inline(always)]
+    pub(crate) fn note_requester(&mut self, edge: Edge)
+        requires { is_requesters edge.wire ≡ true }
+        ensures { OfHistory self.old (λ version p h. verdict_but_full version p h edge ≡ Ok tt
+            → IsStateOf version p (edge ∷ h) self.new) }
+    {
+        match edge.driver {
+            Driver::Controller => {}
+            // No board stands in a slot beyond 21.
+            Driver::Slot(slot) => {
+                if slot < 22 {
+                    self.move_requester(slot, edge);
+                }
+            }
+        }
+    }
+
+    /// Takes in an edge of a board's master that the rules allow after a history that the state is of.
+    #[inline(always)]
+    pub(crate) fn note_master(&mut self, edge: Edge)
+        requires { is_masters edge.wire ≡ true }
+        ensures { OfHistory self.old (λ version p h. verdict_but_full version p h edge ≡ Ok tt
+            → IsStateOf version p (edge ∷ h) self.new) }
+    {
+        match edge.driver {
+            Driver::Controller => {}
+            // No board stands in a slot beyond 21.
+            Driver::Slot(slot) => {
+                if slot < 22 {
+                    self.move_master(slot, edge);
+                }
+            }
+        }
+    }
+
+    /// Takes in an edge of a board's interrupter, or an answer, that the rules allow after a history that the state is of.
+    #[inline(always)]
+    pub(crate) fn note_interrupter(&mut self, edge: Edge)
+        requires { is_interrupters edge.wire ≡ true }
+        ensures { OfHistory self.old (λ version p h. verdict_but_full version p h edge ≡ Ok tt
+            → IsStateOf version p (edge ∷ h) self.new) }
+    {
+        match edge.driver {
+            Driver::Controller => {}
+            // No board stands in a slot beyond 21.
+            Driver::Slot(slot) => {
+                if slot < 22 {
+                    self.move_interrupter(slot, edge);
+                }
+            }
+        }
     }
 
     /// Takes in an edge that the rules allow after a history that the state is of.
@@ -225,14 +325,11 @@ impl BusState {
         ensures { OfHistory self.old (λ version p h. verdict_but_full version p h edge ≡ Ok tt
             → IsStateOf version p (edge ∷ h) self.new) }
     {
-        match edge.driver {
-            Driver::Controller => self.note_controller(edge),
-            // No board stands in a slot beyond 21.
-            Driver::Slot(slot) => {
-                if slot < 22 {
-                    self.note_board(slot, edge);
-                }
-            }
+        match edge.wire {
+            Wire::Br | Wire::BgOut | Wire::Bbsy => self.note_requester(edge),
+            Wire::Addr | Wire::AddressStrobe | Wire::DataStrobe => self.note_master(edge),
+            Wire::Irq | Wire::IackOut | Wire::Dtack => self.note_interrupter(edge),
+            Wire::Bg(_) | Wire::Bclr | Wire::Iack | Wire::Berr => self.note_controller(edge),
         }
     }
 }

@@ -1,16 +1,16 @@
 //! The rule that names an edge, and what its guard answers.
-ghost use Rattle.std.specs.Prelude.{◌≡◌, ◌==◌, ◌<◌, ◌||◌, true, false, not, is_some, Option as OptionValue};
+ghost use Rattle.std.specs.Prelude.{◌≡◌, ◌==◌, ◌&&◌, ◌<◌, ◌||◌, true, false, not, is_some, nat_lt, Option as OptionValue};
 ghost use Rattle.std.specs.List.{list_any};
 ghost use Rattle.std.specs.Option.{option_and_then, option_map_or};
 ghost use Rattle.vme_model.specs.declared.signals.Cycle.{Cycle as CycleValue};
-ghost use Rattle.vme_model.specs.declared.signals.Driver.TheVariants.{Slot};
+ghost use Rattle.vme_model.specs.declared.signals.Driver.TheVariants.{Controller, Slot};
 ghost use Rattle.vme_model.specs.declared.signals.Wire.TheVariants as wire;
-ghost use Rattle.vme_model.specs.History.{drive, request_line, shown};
+ghost use Rattle.vme_model.specs.History.{drive, request_line, last_level, shown};
 ghost use Rattle.vme_model.specs.Readings.{readings, grant_in, iack_in, is_pending};
 ghost use Rattle.vme_model.specs.declared.boards.Row.{Row as RowValue};
 ghost use Rattle.vme_model.specs.Plan.{board, drives};
-ghost use Rattle.vme_model.specs.Signals.{has_value};
-ghost use Rattle.vme_model.specs.Rules.{guard, bus_numbers, burst_guard, release_guard, show_guard, pass_guard, answer_guard};
+ghost use Rattle.vme_model.specs.Signals.{has_wire, has_value, is_acknowledge};
+ghost use Rattle.vme_model.specs.Rules.{guard, bus_numbers, pick, is_pick, are_grants_high, clear_guard, burst_guard, release_guard, show_guard, pass_guard, answer_guard};
 ghost use Rattle.vme_wiring.specs.Waits.{is_access_to};
 ghost use Rattle.vme_bus.specs.Asks.{asks_at, IsNumbered};
 ghost use Rattle.vme_bus.specs.Records.{cycle_in};
@@ -18,9 +18,15 @@ ghost use Rattle.vme_requester.specs.Local.{is_requesters};
 ghost use Rattle.vme_master.specs.Local.{is_masters};
 ghost use Rattle.vme_interrupter.specs.Local.{is_interrupters};
 
+use crate::layouts::grant_head;
+use crate::records::kind_in;
 use crate::states::BusState;
-use vme_model::{Cycle, Wire};
+use vme_arbiter::{AnyPolicy, Policy};
+use vme_model::{ArbiterKind, Cycle, Wire};
 use vme_rules::Outcome;
+use vme_rules::controllers::{
+    bclr_falls, bclr_rises, berr_falls, berr_rises, bg_falls, bg_rises, iack_falls, iack_rises,
+};
 use vme_rules::interrupters::{
     answers, dtack_falls, dtack_rises, iackout_falls, iackout_rises, irq_falls, irq_rises, passes,
 };
@@ -33,6 +39,102 @@ use vme_rules::requesters::{
 
 impl BusState {
     ghost use Rattle.vme_bus.specs.States.{OfHistory, OfBoard};
+
+    /// Whether each of the controller's grants is high.
+    #[inline(always)]
+    pub(crate) fn are_grants_high(&self) -> bool
+        ensures { OfHistory self.now (λ _ p h. result
+            ≡ are_grants_high (readings p h Controller)) }
+    {
+        let lower = self.grants.has(grant_head(0)) | self.grants.has(grant_head(1));
+        let upper = self.grants.has(grant_head(2)) | self.grants.has(grant_head(3));
+        !(lower | upper)
+    }
+
+    /// The level that the policy picks of those that are requested, if it picks any.
+    #[inline(always)]
+    fn picked(&self) -> Option<u8>
+        ensures { OfHistory self.now (λ _ p h. result
+            ≡ pick p.arbiter (request_line p h) (last_level h)) }
+    {
+        AnyPolicy::from(kind_in(self.kind)).pick(self.requests(), self.last_level)
+    }
+
+    /// Whether the policy picks the level.
+    #[inline(always)]
+    fn is_picked(&self, level: u8) -> bool
+        ensures { level < 4 → OfHistory self.now (λ _ p h. result
+            ≡ is_pick p.arbiter (request_line p h) (last_level h) level) }
+    {
+        match self.picked() {
+            Some(picked) => picked == level,
+            None => false,
+        }
+    }
+
+    /// Whether a level above the one last granted is requested.
+    #[inline(always)]
+    fn is_outranked(&self) -> bool
+        ensures { OfHistory self.now (λ _ p h. result
+            ≡ list_any (λ m. nat_lt (last_level h) m && request_line p h m) bus_numbers) }
+    {
+        let last = self.last_level;
+        let highest = (last < 3) & self.request(3);
+        ((last < 1) & self.request(1)) | ((last < 2) & self.request(2)) | highest
+    }
+
+    /// What the guard of a falling bus clear answers (G3), which a rising one reads too (G4).
+    #[inline(always)]
+    fn clearing<A: Outcome>(&self) -> A
+        ensures { OfHistory self.now (λ _ p h.
+            A.tells result (clear_guard (readings p h Controller))) }
+    {
+        let is_pri = matches!(kind_in(self.kind), ArbiterKind::Pri);
+        bclr_falls(
+            is_pri,
+            self.bbsy(),
+            self.are_grants_high(),
+            self.is_outranked(),
+        )
+    }
+
+    /// Whether an acknowledge is shown.
+    #[inline(always)]
+    fn is_acknowledged(&self) -> bool
+        ensures { OfHistory self.now (λ _ p h. result ≡ is_acknowledge (shown p h)) }
+    {
+        self.shown().is_some_and(|cycle| cycle.is_acknowledge())
+    }
+
+    /// The rule that names an edge of the controller, and what its guard answers (G1 to G8).
+    #[inline(always)]
+    pub(crate) fn controller_rule<A: Outcome>(&self, wire: Wire, fall: bool) -> (u8, A)
+        ensures number { IsNumbered result.0 wire fall (has_wire Controller wire) }
+        ensures answer { OfHistory self.now (λ version p h. (v : OptionValue CycleValue)
+            → has_wire Controller wire ≡ true
+            → A.tells result.1 (guard version (readings p h Controller) wire fall v).1) }
+    {
+        match (wire, fall) {
+            (Wire::Bg(level), true) => {
+                let is_picked = self.is_picked(level);
+                (1, bg_falls(self.are_grants_high(), self.bbsy(), is_picked))
+            }
+            (Wire::Bg(_), false) => (2, bg_rises(self.version(), self.bbsy())),
+            (Wire::Bclr, true) => (3, self.clearing()),
+            (Wire::Bclr, false) => (4, bclr_rises(self.clearing())),
+            (Wire::Iack, true) => {
+                let is_acknowledged = self.is_acknowledged();
+                (
+                    5,
+                    iack_falls(self.address_strobe(), self.data_strobe(), is_acknowledged),
+                )
+            }
+            (Wire::Iack, false) => (6, iack_rises(self.address_strobe())),
+            (Wire::Berr, true) => (7, berr_falls(self.data_strobe(), self.dtack())),
+            (Wire::Berr, false) => (8, berr_rises(self.data_strobe())),
+            _ => (0, A::free()),
+        }
+    }
 
     /// The input of the board's own grant chain, for a board with a requester.
     #[inline(always)]
@@ -130,7 +232,7 @@ impl BusState {
         ensures { OfBoard self.now slot (λ _ p h _. has_value wire.Addr true value ≡ true
             → A.tells result (show_guard (readings p h (Slot slot)) value)) }
     {
-        shows(self.handler(slot), self.interrupts(), value)
+        shows(self.handler(slot), self.interrupt_asked(value), value)
     }
 
     /// What the guard answers of an address group that goes on (G15).

@@ -1,14 +1,14 @@
 //! What a driver sees of a bus.
-ghost use Rattle.std.specs.Prelude.{◌≡◌, ◌&&◌, ◌<◌, find, is_some, nat_lt, option_map};
+ghost use Rattle.std.specs.Prelude.{◌≡◌, ◌&&◌, ◌<◌, ◌≤◌, ℕ, Some, find, is_some, nat_lt, option_map};
 ghost use Rattle.std.specs.Option.{option_copied};
 ghost use Rattle.vme_model.specs.declared.signals.Driver.TheVariants as driver;
 ghost use Rattle.vme_model.specs.declared.signals.Wire.TheVariants as wire;
-ghost use Rattle.vme_model.specs.History.{drive, line, request_line, interrupt_line};
-ghost use Rattle.vme_model.specs.Sets.{bus_levels, irq_levels};
+ghost use Rattle.vme_model.specs.declared.signals.Cycle.TheVariants.{Acknowledge};
+ghost use Rattle.vme_model.specs.History.{drive, line, request_line, interrupt_line, shown, addressing};
+ghost use Rattle.vme_model.specs.Sets.{bus_levels, irq_levels, has_level};
 ghost use Rattle.vme_model.specs.Plan.{board, board_of, up_to};
 ghost use Rattle.vme_model.specs.Views.{pins};
-ghost use Rattle.vme_model.specs.Deliveries.{delivery};
-ghost use Rattle.vme_arbiter.specs.Local.{controller_of};
+ghost use Rattle.vme_model.specs.Deliveries.{delivery, delivered_by};
 ghost use Rattle.vme_bus.specs.Layouts.{seat};
 ghost use Rattle.vme_bus.specs.Records.{version_in, cycle_in, seat_of_record};
 
@@ -90,28 +90,6 @@ impl BusState {
         ensures { result ≡ cycle_in self.now.shown }
     {
         self.shown.cycle()
-    }
-
-    /// The arbiter, with the controller's own wires.
-    #[inline(always)]
-    pub(crate) fn arbiter(&self) -> Arbiter<AnyPolicy>
-        ensures { OfHistory self.now (λ version p h. result
-            ≡ (record { kind = p.arbiter }, controller_of p.arbiter version h)) }
-    {
-        let kind = kind_in(self.kind);
-        let controller = Controller {
-            kind,
-            version: self.version(),
-            bg0: self.grants.has(grant_head(0)),
-            bg1: self.grants.has(grant_head(1)),
-            bg2: self.grants.has(grant_head(2)),
-            bg3: self.grants.has(grant_head(3)),
-            bclr: self.controls.has(BUS_CLEAR),
-            iack: self.acknowledges.has(ACKNOWLEDGE_HEAD),
-            berr: self.controls.has(BUS_ERROR),
-            last_level: self.last_level,
-        };
-        Arbiter::of(AnyPolicy::from(kind), controller)
     }
 
     /// Whether BBSY* is low.
@@ -205,6 +183,35 @@ impl BusState {
         ])
     }
 
+    /// The interrupt request line of a level, if it is low.
+    #[inline(always)]
+    fn interrupt_at(&self, level: u8) -> Levels
+        ensures { OfHistory self.now (λ _ p h. 1 ≤ level → level ≤ 7
+            → has_level result level ≡ interrupt_line p h level) }
+    {
+        if (level < 1) | (level > 7) {
+            return Levels::from_bits_retain(0);
+        }
+        if self.interrupt(level) {
+            Levels::of(level)
+        } else {
+            Levels::from_bits_retain(0)
+        }
+    }
+
+    /// The interrupt request line of the level that is to be acknowledged, if it is low.
+    #[inline(always)]
+    pub(crate) fn interrupt_asked(&self, value: Option<Cycle>) -> Levels
+        ensures { OfHistory self.now (λ _ p h. (level : ℕ) → 1 ≤ level → level ≤ 7
+            → value ≡ Some (Acknowledge level)
+            → has_level result level ≡ interrupt_line p h level) }
+    {
+        match value {
+            Some(Cycle::Acknowledge(level)) => self.interrupt_at(level),
+            _ => Levels::from_bits_retain(0),
+        }
+    }
+
     /// What the controller reads on its pins: the lines that all boards share.
     #[inline(always)]
     pub(crate) fn shared(&self) -> Pins
@@ -261,6 +268,16 @@ impl BusState {
         }
     }
 
+    /// What an answer to an acknowledge delivers.
+    #[inline(never)]
+    fn delivered(&self, driver: Driver) -> Option<Delivery>
+        ensures { OfHistory self.now (λ _ p h. result
+            ≡ delivered_by (shown p h) (addressing p h) (board_of p driver)) }
+    {
+        let row = self.row(driver);
+        delivered_by(self.shown(), slot_in(self.addressing), row.as_ref())
+    }
+
     /// What an edge delivers.
     #[inline(always)]
     pub fn delivery(&self, edge: Edge) -> Option<Delivery>
@@ -269,7 +286,9 @@ impl BusState {
         if !(edge.fall && edge.wire.is_same(Wire::Dtack)) {
             return None;
         }
-        let row = self.row(edge.driver);
-        delivered_by(self.shown(), slot_in(self.addressing), row.as_ref())
+        match self.shown() {
+            Some(Cycle::Acknowledge(_)) => self.delivered(edge.driver),
+            _ => None,
+        }
     }
 }

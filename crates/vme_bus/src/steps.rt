@@ -28,14 +28,7 @@ impl BusState {
         ensures refused { is_ok result ≡ false → self.new ≡ self.old }
     {
         match arm_of(edge) {
-            0 => self.step_controller(edge, Wire::Bg(level_of(edge.wire)), false),
-            1 => self.step_controller(edge, Wire::Bg(level_of(edge.wire)), true),
-            2 => self.step_controller(edge, Wire::Bclr, false),
-            3 => self.step_controller(edge, Wire::Bclr, true),
-            4 => self.step_controller(edge, Wire::Iack, false),
-            5 => self.step_controller(edge, Wire::Iack, true),
-            6 => self.step_controller(edge, Wire::Berr, false),
-            7 => self.step_controller(edge, Wire::Berr, true),
+            0..=7 => self.step_control(edge),
             8 => self.step_requester(edge, Wire::Br, false),
             9 => self.step_requester(edge, Wire::Br, true),
             10 => self.step_requester(edge, Wire::BgOut, false),
@@ -54,6 +47,29 @@ impl BusState {
             23 => self.step_interrupter(edge, Wire::IackOut, true),
             24 => self.step_interrupter(edge, Wire::Dtack, false),
             _ => self.step_interrupter(edge, Wire::Dtack, true),
+        }
+    }
+
+    /// The same of an edge of the controller: a function of its own, since it is rare and would make that of all
+    /// edges too large to be part of a loop.
+    #[inline(never)]
+    fn step_control(&mut self, edge: Edge) -> Result<Option<Delivery>, Refused>
+        requires part { is_boards edge.wire ≡ false }
+        ensures answer { OfHistory self.old (λ version p h.
+            result ≡ answer_but_full version p h edge) }
+        ensures state { OfHistory self.old (λ version p h.
+            IsStateOf version p (kept_but_full version p h edge) self.new) }
+        ensures refused { is_ok result ≡ false → self.new ≡ self.old }
+    {
+        match arm_of(edge) {
+            0 => self.step_controller(edge, Wire::Bg(level_of(edge.wire)), false),
+            1 => self.step_controller(edge, Wire::Bg(level_of(edge.wire)), true),
+            2 => self.step_controller(edge, Wire::Bclr, false),
+            3 => self.step_controller(edge, Wire::Bclr, true),
+            4 => self.step_controller(edge, Wire::Iack, false),
+            5 => self.step_controller(edge, Wire::Iack, true),
+            6 => self.step_controller(edge, Wire::Berr, false),
+            _ => self.step_controller(edge, Wire::Berr, true),
         }
     }
 
@@ -79,7 +95,7 @@ impl BusState {
         edge.wire = wire;
         edge.fall = fall;
         match self.judge_controller(edge) {
-            Ok(()) => Ok(self.take(edge)),
+            Ok(()) => Ok(self.take_controller(edge)),
             Err(refused) => Err(refused),
         }
     }
@@ -106,7 +122,7 @@ impl BusState {
         edge.wire = wire;
         edge.fall = fall;
         match self.judge_requester(edge) {
-            Ok(()) => Ok(self.take(edge)),
+            Ok(()) => Ok(self.take_requester(edge)),
             Err(refused) => Err(refused),
         }
     }
@@ -133,7 +149,7 @@ impl BusState {
         edge.wire = wire;
         edge.fall = fall;
         match self.judge_master(edge) {
-            Ok(()) => Ok(self.take(edge)),
+            Ok(()) => Ok(self.take_master(edge)),
             Err(refused) => Err(refused),
         }
     }
@@ -160,20 +176,57 @@ impl BusState {
         edge.wire = wire;
         edge.fall = fall;
         match self.judge_interrupter(edge) {
-            Ok(()) => Ok(self.take(edge)),
+            Ok(()) => Ok(self.take_interrupter(edge)),
             Err(refused) => Err(refused),
         }
     }
 
-    /// Takes an edge that the rules allow, and answers what it delivers.
+    /// Takes an edge of the controller that the rules allow, which delivers nothing.
     #[inline(always)]
-    fn take(&mut self, edge: Edge) -> Option<Delivery>
+    fn take_controller(&mut self, edge: Edge) -> Option<Delivery>
+        requires { is_boards edge.wire ≡ false }
+        ensures delivery { OfHistory self.old (λ _ p h. result ≡ delivery p h edge) }
+        ensures state { OfHistory self.old (λ version p h. verdict_but_full version p h edge ≡ Ok tt
+            → IsStateOf version p (edge ∷ h) self.new) }
+    {
+        self.note_controller(edge);
+        None
+    }
+
+    /// Takes an edge of a board's requester that the rules allow, which delivers nothing.
+    #[inline(always)]
+    fn take_requester(&mut self, edge: Edge) -> Option<Delivery>
+        requires { is_requesters edge.wire ≡ true }
+        ensures delivery { OfHistory self.old (λ _ p h. result ≡ delivery p h edge) }
+        ensures state { OfHistory self.old (λ version p h. verdict_but_full version p h edge ≡ Ok tt
+            → IsStateOf version p (edge ∷ h) self.new) }
+    {
+        self.note_requester(edge);
+        None
+    }
+
+    /// Takes an edge of a board's master that the rules allow, which delivers nothing.
+    #[inline(always)]
+    fn take_master(&mut self, edge: Edge) -> Option<Delivery>
+        requires { is_masters edge.wire ≡ true }
+        ensures delivery { OfHistory self.old (λ _ p h. result ≡ delivery p h edge) }
+        ensures state { OfHistory self.old (λ version p h. verdict_but_full version p h edge ≡ Ok tt
+            → IsStateOf version p (edge ∷ h) self.new) }
+    {
+        self.note_master(edge);
+        None
+    }
+
+    /// Takes an edge of a board's interrupter, or an answer, that the rules allow, and answers what it delivers.
+    #[inline(always)]
+    fn take_interrupter(&mut self, edge: Edge) -> Option<Delivery>
+        requires { is_interrupters edge.wire ≡ true }
         ensures delivery { OfHistory self.old (λ _ p h. result ≡ delivery p h edge) }
         ensures state { OfHistory self.old (λ version p h. verdict_but_full version p h edge ≡ Ok tt
             → IsStateOf version p (edge ∷ h) self.new) }
     {
         let delivery = self.delivery(edge);
-        self.note(edge);
+        self.note_interrupter(edge);
         delivery
     }
 }

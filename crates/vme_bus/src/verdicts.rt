@@ -1,6 +1,6 @@
 //! The verdict on an edge, but for the end of the trace.
-ghost use Rattle.std.specs.Prelude.{◌≡◌, ◌&&◌, ◌<◌, true, false, not, Some, Ok};
-ghost use Rattle.vme_model.specs.declared.signals.Driver.TheVariants.{Slot};
+ghost use Rattle.std.specs.Prelude.{◌≡◌, ◌&&◌, ◌<◌, ℕ, true, false, not, Some, Ok};
+ghost use Rattle.vme_model.specs.declared.signals.Driver.TheVariants.{Controller, Slot};
 ghost use Rattle.vme_model.specs.Signals.{is_well_formed};
 ghost use Rattle.vme_model.specs.Plan.{has_driver, grant_chain};
 ghost use Rattle.vme_model.specs.History.{drive, shown, is_past_end};
@@ -8,38 +8,53 @@ ghost use Rattle.vme_model.specs.Readings.{readings};
 ghost use Rattle.vme_model.specs.Rules.{rule};
 ghost use Rattle.vme_model.specs.Settling.{is_unanswerable, settling, settling_guard, is_chain_clear, are_grants_through};
 ghost use Rattle.vme_model.specs.declared.sets.ChainId.TheVariants as chain;
-ghost use Rattle.vme_model.specs.Verdict.{check, settled, verdict_but_full};
+ghost use Rattle.vme_model.specs.Verdict.{check, is_other_state, settled, verdict_but_full};
 ghost use Rattle.vme_wiring.specs.Asked.{asked, exists};
 ghost use Rattle.vme_requester.specs.Local.{is_requesters};
 ghost use Rattle.vme_master.specs.Local.{is_masters};
 ghost use Rattle.vme_interrupter.specs.Local.{is_interrupters};
 ghost use Rattle.vme_bus.specs.Asks.{is_boards};
+ghost use Rattle.vme_bus.specs.Sets.{has};
 
-use crate::layouts::ACKNOWLEDGE_HEAD;
-use crate::states::BusState;
+use crate::layouts::{ACKNOWLEDGE_HEAD, grant_head};
+use crate::sets::SlotSet;
+use crate::states::{BUS_CLEAR, BUS_ERROR, BusState};
 use vme_model::{ChainId, Cycle, Driver, Edge, Refused, Wire};
 use vme_rules::settlings::{as_settles, berr_settles, bg_fall_settles, bg_rise_settles};
 use vme_rules::{Outcome, allowed};
 
+/// E2 and E3 of an edge, by the state of its wire, the rule that names it and what its guard answers.
+#[inline(always)]
+fn asked(low: bool, fall: bool, ruled: (u8, bool)) -> Result<(), Refused>
+    ensures { result ≡ check (is_other_state low fall) Refused.AlreadyThere
+        (check ruled.1 (Refused.Rule ruled.0) (Ok tt)) }
+{
+    if low == fall {
+        return Err(Refused::AlreadyThere);
+    }
+    allowed(ruled)
+}
+
 impl BusState {
     ghost use Rattle.vme_bus.specs.States.{OfHistory};
 
-    /// Whether the slot has a board with the part that drives the wire.
+    /// The slots whose boards have the part that drives the wire.
     #[inline(always)]
-    fn can_drive(&self, slot: u8, wire: Wire) -> bool
-        ensures { OfHistory self.now (λ _ p _. result ≡ has_driver p (Slot slot) wire) }
+    fn drivers(&self, wire: Wire) -> SlotSet
+        ensures { OfHistory self.now (λ _ p _. (s : ℕ)
+            → has result s ≡ has_driver p (Slot s) wire) }
     {
         match wire {
-            Wire::Br => self.layout.requesters.has(slot),
-            Wire::BgOut => self.layout.requesters.has(slot),
-            Wire::Bbsy => self.layout.requesters.has(slot),
-            Wire::Addr => self.layout.requesters.has(slot),
-            Wire::AddressStrobe => self.layout.requesters.has(slot),
-            Wire::DataStrobe => self.layout.requesters.has(slot),
-            Wire::Irq => self.layout.interrupters.has(slot),
-            Wire::IackOut => self.layout.interrupters.has(slot),
-            Wire::Dtack => self.layout.boards.has(slot),
-            Wire::Bg(_) | Wire::Bclr | Wire::Iack | Wire::Berr => false,
+            Wire::Br => self.layout.requesters,
+            Wire::BgOut => self.layout.requesters,
+            Wire::Bbsy => self.layout.requesters,
+            Wire::Addr => self.layout.requesters,
+            Wire::AddressStrobe => self.layout.requesters,
+            Wire::DataStrobe => self.layout.requesters,
+            Wire::Irq => self.layout.interrupters,
+            Wire::IackOut => self.layout.interrupters,
+            Wire::Dtack => self.layout.boards,
+            Wire::Bg(_) | Wire::Bclr | Wire::Iack | Wire::Berr => SlotSet::NONE,
         }
     }
 
@@ -50,17 +65,40 @@ impl BusState {
     {
         match driver {
             Driver::Controller => wire.is_controllers(),
-            Driver::Slot(slot) => self.can_drive(slot, wire),
+            Driver::Slot(slot) => self.drivers(wire).has(slot),
         }
     }
 
     /// E1: whether the edge is well formed, and there is such a driver.
     #[inline(always)]
-    fn exists(&self, edge: Edge) -> bool
+    pub(crate) fn exists(&self, edge: Edge) -> bool
         ensures exists { OfHistory self.now (λ _ p _. result ≡ exists p edge) }
         ensures formed { result ≡ true → is_well_formed edge ≡ true }
     {
         edge.is_well_formed() && self.has_driver(edge.driver, edge.wire)
+    }
+
+    /// The slots below 22 that drive the wire low, or their address group on.
+    #[inline(always)]
+    fn outputs(&self, wire: Wire) -> SlotSet
+        ensures { OfHistory self.now (λ _ _ h. (s : ℕ) → s < 22
+            → has result s ≡ drive h (Slot s) wire) }
+    {
+        match wire {
+            Wire::Br => self.br,
+            Wire::BgOut => self.grants,
+            Wire::Bbsy => self.bbsy,
+            Wire::Addr => self.addr,
+            Wire::AddressStrobe => self.address_strobe,
+            Wire::DataStrobe => self.data_strobe,
+            Wire::Irq => self.irq,
+            Wire::IackOut => self.acknowledges,
+            Wire::Dtack => self.dtack,
+            Wire::Bg(_) => SlotSet::NONE,
+            Wire::Bclr => SlotSet::NONE,
+            Wire::Iack => SlotSet::NONE,
+            Wire::Berr => SlotSet::NONE,
+        }
     }
 
     /// Whether a slot below 22 drives the wire low, or its address group on.
@@ -69,18 +107,7 @@ impl BusState {
         ensures { slot < 22 → OfHistory self.now (λ _ _ h.
             result ≡ drive h (Slot slot) wire) }
     {
-        match wire {
-            Wire::Br => self.br.has(slot),
-            Wire::BgOut => self.grants.has(slot),
-            Wire::Bbsy => self.bbsy.has(slot),
-            Wire::Addr => self.addr.has(slot),
-            Wire::AddressStrobe => self.address_strobe.has(slot),
-            Wire::DataStrobe => self.data_strobe.has(slot),
-            Wire::Irq => self.irq.has(slot),
-            Wire::IackOut => self.acknowledges.has(slot),
-            Wire::Dtack => self.dtack.has(slot),
-            Wire::Bg(_) | Wire::Bclr | Wire::Iack | Wire::Berr => false,
-        }
+        self.outputs(wire).has(slot)
     }
 
     /// Whether every board's grant output is high.
@@ -152,19 +179,31 @@ impl BusState {
         }
     }
 
-    /// E2 and E3 of an edge of the slot's board, by the rule that names it and what its guard answers.
+    /// Whether the controller drives the wire low.
     #[inline(always)]
-    fn asked_by(&self, slot: u8, edge: Edge, ruled: (u8, bool)) -> Result<(), Refused>
-        requires { slot < 22 }
-        ensures { OfHistory self.now (λ version p h. edge.driver ≡ Slot slot
-            → ruled.0 ≡ (rule version (readings p h (Slot slot)) edge.wire edge.fall edge.value).0
-            → ruled.1 ≡ (rule version (readings p h (Slot slot)) edge.wire edge.fall edge.value).1
-            → result ≡ asked version p h edge) }
+    pub(crate) fn is_control_low(&self, wire: Wire) -> bool
+        ensures { OfHistory self.now (λ _ _ h. result ≡ drive h Controller wire) }
     {
-        if self.is_slot_low(slot, edge.wire) == edge.fall {
-            return Err(Refused::AlreadyThere);
+        match wire {
+            Wire::Bg(level) => level < 4 && self.grants.has(grant_head(level)),
+            Wire::Bclr => self.controls.has(BUS_CLEAR),
+            Wire::Iack => self.acknowledges.has(ACKNOWLEDGE_HEAD),
+            Wire::Berr => self.controls.has(BUS_ERROR),
+            Wire::Br | Wire::BgOut | Wire::Bbsy => false,
+            Wire::Addr | Wire::AddressStrobe | Wire::DataStrobe => false,
+            Wire::Irq | Wire::IackOut | Wire::Dtack => false,
         }
-        allowed(ruled)
+    }
+
+    /// Whether the driver drives the wire low.
+    #[inline(always)]
+    pub(crate) fn is_driven_low(&self, driver: Driver, wire: Wire) -> bool
+        ensures { OfHistory self.now (λ _ _ h. result ≡ drive h driver wire) }
+    {
+        match driver {
+            Driver::Controller => self.is_control_low(wire),
+            Driver::Slot(slot) => (slot < 22) & self.is_slot_low(slot, wire),
+        }
     }
 
     /// E2 and E3 of an edge of the controller.
@@ -176,7 +215,10 @@ impl BusState {
             → result ≡ asked version p h edge) }
     {
         match edge.driver {
-            Driver::Controller => self.arbiter().may(edge, self.shared()),
+            Driver::Controller => {
+                let ruled = self.controller_rule(edge.wire, edge.fall);
+                asked(self.is_control_low(edge.wire), edge.fall, ruled)
+            }
             Driver::Slot(_) => Err(Refused::NoSuchDriver),
         }
     }
@@ -193,7 +235,7 @@ impl BusState {
             Driver::Controller => Err(Refused::NoSuchDriver),
             Driver::Slot(slot) => {
                 let ruled = self.requester_rule(slot, edge.wire, edge.fall);
-                self.asked_by(slot, edge, ruled)
+                asked(self.is_slot_low(slot, edge.wire), edge.fall, ruled)
             }
         }
     }
@@ -210,7 +252,7 @@ impl BusState {
             Driver::Controller => Err(Refused::NoSuchDriver),
             Driver::Slot(slot) => {
                 let ruled = self.master_rule(slot, edge.wire, edge.fall, edge.value);
-                self.asked_by(slot, edge, ruled)
+                asked(self.is_slot_low(slot, edge.wire), edge.fall, ruled)
             }
         }
     }
@@ -227,7 +269,7 @@ impl BusState {
             Driver::Controller => Err(Refused::NoSuchDriver),
             Driver::Slot(slot) => {
                 let ruled = self.interrupter_rule(slot, edge.wire, edge.fall);
-                self.asked_by(slot, edge, ruled)
+                asked(self.is_slot_low(slot, edge.wire), edge.fall, ruled)
             }
         }
     }
@@ -271,10 +313,7 @@ impl BusState {
         if !self.exists(edge) {
             return Err(Refused::NoSuchDriver);
         }
-        match self.ask_requester(edge) {
-            Ok(()) => self.settle(edge),
-            Err(refused) => Err(refused),
-        }
+        self.ask_requester(edge)
     }
 
     /// The first of E1 to E4 that applies to an edge of a board's master.
@@ -301,10 +340,7 @@ impl BusState {
         if !self.exists(edge) {
             return Err(Refused::NoSuchDriver);
         }
-        match self.ask_interrupter(edge) {
-            Ok(()) => self.settle(edge),
-            Err(refused) => Err(refused),
-        }
+        self.ask_interrupter(edge)
     }
 
     /// The first of E1 to E4 that applies to an edge.
@@ -317,81 +353,6 @@ impl BusState {
             Wire::Addr | Wire::AddressStrobe | Wire::DataStrobe => self.judge_master(edge),
             Wire::Irq | Wire::IackOut | Wire::Dtack => self.judge_interrupter(edge),
             Wire::Bg(_) | Wire::Bclr | Wire::Iack | Wire::Berr => self.judge_controller(edge),
-        }
-    }
-
-    /// The same of an edge of the controller, whose wire is told apart, so that a call with a constant
-    /// is small.
-    #[inline]
-    fn judge_controller_on(&self, edge: Edge, wire: Wire) -> Result<(), Refused>
-        requires wire { wire ≡ edge.wire }
-        requires part { is_boards wire ≡ false }
-        ensures { OfHistory self.now (λ version p h. result ≡ verdict_but_full version p h edge) }
-    {
-        let mut edge = edge;
-        edge.wire = wire;
-        self.judge_controller(edge)
-    }
-
-    /// The same of an edge of a board's requester, whose wire is told apart, so that a call with a constant
-    /// is small.
-    #[inline]
-    fn judge_requester_on(&self, edge: Edge, wire: Wire) -> Result<(), Refused>
-        requires wire { wire ≡ edge.wire }
-        requires part { is_requesters wire ≡ true }
-        ensures { OfHistory self.now (λ version p h. result ≡ verdict_but_full version p h edge) }
-    {
-        let mut edge = edge;
-        edge.wire = wire;
-        self.judge_requester(edge)
-    }
-
-    /// The same of an edge of a board's master, whose wire is told apart, so that a call with a constant
-    /// is small.
-    #[inline]
-    fn judge_master_on(&self, edge: Edge, wire: Wire) -> Result<(), Refused>
-        requires wire { wire ≡ edge.wire }
-        requires part { is_masters wire ≡ true }
-        ensures { OfHistory self.now (λ version p h. result ≡ verdict_but_full version p h edge) }
-    {
-        let mut edge = edge;
-        edge.wire = wire;
-        self.judge_master(edge)
-    }
-
-    /// The same of an edge of a board's interrupter, or of its answer, whose wire is told apart, so that a call with a constant
-    /// is small.
-    #[inline]
-    fn judge_interrupter_on(&self, edge: Edge, wire: Wire) -> Result<(), Refused>
-        requires wire { wire ≡ edge.wire }
-        requires part { is_interrupters wire ≡ true }
-        ensures { OfHistory self.now (λ version p h. result ≡ verdict_but_full version p h edge) }
-    {
-        let mut edge = edge;
-        edge.wire = wire;
-        self.judge_interrupter(edge)
-    }
-
-    /// The same as `judge`, in small calls: for who judges edges of wires that it names, one after
-    /// another.
-    #[inline(always)]
-    pub(crate) fn judge_by_wire(&self, edge: Edge) -> Result<(), Refused>
-        ensures { OfHistory self.now (λ version p h. result ≡ verdict_but_full version p h edge) }
-    {
-        match edge.wire {
-            Wire::Bg(level) => self.judge_controller_on(edge, Wire::Bg(level)),
-            Wire::Bclr => self.judge_controller_on(edge, Wire::Bclr),
-            Wire::Iack => self.judge_controller_on(edge, Wire::Iack),
-            Wire::Berr => self.judge_controller_on(edge, Wire::Berr),
-            Wire::Br => self.judge_requester_on(edge, Wire::Br),
-            Wire::BgOut => self.judge_requester_on(edge, Wire::BgOut),
-            Wire::Bbsy => self.judge_requester_on(edge, Wire::Bbsy),
-            Wire::Addr => self.judge_master_on(edge, Wire::Addr),
-            Wire::AddressStrobe => self.judge_master_on(edge, Wire::AddressStrobe),
-            Wire::DataStrobe => self.judge_master_on(edge, Wire::DataStrobe),
-            Wire::Irq => self.judge_interrupter_on(edge, Wire::Irq),
-            Wire::IackOut => self.judge_interrupter_on(edge, Wire::IackOut),
-            Wire::Dtack => self.judge_interrupter_on(edge, Wire::Dtack),
         }
     }
 }

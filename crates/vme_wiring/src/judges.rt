@@ -4,11 +4,12 @@ ghost use Rattle.vme_model.specs.declared.signals.Edge.{Edge as EdgeValue};
 ghost use Rattle.vme_model.specs.declared.signals.Version.{Version as VersionValue};
 ghost use Rattle.vme_model.specs.Plan.{Plan as PlanValue, board};
 ghost use Rattle.vme_model.specs.History.{drive, interrupt_line};
-ghost use Rattle.vme_model.specs.Offers.{next_board};
+ghost use Rattle.vme_model.specs.Offers.{next_board, turned};
 ghost use Rattle.vme_model.specs.Sets.{irq_levels};
 ghost use Rattle.vme_model.specs.Settling.{settling_guard};
 ghost use Rattle.vme_model.specs.Verdict.{IsLegal, verdict_but_full};
 ghost use Rattle.vme_wiring.specs.Asked.{asked_guard, exists};
+ghost use Rattle.vme_wiring.specs.Offered.{is_open};
 ghost use Rattle.vme_wiring.specs.Judged.{OfState, may_grant, requester_waits, master_waits, interrupter_waits};
 
 use vme_model::{Driver, Edge, Levels, Refused, Wire};
@@ -50,6 +51,11 @@ pub trait Judges {
     /// Whether the driver's own wire is low, or its address group on.
     fn is_low(&self, driver: Driver, wire: Wire) -> bool
         ensures { OfState is_of self.now (λ _ _ h. result ≡ drive h driver wire) };
+
+    /// Whether the rules allow the edge without a value that moves the wire to its other state.
+    fn may_turn(&self, driver: Driver, wire: Wire) -> bool
+        ensures { OfState is_of self.now (λ version p h.
+            result ≡ is_open version p h (turned h driver wire)) };
 
     /// Whether the controller's grants are high, and the bus is free.
     fn may_grant(&self) -> bool

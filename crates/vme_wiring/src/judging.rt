@@ -43,13 +43,13 @@ impl Judges for Wiring {
 
     #[inline(always)]
     fn is_low(&self, driver: Driver, wire: Wire) -> bool {
-        match driver {
-            Driver::Controller => self.arbiter.is_low(wire),
-            Driver::Slot(slot) => match self.board(slot) {
-                Some(board) => board.is_low(wire),
-                None => false,
-            },
-        }
+        self.is_driven_low(driver, wire)
+    }
+
+    #[inline(always)]
+    fn may_turn(&self, driver: Driver, wire: Wire) -> bool {
+        let turned = self.turned(driver, wire);
+        Wiring::judge(self, turned).is_ok()
     }
 
     #[inline(always)]

@@ -78,7 +78,9 @@ pub(crate) fn offer_turned<J: Judges, const N: usize>(
         ≡ offers.old.items ++ filter (is_open version p h) (turned h driver wire ∷ [])) }
     ensures few { length offers.new.items ≤ length offers.old.items + 1 }
 {
-    offer(state, turned(state, driver, wire), offers);
+    if state.may_turn(driver, wire) {
+        offers.push(turned(state, driver, wire));
+    }
 }
 
 /// Puts the slot's address group going on with an acknowledge after the others, where its board

@@ -2,7 +2,8 @@
 ghost use Rattle.std.specs.Prelude.{◌≡◌, ◌&&◌, true, Some, Ok};
 ghost use Rattle.vme_model.specs.Signals.{is_well_formed};
 ghost use Rattle.vme_model.specs.Plan.{has_driver};
-ghost use Rattle.vme_model.specs.History.{shown};
+ghost use Rattle.vme_model.specs.Offers.{turned};
+ghost use Rattle.vme_model.specs.History.{drive, shown};
 ghost use Rattle.vme_model.specs.Settling.{is_unanswerable, settling, settling_guard};
 ghost use Rattle.vme_model.specs.Verdict.{check, settled, verdict_but_full};
 ghost use Rattle.vme_wiring.specs.Asked.{asked, exists};
@@ -121,6 +122,33 @@ impl Wiring {
         match self.ask(edge) {
             Ok(()) => self.settle(edge),
             Err(refused) => Err(refused),
+        }
+    }
+
+    /// Whether the driver's own wire is low, or its address group on.
+    #[inline(always)]
+    pub(crate) fn is_driven_low(&self, driver: Driver, wire: Wire) -> bool
+        ensures { OfHistory self.now (λ _ _ h. result ≡ drive h driver wire) }
+    {
+        match driver {
+            Driver::Controller => self.arbiter.is_low(wire),
+            Driver::Slot(slot) => match self.board(slot) {
+                Some(board) => board.is_low(wire),
+                None => false,
+            },
+        }
+    }
+
+    /// The edge without a value that moves the wire to its other state.
+    #[inline(always)]
+    pub(crate) fn turned(&self, driver: Driver, wire: Wire) -> Edge
+        ensures { OfHistory self.now (λ _ _ h. result ≡ turned h driver wire) }
+    {
+        Edge {
+            driver,
+            wire,
+            fall: !self.is_driven_low(driver, wire),
+            value: None,
         }
     }
 }

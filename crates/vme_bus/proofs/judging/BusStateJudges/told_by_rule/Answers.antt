@@ -1,15 +1,9 @@
-use Rattle.std.proofs.Common.{◌≡◌, ◌∙◌, sym, ap, subst, true, arith}
-use Rattle.vme_model.specs.declared.pins.Pins.{Pins}
+use Rattle.std.proofs.Common.{◌≡◌, sym, subst, true, arith}
 use Rattle.vme_model.specs.Signals.{is_well_formed, has_wire, has_value}
-use Rattle.vme_model.specs.Sets.{has_bus_level}
 use Rattle.vme_model.specs.Plan.{has_driver}
-use Rattle.vme_model.specs.History.{last_level}
 use Rattle.vme_model.specs.Readings.{readings}
-use Rattle.vme_model.specs.Rules.{guard, pick}
+use Rattle.vme_model.specs.Rules.{guard}
 use Rattle.vme_model.proofs.Bools.{and_left}
-use Rattle.vme_arbiter.specs.declared.policies.AnyPolicy.{AnyPolicy}
-use Rattle.vme_arbiter.specs.Local.{over}
-use Rattle.vme_wiring.proofs.RuleRows.{controller_guarded}
 use Rattle.vme_bus.proofs.Asked.{asks_for, has_board, near_slot}
 use Rattle.vme_bus.proofs.judging.BusStateJudges.told_by_rule.Goals as goal
 
@@ -18,10 +12,8 @@ returns-in-Controller g c = λ version p h is exists.
     let e = c.args.edge in
     let formed = and_left (is_well_formed e) (has_driver p e.driver e.wire) exists in
     let own = subst (λ d. has_wire d e.wire ≡ true) c.in-Controller.is (and_left (has_wire e.driver e.wire) (has_value e.wire e.fall e.value) formed) in
-    let picks = ap (λ (a : AnyPolicy). pick a.kind (has_bus_level c.shared.result.requests) (last_level h)) (ap (λ a. a.0) (c.arbiter.ensures version p h is)) in
-    subst (λ k. g.A.Outcome.tells c.told.result k)
-    (ap (λ (x : Pins). (guard version (over p.arbiter h x) e.wire e.fall e.value).1) (c.shared.ensures version p h is) ∙ controller_guarded version p h e c.in-Controller.is formed)
-    (c.told.ensures.rows p.arbiter version h (ap (λ a. a.1) (c.arbiter.ensures version p h is)) own (λ grant. picks))
+    subst (λ d. g.A.Outcome.tells c.controller_rule.result.1 (guard version (readings p h d) e.wire e.fall e.value).1) (sym c.in-Controller.is)
+    (c.controller_rule.ensures.answer version p h is e.value own)
 
 pub returns-then-slot-lt22 : goal.returns-then-slot-lt22
 returns-then-slot-lt22 g c = λ version p h is exists.

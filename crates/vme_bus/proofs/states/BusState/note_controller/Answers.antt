@@ -1,7 +1,12 @@
-use Rattle.vme_bus.proofs.LongerHistory.{noted_by_controller}
+use Rattle.std.proofs.Common.{◌≡◌, Bool, true}
+use Rattle.vme_model.specs.Signals.{is_well_formed}
+use Rattle.vme_model.specs.Plan.{has_driver}
+use Rattle.vme_model.proofs.Bools.{and_left}
+use Rattle.vme_wiring.proofs.JudgedParts.{exists_accepted}
+use Rattle.vme_bus.proofs.Parts.{controllers_alone}
 use Rattle.vme_bus.proofs.states.BusState.note_controller.Goals as goal
 
-pub returns : goal.returns
-returns c version p h is driver allowed =
-    noted_by_controller version p h c.args.edge c.args.self.now c.last_level_after-self.result c.grants_after-self.result c.granted_after-self.result c.inputs_after-self.result c.low_after-self.result c.low_after-bus_clear.result c.low_after-self-2.result is allowed driver
-    c.last_level_after-self.ensures c.grants_after-self.ensures c.granted_after-self.ensures (rw c.from.ensures at c.inputs_after-self.ensures) c.low_after-self.ensures c.low_after-bus_clear.ensures c.low_after-self-2.ensures
+pub returns-in-Slot : goal.returns-in-Slot
+returns-in-Slot c version p h is allowed =
+    let e = c.args.edge in
+    absurd (controllers_alone e c.in-Slot.field-0 c.in-Slot.is c.requires (and_left (is_well_formed e) (has_driver p e.driver e.wire) (exists_accepted version p h e allowed)))

@@ -11,6 +11,6 @@ returns-in-Ok-clause-state c version p h is =
     let e = c.args.edge in
     let same : (record e { wire = c.args.wire; fall = c.args.fall }) ≡ e = ap (λ (w : Wire). record e { wire = w; fall = c.args.fall }) c.requires.wire ∙ ap (λ (f : Bool). record e { fall = f }) c.requires.fall in
     let allowed : verdict_but_full version p h e ≡ Ok tt = ap (λ (x : Edge). verdict_but_full version p h x) (sym same) ∙ sym (c.judge_controller.ensures version p h is) ∙ c.in-Ok.is in
-    subst (λ k. IsStateOf version p k c.take.new.self)
+    subst (λ k. IsStateOf version p k c.take_controller.new.self)
     (ap (λ (x : Edge). x ∷ h) same ∙ sym (ap (λ v. if is_ok v then e ∷ h else h) allowed))
-    (c.take.ensures.state version p h is (sym (c.judge_controller.ensures version p h is) ∙ c.in-Ok.is))
+    (c.take_controller.ensures.state version p h is (sym (c.judge_controller.ensures version p h is) ∙ c.in-Ok.is))

@@ -1,0 +1,119 @@
+//! Whether a driver may move one of its wires to the other state.
+ghost use Rattle.std.specs.Prelude.{◌≡◌, true, false};
+ghost use Rattle.vme_model.specs.declared.signals.Driver.TheVariants.{Controller, Slot};
+ghost use Rattle.vme_model.specs.Offers.{turned};
+ghost use Rattle.vme_wiring.specs.Offered.{is_open};
+ghost use Rattle.vme_requester.specs.Local.{is_requesters};
+ghost use Rattle.vme_master.specs.Local.{is_masters};
+ghost use Rattle.vme_interrupter.specs.Local.{is_interrupters};
+ghost use Rattle.vme_bus.specs.Asks.{is_boards};
+
+use crate::states::BusState;
+use vme_model::{Driver, Edge, Wire};
+
+/// The edge of a wire in that direction, without a value.
+#[inline(always)]
+fn edge_to(driver: Driver, wire: Wire, fall: bool) -> Edge
+    ensures { result ≡ record { driver = driver; wire = wire; fall = fall; value = None } }
+{
+    Edge {
+        driver,
+        wire,
+        fall,
+        value: None,
+    }
+}
+
+impl BusState {
+    ghost use Rattle.vme_bus.specs.States.{OfHistory};
+
+    /// Whether the rules allow the controller to move the wire to its other state, without a value.
+    #[inline(always)]
+    fn may_control(&self, wire: Wire) -> bool
+        ensures { OfHistory self.now (λ version p h.
+            result ≡ is_open version p h (turned h Controller wire)) }
+    {
+        let fall = !self.is_driven_low(Driver::Controller, wire);
+        if !self.exists(edge_to(Driver::Controller, wire, fall)) {
+            return false;
+        }
+        let (_rule, is_allowed): (u8, bool) = self.controller_rule(wire, fall);
+        let (_number, settles): (u8, bool) = self.settling(wire, fall);
+        is_allowed & settles
+    }
+
+    /// Whether the rules allow the slot's requester to move the wire to its other state, without a value.
+    #[inline(always)]
+    fn may_request(&self, slot: u8, wire: Wire) -> bool
+        requires { is_requesters wire ≡ true }
+        ensures { OfHistory self.now (λ version p h.
+            result ≡ is_open version p h (turned h (Slot slot) wire)) }
+    {
+        let fall = !self.is_driven_low(Driver::Slot(slot), wire);
+        if !self.exists(edge_to(Driver::Slot(slot), wire, fall)) {
+            return false;
+        }
+        let (_rule, is_allowed): (u8, bool) = self.requester_rule(slot, wire, fall);
+        is_allowed
+    }
+
+    /// Whether the rules allow the slot's master to move the wire to its other state, without a value.
+    #[inline(always)]
+    fn may_transfer(&self, slot: u8, wire: Wire) -> bool
+        requires { is_masters wire ≡ true }
+        ensures { OfHistory self.now (λ version p h.
+            result ≡ is_open version p h (turned h (Slot slot) wire)) }
+    {
+        let fall = !self.is_driven_low(Driver::Slot(slot), wire);
+        if !self.exists(edge_to(Driver::Slot(slot), wire, fall)) {
+            return false;
+        }
+        let (_rule, is_allowed): (u8, bool) = self.master_rule(slot, wire, fall, None);
+        let (_number, settles): (u8, bool) = self.settling(wire, fall);
+        is_allowed & settles
+    }
+
+    /// Whether the rules allow the slot's interrupter, or what answers cycles, to move the wire to its other state, without a value.
+    #[inline(always)]
+    fn may_interrupt(&self, slot: u8, wire: Wire) -> bool
+        requires { is_interrupters wire ≡ true }
+        ensures { OfHistory self.now (λ version p h.
+            result ≡ is_open version p h (turned h (Slot slot) wire)) }
+    {
+        let fall = !self.is_driven_low(Driver::Slot(slot), wire);
+        if !self.exists(edge_to(Driver::Slot(slot), wire, fall)) {
+            return false;
+        }
+        let (_rule, is_allowed): (u8, bool) = self.interrupter_rule(slot, wire, fall);
+        is_allowed
+    }
+
+    /// Whether the rules allow the driver to move the wire to its other state, without a value.
+    #[inline(always)]
+    pub(crate) fn may_turn(&self, driver: Driver, wire: Wire) -> bool
+        ensures { OfHistory self.now (λ version p h.
+            result ≡ is_open version p h (turned h driver wire)) }
+    {
+        match driver {
+            Driver::Controller => match wire {
+                Wire::Bg(level) => self.may_control(Wire::Bg(level)),
+                Wire::Bclr => self.may_control(Wire::Bclr),
+                Wire::Iack => self.may_control(Wire::Iack),
+                Wire::Berr => self.may_control(Wire::Berr),
+                _ => false,
+            },
+            Driver::Slot(slot) => match wire {
+                Wire::Br => self.may_request(slot, Wire::Br),
+                Wire::BgOut => self.may_request(slot, Wire::BgOut),
+                Wire::Bbsy => self.may_request(slot, Wire::Bbsy),
+                Wire::Addr => self.may_transfer(slot, Wire::Addr),
+                Wire::AddressStrobe => self.may_transfer(slot, Wire::AddressStrobe),
+                Wire::DataStrobe => self.may_transfer(slot, Wire::DataStrobe),
+                Wire::Irq => self.may_interrupt(slot, Wire::Irq),
+                Wire::IackOut => self.may_interrupt(slot, Wire::IackOut),
+                Wire::Dtack => self.may_interrupt(slot, Wire::Dtack),
+                _ => false,
+            },
+        }
+    }
+}
