@@ -326,7 +326,21 @@ impl Bus {
         ensures { result
             ≡ slice_get (offered self.now driver) (round % length (offered self.now driver)) }
     {
-        choice(self.offers(driver).as_slice(), round)
+        if self.is_full() {
+            return None;
+        }
+        self.offer_but_full(driver, round)
+    }
+
+    /// The same, but for the end of the trace: of a list that is no longer than a driver's offers are.
+    #[inline(always)]
+    fn offer_but_full(&self, driver: Driver, round: u32) -> Option<Edge>
+        ensures { let offers = offered_but_full self.now.version self.now.plan self.now.history driver in
+            result ≡ slice_get offers (round % length offers) }
+    {
+        let mut offers: ArrayVec<Edge, 12> = ArrayVec::new();
+        self.state.put_offers(driver, &mut offers);
+        choice(offers.as_slice(), round)
     }
 
     /// Makes the offer that the driver makes in a round, if it has any, and answers it.

@@ -1,5 +1,5 @@
 //! What a bus answers as a state that its edges lead to, and what is made of the answers.
-ghost use Rattle.std.specs.Prelude.{◌≡◌};
+ghost use Rattle.std.specs.Prelude.{◌≡◌, ◌≤◌, []};
 ghost use Rattle.vme_model.specs.Failing.{tested_but_full, unmet_but_full};
 ghost use Rattle.vme_wiring.specs.Offered.{offered_but_full};
 ghost use Rattle.vme_wiring.specs.Opens.{open_but_full};
@@ -8,7 +8,7 @@ use crate::states::BusState;
 use arrayvec::ArrayVec;
 use vme_model::{Condition, Driver, Edge, Levels, Refused, Wire};
 use vme_rules::Outcome;
-use vme_wiring::{Judges, Waiting, failing_by, offers_of, open_edges_of, told_by};
+use vme_wiring::{Judges, Waiting, failing_by, offers_of, open_edges_of, put_offers, told_by};
 
 impl Judges for BusState {
     ghost use Rattle.vme_bus.specs.States.{IsStateOf};
@@ -107,6 +107,17 @@ impl BusState {
             ≡ offered_but_full version p h driver) }
     {
         offers_of(self, driver)
+    }
+
+    /// Puts the same into an empty list that has room for it.
+    #[inline(always)]
+    pub(crate) fn put_offers<const N: usize>(&self, driver: Driver, offers: &mut ArrayVec<Edge, N>)
+        requires room { 11 ≤ N }
+        requires empty { offers.old.items ≡ [] }
+        ensures { OfHistory self.now (λ version p h. offers.new.items
+            ≡ offered_but_full version p h driver) }
+    {
+        put_offers(self, driver, offers);
     }
 
     /// All edges that a driver can make, but for the end of the trace: of those that move one of

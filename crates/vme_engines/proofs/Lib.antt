@@ -58,3 +58,5 @@ pub mod FoundSeeds
 pub mod VerdictEnds
 -- what the edges of one trace of several come to, piece by piece
 pub mod TalliedTraces
+-- the words of edges that stand in tables: `push_driver`, `push_word`, `push_last_word`
+pub mod EdgeWords

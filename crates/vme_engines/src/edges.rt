@@ -2,11 +2,107 @@
 ghost use Rattle.std.specs.Prelude.{◌≡◌, ◌+◌, ◌<◌, ◌≤◌, ◌++◌, ◌∷◌, [], length, codes, Some, IsTrue};
 ghost use Rattle.vme_model.specs.Signals.{is_well_formed};
 ghost use Rattle.vme_model.specs.Text.{HasWord, argument, driver_text, number, sign, wire_text};
+ghost use Rattle.vme_trace.specs.Fronts.{IsDriver};
 ghost use Rattle.vme_trace.specs.Writing.{edge_line};
-ghost use Rattle.vme_engines.specs.Spelled.{cycle_number, driver_number};
+ghost use Rattle.vme_engines.specs.Spelled.{cycle_number, driver_number, word_place, move_place};
 
 use vme_model::{Cycle, Driver, Edge, Wire};
 use vme_text::Text;
+
+/// The name of each driver and a blank: the controller, and then the boards by slot.
+static DRIVERS: [[u8; 4]; 22] = [
+    *b"c ..", *b"1 ..", *b"2 ..", *b"3 ..", *b"4 ..", *b"5 ..", *b"6 ..", *b"7 ..", *b"8 ..",
+    *b"9 ..", *b"10 .", *b"11 .", *b"12 .", *b"13 .", *b"14 .", *b"15 .", *b"16 .", *b"17 .",
+    *b"18 .", *b"19 .", *b"20 .", *b"21 .",
+];
+
+/// The word of each wire with the sign of a rise, and of a fall, and a line feed. A grant has a word for each level.
+static WORDS: [[u8; 16]; 32] = [
+    *b"bg0+\n...........",
+    *b"bg0-\n...........",
+    *b"bg1+\n...........",
+    *b"bg1-\n...........",
+    *b"bg2+\n...........",
+    *b"bg2-\n...........",
+    *b"bg3+\n...........",
+    *b"bg3-\n...........",
+    *b"bclr+\n..........",
+    *b"bclr-\n..........",
+    *b"iack+\n..........",
+    *b"iack-\n..........",
+    *b"berr+\n..........",
+    *b"berr-\n..........",
+    *b"br+\n............",
+    *b"br-\n............",
+    *b"bgout+\n.........",
+    *b"bgout-\n.........",
+    *b"bbsy+\n..........",
+    *b"bbsy-\n..........",
+    *b"addr+\n..........",
+    *b"addr-\n..........",
+    *b"as+\n............",
+    *b"as-\n............",
+    *b"ds+\n............",
+    *b"ds-\n............",
+    *b"irq+\n...........",
+    *b"irq-\n...........",
+    *b"iackout+\n.......",
+    *b"iackout-\n.......",
+    *b"dtack+\n.........",
+    *b"dtack-\n.........",
+];
+
+/// How many bytes of each stand before its line feed.
+static SIZES: [u8; 32] = [
+    4, 4, 4, 4, 4, 4, 4, 4, 5, 5, 5, 5, 5, 5, 3, 3, 6, 6, 5, 5, 5, 5, 3, 3, 3, 3, 4, 4, 8, 8, 6, 6,
+];
+
+/// Where the name of a driver stands.
+#[inline(always)]
+fn driver_place(driver: Driver) -> usize
+    requires { IsDriver driver }
+    ensures place { result ≡ driver_number driver }
+    ensures within { result < 22 }
+{
+    match driver {
+        Driver::Controller => 0,
+        Driver::Slot(slot) => usize::from(slot),
+    }
+}
+
+/// Where the first word of a wire stands, counted by pairs.
+#[inline(always)]
+fn word_place(wire: Wire) -> u8
+    requires { HasWord wire }
+    ensures place { result ≡ word_place wire }
+    ensures within { result < 16 }
+{
+    match wire {
+        Wire::Bg(level) => level,
+        Wire::Bclr => 4,
+        Wire::Iack => 5,
+        Wire::Berr => 6,
+        Wire::Br => 7,
+        Wire::BgOut => 8,
+        Wire::Bbsy => 9,
+        Wire::Addr => 10,
+        Wire::AddressStrobe => 11,
+        Wire::DataStrobe => 12,
+        Wire::Irq => 13,
+        Wire::IackOut => 14,
+        Wire::Dtack => 15,
+    }
+}
+
+/// Where the word of a wire stands with the sign of such an edge.
+#[inline(always)]
+fn move_place(wire: Wire, fall: bool) -> usize
+    requires { HasWord wire }
+    ensures place { result ≡ move_place wire fall }
+    ensures within { result < 32 }
+{
+    2 * usize::from(word_place(wire)) + usize::from(fall)
+}
 
 /// Appends a number in decimal.
 #[inline(always)]
@@ -26,43 +122,39 @@ fn push_number(text: &mut Text, n: u8)
 /// Appends who drives an edge, and a blank.
 #[inline(always)]
 fn push_driver(text: &mut Text, driver: Driver)
-    requires small { driver_number driver < 100 }
-    requires room { length text.old + 3 ≤ 8192 }
+    requires known { IsDriver driver }
+    requires room { length text.old + 4 ≤ 8192 }
     ensures text { text.new ≡ text.old ++ (driver_text driver ++ codes " ") }
     ensures short { length text.new ≤ length text.old + 3 }
 {
-    match driver {
-        Driver::Controller => text.append::<2>(b"c ", 2),
-        Driver::Slot(slot) => {
-            push_number(text, slot);
-            text.append::<1>(b" ", 1);
-        }
-    }
+    let place = driver_place(driver);
+    let row = DRIVERS[place];
+    text.append::<4>(&row, if place < 10 { 2 } else { 3 });
 }
 
-/// Appends the word of a wire.
+/// Appends the word of a wire and the sign of the edge.
 #[inline(always)]
-fn push_wire(text: &mut Text, wire: Wire)
+fn push_word(text: &mut Text, wire: Wire, fall: bool)
     requires word { HasWord wire }
-    requires room { length text.old + 8 ≤ 8192 }
-    ensures text { text.new ≡ text.old ++ wire_text wire }
-    ensures short { length text.new ≤ length text.old + 7 }
+    requires room { length text.old + 16 ≤ 8192 }
+    ensures text { text.new ≡ text.old ++ (wire_text wire ++ sign fall) }
+    ensures short { length text.new ≤ length text.old + 8 }
 {
-    match wire {
-        Wire::Bg(level) => text.append::<3>(&[b'b', b'g', b'0' + level], 3),
-        Wire::Bclr => text.append::<8>(b"bclr....", 4),
-        Wire::Iack => text.append::<8>(b"iack....", 4),
-        Wire::Berr => text.append::<8>(b"berr....", 4),
-        Wire::Br => text.append::<8>(b"br......", 2),
-        Wire::BgOut => text.append::<8>(b"bgout...", 5),
-        Wire::Bbsy => text.append::<8>(b"bbsy....", 4),
-        Wire::Addr => text.append::<8>(b"addr....", 4),
-        Wire::AddressStrobe => text.append::<8>(b"as......", 2),
-        Wire::DataStrobe => text.append::<8>(b"ds......", 2),
-        Wire::Irq => text.append::<8>(b"irq.....", 3),
-        Wire::IackOut => text.append::<8>(b"iackout.", 7),
-        Wire::Dtack => text.append::<8>(b"dtack...", 5),
-    }
+    let place = move_place(wire, fall);
+    let row = WORDS[place];
+    text.append::<16>(&row, usize::from(SIZES[place]));
+}
+
+/// Appends the word of a wire, the sign of the edge and a line feed.
+#[inline(always)]
+fn push_last_word(text: &mut Text, wire: Wire, fall: bool)
+    requires word { HasWord wire }
+    requires room { length text.old + 16 ≤ 8192 }
+    ensures { text.new ≡ text.old ++ ((wire_text wire ++ sign fall) ++ 10 ∷ []) }
+{
+    let place = move_place(wire, fall);
+    let row = WORDS[place];
+    text.append::<16>(&row, usize::from(SIZES[place]) + 1);
 }
 
 /// Appends what an edge shows, after a blank.
@@ -93,11 +185,12 @@ pub(crate) fn push_edge(text: &mut Text, edge: &Edge)
     ensures { text.new ≡ text.old ++ edge_line edge.now }
 {
     push_driver(text, edge.driver);
-    push_wire(text, edge.wire);
-    text.append::<1>(if edge.fall { b"-" } else { b"+" }, 1);
     match edge.value {
-        None => {}
-        Some(cycle) => push_cycle(text, cycle),
+        None => push_last_word(text, edge.wire, edge.fall),
+        Some(cycle) => {
+            push_word(text, edge.wire, edge.fall);
+            push_cycle(text, cycle);
+            text.append::<1>(b"\n", 1);
+        }
     }
-    text.append::<1>(b"\n", 1);
 }

@@ -86,13 +86,13 @@ pub(crate) fn offer_turned<J: Judges, const N: usize>(
 /// Puts the slot's address group going on with an acknowledge after the others, where its board
 /// wants a level and the rules allow it.
 #[inline(always)]
-fn offer_acknowledge<J: Judges>(
+fn offer_acknowledge<J: Judges, const N: usize>(
     state: &J,
     slot: u8,
     handled: Levels,
-    offers: &mut ArrayVec<Edge, 16>,
+    offers: &mut ArrayVec<Edge, N>,
 )
-    requires { length offers.old.items < 16 }
+    requires { length offers.old.items < N }
     ensures offered { OfState J.is_of state.now (λ version p h. (r : RowValue)
         → r.handler ≡ handled
         → offers.new.items ≡ offers.old.items ++ filter (is_open version p h)
@@ -108,8 +108,8 @@ fn offer_acknowledge<J: Judges>(
 /// Puts the slot's address group going on with an access after the others, where there is a board
 /// and the rules allow it.
 #[inline(always)]
-fn offer_access<J: Judges>(state: &J, slot: u8, offers: &mut ArrayVec<Edge, 16>)
-    requires { length offers.old.items < 16 }
+fn offer_access<J: Judges, const N: usize>(state: &J, slot: u8, offers: &mut ArrayVec<Edge, N>)
+    requires { length offers.old.items < N }
     ensures offered { OfState J.is_of state.now (λ version p h. offers.new.items
         ≡ offers.old.items ++ filter (is_open version p h)
         (map (λ t. showing_of (Slot slot) (Cycle.Access t)) (option_to_list (next_board p slot)))) }
@@ -122,8 +122,8 @@ fn offer_access<J: Judges>(state: &J, slot: u8, offers: &mut ArrayVec<Edge, 16>)
 
 /// Puts the edges of the slot's address group after the others that the rules allow.
 #[inline(always)]
-fn offer_address<J: Judges>(state: &J, slot: u8, offers: &mut ArrayVec<Edge, 16>)
-    requires { length offers.old.items ≤ 14 }
+fn offer_address<J: Judges, const N: usize>(state: &J, slot: u8, offers: &mut ArrayVec<Edge, N>)
+    requires { length offers.old.items + 2 ≤ N }
     ensures offered { OfState J.is_of state.now (λ version p h. offers.new.items
         ≡ offers.old.items ++ filter (is_open version p h)
         (considered p h (Slot slot) Wire.Addr)) }
@@ -138,15 +138,15 @@ fn offer_address<J: Judges>(state: &J, slot: u8, offers: &mut ArrayVec<Edge, 16>
 }
 
 /// Puts what a slot's requester may do after the others: nothing where it waits.
-fn offer_requester<J: Judges>(
+fn offer_requester<J: Judges, const N: usize>(
     state: &J,
     slot: u8,
     is_waiting: bool,
-    offers: &mut ArrayVec<Edge, 16>,
+    offers: &mut ArrayVec<Edge, N>,
 )
     requires known { OfState J.is_of state.now (λ version p h.
         is_waiting ≡ requester_waits version p h slot) }
-    requires room { length offers.old.items ≤ 12 }
+    requires room { length offers.old.items + 4 ≤ N }
     ensures offered { OfState J.is_of state.now (λ version p h. offers.new.items
         ≡ offers.old.items ++ offered_on version p h (Slot slot) requester_wires) }
     ensures few { length offers.new.items ≤ length offers.old.items + 3 }
@@ -160,9 +160,14 @@ fn offer_requester<J: Judges>(
 }
 
 /// Puts what a slot's master may do after the others: nothing where it waits.
-fn offer_master<J: Judges>(state: &J, slot: u8, is_waiting: bool, offers: &mut ArrayVec<Edge, 16>)
+fn offer_master<J: Judges, const N: usize>(
+    state: &J,
+    slot: u8,
+    is_waiting: bool,
+    offers: &mut ArrayVec<Edge, N>,
+)
     requires known { OfState J.is_of state.now (λ _ p h. is_waiting ≡ master_waits p h slot) }
-    requires room { length offers.old.items ≤ 12 }
+    requires room { length offers.old.items + 4 ≤ N }
     ensures offered { OfState J.is_of state.now (λ version p h. offers.new.items
         ≡ offers.old.items ++ offered_on version p h (Slot slot) master_wires) }
     ensures few { length offers.new.items ≤ length offers.old.items + 4 }
@@ -176,14 +181,14 @@ fn offer_master<J: Judges>(state: &J, slot: u8, is_waiting: bool, offers: &mut A
 }
 
 /// Puts what a slot's interrupter may do, and its answer, after the others: nothing where it waits.
-fn offer_interrupter<J: Judges>(
+fn offer_interrupter<J: Judges, const N: usize>(
     state: &J,
     slot: u8,
     is_waiting: bool,
-    offers: &mut ArrayVec<Edge, 16>,
+    offers: &mut ArrayVec<Edge, N>,
 )
     requires known { OfState J.is_of state.now (λ _ p h. is_waiting ≡ interrupter_waits p h slot) }
-    requires room { length offers.old.items ≤ 12 }
+    requires room { length offers.old.items + 4 ≤ N }
     ensures offered { OfState J.is_of state.now (λ version p h. offers.new.items
         ≡ offers.old.items ++ offered_on version p h (Slot slot) interrupter_wires) }
     ensures few { length offers.new.items ≤ length offers.old.items + 3 }
@@ -196,17 +201,17 @@ fn offer_interrupter<J: Judges>(
     offer_turned(state, Driver::Slot(slot), Wire::Dtack, offers);
 }
 
-/// What the slot's board is offered; nothing where there is no board.
-fn slot_offers<J: Judges>(state: &J, slot: u8) -> ArrayVec<Edge, 16>
-    ensures { OfState J.is_of state.now (λ version p h. result.items
+/// Puts what the slot's board is offered into an empty list; nothing where there is no board.
+fn put_slot<J: Judges, const N: usize>(state: &J, slot: u8, offers: &mut ArrayVec<Edge, N>)
+    requires room { 11 ≤ N }
+    requires empty { offers.old.items ≡ [] }
+    ensures { OfState J.is_of state.now (λ version p h. offers.new.items
         ≡ offered_but_full version p h (Slot slot)) }
 {
-    let mut offers = ArrayVec::new();
     let waiting = state.waiting(slot);
-    offer_requester(state, slot, waiting.requester, &mut offers);
-    offer_master(state, slot, waiting.master, &mut offers);
-    offer_interrupter(state, slot, waiting.interrupter, &mut offers);
-    offers
+    offer_requester(state, slot, waiting.requester, offers);
+    offer_master(state, slot, waiting.master, offers);
+    offer_interrupter(state, slot, waiting.interrupter, offers);
 }
 
 /// Puts the edge of a level's grant after the others where the rules allow it: none falls but where
@@ -231,22 +236,39 @@ fn offer_grant<J: Judges, const N: usize>(
     offer_turned(state, Driver::Controller, Wire::Bg(level), offers);
 }
 
-/// What the controller is offered.
-pub(crate) fn controller_offers<J: Judges, const N: usize>(state: &J) -> ArrayVec<Edge, N>
-    requires { 7 ≤ N }
-    ensures { OfState J.is_of state.now (λ version p h. result.items
+/// Puts what the controller is offered into an empty list.
+pub(crate) fn put_controller<J: Judges, const N: usize>(state: &J, offers: &mut ArrayVec<Edge, N>)
+    requires room { 7 ≤ N }
+    requires empty { offers.old.items ≡ [] }
+    ensures { OfState J.is_of state.now (λ version p h. offers.new.items
         ≡ offered_but_full version p h Controller) }
 {
-    let mut offers = ArrayVec::new();
     let is_free = state.may_grant();
-    offer_grant(state, 0, is_free, &mut offers);
-    offer_grant(state, 1, is_free, &mut offers);
-    offer_grant(state, 2, is_free, &mut offers);
-    offer_grant(state, 3, is_free, &mut offers);
-    offer_turned(state, Driver::Controller, Wire::Bclr, &mut offers);
-    offer_turned(state, Driver::Controller, Wire::Iack, &mut offers);
-    offer_turned(state, Driver::Controller, Wire::Berr, &mut offers);
-    offers
+    offer_grant(state, 0, is_free, offers);
+    offer_grant(state, 1, is_free, offers);
+    offer_grant(state, 2, is_free, offers);
+    offer_grant(state, 3, is_free, offers);
+    offer_turned(state, Driver::Controller, Wire::Bclr, offers);
+    offer_turned(state, Driver::Controller, Wire::Iack, offers);
+    offer_turned(state, Driver::Controller, Wire::Berr, offers);
+}
+
+/// Puts what a driver is offered, but for the end of the trace, into an empty list: of the edges that are considered for
+/// it those that the rules allow, in the order of its wires.
+pub fn put_offers<J: Judges, const N: usize>(
+    state: &J,
+    driver: Driver,
+    offers: &mut ArrayVec<Edge, N>,
+)
+    requires room { 11 ≤ N }
+    requires empty { offers.old.items ≡ [] }
+    ensures { OfState J.is_of state.now (λ version p h. offers.new.items
+        ≡ offered_but_full version p h driver) }
+{
+    match driver {
+        Driver::Controller => put_controller(state, offers),
+        Driver::Slot(slot) => put_slot(state, slot, offers),
+    }
 }
 
 /// What a driver is offered, but for the end of the trace: of the edges that are considered for it
@@ -255,8 +277,7 @@ pub fn offers_of<J: Judges>(state: &J, driver: Driver) -> ArrayVec<Edge, 16>
     ensures { OfState J.is_of state.now (λ version p h. result.items
         ≡ offered_but_full version p h driver) }
 {
-    match driver {
-        Driver::Controller => controller_offers(state),
-        Driver::Slot(slot) => slot_offers(state, slot),
-    }
+    let mut offers = ArrayVec::new();
+    put_offers(state, driver, &mut offers);
+    offers
 }

@@ -7,7 +7,7 @@ ghost use Rattle.vme_wiring.specs.Opens.{open_but_full};
 ghost use Rattle.vme_wiring.specs.Judged.{OfState};
 
 use crate::judges::Judges;
-use crate::offers::{controller_offers, offer, offer_turned, showing};
+use crate::offers::{offer, offer_turned, put_controller, showing};
 use arrayvec::ArrayVec;
 use vme_model::{Cycle, Driver, Edge, Wire};
 
@@ -79,7 +79,11 @@ pub fn open_edges_of<J: Judges>(state: &J, driver: Driver) -> ArrayVec<Edge, 36>
 {
     match driver {
         // its wires show nothing, so that it is offered all that it can make
-        Driver::Controller => controller_offers(state),
+        Driver::Controller => {
+            let mut edges = ArrayVec::new();
+            put_controller(state, &mut edges);
+            edges
+        }
         Driver::Slot(slot) => slot_open_edges(state, slot),
     }
 }

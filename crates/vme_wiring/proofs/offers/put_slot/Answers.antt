@@ -3,7 +3,7 @@ use Rattle.vme_model.specs.declared.signals.Driver.TheVariants.{Slot}
 use Rattle.vme_model.specs.declared.signals.Edge.{Edge}
 use Rattle.vme_wiring.specs.Offered.{offered_on, requester_wires, master_wires, interrupter_wires}
 use Rattle.vme_wiring.proofs.NoOffers.{parts_joined}
-use Rattle.vme_wiring.proofs.offers.slot_offers.Goals as goal
+use Rattle.vme_wiring.proofs.offers.put_slot.Goals as goal
 
 pub returns : goal.returns
 returns g c version p h is =
@@ -12,5 +12,5 @@ returns g c version p h is =
     let m = offered_on version p h (Slot s) master_wires in
     let i = offered_on version p h (Slot s) interrupter_wires in
     c.offer_interrupter.ensures.offered version p h is
-    ∙ ap (λ (t : List Edge). t ++ i) (c.offer_master.ensures.offered version p h is ∙ ap (λ (t : List Edge). t ++ m) (c.offer_requester.ensures.offered version p h is ∙ ap (λ (t : List Edge). t ++ r) c.new-offers.ensures))
+    ∙ ap (λ (t : List Edge). t ++ i) (c.offer_master.ensures.offered version p h is ∙ ap (λ (t : List Edge). t ++ m) (c.offer_requester.ensures.offered version p h is ∙ ap (λ (t : List Edge). t ++ r) c.requires.empty))
     ∙ parts_joined version p h s

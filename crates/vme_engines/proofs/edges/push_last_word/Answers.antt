@@ -1,0 +1,19 @@
+use Rattle.std.proofs.Common.{◌≡◌, ◌∙◌, ◌≤◌, ◌+◌, ◌∷◌, ◌++◌, [], sym, ap, subst, take, get_or, length, arith, ℕ, List}
+use Rattle.std.proofs.lemmas.List.{length-append}
+use Rattle.vme_model.specs.Text.{wire_text, sign}
+use Rattle.vme_engines.specs.declared.edges.TheConstants.{WORDS, SIZES}
+use Rattle.vme_engines.proofs.EdgeWords.{row_is_word, row_is_last, size_fits, word_fits}
+use Rattle.vme_engines.proofs.edges.push_last_word.Goals as goal
+
+pub append-requires-clause-many : goal.append-requires-clause-many
+append-requires-clause-many c =
+    let fits : c.from.result ≤ 8 = subst (λ n. n ≤ 8) (sym (c.from.ensures ∙ ap (λ k. get_or SIZES k 0) c.move_place-place.ensures.place)) (size_fits c.args.wire c.args.fall c.requires.word) in
+    omega arith
+
+pub returns : goal.returns
+returns c =
+    let text = c.args.text.now in
+    c.append.ensures
+    ∙ ap (λ n. text ++ take (n + 1) (get_or WORDS c.move_place-place.result [])) c.from.ensures
+    ∙ ap (λ k. text ++ take (get_or SIZES k 0 + 1) (get_or WORDS k [])) c.move_place-place.ensures.place
+    ∙ ap (λ l. text ++ l) (row_is_last c.args.wire c.args.fall c.requires.word)
