@@ -28,9 +28,9 @@ pub mod Settled
 pub mod Stays
 -- one place of a set moves: `BusState::move_requester` and its like, `move_controller`
 pub mod Places
--- the state after an edge is that of the longer history: `BusState::note`
+-- the state after an edge is that of the longer history: `BusState::move_requester` and its like, `move_controller`
 pub mod LongerHistory
--- what the sets say of one slot: `BusState::is_slot_low`, `is_low`, `row`, `told_by_rule`
+-- what the sets say of one slot: `BusState::outputs`, `is_driven_low`, `row`, `told_by_rule`
 pub mod OneSlot
 -- a slot waits where all parts of its board do: `BusState::movers`
 pub mod WaitingParts

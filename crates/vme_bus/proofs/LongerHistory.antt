@@ -1,4 +1,4 @@
--- The state after an edge is that of the longer history: `BusState::note`.
+-- The state after an edge is that of the longer history: `BusState::move_requester` and its like, `move_controller`.
 use Rattle.std.proofs.Common.{◌≡◌, ◌≢◌, ◌∙◌, refl, sym, ap, subst, ℕ, Bool, true, false, List, ◌∷◌, ◌<◌, ◌≤◌, length, get_or, arith}
 use Rattle.std.specs.Prelude.{◌==◌, ◌&&◌, ◌||◌, ◌+◌, not, if◌then◌else◌, min, Option, Some, None, Ok, set}
 use Rattle.std.specs.Option.{option_map_or}

@@ -332,7 +332,7 @@ impl Bus {
         self.offer_but_full(driver, round)
     }
 
-    /// The same, but for the end of the trace: of a list that is no longer than a driver's offers are.
+    /// The same, but for the end of the trace. The list has room for any driver's offers.
     #[inline(always)]
     fn offer_but_full(&self, driver: Driver, round: u32) -> Option<Edge>
         ensures { let offers = offered_but_full self.now.version self.now.plan self.now.history driver in

@@ -50,8 +50,8 @@ impl BusState {
         }
     }
 
-    /// The same of an edge of the controller: a function of its own, since it is rare and would make that of all
-    /// edges too large to be part of a loop.
+    /// The same of an edge of the controller, by the arm of its wire and direction. A function of its own, since such
+    /// edges are rare.
     #[inline(never)]
     fn step_control(&mut self, edge: Edge) -> Result<Option<Delivery>, Refused>
         requires part { is_boards edge.wire ≡ false }
