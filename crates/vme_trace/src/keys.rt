@@ -2,11 +2,27 @@
 ghost use Rattle.std.specs.Prelude.{◌≡◌, ◌+◌, ◌<◌, ◌≤◌, IsTrue, ◌↔◌, length, take, drop};
 ghost use Rattle.vme_trace.specs.Known.{number_of, key_number};
 
-/// How many places there are for lines that were read before, some more than a legal trace has lines.
-pub(crate) const PLACES: usize = 2048;
+/// How many places there are for lines that were read before, some more than the 959 lines that spell an edge.
+pub(crate) const PLACES: usize = 1024;
 
-/// Turns the bits of two words into those of a place: lines that differ should seldom meet.
-const MIXER: u64 = 0xa3c2_feb2_4aa4_0bcf;
+/// Turns the bits of two words into those of a place.
+const MIXER: u64 = 0x8ba1_dacd_5350_09f3;
+
+/// How far the lines of each group stand from where the mixer alone would have them. The mixer and these distances were
+/// searched for until no two lines that spell an edge stood at one place; a line may be looked for at any place, so
+/// that what is read never depends on them.
+static DISTANCES: [u8; 256] = [
+    1, 54, 0, 5, 2, 0, 4, 69, 0, 10, 17, 8, 8, 2, 11, 3, 20, 14, 8, 5, 128, 4, 7, 79, 1, 27, 14,
+    17, 1, 0, 85, 62, 46, 34, 11, 61, 5, 8, 244, 4, 11, 68, 2, 0, 12, 3, 19, 74, 14, 34, 12, 2, 4,
+    2, 122, 144, 41, 14, 1, 68, 23, 0, 4, 14, 7, 1, 0, 1, 0, 46, 1, 85, 18, 18, 28, 3, 3, 11, 0, 0,
+    5, 11, 1, 10, 50, 12, 94, 17, 2, 0, 5, 3, 61, 11, 39, 29, 2, 26, 1, 9, 2, 72, 13, 0, 20, 1, 91,
+    5, 25, 10, 204, 4, 13, 11, 1, 9, 3, 0, 64, 23, 6, 40, 177, 26, 11, 45, 71, 38, 14, 11, 5, 2,
+    173, 0, 0, 4, 0, 76, 1, 0, 9, 19, 31, 43, 70, 0, 1, 12, 29, 0, 5, 78, 0, 9, 58, 14, 19, 0, 8,
+    62, 72, 68, 97, 12, 42, 4, 14, 26, 164, 114, 19, 0, 9, 0, 100, 71, 132, 227, 2, 72, 53, 17,
+    136, 0, 64, 25, 5, 17, 57, 31, 96, 5, 27, 0, 64, 7, 41, 114, 91, 22, 13, 37, 52, 149, 66, 32,
+    1, 246, 0, 0, 0, 13, 124, 13, 33, 0, 41, 27, 8, 1, 4, 176, 7, 0, 35, 147, 2, 67, 66, 12, 90, 4,
+    30, 27, 0, 86, 0, 113, 30, 143, 90, 19, 9, 0, 4, 5, 0, 0, 0, 166, 156, 38, 35, 100, 62, 63,
+];
 
 /// The bytes of a line that stand in its first word, by how many bytes it has before the line feed.
 static LOW: [u64; 16] = [
@@ -93,9 +109,10 @@ impl Key {
     /// Where a line of this key is looked for.
     #[inline(always)]
     pub(crate) fn place(self) -> usize
-        ensures { result < 2048 }
+        ensures { result < 1024 }
     {
-        let bits = (self.low ^ self.high.rotate_left(6)).wrapping_mul(MIXER);
-        (bits >> 53) as usize
+        let bits = (self.low ^ (self.high << 20)).wrapping_mul(MIXER);
+        let group = (bits >> 40) % 256;
+        ((bits >> 54) as usize ^ usize::from(DISTANCES[group as usize])) % PLACES
     }
 }
