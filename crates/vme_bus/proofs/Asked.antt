@@ -1,8 +1,7 @@
 -- What an edge is answered: `BusState::ask_requester` and its like; and of a grant beyond the last level.
 use Rattle.std.proofs.Common.{◌≡◌, ◌∙◌, refl, sym, ap, subst, ℕ, zero, suc, Bool, true, false, List, ◌<◌, ◌≤◌, arith}
-use Rattle.std.specs.Prelude.{◌==◌, min, not, Option, Some, None, Ok, Err, nat_le}
+use Rattle.std.specs.Prelude.{◌==◌, min, Option, Some, None, Ok, nat_le}
 use Rattle.std.specs.Option.{option_map_or}
-use Rattle.std.proofs.Math.Bool.{beq}
 use Rattle.std.proofs.lemmas.Bool.Decides.{nat_tests}
 use Rattle.vme_model.specs.declared.boards.Row.{Row}
 use Rattle.vme_model.specs.declared.refusals.Refused.TheVariants.{AlreadyThere, Rule}
@@ -104,3 +103,7 @@ near_slot s e driver formed =
     by_wire Irq e = below e
     by_wire IackOut e = below e
     by_wire Dtack e = below e
+
+-- a well-formed edge of a driver that there is
+pub exists_by : (p : Plan) (e : Edge) → is_well_formed e ≡ true → has_driver p e.driver e.wire ≡ true → exists p e ≡ true
+exists_by p e formed has = rw (formed, has) refl

@@ -38,5 +38,9 @@ pub mod WaitingParts
 pub mod AtWork
 -- where a grant stops, it travels: `BusState::grant_at`
 pub mod Standing
+-- whose parts have no edge to make: `BusState::ready_masters`, `ready_interrupters`
+pub mod Ready
 -- where a trace has room, E5 does not come: `Bus::step`, `BusState::step`
 pub mod Room
+-- each refusal has a number of its own: `BusState::step_requester` and its like
+pub mod Numbers

@@ -1,5 +1,5 @@
 -- The verdict on an edge that no settling rule names: `BusState::judge_requester`, `judge_interrupter`.
-use Rattle.std.proofs.Common.{◌≡◌, ◌∙◌, refl, sym, ap, Bool, true, false, List}
+use Rattle.std.proofs.Common.{◌≡◌, refl, Bool, true, false, List}
 use Rattle.vme_model.specs.declared.refusals.Refused.{Refused}
 use Rattle.vme_model.specs.declared.refusals.Refused.TheVariants.{NoSuchDriver, AlreadyThere, Rule, NotSettled}
 use Rattle.vme_model.specs.declared.signals.Version.{Version}
@@ -9,7 +9,7 @@ use Rattle.vme_model.specs.History.{drive}
 use Rattle.vme_model.specs.Readings.{readings}
 use Rattle.vme_model.specs.Rules.{rule}
 use Rattle.vme_model.specs.Settling.{settling}
-use Rattle.vme_model.specs.Verdict.{Judgement, check, is_other_state, verdict_but_full}
+use Rattle.vme_model.specs.Verdict.{check, is_other_state, verdict_but_full}
 use Rattle.std.specs.Prelude.{Ok}
 use Rattle.vme_wiring.specs.Asked.{asked, exists}
 

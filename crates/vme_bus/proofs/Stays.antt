@@ -1,5 +1,5 @@
 -- What an edge of one part leaves as it is of the others: `BusState::move_requester` and its like.
-use Rattle.std.proofs.Common.{◌≡◌, ◌∙◌, refl, sym, ap, ℕ, Bool, true, false}
+use Rattle.std.proofs.Common.{◌≡◌, refl, sym, ap, ℕ, Bool, true, false}
 use Rattle.std.specs.Prelude.{◌==◌, not, if◌then◌else◌, Option}
 use Rattle.vme_model.specs.declared.boards.Release.{Release}
 use Rattle.vme_model.specs.declared.signals.Cycle.{Cycle}

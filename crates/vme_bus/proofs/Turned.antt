@@ -1,13 +1,17 @@
 -- When the edge that moves a wire to its other state is open: `BusState::may_control`, `may_request` and their like.
-use Rattle.std.proofs.Common.{◌≡◌, ◌∙◌, refl, ap, ℕ, Bool, true, false, List}
-use Rattle.std.specs.Prelude.{◌&&◌, not, Ok, None, is_ok}
+use Rattle.std.proofs.Common.{◌≡◌, ◌≤◌, ◌∙◌, refl, sym, ap, arith, ℕ, Bool, true, false, List}
+use Rattle.std.specs.Prelude.{◌&&◌, not, Ok, Option, Some, None, is_ok}
+use Rattle.std.specs.Option.{option_map_or}
+use Rattle.vme_model.specs.declared.boards.Row.{Row}
 use Rattle.vme_model.specs.declared.refusals.Refused.TheVariants.{NoSuchDriver, AlreadyThere, Rule, NotSettled}
 use Rattle.vme_model.specs.declared.signals.Version.{Version}
 use Rattle.vme_model.specs.declared.signals.Driver.{Driver}
+use Rattle.vme_model.specs.declared.signals.Driver.TheVariants.{Slot}
 use Rattle.vme_model.specs.declared.signals.Edge.{Edge}
 use Rattle.vme_model.specs.declared.signals.Wire.{Wire}
 use Rattle.vme_model.specs.declared.signals.Wire.TheVariants.{Bg, Bclr, Iack, Berr, Br, BgOut, Bbsy, Addr, AddressStrobe, DataStrobe, Irq, IackOut, Dtack}
-use Rattle.vme_model.specs.Plan.{Plan}
+use Rattle.vme_model.specs.Accepted.{IsAccepted}
+use Rattle.vme_model.specs.Plan.{Plan, board, drives}
 use Rattle.vme_model.specs.History.{drive}
 use Rattle.vme_model.specs.Readings.{readings}
 use Rattle.vme_model.specs.Rules.{rule}
@@ -18,6 +22,8 @@ use Rattle.vme_requester.specs.Local.{is_requesters}
 use Rattle.vme_interrupter.specs.Local.{is_interrupters}
 use Rattle.vme_wiring.specs.Asked.{exists}
 use Rattle.vme_wiring.specs.Offered.{is_open}
+use Rattle.vme_wiring.proofs.AllowedBoards.{stands}
+use Rattle.vme_wiring.proofs.NoOffers.{lacking}
 
 opens : (there low a b : Bool) (n m : ℕ) → there ≡ true → (a && b) ≡ is_ok (check there NoSuchDriver (check (is_other_state low (not low)) AlreadyThere (check a (Rule n) (check b (NotSettled m) (Ok tt)))))
 opens true true true true n m e = refl
@@ -55,6 +61,14 @@ module _ (version : Version) (p : Plan) (h : List Edge) (d : Driver) (w : Wire) 
   -- where there is none
   pub shut_where : exists p (turned h d w) ≡ false → false ≡ is_open version p h (turned h d w)
   shut_where none = shuts (exists p (turned h d w)) (drive h d w) by_rule.1 by_settling.1 by_rule.0 by_settling.0 none
+
+-- no board stands beyond the last slot
+pub beyond_shut : (version : Version) (p : Plan) (h : List Edge) (s : ℕ) (w : Wire) → IsAccepted p → 22 ≤ s → false ≡ is_open version p h (turned h (Slot s) w)
+beyond_shut version p h s w ok far = sym (lacking version p h (turned h (Slot s) w) (by_board (board p s) refl))
+  where
+    by_board : (o : Option Row) → board p s ≡ o → option_map_or (drives w) (board p s) false ≡ false
+    by_board None found = ap (λ (o : Option Row). option_map_or (drives w) o false) found
+    by_board (Some r) found = let near = (stands p s r ok found).near in absurd (omega arith)
 
 -- no settling rule names a requester's edge
 pub requesters_settle : (version : Version) (p : Plan) (h : List Edge) (w : Wire) (fall : Bool) → is_requesters w ≡ true → (settling version p h w fall).1 ≡ true

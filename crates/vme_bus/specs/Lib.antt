@@ -16,3 +16,7 @@ pub mod Movers
 pub mod Steps
 -- words: the arm of an edge
 pub mod Arms
+-- believe, for who keeps `AnswerRecord`s: the answers to edges, and what the numbers of one stand for
+pub mod Answers
+-- words: which parts of the boards have no edge to make
+pub mod Choices

@@ -1,5 +1,5 @@
 //! A bus, which takes edges one by one and stores none of them.
-ghost use Rattle.std.specs.Prelude.{◌≡◌, ◌==◌, ◌&&◌, ◌+◌, ◌%◌, ◌≤◌, ◌↔◌, [], ℕ, IsTrue, Ok, false, true, is_ok, length, slice_get};
+ghost use Rattle.std.specs.Prelude.{◌≡◌, ◌==◌, ◌&&◌, ◌+◌, ◌%◌, ◌≤◌, ◌↔◌, [], ℕ, IsTrue, Ok, false, true, is_ok, length, map, slice_get, take};
 ghost use Rattle.std.specs.Option.{option_map_or};
 ghost use Rattle.vme_model.specs.declared.signals.Driver.TheVariants.{Slot};
 ghost use Rattle.vme_bus.specs.Sets.{has};
@@ -8,15 +8,23 @@ ghost use Rattle.vme_model.specs.Failing.{tested, tested_but_full, unmet, unmet_
 ghost use Rattle.vme_model.specs.Safe.{IsSafe, IsOrderly};
 ghost use Rattle.vme_model.specs.Views.{pins};
 ghost use Rattle.vme_model.specs.Deliveries.{answer};
+ghost use Rattle.vme_model.specs.Signals.{is_well_formed};
+ghost use Rattle.vme_model.specs.Locality.{AreWellFormed};
+ghost use Rattle.vme_model.specs.declared.deliveries.Delivery.{Delivery as DeliveryValue};
+ghost use Rattle.vme_bus.specs.Answers.{answer_in, answer_of, answers};
 ghost use Rattle.vme_model.specs.Offers.{offered};
 ghost use Rattle.vme_model.specs.Open.{open_edges, IsAllThatIsAllowed};
 ghost use Rattle.vme_wiring.specs.Offered.{offered_but_full};
 ghost use Rattle.vme_model.specs.Accepted.{IsAccepted};
 ghost use Rattle.vme_model.specs.Report.{at_power_up, trace_limit};
 ghost use Rattle.vme_backplane.specs.Sound.{IsSound};
+ghost use Rattle.vme_bus.specs.States.{IsStateOf};
 
+use crate::answers::{ACCEPTED, AnswerRecord, NO_DRIVER, is_accepted, refusal_number};
+use crate::arms::arm_of;
 use crate::sets::SlotSet;
 use crate::states::BusState;
+use crate::steps::step_by_arm;
 use arrayvec::ArrayVec;
 use std::marker::Model;
 use vme_backplane::{Counts, by_wire, choice};
@@ -82,6 +90,14 @@ impl Bus {
         ensures bounded { self.now.max ≤ trace_limit }
     {
         let _state = &self.state;
+    }
+
+    /// The numbers that the edges so far lead to.
+    #[inline(always)]
+    pub(crate) fn state(&self) -> &BusState
+        ensures { IsStateOf self.now.version self.now.plan self.now.history result.now }
+    {
+        &self.state
     }
 
     /// What follows for its history: it is safe and orderly.
@@ -185,37 +201,129 @@ impl Bus {
     /// Makes the edge where the rules allow it, and answers what it delivers.
     ///
     /// A refusal is the first that applies of E1 to E5, and leaves everything as it was. No memory
-    /// is asked for.
-    #[inline(always)]
+    /// is asked for. `step_all` takes less time for many edges.
     pub fn step(&mut self, edge: Edge) -> Result<Option<Delivery>, Refused>
         ensures answer { result ≡ answer self.old edge }
         ensures accepted { is_ok result ≡ is_ok (verdict self.old edge) }
         ensures state { self.new ≡ after self.old edge }
         ensures sound { IsSound self.new }
     {
-        let answer = self.step_by_arm(edge);
         self.laws();
         self.safety();
-        answer
+        if !edge.is_well_formed() {
+            return Err(Refused::NoSuchDriver);
+        }
+        let mut kept = AnswerRecord::ACCEPTED;
+        self.step_or_refuse(edge, &mut kept);
+        self.laws();
+        self.safety();
+        kept.answer()
     }
 
-    /// The same, but for what follows of every history.
+    /// The number of the answer to an edge where the trace is full: it is refused.
+    fn number_when_full(&self, edge: Edge) -> u8
+        requires full { (length self.now.history == self.now.max) ≡ true }
+        ensures { (d : DeliveryValue) → answer_in result d ≡ answer self.now edge }
+    {
+        match self.verdict(edge) {
+            Ok(()) => ACCEPTED,
+            Err(refused) => refusal_number(refused),
+        }
+    }
+
+    /// Makes a well-formed edge where the rules allow it, and keeps the answer: the trace has room.
     #[inline(always)]
-    fn step_by_arm(&mut self, edge: Edge) -> Result<Option<Delivery>, Refused>
-        ensures answer { result ≡ answer self.old edge }
+    fn step_into(&mut self, edge: Edge, kept: &mut AnswerRecord)
+        requires formed { is_well_formed edge ≡ true }
+        requires room { (length self.old.history == self.old.max) ≡ false }
+        ensures answer { answer_of kept.new ≡ answer self.old edge }
+        ensures state { self.new ≡ after self.old edge }
+        ensures few { length self.new.history ≤ length self.old.history + 1 }
+        ensures max { self.new.max ≡ self.old.max }
+    {
+        self.laws();
+        kept.number = step_by_arm!(self.state, edge, &mut kept.delivery);
+        if is_accepted(kept.number) {
+            self.made += 1;
+            self.past.note(edge);
+        }
+    }
+
+    /// Steps through edges for which the trace has room, as `step_all` does.
+    fn step_within(&mut self, edges: &[Edge], records: &mut [AnswerRecord])
+        requires formed { AreWellFormed edges.now }
+        requires fits { length self.old.history + length edges.now ≤ self.old.max }
+        requires room { length edges.now ≤ length records.old }
+        ensures answers { map answer_of (take (length edges.now) records.new)
+            ≡ answers self.old edges.now }
+        ensures room { length records.new ≡ length records.old }
+        ensures state { self.new ≡ kept self.old edges.now }
+    {
+        let mut at = 0;
+        for edge in edges {
+            self.step_into(*edge, &mut records[at]);
+            at += 1;
+        }
+    }
+
+    /// Makes a well-formed edge where the rules allow it and the trace has room, and keeps the answer.
+    fn step_or_refuse(&mut self, edge: Edge, kept: &mut AnswerRecord)
+        requires formed { is_well_formed edge ≡ true }
+        ensures answer { answer_of kept.new ≡ answer self.old edge }
         ensures state { self.new ≡ after self.old edge }
     {
         if self.is_full() {
-            return self.answer(edge);
+            kept.number = self.number_when_full(edge);
+            return;
         }
         self.laws();
-        let answer = self.state.step(edge);
-        let is_accepted = answer.is_ok();
-        self.made += u32::from(is_accepted);
-        if is_accepted {
-            self.past.note(edge)
+        let mut one = [AnswerRecord::ACCEPTED; 1];
+        self.step_within(&[edge], &mut one);
+        *kept = one[0];
+    }
+
+    /// Steps through edges for which the trace may have no room, as `step_all` does.
+    fn step_to_end(&mut self, edges: &[Edge], records: &mut [AnswerRecord])
+        requires formed { AreWellFormed edges.now }
+        requires room { length edges.now ≤ length records.old }
+        ensures answers { map answer_of (take (length edges.now) records.new)
+            ≡ answers self.old edges.now }
+        ensures room { length records.new ≡ length records.old }
+        ensures state { self.new ≡ kept self.old edges.now }
+    {
+        let mut at = 0;
+        for edge in edges {
+            self.step_or_refuse(*edge, &mut records[at]);
+            at += 1;
         }
-        answer
+    }
+
+    /// Whether the trace has room for so many edges, if all of them are accepted.
+    fn has_room(&self, edges: usize) -> bool
+        ensures { IsTrue result ↔ (length self.now.history + edges ≤ self.now.max) }
+    {
+        edges <= (self.max - self.made) as usize
+    }
+
+    /// Steps through all the edges, past those that are refused, and keeps the answers in the first records.
+    ///
+    /// It is as if `step` was called with each.
+    pub fn step_all(&mut self, edges: &[Edge], records: &mut [AnswerRecord])
+        requires formed { AreWellFormed edges.now }
+        requires room { length edges.now ≤ length records.old }
+        ensures answers { map answer_of (take (length edges.now) records.new)
+            ≡ answers self.old edges.now }
+        ensures room { length records.new ≡ length records.old }
+        ensures state { self.new ≡ kept self.old edges.now }
+        ensures sound { IsSound self.new }
+    {
+        if self.has_room(edges.len()) {
+            self.step_within(edges, records);
+        } else {
+            self.step_to_end(edges, records);
+        }
+        self.laws();
+        self.safety();
     }
 
     /// What holds of an edge that would be accepted.
@@ -244,7 +352,7 @@ impl Bus {
 
     /// The same, with an arm for each wire.
     #[inline(always)]
-    fn make_by_wire(&mut self, edge: Edge)
+    pub(crate) fn make_by_wire(&mut self, edge: Edge)
         requires { verdict self.old edge ≡ Ok tt }
         ensures { self.new ≡ made self.old edge }
     {
@@ -411,7 +519,7 @@ impl Bus {
     }
 
     /// Whether it takes no further edge.
-    fn is_full(&self) -> bool
+    pub(crate) fn is_full(&self) -> bool
         ensures { result ≡ (length self.now.history == self.now.max) }
     {
         self.len() == self.max()

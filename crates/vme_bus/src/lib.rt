@@ -1,8 +1,10 @@
 //! The state of a bus without its history, as a plain record of numbers.
 #![tactic(auto)]
 
+mod answers;
 mod arms;
 mod buses;
+mod choices;
 mod judging;
 mod layouts;
 mod movers;
@@ -18,6 +20,8 @@ mod turns;
 mod verdicts;
 mod waits;
 
+pub use answers::AnswerRecord;
 pub use buses::Bus;
+pub use choices::Turns;
 pub use sets::SlotSet;
 pub use states::BusState;

@@ -76,7 +76,7 @@ impl BusState {
 
     /// The slot that an access is shown to.
     #[inline(always)]
-    fn accessed(&self) -> SlotSet
+    pub(crate) fn accessed(&self) -> SlotSet
         ensures { (s : ℕ) → s < 22 → has result s ≡ is_access_to s (cycle_in self.now.shown) }
     {
         match self.shown() {

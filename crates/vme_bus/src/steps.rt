@@ -1,16 +1,59 @@
 //! Edges taken one by one.
 ghost use Rattle.std.specs.Prelude.{◌≡◌, ◌∷◌, Ok, true, false, is_ok};
 ghost use Rattle.vme_model.specs.Deliveries.{delivery};
+ghost use Rattle.vme_model.specs.Signals.{is_well_formed};
 ghost use Rattle.vme_model.specs.Verdict.{verdict_but_full};
 ghost use Rattle.vme_requester.specs.Local.{is_requesters};
 ghost use Rattle.vme_master.specs.Local.{is_masters};
 ghost use Rattle.vme_interrupter.specs.Local.{is_interrupters};
+ghost use Rattle.vme_bus.specs.Answers.{answer_in};
 ghost use Rattle.vme_bus.specs.Asks.{is_boards};
 ghost use Rattle.vme_bus.specs.Steps.{answer_but_full, kept_but_full};
 
+use crate::answers::{NO_DELIVERY, NO_DRIVER, accepted_number, answer_in, refusal_number};
 use crate::arms::{arm_of, level_of};
 use crate::states::BusState;
-use vme_model::{Delivery, Edge, Refused, Wire};
+use vme_model::{Delivery, Driver, Edge, Refused, Wire};
+
+/// Takes a well-formed edge where the rules allow it, in an arm for each wire and direction, so that an edge of a board
+/// takes one jump. Gives the number of the answer, and what is delivered.
+///
+/// A macro, so that the arms stand in the loop over edges itself.
+macro_rules! step_by_arm {
+    ($state:expr, $edge:ident, $delivery:expr) => {
+        match $edge.driver {
+            Driver::Controller => $state.step_control($edge, $delivery),
+            Driver::Slot(slot) => {
+                // No board stands in a slot beyond 21, which the compiler does not know.
+                if slot < 22 {
+                    match arm_of($edge) {
+                        8 => $state.step_requester($edge, Wire::Br, false, $delivery),
+                        9 => $state.step_requester($edge, Wire::Br, true, $delivery),
+                        10 => $state.step_requester($edge, Wire::BgOut, false, $delivery),
+                        11 => $state.step_requester($edge, Wire::BgOut, true, $delivery),
+                        12 => $state.step_requester($edge, Wire::Bbsy, false, $delivery),
+                        13 => $state.step_requester($edge, Wire::Bbsy, true, $delivery),
+                        14 => $state.step_master($edge, Wire::Addr, false, $delivery),
+                        15 => $state.step_master($edge, Wire::Addr, true, $delivery),
+                        16 => $state.step_master($edge, Wire::AddressStrobe, false, $delivery),
+                        17 => $state.step_master($edge, Wire::AddressStrobe, true, $delivery),
+                        18 => $state.step_master($edge, Wire::DataStrobe, false, $delivery),
+                        19 => $state.step_master($edge, Wire::DataStrobe, true, $delivery),
+                        20 => $state.step_interrupter($edge, Wire::Irq, false, $delivery),
+                        21 => $state.step_interrupter($edge, Wire::Irq, true, $delivery),
+                        22 => $state.step_interrupter($edge, Wire::IackOut, false, $delivery),
+                        23 => $state.step_interrupter($edge, Wire::IackOut, true, $delivery),
+                        24 => $state.step_interrupter($edge, Wire::Dtack, false, $delivery),
+                        25 => $state.step_interrupter($edge, Wire::Dtack, true, $delivery),
+                        _ => $state.step_control($edge, $delivery),
+                    }
+                } else {
+                    NO_DRIVER
+                }
+            }
+        }
+    };
+}
 
 impl BusState {
     ghost use Rattle.vme_bus.specs.States.{IsStateOf, OfHistory};
@@ -27,157 +70,158 @@ impl BusState {
             IsStateOf version p (kept_but_full version p h edge) self.new) }
         ensures refused { is_ok result ≡ false → self.new ≡ self.old }
     {
-        match arm_of(edge) {
-            0..=7 => self.step_control(edge),
-            8 => self.step_requester(edge, Wire::Br, false),
-            9 => self.step_requester(edge, Wire::Br, true),
-            10 => self.step_requester(edge, Wire::BgOut, false),
-            11 => self.step_requester(edge, Wire::BgOut, true),
-            12 => self.step_requester(edge, Wire::Bbsy, false),
-            13 => self.step_requester(edge, Wire::Bbsy, true),
-            14 => self.step_master(edge, Wire::Addr, false),
-            15 => self.step_master(edge, Wire::Addr, true),
-            16 => self.step_master(edge, Wire::AddressStrobe, false),
-            17 => self.step_master(edge, Wire::AddressStrobe, true),
-            18 => self.step_master(edge, Wire::DataStrobe, false),
-            19 => self.step_master(edge, Wire::DataStrobe, true),
-            20 => self.step_interrupter(edge, Wire::Irq, false),
-            21 => self.step_interrupter(edge, Wire::Irq, true),
-            22 => self.step_interrupter(edge, Wire::IackOut, false),
-            23 => self.step_interrupter(edge, Wire::IackOut, true),
-            24 => self.step_interrupter(edge, Wire::Dtack, false),
-            _ => self.step_interrupter(edge, Wire::Dtack, true),
+        if !edge.is_well_formed() {
+            return Err(Refused::NoSuchDriver);
         }
+        let mut delivery = NO_DELIVERY;
+        let number = self.step_formed(edge, &mut delivery);
+        answer_in(number, delivery)
+    }
+
+    /// Takes a well-formed edge where the rules allow it. Gives the number of the answer, and what is delivered.
+    #[inline(always)]
+    pub(crate) fn step_formed(&mut self, edge: Edge, delivery: &mut Delivery) -> u8
+        requires formed { is_well_formed edge ≡ true }
+        ensures answer { OfHistory self.old (λ version p h.
+            answer_in result delivery.new ≡ answer_but_full version p h edge) }
+        ensures state { OfHistory self.old (λ version p h.
+            IsStateOf version p (kept_but_full version p h edge) self.new) }
+        ensures refused { is_ok (answer_in result delivery.new) ≡ false → self.new ≡ self.old }
+    {
+        step_by_arm!(self, edge, delivery)
     }
 
     /// The same of an edge of the controller, by the arm of its wire and direction. A function of its own, since such
     /// edges are rare.
     #[inline(never)]
-    fn step_control(&mut self, edge: Edge) -> Result<Option<Delivery>, Refused>
+    pub(crate) fn step_control(&mut self, edge: Edge, delivery: &mut Delivery) -> u8
+        requires formed { is_well_formed edge ≡ true }
         requires part { is_boards edge.wire ≡ false }
         ensures answer { OfHistory self.old (λ version p h.
-            result ≡ answer_but_full version p h edge) }
+            answer_in result delivery.new ≡ answer_but_full version p h edge) }
         ensures state { OfHistory self.old (λ version p h.
             IsStateOf version p (kept_but_full version p h edge) self.new) }
-        ensures refused { is_ok result ≡ false → self.new ≡ self.old }
+        ensures refused { is_ok (answer_in result delivery.new) ≡ false → self.new ≡ self.old }
     {
         match arm_of(edge) {
-            0 => self.step_controller(edge, Wire::Bg(level_of(edge.wire)), false),
-            1 => self.step_controller(edge, Wire::Bg(level_of(edge.wire)), true),
-            2 => self.step_controller(edge, Wire::Bclr, false),
-            3 => self.step_controller(edge, Wire::Bclr, true),
-            4 => self.step_controller(edge, Wire::Iack, false),
-            5 => self.step_controller(edge, Wire::Iack, true),
-            6 => self.step_controller(edge, Wire::Berr, false),
-            _ => self.step_controller(edge, Wire::Berr, true),
+            0 => self.step_controller(edge, Wire::Bg(level_of(edge.wire)), false, delivery),
+            1 => self.step_controller(edge, Wire::Bg(level_of(edge.wire)), true, delivery),
+            2 => self.step_controller(edge, Wire::Bclr, false, delivery),
+            3 => self.step_controller(edge, Wire::Bclr, true, delivery),
+            4 => self.step_controller(edge, Wire::Iack, false, delivery),
+            5 => self.step_controller(edge, Wire::Iack, true, delivery),
+            6 => self.step_controller(edge, Wire::Berr, false, delivery),
+            _ => self.step_controller(edge, Wire::Berr, true, delivery),
         }
     }
 
     /// The same of an edge of the controller, in an arm where wire and direction are constants, so that the
     /// compiler leaves out what other edges need.
     #[inline(always)]
-    fn step_controller(
-        &mut self,
-        edge: Edge,
-        wire: Wire,
-        fall: bool,
-    ) -> Result<Option<Delivery>, Refused>
+    fn step_controller(&mut self, edge: Edge, wire: Wire, fall: bool, delivery: &mut Delivery) -> u8
+        requires formed { is_well_formed edge ≡ true }
         requires wire { wire ≡ edge.wire }
         requires fall { fall ≡ edge.fall }
         requires part { is_boards wire ≡ false }
         ensures answer { OfHistory self.old (λ version p h.
-            result ≡ answer_but_full version p h edge) }
+            answer_in result delivery.new ≡ answer_but_full version p h edge) }
         ensures state { OfHistory self.old (λ version p h.
             IsStateOf version p (kept_but_full version p h edge) self.new) }
-        ensures refused { is_ok result ≡ false → self.new ≡ self.old }
+        ensures refused { is_ok (answer_in result delivery.new) ≡ false → self.new ≡ self.old }
     {
         let mut edge = edge;
         edge.wire = wire;
         edge.fall = fall;
         match self.judge_controller(edge) {
-            Ok(()) => Ok(self.take_controller(edge)),
-            Err(refused) => Err(refused),
+            Ok(()) => accepted_number(self.take_controller(edge), delivery),
+            Err(refused) => refusal_number(refused),
         }
     }
 
     /// The same of an edge of a board's requester, in an arm where wire and direction are constants, so that the
     /// compiler leaves out what other edges need.
     #[inline(always)]
-    fn step_requester(
+    pub(crate) fn step_requester(
         &mut self,
         edge: Edge,
         wire: Wire,
         fall: bool,
-    ) -> Result<Option<Delivery>, Refused>
+        delivery: &mut Delivery,
+    ) -> u8
+        requires formed { is_well_formed edge ≡ true }
         requires wire { wire ≡ edge.wire }
         requires fall { fall ≡ edge.fall }
         requires part { is_requesters wire ≡ true }
         ensures answer { OfHistory self.old (λ version p h.
-            result ≡ answer_but_full version p h edge) }
+            answer_in result delivery.new ≡ answer_but_full version p h edge) }
         ensures state { OfHistory self.old (λ version p h.
             IsStateOf version p (kept_but_full version p h edge) self.new) }
-        ensures refused { is_ok result ≡ false → self.new ≡ self.old }
+        ensures refused { is_ok (answer_in result delivery.new) ≡ false → self.new ≡ self.old }
     {
         let mut edge = edge;
         edge.wire = wire;
         edge.fall = fall;
         match self.judge_requester(edge) {
-            Ok(()) => Ok(self.take_requester(edge)),
-            Err(refused) => Err(refused),
+            Ok(()) => accepted_number(self.take_requester(edge), delivery),
+            Err(refused) => refusal_number(refused),
         }
     }
 
     /// The same of an edge of a board's master, in an arm where wire and direction are constants, so that the
     /// compiler leaves out what other edges need.
     #[inline(always)]
-    fn step_master(
+    pub(crate) fn step_master(
         &mut self,
         edge: Edge,
         wire: Wire,
         fall: bool,
-    ) -> Result<Option<Delivery>, Refused>
+        delivery: &mut Delivery,
+    ) -> u8
+        requires formed { is_well_formed edge ≡ true }
         requires wire { wire ≡ edge.wire }
         requires fall { fall ≡ edge.fall }
         requires part { is_masters wire ≡ true }
         ensures answer { OfHistory self.old (λ version p h.
-            result ≡ answer_but_full version p h edge) }
+            answer_in result delivery.new ≡ answer_but_full version p h edge) }
         ensures state { OfHistory self.old (λ version p h.
             IsStateOf version p (kept_but_full version p h edge) self.new) }
-        ensures refused { is_ok result ≡ false → self.new ≡ self.old }
+        ensures refused { is_ok (answer_in result delivery.new) ≡ false → self.new ≡ self.old }
     {
         let mut edge = edge;
         edge.wire = wire;
         edge.fall = fall;
         match self.judge_master(edge) {
-            Ok(()) => Ok(self.take_master(edge)),
-            Err(refused) => Err(refused),
+            Ok(()) => accepted_number(self.take_master(edge), delivery),
+            Err(refused) => refusal_number(refused),
         }
     }
 
     /// The same of an edge of a board's interrupter, or of its answer, in an arm where wire and direction are constants, so that the
     /// compiler leaves out what other edges need.
     #[inline(always)]
-    fn step_interrupter(
+    pub(crate) fn step_interrupter(
         &mut self,
         edge: Edge,
         wire: Wire,
         fall: bool,
-    ) -> Result<Option<Delivery>, Refused>
+        delivery: &mut Delivery,
+    ) -> u8
+        requires formed { is_well_formed edge ≡ true }
         requires wire { wire ≡ edge.wire }
         requires fall { fall ≡ edge.fall }
         requires part { is_interrupters wire ≡ true }
         ensures answer { OfHistory self.old (λ version p h.
-            result ≡ answer_but_full version p h edge) }
+            answer_in result delivery.new ≡ answer_but_full version p h edge) }
         ensures state { OfHistory self.old (λ version p h.
             IsStateOf version p (kept_but_full version p h edge) self.new) }
-        ensures refused { is_ok result ≡ false → self.new ≡ self.old }
+        ensures refused { is_ok (answer_in result delivery.new) ≡ false → self.new ≡ self.old }
     {
         let mut edge = edge;
         edge.wire = wire;
         edge.fall = fall;
         match self.judge_interrupter(edge) {
-            Ok(()) => Ok(self.take_interrupter(edge)),
-            Err(refused) => Err(refused),
+            Ok(()) => accepted_number(self.take_interrupter(edge), delivery),
+            Err(refused) => refusal_number(refused),
         }
     }
 
@@ -230,3 +274,5 @@ impl BusState {
         delivery
     }
 }
+
+pub(crate) use step_by_arm;

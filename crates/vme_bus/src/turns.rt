@@ -49,6 +49,10 @@ impl BusState {
         ensures { OfHistory self.now (λ version p h.
             result ≡ is_open version p h (turned h (Slot slot) wire)) }
     {
+        // No board stands in a slot beyond 21.
+        if slot > 21 {
+            return false;
+        }
         let fall = !self.is_driven_low(Driver::Slot(slot), wire);
         if !self.exists(edge_to(Driver::Slot(slot), wire, fall)) {
             return false;
@@ -64,6 +68,10 @@ impl BusState {
         ensures { OfHistory self.now (λ version p h.
             result ≡ is_open version p h (turned h (Slot slot) wire)) }
     {
+        // No board stands in a slot beyond 21.
+        if slot > 21 {
+            return false;
+        }
         let fall = !self.is_driven_low(Driver::Slot(slot), wire);
         if !self.exists(edge_to(Driver::Slot(slot), wire, fall)) {
             return false;
@@ -80,6 +88,10 @@ impl BusState {
         ensures { OfHistory self.now (λ version p h.
             result ≡ is_open version p h (turned h (Slot slot) wire)) }
     {
+        // No board stands in a slot beyond 21.
+        if slot > 21 {
+            return false;
+        }
         let fall = !self.is_driven_low(Driver::Slot(slot), wire);
         if !self.exists(edge_to(Driver::Slot(slot), wire, fall)) {
             return false;

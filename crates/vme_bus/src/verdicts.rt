@@ -289,13 +289,14 @@ impl BusState {
         }
     }
 
-    /// The first of E1 to E4 that applies to an edge of the controller.
+    /// The first of E1 to E4 that applies to a well-formed edge of the controller.
     #[inline(always)]
     pub(crate) fn judge_controller(&self, edge: Edge) -> Result<(), Refused>
-        requires { is_boards edge.wire ≡ false }
+        requires part { is_boards edge.wire ≡ false }
+        requires formed { is_well_formed edge ≡ true }
         ensures { OfHistory self.now (λ version p h. result ≡ verdict_but_full version p h edge) }
     {
-        if !self.exists(edge) {
+        if !self.has_driver(edge.driver, edge.wire) {
             return Err(Refused::NoSuchDriver);
         }
         match self.ask_controller(edge) {
@@ -304,25 +305,27 @@ impl BusState {
         }
     }
 
-    /// The first of E1 to E4 that applies to an edge of a board's requester.
+    /// The first of E1 to E4 that applies to a well-formed edge of a board's requester.
     #[inline(always)]
     pub(crate) fn judge_requester(&self, edge: Edge) -> Result<(), Refused>
-        requires { is_requesters edge.wire ≡ true }
+        requires part { is_requesters edge.wire ≡ true }
+        requires formed { is_well_formed edge ≡ true }
         ensures { OfHistory self.now (λ version p h. result ≡ verdict_but_full version p h edge) }
     {
-        if !self.exists(edge) {
+        if !self.has_driver(edge.driver, edge.wire) {
             return Err(Refused::NoSuchDriver);
         }
         self.ask_requester(edge)
     }
 
-    /// The first of E1 to E4 that applies to an edge of a board's master.
+    /// The first of E1 to E4 that applies to a well-formed edge of a board's master.
     #[inline(always)]
     pub(crate) fn judge_master(&self, edge: Edge) -> Result<(), Refused>
-        requires { is_masters edge.wire ≡ true }
+        requires part { is_masters edge.wire ≡ true }
+        requires formed { is_well_formed edge ≡ true }
         ensures { OfHistory self.now (λ version p h. result ≡ verdict_but_full version p h edge) }
     {
-        if !self.exists(edge) {
+        if !self.has_driver(edge.driver, edge.wire) {
             return Err(Refused::NoSuchDriver);
         }
         match self.ask_master(edge) {
@@ -331,13 +334,14 @@ impl BusState {
         }
     }
 
-    /// The first of E1 to E4 that applies to an edge of a board's interrupter, or of its answer.
+    /// The first of E1 to E4 that applies to a well-formed edge of a board's interrupter, or of its answer.
     #[inline(always)]
     pub(crate) fn judge_interrupter(&self, edge: Edge) -> Result<(), Refused>
-        requires { is_interrupters edge.wire ≡ true }
+        requires part { is_interrupters edge.wire ≡ true }
+        requires formed { is_well_formed edge ≡ true }
         ensures { OfHistory self.now (λ version p h. result ≡ verdict_but_full version p h edge) }
     {
-        if !self.exists(edge) {
+        if !self.has_driver(edge.driver, edge.wire) {
             return Err(Refused::NoSuchDriver);
         }
         self.ask_interrupter(edge)
@@ -348,6 +352,9 @@ impl BusState {
     pub fn judge(&self, edge: Edge) -> Result<(), Refused>
         ensures { OfHistory self.now (λ version p h. result ≡ verdict_but_full version p h edge) }
     {
+        if !edge.is_well_formed() {
+            return Err(Refused::NoSuchDriver);
+        }
         match edge.wire {
             Wire::Br | Wire::BgOut | Wire::Bbsy => self.judge_requester(edge),
             Wire::Addr | Wire::AddressStrobe | Wire::DataStrobe => self.judge_master(edge),

@@ -7,9 +7,9 @@ ghost use Rattle.vme_model.specs.declared.signals.Wire.TheVariants.{Bg};
 ghost use Rattle.vme_model.specs.Offers.{considered, next_board, turned, wanted};
 ghost use Rattle.vme_model.specs.Open.{showing as showing_of};
 ghost use Rattle.vme_wiring.specs.Offered.{is_open, offered_on, offered_but_full, requester_wires, master_wires, interrupter_wires};
-ghost use Rattle.vme_wiring.specs.Judged.{OfState, may_grant, requester_waits, master_waits, interrupter_waits};
+ghost use Rattle.vme_wiring.specs.Judged.{OfState, may_grant};
 
-use crate::judges::Judges;
+use crate::judges::{Judges, Waiting};
 use arrayvec::ArrayVec;
 use vme_handler::Handler;
 use vme_model::{Cycle, Driver, Edge, Levels, Wire};
@@ -144,10 +144,10 @@ fn offer_requester<J: Judges, const N: usize>(
     is_waiting: bool,
     offers: &mut ArrayVec<Edge, N>,
 )
-    requires known { OfState J.is_of state.now (λ version p h.
-        is_waiting ≡ requester_waits version p h slot) }
     requires room { length offers.old.items + 4 ≤ N }
-    ensures offered { OfState J.is_of state.now (λ version p h. offers.new.items
+    ensures offered { OfState J.is_of state.now (λ version p h.
+        (is_waiting ≡ true → offered_on version p h (Slot slot) requester_wires ≡ [])
+        → offers.new.items
         ≡ offers.old.items ++ offered_on version p h (Slot slot) requester_wires) }
     ensures few { length offers.new.items ≤ length offers.old.items + 3 }
 {
@@ -166,9 +166,10 @@ fn offer_master<J: Judges, const N: usize>(
     is_waiting: bool,
     offers: &mut ArrayVec<Edge, N>,
 )
-    requires known { OfState J.is_of state.now (λ _ p h. is_waiting ≡ master_waits p h slot) }
     requires room { length offers.old.items + 4 ≤ N }
-    ensures offered { OfState J.is_of state.now (λ version p h. offers.new.items
+    ensures offered { OfState J.is_of state.now (λ version p h.
+        (is_waiting ≡ true → offered_on version p h (Slot slot) master_wires ≡ [])
+        → offers.new.items
         ≡ offers.old.items ++ offered_on version p h (Slot slot) master_wires) }
     ensures few { length offers.new.items ≤ length offers.old.items + 4 }
 {
@@ -187,9 +188,10 @@ fn offer_interrupter<J: Judges, const N: usize>(
     is_waiting: bool,
     offers: &mut ArrayVec<Edge, N>,
 )
-    requires known { OfState J.is_of state.now (λ _ p h. is_waiting ≡ interrupter_waits p h slot) }
     requires room { length offers.old.items + 4 ≤ N }
-    ensures offered { OfState J.is_of state.now (λ version p h. offers.new.items
+    ensures offered { OfState J.is_of state.now (λ version p h.
+        (is_waiting ≡ true → offered_on version p h (Slot slot) interrupter_wires ≡ [])
+        → offers.new.items
         ≡ offers.old.items ++ offered_on version p h (Slot slot) interrupter_wires) }
     ensures few { length offers.new.items ≤ length offers.old.items + 3 }
 {
@@ -201,6 +203,28 @@ fn offer_interrupter<J: Judges, const N: usize>(
     offer_turned(state, Driver::Slot(slot), Wire::Dtack, offers);
 }
 
+/// Puts what the slot's board is offered into an empty list, where the parts that wait are offered nothing: those are not
+/// asked.
+pub fn put_parts<J: Judges, const N: usize>(
+    state: &J,
+    slot: u8,
+    waiting: Waiting,
+    offers: &mut ArrayVec<Edge, N>,
+)
+    requires room { 11 ≤ N }
+    requires empty { offers.old.items ≡ [] }
+    ensures { OfState J.is_of state.now (λ version p h.
+        (waiting.requester ≡ true → offered_on version p h (Slot slot) requester_wires ≡ [])
+        → (waiting.master ≡ true → offered_on version p h (Slot slot) master_wires ≡ [])
+        → (waiting.interrupter ≡ true
+        → offered_on version p h (Slot slot) interrupter_wires ≡ [])
+        → offers.new.items ≡ offered_but_full version p h (Slot slot)) }
+{
+    offer_requester(state, slot, waiting.requester, offers);
+    offer_master(state, slot, waiting.master, offers);
+    offer_interrupter(state, slot, waiting.interrupter, offers);
+}
+
 /// Puts what the slot's board is offered into an empty list; nothing where there is no board.
 fn put_slot<J: Judges, const N: usize>(state: &J, slot: u8, offers: &mut ArrayVec<Edge, N>)
     requires room { 11 ≤ N }
@@ -208,10 +232,7 @@ fn put_slot<J: Judges, const N: usize>(state: &J, slot: u8, offers: &mut ArrayVe
     ensures { OfState J.is_of state.now (λ version p h. offers.new.items
         ≡ offered_but_full version p h (Slot slot)) }
 {
-    let waiting = state.waiting(slot);
-    offer_requester(state, slot, waiting.requester, offers);
-    offer_master(state, slot, waiting.master, offers);
-    offer_interrupter(state, slot, waiting.interrupter, offers);
+    put_parts(state, slot, state.waiting(slot), offers);
 }
 
 /// Puts the edge of a level's grant after the others where the rules allow it: none falls but where

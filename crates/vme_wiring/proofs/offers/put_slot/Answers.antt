@@ -1,16 +1,12 @@
-use Rattle.std.proofs.Common.{◌∙◌, ap, ◌++◌, List}
-use Rattle.vme_model.specs.declared.signals.Driver.TheVariants.{Slot}
-use Rattle.vme_model.specs.declared.signals.Edge.{Edge}
-use Rattle.vme_wiring.specs.Offered.{offered_on, requester_wires, master_wires, interrupter_wires}
-use Rattle.vme_wiring.proofs.NoOffers.{parts_joined}
+use Rattle.std.proofs.Common.{◌∙◌, sym}
+use Rattle.vme_wiring.proofs.NoOffers.{requester_idle, master_idle, interrupter_idle}
 use Rattle.vme_wiring.proofs.offers.put_slot.Goals as goal
 
 pub returns : goal.returns
 returns g c version p h is =
     let s = c.args.slot in
-    let r = offered_on version p h (Slot s) requester_wires in
-    let m = offered_on version p h (Slot s) master_wires in
-    let i = offered_on version p h (Slot s) interrupter_wires in
-    c.offer_interrupter.ensures.offered version p h is
-    ∙ ap (λ (t : List Edge). t ++ i) (c.offer_master.ensures.offered version p h is ∙ ap (λ (t : List Edge). t ++ m) (c.offer_requester.ensures.offered version p h is ∙ ap (λ (t : List Edge). t ++ r) c.requires.empty))
-    ∙ parts_joined version p h s
+    let legal = g.met.J.Judges.is_legal version p h c.args.state.now is in
+    c.put_parts.ensures version p h is
+    (λ waits. requester_idle version p h s legal (sym (c.waiting.ensures.requester version p h is) ∙ waits))
+    (λ waits. master_idle version p h s legal (sym (c.waiting.ensures.master version p h is) ∙ waits))
+    (λ waits. interrupter_idle version p h s legal (sym (c.waiting.ensures.interrupter version p h is) ∙ waits))

@@ -1,4 +1,4 @@
-use Rattle.std.proofs.Common.{◌≡◌, ◌∙◌, sym, ap, ◌%◌, List, length, [], refl}
+use Rattle.std.proofs.Common.{◌∙◌, sym, ap, ◌%◌, List, length}
 use Rattle.std.specs.Prelude.{slice_get}
 use Rattle.vme_model.specs.declared.signals.Edge.{Edge}
 use Rattle.vme_backplane.proofs.OfferChoice.{offered_full, offered_with_room}

@@ -4,4 +4,5 @@ use Rattle.vme_backplane.proofs.AcceptedOffers.{answered}
 use Rattle.vme_bus.proofs.buses.Bus.step.Goals as goal
 
 pub returns-clause-accepted : goal.returns-clause-accepted
-returns-clause-accepted c = ap is_ok c.step_by_arm-answer.ensures.answer ∙ answered c.args.self.now c.args.edge
+returns-clause-accepted c =
+    ap is_ok (c.answer.ensures ∙ c.step_or_refuse.ensures.answer) ∙ answered c.args.self.now c.args.edge

@@ -1,7 +1,6 @@
 use Rattle.std.proofs.Common.{◌≡◌, ◌∙◌, subst, true}
 use Rattle.vme_model.specs.declared.signals.Driver.TheVariants.{Controller}
-use Rattle.vme_model.specs.Signals.{is_well_formed, has_wire, has_value}
-use Rattle.vme_model.specs.Plan.{has_driver}
+use Rattle.vme_model.specs.Signals.{has_wire, has_value}
 use Rattle.vme_model.specs.Readings.{readings}
 use Rattle.vme_model.proofs.Bools.{and_left}
 use Rattle.vme_bus.proofs.Asked.{asked_so}

@@ -1,4 +1,4 @@
-use Rattle.std.proofs.Common.{◌≡◌, ◌∙◌, sym, ap, ℕ, false}
+use Rattle.std.proofs.Common.{◌∙◌, sym, ap, ℕ, false}
 use Rattle.std.specs.Prelude.{◌==◌, Option}
 use Rattle.std.specs.Option.{option_map_or}
 use Rattle.vme_model.specs.History.{request_line, last_level}

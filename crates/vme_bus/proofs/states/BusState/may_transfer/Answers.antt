@@ -1,4 +1,4 @@
-use Rattle.std.proofs.Common.{◌≡◌, ◌∙◌, refl, sym, ap, Bool, true, subst}
+use Rattle.std.proofs.Common.{◌≡◌, ◌∙◌, refl, sym, ap, arith, Bool, true, subst}
 use Rattle.std.specs.Prelude.{◌&&◌, not, None}
 use Rattle.vme_model.specs.declared.signals.Driver.TheVariants.{Slot}
 use Rattle.vme_model.specs.declared.signals.Edge.{Edge}
@@ -11,8 +11,11 @@ use Rattle.vme_model.specs.History.{drive}
 use Rattle.vme_wiring.specs.Asked.{exists}
 use Rattle.vme_bus.proofs.Asked.{asks_for, has_board}
 use Rattle.vme_bus.proofs.Parts.{masters_of}
-use Rattle.vme_bus.proofs.Turned.{open_where}
+use Rattle.vme_bus.proofs.Turned.{beyond_shut, open_where}
 use Rattle.vme_bus.proofs.states.BusState.may_transfer.Goals as goal
+
+pub returns-then-slot-gt21 : goal.returns-then-slot-gt21
+returns-then-slot-gt21 c version p h is = beyond_shut version p h c.args.slot c.args.wire is.accepted (omega (arith, c.if-slot-gt21.true))
 
 pub returns : goal.returns
 returns c version p h is =

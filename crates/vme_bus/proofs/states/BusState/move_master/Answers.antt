@@ -1,18 +1,12 @@
-use Rattle.std.proofs.Common.{◌≡◌, ◌∙◌, refl, sym, ap, ℕ, true}
-use Rattle.std.specs.Prelude.{set, get_or}
-use Rattle.std.proofs.lemmas.List.{set-get_or}
-use Rattle.vme_model.specs.declared.boards.Release.TheVariants.{Request}
-use Rattle.vme_model.specs.declared.signals.Wire.TheVariants.{Br, BgOut, Bbsy, Addr, AddressStrobe, DataStrobe, Irq, IackOut, Dtack}
+use Rattle.std.proofs.Common.{refl}
+use Rattle.vme_model.specs.declared.signals.Wire.TheVariants.{Br, BgOut, Bbsy, Irq, IackOut, Dtack}
 use Rattle.vme_model.specs.Plan.{board}
 use Rattle.vme_model.specs.History.{shown}
-use Rattle.vme_requester.specs.Local.{is_requesters}
 use Rattle.vme_master.specs.Local.{is_masters}
-use Rattle.vme_interrupter.specs.Local.{is_interrupters}
 use Rattle.vme_wiring.proofs.LongerHistory.{standing}
-use Rattle.vme_bus.specs.Records.{cycle_in, slot_in}
-use Rattle.vme_bus.specs.Moves.{is_serving, release_of, cycles_by}
+use Rattle.vme_bus.specs.Moves.{is_serving}
 use Rattle.vme_bus.proofs.LongerHistory.{noted_by_board}
-use Rattle.vme_bus.proofs.Parts.{requester_delivers_not, master_delivers_not, requester_no_master, interrupter_no_master}
+use Rattle.vme_bus.proofs.Parts.{master_delivers_not}
 use Rattle.vme_bus.proofs.Stays.{wire_stays, inputs_stay, served_stays}
 use Rattle.vme_bus.proofs.states.BusState.move_master.Goals as goal
 

@@ -1,4 +1,4 @@
-use Rattle.std.proofs.Common.{◌≡◌, Bool, true, arith}
+use Rattle.std.proofs.Common.{arith}
 use Rattle.vme_model.specs.Signals.{is_well_formed}
 use Rattle.vme_model.specs.Plan.{has_driver}
 use Rattle.vme_model.proofs.Bools.{and_left}

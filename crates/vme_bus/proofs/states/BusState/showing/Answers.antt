@@ -1,10 +1,7 @@
-use Rattle.std.proofs.Common.{◌≡◌, ◌∙◌, ap, subst}
-use Rattle.std.specs.Prelude.{Option, Some, None}
+use Rattle.std.proofs.Common.{◌∙◌, ap, subst}
 use Rattle.vme_model.specs.declared.sets.Levels.{Levels}
 use Rattle.vme_model.specs.Sets.{has_level}
-use Rattle.vme_model.specs.Rules.{shows, show_guard}
-use Rattle.vme_model.specs.Readings.{readings}
-use Rattle.vme_model.specs.declared.signals.Driver.TheVariants.{Slot}
+use Rattle.vme_model.specs.Rules.{shows}
 use Rattle.vme_bus.proofs.Guards.{shown_by}
 use Rattle.vme_bus.proofs.states.BusState.showing.Goals as goal
 

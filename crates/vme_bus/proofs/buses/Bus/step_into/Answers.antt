@@ -1,0 +1,172 @@
+use Rattle.std.proofs.Common.{◌≡◌, ◌∙◌, refl, sym, ap, subst, ℕ, ◌+◌, ◌<◌, ◌≤◌, true, false, List, ◌∷◌, length, arith}
+use Rattle.std.specs.Prelude.{◌==◌}
+use Rattle.vme_model.specs.declared.deliveries.Delivery.{Delivery}
+use Rattle.vme_model.specs.declared.signals.Edge.{Edge}
+use Rattle.vme_model.specs.Deliveries.{answer}
+use Rattle.vme_model.specs.Verdict.{State, after}
+use Rattle.vme_model.specs.Report.{trace_limit}
+use Rattle.vme_bus.specs.declared.answers.AnswerRecord.{AnswerRecord}
+use Rattle.vme_bus.specs.declared.buses.Bus.TheInside.{Inside}
+use Rattle.vme_bus.specs.declared.states.BusState.{BusState}
+use Rattle.vme_bus.specs.Answers.{answer_in}
+use Rattle.vme_bus.specs.States.{IsStateOf}
+use Rattle.vme_bus.specs.Steps.{answer_but_full, kept_but_full}
+use Rattle.vme_bus.proofs.Asked.{near_slot}
+use Rattle.vme_bus.proofs.Room.{answer_with_room, after_with_room, kept_where, one_more}
+use Rattle.vme_bus.proofs.buses.Bus.step_into.Goals as goal
+use Rattle.vme_bus.proofs.buses.Bus.step_into.Goals.{in-Controller, in-Slot+then-slot-lt22+in-8, in-Slot+then-slot-lt22+in-9, in-Slot+then-slot-lt22+in-10, in-Slot+then-slot-lt22+in-11, in-Slot+then-slot-lt22+in-12, in-Slot+then-slot-lt22+in-13, in-Slot+then-slot-lt22+in-14, in-Slot+then-slot-lt22+in-15, in-Slot+then-slot-lt22+in-16, in-Slot+then-slot-lt22+in-17, in-Slot+then-slot-lt22+in-18, in-Slot+then-slot-lt22+in-19, in-Slot+then-slot-lt22+in-20, in-Slot+then-slot-lt22+in-21, in-Slot+then-slot-lt22+in-22, in-Slot+then-slot-lt22+in-23, in-Slot+then-slot-lt22+in-24, in-Slot+then-slot-lt22+in-25, in-Slot+then-slot-lt22+in_default, in-Slot+else-slot-lt22}
+
+-- what each arm gives
+record Stepped (b : Inside) (e : Edge) (number : ℕ) (kept : AnswerRecord) (inside : Inside) : Type 0 where
+  pub answered : answer_in number kept.delivery ≡ answer_but_full b.version b.plan b.past e
+  pub state : BusState
+  pub inside_is : inside ≡ record b { state = state }
+  pub is_state : IsStateOf b.version b.plan (kept_but_full b.version b.plan b.past e) state
+
+stepped : (b : Inside) (e : Edge) (n : ℕ) (d : Delivery) (state : BusState) (number : ℕ) (before kept : AnswerRecord) (inside : Inside)
+    → number ≡ n → kept ≡ record before { delivery = d } → inside ≡ record b { state = state }
+    → answer_in n d ≡ answer_but_full b.version b.plan b.past e → IsStateOf b.version b.plan (kept_but_full b.version b.plan b.past e) state
+    → Stepped b e number kept inside
+stepped b e n d state number before kept inside first second third answered is = record {
+  answered = ap (λ k. answer_in k kept.delivery) first ∙ ap (λ (r : AnswerRecord). answer_in n r.delivery) second ∙ answered;
+  state = state;
+  inside_is = third;
+  is_state = is;
+}
+
+taken : (c : goal.After-note) → Stepped c.self.inside c.args.edge c.match-edge.kept2 c.match-edge.kept c.match-edge.self-inside
+taken c =
+    let b = c.self.inside in
+    let v = c.self.invariant.0 in
+    elim c.match-edge.branch [
+      | in-Controller w ↦ stepped b c.args.edge w.step_control-kept.result w.step_control-kept.new.delivery w.step_control-kept.new.self _ c.args.kept.now _ _ w.kept2-is w.kept-is w.self-inside-is (w.step_control-kept.ensures.answer b.version b.plan b.past v) (w.step_control-kept.ensures.state b.version b.plan b.past v)
+      | in-Slot+then-slot-lt22+in-8 w ↦ stepped b c.args.edge w.step_requester.result w.step_requester.new.delivery w.step_requester.new.self _ c.args.kept.now _ _ w.kept2-is w.kept-is w.self-inside-is (w.step_requester.ensures.answer b.version b.plan b.past v) (w.step_requester.ensures.state b.version b.plan b.past v)
+      | in-Slot+then-slot-lt22+in-9 w ↦ stepped b c.args.edge w.step_requester-in-9.result w.step_requester-in-9.new.delivery w.step_requester-in-9.new.self _ c.args.kept.now _ _ w.kept2-is w.kept-is w.self-inside-is (w.step_requester-in-9.ensures.answer b.version b.plan b.past v) (w.step_requester-in-9.ensures.state b.version b.plan b.past v)
+      | in-Slot+then-slot-lt22+in-10 w ↦ stepped b c.args.edge w.step_requester-in-10.result w.step_requester-in-10.new.delivery w.step_requester-in-10.new.self _ c.args.kept.now _ _ w.kept2-is w.kept-is w.self-inside-is (w.step_requester-in-10.ensures.answer b.version b.plan b.past v) (w.step_requester-in-10.ensures.state b.version b.plan b.past v)
+      | in-Slot+then-slot-lt22+in-11 w ↦ stepped b c.args.edge w.step_requester-in-11.result w.step_requester-in-11.new.delivery w.step_requester-in-11.new.self _ c.args.kept.now _ _ w.kept2-is w.kept-is w.self-inside-is (w.step_requester-in-11.ensures.answer b.version b.plan b.past v) (w.step_requester-in-11.ensures.state b.version b.plan b.past v)
+      | in-Slot+then-slot-lt22+in-12 w ↦ stepped b c.args.edge w.step_requester-in-12.result w.step_requester-in-12.new.delivery w.step_requester-in-12.new.self _ c.args.kept.now _ _ w.kept2-is w.kept-is w.self-inside-is (w.step_requester-in-12.ensures.answer b.version b.plan b.past v) (w.step_requester-in-12.ensures.state b.version b.plan b.past v)
+      | in-Slot+then-slot-lt22+in-13 w ↦ stepped b c.args.edge w.step_requester-in-13.result w.step_requester-in-13.new.delivery w.step_requester-in-13.new.self _ c.args.kept.now _ _ w.kept2-is w.kept-is w.self-inside-is (w.step_requester-in-13.ensures.answer b.version b.plan b.past v) (w.step_requester-in-13.ensures.state b.version b.plan b.past v)
+      | in-Slot+then-slot-lt22+in-14 w ↦ stepped b c.args.edge w.step_master.result w.step_master.new.delivery w.step_master.new.self _ c.args.kept.now _ _ w.kept2-is w.kept-is w.self-inside-is (w.step_master.ensures.answer b.version b.plan b.past v) (w.step_master.ensures.state b.version b.plan b.past v)
+      | in-Slot+then-slot-lt22+in-15 w ↦ stepped b c.args.edge w.step_master-in-15.result w.step_master-in-15.new.delivery w.step_master-in-15.new.self _ c.args.kept.now _ _ w.kept2-is w.kept-is w.self-inside-is (w.step_master-in-15.ensures.answer b.version b.plan b.past v) (w.step_master-in-15.ensures.state b.version b.plan b.past v)
+      | in-Slot+then-slot-lt22+in-16 w ↦ stepped b c.args.edge w.step_master-in-16.result w.step_master-in-16.new.delivery w.step_master-in-16.new.self _ c.args.kept.now _ _ w.kept2-is w.kept-is w.self-inside-is (w.step_master-in-16.ensures.answer b.version b.plan b.past v) (w.step_master-in-16.ensures.state b.version b.plan b.past v)
+      | in-Slot+then-slot-lt22+in-17 w ↦ stepped b c.args.edge w.step_master-in-17.result w.step_master-in-17.new.delivery w.step_master-in-17.new.self _ c.args.kept.now _ _ w.kept2-is w.kept-is w.self-inside-is (w.step_master-in-17.ensures.answer b.version b.plan b.past v) (w.step_master-in-17.ensures.state b.version b.plan b.past v)
+      | in-Slot+then-slot-lt22+in-18 w ↦ stepped b c.args.edge w.step_master-in-18.result w.step_master-in-18.new.delivery w.step_master-in-18.new.self _ c.args.kept.now _ _ w.kept2-is w.kept-is w.self-inside-is (w.step_master-in-18.ensures.answer b.version b.plan b.past v) (w.step_master-in-18.ensures.state b.version b.plan b.past v)
+      | in-Slot+then-slot-lt22+in-19 w ↦ stepped b c.args.edge w.step_master-in-19.result w.step_master-in-19.new.delivery w.step_master-in-19.new.self _ c.args.kept.now _ _ w.kept2-is w.kept-is w.self-inside-is (w.step_master-in-19.ensures.answer b.version b.plan b.past v) (w.step_master-in-19.ensures.state b.version b.plan b.past v)
+      | in-Slot+then-slot-lt22+in-20 w ↦ stepped b c.args.edge w.step_interrupter.result w.step_interrupter.new.delivery w.step_interrupter.new.self _ c.args.kept.now _ _ w.kept2-is w.kept-is w.self-inside-is (w.step_interrupter.ensures.answer b.version b.plan b.past v) (w.step_interrupter.ensures.state b.version b.plan b.past v)
+      | in-Slot+then-slot-lt22+in-21 w ↦ stepped b c.args.edge w.step_interrupter-in-21.result w.step_interrupter-in-21.new.delivery w.step_interrupter-in-21.new.self _ c.args.kept.now _ _ w.kept2-is w.kept-is w.self-inside-is (w.step_interrupter-in-21.ensures.answer b.version b.plan b.past v) (w.step_interrupter-in-21.ensures.state b.version b.plan b.past v)
+      | in-Slot+then-slot-lt22+in-22 w ↦ stepped b c.args.edge w.step_interrupter-in-22.result w.step_interrupter-in-22.new.delivery w.step_interrupter-in-22.new.self _ c.args.kept.now _ _ w.kept2-is w.kept-is w.self-inside-is (w.step_interrupter-in-22.ensures.answer b.version b.plan b.past v) (w.step_interrupter-in-22.ensures.state b.version b.plan b.past v)
+      | in-Slot+then-slot-lt22+in-23 w ↦ stepped b c.args.edge w.step_interrupter-in-23.result w.step_interrupter-in-23.new.delivery w.step_interrupter-in-23.new.self _ c.args.kept.now _ _ w.kept2-is w.kept-is w.self-inside-is (w.step_interrupter-in-23.ensures.answer b.version b.plan b.past v) (w.step_interrupter-in-23.ensures.state b.version b.plan b.past v)
+      | in-Slot+then-slot-lt22+in-24 w ↦ stepped b c.args.edge w.step_interrupter-in-24.result w.step_interrupter-in-24.new.delivery w.step_interrupter-in-24.new.self _ c.args.kept.now _ _ w.kept2-is w.kept-is w.self-inside-is (w.step_interrupter-in-24.ensures.answer b.version b.plan b.past v) (w.step_interrupter-in-24.ensures.state b.version b.plan b.past v)
+      | in-Slot+then-slot-lt22+in-25 w ↦ stepped b c.args.edge w.step_interrupter-in-25.result w.step_interrupter-in-25.new.delivery w.step_interrupter-in-25.new.self _ c.args.kept.now _ _ w.kept2-is w.kept-is w.self-inside-is (w.step_interrupter-in-25.ensures.answer b.version b.plan b.past v) (w.step_interrupter-in-25.ensures.state b.version b.plan b.past v)
+      | in-Slot+then-slot-lt22+in_default w ↦ stepped b c.args.edge w.step_control.result w.step_control.new.delivery w.step_control.new.self _ c.args.kept.now _ _ w.kept2-is w.kept-is w.self-inside-is (w.step_control.ensures.answer b.version b.plan b.past v) (w.step_control.ensures.state b.version b.plan b.past v)
+      | in-Slot+else-slot-lt22 w ↦
+          let near : w.in-Slot.slot < 22 = near_slot w.in-Slot.slot c.args.edge w.in-Slot.is c.requires.formed in
+          absurd (omega (arith, near, w.if-slot-lt22.false))
+    ]
+
+refused : (c : goal.Else-is_accepted) → Stepped c.self.inside c.args.edge c.match-edge.kept2 c.match-edge.kept c.match-edge.self-inside
+refused c =
+    let b = c.self.inside in
+    let v = c.self.invariant.0 in
+    elim c.match-edge.branch [
+      | in-Controller w ↦ stepped b c.args.edge w.step_control-kept.result w.step_control-kept.new.delivery w.step_control-kept.new.self _ c.args.kept.now _ _ w.kept2-is w.kept-is w.self-inside-is (w.step_control-kept.ensures.answer b.version b.plan b.past v) (w.step_control-kept.ensures.state b.version b.plan b.past v)
+      | in-Slot+then-slot-lt22+in-8 w ↦ stepped b c.args.edge w.step_requester.result w.step_requester.new.delivery w.step_requester.new.self _ c.args.kept.now _ _ w.kept2-is w.kept-is w.self-inside-is (w.step_requester.ensures.answer b.version b.plan b.past v) (w.step_requester.ensures.state b.version b.plan b.past v)
+      | in-Slot+then-slot-lt22+in-9 w ↦ stepped b c.args.edge w.step_requester-in-9.result w.step_requester-in-9.new.delivery w.step_requester-in-9.new.self _ c.args.kept.now _ _ w.kept2-is w.kept-is w.self-inside-is (w.step_requester-in-9.ensures.answer b.version b.plan b.past v) (w.step_requester-in-9.ensures.state b.version b.plan b.past v)
+      | in-Slot+then-slot-lt22+in-10 w ↦ stepped b c.args.edge w.step_requester-in-10.result w.step_requester-in-10.new.delivery w.step_requester-in-10.new.self _ c.args.kept.now _ _ w.kept2-is w.kept-is w.self-inside-is (w.step_requester-in-10.ensures.answer b.version b.plan b.past v) (w.step_requester-in-10.ensures.state b.version b.plan b.past v)
+      | in-Slot+then-slot-lt22+in-11 w ↦ stepped b c.args.edge w.step_requester-in-11.result w.step_requester-in-11.new.delivery w.step_requester-in-11.new.self _ c.args.kept.now _ _ w.kept2-is w.kept-is w.self-inside-is (w.step_requester-in-11.ensures.answer b.version b.plan b.past v) (w.step_requester-in-11.ensures.state b.version b.plan b.past v)
+      | in-Slot+then-slot-lt22+in-12 w ↦ stepped b c.args.edge w.step_requester-in-12.result w.step_requester-in-12.new.delivery w.step_requester-in-12.new.self _ c.args.kept.now _ _ w.kept2-is w.kept-is w.self-inside-is (w.step_requester-in-12.ensures.answer b.version b.plan b.past v) (w.step_requester-in-12.ensures.state b.version b.plan b.past v)
+      | in-Slot+then-slot-lt22+in-13 w ↦ stepped b c.args.edge w.step_requester-in-13.result w.step_requester-in-13.new.delivery w.step_requester-in-13.new.self _ c.args.kept.now _ _ w.kept2-is w.kept-is w.self-inside-is (w.step_requester-in-13.ensures.answer b.version b.plan b.past v) (w.step_requester-in-13.ensures.state b.version b.plan b.past v)
+      | in-Slot+then-slot-lt22+in-14 w ↦ stepped b c.args.edge w.step_master.result w.step_master.new.delivery w.step_master.new.self _ c.args.kept.now _ _ w.kept2-is w.kept-is w.self-inside-is (w.step_master.ensures.answer b.version b.plan b.past v) (w.step_master.ensures.state b.version b.plan b.past v)
+      | in-Slot+then-slot-lt22+in-15 w ↦ stepped b c.args.edge w.step_master-in-15.result w.step_master-in-15.new.delivery w.step_master-in-15.new.self _ c.args.kept.now _ _ w.kept2-is w.kept-is w.self-inside-is (w.step_master-in-15.ensures.answer b.version b.plan b.past v) (w.step_master-in-15.ensures.state b.version b.plan b.past v)
+      | in-Slot+then-slot-lt22+in-16 w ↦ stepped b c.args.edge w.step_master-in-16.result w.step_master-in-16.new.delivery w.step_master-in-16.new.self _ c.args.kept.now _ _ w.kept2-is w.kept-is w.self-inside-is (w.step_master-in-16.ensures.answer b.version b.plan b.past v) (w.step_master-in-16.ensures.state b.version b.plan b.past v)
+      | in-Slot+then-slot-lt22+in-17 w ↦ stepped b c.args.edge w.step_master-in-17.result w.step_master-in-17.new.delivery w.step_master-in-17.new.self _ c.args.kept.now _ _ w.kept2-is w.kept-is w.self-inside-is (w.step_master-in-17.ensures.answer b.version b.plan b.past v) (w.step_master-in-17.ensures.state b.version b.plan b.past v)
+      | in-Slot+then-slot-lt22+in-18 w ↦ stepped b c.args.edge w.step_master-in-18.result w.step_master-in-18.new.delivery w.step_master-in-18.new.self _ c.args.kept.now _ _ w.kept2-is w.kept-is w.self-inside-is (w.step_master-in-18.ensures.answer b.version b.plan b.past v) (w.step_master-in-18.ensures.state b.version b.plan b.past v)
+      | in-Slot+then-slot-lt22+in-19 w ↦ stepped b c.args.edge w.step_master-in-19.result w.step_master-in-19.new.delivery w.step_master-in-19.new.self _ c.args.kept.now _ _ w.kept2-is w.kept-is w.self-inside-is (w.step_master-in-19.ensures.answer b.version b.plan b.past v) (w.step_master-in-19.ensures.state b.version b.plan b.past v)
+      | in-Slot+then-slot-lt22+in-20 w ↦ stepped b c.args.edge w.step_interrupter.result w.step_interrupter.new.delivery w.step_interrupter.new.self _ c.args.kept.now _ _ w.kept2-is w.kept-is w.self-inside-is (w.step_interrupter.ensures.answer b.version b.plan b.past v) (w.step_interrupter.ensures.state b.version b.plan b.past v)
+      | in-Slot+then-slot-lt22+in-21 w ↦ stepped b c.args.edge w.step_interrupter-in-21.result w.step_interrupter-in-21.new.delivery w.step_interrupter-in-21.new.self _ c.args.kept.now _ _ w.kept2-is w.kept-is w.self-inside-is (w.step_interrupter-in-21.ensures.answer b.version b.plan b.past v) (w.step_interrupter-in-21.ensures.state b.version b.plan b.past v)
+      | in-Slot+then-slot-lt22+in-22 w ↦ stepped b c.args.edge w.step_interrupter-in-22.result w.step_interrupter-in-22.new.delivery w.step_interrupter-in-22.new.self _ c.args.kept.now _ _ w.kept2-is w.kept-is w.self-inside-is (w.step_interrupter-in-22.ensures.answer b.version b.plan b.past v) (w.step_interrupter-in-22.ensures.state b.version b.plan b.past v)
+      | in-Slot+then-slot-lt22+in-23 w ↦ stepped b c.args.edge w.step_interrupter-in-23.result w.step_interrupter-in-23.new.delivery w.step_interrupter-in-23.new.self _ c.args.kept.now _ _ w.kept2-is w.kept-is w.self-inside-is (w.step_interrupter-in-23.ensures.answer b.version b.plan b.past v) (w.step_interrupter-in-23.ensures.state b.version b.plan b.past v)
+      | in-Slot+then-slot-lt22+in-24 w ↦ stepped b c.args.edge w.step_interrupter-in-24.result w.step_interrupter-in-24.new.delivery w.step_interrupter-in-24.new.self _ c.args.kept.now _ _ w.kept2-is w.kept-is w.self-inside-is (w.step_interrupter-in-24.ensures.answer b.version b.plan b.past v) (w.step_interrupter-in-24.ensures.state b.version b.plan b.past v)
+      | in-Slot+then-slot-lt22+in-25 w ↦ stepped b c.args.edge w.step_interrupter-in-25.result w.step_interrupter-in-25.new.delivery w.step_interrupter-in-25.new.self _ c.args.kept.now _ _ w.kept2-is w.kept-is w.self-inside-is (w.step_interrupter-in-25.ensures.answer b.version b.plan b.past v) (w.step_interrupter-in-25.ensures.state b.version b.plan b.past v)
+      | in-Slot+then-slot-lt22+in_default w ↦ stepped b c.args.edge w.step_control.result w.step_control.new.delivery w.step_control.new.self _ c.args.kept.now _ _ w.kept2-is w.kept-is w.self-inside-is (w.step_control.ensures.answer b.version b.plan b.past v) (w.step_control.ensures.state b.version b.plan b.past v)
+      | in-Slot+else-slot-lt22 w ↦
+          let near : w.in-Slot.slot < 22 = near_slot w.in-Slot.slot c.args.edge w.in-Slot.is c.requires.formed in
+          absurd (omega (arith, near, w.if-slot-lt22.false))
+    ]
+
+room_in : (b : Inside) (s : State) → record { version = b.version; plan = b.plan; history = b.past; max = b.max } ≡ s → (length s.history == s.max) ≡ false → (length b.past == b.max) ≡ false
+room_in b s is room = ap (λ (x : State). length x.history == x.max) is ∙ room
+
+pub invariant_of-self : goal.invariant_of-self
+invariant_of-self c =
+    let b = c.self.inside in
+    let e = c.args.edge in
+    let v = c.self.invariant in
+    let f = taken c in
+    let d = c.match-edge.kept.delivery in
+    let room = room_in b c.args.self.now c.self.view_is c.requires.room in
+    let keeps = kept_where b.version b.plan b.past e (answer_in c.match-edge.kept2 d) true f.answered (sym (c.is_accepted.ensures d) ∙ c.if-is_accepted.true) in
+    let noted : c.note.new.self ≡ e ∷ b.past = c.note.ensures ∙ ap (λ (i : Inside). e ∷ i.past) f.inside_is in
+    let more = one_more b.made (length b.past) b.max 1 v.1 v.2 room refl in
+    subst (λ (i : Inside). IsStateOf i.version i.plan c.note.new.self i.state × (i.made + 1 ≡ length c.note.new.self) × (i.made + 1 ≤ i.max) × (i.max ≤ trace_limit)) (sym f.inside_is) (
+      subst (λ k. IsStateOf b.version b.plan k f.state) (keeps ∙ sym noted) f.is_state,
+      more.0 ∙ ap length (sym noted),
+      more.1,
+      v.3,
+    )
+
+pub invariant_of-self-else-is_accepted : goal.invariant_of-self-else-is_accepted
+invariant_of-self-else-is_accepted c =
+    let b = c.self.inside in
+    let v = c.self.invariant in
+    let f = refused c in
+    let d = c.match-edge.kept.delivery in
+    let keeps = kept_where b.version b.plan b.past c.args.edge (answer_in c.match-edge.kept2 d) false f.answered (sym (c.is_accepted.ensures d) ∙ c.if-is_accepted.false) in
+    subst (λ (i : Inside). IsStateOf i.version i.plan i.past i.state × (i.made ≡ length i.past) × (i.made ≤ i.max) × (i.max ≤ trace_limit)) (sym f.inside_is) (
+      subst (λ k. IsStateOf b.version b.plan k f.state) keeps f.is_state,
+      v.1,
+      v.2,
+      v.3,
+    )
+
+pub returns-then-is_accepted-clause-answer : goal.returns-then-is_accepted-clause-answer
+returns-then-is_accepted-clause-answer c =
+    let b = c.self.inside in
+    let e = c.args.edge in
+    let room = room_in b c.args.self.now c.self.view_is c.requires.room in
+    (taken c).answered
+    ∙ sym (answer_with_room (record { version = b.version; plan = b.plan; history = b.past; max = b.max }) e room)
+    ∙ ap (λ (s : State). answer s e) c.self.view_is
+
+pub returns-else-is_accepted-clause-answer : goal.returns-else-is_accepted-clause-answer
+returns-else-is_accepted-clause-answer c =
+    let b = c.self.inside in
+    let e = c.args.edge in
+    let room = room_in b c.args.self.now c.self.view_is c.requires.room in
+    (refused c).answered
+    ∙ sym (answer_with_room (record { version = b.version; plan = b.plan; history = b.past; max = b.max }) e room)
+    ∙ ap (λ (s : State). answer s e) c.self.view_is
+
+pub returns-then-is_accepted-clause-state : goal.returns-then-is_accepted-clause-state
+returns-then-is_accepted-clause-state c =
+    let b = c.self.inside in
+    let e = c.args.edge in
+    let f = taken c in
+    let d = c.match-edge.kept.delivery in
+    let of : List Edge → State = λ k. record { version = b.version; plan = b.plan; history = k; max = b.max } in
+    let room = room_in b c.args.self.now c.self.view_is c.requires.room in
+    let keeps = kept_where b.version b.plan b.past e (answer_in c.match-edge.kept2 d) true f.answered (sym (c.is_accepted.ensures d) ∙ c.if-is_accepted.true) in
+    ap (λ (i : Inside). record { version = i.version; plan = i.plan; history = c.note.new.self; max = i.max }) f.inside_is
+    ∙ ap of (c.note.ensures ∙ ap (λ (i : Inside). e ∷ i.past) f.inside_is ∙ sym keeps) ∙ sym (after_with_room (of b.past) e room) ∙ ap (λ (s : State). after s e) c.self.view_is
+
+pub returns-else-is_accepted-clause-state : goal.returns-else-is_accepted-clause-state
+returns-else-is_accepted-clause-state c =
+    let b = c.self.inside in
+    let e = c.args.edge in
+    let f = refused c in
+    let d = c.match-edge.kept.delivery in
+    let of : List Edge → State = λ k. record { version = b.version; plan = b.plan; history = k; max = b.max } in
+    let room = room_in b c.args.self.now c.self.view_is c.requires.room in
+    let keeps = kept_where b.version b.plan b.past e (answer_in c.match-edge.kept2 d) false f.answered (sym (c.is_accepted.ensures d) ∙ c.if-is_accepted.false) in
+    ap (λ (i : Inside). record { version = i.version; plan = i.plan; history = i.past; max = i.max }) f.inside_is
+    ∙ ap of (sym keeps) ∙ sym (after_with_room (of b.past) e room) ∙ ap (λ (s : State). after s e) c.self.view_is
