@@ -1,9 +1,9 @@
 -- A check, read by read.
-use Rattle.std.proofs.Common.{◌≡◌, ◌≢◌, inl, inr, ℕ, ◌+◌, ◌<◌, ◌≤◌, List, [], ◌∷◌, ◌++◌, length, Bool, true, false, get_or, drop, Option, Some, None, unwrap_or, Result, Ok, Err, refl, sym, ◌∙◌, ap, append_assoc, append-nil, subst, arith, reverse}
+use Rattle.std.proofs.Common.{◌≡◌, ◌≢◌, inl, inr, ℕ, ◌+◌, ◌≤◌, List, [], ◌∷◌, ◌++◌, length, Bool, true, false, Option, Some, None, unwrap_or, Result, Ok, Err, refl, sym, ◌∙◌, ap, append_assoc, append-nil, subst, arith, reverse}
 use Rattle.std.proofs.Math.ListN.{length-append}
-use Rattle.std.proofs.Math.Seq.{drop-length}
 use mathlib.Core.List.{reverse-cons}
-use Rattle.std.proofs.lemmas.List.{drop_more, length-reverse}
+use Rattle.std.proofs.lemmas.List.{length-reverse}
+use Rattle.std.specs.Prelude.{◌-◌, if◌then◌else◌, is_ok}
 use Rattle.std.specs.Io.KnownBytes.{Consumes, Keeps}
 use Rattle.vme_model.specs.declared.signals.Version.{Version}
 use Rattle.vme_model.specs.declared.signals.Edge.{Edge}
@@ -12,7 +12,7 @@ use Rattle.vme_model.specs.declared.refusals.Refused.{Refused}
 use Rattle.vme_model.specs.Plan.{Plan}
 use Rattle.vme_model.specs.Verdict.{State, Judgement, verdict, after, made, kept, IsLegal}
 use Rattle.vme_model.specs.Safe.{IsSafe}
-use Rattle.vme_model.specs.Deliveries.{answer, with_delivery}
+use Rattle.vme_bus.specs.Answers.{answers}
 use Rattle.vme_model.specs.Text.{Reading, read_of}
 use Rattle.vme_model.specs.Report.{trace_limit}
 use Rattle.vme_trace.specs.declared.Fault.{Fault}
@@ -24,7 +24,9 @@ use Rattle.vme_engines.specs.Streams.{Streams, streams, WroteNothing}
 use Rattle.vme_engines.specs.Outcomes.{bench, HasFault, CanGoOn}
 use Rattle.vme_engines.specs.Checking.{or_refusal, first_refusal, refusal_of, IsUnrefused, IsLegalTrace, FindsNothing}
 use Rattle.vme_engines.specs.Steps.{Begins, Faults, Opens, ChecksPiece, Finds, FindsInput}
+use Rattle.vme_engines.specs.Recorded.{first_refused_of}
 use Rattle.vme_engines.proofs.WrittenLines.{kept_append}
+use Rattle.vme_engines.proofs.RecordedLines.{refusals_are}
 use Rattle.vme_engines.specs.Pieces.{IsFaulty, Stopped, Came, Answers, answered}
 use Rattle.vme_engines.proofs.TraceReads.{whole_input, no_such}
 use Rattle.vme_engines.proofs.ReadOn.{came_begins}
@@ -65,45 +67,53 @@ all_kept n b (e ∷ es) h =
     ap (λ s. kept s es) one ∙ all_kept (n + 1) (made b e) es rest
     ∙ ap (λ l. record b { history = l }) (sym (ap (λ l. l ++ b.history) (reverse-cons e es) ∙ append_assoc (reverse es) (e ∷ []) b.history))
 
--- ---- edge by edge
+-- edges lengthen a trace by each of them at most
+kept_most : (b : State) (es : List Edge) → length (kept b es).history ≤ length b.history + length es
+kept_most b [] = omega arith
+kept_most b (e ∷ es) = by_verdict (is_ok (verdict b e)) (kept_most (made b e) es) (kept_most b es)
+  where
+    by_verdict : (x : Bool) → length (kept (made b e) es).history ≤ length (made b e).history + length es → length (kept b es).history ≤ length b.history + length es
+        → length (kept (if x then made b e else b) es).history ≤ length b.history + length (e ∷ es)
+    by_verdict true more same = omega (arith, more)
+    by_verdict false more same = omega (arith, same)
 
-with_err : (j : Judgement) (d : Option Delivery) (r : Refused) → with_delivery j d ≡ Err r → j ≡ Err r
-with_err (Ok u) d r h = absurd cc
-with_err (Err s) d r h = cc
+-- and where they lengthen it by each, none of them is refused
+pub none_refused : (n : ℕ) (b : State) (es : List Edge) → length (kept b es).history - length b.history ≡ length es → first_refusal n b es ≡ None
+none_refused n b [] grown = refl
+none_refused n b (e ∷ es) grown = by_verdict (verdict b e) (λ g. none_refused (n + 1) (made b e) es g) (kept_most b es) grown
+  where
+    by_verdict : (j : Judgement) → (length (kept (made b e) es).history - length (made b e).history ≡ length es → first_refusal (n + 1) (made b e) es ≡ None)
+        → length (kept b es).history ≤ length b.history + length es
+        → length (kept (if is_ok j then made b e else b) es).history - length b.history ≡ length (e ∷ es)
+        → or_refusal n j (first_refusal (n + 1) (if is_ok j then made b e else b) es) ≡ None
+    by_verdict (Ok u) others most grown = others (omega (arith, grown))
+    by_verdict (Err refused) others most grown = absurd (omega (arith, grown, most))
 
-with_ok : (j : Judgement) (d x : Option Delivery) → with_delivery j d ≡ Ok x → j ≡ Ok tt
-with_ok (Ok tt) d x h = refl
-with_ok (Err s) d x h = absurd cc
+-- ---- chunk by chunk
 
 -- In the loop over the edges: none of those before the rest is refused.
 pub record HasPassed (first : State) (n : ℕ) (es : List Edge) (now : State) (m : ℕ) (rest : List Edge) : Type 0 where
   pub refusals : first_refusal n first es ≡ first_refusal m now rest
   pub state : kept first es ≡ kept now rest
 
-pub none_passed : (b : State) (n : ℕ) (es : List Edge) → HasPassed b n es b n es
-none_passed b n es = record { refusals = refl; state = refl }
+module _ (first now : State) (n m : ℕ) (es rest chunk behind : List Edge) (split : rest ≡ chunk ++ behind) (run : HasPassed first n es now m rest)
+    (found : Option (ℕ × Refused)) (xs : List (Result (Option Delivery) Refused)) (all : xs ≡ answers now chunk) (is : found ≡ first_refused_of m xs) where
+  in_both : first_refusal n first es ≡ first_refusal m now (chunk ++ behind)
+  in_both = run.refusals ∙ ap (first_refusal m now) split
 
-module _ (first now : State) (n m i : ℕ) (es : List Edge) (d : Edge) (h : i < length es) (run : HasPassed first n es now m (drop i es)) (found : Result (Option Delivery) Refused)
-    (is : found ≡ answer now (get_or es i d)) where
-  here : first_refusal n first es ≡ or_refusal m (verdict now (get_or es i d)) (first_refusal (m + 1) (after now (get_or es i d)) (drop (i + 1) es))
-  here = run.refusals ∙ ap (first_refusal m now) (drop_more es i d h)
+  in_chunk : first_refusal m now chunk ≡ found
+  in_chunk = refusals_are m now chunk ∙ ap (first_refused_of m) (sym all) ∙ sym is
 
-  pub passed_refused : (r : Refused) → found ≡ Err r → Some (m, r) ≡ first_refusal n first es
-  passed_refused r refused =
-      let j : verdict now (get_or es i d) ≡ Err r = with_err (verdict now (get_or es i d)) _ r (sym is ∙ refused) in
-      sym (here ∙ ap (λ j. or_refusal m j (first_refusal (m + 1) (after now (get_or es i d)) (drop (i + 1) es))) j)
+  -- an edge of the next chunk is refused
+  pub passed_refused : (x : ℕ × Refused) → found ≡ Some x → Some x ≡ first_refusal n first es
+  passed_refused x refused = sym (in_both ∙ refusal_stays m now chunk behind x (in_chunk ∙ refused))
 
-  pub passed_more : (x : Option Delivery) → found ≡ Ok x → (next : State) → next ≡ after now (get_or es i d) → HasPassed first n es next (m + 1) (drop (i + 1) es)
-  passed_more x accepted next stepped =
-      let j : verdict now (get_or es i d) ≡ Ok tt = with_ok (verdict now (get_or es i d)) _ x (sym is ∙ accepted) in record {
-        refusals = here ∙ ap (λ j. or_refusal m j (first_refusal (m + 1) (after now (get_or es i d)) (drop (i + 1) es))) j ∙ ap (λ s. first_refusal (m + 1) s (drop (i + 1) es)) (sym stepped);
-        state = run.state ∙ ap (kept now) (drop_more es i d h) ∙ ap (λ s. kept s (drop (i + 1) es)) (sym stepped);
-      }
-
-pub passed_all : (first now : State) (n m : ℕ) (es : List Edge) → HasPassed first n es now m (drop (length es) es) → (None ≡ first_refusal n first es) × (now ≡ kept first es)
-passed_all first now n m es run =
-    let none : drop (length es) es ≡ [] = drop-length es in
-    (sym (run.refusals ∙ ap (first_refusal m now) none), sym (run.state ∙ ap (kept now) none))
+  -- none of them is refused
+  pub passed_more : found ≡ None → (next : State) → next ≡ kept now chunk → (later : ℕ) → later ≡ m + length chunk → HasPassed first n es next later behind
+  passed_more none next stepped later number = record {
+    refusals = in_both ∙ refusal_behind m now chunk behind (in_chunk ∙ none) ∙ ap (λ s. first_refusal (m + length chunk) s behind) (sym stepped) ∙ ap (λ i. first_refusal i next behind) (sym number);
+    state = run.state ∙ ap (kept now) split ∙ kept_append now chunk behind ∙ ap (λ s. kept s behind) (sym stepped);
+  }
 
 -- ---- pieces
 

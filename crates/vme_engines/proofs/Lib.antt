@@ -1,6 +1,8 @@
 -- lines that are written one after another: src/lines.rt, `drives::write_history`
 pub mod WrittenLines
--- the digits of a number and of the next one: `Count::advance`
+-- the answers to edges, and their lines: src/lines.rt, `checks::first_refused_of`
+pub mod RecordedLines
+-- the digits of a number and of the next one: src/counts.rt
 pub mod NextNumber
 -- the edges and the version of a trace, as more of it is read: `TraceReads`
 pub mod TraceSoFar

@@ -1,7 +1,7 @@
 -- The digits of a number and of the next one.
 use Rattle.std.proofs.Common.{◌≡◌, ℕ, suc, zero, ◌+◌, ◌-◌, ◌*◌, ◌/◌, ◌%◌, ◌^◌, ◌<◌, ◌≤◌, ltb, List, [], ◌∷◌, ◌++◌, length, drop, refl, sym, ◌∙◌, ap, arith, inl, inr, append_assoc, take}
 use Rattle.std.proofs.Math.Seq.{drop-append_seam, drop-nil}
-use Rattle.std.proofs.lemmas.List.{take_at}
+use Rattle.std.proofs.lemmas.List.{take_at, take-take}
 use Rattle.std.proofs.lemmas.Bool.{cases_Bool}
 use Rattle.std.proofs.lemmas.Bool.Decides.{nat_tests}
 use Rattle.std.proofs.lemmas.Fmt.{decimal_digit, decimal_step, length-decimal-le}
@@ -43,14 +43,16 @@ module _ (tens last first : ℕ) (line : List ℕ) (spelled : IsSpelled tens las
       ap (λ k. drop k line) (sym spelled.ends) ∙ sym (drop_sum (length (tens_text tens)) first line) ∙ ap (λ l. drop (length (tens_text tens)) l) spelled.is
       ∙ drop-append_seam (tens_text tens) filler
 
-  -- the number's digits but for the last, and then that one
-  pub spelled_in_two : (n : ℕ) → n ≡ 10 * tens + (last - 48) → (old new : List ℕ) → new ≡ old ++ take (20 - first) (drop first line)
-      → new ++ (48 + n % 10) ∷ [] ≡ old ++ decimal n
-  spelled_in_two n view old new is =
+  -- the row of the tens, another last digit and more make the number with these tens and that digit, and more
+  pub spelled_with : (digit : ℕ) → 48 ≤ digit → digit < 58 → (n : ℕ) → n ≡ 10 * tens + (last - 48) → 10 * (n / 10) + (digit - 48) < 2 ^ 64 → (old new more : List ℕ)
+      → new ≡ old ++ (take (20 - first) (take 24 (drop first line)) ++ (digit ∷ more)) → new ≡ old ++ (decimal (10 * (n / 10) + (digit - 48)) ++ more)
+  spelled_with digit least most n view small old new more is =
       let tenth : n / 10 ≡ tens = omega (arith, spelled.least, spelled.most) in
-      let small : n < 2 ^ 64 = omega (arith, spelled.small) in
-      let d : List ℕ = (48 + n % 10) ∷ [] in
+      let m : ℕ = 10 * (n / 10) + (digit - 48) in
+      let tens_are : m / 10 ≡ tens = omega (arith, spelled.least, spelled.most) in
+      let last_is : 48 + m % 10 ≡ digit = omega arith in
       let many : length (tens_text tens) ≡ 20 - first = omega (arith, spelled.ends) in
-      let row : take (20 - first) (drop first line) ≡ tens_text tens = ap (λ l. take (20 - first) l) spelled.is ∙ take_at (tens_text tens) filler (20 - first) many in
-      ap (λ l. l ++ d) (is ∙ ap (λ l. old ++ l) row) ∙ append_assoc old (tens_text tens) d
-      ∙ ap (λ q. old ++ (tens_text q ++ d)) (sym tenth) ∙ ap (λ l. old ++ l) (sym (last_digit n small))
+      let row : take (20 - first) (take 24 (drop first line)) ≡ tens_text tens =
+      take-take (20 - first) 24 (drop first line) (omega arith) ∙ ap (λ l. take (20 - first) l) spelled.is ∙ take_at (tens_text tens) filler (20 - first) many in
+      let whole : decimal m ≡ tens_text tens ++ (digit ∷ []) = last_digit m small ∙ ap (λ q. tens_text q ++ (48 + m % 10) ∷ []) tens_are ∙ ap (λ d. tens_text tens ++ d ∷ []) last_is in
+      is ∙ ap (λ l. old ++ (l ++ (digit ∷ more))) row ∙ ap (λ l. old ++ l) (sym (append_assoc (tens_text tens) (digit ∷ []) more)) ∙ ap (λ l. old ++ (l ++ more)) (sym whole)

@@ -1,6 +1,5 @@
 -- Lines that are written one after the other.
-use Rattle.std.proofs.Common.{◌≡◌, ℕ, ◌+◌, ◌<◌, List, [], ◌∷◌, ◌++◌, length, ◌-◌, Bool, false, get_or, drop, Option, Result, Ok, Err, OnErr, refl, sym, ◌∙◌, ap, append_assoc, append-nil, arith}
-use Rattle.std.proofs.lemmas.List.{drop_more}
+use Rattle.std.proofs.Common.{◌≡◌, ℕ, ◌+◌, List, [], ◌∷◌, ◌++◌, length, ◌-◌, Bool, false, Option, Result, Ok, Err, OnErr, refl, sym, ◌∙◌, ap, append_assoc, append-nil, arith}
 use Rattle.std.specs.Io.KnownBytes.{Appends, Keeps}
 use Rattle.std.proofs.KnownBytes.{Appends-trans, Appends-nil, Appends-kept}
 use Rattle.vme_model.specs.declared.signals.Edge.{Edge}
@@ -57,39 +56,27 @@ pub kept_append : (b : State) (es fs : List Edge) → kept b (es ++ fs) ≡ kept
 kept_append b [] fs = refl
 kept_append b (e ∷ es) fs = kept_append (after b e) es fs
 
--- In the loop over the edges: the lines of those before the rest were written, but for what the text holds.
-pub record HasJudged (a b : Option (List ℕ)) (held : List ℕ) (first : State) (n : ℕ) (es : List Edge) (now : State) (m : ℕ) (rest : List Edge) : Type 0 where
-  pub front : List ℕ
-  pub lines : verdict_lines first n es ≡ front ++ (held ++ verdict_lines now m rest)
-  pub wrote : Appends a b front
-  pub state : kept first es ≡ kept now rest
-
-module _ (a b c : Option (List ℕ)) (held : List ℕ) (first now : State) (n m : ℕ) (es rest : List Edge) (run : HasJudged a b held first n es now m rest) where
+-- A front of a whole text was written. The rest of it is what a text holds, and lines that are to come.
+module _ (a b c : Option (List ℕ)) (whole held lines : List ℕ) (run : HandsOn a b whole (held ++ lines)) where
   -- a prefix of the text is written
-  pub handed_on : (left : List ℕ) → HandsOn b c held left → HasJudged a c left first n es now m rest
-  handed_on left w = record {
-    front = run.front ++ w.0;
-    lines =
-        run.lines ∙ ap (λ l. run.front ++ (l ++ verdict_lines now m rest)) w.1 ∙ ap (λ l. run.front ++ l) (append_assoc w.0 left (verdict_lines now m rest))
-        ∙ sym (append_assoc run.front w.0 (left ++ verdict_lines now m rest));
-    wrote = Appends-trans a b c run.front w.0 run.wrote w.2;
-    state = run.state;
-  }
+  pub handed_on : (left : List ℕ) → HandsOn b c held left → HandsOn a c whole (left ++ lines)
+  handed_on left w = (
+    run.0 ++ w.0,
+    run.1 ∙ ap (λ l. run.0 ++ (l ++ lines)) w.1 ∙ ap (λ l. run.0 ++ l) (append_assoc w.0 left lines) ∙ sym (append_assoc run.0 w.0 (left ++ lines)),
+    Appends-trans a b c run.0 w.0 run.2 w.2,
+  )
 
   -- the text could not be written
-  pub judged_front : AppendsFront b c held → AppendsFront a c (verdict_lines first n es)
-  judged_front w = rw run.lines (front_behind a b c run.front _ run.wrote (front_of_more b c held _ w))
+  pub handed_front : AppendsFront b c held → AppendsFront a c whole
+  handed_front w = rw run.1 (front_behind a b c run.0 _ run.2 (front_of_more b c held lines w))
 
--- the line of the next edge is put to the text
-pub judged_more : (a b : Option (List ℕ)) (held : List ℕ) (first now : State) (n m i : ℕ) (es : List Edge) (d : Edge) → i < length es
-    → HasJudged a b held first n es now m (drop i es) → (next : State) → next ≡ after now (get_or es i d)
-    → HasJudged a b (held ++ verdict_line m (answer now (get_or es i d))) first n es next (m + 1) (drop (i + 1) es)
-judged_more a b held first now n m i es d h run next stepped = record {
-  front = run.front;
-  lines = rw stepped (run.lines ∙ rw (drop_more es i d h) (ap (λ l. run.front ++ l) (sym (append_assoc held (verdict_line m (answer now (get_or es i d))) _))));
-  wrote = run.wrote;
-  state = run.state ∙ rw (drop_more es i d h) (rw stepped refl);
-}
+-- the first of the lines are put to the text
+pub lines_put : (a b : Option (List ℕ)) (whole held lines done rest next : List ℕ) → HandsOn a b whole (held ++ lines) → lines ≡ done ++ rest → next ≡ held ++ done → HandsOn a b whole (next ++ rest)
+lines_put a b whole held lines done rest next run is put = (
+  run.0,
+  run.1 ∙ ap (λ l. run.0 ++ (held ++ l)) is ∙ ap (λ l. run.0 ++ l) (sym (append_assoc held done rest)) ∙ ap (λ l. run.0 ++ (l ++ rest)) (sym put),
+  run.2,
+)
 
 -- the lines of the last piece, and a front of the closing line
 pub closing_front : (a b c : Option (List ℕ)) (first now : State) (judged : ℕ) (es : List Edge) (more : Result Bool Fault) (accepted refused : ℕ) → more ≡ Ok false

@@ -14,6 +14,6 @@ filler = codes "........................"
 pub record IsSpelled (tens last first : ℕ) (line : List ℕ) : Type 0 where
   pub least : 48 ≤ last
   pub most : last < 58
-  pub small : 10 * tens + (last - 48) < 2 ^ 64
+  pub small : 10 * tens + (last - 48) ≤ 2 ^ 64
   pub ends : first + length (tens_text tens) ≡ 20
   pub is : drop first line ≡ tens_text tens ++ filler

@@ -48,6 +48,8 @@ pub mod Added
 pub mod Front
 -- words: a number as it stands in a verdict line
 pub mod Counting
+-- words: what is written of a list of answers, and found in it
+pub mod Recorded
 -- words: a text that is put together before it is written
 pub mod Texts
 -- words: the numbers in the line of an edge

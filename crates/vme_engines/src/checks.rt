@@ -1,22 +1,25 @@
 //! Checking a trace: the first edge that is refused, or that all of them are legal.
-ghost use Rattle.std.specs.Prelude.{◌≡◌, ◌+◌, ◌<◌, ◌^◌, None, length, refl};
+ghost use Rattle.std.specs.Prelude.{◌≡◌, ◌+◌, ◌<◌, ◌≤◌, ◌^◌, None, length, map, refl};
 ghost use Rattle.std.proofs.Common.{arith};
 ghost use Rattle.std.specs.Io.KnownBytes.{Keeps};
 ghost use Rattle.std.proofs.KnownBytes.{Keeps-refl};
+ghost use Rattle.vme_model.specs.Locality.{AreWellFormed};
 ghost use Rattle.vme_model.specs.Verdict.{kept};
+ghost use Rattle.vme_bus.specs.Answers.{answer_of, answers};
 ghost use Rattle.vme_engines.specs.Streams.{streams, ReadNothing, WroteNothing};
 ghost use Rattle.vme_engines.specs.Outcomes.{Lent};
 ghost use Rattle.vme_engines.specs.Checking.{ChecksInput, first_refusal, finding_status};
+ghost use Rattle.vme_engines.specs.Recorded.{first_refused_of};
 ghost use Rattle.vme_engines.specs.Steps.{ChecksPiece, FindsInput};
 
 use crate::lines::write_finding;
-use crate::pieces::{Judge, read_on};
+use crate::pieces::{JUDGED_AT_ONCE, Judge, read_on};
 use crate::plans::plan_of;
 use crate::traces::open;
 use crate::{EngineFault, Status};
 use std::alloc::Global;
 use std::io::{Read, Write};
-use vme_bus::Bus;
+use vme_bus::{AnswerRecord, Bus};
 use vme_model::{Edge, Refused};
 use vme_slots::Plan;
 use vme_trace::{Fault, Reader};
@@ -42,19 +45,68 @@ impl Finding {
     }
 }
 
-/// Judges the edges behind the first `judged`, up to the first that is refused: its number, and why.
+/// The first refusal among the answers to edges behind the first `judged`: the number of its edge, and why.
+fn first_refused_of(judged: u64, records: &[AnswerRecord]) -> Option<(u64, Refused)>
+    requires { judged + length records.now < 2 ^ 64 }
+    ensures { result ≡ first_refused_of (judged + 1) (map answer_of records.now) }
+{
+    let mut n = judged;
+    for found in records {
+        n += 1;
+        if !found.is_ok() {
+            match found.answer() {
+                Ok(_) => {}
+                Err(refused) => return Some((n, refused)),
+            }
+        }
+    }
+    None
+}
+
+/// Judges the edges of a chunk, which are those behind the first `judged`, and gives the first refusal among the answers.
+///
+/// Where the trace grew by each of them, none was refused, and no answer is looked at.
+fn first_refused_in(
+    bus: &mut Bus,
+    judged: u64,
+    chunk: &[Edge],
+    records: &mut [AnswerRecord],
+) -> Option<(u64, Refused)>
+    requires well_formed { AreWellFormed chunk.now }
+    requires count { judged + length chunk.now < 2 ^ 64 }
+    requires room { length chunk.now ≤ length records.old }
+    ensures found { result ≡ first_refused_of (judged + 1) (answers bus.old chunk.now) }
+    ensures state { bus.new ≡ kept bus.old chunk.now }
+    ensures room { length records.new ≡ length records.old }
+{
+    let before = bus.len();
+    bus.step_all(chunk, records);
+    if bus.len().saturating_sub(before) as usize == chunk.len() {
+        return None;
+    }
+    first_refused_of(judged, &records[..chunk.len()])
+}
+
+/// Judges the edges behind the first `judged`, and answers the first that is refused: its number, and why.
+///
+/// Those behind it may be judged too.
 fn first_refused(bus: &mut Bus, judged: u64, edges: &[Edge]) -> Option<(u64, Refused)>
-    requires { judged + length edges.now < 2 ^ 64 }
+    requires well_formed { AreWellFormed edges.now }
+    requires count { judged + length edges.now < 2 ^ 64 }
     ensures found { result ≡ first_refusal (judged + 1) bus.old edges.now }
     ensures state { result ≡ None → bus.new ≡ kept bus.old edges.now }
 {
     let mut n = judged;
-    for edge in edges {
-        n += 1;
-        match bus.step(*edge) {
-            Ok(_) => {}
-            Err(refused) => return Some((n, refused)),
+    let mut records = [AnswerRecord::ACCEPTED; JUDGED_AT_ONCE];
+    let mut rest = edges;
+    while !rest.is_empty() {
+        let (chunk, behind) = rest.split_at(rest.len().min(JUDGED_AT_ONCE));
+        match first_refused_in(bus, n, chunk, &mut records) {
+            Some(found) => return Some(found),
+            None => {}
         }
+        n += chunk.len() as u64;
+        rest = behind;
     }
     None
 }
@@ -68,7 +120,8 @@ fn check_piece(
     edges: &[Edge],
     more: Result<bool, Fault>,
 ) -> Result<Option<Finding>, Fault>
-    requires { judged.old + length edges.now < 2 ^ 64 }
+    requires well_formed { AreWellFormed edges.now }
+    requires count { judged.old + length edges.now < 2 ^ 64 }
     ensures { ChecksPiece bus.old judged.old edges.now more bus.new judged.new result }
 {
     match first_refused(bus, *judged, edges) {

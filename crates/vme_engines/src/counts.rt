@@ -1,5 +1,5 @@
 //! The numbers of verdict lines, counted up in decimal.
-ghost use Rattle.std.specs.Prelude.{◌≡◌, ◌+◌, ◌%◌, ◌<◌, ◌≤◌, ◌^◌, ◌++◌, ◌∷◌, [], decimal, drop, length};
+ghost use Rattle.std.specs.Prelude.{◌≡◌, ◌+◌, ◌-◌, ◌*◌, ◌/◌, ◌%◌, ◌<◌, ◌≤◌, ◌^◌, ◌++◌, decimal, drop, length, take};
 ghost use Rattle.vme_engines.specs.Counting.{tens_text};
 
 use itoa::write_digits;
@@ -12,7 +12,7 @@ const END: usize = 20;
 /// How many bytes of a number's row are copied at once.
 const ROW: usize = 24;
 
-/// The number of an edge, below 2^64, kept in decimal. The digits of all its tens, none of 0, stand
+/// The number of an edge, at most 2^64, kept in decimal. The digits of all its tens, none of 0, stand
 /// before bytes that do not matter, so that they can be copied as a row of fixed length. The last
 /// digit stands apart, since a row is slow to read just after one byte of it was stored.
 #[derive(Drop)]
@@ -61,29 +61,43 @@ impl Count {
         }
     }
 
-    /// Counts on by one. Nine times in ten only the last digit changes.
+    /// How many numbers there are from this one on that have its tens: at most ten.
     #[inline(always)]
-    pub(crate) fn advance(&mut self)
-        requires { self.old + 1 < 2 ^ 64 }
-        ensures { self.new ≡ self.old + 1 }
+    pub(crate) fn left(&self) -> u8
+        ensures { result + self.now % 10 ≡ 10 }
     {
-        if self.last < b'9' {
-            self.last += 1;
-        } else {
+        b'9' + 1 - self.last
+    }
+
+    /// Counts on by so many, at most to the next number that ends in 0.
+    #[inline(always)]
+    pub(crate) fn advance(&mut self, many: u8)
+        requires tens { self.old % 10 + many ≤ 10 }
+        requires small { self.old + many ≤ 2 ^ 64 }
+        ensures { self.new ≡ self.old + many }
+    {
+        self.last += many;
+        if self.last > b'9' {
             self.last = b'0';
             self.tens += 1;
             self.first = spell(self.tens, &mut self.line);
         }
     }
 
-    /// Appends the number in decimal but for its last digit: at most 19 bytes.
+    /// Appends the number with these tens and this last digit, in decimal, and the first `size` bytes of a tail.
     #[inline(always)]
-    pub(crate) fn push_tens(&self, text: &mut Text)
-        requires { length text.old + 24 ≤ 8192 }
-        ensures text { text.new ++ ((48 + self.now % 10) ∷ []) ≡ text.old ++ decimal self.now }
-        ensures short { length text.new ≤ length text.old + 19 }
+    pub(crate) fn push_line(&self, text: &mut Text, digit: u8, tail: [u8; 8], size: usize)
+        requires least { 48 ≤ digit }
+        requires most { digit < 58 }
+        requires small { 10 * (self.now / 10) + (digit - 48) < 2 ^ 64 }
+        requires size { size ≤ 8 }
+        requires room { length text.old + 33 ≤ 8192 }
+        ensures text { text.new ≡ text.old
+            ++ (decimal (10 * (self.now / 10) + (digit - 48)) ++ take size tail) }
+        ensures short { length text.new ≤ length text.old + 20 + size }
     {
-        text.append::<ROW>(&self.line[self.first..], END - self.first);
+        let row = &self.line[self.first..self.first + ROW];
+        text.append_line(row, END - self.first, digit, tail, size);
     }
 
     /// The last digit, as it is spelled.

@@ -21,7 +21,7 @@ use crate::{EngineFault, Status};
 use std::alloc::Global;
 use std::io::Write;
 use vme_backplane::Backplane;
-use vme_bus::{Bus, SlotSet};
+use vme_bus::{Bus, Turns};
 use vme_model::{Driver, Edge, Version};
 use vme_text::Text;
 use vme_trace::{Fault, flush, header_line, put};
@@ -29,12 +29,9 @@ use vme_trace::{Fault, flush, header_line, put};
 /// A drive under way.
 #[derive(Drop)]
 struct Driving {
-    bus: Bus,
-    /// Slots that may have an offer on it.
-    movers: SlotSet,
+    bus: Turns,
     /// Of the lines of its edges those that are not yet written.
     text: Text,
-    ghost idle: { (s : ℕ) → has movers s ≡ false → offered bus (Slot s) ≡ [] },
 }
 
 impl Driving {
@@ -43,10 +40,8 @@ impl Driving {
         ensures bus { result.bus ≡ bus }
         ensures text { result.text ≡ [] }
     {
-        let movers = bus.movers();
         Driving {
-            bus,
-            movers,
+            bus: Turns::new(bus),
             text: Text::new(),
         }
     }
@@ -66,10 +61,7 @@ impl Driving {
             return Ok(());
         }
         match self.bus.make_offer(driver, round) {
-            Some(edge) => {
-                self.movers = self.bus.movers();
-                put_line(&mut self.text, &edge, out)
-            }
+            Some(edge) => put_line(&mut self.text, &edge, out),
             None => Ok(()),
         }
     }
@@ -82,7 +74,7 @@ impl Driving {
     {
         self.bus.laws();
         let mut last = 0;
-        while let Some(slot) = self.movers.next_after(last) {
+        while let Some(slot) = self.bus.movers().next_after(last) {
             self.take_turn(round, edges, Driver::Slot(slot), out)?;
             last = slot;
         }

@@ -77,8 +77,8 @@ fn word_place(wire: Wire) -> u8
     ensures place { result ≡ word_place wire }
     ensures within { result < 16 }
 {
-    match wire {
-        Wire::Bg(level) => level,
+    let after_grants = match wire {
+        Wire::Bg(_) => 0,
         Wire::Bclr => 4,
         Wire::Iack => 5,
         Wire::Berr => 6,
@@ -91,7 +91,8 @@ fn word_place(wire: Wire) -> u8
         Wire::Irq => 13,
         Wire::IackOut => 14,
         Wire::Dtack => 15,
-    }
+    };
+    after_grants + wire.grant_level()
 }
 
 /// Where the word of a wire stands with the sign of such an edge.

@@ -1,21 +1,24 @@
 //! The lines that engines write.
-ghost use Rattle.std.specs.Prelude.{◌≡◌, ◌+◌, ◌-◌, ◌<◌, ◌≤◌, ◌^◌, ◌++◌, [], length, Err, IfErr, OnOk, OnErr};
+ghost use Rattle.std.specs.Prelude.{◌≡◌, ◌+◌, ◌-◌, ◌%◌, ◌<◌, ◌≤◌, ◌^◌, ◌++◌, [], length, map, Err, IfErr, OnOk, OnErr};
 ghost use Rattle.std.specs.Io.KnownBytes.{Appends};
 ghost use Rattle.arrayvec.specs.ArrayVec.{array_vec_len};
 ghost use Rattle.vme_model.specs.Verdict.{kept};
-ghost use Rattle.vme_model.specs.Deliveries.{answer};
-ghost use Rattle.vme_model.specs.Report.{delivery_text, verdict_text, verdict_line, verdict_lines, closing_text};
+ghost use Rattle.vme_model.specs.Locality.{AreWellFormed};
+ghost use Rattle.vme_model.specs.Report.{verdict_lines, closing_text};
+ghost use Rattle.vme_bus.specs.Answers.{answer_of};
 ghost use Rattle.vme_trace.specs.Writing.{AppendsFront};
 ghost use Rattle.vme_engines.specs.Checking.{finding_line};
+ghost use Rattle.vme_engines.specs.Recorded.{answer_lines};
 ghost use Rattle.vme_engines.specs.Texts.{HandsOn};
 
 use crate::checks::Finding;
 use crate::counts::Count;
-use crate::tails::push_end;
+use crate::pieces::JUDGED_AT_ONCE;
+use crate::tails::push_line;
 use arrayvec::ArrayVec;
 use std::io::Write;
-use vme_bus::Bus;
-use vme_model::{Delivery, Edge, Refused};
+use vme_bus::{AnswerRecord, Bus};
+use vme_model::Edge;
 use vme_reasons::texts::{push, push_number, push_verdict};
 use vme_text::Text;
 use vme_trace::{Fault, flush, put};
@@ -23,19 +26,10 @@ use vme_trace::{Fault, flush, put};
 /// Room for any line: two numbers of at most 20 digits, or one and a verdict, and a few words.
 const LINE: usize = 80;
 
-/// Appends the verdict line of the edge with this number.
-#[inline(always)]
-fn push_line(text: &mut Text, count: &Count, answer: Result<Option<Delivery>, Refused>)
-    requires { length text.old + 64 ≤ 8192 }
-    ensures { text.new ≡ text.old ++ verdict_line count.now answer }
-{
-    count.push_tens(text);
-    push_end(text, count.last_digit(), answer);
-}
-
 /// Has a text written, and forgets it.
 ///
 /// Errors: X8 where that failed; a prefix of the text was then written.
+#[inline(never)]
 pub(crate) fn hand_on<W: Write>(text: &mut Text, out: &mut W) -> Result<(), Fault>
     ensures empty { OnOk result (text.new ≡ []) }
     ensures ok { OnOk result (Appends (W.contents out.old) (W.contents out.new) text.old) }
@@ -48,12 +42,12 @@ pub(crate) fn hand_on<W: Write>(text: &mut Text, out: &mut W) -> Result<(), Faul
     Ok(())
 }
 
-/// Has a text written where it has no room for a further line.
+/// Has a text written where it has no room for ten further lines.
 ///
 /// Errors: X8 where that failed; a prefix of the text was then written.
 #[inline(always)]
 pub(crate) fn make_room<W: Write>(text: &mut Text, out: &mut W) -> Result<(), Fault>
-    ensures room { OnOk result (length text.new + 64 ≤ 8192) }
+    ensures room { OnOk result (length text.new + 640 ≤ 8192) }
     ensures ok { OnOk result
         (HandsOn (W.contents out.old) (W.contents out.new) text.old text.new) }
     ensures front { OnErr result
@@ -100,6 +94,54 @@ fn finding_line(finding: Finding) -> ArrayVec<u8, LINE>
     line
 }
 
+/// Appends the verdict lines of edges whose numbers have the same tens, from `count` on.
+#[inline(always)]
+fn push_lines(text: &mut Text, count: &Count, records: &[AnswerRecord])
+    requires tens { count.now % 10 + length records.now ≤ 10 }
+    requires small { count.now + length records.now ≤ 2 ^ 64 }
+    requires room { length text.old + 640 ≤ 8192 }
+    ensures { text.new ≡ text.old ++ answer_lines count.now (map answer_of records.now) }
+{
+    let mut digit = count.last_digit();
+    for found in records {
+        push_line(text, count, digit, found);
+        digit += 1;
+    }
+}
+
+/// Appends the verdict lines of edges, from `count` on, to a text that is written where it has no room, and counts on
+/// behind them.
+///
+/// Errors: X8 where that failed; a prefix of the lines was then written.
+#[inline(always)]
+fn write_lines<W: Write>(
+    records: &[AnswerRecord],
+    count: &mut Count,
+    text: &mut Text,
+    out: &mut W,
+) -> Result<(), Fault>
+    requires { count.old + length records.now ≤ 2 ^ 64 }
+    ensures count { OnOk result (count.new ≡ count.old + length records.now) }
+    ensures ok { OnOk result
+        (HandsOn (W.contents out.old) (W.contents out.new)
+        (text.old ++ answer_lines count.old (map answer_of records.now)) text.new) }
+    ensures front { OnErr result
+        (AppendsFront (W.contents out.old) (W.contents out.new)
+        (text.old ++ answer_lines count.old (map answer_of records.now))) }
+    ensures fault { IfErr result (λ fault. fault ≡ Fault.Write) }
+{
+    let mut rest = records;
+    while !rest.is_empty() {
+        make_room(text, out)?;
+        let many = rest.len().min(usize::from(count.left()));
+        let (group, behind) = rest.split_at(many);
+        push_lines(text, count, group);
+        count.advance(many as u8);
+        rest = behind;
+    }
+    Ok(())
+}
+
 /// Judges the edges after the first `judged`, and writes the verdict line of each. The lines are put
 /// together in `text`, whatever it held.
 pub(crate) fn write_verdicts<W: Write>(
@@ -109,7 +151,8 @@ pub(crate) fn write_verdicts<W: Write>(
     text: &mut Text,
     out: &mut W,
 ) -> Result<(), Fault>
-    requires { judged + length edges.now < 2 ^ 64 }
+    requires well_formed { AreWellFormed edges.now }
+    requires count { judged + length edges.now < 2 ^ 64 }
     ensures state { OnOk result (bus.new ≡ kept bus.old edges.now) }
     ensures ok { OnOk result
         (Appends (W.contents out.old) (W.contents out.new)
@@ -120,11 +163,15 @@ pub(crate) fn write_verdicts<W: Write>(
     ensures fault { IfErr result (λ fault. fault ≡ Fault.Write) }
 {
     let mut count = Count::new(judged);
+    count.advance(1);
     text.clear();
-    for edge in edges {
-        make_room(text, out)?;
-        count.advance();
-        push_line(text, &count, bus.step(*edge));
+    let mut records = [AnswerRecord::ACCEPTED; JUDGED_AT_ONCE];
+    let mut rest = edges;
+    while !rest.is_empty() {
+        let (chunk, behind) = rest.split_at(rest.len().min(JUDGED_AT_ONCE));
+        bus.step_all(chunk, &mut records);
+        write_lines(&records[..chunk.len()], &mut count, text, out)?;
+        rest = behind;
     }
     hand_on(text, out)
 }

@@ -11,6 +11,9 @@ use std::io::{Read, Write};
 use vme_model::Edge;
 use vme_trace::{Fault, Reader, pump_counted};
 
+/// How many edges of a piece are judged before their answers are looked at: so few that the answers stay at hand.
+pub(crate) const JUDGED_AT_ONCE: usize = 512;
+
 /// What an engine does with the edges of a trace, in the order in which they come.
 pub(crate) trait Judge {
     /// What it answers.

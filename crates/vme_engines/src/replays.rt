@@ -2,6 +2,7 @@
 ghost use Rattle.std.specs.Prelude.{◌≡◌, ◌+◌, ◌<◌, ◌^◌, length, refl};
 ghost use Rattle.std.proofs.Common.{arith};
 ghost use Rattle.std.proofs.KnownBytes.{Appends-nil};
+ghost use Rattle.vme_model.specs.Locality.{AreWellFormed};
 ghost use Rattle.vme_engines.specs.Streams.{streams, ReadNothing, WroteNothing};
 ghost use Rattle.vme_engines.specs.Outcomes.{Lent, ReplaysInput, status_with};
 ghost use Rattle.vme_engines.specs.Steps.{TakesPiece, traced};
@@ -43,7 +44,8 @@ fn take_piece<W: Write>(
     paused: bool,
     out: &mut W,
 ) -> Result<Option<Status>, Fault>
-    requires { judged.old + length edges.now < 2 ^ 64 }
+    requires well_formed { AreWellFormed edges.now }
+    requires count { judged.old + length edges.now < 2 ^ 64 }
     ensures { TakesPiece bus.old judged.old edges.now more
         (W.contents out.old) (W.contents out.new) bus.new judged.new result }
 {

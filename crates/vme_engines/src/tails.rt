@@ -1,17 +1,52 @@
-//! The ends of verdict lines: the last digit of the number, and what stands after it.
-ghost use Rattle.std.specs.Prelude.{◌≡◌, ◌+◌, ◌<◌, ◌≤◌, ◌++◌, ◌∷◌, [], length, codes, decimal, take, Err};
-ghost use Rattle.vme_model.specs.Report.{verdict_text};
+//! The ends of verdict lines: what stands after the last digit of the number.
+ghost use Rattle.std.specs.Prelude.{◌≡◌, ◌+◌, ◌-◌, ◌*◌, ◌/◌, ◌<◌, ◌≤◌, ◌^◌, ◌++◌, ◌∷◌, [], length, codes};
+ghost use Rattle.vme_model.specs.Report.{verdict_line, verdict_text};
+ghost use Rattle.vme_bus.specs.Answers.{answer_of};
 
+use crate::counts::Count;
 use arrayvec::ArrayVec;
+use vme_bus::AnswerRecord;
 use vme_model::{Delivery, Refused};
 use vme_reasons::texts::{push, push_verdict};
 use vme_text::Text;
 
-/// How many rules have an end of their own.
-const RULE_COUNT: u8 = 32;
+/// How many numbers of answers have an end of their own: all but that of a delivery.
+const ENDS_COUNT: usize = 64;
 
-/// The end of the line that names each rule, in eight bytes.
-static RULES: [[u8; 8]; 32] = [
+/// The end of the verdict line of each such number, in eight bytes.
+static ENDS: [[u8; 8]; ENDS_COUNT] = [
+    *b" ok\n....",
+    *b" E1\n....",
+    *b" E2\n....",
+    *b" E5\n....",
+    *b" E4 S0\n.",
+    *b" E4 S0\n.",
+    *b" E4 S0\n.",
+    *b" E4 S0\n.",
+    *b" E4 S0\n.",
+    *b" E4 S0\n.",
+    *b" E4 S0\n.",
+    *b" E4 S0\n.",
+    *b" E4 S0\n.",
+    *b" E4 S0\n.",
+    *b" E4 S0\n.",
+    *b" E4 S0\n.",
+    *b" E4 S0\n.",
+    *b" E4 S1\n.",
+    *b" E4 S2\n.",
+    *b" E4 S3\n.",
+    *b" E4 S4\n.",
+    *b" E4 S5\n.",
+    *b" E4 S6\n.",
+    *b" E4 S7\n.",
+    *b" E4 S8\n.",
+    *b" E4 S9\n.",
+    *b" E4 S10\n",
+    *b" E4 S11\n",
+    *b" E4 S12\n",
+    *b" E4 S13\n",
+    *b" E4 S14\n",
+    *b" E4 S15\n",
     *b" E3 G0\n.",
     *b" E3 G1\n.",
     *b" E3 G2\n.",
@@ -46,34 +81,18 @@ static RULES: [[u8; 8]; 32] = [
     *b" E3 G31\n",
 ];
 
-/// Appends the first `many` bytes of the end of a line. It is handed over as a value, since the bytes of a
-/// constant could be the text's own, for all that the compiler knows.
-#[inline(always)]
-fn push_tail(text: &mut Text, tail: [u8; 8], many: usize)
-    requires many { many ≤ 8 }
-    requires room { length text.old + 8 ≤ 8192 }
-    ensures { text.new ≡ text.old ++ take many tail }
-{
-    text.append::<8>(&tail, many);
-}
-
-/// Appends the end of the line of an edge that a rule refuses.
-#[inline(always)]
-fn push_rule(text: &mut Text, rule: u8)
-    requires known { rule < 32 }
-    requires room { length text.old + 8 ≤ 8192 }
-    ensures { text.new ≡ text.old
-        ++ ((codes " " ++ verdict_text (Err (Refused.Rule rule))) ++ 10 ∷ []) }
-{
-    let len = if rule < 10 { 7 } else { 8 };
-    push_tail(text, RULES[usize::from(rule)], len);
-}
+/// How many bytes of it count.
+static SIZES: [u8; ENDS_COUNT] = [
+    4, 4, 4, 4, 7, 7, 7, 7, 7, 7, 7, 7, 7, 7, 7, 7, 7, 7, 7, 7, 7, 7, 7, 7, 7, 7, 8, 8, 8, 8, 8, 8,
+    7, 7, 7, 7, 7, 7, 7, 7, 7, 7, 8, 8, 8, 8, 8, 8, 8, 8, 8, 8, 8, 8, 8, 8, 8, 8, 8, 8, 8, 8, 8, 8,
+];
 
 /// Appends the end of any verdict line, put together anew.
 #[inline(never)]
 fn push_rare(text: &mut Text, answer: Result<Option<Delivery>, Refused>)
     requires { length text.old + 40 ≤ 8192 }
-    ensures { text.new ≡ text.old ++ ((codes " " ++ verdict_text answer) ++ 10 ∷ []) }
+    ensures text { text.new ≡ text.old ++ ((codes " " ++ verdict_text answer) ++ 10 ∷ []) }
+    ensures short { length text.new ≤ length text.old + 40 }
 {
     let mut end: ArrayVec<u8, 40> = ArrayVec::new();
     push(&mut end, b" ");
@@ -82,37 +101,24 @@ fn push_rare(text: &mut Text, answer: Result<Option<Delivery>, Refused>)
     text.push(end.as_slice());
 }
 
-/// Appends the end of the verdict line of an answer whose end is not always the same.
+/// Appends the verdict line of the edge whose number has the tens of `count` and this last digit: at most 64 bytes.
+///
+/// Its end comes from the table by the number of the answer, so that no test asks what the answer is.
 #[inline(always)]
-fn push_other(text: &mut Text, answer: Result<Option<Delivery>, Refused>)
-    requires { length text.old + 40 ≤ 8192 }
-    ensures { text.new ≡ text.old ++ ((codes " " ++ verdict_text answer) ++ 10 ∷ []) }
+pub(crate) fn push_line(text: &mut Text, count: &Count, digit: u8, found: &AnswerRecord)
+    requires least { 48 ≤ digit }
+    requires most { digit < 58 }
+    requires small { 10 * (count.now / 10) + (digit - 48) < 2 ^ 64 }
+    requires room { length text.old + 64 ≤ 8192 }
+    ensures text { text.new ≡ text.old
+        ++ verdict_line (10 * (count.now / 10) + (digit - 48)) (answer_of found.now) }
+    ensures short { length text.new ≤ length text.old + 64 }
 {
-    match answer {
-        Err(Refused::Rule(rule)) if rule < RULE_COUNT => push_rule(text, rule),
-        _ => push_rare(text, answer),
-    }
-}
-
-/// Appends the end of the verdict line of an answer, from the last digit of its number on: one copy
-/// where it is always the same.
-#[inline(always)]
-pub(crate) fn push_end(text: &mut Text, digit: u8, answer: Result<Option<Delivery>, Refused>)
-    requires { length text.old + 41 ≤ 8192 }
-    ensures { text.new ≡ text.old
-        ++ (digit ∷ ((codes " " ++ verdict_text answer) ++ 10 ∷ [])) }
-{
-    match answer {
-        Ok(None) => push_tail(text, [digit, b' ', b'o', b'k', b'\n', b'.', b'.', b'.'], 5),
-        Err(Refused::NoSuchDriver) => {
-            push_tail(text, [digit, b' ', b'E', b'1', b'\n', b'.', b'.', b'.'], 5)
-        }
-        Err(Refused::AlreadyThere) => {
-            push_tail(text, [digit, b' ', b'E', b'2', b'\n', b'.', b'.', b'.'], 5)
-        }
-        _ => {
-            text.append::<1>(&[digit], 1);
-            push_other(text, answer);
-        }
+    let number = usize::from(found.number);
+    if number < ENDS_COUNT {
+        count.push_line(text, digit, ENDS[number], usize::from(SIZES[number]));
+    } else {
+        count.push_line(text, digit, *b"........", 0);
+        push_rare(text, found.answer());
     }
 }

@@ -1,13 +1,19 @@
 //! Bytes in an array, appended by copies of a fixed length.
-ghost use Rattle.std.specs.Prelude.{◌≡◌, ◌+◌, ◌<◌, ◌≤◌, ◌↔◌, ◌++◌, [], length, take, IsTrue};
+ghost use Rattle.std.specs.Prelude.{◌≡◌, ◌+◌, ◌<◌, ◌≤◌, ◌↔◌, ◌++◌, ◌∷◌, [], length, take, IsTrue};
 
 use std::marker::Model;
+
+/// How many bytes of the row of a line are copied.
+const ROW: usize = 24;
+
+/// How many bytes of the tail of a line are copied.
+const TAIL: usize = 8;
 
 /// How many bytes a text holds at most.
 pub const ROOM: usize = 8_192;
 
-/// For how many more bytes a text has room that is not nearly full: more than any line has.
-pub const LINE_ROOM: usize = 64;
+/// For how many more bytes a text has room that is not nearly full: more than any ten lines have.
+pub const LINE_ROOM: usize = 640;
 
 /// A text that is put together before it is written: at most 8,192 bytes.
 #[derive(Drop)]
@@ -73,6 +79,24 @@ impl Text {
         let len = self.len;
         self.bytes[len..len + N].copy_from_slice(&row[..N]);
         self.len = len + many;
+    }
+
+    /// Appends a line: the first `many` bytes of a row, a digit, and the first `size` bytes of a tail. The tail is handed
+    /// over as a value, since bytes behind a reference could be the text's own for all that the compiler knows.
+    #[inline(always)]
+    pub fn append_line(&mut self, row: &[u8], many: usize, digit: u8, tail: [u8; TAIL], size: usize)
+        requires row { ROW ≤ length row.now }
+        requires many { many ≤ ROW }
+        requires size { size ≤ TAIL }
+        requires room { length self.old + 33 ≤ ROOM }
+        ensures { self.new ≡ self.old ++ (take many row.now ++ (digit ∷ take size tail)) }
+    {
+        let len = self.len;
+        let end = len + many;
+        self.bytes[len..len + ROW].copy_from_slice(&row[..ROW]);
+        self.bytes[end] = digit;
+        self.bytes[end + 1..end + 1 + TAIL].copy_from_slice(&tail);
+        self.len = end + 1 + size;
     }
 
     /// Appends bytes, however many.

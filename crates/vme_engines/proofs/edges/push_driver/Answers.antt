@@ -1,7 +1,5 @@
-use Rattle.std.proofs.Common.{◌≡◌, ◌∙◌, ap, ◌++◌, take, get_or, [], ℕ}
+use Rattle.std.proofs.Common.{◌≡◌, ◌∙◌, ap, ◌++◌, take, get_or, []}
 use Rattle.std.proofs.lemmas.Bool.{cond_below, cond_above}
-use Rattle.vme_model.specs.declared.signals.Driver.{Driver}
-use Rattle.vme_engines.specs.Spelled.{driver_number}
 use Rattle.vme_engines.specs.declared.edges.TheConstants.{DRIVERS}
 use Rattle.vme_engines.proofs.EdgeWords.{name_size, row_is_driver}
 use Rattle.vme_engines.proofs.edges.push_driver.Goals as goal

@@ -1,8 +1,6 @@
-use Rattle.std.proofs.Common.{◌≡◌, ◌∙◌, ◌≤◌, ◌+◌, ◌∷◌, ◌++◌, [], sym, ap, subst, take, get_or, length, arith, ℕ, List}
-use Rattle.std.proofs.lemmas.List.{length-append}
-use Rattle.vme_model.specs.Text.{wire_text, sign}
+use Rattle.std.proofs.Common.{◌∙◌, ◌≤◌, ◌+◌, ◌++◌, [], sym, ap, subst, take, get_or, arith}
 use Rattle.vme_engines.specs.declared.edges.TheConstants.{WORDS, SIZES}
-use Rattle.vme_engines.proofs.EdgeWords.{row_is_word, row_is_last, size_fits, word_fits}
+use Rattle.vme_engines.proofs.EdgeWords.{row_is_last, size_fits}
 use Rattle.vme_engines.proofs.edges.push_last_word.Goals as goal
 
 pub append-requires-clause-many : goal.append-requires-clause-many

@@ -3,8 +3,8 @@ use Rattle.vme_engines.specs.Counting.{tens_text}
 use Rattle.vme_engines.proofs.NextNumber.{rest_stands}
 use Rattle.vme_engines.proofs.counts.Count.advance.Goals as goal
 
-pub invariant_of-self-else-self-lt57 : goal.invariant_of-self-else-self-lt57
-invariant_of-self-else-self-lt57 c = record {
+pub invariant_of-self : goal.invariant_of-self
+invariant_of-self c = record {
   least = omega arith;
   most = omega arith;
   small = omega arith;

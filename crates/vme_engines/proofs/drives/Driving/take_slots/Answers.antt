@@ -13,7 +13,7 @@ pub returns-in_err-take_turn : goal.returns-in_err-take_turn
 returns-in_err-take_turn g c =
     let e = err_from_is_err_and c.from_residual.result c.from_residual.ensures.1 in
     let turn_is = next_slot c.args.round c.args.edges c.args.self.now.bus c.loop-slot.self.bus c.loop-slot.last c.loop-slot.invariant.so_far c.in-Some.slot c.in-Some.ensures.above
-    (λ s above below. c.loop-slot.self.idle s (c.in-Some.ensures.least s above below)) in
+    (λ s above below. c.movers.ensures s (c.in-Some.ensures.least s above below)) in
     rw (e.1, e.2) (
       c.in_err-take_turn.ensures.0,
       λ first listed.
@@ -28,13 +28,13 @@ loop-slot-preserved g c = record {
   so_far =
       c.in_ok-take_turn.ensures.0
       ∙ next_slot c.args.round c.args.edges c.args.self.now.bus c.loop-slot.self.bus c.loop-slot.last c.loop-slot.invariant.so_far c.in-Some.slot c.in-Some.ensures.above
-      (λ s above below. c.loop-slot.self.idle s (c.in-Some.ensures.least s above below));
+      (λ s above below. c.movers.ensures s (c.in-Some.ensures.least s above below));
   listed = λ first listed. c.in_ok-take_turn.ensures.1 first (c.loop-slot.invariant.listed first listed);
 }
 
 pub returns : goal.returns
 returns g c = (
   last_slot c.args.round c.args.edges c.args.self.now.bus c.loop-slot.self.bus c.loop-slot.last c.loop-slot.invariant.so_far c.laws.ensures.accepted
-      (λ s above. c.loop-slot.self.idle s (c.in_default.ensures s above)),
+      (λ s above. c.movers.ensures s (c.in_default.ensures s above)),
   c.loop-slot.invariant.listed,
 )
