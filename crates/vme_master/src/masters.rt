@@ -17,7 +17,7 @@ use vme_model::{
 };
 use vme_rules::laws::five_have_room;
 use vme_rules::masters::{
-    addr_goes_off, addr_goes_on, as_falls, as_rises, below_burst, ds_falls, ds_rises, shows,
+    addr_goes_off, addr_goes_on, addr_is_free, as_falls, as_rises, below_burst, ds_falls, ds_rises, shows,
 };
 use vme_rules::{Outcome, allowed};
 
@@ -137,7 +137,8 @@ impl Master {
         }
         let bursting = below_burst(self.cycles, self.row.release);
         let showing = shows(self.handler, pins.irq, value);
-        let guard = addr_goes_on(holds_bus, pins.address_strobe, bursting, showing);
+        let free = addr_is_free(holds_bus, pins.address_strobe);
+        let guard = addr_goes_on(free, bursting, showing);
         (15, guard)
     }
 

@@ -41,6 +41,10 @@ impl Outcome for Conditions {
         Conditions { list }
     }
 
+    fn is_final(&self) -> bool {
+        false
+    }
+
     fn and(self, other: Conditions) -> Conditions {
         let Conditions { mut list } = self;
         let _fits = list.try_extend_from_slice(other.as_slice()).is_ok();

@@ -1,5 +1,7 @@
 //! The guards of a master's wires.
-ghost use Rattle.vme_model.specs.Guards.{Guard};
+ghost use Rattle.std.specs.Prelude.{Bool, not};
+ghost use Rattle.vme_model.specs.declared.conditions.Condition.TheVariants.{OwnBusyLow, AddressStrobeHigh};
+ghost use Rattle.vme_model.specs.Guards.{Guard, asks, ◌⊓◌};
 ghost use Rattle.vme_model.specs.Sets.{has_level};
 ghost use Rattle.vme_model.specs.Rules.{below_burst, shows, addr_goes_on, as_falls, ds_falls, ds_rises, addr_goes_off, as_rises};
 
@@ -28,15 +30,22 @@ pub fn shows<A: Outcome>(handler: Levels, irq: Levels, value: Option<Cycle>) -> 
     }
 }
 
-/// G15: the address group goes on.
-pub fn addr_goes_on<A: Outcome>(bbsy: bool, address_strobe: bool, bursting: A, showing: A) -> A
-    ensures { (g k : Guard) → A.tells bursting g → A.tells showing k →
-        A.tells result (addr_goes_on bbsy address_strobe g k) }
+/// Part of G15: the bus is the board's own, and the last cycle has ended.
+pub fn addr_is_free<A: Outcome>(bbsy: bool, address_strobe: bool) -> A
+    ensures { A.tells result
+        (asks OwnBusyLow bbsy ⊓ asks AddressStrobeHigh (not address_strobe)) }
 {
-    A::asks(Condition::OwnBusyLow, bbsy)
-        .and(A::asks(Condition::AddressStrobeHigh, !address_strobe))
-        .and(bursting)
-        .and(showing)
+    A::asks(Condition::OwnBusyLow, bbsy).and(A::asks(Condition::AddressStrobeHigh, !address_strobe))
+}
+
+/// G15: the address group goes on.
+pub fn addr_goes_on<A: Outcome>(free: A, bursting: A, showing: A) -> A
+    ensures { (bbsy address_strobe : Bool) (g k : Guard)
+        → A.tells free (asks OwnBusyLow bbsy ⊓ asks AddressStrobeHigh (not address_strobe))
+        → A.tells bursting g → A.tells showing k
+        → A.tells result (addr_goes_on bbsy address_strobe g k) }
+{
+    free.and(bursting).and(showing)
 }
 
 /// G16: the strobe says that the address is good.

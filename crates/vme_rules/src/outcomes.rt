@@ -1,5 +1,5 @@
 //! What a guard answers.
-ghost use Rattle.std.specs.Prelude.{◌≡◌, ◌≤◌, ◌+◌, ◌++◌, [], length, if◌then◌else◌, Ok};
+ghost use Rattle.std.specs.Prelude.{◌≡◌, ◌≤◌, ◌+◌, ◌++◌, [], true, length, if◌then◌else◌, Ok};
 ghost use Rattle.vme_model.specs.Guards.{Guard, free, asks, ◌⊓◌, unless, holds, conditions, failed};
 ghost use Rattle.vme_model.specs.Verdict.{check};
 ghost use Rattle.vme_rules.specs.Room.{most};
@@ -22,6 +22,10 @@ pub trait Outcome {
     fn asks(condition: Condition, holds: bool) -> Self
         ensures { tells result (asks condition holds) };
 
+    /// Whether the guard is known to fail, so that it makes no difference what else is asked.
+    fn is_final(&self) -> bool
+        ensures { result ≡ true → (g k : Guard) → tells self.now g → tells self.now (g ⊓ k) };
+
     /// Of two guards at once, this one's conditions first.
     fn and(self, other: Self) -> Self
         ensures { (g k : Guard) → tells self g → tells other k → tells result (g ⊓ k) };
@@ -41,6 +45,11 @@ impl Outcome for bool {
 
     fn asks(_condition: Condition, holds: bool) -> bool {
         holds
+    }
+
+    #[inline(always)]
+    fn is_final(&self) -> bool {
+        !*self
     }
 
     fn and(self, other: bool) -> bool {
@@ -84,6 +93,10 @@ impl Outcome for ArrayVec<Condition, 5> {
         failed
     }
 
+    fn is_final(&self) -> bool {
+        false
+    }
+
     fn and(self, other: ArrayVec<Condition, 5>) -> ArrayVec<Condition, 5> {
         joined(self, other)
     }
@@ -106,6 +119,10 @@ impl Outcome for ArrayVec<Tested, 5> {
         let mut conditions = ArrayVec::new();
         conditions.push(Tested { condition, holds });
         conditions
+    }
+
+    fn is_final(&self) -> bool {
+        false
     }
 
     fn and(self, other: ArrayVec<Tested, 5>) -> ArrayVec<Tested, 5> {

@@ -4,15 +4,20 @@ ghost use Rattle.vme_model.specs.declared.signals.Edge.{Edge as EdgeValue};
 ghost use Rattle.vme_model.specs.declared.signals.Version.{Version as VersionValue};
 ghost use Rattle.vme_model.specs.Plan.{Plan as PlanValue, board};
 ghost use Rattle.vme_model.specs.History.{drive, interrupt_line};
+ghost use Rattle.vme_model.specs.declared.signals.Driver.TheVariants.{Controller, Slot};
 ghost use Rattle.vme_model.specs.Offers.{next_board, turned};
+ghost use Rattle.vme_model.specs.Open.{showing};
 ghost use Rattle.vme_model.specs.Sets.{irq_levels};
 ghost use Rattle.vme_model.specs.Settling.{settling_guard};
 ghost use Rattle.vme_model.specs.Verdict.{IsLegal, verdict_but_full};
+ghost use Rattle.vme_requester.specs.Local.{is_requesters};
+ghost use Rattle.vme_master.specs.Local.{is_masters};
+ghost use Rattle.vme_interrupter.specs.Local.{is_interrupters};
 ghost use Rattle.vme_wiring.specs.Asked.{asked_guard, exists};
 ghost use Rattle.vme_wiring.specs.Offered.{is_open};
 ghost use Rattle.vme_wiring.specs.Judged.{OfState, may_grant, requester_waits, master_waits, interrupter_waits};
 
-use vme_model::{Driver, Edge, Levels, Refused, Wire};
+use vme_model::{Cycle, Driver, Edge, Levels, Refused, Wire};
 use vme_rules::Outcome;
 
 /// Which parts of a board wait for an edge of another: the rules then allow none of the edges that
@@ -52,10 +57,34 @@ pub trait Judges {
     fn is_low(&self, driver: Driver, wire: Wire) -> bool
         ensures { OfState is_of self.now (λ _ _ h. result ≡ drive h driver wire) };
 
-    /// Whether the rules allow the edge without a value that moves the wire to its other state.
-    fn may_turn(&self, driver: Driver, wire: Wire) -> bool
+    /// Whether the rules allow the controller's edge without a value that moves the wire to its other
+    /// state.
+    fn may_control(&self, wire: Wire) -> bool
         ensures { OfState is_of self.now (λ version p h.
-            result ≡ is_open version p h (turned h driver wire)) };
+            result ≡ is_open version p h (turned h Controller wire)) };
+
+    /// The same of the slot's requester.
+    fn may_request(&self, slot: u8, wire: Wire) -> bool
+        requires { is_requesters wire ≡ true }
+        ensures { OfState is_of self.now (λ version p h.
+            result ≡ is_open version p h (turned h (Slot slot) wire)) };
+
+    /// The same of the slot's master.
+    fn may_transfer(&self, slot: u8, wire: Wire) -> bool
+        requires { is_masters wire ≡ true }
+        ensures { OfState is_of self.now (λ version p h.
+            result ≡ is_open version p h (turned h (Slot slot) wire)) };
+
+    /// The same of the slot's interrupter, or of its board's answer.
+    fn may_interrupt(&self, slot: u8, wire: Wire) -> bool
+        requires { is_interrupters wire ≡ true }
+        ensures { OfState is_of self.now (λ version p h.
+            result ≡ is_open version p h (turned h (Slot slot) wire)) };
+
+    /// Whether the rules allow the slot's address group to go on with the cycle.
+    fn may_show(&self, slot: u8, cycle: Cycle) -> bool
+        ensures { OfState is_of self.now (λ version p h.
+            result ≡ is_open version p h (showing (Slot slot) cycle)) };
 
     /// Whether the controller's grants are high, and the bus is free.
     fn may_grant(&self) -> bool

@@ -2,16 +2,17 @@
 ghost use Rattle.std.specs.Prelude.{◌≡◌, ◌&&◌, find, nat_lt, is_some};
 ghost use Rattle.vme_model.specs.Failing.{tested_but_full, unmet_but_full};
 ghost use Rattle.vme_model.specs.Plan.{board, up_to};
-ghost use Rattle.vme_wiring.specs.Offered.{offered_but_full};
+ghost use Rattle.vme_model.specs.Offers.{turned};
+ghost use Rattle.vme_wiring.specs.Offered.{is_open, offered_but_full};
 ghost use Rattle.vme_wiring.specs.Opens.{open_but_full};
 
 use crate::conditions::{failing_by, told_by};
 use crate::judges::{Judges, Waiting};
-use crate::offers::offers_of;
+use crate::offers::{offers_of, showing};
 use crate::opens::open_edges_of;
 use crate::wirings::Wiring;
 use arrayvec::ArrayVec;
-use vme_model::{Condition, Driver, Edge, Levels, Refused, Wire};
+use vme_model::{Condition, Cycle, Driver, Edge, Levels, Refused, Wire};
 use vme_rules::Outcome;
 
 impl Judges for Wiring {
@@ -47,9 +48,28 @@ impl Judges for Wiring {
     }
 
     #[inline(always)]
-    fn may_turn(&self, driver: Driver, wire: Wire) -> bool {
-        let turned = self.turned(driver, wire);
-        Wiring::judge(self, turned).is_ok()
+    fn may_control(&self, wire: Wire) -> bool {
+        self.may_turn(Driver::Controller, wire)
+    }
+
+    #[inline(always)]
+    fn may_request(&self, slot: u8, wire: Wire) -> bool {
+        self.may_turn(Driver::Slot(slot), wire)
+    }
+
+    #[inline(always)]
+    fn may_transfer(&self, slot: u8, wire: Wire) -> bool {
+        self.may_turn(Driver::Slot(slot), wire)
+    }
+
+    #[inline(always)]
+    fn may_interrupt(&self, slot: u8, wire: Wire) -> bool {
+        self.may_turn(Driver::Slot(slot), wire)
+    }
+
+    #[inline(always)]
+    fn may_show(&self, slot: u8, cycle: Cycle) -> bool {
+        Wiring::judge(self, showing(slot, cycle)).is_ok()
     }
 
     #[inline(always)]
@@ -89,6 +109,16 @@ impl Judges for Wiring {
 
 impl Wiring {
     ghost use Rattle.vme_wiring.specs.Wired.{OfHistory};
+
+    /// Whether the rules allow the edge without a value that moves the wire to its other state.
+    #[inline(always)]
+    fn may_turn(&self, driver: Driver, wire: Wire) -> bool
+        ensures { OfHistory self.now (λ version p h.
+            result ≡ is_open version p h (turned h driver wire)) }
+    {
+        let turned = self.turned(driver, wire);
+        self.judge(turned).is_ok()
+    }
 
     /// Whether the slot has a board and stands above that one.
     #[inline(always)]

@@ -48,37 +48,42 @@ fn turned<J: Judges>(state: &J, driver: Driver, wire: Wire) -> Edge
     }
 }
 
-/// Puts the edge after the others where the rules allow it.
+/// Puts the slot's address group going on with a cycle after the others where the rules allow it.
 #[inline(always)]
-pub(crate) fn offer<J: Judges, const N: usize>(
+pub(crate) fn offer_shown<J: Judges, const N: usize>(
     state: &J,
-    edge: Edge,
+    slot: u8,
+    cycle: Cycle,
     offers: &mut ArrayVec<Edge, N>,
 )
     requires { length offers.old.items < N }
     ensures offered { OfState J.is_of state.now (λ version p h. offers.new.items
-        ≡ offers.old.items ++ filter (is_open version p h) (edge ∷ [])) }
+        ≡ offers.old.items ++ filter (is_open version p h) (showing_of (Slot slot) cycle ∷ [])) }
     ensures few { length offers.new.items ≤ length offers.old.items + 1 }
 {
-    if state.judge(edge).is_ok() {
-        offers.push(edge);
+    if state.may_show(slot, cycle) {
+        offers.push(showing(slot, cycle));
     }
 }
 
-/// Puts the edge of a wire after the others where the rules allow it.
+/// Puts the edge without a value that moves the wire to its other state after the others, where the
+/// rules allow it.
 #[inline(always)]
 pub(crate) fn offer_turned<J: Judges, const N: usize>(
     state: &J,
     driver: Driver,
     wire: Wire,
+    is_allowed: bool,
     offers: &mut ArrayVec<Edge, N>,
 )
-    requires { length offers.old.items < N }
+    requires room { length offers.old.items < N }
+    requires known { OfState J.is_of state.now (λ version p h.
+        is_allowed ≡ is_open version p h (turned h driver wire)) }
     ensures offered { OfState J.is_of state.now (λ version p h. offers.new.items
         ≡ offers.old.items ++ filter (is_open version p h) (turned h driver wire ∷ [])) }
     ensures few { length offers.new.items ≤ length offers.old.items + 1 }
 {
-    if state.may_turn(driver, wire) {
+    if is_allowed {
         offers.push(turned(state, driver, wire));
     }
 }
@@ -101,7 +106,7 @@ fn offer_acknowledge<J: Judges, const N: usize>(
     ensures few { length offers.new.items ≤ length offers.old.items + 1 }
 {
     if let Some(level) = wanted(state, handled) {
-        offer(state, showing(slot, Cycle::Acknowledge(level)), offers);
+        offer_shown(state, slot, Cycle::Acknowledge(level), offers);
     }
 }
 
@@ -116,7 +121,7 @@ fn offer_access<J: Judges, const N: usize>(state: &J, slot: u8, offers: &mut Arr
     ensures few { length offers.new.items ≤ length offers.old.items + 1 }
 {
     if let Some(target) = state.next_board(slot) {
-        offer(state, showing(slot, Cycle::Access(target)), offers);
+        offer_shown(state, slot, Cycle::Access(target), offers);
     }
 }
 
@@ -130,7 +135,8 @@ fn offer_address<J: Judges, const N: usize>(state: &J, slot: u8, offers: &mut Ar
     ensures few { length offers.new.items ≤ length offers.old.items + 2 }
 {
     if state.is_low(Driver::Slot(slot), Wire::Addr) {
-        offer_turned(state, Driver::Slot(slot), Wire::Addr, offers);
+        let may = state.may_transfer(slot, Wire::Addr);
+        offer_turned(state, Driver::Slot(slot), Wire::Addr, may, offers);
     } else if let Some(handled) = state.handled(slot) {
         offer_acknowledge(state, slot, handled, offers);
         offer_access(state, slot, offers);
@@ -154,9 +160,12 @@ fn offer_requester<J: Judges, const N: usize>(
     if is_waiting {
         return;
     }
-    offer_turned(state, Driver::Slot(slot), Wire::Br, offers);
-    offer_turned(state, Driver::Slot(slot), Wire::BgOut, offers);
-    offer_turned(state, Driver::Slot(slot), Wire::Bbsy, offers);
+    let may = state.may_request(slot, Wire::Br);
+    offer_turned(state, Driver::Slot(slot), Wire::Br, may, offers);
+    let may = state.may_request(slot, Wire::BgOut);
+    offer_turned(state, Driver::Slot(slot), Wire::BgOut, may, offers);
+    let may = state.may_request(slot, Wire::Bbsy);
+    offer_turned(state, Driver::Slot(slot), Wire::Bbsy, may, offers);
 }
 
 /// Puts what a slot's master may do after the others: nothing where it waits.
@@ -177,8 +186,10 @@ fn offer_master<J: Judges, const N: usize>(
         return;
     }
     offer_address(state, slot, offers);
-    offer_turned(state, Driver::Slot(slot), Wire::AddressStrobe, offers);
-    offer_turned(state, Driver::Slot(slot), Wire::DataStrobe, offers);
+    let may = state.may_transfer(slot, Wire::AddressStrobe);
+    offer_turned(state, Driver::Slot(slot), Wire::AddressStrobe, may, offers);
+    let may = state.may_transfer(slot, Wire::DataStrobe);
+    offer_turned(state, Driver::Slot(slot), Wire::DataStrobe, may, offers);
 }
 
 /// Puts what a slot's interrupter may do, and its answer, after the others: nothing where it waits.
@@ -198,9 +209,12 @@ fn offer_interrupter<J: Judges, const N: usize>(
     if is_waiting {
         return;
     }
-    offer_turned(state, Driver::Slot(slot), Wire::Irq, offers);
-    offer_turned(state, Driver::Slot(slot), Wire::IackOut, offers);
-    offer_turned(state, Driver::Slot(slot), Wire::Dtack, offers);
+    let may = state.may_interrupt(slot, Wire::Irq);
+    offer_turned(state, Driver::Slot(slot), Wire::Irq, may, offers);
+    let may = state.may_interrupt(slot, Wire::IackOut);
+    offer_turned(state, Driver::Slot(slot), Wire::IackOut, may, offers);
+    let may = state.may_interrupt(slot, Wire::Dtack);
+    offer_turned(state, Driver::Slot(slot), Wire::Dtack, may, offers);
 }
 
 /// Puts what the slot's board is offered into an empty list, where the parts that wait are offered nothing: those are not
@@ -254,7 +268,8 @@ fn offer_grant<J: Judges, const N: usize>(
     if !is_free && !state.is_low(Driver::Controller, Wire::Bg(level)) {
         return;
     }
-    offer_turned(state, Driver::Controller, Wire::Bg(level), offers);
+    let may = state.may_control(Wire::Bg(level));
+    offer_turned(state, Driver::Controller, Wire::Bg(level), may, offers);
 }
 
 /// Puts what the controller is offered into an empty list.
@@ -269,9 +284,12 @@ pub(crate) fn put_controller<J: Judges, const N: usize>(state: &J, offers: &mut 
     offer_grant(state, 1, is_free, offers);
     offer_grant(state, 2, is_free, offers);
     offer_grant(state, 3, is_free, offers);
-    offer_turned(state, Driver::Controller, Wire::Bclr, offers);
-    offer_turned(state, Driver::Controller, Wire::Iack, offers);
-    offer_turned(state, Driver::Controller, Wire::Berr, offers);
+    let may = state.may_control(Wire::Bclr);
+    offer_turned(state, Driver::Controller, Wire::Bclr, may, offers);
+    let may = state.may_control(Wire::Iack);
+    offer_turned(state, Driver::Controller, Wire::Iack, may, offers);
+    let may = state.may_control(Wire::Berr);
+    offer_turned(state, Driver::Controller, Wire::Berr, may, offers);
 }
 
 /// Puts what a driver is offered, but for the end of the trace, into an empty list: of the edges that are considered for

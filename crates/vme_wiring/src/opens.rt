@@ -7,7 +7,7 @@ ghost use Rattle.vme_wiring.specs.Opens.{open_but_full};
 ghost use Rattle.vme_wiring.specs.Judged.{OfState};
 
 use crate::judges::Judges;
-use crate::offers::{offer, offer_turned, put_controller, showing};
+use crate::offers::{offer_shown, offer_turned, put_controller};
 use arrayvec::ArrayVec;
 use vme_model::{Cycle, Driver, Edge, Wire};
 
@@ -19,7 +19,7 @@ fn open_acknowledges<J: Judges>(state: &J, slot: u8, edges: &mut ArrayVec<Edge, 
     ensures few { length edges.new.items ≤ length edges.old.items + 7 }
 {
     for level in 1..=7 {
-        offer(state, showing(slot, Cycle::Acknowledge(level)), edges);
+        offer_shown(state, slot, Cycle::Acknowledge(level), edges);
     }
 }
 
@@ -31,7 +31,7 @@ fn open_accesses<J: Judges>(state: &J, slot: u8, edges: &mut ArrayVec<Edge, 36>)
     ensures few { length edges.new.items ≤ length edges.old.items + 21 }
 {
     for target in 1..=21 {
-        offer(state, showing(slot, Cycle::Access(target)), edges);
+        offer_shown(state, slot, Cycle::Access(target), edges);
     }
 }
 
@@ -43,7 +43,8 @@ fn open_address<J: Judges>(state: &J, slot: u8, edges: &mut ArrayVec<Edge, 36>)
     ensures few { length edges.new.items ≤ length edges.old.items + 28 }
 {
     if state.is_low(Driver::Slot(slot), Wire::Addr) {
-        offer_turned(state, Driver::Slot(slot), Wire::Addr, edges);
+        let may = state.may_transfer(slot, Wire::Addr);
+        offer_turned(state, Driver::Slot(slot), Wire::Addr, may, edges);
     } else {
         open_acknowledges(state, slot, edges);
         open_accesses(state, slot, edges);
@@ -56,15 +57,29 @@ fn slot_open_edges<J: Judges>(state: &J, slot: u8) -> ArrayVec<Edge, 36>
         ≡ open_but_full version p h (Slot slot)) }
 {
     let mut edges = ArrayVec::new();
-    offer_turned(state, Driver::Slot(slot), Wire::Br, &mut edges);
-    offer_turned(state, Driver::Slot(slot), Wire::BgOut, &mut edges);
-    offer_turned(state, Driver::Slot(slot), Wire::Bbsy, &mut edges);
+    let may = state.may_request(slot, Wire::Br);
+    offer_turned(state, Driver::Slot(slot), Wire::Br, may, &mut edges);
+    let may = state.may_request(slot, Wire::BgOut);
+    offer_turned(state, Driver::Slot(slot), Wire::BgOut, may, &mut edges);
+    let may = state.may_request(slot, Wire::Bbsy);
+    offer_turned(state, Driver::Slot(slot), Wire::Bbsy, may, &mut edges);
     open_address(state, slot, &mut edges);
-    offer_turned(state, Driver::Slot(slot), Wire::AddressStrobe, &mut edges);
-    offer_turned(state, Driver::Slot(slot), Wire::DataStrobe, &mut edges);
-    offer_turned(state, Driver::Slot(slot), Wire::Irq, &mut edges);
-    offer_turned(state, Driver::Slot(slot), Wire::IackOut, &mut edges);
-    offer_turned(state, Driver::Slot(slot), Wire::Dtack, &mut edges);
+    let may = state.may_transfer(slot, Wire::AddressStrobe);
+    offer_turned(
+        state,
+        Driver::Slot(slot),
+        Wire::AddressStrobe,
+        may,
+        &mut edges,
+    );
+    let may = state.may_transfer(slot, Wire::DataStrobe);
+    offer_turned(state, Driver::Slot(slot), Wire::DataStrobe, may, &mut edges);
+    let may = state.may_interrupt(slot, Wire::Irq);
+    offer_turned(state, Driver::Slot(slot), Wire::Irq, may, &mut edges);
+    let may = state.may_interrupt(slot, Wire::IackOut);
+    offer_turned(state, Driver::Slot(slot), Wire::IackOut, may, &mut edges);
+    let may = state.may_interrupt(slot, Wire::Dtack);
+    offer_turned(state, Driver::Slot(slot), Wire::Dtack, may, &mut edges);
     edges
 }
 

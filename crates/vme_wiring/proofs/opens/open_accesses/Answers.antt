@@ -1,4 +1,4 @@
-use Rattle.std.proofs.Common.{◌≡◌, ◌∙◌, ap, arith, ◌-◌, ◌++◌, ◌∷◌, [], filter, map}
+use Rattle.std.proofs.Common.{◌≡◌, ◌∙◌, ap, arith, ◌-◌, ◌++◌, filter, map}
 use Rattle.vme_model.specs.declared.signals.Driver.TheVariants.{Slot}
 use Rattle.vme_model.specs.declared.signals.Cycle.TheVariants.{Access}
 use Rattle.vme_model.specs.Plan.{up_to}
@@ -10,9 +10,9 @@ use Rattle.vme_wiring.proofs.opens.open_accesses.Goals as goal
 pub loop-target-preserved : goal.loop-target-preserved
 loop-target-preserved g c = record {
   opened = λ version p h is.
-      next_more (is_open version p h) (showing (Slot c.args.slot)) (λ n. Access n) c.loop-target.target c.args.edges.now.items c.loop-target.edges.items c.offer.new.offers.items
+      next_more (is_open version p h) (showing (Slot c.args.slot)) (λ n. Access n) c.loop-target.target c.args.edges.now.items c.loop-target.edges.items c.offer_shown.new.offers.items
       (omega arith) (c.loop-target.invariant.opened version p h is)
-      (c.offer.ensures.offered version p h is ∙ ap (λ e. c.loop-target.edges.items ++ filter (is_open version p h) (e ∷ [])) c.showing.ensures);
+      (c.offer_shown.ensures.offered version p h is);
   few = omega arith;
 }
 

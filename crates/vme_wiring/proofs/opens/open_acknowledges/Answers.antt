@@ -1,4 +1,4 @@
-use Rattle.std.proofs.Common.{◌≡◌, ◌∙◌, ap, arith, ◌-◌, ◌++◌, ◌∷◌, [], filter, map}
+use Rattle.std.proofs.Common.{◌≡◌, ◌∙◌, ap, arith, ◌-◌, ◌++◌, filter, map}
 use Rattle.vme_model.specs.declared.signals.Driver.TheVariants.{Slot}
 use Rattle.vme_model.specs.declared.signals.Cycle.TheVariants.{Acknowledge}
 use Rattle.vme_model.specs.Plan.{up_to}
@@ -10,9 +10,9 @@ use Rattle.vme_wiring.proofs.opens.open_acknowledges.Goals as goal
 pub loop-level-preserved : goal.loop-level-preserved
 loop-level-preserved g c = record {
   opened = λ version p h is.
-      next_more (is_open version p h) (showing (Slot c.args.slot)) (λ n. Acknowledge n) c.loop-level.level c.args.edges.now.items c.loop-level.edges.items c.offer.new.offers.items
+      next_more (is_open version p h) (showing (Slot c.args.slot)) (λ n. Acknowledge n) c.loop-level.level c.args.edges.now.items c.loop-level.edges.items c.offer_shown.new.offers.items
       (omega arith) (c.loop-level.invariant.opened version p h is)
-      (c.offer.ensures.offered version p h is ∙ ap (λ e. c.loop-level.edges.items ++ filter (is_open version p h) (e ∷ [])) c.showing.ensures);
+      (c.offer_shown.ensures.offered version p h is);
   few = omega arith;
 }
 
