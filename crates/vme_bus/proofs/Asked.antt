@@ -7,7 +7,7 @@ use Rattle.vme_model.specs.declared.boards.Row.{Row}
 use Rattle.vme_model.specs.declared.refusals.Refused.TheVariants.{AlreadyThere, Rule}
 use Rattle.vme_model.specs.declared.signals.Version.{Version}
 use Rattle.vme_model.specs.declared.signals.Driver.{Driver}
-use Rattle.vme_model.specs.declared.signals.Driver.TheVariants.{Slot}
+use Rattle.vme_model.specs.declared.signals.Driver.TheVariants.{Controller, Slot}
 use Rattle.vme_model.specs.declared.signals.Edge.{Edge}
 use Rattle.vme_model.specs.declared.signals.Wire.{Wire}
 use Rattle.vme_model.specs.declared.signals.Wire.TheVariants.{Bg, Bclr, Iack, Berr, Br, BgOut, Bbsy, Addr, AddressStrobe, DataStrobe, Irq, IackOut, Dtack}
@@ -19,6 +19,7 @@ use Rattle.vme_model.specs.Rules.{rule}
 use Rattle.vme_model.specs.Verdict.{Judgement, check, is_other_state}
 use Rattle.vme_model.proofs.Bools.{and_left, and_right}
 use Rattle.vme_wiring.specs.Asked.{asked, exists}
+use Rattle.vme_bus.specs.Arms.{slot_of}
 
 -- every level beyond 3 is of the last chain
 pub last_chain : (n : ℕ) → grant_chain (min n 3) ≡ grant_chain n
@@ -103,6 +104,13 @@ near_slot s e driver formed =
     by_wire Irq e = below e
     by_wire IackOut e = below e
     by_wire Dtack e = below e
+
+pub near_place : (e : Edge) → is_well_formed e ≡ true → slot_of e.driver < 22
+near_place e formed = by_driver e.driver refl
+  where
+    by_driver : (d : Driver) → e.driver ≡ d → slot_of d < 22
+    by_driver Controller is = omega arith
+    by_driver (Slot s) is = near_slot s e is formed
 
 -- a well-formed edge of a driver that there is
 pub exists_by : (p : Plan) (e : Edge) → is_well_formed e ≡ true → has_driver p e.driver e.wire ≡ true → exists p e ≡ true

@@ -1,4 +1,4 @@
--- The slots whose parts do not wait are those of the sets at work: `BusState::movers` and the parts of it.
+-- The slots whose parts do not wait are those of the sets at work: `BusState::requesters_at_work` and its like.
 use Rattle.std.proofs.Common.{◌≡◌, ◌∙◌, refl, sym, ap, ℕ, Bool, true, false, List, ◌<◌}
 use Rattle.std.specs.Prelude.{◌&&◌, ◌||◌, not, Option, Some, None, is_some}
 use Rattle.std.specs.Option.{option_map_or}
@@ -22,7 +22,7 @@ use Rattle.vme_bus.specs.declared.states.BusState.{BusState}
 use Rattle.vme_bus.specs.Sets.{has}
 use Rattle.vme_bus.specs.Records.{cycle_in}
 use Rattle.vme_bus.specs.States.{IsStateOf}
-use Rattle.vme_bus.specs.Movers.{interrupter_rests}
+use Rattle.vme_bus.specs.AtWork.{interrupter_rests}
 
 -- of two facts that are joined by or
 pub neither : (a b : Bool) → (a || b) ≡ false → (a ≡ false) × (b ≡ false)

@@ -32,9 +32,7 @@ pub mod Places
 pub mod LongerHistory
 -- what the sets say of one slot: `BusState::outputs`, `is_driven_low`, `row`, `told_by_rule`
 pub mod OneSlot
--- a slot waits where all parts of its board do: `BusState::movers`
-pub mod WaitingParts
--- the slots whose parts do not wait are those of the sets at work: `BusState::movers` and the parts of it
+-- the slots whose parts do not wait are those of the sets at work: `BusState::requesters_at_work` and its like
 pub mod AtWork
 -- where a grant stops, it travels: `BusState::grant_at`
 pub mod Standing

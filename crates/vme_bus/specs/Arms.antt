@@ -1,5 +1,7 @@
 -- The arm of an edge, by its wire and direction.
 use Rattle.std.specs.Prelude.{◌+◌, ◌*◌, ℕ, Bool, true, false}
+use Rattle.vme_model.specs.declared.signals.Driver.{Driver}
+use Rattle.vme_model.specs.declared.signals.Driver.TheVariants.{Controller, Slot}
 use Rattle.vme_model.specs.declared.signals.Wire.{Wire}
 use Rattle.vme_model.specs.declared.signals.Wire.TheVariants.{Bg, Bclr, Iack, Berr, Br, BgOut, Bbsy, Addr, AddressStrobe, DataStrobe, Irq, IackOut, Dtack}
 
@@ -21,6 +23,10 @@ wire_number Dtack = 12
 abbrev pub level_of : Wire → ℕ
 level_of (Bg level) = level
 level_of w = 0
+
+abbrev pub slot_of : Driver → ℕ
+slot_of Controller = 0
+slot_of (Slot s) = s
 
 abbrev pub fall_number : Bool → ℕ
 fall_number true = 1

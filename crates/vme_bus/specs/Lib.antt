@@ -11,7 +11,7 @@ pub mod Asks
 -- words: what an edge makes of the numbers of a state
 pub mod Moves
 -- words: whether a board's interrupter has nothing to do
-pub mod Movers
+pub mod AtWork
 -- believe, for who keeps a `BusState`: what a step answers and leaves, and where a grant stops
 pub mod Steps
 -- words: the arm of an edge

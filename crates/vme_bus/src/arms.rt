@@ -1,8 +1,8 @@
 //! An arm for each wire and direction, so that an edge takes one jump.
 ghost use Rattle.std.specs.Prelude.{◌≡◌};
-ghost use Rattle.vme_bus.specs.Arms.{arm, level_of, wire_number};
+ghost use Rattle.vme_bus.specs.Arms.{arm, level_of, slot_of, wire_number};
 
-use vme_model::{Edge, Wire};
+use vme_model::{Driver, Edge, Wire};
 
 /// The number of a wire, in the order of `Wire`.
 #[inline(always)]
@@ -34,6 +34,17 @@ pub(crate) fn level_of(wire: Wire) -> u8
     match wire {
         Wire::Bg(level) => level,
         _ => 0,
+    }
+}
+
+/// The slot of a driver; 0 of the controller.
+#[inline(always)]
+pub(crate) fn slot_of(driver: Driver) -> u8
+    ensures { result ≡ slot_of driver }
+{
+    match driver {
+        Driver::Controller => 0,
+        Driver::Slot(slot) => slot,
     }
 }
 

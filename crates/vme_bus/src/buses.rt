@@ -1,8 +1,5 @@
 //! A bus, which takes edges one by one and stores none of them.
-ghost use Rattle.std.specs.Prelude.{◌≡◌, ◌==◌, ◌&&◌, ◌+◌, ◌%◌, ◌≤◌, ◌↔◌, [], ℕ, IsTrue, Ok, false, true, is_ok, length, map, slice_get, take};
-ghost use Rattle.std.specs.Option.{option_map_or};
-ghost use Rattle.vme_model.specs.declared.signals.Driver.TheVariants.{Slot};
-ghost use Rattle.vme_bus.specs.Sets.{has};
+ghost use Rattle.std.specs.Prelude.{◌≡◌, ◌==◌, ◌&&◌, ◌+◌, ◌%◌, ◌≤◌, ◌↔◌, [], IsTrue, Ok, false, true, is_ok, length, map, slice_get, take};
 ghost use Rattle.vme_model.specs.Verdict.{verdict, verdict_but_full, made, after, kept, IsLegal};
 ghost use Rattle.vme_model.specs.Failing.{tested, tested_but_full, unmet, unmet_but_full};
 ghost use Rattle.vme_model.specs.Safe.{IsSafe, IsOrderly};
@@ -21,8 +18,7 @@ ghost use Rattle.vme_backplane.specs.Sound.{IsSound};
 ghost use Rattle.vme_bus.specs.States.{IsStateOf};
 
 use crate::answers::{ACCEPTED, AnswerRecord, NO_DRIVER, is_accepted, refusal_number};
-use crate::arms::arm_of;
-use crate::sets::SlotSet;
+use crate::arms::{arm_of, level_of, slot_of};
 use crate::states::BusState;
 use crate::steps::step_by_arm;
 use arrayvec::ArrayVec;
@@ -226,6 +222,7 @@ impl Bus {
         ensures { (d : DeliveryValue) → answer_in result d ≡ answer self.now edge }
     {
         match self.verdict(edge) {
+            // Never: E5 is the last.
             Ok(()) => ACCEPTED,
             Err(refused) => refusal_number(refused),
         }
@@ -427,8 +424,8 @@ impl Bus {
     /// The offer that the driver makes in a round, if it has any: of k offers the one at place
     /// `round mod k`.
     ///
-    /// It tries the edges of a driver that waits for another's too: `movers` tells which slots may
-    /// have an offer.
+    /// It tries the edges of a driver that waits for another's too: `Turns` asks only the slots that
+    /// may have an offer.
     #[inline(always)]
     pub fn offer(&self, driver: Driver, round: u32) -> Option<Edge>
         ensures { result
@@ -449,45 +446,6 @@ impl Bus {
         let mut offers: ArrayVec<Edge, 12> = ArrayVec::new();
         self.state.put_offers(driver, &mut offers);
         choice(offers.as_slice(), round)
-    }
-
-    /// Makes the offer that the driver makes in a round, if it has any, and answers it.
-    ///
-    /// It is `offer`, and a step with what that answers: the edge is not judged again.
-    #[inline(always)]
-    pub fn make_offer(&mut self, driver: Driver, round: u32) -> Option<Edge>
-        ensures offer { result
-            ≡ slice_get (offered self.old driver) (round % length (offered self.old driver)) }
-        ensures state { self.new ≡ option_map_or (made self.old) result self.old }
-        ensures sound { IsSound self.new }
-    {
-        let offer = self.offer(driver, round);
-        match offer {
-            Some(edge) => self.make_by_wire(edge),
-            None => {}
-        }
-        self.laws();
-        self.safety();
-        offer
-    }
-
-    /// Slots that may have an offer: each other slot waits for an edge of another driver, and has
-    /// none.
-    ///
-    /// It takes a few operations on sets. A slot among them may have none either.
-    pub fn movers(&self) -> SlotSet
-        ensures { (s : ℕ) → has result s ≡ false → offered self.now (Slot s) ≡ [] }
-    {
-        self.movers_but_full()
-    }
-
-    /// The same, but for the end of the trace.
-    #[inline(always)]
-    fn movers_but_full(&self) -> SlotSet
-        ensures { (s : ℕ) → has result s ≡ false
-            → offered_but_full self.now.version self.now.plan self.now.history (Slot s) ≡ [] }
-    {
-        self.state.movers()
     }
 
     /// The version of its rules.

@@ -6,7 +6,7 @@ ghost use Rattle.vme_wiring.specs.Opens.{open_but_full};
 
 use crate::states::BusState;
 use arrayvec::ArrayVec;
-use vme_model::{Condition, Driver, Edge, Levels, Refused, Wire};
+use vme_model::{Condition, Cycle, Driver, Edge, Levels, Refused, Wire};
 use vme_rules::Outcome;
 use vme_wiring::{Judges, Waiting, failing_by, offers_of, open_edges_of, put_offers, told_by};
 
@@ -46,8 +46,28 @@ impl Judges for BusState {
     }
 
     #[inline(always)]
-    fn may_turn(&self, driver: Driver, wire: Wire) -> bool {
-        BusState::may_turn(self, driver, wire)
+    fn may_control(&self, wire: Wire) -> bool {
+        BusState::may_control(self, wire)
+    }
+
+    #[inline(always)]
+    fn may_request(&self, slot: u8, wire: Wire) -> bool {
+        BusState::may_request(self, slot, wire)
+    }
+
+    #[inline(always)]
+    fn may_transfer(&self, slot: u8, wire: Wire) -> bool {
+        BusState::may_transfer(self, slot, wire)
+    }
+
+    #[inline(always)]
+    fn may_interrupt(&self, slot: u8, wire: Wire) -> bool {
+        BusState::may_interrupt(self, slot, wire)
+    }
+
+    #[inline(always)]
+    fn may_show(&self, slot: u8, cycle: Cycle) -> bool {
+        BusState::may_show(self, slot, cycle)
     }
 
     #[inline(always)]

@@ -3,11 +3,11 @@
 
 mod answers;
 mod arms;
+mod at_work;
 mod buses;
 mod choices;
 mod judging;
 mod layouts;
-mod movers;
 mod moves;
 mod records;
 mod rules;

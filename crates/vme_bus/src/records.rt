@@ -1,8 +1,7 @@
 //! What enums and options say, as numbers alone, so that a record of them may lie in the memory of a program in C.
 //!
 //! Each number has a meaning, also one that no code here writes.
-ghost use Rattle.std.specs.Prelude.{◌≡◌, ◌==◌, false, is_some};
-ghost use Rattle.std.specs.Option.{option_map_or};
+ghost use Rattle.std.specs.Prelude.{◌≡◌, false, is_some};
 ghost use Rattle.vme_bus.specs.Records.{version_in, kind_in, cycle_in, slot_in, requester_in, interrupter_in, seat_in};
 
 use bitflags::Flags;
@@ -245,14 +244,6 @@ impl InterrupterRecord {
         ensures { result ≡ is_some (interrupter_in self) }
     {
         self.stands != 0
-    }
-
-    /// Whether there is one of the level.
-    #[inline(always)]
-    pub fn is_on(self, level: u8) -> bool
-        ensures { result ≡ option_map_or (λ i. i.level == level) (interrupter_in self) false }
-    {
-        self.stands != 0 && self.level == level
     }
 
     /// The interrupter.

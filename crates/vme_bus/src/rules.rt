@@ -31,7 +31,8 @@ use vme_rules::interrupters::{
     answers, dtack_falls, dtack_rises, iackout_falls, iackout_rises, irq_falls, irq_rises, passes,
 };
 use vme_rules::masters::{
-    addr_goes_off, addr_goes_on, as_falls, as_rises, below_burst, ds_falls, ds_rises, shows,
+    addr_goes_off, addr_goes_on, addr_is_free, as_falls, as_rises, below_burst, ds_falls, ds_rises,
+    shows,
 };
 use vme_rules::requesters::{
     bbsy_falls, bbsy_rises, bgout_falls, bgout_rises, br_falls, br_rises, released,
@@ -243,14 +244,14 @@ impl BusState {
             is_some r.requester ≡ true → has_value wire.Addr true value ≡ true
             → A.tells result (guard version (readings p h (Slot slot)) wire.Addr true value).1) }
     {
+        let free: A = addr_is_free(self.bbsy.has(slot), self.address_strobe());
+        // Most edges that are refused fail here, and the rest takes longer.
+        if free.is_final() {
+            return free;
+        }
         let bursting: A = self.bursting(slot);
         let showing: A = self.showing(slot, value);
-        addr_goes_on(
-            self.bbsy.has(slot),
-            self.address_strobe(),
-            bursting,
-            showing,
-        )
+        addr_goes_on(free, bursting, showing)
     }
 
     /// The rule that names an edge of a board's master, and what its guard answers (G15 to G20).
@@ -301,10 +302,8 @@ impl BusState {
         ensures { OfHistory self.now (λ _ p _. result ≡ option_map_or (λ i. i.level == level)
             (option_and_then (λ r. r.interrupter) (board p slot)) false) }
     {
-        match self.record(slot) {
-            Some(seat) => seat.interrupter.is_on(level),
-            None => false,
-        }
+        // Every level beyond 7 is of no interrupter.
+        (level < 8) & self.layout.interrupts[usize::from(level.min(7))].has(slot)
     }
 
     /// Whether the board's interrupter asks at the level.

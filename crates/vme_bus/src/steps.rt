@@ -1,5 +1,6 @@
 //! Edges taken one by one.
 ghost use Rattle.std.specs.Prelude.{◌≡◌, ◌∷◌, Ok, true, false, is_ok};
+ghost use Rattle.vme_model.specs.declared.signals.Driver.TheVariants.{Controller, Slot};
 ghost use Rattle.vme_model.specs.Deliveries.{delivery};
 ghost use Rattle.vme_model.specs.Signals.{is_well_formed};
 ghost use Rattle.vme_model.specs.Verdict.{verdict_but_full};
@@ -11,48 +12,51 @@ ghost use Rattle.vme_bus.specs.Asks.{is_boards};
 ghost use Rattle.vme_bus.specs.Steps.{answer_but_full, kept_but_full};
 
 use crate::answers::{NO_DELIVERY, NO_DRIVER, accepted_number, answer_in, refusal_number};
-use crate::arms::{arm_of, level_of};
+use crate::arms::{arm_of, level_of, slot_of};
 use crate::states::BusState;
 use vme_model::{Delivery, Driver, Edge, Refused, Wire};
 
-/// Takes a well-formed edge where the rules allow it, in an arm for each wire and direction, so that an edge of a board
-/// takes one jump. Gives the number of the answer, and what is delivered.
+/// Takes a well-formed edge where the rules allow it, in an arm for each wire and direction, so that an edge takes one jump.
+/// Gives the number of the answer, and what is delivered.
 ///
 /// A macro, so that the arms stand in the loop over edges itself.
 macro_rules! step_by_arm {
-    ($state:expr, $edge:ident, $delivery:expr) => {
-        match $edge.driver {
-            Driver::Controller => $state.step_control($edge, $delivery),
-            Driver::Slot(slot) => {
-                // No board stands in a slot beyond 21, which the compiler does not know.
-                if slot < 22 {
-                    match arm_of($edge) {
-                        8 => $state.step_requester($edge, Wire::Br, false, $delivery),
-                        9 => $state.step_requester($edge, Wire::Br, true, $delivery),
-                        10 => $state.step_requester($edge, Wire::BgOut, false, $delivery),
-                        11 => $state.step_requester($edge, Wire::BgOut, true, $delivery),
-                        12 => $state.step_requester($edge, Wire::Bbsy, false, $delivery),
-                        13 => $state.step_requester($edge, Wire::Bbsy, true, $delivery),
-                        14 => $state.step_master($edge, Wire::Addr, false, $delivery),
-                        15 => $state.step_master($edge, Wire::Addr, true, $delivery),
-                        16 => $state.step_master($edge, Wire::AddressStrobe, false, $delivery),
-                        17 => $state.step_master($edge, Wire::AddressStrobe, true, $delivery),
-                        18 => $state.step_master($edge, Wire::DataStrobe, false, $delivery),
-                        19 => $state.step_master($edge, Wire::DataStrobe, true, $delivery),
-                        20 => $state.step_interrupter($edge, Wire::Irq, false, $delivery),
-                        21 => $state.step_interrupter($edge, Wire::Irq, true, $delivery),
-                        22 => $state.step_interrupter($edge, Wire::IackOut, false, $delivery),
-                        23 => $state.step_interrupter($edge, Wire::IackOut, true, $delivery),
-                        24 => $state.step_interrupter($edge, Wire::Dtack, false, $delivery),
-                        25 => $state.step_interrupter($edge, Wire::Dtack, true, $delivery),
-                        _ => $state.step_control($edge, $delivery),
-                    }
-                } else {
-                    NO_DRIVER
-                }
+    ($state:expr, $edge:ident, $delivery:expr) => {{
+        let slot = slot_of($edge.driver);
+        // No board stands in a slot beyond 21, which the compiler does not know.
+        if slot < 22 {
+            match arm_of($edge) {
+                0 => $state.step_controller($edge, Wire::Bg(level_of($edge.wire)), false, $delivery),
+                1 => $state.step_controller($edge, Wire::Bg(level_of($edge.wire)), true, $delivery),
+                2 => $state.step_controller($edge, Wire::Bclr, false, $delivery),
+                3 => $state.step_controller($edge, Wire::Bclr, true, $delivery),
+                4 => $state.step_controller($edge, Wire::Iack, false, $delivery),
+                5 => $state.step_controller($edge, Wire::Iack, true, $delivery),
+                6 => $state.step_controller($edge, Wire::Berr, false, $delivery),
+                7 => $state.step_controller($edge, Wire::Berr, true, $delivery),
+                8 => $state.step_requester($edge, slot, Wire::Br, false, $delivery),
+                9 => $state.step_requester($edge, slot, Wire::Br, true, $delivery),
+                10 => $state.step_requester($edge, slot, Wire::BgOut, false, $delivery),
+                11 => $state.step_requester($edge, slot, Wire::BgOut, true, $delivery),
+                12 => $state.step_requester($edge, slot, Wire::Bbsy, false, $delivery),
+                13 => $state.step_requester($edge, slot, Wire::Bbsy, true, $delivery),
+                14 => $state.step_master($edge, slot, Wire::Addr, false, $delivery),
+                15 => $state.step_master($edge, slot, Wire::Addr, true, $delivery),
+                16 => $state.step_master($edge, slot, Wire::AddressStrobe, false, $delivery),
+                17 => $state.step_master($edge, slot, Wire::AddressStrobe, true, $delivery),
+                18 => $state.step_master($edge, slot, Wire::DataStrobe, false, $delivery),
+                19 => $state.step_master($edge, slot, Wire::DataStrobe, true, $delivery),
+                20 => $state.step_interrupter($edge, slot, Wire::Irq, false, $delivery),
+                21 => $state.step_interrupter($edge, slot, Wire::Irq, true, $delivery),
+                22 => $state.step_interrupter($edge, slot, Wire::IackOut, false, $delivery),
+                23 => $state.step_interrupter($edge, slot, Wire::IackOut, true, $delivery),
+                24 => $state.step_interrupter($edge, slot, Wire::Dtack, false, $delivery),
+                _ => $state.step_interrupter($edge, slot, Wire::Dtack, true, $delivery),
             }
+        } else {
+            NO_DRIVER
         }
-    };
+    }};
 }
 
 impl BusState {
@@ -91,35 +95,18 @@ impl BusState {
         step_by_arm!(self, edge, delivery)
     }
 
-    /// The same of an edge of the controller, by the arm of its wire and direction. A function of its own, since such
-    /// edges are rare.
-    #[inline(never)]
-    pub(crate) fn step_control(&mut self, edge: Edge, delivery: &mut Delivery) -> u8
-        requires formed { is_well_formed edge ≡ true }
-        requires part { is_boards edge.wire ≡ false }
-        ensures answer { OfHistory self.old (λ version p h.
-            answer_in result delivery.new ≡ answer_but_full version p h edge) }
-        ensures state { OfHistory self.old (λ version p h.
-            IsStateOf version p (kept_but_full version p h edge) self.new) }
-        ensures refused { is_ok (answer_in result delivery.new) ≡ false → self.new ≡ self.old }
-    {
-        match arm_of(edge) {
-            0 => self.step_controller(edge, Wire::Bg(level_of(edge.wire)), false, delivery),
-            1 => self.step_controller(edge, Wire::Bg(level_of(edge.wire)), true, delivery),
-            2 => self.step_controller(edge, Wire::Bclr, false, delivery),
-            3 => self.step_controller(edge, Wire::Bclr, true, delivery),
-            4 => self.step_controller(edge, Wire::Iack, false, delivery),
-            5 => self.step_controller(edge, Wire::Iack, true, delivery),
-            6 => self.step_controller(edge, Wire::Berr, false, delivery),
-            _ => self.step_controller(edge, Wire::Berr, true, delivery),
-        }
-    }
-
     /// The same of an edge of the controller, in an arm where wire and direction are constants, so that the
     /// compiler leaves out what other edges need.
     #[inline(always)]
-    fn step_controller(&mut self, edge: Edge, wire: Wire, fall: bool, delivery: &mut Delivery) -> u8
+    pub(crate) fn step_controller(
+        &mut self,
+        edge: Edge,
+        wire: Wire,
+        fall: bool,
+        delivery: &mut Delivery,
+    ) -> u8
         requires formed { is_well_formed edge ≡ true }
+        requires driver { Controller ≡ edge.driver }
         requires wire { wire ≡ edge.wire }
         requires fall { fall ≡ edge.fall }
         requires part { is_boards wire ≡ false }
@@ -130,6 +117,7 @@ impl BusState {
         ensures refused { is_ok (answer_in result delivery.new) ≡ false → self.new ≡ self.old }
     {
         let mut edge = edge;
+        edge.driver = Driver::Controller;
         edge.wire = wire;
         edge.fall = fall;
         match self.judge_controller(edge) {
@@ -144,11 +132,13 @@ impl BusState {
     pub(crate) fn step_requester(
         &mut self,
         edge: Edge,
+        slot: u8,
         wire: Wire,
         fall: bool,
         delivery: &mut Delivery,
     ) -> u8
         requires formed { is_well_formed edge ≡ true }
+        requires slot { Slot slot ≡ edge.driver }
         requires wire { wire ≡ edge.wire }
         requires fall { fall ≡ edge.fall }
         requires part { is_requesters wire ≡ true }
@@ -159,6 +149,7 @@ impl BusState {
         ensures refused { is_ok (answer_in result delivery.new) ≡ false → self.new ≡ self.old }
     {
         let mut edge = edge;
+        edge.driver = Driver::Slot(slot);
         edge.wire = wire;
         edge.fall = fall;
         match self.judge_requester(edge) {
@@ -173,11 +164,13 @@ impl BusState {
     pub(crate) fn step_master(
         &mut self,
         edge: Edge,
+        slot: u8,
         wire: Wire,
         fall: bool,
         delivery: &mut Delivery,
     ) -> u8
         requires formed { is_well_formed edge ≡ true }
+        requires slot { Slot slot ≡ edge.driver }
         requires wire { wire ≡ edge.wire }
         requires fall { fall ≡ edge.fall }
         requires part { is_masters wire ≡ true }
@@ -188,6 +181,7 @@ impl BusState {
         ensures refused { is_ok (answer_in result delivery.new) ≡ false → self.new ≡ self.old }
     {
         let mut edge = edge;
+        edge.driver = Driver::Slot(slot);
         edge.wire = wire;
         edge.fall = fall;
         match self.judge_master(edge) {
@@ -202,11 +196,13 @@ impl BusState {
     pub(crate) fn step_interrupter(
         &mut self,
         edge: Edge,
+        slot: u8,
         wire: Wire,
         fall: bool,
         delivery: &mut Delivery,
     ) -> u8
         requires formed { is_well_formed edge ≡ true }
+        requires slot { Slot slot ≡ edge.driver }
         requires wire { wire ≡ edge.wire }
         requires fall { fall ≡ edge.fall }
         requires part { is_interrupters wire ≡ true }
@@ -217,6 +213,7 @@ impl BusState {
         ensures refused { is_ok (answer_in result delivery.new) ≡ false → self.new ≡ self.old }
     {
         let mut edge = edge;
+        edge.driver = Driver::Slot(slot);
         edge.wire = wire;
         edge.fall = fall;
         match self.judge_interrupter(edge) {

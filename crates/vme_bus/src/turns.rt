@@ -2,6 +2,7 @@
 ghost use Rattle.std.specs.Prelude.{◌≡◌, true, false};
 ghost use Rattle.vme_model.specs.declared.signals.Driver.TheVariants.{Controller, Slot};
 ghost use Rattle.vme_model.specs.Offers.{turned};
+ghost use Rattle.vme_model.specs.Open.{showing};
 ghost use Rattle.vme_wiring.specs.Offered.{is_open};
 ghost use Rattle.vme_requester.specs.Local.{is_requesters};
 ghost use Rattle.vme_master.specs.Local.{is_masters};
@@ -9,7 +10,7 @@ ghost use Rattle.vme_interrupter.specs.Local.{is_interrupters};
 ghost use Rattle.vme_bus.specs.Asks.{is_boards};
 
 use crate::states::BusState;
-use vme_model::{Driver, Edge, Wire};
+use vme_model::{Cycle, Driver, Edge, Wire};
 
 /// The edge of a wire in that direction, without a value.
 #[inline(always)]
@@ -29,7 +30,7 @@ impl BusState {
 
     /// Whether the rules allow the controller to move the wire to its other state, without a value.
     #[inline(always)]
-    fn may_control(&self, wire: Wire) -> bool
+    pub(crate) fn may_control(&self, wire: Wire) -> bool
         ensures { OfHistory self.now (λ version p h.
             result ≡ is_open version p h (turned h Controller wire)) }
     {
@@ -44,7 +45,7 @@ impl BusState {
 
     /// Whether the rules allow the slot's requester to move the wire to its other state, without a value.
     #[inline(always)]
-    fn may_request(&self, slot: u8, wire: Wire) -> bool
+    pub(crate) fn may_request(&self, slot: u8, wire: Wire) -> bool
         requires { is_requesters wire ≡ true }
         ensures { OfHistory self.now (λ version p h.
             result ≡ is_open version p h (turned h (Slot slot) wire)) }
@@ -63,7 +64,7 @@ impl BusState {
 
     /// Whether the rules allow the slot's master to move the wire to its other state, without a value.
     #[inline(always)]
-    fn may_transfer(&self, slot: u8, wire: Wire) -> bool
+    pub(crate) fn may_transfer(&self, slot: u8, wire: Wire) -> bool
         requires { is_masters wire ≡ true }
         ensures { OfHistory self.now (λ version p h.
             result ≡ is_open version p h (turned h (Slot slot) wire)) }
@@ -83,7 +84,7 @@ impl BusState {
 
     /// Whether the rules allow the slot's interrupter, or what answers cycles, to move the wire to its other state, without a value.
     #[inline(always)]
-    fn may_interrupt(&self, slot: u8, wire: Wire) -> bool
+    pub(crate) fn may_interrupt(&self, slot: u8, wire: Wire) -> bool
         requires { is_interrupters wire ≡ true }
         ensures { OfHistory self.now (λ version p h.
             result ≡ is_open version p h (turned h (Slot slot) wire)) }
@@ -100,32 +101,18 @@ impl BusState {
         is_allowed
     }
 
-    /// Whether the rules allow the driver to move the wire to its other state, without a value.
+    /// Whether the rules allow the slot's address group to go on with the cycle.
     #[inline(always)]
-    pub(crate) fn may_turn(&self, driver: Driver, wire: Wire) -> bool
+    pub(crate) fn may_show(&self, slot: u8, cycle: Cycle) -> bool
         ensures { OfHistory self.now (λ version p h.
-            result ≡ is_open version p h (turned h driver wire)) }
+            result ≡ is_open version p h (showing (Slot slot) cycle)) }
     {
-        match driver {
-            Driver::Controller => match wire {
-                Wire::Bg(level) => self.may_control(Wire::Bg(level)),
-                Wire::Bclr => self.may_control(Wire::Bclr),
-                Wire::Iack => self.may_control(Wire::Iack),
-                Wire::Berr => self.may_control(Wire::Berr),
-                _ => false,
-            },
-            Driver::Slot(slot) => match wire {
-                Wire::Br => self.may_request(slot, Wire::Br),
-                Wire::BgOut => self.may_request(slot, Wire::BgOut),
-                Wire::Bbsy => self.may_request(slot, Wire::Bbsy),
-                Wire::Addr => self.may_transfer(slot, Wire::Addr),
-                Wire::AddressStrobe => self.may_transfer(slot, Wire::AddressStrobe),
-                Wire::DataStrobe => self.may_transfer(slot, Wire::DataStrobe),
-                Wire::Irq => self.may_interrupt(slot, Wire::Irq),
-                Wire::IackOut => self.may_interrupt(slot, Wire::IackOut),
-                Wire::Dtack => self.may_interrupt(slot, Wire::Dtack),
-                _ => false,
-            },
-        }
+        let edge = Edge {
+            driver: Driver::Slot(slot),
+            wire: Wire::Addr,
+            fall: true,
+            value: Some(cycle),
+        };
+        edge.is_well_formed() && self.judge_master(edge).is_ok()
     }
 }

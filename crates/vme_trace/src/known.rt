@@ -126,7 +126,7 @@ impl Known {
 
     /// Reads the lines at the head of a piece, but for its last bytes, as long as each spells an edge, and gives the
     /// rest. Errors: X6.
-    #[inline(always)]
+    #[inline(never)]
     pub(crate) fn take_blocks<'a, A: Allocator>(
         &mut self,
         piece: &'a [u8],

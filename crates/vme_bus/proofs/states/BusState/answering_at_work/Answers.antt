@@ -1,7 +1,7 @@
 use Rattle.std.proofs.Common.{◌∙◌, ap}
 use Rattle.std.specs.Prelude.{◌||◌, not}
 use Rattle.vme_bus.specs.Sets.{has}
-use Rattle.vme_bus.specs.Movers.{interrupter_rests}
+use Rattle.vme_bus.specs.AtWork.{interrupter_rests}
 use Rattle.vme_bus.proofs.AtWork.{answers_work}
 use Rattle.vme_bus.proofs.states.BusState.answering_at_work.Goals as goal
 

@@ -1,23 +1,45 @@
-use Rattle.std.proofs.Common.{◌∙◌, sym, ap, false}
-use Rattle.std.specs.Prelude.{◌==◌, Option, option_map}
-use Rattle.std.specs.Option.{option_copied, option_and_then, option_map_or}
+use Rattle.std.proofs.Common.{◌≡◌, ◌≤◌, ◌<◌, ◌∙◌, refl, ap, arith, ℕ, Bool, true, false}
+use Rattle.std.proofs.lemmas.Bool.Decides.{nat_tests}
+use Rattle.std.specs.Prelude.{◌==◌, ◌&&◌, min, nat_lt, Option, Some, None}
+use Rattle.std.specs.Option.{option_and_then, option_map_or}
 use Rattle.vme_model.specs.declared.boards.Row.{Row}
-use Rattle.vme_model.specs.Plan.{board}
-use Rattle.vme_bus.specs.declared.records.Seat.{Seat}
-use Rattle.vme_bus.specs.Records.{seat_of_record}
-use Rattle.vme_bus.proofs.OneSlot.{seated, unseated}
+use Rattle.vme_model.specs.declared.boards.InterrupterRow.{InterrupterRow}
+use Rattle.vme_model.specs.Plan.{board, interrupts_on}
+use Rattle.vme_wiring.proofs.AllowedBoards.{stands}
+use Rattle.vme_bus.specs.Sets.{has}
+use Rattle.vme_bus.specs.Layouts.{set_at}
 use Rattle.vme_bus.proofs.states.BusState.has_level.Goals as goal
 
-pub returns-in-Some : goal.returns-in-Some
-returns-in-Some c version p h is =
-    let s = c.args.slot in
-    let k = seated p s (seat_of_record c.in-Some.seat.now) (sym (ap (option_map seat_of_record) (ap option_copied c.in-Some.is)) ∙ c.record.ensures ∙ is.layout.seats s) in
-    c.is_on.ensures
-    ∙ ap (λ (x : Seat). option_map_or (λ i. i.level == c.args.level) x.row.interrupter false) k.same
-    ∙ sym (ap (λ (o : Option Row). option_map_or (λ i. i.level == c.args.level) (option_and_then (λ r. r.interrupter) o) false) k.found)
+differs : (a n : ℕ) → a < 8 → 8 ≤ n → false ≡ (a == n)
+differs a n l f = grind (arith, nat_tests)
 
-pub returns-in-None : goal.returns-in-None
-returns-in-None c version p h is =
-    let s = c.args.slot in
-    let none = unseated p (board p s) (sym (is.layout.seats s) ∙ sym c.record.ensures ∙ ap (option_map seat_of_record) (ap option_copied c.in-None.is)) in
-    sym (ap (λ (o : Option Row). option_map_or (λ i. i.level == c.args.level) (option_and_then (λ r. r.interrupter) o) false) none)
+near_is : (n : ℕ) → nat_lt n 8 ≡ true → n < 8
+near_is n e = grind (arith, nat_tests)
+
+far_is : (n : ℕ) → nat_lt n 8 ≡ false → 8 ≤ n
+far_is n e = grind (arith, nat_tests)
+
+beyond : (n : ℕ) (o : Option InterrupterRow) → option_map_or (λ (i : InterrupterRow). i.level) o 0 < 8 → 8 ≤ n → false ≡ option_map_or (λ (i : InterrupterRow). i.level == n) o false
+beyond n None l f = refl
+beyond n (Some i) l f = differs i.level n l f
+
+on : (n : ℕ) (o : Option Row) → option_map_or (interrupts_on n) o false ≡ option_map_or (λ (i : InterrupterRow). i.level == n) (option_and_then (λ (r : Row). r.interrupter) o) false
+on n None = refl
+on n (Some r) = refl
+
+pub returns : goal.returns
+returns c version p h is = by_level (nat_lt c.args.level 8) refl
+  where
+    by_board : 8 ≤ c.args.level → (o : Option Row) → board p c.args.slot ≡ o → false ≡ option_map_or (λ (i : InterrupterRow). i.level == c.args.level) (option_and_then (λ (r : Row). r.interrupter) o) false
+    by_board f None found = refl
+    by_board f (Some r) found = beyond c.args.level r.interrupter (stands p c.args.slot r is.accepted found).interrupt f
+
+    by_level : (b : Bool) → nat_lt c.args.level 8 ≡ b → (b && c.has.result) ≡ option_map_or (λ (i : InterrupterRow). i.level == c.args.level) (option_and_then (λ (r : Row). r.interrupter) (board p c.args.slot)) false
+    by_level true e =
+        let l : c.args.level < 8 = near_is c.args.level e in
+        let least : min c.args.level 7 ≡ c.args.level = grind arith in
+        c.has.ensures
+        ∙ ap (λ k. has (set_at c.args.self.now.layout.interrupts k) c.args.slot) (c.from.ensures ∙ c.min.ensures ∙ least)
+        ∙ is.layout.interrupts c.args.level l c.args.slot
+        ∙ on c.args.level (board p c.args.slot)
+    by_level false e = by_board (far_is c.args.level e) (board p c.args.slot) refl

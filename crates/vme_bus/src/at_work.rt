@@ -1,12 +1,10 @@
-//! Which slots may have an edge to make, all at once.
-ghost use Rattle.std.specs.Prelude.{◌≡◌, ◌&&◌, ◌<◌, ℕ, [], true, false, not};
-ghost use Rattle.vme_model.specs.declared.signals.Driver.TheVariants.{Slot};
-ghost use Rattle.vme_wiring.specs.Offered.{offered_but_full};
+//! Which parts of the boards do not wait for an edge of another driver, of all slots at once.
+ghost use Rattle.std.specs.Prelude.{◌≡◌, ◌&&◌, ◌<◌, ℕ, not};
 ghost use Rattle.vme_wiring.specs.Judged.{requester_waits, master_waits, interrupter_waits};
-ghost use Rattle.vme_wiring.specs.Waits.{is_access_to, is_waiting};
+ghost use Rattle.vme_wiring.specs.Waits.{is_access_to};
 ghost use Rattle.vme_bus.specs.Sets.{has};
 ghost use Rattle.vme_bus.specs.Records.{cycle_in};
-ghost use Rattle.vme_bus.specs.Movers.{interrupter_rests};
+ghost use Rattle.vme_bus.specs.AtWork.{interrupter_rests};
 
 use crate::sets::SlotSet;
 use crate::states::BusState;
@@ -94,21 +92,5 @@ impl BusState {
         self.interrupters_at_work()
             .or(self.dtack)
             .or(self.layout.boards.and(self.accessed()))
-    }
-
-    /// Slots that may have an edge to make: each slot that is not among them waits, and has no
-    /// offer.
-    ///
-    /// It takes a few operations on sets. A slot among them may wait too.
-    #[inline(always)]
-    pub fn movers(&self) -> SlotSet
-        ensures waits { OfHistory self.now (λ version p h. (s : ℕ)
-            → has result s ≡ false → is_waiting version p h (Slot s) ≡ true) }
-        ensures none { OfHistory self.now (λ version p h. (s : ℕ)
-            → has result s ≡ false → offered_but_full version p h (Slot s) ≡ []) }
-    {
-        self.requesters_at_work()
-            .or(self.masters_at_work())
-            .or(self.answering_at_work())
     }
 }
