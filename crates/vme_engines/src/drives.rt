@@ -47,6 +47,7 @@ impl Driving {
     }
 
     /// A driver's turn: it makes an offer, unless there is none or enough edges were made.
+    #[inline(always)]
     fn take_turn<W: Write>(
         &mut self,
         round: u32,
@@ -129,6 +130,7 @@ impl Driving {
 /// Puts the line of an edge to a text, which is written first where it has no room for it.
 ///
 /// Errors: X8 where that failed; a prefix of the text was then written.
+#[inline(always)]
 pub(crate) fn put_line<W: Write>(text: &mut Text, edge: &Edge, out: &mut W) -> Result<(), Fault>
     requires { IsTrue (is_well_formed edge.now) }
     ensures ok { OnOk result
