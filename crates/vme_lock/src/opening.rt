@@ -9,7 +9,6 @@ use crate::seats::{Rig, Seat, Seats, desk, desk_of};
 use crate::shared::Shared;
 use std::alloc::Global;
 use std::sync::Mutex;
-use std::sync::atomic::AtomicU32;
 use std::sync::ledger::{Blank, Book, Share};
 use vme_backplane::Backplane;
 use vme_model::Driver;
@@ -40,7 +39,6 @@ impl<'r, L: Rig> Shared<'r, L> {
         let mut room = Opening { seats, book, rest };
         room.seat_all(&backplane, &counts);
         let Opening { seats, book, rest } = room;
-        let total = AtomicU32::new(backplane.len());
         let held = Held {
             backplane,
             counts,
@@ -49,7 +47,6 @@ impl<'r, L: Rig> Shared<'r, L> {
         };
         let shared = Shared {
             lock: Mutex::new(held),
-            total,
         };
         Ok((shared, seats))
     }

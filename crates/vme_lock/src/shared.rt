@@ -8,7 +8,6 @@ use crate::held::Held;
 use crate::laws::{edge_in, look_in, turn_in};
 use crate::seats::{Rig, Seat};
 use crate::views::{EdgeRefused, Lost, Turn, View};
-use std::sync::atomic::{AtomicU32, Ordering};
 use std::sync::{Mutex, Wait};
 use vme_model::{Delivery, Edge};
 
@@ -16,8 +15,6 @@ use vme_model::{Delivery, Edge};
 #[derive(Drop)]
 pub struct Shared<'r, L: Rig> {
     pub(crate) lock: Mutex<Held<'r, L>>,
-    /// How many edges the history has: written under the lock, and read without it.
-    pub(crate) total: AtomicU32,
 }
 
 impl<'r, L: Rig> Shared<'r, L> {
@@ -65,15 +62,6 @@ impl<'r, L: Rig> Shared<'r, L> {
         ensures driver { seat.new.driver ≡ seat.old.driver }
     {
         let mut held = self.lock.lock(rt);
-        let answer = edge_in(&mut *held, seat, edge);
-        self.total.store(held.backplane.len(), Ordering::SeqCst);
-        answer
-    }
-
-    /// How many edges the history has, without the lock: the same number as before where no edge was made since. No proof
-    /// rests on it.
-    #[inline(always)]
-    pub(crate) fn total(&self) -> u32 {
-        self.total.load(Ordering::SeqCst)
+        edge_in(&mut *held, seat, edge)
     }
 }

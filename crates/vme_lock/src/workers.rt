@@ -20,12 +20,9 @@ pub trait Gate {
     fn after(&self, driver: Driver, turn: u32, accepted: bool);
 }
 
-/// A gate that is always open. In one of eight turns the other threads go first, where no edge was made in it.
+/// A gate that is always open. Where no edge was made in a turn, the other threads go first.
 #[derive(Clone, Copy, Drop)]
 pub struct OpenGate;
-
-/// Of so many turns without an edge the others go first in one: to let them go takes longer than such a turn.
-const TURNS_TO_A_YIELD: u32 = 8;
 
 impl Gate for OpenGate {
     fn before(&self, _driver: Driver, _turn: u32) -> bool
@@ -34,8 +31,8 @@ impl Gate for OpenGate {
         true
     }
 
-    fn after(&self, _driver: Driver, turn: u32, accepted: bool) {
-        if !accepted && turn % TURNS_TO_A_YIELD == 0 {
+    fn after(&self, _driver: Driver, _turn: u32, accepted: bool) {
+        if !accepted {
             // What the driver waits for is another's edge, and on a busy machine the others may not have begun.
             yield_now();
         }
@@ -116,61 +113,15 @@ fn see_turn<L: Rig, R: Wait>(
     }
 }
 
-/// What came of a turn.
-#[derive(Clone, Copy)]
-enum Tried {
-    /// An edge was made.
-    Made,
-    /// The offer was refused, since another made an edge before it.
-    Refused,
-    /// There was no offer.
-    Nothing,
-}
-
-/// Looks what the seat's driver may do in a turn, and tries it.
-fn try_offer<L: Rig, R: Wait>(
-    rt: &R,
-    shared: &Shared<'_, L>,
-    seat: &mut Seat<L>,
-    bounds: Bounds,
-    turn: u32,
-    pages: &mut Pages<'_, '_>,
-) -> Result<Tried, Spent>
-    requires logged { length pages.old.edges ≤ seat.old.made }
-    requires most { length pages.old.edges ≤ bounds.edges }
-    ensures driver { seat.new.driver ≡ seat.old.driver }
-    ensures made { seat.new.made + length pages.old.edges ≡ seat.old.made + length pages.new.edges }
-    ensures one { length pages.new.edges ≤ length pages.old.edges + 1 }
-    ensures most { length pages.new.edges ≤ bounds.edges }
-    ensures early { IfErr result (λ spent. spent ≢ Spent.Turns) }
-{
-    let seen = see_turn(rt, shared, seat, turn)?;
-    if seen.total >= bounds.edges {
-        return Err(Spent::Edges);
-    }
-    match seen.offer {
-        None => Ok(Tried::Nothing),
-        Some(edge) => match make_edge(rt, shared, seat, pages, edge) {
-            Ok(true) => Ok(Tried::Made),
-            Ok(false) => Ok(Tried::Refused),
-            Err(spent) => Err(spent),
-        },
-    }
-}
-
 /// What a worker did so far.
 #[derive(Drop)]
 struct Work<'s, 'r> {
     /// How many turns it took to their end.
     turns: u32,
     pages: Pages<'s, 'r>,
-    /// How many edges the history had at its last look, where that found no offer.
-    idle_at: Option<u32>,
 }
 
 /// Takes the next turn. `Err` where the worker ends.
-///
-/// Where no edge was made since a look that found no offer there is none now, and the lock is not asked for.
 fn take_turn<L: Rig, G: Gate, R: Wait>(
     rt: &R,
     shared: &Shared<'_, L>,
@@ -190,28 +141,21 @@ fn take_turn<L: Rig, G: Gate, R: Wait>(
     ensures most { length work.new.pages.edges ≤ bounds.edges }
     ensures early { IfErr result (λ spent. spent ≢ Spent.Turns) }
 {
-    let Work {
-        turns,
-        pages,
-        idle_at,
-    } = work;
+    let Work { turns, pages } = work;
     let turn = *turns;
     let driver = seat.driver();
     if !gate.before(driver, turn) {
         return Err(Spent::Gate);
     }
-    // Read before the look: an edge that is made between them makes the next turn look again.
-    let total = shared.total();
-    let tried = if *idle_at == Some(total) {
-        Tried::Nothing
-    } else {
-        try_offer(rt, shared, seat, bounds, turn, pages)?
+    let seen = see_turn(rt, shared, seat, turn)?;
+    if seen.total >= bounds.edges {
+        return Err(Spent::Edges);
+    }
+    let accepted = match seen.offer {
+        Some(edge) => make_edge(rt, shared, seat, pages, edge)?,
+        None => false,
     };
-    *idle_at = match tried {
-        Tried::Nothing => Some(total),
-        Tried::Made | Tried::Refused => None,
-    };
-    gate.after(driver, turn, matches!(tried, Tried::Made));
+    gate.after(driver, turn, accepted);
     *turns += 1;
     Ok(())
 }
@@ -241,10 +185,9 @@ fn take_turns<L: Rig, G: Gate, R: Wait>(
 
 /// Works a seat: makes edges of its driver, one a turn at most, each among those that it is offered. May wait for the lock.
 ///
-/// Hands back the seat and the log of the edges made. In turn `t` the offer at place `t` modulo their number is tried; where
-/// no edge was made since a turn without an offer, there is none. The worker ends after its turns, or as soon as the gate
-/// answers false, the history has as many edges as the bounds allow, no room is found for an edge, or the history is not the
-/// seat's.
+/// Hands back the seat and the log of the edges made. In turn `t` the offer at place `t` modulo their number is tried. The
+/// worker ends after its turns, or as soon as the gate answers false, the history has as many edges as the bounds allow, no
+/// room is found for an edge, or the history is not the seat's.
 pub fn work_board<'r, L: Rig, G: Gate, R: Wait>(
     rt: &R,
     shared: &Shared<'_, L>,
@@ -265,7 +208,6 @@ pub fn work_board<'r, L: Rig, G: Gate, R: Wait>(
     let mut work = Work {
         turns: 0,
         pages: Pages::new(&scratch, most),
-        idle_at: None,
     };
     let spent = take_turns(rt, shared, &mut seat, gate, bounds, &mut work);
     work.pages.copy_to(&mut log);

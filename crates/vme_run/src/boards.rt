@@ -10,7 +10,6 @@ ghost use Rattle.vme_run.specs.Rooms.{IsRoomFor, rooms_bytes};
 ghost use Rattle.vme_run.specs.Between.{IsClosedWith, IsClosedApart, IsPlayed, IsNotPlayed};
 
 use crate::RunFault;
-use crate::gates::Together;
 use std::alloc::{AllocError, Global};
 use std::marker::Brand;
 use std::sync::Wait;
@@ -19,7 +18,9 @@ use std::thread::Threads;
 use vme_arena::{Region, Rest};
 use vme_backplane::{Backplane, Trace};
 use vme_engines::EngineFault;
-use vme_lock::{Bounds, Closed, Log, LogMismatch, Rig, Room, Seats, Shared, log_bytes, run_boards};
+use vme_lock::{
+    Bounds, Closed, Log, LogMismatch, OpenGate, Rig, Room, Seats, Shared, log_bytes, run_boards,
+};
 use vme_slots::DRIVERS;
 
 /// Memory for so many boards, each of which makes so many edges at most.
@@ -127,8 +128,7 @@ fn play_in<'r, L: Rig + Send + Sync, R: Threads + Wait + Sync>(
         (IsPlayed bounds.turns L.opened)
         (IsNotPlayed bounds.turns L.opened) }
 {
-    let gate = Together::new(seats.len() as u32);
-    let Ok((seats, logs)) = run_boards(rt, alloc, &shared, seats, &gate, bounds, rooms) else {
+    let Ok((seats, logs)) = run_boards(rt, alloc, &shared, seats, &OpenGate, bounds, rooms) else {
         return Err(RunFault::NotStarted);
     };
     close_boards(shared, seats, logs.as_slice())

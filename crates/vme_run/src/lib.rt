@@ -5,7 +5,6 @@ ghost use Rattle.std.specs.Prelude.{Some};
 ghost use Rattle.vme_run.specs.Names.{driver_name};
 
 mod boards;
-mod gates;
 mod runs;
 
 pub use runs::run;
