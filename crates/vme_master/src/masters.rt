@@ -17,7 +17,8 @@ use vme_model::{
 };
 use vme_rules::laws::five_have_room;
 use vme_rules::masters::{
-    addr_goes_off, addr_goes_on, addr_is_free, as_falls, as_rises, below_burst, ds_falls, ds_rises, shows,
+    addr_goes_off, addr_goes_on, addr_is_free, as_falls, as_rises, below_burst, ds_falls, ds_rises,
+    shows,
 };
 use vme_rules::{Outcome, allowed};
 
