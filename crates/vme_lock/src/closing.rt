@@ -46,7 +46,7 @@ impl<'r, L: Rig> Shared<'r, L> {
             (λ c. AreLogs c.backplane.history (drivers L.opened.plan) logs.now)
             (λ m. FirstDiffers m.backplane.history (drivers L.opened.plan) logs.now m.driver m.at) }
     {
-        let Shared { lock } = self;
+        let Shared { lock, news: _ } = self;
         let Held {
             backplane,
             counts: _,

@@ -8,6 +8,7 @@ mod following;
 mod held;
 pub mod laws;
 mod logs;
+mod news;
 mod opening;
 mod seats;
 mod shared;

@@ -5,6 +5,7 @@ ghost use Rattle.vme_model.specs.Counts.{count};
 ghost use Rattle.vme_lock.specs.Seats.{AreCounts, can_sit, seats_of, drivers_of};
 
 use crate::held::Held;
+use crate::news::News;
 use crate::seats::{Rig, Seat, Seats, desk, desk_of};
 use crate::shared::Shared;
 use std::alloc::Global;
@@ -47,6 +48,7 @@ impl<'r, L: Rig> Shared<'r, L> {
         };
         let shared = Shared {
             lock: Mutex::new(held),
+            news: News::new(),
         };
         Ok((shared, seats))
     }

@@ -6,6 +6,7 @@ ghost use Rattle.vme_lock.specs.Holds.{look_answer, turn_answer, edge_answer, Of
 
 use crate::held::Held;
 use crate::laws::{edge_in, look_in, turn_in};
+use crate::news::News;
 use crate::seats::{Rig, Seat};
 use crate::views::{EdgeRefused, Lost, Turn, View};
 use std::sync::{Mutex, Wait};
@@ -15,6 +16,7 @@ use vme_model::{Delivery, Edge};
 #[derive(Drop)]
 pub struct Shared<'r, L: Rig> {
     pub(crate) lock: Mutex<Held<'r, L>>,
+    pub(crate) news: News,
 }
 
 impl<'r, L: Rig> Shared<'r, L> {
@@ -62,6 +64,11 @@ impl<'r, L: Rig> Shared<'r, L> {
         ensures driver { seat.new.driver ≡ seat.old.driver }
     {
         let mut held = self.lock.lock(rt);
-        edge_in(&mut *held, seat, edge)
+        let answer = edge_in(&mut *held, seat, edge);
+        drop(held);
+        if answer.is_ok() {
+            self.news.tell_edge();
+        }
+        answer
     }
 }

@@ -4,11 +4,11 @@ ghost use Rattle.vme_lock.specs.Seats.{seat_after, IsWithin};
 ghost use Rattle.vme_lock.specs.Holds.{OfSome, ending, turn_answer};
 
 use crate::logs::{Log, Pages, Room};
+use crate::news::Idle;
 use crate::seats::{Rig, Seat};
 use crate::shared::Shared;
 use crate::views::{EdgeRefused, Turn};
 use std::sync::Wait;
-use std::thread::yield_now;
 use vme_model::{Driver, Edge};
 
 /// Who lets a worker begin and end its turns. No lock is held while it is asked.
@@ -20,7 +20,7 @@ pub trait Gate {
     fn after(&self, driver: Driver, turn: u32, accepted: bool);
 }
 
-/// A gate that is always open. Where no edge was made in a turn, the other threads go first.
+/// A gate that is always open.
 #[derive(Clone, Copy, Drop)]
 pub struct OpenGate;
 
@@ -31,12 +31,7 @@ impl Gate for OpenGate {
         true
     }
 
-    fn after(&self, _driver: Driver, _turn: u32, accepted: bool) {
-        if !accepted {
-            // What the driver waits for is another's edge, and on a busy machine the others may not have begun.
-            yield_now();
-        }
-    }
+    fn after(&self, _driver: Driver, _turn: u32, _accepted: bool) {}
 }
 
 /// How many turns a worker has, and at how many edges in the history it ends.
@@ -113,15 +108,61 @@ fn see_turn<L: Rig, R: Wait>(
     }
 }
 
+/// What came of a turn.
+#[derive(Clone, Copy)]
+enum Tried {
+    /// An edge was made.
+    Made,
+    /// The offer was refused, since another made an edge before it.
+    Refused,
+    /// There was no offer.
+    Nothing,
+}
+
+/// Looks what the seat's driver may do in a turn, and tries it.
+fn try_offer<L: Rig, R: Wait>(
+    rt: &R,
+    shared: &Shared<'_, L>,
+    seat: &mut Seat<L>,
+    bounds: Bounds,
+    turn: u32,
+    pages: &mut Pages<'_, '_>,
+) -> Result<Tried, Spent>
+    requires logged { length pages.old.edges ≤ seat.old.made }
+    requires most { length pages.old.edges ≤ bounds.edges }
+    ensures driver { seat.new.driver ≡ seat.old.driver }
+    ensures made { seat.new.made + length pages.old.edges ≡ seat.old.made + length pages.new.edges }
+    ensures one { length pages.new.edges ≤ length pages.old.edges + 1 }
+    ensures most { length pages.new.edges ≤ bounds.edges }
+    ensures early { IfErr result (λ spent. spent ≢ Spent.Turns) }
+{
+    let seen = see_turn(rt, shared, seat, turn)?;
+    if seen.total >= bounds.edges {
+        return Err(Spent::Edges);
+    }
+    match seen.offer {
+        None => Ok(Tried::Nothing),
+        Some(edge) => match make_edge(rt, shared, seat, pages, edge) {
+            Ok(true) => Ok(Tried::Made),
+            Ok(false) => Ok(Tried::Refused),
+            Err(spent) => Err(spent),
+        },
+    }
+}
+
 /// What a worker did so far.
 #[derive(Drop)]
 struct Work<'s, 'r> {
     /// How many turns it took to their end.
     turns: u32,
     pages: Pages<'s, 'r>,
+    /// Where its last look found no offer.
+    idle: Option<Idle>,
 }
 
 /// Takes the next turn. `Err` where the worker ends.
+///
+/// Where no edge was made since a look that found no offer there is none now, and the lock is not asked for.
 fn take_turn<L: Rig, G: Gate, R: Wait>(
     rt: &R,
     shared: &Shared<'_, L>,
@@ -141,21 +182,29 @@ fn take_turn<L: Rig, G: Gate, R: Wait>(
     ensures most { length work.new.pages.edges ≤ bounds.edges }
     ensures early { IfErr result (λ spent. spent ≢ Spent.Turns) }
 {
-    let Work { turns, pages } = work;
+    let Work { turns, pages, idle } = work;
     let turn = *turns;
     let driver = seat.driver();
     if !gate.before(driver, turn) {
         return Err(Spent::Gate);
     }
-    let seen = see_turn(rt, shared, seat, turn)?;
-    if seen.total >= bounds.edges {
-        return Err(Spent::Edges);
-    }
-    let accepted = match seen.offer {
-        Some(edge) => make_edge(rt, shared, seat, pages, edge)?,
-        None => false,
+    // Read before the look: an edge that is made between them makes the next turn look again.
+    let count = shared.news.count();
+    let tried = match idle {
+        Some(idle) if idle.is_still(count) => {
+            idle.wait(rt, &shared.news);
+            Tried::Nothing
+        }
+        _ => {
+            let tried = try_offer(rt, shared, seat, bounds, turn, pages)?;
+            *idle = match tried {
+                Tried::Nothing => Some(Idle::since(count)),
+                Tried::Made | Tried::Refused => None,
+            };
+            tried
+        }
     };
-    gate.after(driver, turn, accepted);
+    gate.after(driver, turn, matches!(tried, Tried::Made));
     *turns += 1;
     Ok(())
 }
@@ -185,9 +234,10 @@ fn take_turns<L: Rig, G: Gate, R: Wait>(
 
 /// Works a seat: makes edges of its driver, one a turn at most, each among those that it is offered. May wait for the lock.
 ///
-/// Hands back the seat and the log of the edges made. In turn `t` the offer at place `t` modulo their number is tried. The
-/// worker ends after its turns, or as soon as the gate answers false, the history has as many edges as the bounds allow, no
-/// room is found for an edge, or the history is not the seat's.
+/// Hands back the seat and the log of the edges made. In turn `t` the offer at place `t` modulo their number is tried; where
+/// no edge was made since a turn without an offer, there is none. The worker ends after its turns, or as soon as the gate
+/// answers false, the history has as many edges as the bounds allow, no room is found for an edge, or the history is not the
+/// seat's.
 pub fn work_board<'r, L: Rig, G: Gate, R: Wait>(
     rt: &R,
     shared: &Shared<'_, L>,
@@ -208,8 +258,10 @@ pub fn work_board<'r, L: Rig, G: Gate, R: Wait>(
     let mut work = Work {
         turns: 0,
         pages: Pages::new(&scratch, most),
+        idle: None,
     };
     let spent = take_turns(rt, shared, &mut seat, gate, bounds, &mut work);
+    shared.news.tell_end();
     work.pages.copy_to(&mut log);
     (seat, Log::new(log), spent)
 }
