@@ -111,7 +111,3 @@ near_place e formed = by_driver e.driver refl
     by_driver : (d : Driver) → e.driver ≡ d → slot_of d < 22
     by_driver Controller is = omega arith
     by_driver (Slot s) is = near_slot s e is formed
-
--- a well-formed edge of a driver that there is
-pub exists_by : (p : Plan) (e : Edge) → is_well_formed e ≡ true → has_driver p e.driver e.wire ≡ true → exists p e ≡ true
-exists_by p e formed has = rw (formed, has) refl

@@ -4,6 +4,7 @@ use Rattle.std.specs.Prelude.{◌&&◌, if◌then◌else◌, None, is_some}
 use Rattle.vme_model.specs.declared.boards.Row.{Row}
 use Rattle.vme_model.specs.declared.signals.Wire.{Wire}
 use Rattle.vme_model.specs.declared.signals.Wire.TheVariants.{Bg, Bclr, Iack, Berr, Br, BgOut, Bbsy, Addr, AddressStrobe, DataStrobe, Irq, IackOut, Dtack}
+use Rattle.vme_model.specs.declared.signals.Driver.{Driver}
 use Rattle.vme_model.specs.declared.signals.Driver.TheVariants.{Controller, Slot}
 use Rattle.vme_model.specs.declared.signals.Edge.{Edge}
 use Rattle.vme_model.specs.Signals.{is_well_formed, has_wire, has_value, is_same_wire}
@@ -11,6 +12,7 @@ use Rattle.vme_model.specs.Plan.{Plan, board_of, drives}
 use Rattle.vme_model.specs.History.{shown, addressing}
 use Rattle.vme_model.specs.Deliveries.{delivered_by, delivery}
 use Rattle.vme_model.proofs.Bools.{and_left}
+use Rattle.vme_bus.specs.Arms.{slot_of}
 use Rattle.vme_bus.specs.Asks.{is_boards}
 use Rattle.vme_requester.specs.Local.{is_requesters}
 use Rattle.vme_master.specs.Local.{is_masters}
@@ -85,6 +87,14 @@ masters_of Dtack r known d = absurd (cc)
 -- a wire's driver is of its kind
 wire_of : (e : Edge) → is_well_formed e ≡ true → has_wire e.driver e.wire ≡ true
 wire_of e formed = and_left (has_wire e.driver e.wire) (has_value e.wire e.fall e.value) formed
+
+-- an edge that the controller can not make is of the slot that it names
+pub slot_alone : (e : Edge) (s : ℕ) → s ≡ slot_of e.driver → (e.driver ≡ Controller → ⊥) → e.driver ≡ Slot s
+slot_alone e s named other = by_driver e.driver refl
+  where
+    by_driver : (d : Driver) → e.driver ≡ d → e.driver ≡ Slot s
+    by_driver Controller is = absurd (other is)
+    by_driver (Slot t) is = is ∙ ap Slot (sym (named ∙ ap slot_of is))
 
 not_requester_alone : (w : Wire) → is_requesters w ≡ true → has_wire Controller w ≡ true → ⊥
 not_requester_alone (Bg n) known has = cc

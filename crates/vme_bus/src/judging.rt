@@ -8,6 +8,7 @@ use crate::states::BusState;
 use arrayvec::ArrayVec;
 use vme_model::{Condition, Cycle, Driver, Edge, Levels, Refused, Wire};
 use vme_rules::Outcome;
+use vme_rules::controllers::bg_falls;
 use vme_wiring::{Judges, Waiting, failing_by, offers_of, open_edges_of, put_offers, told_by};
 
 impl Judges for BusState {
@@ -72,7 +73,7 @@ impl Judges for BusState {
 
     #[inline(always)]
     fn may_grant(&self) -> bool {
-        self.are_grants_high() & !self.bbsy()
+        bg_falls(self.are_grants_high(), self.bbsy(), true)
     }
 
     #[inline(always)]

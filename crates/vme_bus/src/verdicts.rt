@@ -1,10 +1,9 @@
 //! The verdict on an edge, but for the end of the trace.
-ghost use Rattle.std.specs.Prelude.{◌≡◌, ◌&&◌, ◌<◌, ℕ, true, false, not, Some, Ok};
+ghost use Rattle.std.specs.Prelude.{◌≡◌, ◌&&◌, ◌<◌, ℕ, true, false, Some, Ok};
 ghost use Rattle.vme_model.specs.declared.signals.Driver.TheVariants.{Controller, Slot};
 ghost use Rattle.vme_model.specs.Signals.{is_well_formed};
 ghost use Rattle.vme_model.specs.Plan.{has_driver, grant_chain};
 ghost use Rattle.vme_model.specs.History.{drive, shown, is_past_end};
-ghost use Rattle.vme_model.specs.Readings.{readings};
 ghost use Rattle.vme_model.specs.Rules.{rule};
 ghost use Rattle.vme_model.specs.Settling.{is_unanswerable, settling, settling_guard, is_chain_clear, are_grants_through};
 ghost use Rattle.vme_model.specs.declared.sets.ChainId.TheVariants as chain;
@@ -16,6 +15,7 @@ ghost use Rattle.vme_interrupter.specs.Local.{is_interrupters};
 ghost use Rattle.vme_bus.specs.Asks.{is_boards};
 ghost use Rattle.vme_bus.specs.Sets.{has};
 
+use crate::arms::slot_of;
 use crate::layouts::{ACKNOWLEDGE_HEAD, grant_head};
 use crate::sets::SlotSet;
 use crate::states::{BUS_CLEAR, BUS_ERROR, BusState};
@@ -214,13 +214,8 @@ impl BusState {
         ensures { OfHistory self.now (λ version p h. exists p edge ≡ true
             → result ≡ asked version p h edge) }
     {
-        match edge.driver {
-            Driver::Controller => {
-                let ruled = self.controller_rule(edge.wire, edge.fall);
-                asked(self.is_control_low(edge.wire), edge.fall, ruled)
-            }
-            Driver::Slot(_) => Err(Refused::NoSuchDriver),
-        }
+        let ruled = self.controller_rule(edge.wire, edge.fall);
+        asked(self.is_control_low(edge.wire), edge.fall, ruled)
     }
 
     /// E2 and E3 of an edge of a board's requester.
@@ -231,13 +226,9 @@ impl BusState {
         ensures { OfHistory self.now (λ version p h. exists p edge ≡ true
             → result ≡ asked version p h edge) }
     {
-        match edge.driver {
-            Driver::Controller => Err(Refused::NoSuchDriver),
-            Driver::Slot(slot) => {
-                let ruled = self.requester_rule(slot, edge.wire, edge.fall);
-                asked(self.is_slot_low(slot, edge.wire), edge.fall, ruled)
-            }
-        }
+        let slot = slot_of(edge.driver);
+        let ruled = self.requester_rule(slot, edge.wire, edge.fall);
+        asked(self.is_slot_low(slot, edge.wire), edge.fall, ruled)
     }
 
     /// E2 and E3 of an edge of a board's master.
@@ -248,13 +239,9 @@ impl BusState {
         ensures { OfHistory self.now (λ version p h. exists p edge ≡ true
             → result ≡ asked version p h edge) }
     {
-        match edge.driver {
-            Driver::Controller => Err(Refused::NoSuchDriver),
-            Driver::Slot(slot) => {
-                let ruled = self.master_rule(slot, edge.wire, edge.fall, edge.value);
-                asked(self.is_slot_low(slot, edge.wire), edge.fall, ruled)
-            }
-        }
+        let slot = slot_of(edge.driver);
+        let ruled = self.master_rule(slot, edge.wire, edge.fall, edge.value);
+        asked(self.is_slot_low(slot, edge.wire), edge.fall, ruled)
     }
 
     /// E2 and E3 of an edge of a board's interrupter, or of its answer.
@@ -265,13 +252,9 @@ impl BusState {
         ensures { OfHistory self.now (λ version p h. exists p edge ≡ true
             → result ≡ asked version p h edge) }
     {
-        match edge.driver {
-            Driver::Controller => Err(Refused::NoSuchDriver),
-            Driver::Slot(slot) => {
-                let ruled = self.interrupter_rule(slot, edge.wire, edge.fall);
-                asked(self.is_slot_low(slot, edge.wire), edge.fall, ruled)
-            }
-        }
+        let slot = slot_of(edge.driver);
+        let ruled = self.interrupter_rule(slot, edge.wire, edge.fall);
+        asked(self.is_slot_low(slot, edge.wire), edge.fall, ruled)
     }
 
     /// E4: the settling rules.

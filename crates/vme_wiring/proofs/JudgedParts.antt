@@ -43,6 +43,10 @@ not_full true true false d n m e = cc
 not_full true true true false n m e = cc
 not_full true true true true n m e = cc
 
+-- a well-formed edge of a driver that there is
+pub exists_by : (p : Plan) (e : Edge) → is_well_formed e ≡ true → has_driver p e.driver e.wire ≡ true → (is_well_formed e && has_driver p e.driver e.wire) ≡ true
+exists_by p e formed has = rw (formed, has) refl
+
 module _ (version : Version) (p : Plan) (h : List Edge) (e : Edge) where
   abbrev exists : Bool
   exists = is_well_formed e && has_driver p e.driver e.wire
@@ -71,6 +75,19 @@ module _ (version : Version) (p : Plan) (h : List Edge) (e : Edge) where
   passed some is =
       sym (passed_before (is_other_state (drive h e.driver e.wire) e.fall) holds AlreadyThere named last is)
       ∙ sym (ap (λ b. check b NoSuchDriver between) some)
+
+  -- the same where E1 is asked for with what a part answers
+  pub refused_asked : (r : Refused) → check exists NoSuchDriver (asked version p h e) ≡ Err r → Err r ≡ verdict_but_full version p h e
+  refused_asked r is = by_driver exists refl
+    where
+      by_driver : (b : Bool) → exists ≡ b → Err r ≡ verdict_but_full version p h e
+      by_driver true some = refused r some (sym (ap (λ b. check b NoSuchDriver (asked version p h e)) some) ∙ is)
+      by_driver false none = sym is ∙ ap (λ b. check b NoSuchDriver (asked version p h e)) none ∙ no_such none
+
+  pub passed_asked : check exists NoSuchDriver (asked version p h e) ≡ Ok tt → last ≡ verdict_but_full version p h e
+  passed_asked is =
+      let some = driven_where_accepted exists (asked version p h e) is in
+      passed some (sym (ap (λ b. check b NoSuchDriver (asked version p h e)) some) ∙ is)
 
   -- an answer but E1 is of an edge that there is
   pub exists_ruled : (n : ℕ) → verdict_but_full version p h e ≡ Err (Rule n) → exists ≡ true

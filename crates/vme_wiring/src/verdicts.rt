@@ -1,7 +1,5 @@
 //! The verdict on an edge, but for the end of the trace.
-ghost use Rattle.std.specs.Prelude.{◌≡◌, ◌&&◌, true, Some, Ok};
-ghost use Rattle.vme_model.specs.Signals.{is_well_formed};
-ghost use Rattle.vme_model.specs.Plan.{has_driver};
+ghost use Rattle.std.specs.Prelude.{◌≡◌, Some, Ok};
 ghost use Rattle.vme_model.specs.Offers.{turned};
 ghost use Rattle.vme_model.specs.History.{drive, shown};
 ghost use Rattle.vme_model.specs.Settling.{is_unanswerable, settling, settling_guard};
@@ -16,39 +14,22 @@ use vme_rules::settlings::{as_settles, berr_settles, bg_fall_settles, bg_rise_se
 impl Wiring {
     ghost use Rattle.vme_wiring.specs.Wired.{OfHistory};
 
-    /// Whether the backplane has the driver, with such a wire.
-    #[inline(always)]
-    fn has_driver(&self, driver: Driver, wire: Wire) -> bool
-        ensures { OfHistory self.now (λ _ p _. result ≡ has_driver p driver wire) }
-    {
-        match driver {
-            Driver::Controller => wire.is_controllers(),
-            Driver::Slot(slot) => match self.board(slot) {
-                Some(board) => board.row.drives(wire),
-                None => false,
-            },
-        }
-    }
-
-    /// E1: whether the edge is well formed, and there is such a driver.
-    #[inline(always)]
-    fn exists(&self, edge: Edge) -> bool
-        ensures { OfHistory self.now (λ _ p _. result ≡ exists p edge) }
-    {
-        edge.is_well_formed() && self.has_driver(edge.driver, edge.wire)
-    }
-
-    /// E2 and E3, by the part that drives the wire.
+    /// E1 to E3: whether an edge that is well formed is of a driver that there is, and then by the part that drives the wire.
     #[inline(always)]
     fn ask(&self, edge: Edge) -> Result<(), Refused>
-        ensures { OfHistory self.now (λ version p h. exists p edge ≡ true
-            → result ≡ asked version p h edge) }
+        ensures { OfHistory self.now (λ version p h. result
+            ≡ check (exists p edge) Refused.NoSuchDriver (asked version p h edge)) }
     {
+        if !edge.is_well_formed() {
+            return Err(Refused::NoSuchDriver);
+        }
         match edge.driver {
             Driver::Controller => self.arbiter.may(edge, self.shared),
             Driver::Slot(slot) => match self.board(slot) {
-                Some(board) => board.may(edge, &self.shared, &self.chains),
-                None => Err(Refused::NoSuchDriver),
+                Some(board) if board.row.drives(edge.wire) => {
+                    board.may(edge, &self.shared, &self.chains)
+                }
+                _ => Err(Refused::NoSuchDriver),
             },
         }
     }
@@ -116,9 +97,6 @@ impl Wiring {
     pub fn judge(&self, edge: Edge) -> Result<(), Refused>
         ensures { OfHistory self.now (λ version p h. result ≡ verdict_but_full version p h edge) }
     {
-        if !self.exists(edge) {
-            return Err(Refused::NoSuchDriver);
-        }
         match self.ask(edge) {
             Ok(()) => self.settle(edge),
             Err(refused) => Err(refused),
