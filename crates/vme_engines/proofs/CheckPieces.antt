@@ -1,10 +1,10 @@
 -- A check, read by read.
-use Rattle.std.proofs.Common.{◌≡◌, ◌≢◌, inl, inr, ℕ, ◌+◌, ◌≤◌, List, [], ◌∷◌, ◌++◌, length, Bool, true, false, Option, Some, None, unwrap_or, Result, Ok, Err, refl, sym, ◌∙◌, ap, append_assoc, append-nil, subst, arith, reverse}
+use Rattle.std.proofs.Common.{◌≡◌, ℕ, ◌+◌, ◌≤◌, List, [], ◌∷◌, ◌++◌, length, Bool, true, false, Option, Some, None, Result, Ok, Err, refl, sym, ◌∙◌, ap, append_assoc, append-nil, subst, arith, reverse}
 use Rattle.std.proofs.Math.ListN.{length-append}
 use mathlib.Core.List.{reverse-cons}
 use Rattle.std.proofs.lemmas.List.{length-reverse}
 use Rattle.std.specs.Prelude.{◌-◌, if◌then◌else◌, is_ok}
-use Rattle.std.specs.Io.KnownBytes.{Consumes, Keeps}
+use Rattle.std.specs.Io.KnownBytes.{Keeps}
 use Rattle.vme_model.specs.declared.signals.Version.{Version}
 use Rattle.vme_model.specs.declared.signals.Edge.{Edge}
 use Rattle.vme_model.specs.declared.deliveries.Delivery.{Delivery}
@@ -17,19 +17,20 @@ use Rattle.vme_model.specs.Text.{Reading, read_of}
 use Rattle.vme_model.specs.Report.{trace_limit}
 use Rattle.vme_trace.specs.declared.Fault.{Fault}
 use Rattle.vme_trace.specs.declared.Fault.TheVariants.{Header, Line, TooLong, CutOff, Read, Memory, Failed, Write}
-use Rattle.vme_trace.specs.Reading as trace
 use Rattle.vme_engines.specs.declared.checks.Finding.{Finding}
 use Rattle.vme_engines.specs.declared.checks.Finding.TheVariants.{Legal, Illegal}
 use Rattle.vme_engines.specs.Streams.{Streams, streams, WroteNothing}
-use Rattle.vme_engines.specs.Outcomes.{bench, HasFault, CanGoOn}
-use Rattle.vme_engines.specs.Checking.{or_refusal, first_refusal, refusal_of, IsUnrefused, IsLegalTrace, FindsNothing}
-use Rattle.vme_engines.specs.Steps.{Begins, Faults, Opens, ChecksPiece, Finds, FindsInput}
+use Rattle.vme_engines.specs.Outcomes.{bench}
+use Rattle.vme_engines.specs.Checking.{or_refusal, first_refusal, refusal_of, IsLegalTrace, FindsNothing}
+use Rattle.vme_engines.specs.Steps.{Begins, ChecksPiece, Finds, FindsInput}
 use Rattle.vme_engines.specs.Recorded.{first_refused_of}
 use Rattle.vme_engines.proofs.WrittenLines.{kept_append}
 use Rattle.vme_engines.proofs.RecordedLines.{refusals_are}
-use Rattle.vme_engines.specs.Pieces.{IsFaulty, Stopped, Came, Answers, answered}
-use Rattle.vme_engines.proofs.TraceReads.{whole_input, no_such}
+use Rattle.vme_engines.specs.Pieces.{Stopped, Came, Answers, answered}
+use Rattle.vme_engines.specs.Begun.{IsUnbegun}
+use Rattle.vme_engines.specs.Waiting.{StopsWaiting}
 use Rattle.vme_engines.proofs.ReadOn.{came_begins}
+use Rattle.vme_engines.proofs.Waits.{stops_waiting, waits_unbegun}
 
 -- ---- the first refusal
 
@@ -142,34 +143,16 @@ module _ (b mid_b next : State) (judged mid_n now : ℕ) (es fs : List Edge) (mo
 refusal_known : (p : Plan) (v : Version) (es : List Edge) (w : Option Version) → w ≡ Some v → refusal_of p w es ≡ first_refusal 1 (bench p v) es
 refusal_known p v es w e = rw e refl
 
-refusal_unknown : (p : Plan) (es : List Edge) (w : Option Version) → w ≡ None → refusal_of p w es ≡ None
-refusal_unknown p es w e = rw e refl
-
--- no edge before a fault of a trace is refused
-module _ (p : Plan) (all : List ℕ) (from to : Option (List ℕ)) (es : List Edge) (version : Option Version) (none : refusal_of p version es ≡ None) where
-  at_fault : (f : Fault) → f ≢ Memory → trace.HasFaultAfter (read_of all) version es f → HasFault all f × IsUnrefused p (read_of all)
-  at_fault f ne h = (h.fault_is ne, ap (λ w. refusal_of p w (read_of all).edges) h.version_is ∙ ap (refusal_of p version) (h.edges_are ne) ∙ none)
-
-  stops : (f : Fault) → trace.HasFaultAfter (read_of all) version es f → FindsNothing p all (streams from to None None) f
-  stops Header h = at_fault Header (λ e. cc) h
-  stops (Line n) h = at_fault (Line n) (λ e. cc) h
-  stops (TooLong n) h = at_fault (TooLong n) (λ e. cc) h
-  stops CutOff h = at_fault CutOff (λ e. cc) h
-  stops Read h = absurd (no_such (read_of all).fault Read (h.fault_is (λ e. cc)) (inl refl))
-  stops Memory h = (es, h.front.0, h.front.1, ap (λ w. refusal_of p w es) h.version_is ∙ none)
-  stops Failed h = absurd (no_such (read_of all).fault Failed (h.fault_is (λ e. cc)) (inr (inr (inl refl))))
-  stops Write h = absurd (no_such (read_of all).fault Write (h.fault_is (λ e. cc)) (inr (inr (inr refl))))
-
-  -- a read failed behind such edges
-  pub read_failed : (bytes : List ℕ) → Consumes from to bytes → CanGoOn bytes → version ≡ (read_of bytes).version → (read_of bytes).edges ≡ es → FindsNothing p all (streams from to None None) Read
-  read_failed bytes taken on known edges = (bytes, taken, on, ap (λ w. refusal_of p w (read_of bytes).edges) (sym known) ∙ ap (refusal_of p version) edges ∙ none)
-
-  pub faulted : (f : Fault) (later : List ℕ) (reader : trace.ReaderState) → reader.version ≡ version → Consumes from to later → all ≡ later ++ unwrap_or to [] → Faults to later reader es f
-      → FindsNothing p all (streams from to None None) f
-  faulted f later reader known taken is which = elim which [
-    | inl failed ↦ subst (FindsNothing p all (streams from to None None)) (sym failed.0) (read_failed later taken failed.1.goes_on (sym known ∙ failed.1.version) failed.1.edges)
-    | inr stopped ↦ stops f (subst (λ (w : Option Version). trace.HasFaultAfter (read_of all) w es f) known (subst (λ (l : List ℕ). trace.HasFaultAfter (read_of l) reader.version es f) (sym is) stopped))
-  ]
+-- a check waits for a refusal
+found_none : (p : Plan) (all : List ℕ) (s : Streams) (f : Fault) → StopsWaiting (λ w es. refusal_of p w es ≡ None) all s f → FindsNothing p all s f
+found_none p all s Header h = h
+found_none p all s (Line n) h = h
+found_none p all s (TooLong n) h = h
+found_none p all s CutOff h = h
+found_none p all s Read h = h
+found_none p all s Memory h = h
+found_none p all s Failed h = h
+found_none p all s Write h = h
 
 -- what is found in a whole trace
 module _ (p : Plan) (v : Version) (trace : List ℕ) (from to : Option (List ℕ)) (es : List Edge) (next : State) where
@@ -191,18 +174,8 @@ module _ (p : Plan) (v : Version) (trace : List ℕ) (from to : Option (List ℕ
         fits = rw (length-reverse r.edges) at few;
       }
 
-  unrefused_at : Begins (read_of trace) v es → (f : Fault) → IsFaulty trace es f → first_refusal 1 (bench p v) es ≡ None → HasFault trace f × IsUnrefused p (read_of trace)
-  unrefused_at begins f h none = (h.0, refusal_known p v (read_of trace).edges (read_of trace).version begins.version ∙ ap (first_refusal 1 (bench p v)) h.1 ∙ none)
-
   none_found : Begins (read_of trace) v es → (f : Fault) → Stopped v [] trace from to es f → first_refusal 1 (bench p v) es ≡ None → FindsNothing p trace (streams from to None None) f
-  none_found begins Header h none = unrefused_at begins Header h none
-  none_found begins (Line n) h none = unrefused_at begins (Line n) h none
-  none_found begins (TooLong n) h none = unrefused_at begins (TooLong n) h none
-  none_found begins CutOff h none = unrefused_at begins CutOff h none
-  none_found begins Read h none = (h.0, h.1, h.2, refusal_known p v (read_of h.0).edges (read_of h.0).version h.3 ∙ ap (first_refusal 1 (bench p v)) h.4 ∙ none)
-  none_found begins Memory h none = (es, begins.others, begins.edges, refusal_known p v es (read_of trace).version begins.version ∙ none)
-  none_found begins Failed h none = absurd h
-  none_found begins Write h none = absurd h
+  none_found begins f h none = found_none p trace (streams from to None None) f (stops_waiting (λ w gs. refusal_of p w gs ≡ None) v trace (streams from to None None) es begins none f h)
 
   -- What the loop leaves is what is to be found in the whole trace.
   pub finds_it : (more : Result Bool Fault) (now : ℕ) (answer : Result Finding Fault) → Came v [] trace from to es more → ChecksPiece (bench p v) 0 es more next now (answered answer) → Finds p trace from to answer
@@ -224,13 +197,9 @@ finds_all state count p v trace s b judged answer is none h =
 
 -- ---- without a header line
 
-module _ (p : Plan) (from to : Option (List ℕ)) (reader : trace.ReaderState) (es : List Edge) (left : ℕ) (unknown : reader.version ≡ None) where
-  pub unopened : (f : Fault) → Opens from to reader es (Err f, left) → FindsInput p from to (Err f)
-  unopened f h = (
-    h.0.0 ++ unwrap_or to [],
-    whole_input from to [] h.0.0 h.0.1,
-    faulted p (h.0.0 ++ unwrap_or to []) from to es None refl f h.0.0 reader unknown h.0.1 refl h.0.2,
-  )
+pub finds_unbegun : (p : Plan) (from to : Option (List ℕ)) (f : Fault) → IsUnbegun from to f → FindsInput p from to (Err f)
+finds_unbegun p from to f h =
+    let t = waits_unbegun (λ w es. refusal_of p w es ≡ None) refl (streams from to None None) f h in (t.0, t.1, found_none p t.0 (streams from to None None) f t.2)
 
 -- ---- without a writer
 

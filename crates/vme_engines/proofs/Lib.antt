@@ -20,10 +20,12 @@ pub mod ReplayPieces
 pub mod FirstHeader
 -- the input before its trace, byte by byte: `Front::take` and `find`, `joins::joined`
 pub mod Fronts
--- where there is no plan, or no header line: `checks::find`, `replays::replay_trace`
+-- where there is no plan, or no header line: `Input::begin`, `replays::replay_trace`
 pub mod FirstReads
 -- a trace whose header line was found after a scenario: `joins::start`, `joins::replay_behind`
 pub mod AfterScenario
+-- a fault of a trace before what an engine waits for
+pub mod Waits
 -- a check, piece by piece: src/checks.rt
 pub mod CheckPieces
 -- a trace that is followed edge by edge: src/following.rt

@@ -1,5 +1,5 @@
 -- What is shown of the whole trace.
-use Rattle.std.proofs.Common.{◌≡◌, ◌⊎◌, inl, inr, ℕ, ◌-◌, ◌<◌, ◌≤◌, List, [], length, take, drop, Bool, false, Option, Some, None, Result, Ok, Err, sym, ◌∙◌, ap, subst, arith}
+use Rattle.std.proofs.Common.{◌≡◌, ◌⊎◌, inl, inr, ℕ, ◌-◌, ◌<◌, ◌≤◌, List, [], length, take, drop, Bool, false, Option, Some, Result, Ok, Err, sym, ◌∙◌, ap, subst, arith}
 use Rattle.std.proofs.lemmas.List.{length-append, take-append-le}
 use Rattle.std.specs.Io.KnownBytes.{Appends}
 use Rattle.vme_model.specs.declared.signals.Version.{Version}
@@ -10,7 +10,6 @@ use Rattle.vme_model.specs.Text.{read_of}
 use Rattle.vme_pictures.specs.Picture.{picture}
 use Rattle.vme_trace.specs.declared.Fault.{Fault}
 use Rattle.vme_trace.specs.declared.Fault.TheVariants.{Write}
-use Rattle.vme_trace.specs.Reading as trace
 use Rattle.vme_trace.specs.Writing.{AppendsFront}
 use Rattle.vme_engines.specs.declared.EngineFault.TheVariants as fault
 use Rattle.vme_engines.specs.declared.following.Told.{Told}
@@ -19,13 +18,14 @@ use Rattle.vme_engines.specs.declared.shows.Stretch.{Stretch}
 use Rattle.vme_engines.specs.Streams.{Streams}
 use Rattle.vme_engines.specs.Outcomes.{bench, refused_count, status_with}
 use Rattle.vme_engines.specs.Pieces.{Answers, Came, answered}
-use Rattle.vme_engines.specs.Steps.{Begins, Opens}
+use Rattle.vme_engines.specs.Steps.{Begins}
+use Rattle.vme_engines.specs.Begun.{IsUnbegun}
 use Rattle.vme_engines.specs.Stretches.{Stage, IsStretch}
 use Rattle.vme_engines.specs.Showing.{IsShownOut, Shows, ShowsInput, StopsShowing, shown_text}
 use Rattle.vme_engines.specs.Shown.{Ends, IsEnd, IsFresh, ShowsPiece, status_to, stretch_text}
 use Rattle.vme_engines.specs.Followed.{told_answer}
 use Rattle.vme_engines.proofs.ReadOn.{came_begins}
-use Rattle.vme_engines.proofs.ToldTraces.{stops_waiting, unopened}
+use Rattle.vme_engines.proofs.Waits.{stops_waiting, waits_unbegun}
 
 module _ (p : Plan) (v : Version) (all : List ℕ) (s : Streams) (es : List Edge) (begins : Begins (read_of all) v es) (r : Stretch) (is : IsStretch r) where
   -- the edges that came are the first of the trace
@@ -92,7 +92,6 @@ shows_all p v all s first answer is fresh h =
     shows_so p v all s h.0 (came_begins v [] all s.from s.to h.0 h.1 h.3) first.stretch fresh.stretch h.1 h.2 answer h.3
     (subst (λ (b : State). Ends first.stretch b h.0 h.1 s.old s.new h.2 (answered answer)) is (h.4.2 fresh))
 
-pub shows_unopened : (p : Plan) (s : Streams) (r : Stretch) (reader : trace.ReaderState) (es : List Edge) (left : ℕ) (f : Fault) → IsStretch r → Appends s.old s.new [] → reader.version ≡ None → Opens s.from s.to reader es (Err f, left)
-    → ShowsInput r.from r.to r.color s p (Err (fault.Trace f))
-shows_unopened p s r reader es left f is kept unknown h =
-    let t = unopened (λ w l. (length l < r.to) × Appends s.old s.new (shown_text r.color r.from r.to p w l)) ((let some = is.some in let order = is.order in omega (arith, some, order)), kept) s reader es left f unknown h in (t.0, t.1, inl t.2)
+pub shows_unbegun : (p : Plan) (s : Streams) (r : Stretch) (f : Fault) → IsStretch r → Appends s.old s.new [] → IsUnbegun s.from s.to f → ShowsInput r.from r.to r.color s p (Err (fault.Trace f))
+shows_unbegun p s r f is kept h =
+    let t = waits_unbegun (λ w l. (length l < r.to) × Appends s.old s.new (shown_text r.color r.from r.to p w l)) ((let some = is.some in let order = is.order in omega (arith, some, order)), kept) s f h in (t.0, t.1, inl t.2)

@@ -15,7 +15,6 @@ use Rattle.vme_model.specs.Numbered.{Numbered, numbered_with, numbered}
 use Rattle.vme_reasons.specs.Marked.{IsMarksOf}
 use Rattle.vme_reasons.specs.Traced.{OfTrace}
 use Rattle.vme_trace.specs.declared.Fault.{Fault}
-use Rattle.vme_trace.specs.Reading as trace
 use Rattle.vme_trace.specs.Writing.{AppendsFront}
 use Rattle.vme_goals.specs.declared.events.Event.{Event}
 use Rattle.vme_events.specs.Events.{events_of}
@@ -31,15 +30,16 @@ use Rattle.vme_engines.specs.declared.EngineFault.TheVariants as fault
 use Rattle.vme_engines.specs.declared.summaries.Summing.{Summing}
 use Rattle.vme_engines.specs.Streams.{Streams}
 use Rattle.vme_engines.specs.Outcomes.{bench, refused_count, status_with}
-use Rattle.vme_engines.specs.Steps.{Begins, Opens, traced}
+use Rattle.vme_engines.specs.Steps.{Begins, traced}
 use Rattle.vme_engines.specs.Pieces.{Came, Answers, answered as told_by}
+use Rattle.vme_engines.specs.Begun.{IsUnbegun}
 use Rattle.vme_engines.specs.Summing.{IsSummedUp, IsWaiting, Sums, SumsInput}
 use Rattle.vme_engines.specs.Summed.{IsSumOf, SumsPiece}
 use Rattle.vme_engines.proofs.WrittenLines.{kept_append}
 use Rattle.vme_engines.proofs.FollowedEdges.{kept_plan, edges_on, numbered_append}
 use Rattle.vme_engines.proofs.ReadOn.{came_begins}
 use Rattle.vme_engines.proofs.ToldPieces.{appends_behind, front_after}
-use Rattle.vme_engines.proofs.ToldTraces.{stops_waiting, unopened}
+use Rattle.vme_engines.proofs.Waits.{stops_waiting, waits_unbegun}
 
 -- ---- lists of edges
 
@@ -161,9 +161,8 @@ pub sums_all : (p : Plan) (v : Version) (all : List ℕ) (s : Streams) (first : 
     → Answers (λ es more old new (now : Summing) a. SumsPiece first es more old new now a) v [] all s r → Sums p all s (traced r)
 sums_all p v all s first r fresh h = sums_so p v all s h.0 (came_begins v [] all s.from s.to h.0 h.1 h.3) first fresh h.1 h.2 r h.3 h.4
 
-pub sums_unopened : (p : Plan) (s : Streams) (reader : trace.ReaderState) (es : List Edge) (left : ℕ) (f : Fault) → Keeps s.old s.new → reader.version ≡ None → Opens s.from s.to reader es (Err f, left)
-    → SumsInput s p (Err (fault.Trace f))
-sums_unopened p s reader es left f kept unknown h = let t = unopened IsWaiting tt s reader es left f unknown h in (t.0, t.1, inl (t.2, kept))
+pub sums_unbegun : (p : Plan) (s : Streams) (f : Fault) → Keeps s.old s.new → IsUnbegun s.from s.to f → SumsInput s p (Err (fault.Trace f))
+sums_unbegun p s f kept h = let t = waits_unbegun IsWaiting tt s f h in (t.0, t.1, inl (t.2, kept))
 
 -- the plan stays
 pub plan_of : (b : State) (es : List Edge) (now : Summing) → IsSumOf b es now → now.following.bus.plan ≡ b.plan

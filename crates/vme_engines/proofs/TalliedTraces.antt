@@ -6,21 +6,20 @@ use Rattle.vme_model.specs.declared.signals.Edge.{Edge}
 use Rattle.vme_model.specs.Plan.{Plan}
 use Rattle.vme_model.specs.Text.{read_of}
 use Rattle.vme_trace.specs.declared.Fault.{Fault}
-use Rattle.vme_trace.specs.Reading as trace
 use Rattle.vme_tallies.specs.declared.tallies.Tally.{Tally}
 use Rattle.vme_tallies.specs.Tally.{answered}
 use Rattle.vme_tallies.specs.Tallied.{IsTallyOf}
 use Rattle.vme_engines.specs.declared.summaries.Summing.{Summing}
 use Rattle.vme_engines.specs.Streams.{Streams, streams}
 use Rattle.vme_engines.specs.Outcomes.{bench}
-use Rattle.vme_engines.specs.Steps.{Begins, Opens}
+use Rattle.vme_engines.specs.Steps.{Begins}
 use Rattle.vme_engines.specs.Pieces.{Came, answered as told_by}
 use Rattle.vme_engines.specs.Summing.{IsWaiting}
 use Rattle.vme_engines.specs.Summed.{IsSumOf}
-use Rattle.vme_engines.specs.Added.{Tallies, TalliesInput, TalliesPiece}
+use Rattle.vme_engines.specs.Added.{Tallies, TalliesPiece}
 use Rattle.vme_engines.specs.Totals.{IsWhole}
 use Rattle.vme_engines.proofs.ReadOn.{came_begins}
-use Rattle.vme_engines.proofs.ToldTraces.{stops_waiting, unopened}
+use Rattle.vme_engines.proofs.Waits.{stops_waiting}
 use Rattle.vme_engines.proofs.Sums.{sum_is}
 
 -- two pieces, one after the other
@@ -54,6 +53,3 @@ pub tallies_all : (p : Plan) (v : Version) (all : List ℕ) (from to : Option (L
     → TalliesPiece first es more now (told_by r) → Tallies p all (streams from to None None) r
 tallies_all p v all from to first now es more r fresh came h =
     tallies_so p v all (streams from to None None) es (came_begins v [] all from to es more came) first fresh more now r came h
-
-pub tallies_unopened : (p : Plan) (s : Streams) (reader : trace.ReaderState) (es : List Edge) (left : ℕ) (f : Fault) → reader.version ≡ None → Opens s.from s.to reader es (Err f, left) → TalliesInput s p (Err f)
-tallies_unopened p s reader es left f unknown h = unopened IsWaiting tt s reader es left f unknown h

@@ -1,23 +1,21 @@
 -- What is told of the whole trace.
-use Rattle.std.proofs.Common.{◌≡◌, ◌≢◌, inl, inr, ℕ, ◌+◌, ◌≤◌, List, [], ◌∷◌, ◌++◌, length, take, Bool, false, Option, Some, None, unwrap_or, Result, Ok, Err, is_ok, refl, sym, ◌∙◌, ap, subst, arith, append_assoc, append-nil}
+use Rattle.std.proofs.Common.{◌≡◌, inl, inr, ℕ, ◌+◌, ◌≤◌, List, [], ◌∷◌, ◌++◌, length, take, Bool, false, Option, Some, None, Result, Ok, Err, is_ok, refl, sym, ◌∙◌, ap, subst, arith, append_assoc, append-nil}
 use Rattle.std.specs.Prelude.{slice_get}
 use Rattle.std.proofs.Math.ListN.{length-append}
 use Rattle.std.proofs.Math.Seq.{take-append_seam}
-use Rattle.std.specs.Io.KnownBytes.{Consumes, Keeps, Appends}
+use Rattle.std.specs.Io.KnownBytes.{Keeps, Appends}
 use Rattle.vme_model.specs.declared.refusals.Refused.{Refused}
 use Rattle.vme_model.specs.declared.signals.Version.{Version}
 use Rattle.vme_model.specs.declared.signals.Edge.{Edge}
 use Rattle.vme_model.specs.Plan.{Plan}
 use Rattle.vme_model.specs.Verdict.{State, Judgement, verdict, after, kept}
-use Rattle.vme_model.specs.Text.{Reading, read_of}
+use Rattle.vme_model.specs.Text.{read_of}
 use Rattle.vme_model.specs.Numbered.{Numbered, numbered_on, numbered}
 use Rattle.vme_model.specs.Why.{why_text}
 use Rattle.vme_model.specs.Stands.{stands_text}
 use Rattle.vme_reasons.specs.Marked.{IsMarksOf}
 use Rattle.vme_scenario.specs.Format.{scenario}
 use Rattle.vme_trace.specs.declared.Fault.{Fault}
-use Rattle.vme_trace.specs.declared.Fault.TheVariants.{Header, Line, TooLong, CutOff, Read, Memory, Failed, Write}
-use Rattle.vme_trace.specs.Reading as trace
 use Rattle.vme_trace.specs.Writing.{AppendsFront}
 use Rattle.vme_engines.specs.declared.Status.{Status}
 use Rattle.vme_engines.specs.declared.following.Following.{Following}
@@ -25,71 +23,19 @@ use Rattle.vme_engines.specs.declared.following.Told.{Told}
 use Rattle.vme_engines.specs.declared.following.Told.TheVariants.{Block, Beyond}
 use Rattle.vme_engines.specs.declared.EngineFault.TheVariants as fault
 use Rattle.vme_engines.specs.declared.checks.Finding.TheVariants.{Legal}
-use Rattle.vme_engines.specs.Streams.{Streams, IsInput}
-use Rattle.vme_engines.specs.Outcomes.{Answer, Lent, scenario_limit, bench, HasFault}
+use Rattle.vme_engines.specs.Streams.{Streams}
+use Rattle.vme_engines.specs.Outcomes.{Answer, Lent, scenario_limit, bench}
 use Rattle.vme_engines.specs.Checking.{or_refusal, first_refusal, refusal_of, finding_line}
-use Rattle.vme_engines.specs.Waiting.{StopsWaiting}
 use Rattle.vme_engines.specs.Explaining.{IsAsked, IsUnasked, edge_status, IsExplained, IsAllLegal, IsTold, Explains, ExplainsInput}
 use Rattle.vme_engines.specs.Stating.{IsReached, IsAhead, IsStated, States, StatesInput}
-use Rattle.vme_engines.specs.Steps.{Begins, ReadFails, Opens}
-use Rattle.vme_engines.specs.Pieces.{Stopped, Came, Answers, answered}
+use Rattle.vme_engines.specs.Steps.{Begins}
+use Rattle.vme_engines.specs.Pieces.{Came, Answers, answered}
+use Rattle.vme_engines.specs.Begun.{IsUnbegun}
 use Rattle.vme_reasons.specs.Traced.{OfTrace}
 use Rattle.vme_engines.specs.Followed.{told_answer, IsNext, IsMissing, TellsEdge, TellsLegal, Tells, ExplainsPiece, IsPlace, IsBehind, TellsPlace, StatesPiece}
-use Rattle.vme_engines.proofs.TraceSoFar.{unknown_version}
-use Rattle.vme_engines.proofs.TraceReads.{whole_input, no_such}
 use Rattle.vme_engines.proofs.ReadOn.{came_begins}
+use Rattle.vme_engines.proofs.Waits.{stops_waiting, waits_unbegun}
 use Rattle.vme_engines.proofs.CheckPieces.{refusal_behind}
-
--- ---- a fault before what is waited for
-
-module _ (Waits : Option Version → List Edge → Type 0) (v : Version) (all : List ℕ) (s : Streams) (es : List Edge) (begins : Begins (read_of all) v es) (waits : Waits (Some v) es) where
-  waits_here : (r : Reading) → r.version ≡ Some v → r.edges ≡ es → Waits r.version r.edges
-  waits_here r named edges = subst (λ (w : Option Version). Waits w r.edges) (sym named) (subst (Waits (Some v)) (sym edges) waits)
-
-  pub stops_waiting : (f : Fault) → Stopped v [] all s.from s.to es f → StopsWaiting Waits all s f
-  stops_waiting Header h = (h.0, waits_here (read_of all) begins.version h.1)
-  stops_waiting (Line n) h = (h.0, waits_here (read_of all) begins.version h.1)
-  stops_waiting (TooLong n) h = (h.0, waits_here (read_of all) begins.version h.1)
-  stops_waiting CutOff h = (h.0, waits_here (read_of all) begins.version h.1)
-  stops_waiting Read h = (h.0, h.1, h.2, waits_here (read_of h.0) h.3 h.4)
-  stops_waiting Memory h = (es, begins.others, begins.edges, subst (λ (w : Option Version). Waits w es) (sym begins.version) waits)
-  stops_waiting Failed h = absurd h
-  stops_waiting Write h = absurd h
-
--- ---- a fault before the header line
-
-module _ (Waits : Option Version → List Edge → Type 0) (waits : Waits None []) where
-  waits_unread : (bytes : List ℕ) → (read_of bytes).version ≡ None → Waits (read_of bytes).version (read_of bytes).edges
-  waits_unread bytes unknown = subst (λ (w : Option Version). Waits w (read_of bytes).edges) (sym unknown) (subst (Waits None) (sym (unknown_version bytes unknown).0) waits)
-
-  module _ (all : List ℕ) (s : Streams) (es : List Edge) where
-    at_fault : (f : Fault) → f ≢ Memory → trace.HasFaultAfter (read_of all) None es f → HasFault all f × Waits (read_of all).version (read_of all).edges
-    at_fault f ne h = (h.fault_is ne, waits_unread all h.version_is)
-
-    stops_unread : (f : Fault) → trace.HasFaultAfter (read_of all) None es f → StopsWaiting Waits all s f
-    stops_unread Header h = at_fault Header (λ e. cc) h
-    stops_unread (Line n) h = at_fault (Line n) (λ e. cc) h
-    stops_unread (TooLong n) h = at_fault (TooLong n) (λ e. cc) h
-    stops_unread CutOff h = at_fault CutOff (λ e. cc) h
-    stops_unread Read h = absurd (no_such (read_of all).fault Read (h.fault_is (λ e. cc)) (inl refl))
-    stops_unread Memory h = ([], (read_of all).edges, refl, subst (λ (w : Option Version). Waits w []) (sym h.version_is) waits)
-    stops_unread Failed h = absurd (no_such (read_of all).fault Failed (h.fault_is (λ e. cc)) (inr (inr (inl refl))))
-    stops_unread Write h = absurd (no_such (read_of all).fault Write (h.fault_is (λ e. cc)) (inr (inr (inr refl))))
-
-  read_unread : (all bytes : List ℕ) (s : Streams) (reader : trace.ReaderState) (es : List Edge) → Consumes s.from s.to bytes → reader.version ≡ None → ReadFails s.to bytes reader es → StopsWaiting Waits all s Read
-  read_unread all bytes s reader es taken unknown h = (bytes, taken, h.goes_on, waits_unread bytes (sym h.version ∙ unknown))
-
-  -- no header line was read
-  pub unopened : (s : Streams) (reader : trace.ReaderState) (es : List Edge) (left : ℕ) (f : Fault) → reader.version ≡ None → Opens s.from s.to reader es (Err f, left)
-      → (all : List ℕ) × IsInput s.from all × StopsWaiting Waits all s f
-  unopened s reader es left f unknown h = (
-    h.0.0 ++ unwrap_or s.to [],
-    whole_input s.from s.to [] h.0.0 h.0.1,
-    elim h.0.2 [
-      | inl failed ↦ subst (StopsWaiting Waits (h.0.0 ++ unwrap_or s.to []) s) (sym failed.0) (read_unread (h.0.0 ++ unwrap_or s.to []) h.0.0 s reader es h.0.1 unknown failed.1)
-      | inr stopped ↦ stops_unread (h.0.0 ++ unwrap_or s.to []) s es f (subst (λ (w : Option Version). trace.HasFaultAfter (read_of (h.0.0 ++ unwrap_or s.to [])) w es f) unknown stopped)
-    ],
-  )
 
 -- ---- the edges before a place
 
@@ -175,9 +121,8 @@ waiting_states : (place : Option ℕ) → IsAhead place None []
 waiting_states (Some n) = tt
 waiting_states None = tt
 
-pub states_unopened : (p : Plan) (s : Streams) (place : Option ℕ) (reader : trace.ReaderState) (es : List Edge) (left : ℕ) (f : Fault) → Keeps s.old s.new → reader.version ≡ None → Opens s.from s.to reader es (Err f, left)
-    → StatesInput place s p (Err (fault.Trace f))
-states_unopened p s place reader es left f kept unknown h = let t = unopened (IsAhead place) (waiting_states place) s reader es left f unknown h in (t.0, t.1, inl (t.2, kept))
+pub states_unbegun : (p : Plan) (s : Streams) (place : Option ℕ) (f : Fault) → Keeps s.old s.new → IsUnbegun s.from s.to f → StatesInput place s p (Err (fault.Trace f))
+states_unbegun p s place f kept h = let t = waits_unbegun (IsAhead place) (waiting_states place) s f h in (t.0, t.1, inl (t.2, kept))
 
 -- ---- explain
 
@@ -280,9 +225,8 @@ waiting_edge : (edge : Option ℕ) (p : Plan) → IsUnasked edge p None []
 waiting_edge (Some n) p = λ low. low
 waiting_edge None p = refl
 
-pub explains_unopened : (p : Plan) (s : Streams) (edge : Option ℕ) (reader : trace.ReaderState) (es : List Edge) (left : ℕ) (f : Fault) → Keeps s.old s.new → reader.version ≡ None → Opens s.from s.to reader es (Err f, left)
-    → ExplainsInput edge s p (Err (fault.Trace f))
-explains_unopened p s edge reader es left f kept unknown h = let t = unopened (IsUnasked edge p) (waiting_edge edge p) s reader es left f unknown h in (t.0, t.1, inl (t.2, kept))
+pub explains_unbegun : (p : Plan) (s : Streams) (edge : Option ℕ) (f : Fault) → Keeps s.old s.new → IsUnbegun s.from s.to f → ExplainsInput edge s p (Err (fault.Trace f))
+explains_unbegun p s edge f kept h = let t = waits_unbegun (IsUnasked edge p) (waiting_edge edge p) s f h in (t.0, t.1, inl (t.2, kept))
 
 -- ---- the scenario
 

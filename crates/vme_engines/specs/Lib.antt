@@ -34,6 +34,8 @@ pub mod Found
 pub mod Steps
 -- words: what the one loop over a trace leaves
 pub mod Pieces
+-- words: a trace that stands alone, up to its header line
+pub mod Begun
 -- words: what the edges of a trace do to `explain` and `state`
 pub mod Followed
 -- words: a stretch that is shown, and how far it came

@@ -13,16 +13,16 @@ ghost use Rattle.vme_engines.specs.Recorded.{first_refused_of};
 ghost use Rattle.vme_engines.specs.Steps.{ChecksPiece, FindsInput};
 
 use crate::lines::write_finding;
-use crate::pieces::{JUDGED_AT_ONCE, Judge, read_on};
+use crate::pieces::{JUDGED_AT_ONCE, Judge};
 use crate::plans::plan_of;
-use crate::traces::open;
+use crate::traces::Input;
 use crate::{EngineFault, Status};
 use std::alloc::Global;
 use std::io::{Read, Write};
 use vme_bus::{AnswerRecord, Bus};
 use vme_model::{Edge, Refused};
 use vme_slots::Plan;
-use vme_trace::{Fault, Reader};
+use vme_trace::Fault;
 
 /// What a check finds in a trace.
 #[derive(Clone, Copy, PartialEq, Eq, Debug)]
@@ -192,27 +192,10 @@ fn find<R: Read, W: Write>(
     ensures finds { FindsInput plan (R.remaining trace.old) (R.remaining trace.new) result }
     ensures kept { Keeps (W.contents out.old) (W.contents out.new) }
 {
-    let mut reader = Reader::new();
-    let mut edges = Vec::new(alloc);
-    let (first, reads) = open(&mut reader, trace, &mut edges);
-    match reader.version() {
-        Some(version) => {
-            let mut check = Checking::new(Bus::new(plan, version));
-            read_on(
-                &mut check,
-                &mut reader,
-                &mut edges,
-                first,
-                reads,
-                trace,
-                out,
-            )
-        }
-        None => match first {
-            Ok(_) => Err(Fault::Read),
-            Err(fault) => Err(fault),
-        },
-    }
+    let mut input = Input::new(alloc);
+    let version = input.begin(trace)?;
+    let mut check = Checking::new(Bus::new(plan, version));
+    input.read_on(&mut check, trace, out)
 }
 
 /// Checks a trace on the plan of a scenario.

@@ -16,9 +16,9 @@ ghost use Rattle.std.proofs.KnownBytes.{Keeps-refl};
 use crate::checks::Finding;
 use crate::following::{Following, Told, answer_of};
 use crate::lines::write_finding;
-use crate::pieces::{Judge, read_on};
+use crate::pieces::Judge;
 use crate::plans::plan_of;
-use crate::traces::open;
+use crate::traces::Input;
 use crate::{EngineFault, Status};
 use std::alloc::Global;
 use std::io::{Read, Write};
@@ -26,7 +26,7 @@ use vme_bus::Bus;
 use vme_model::Edge;
 use vme_reasons::write_why;
 use vme_slots::Plan;
-use vme_trace::{Fault, Reader, flush};
+use vme_trace::{Fault, flush};
 
 /// Writes the block of the next edge, and has the writer hand on what it holds back. The status says whether the edge
 /// is refused.
@@ -163,28 +163,11 @@ fn explain_trace<R: Read, W: Write>(
         (W.contents out.old) (W.contents out.new))
         plan (told_answer result) }
 {
-    let mut reader = Reader::new();
-    let mut edges = Vec::new(alloc);
-    let (first, reads) = open(&mut reader, trace, &mut edges);
-    match reader.version() {
-        Some(version) => {
-            let following = Following::new(Bus::new(plan, version));
-            let mut explanation = Explaining::new(following, edge);
-            read_on(
-                &mut explanation,
-                &mut reader,
-                &mut edges,
-                first,
-                reads,
-                trace,
-                out,
-            )
-        }
-        None => match first {
-            Ok(_) => Err(Fault::Read),
-            Err(fault) => Err(fault),
-        },
-    }
+    let mut input = Input::new(alloc);
+    let version = input.begin(trace)?;
+    let following = Following::new(Bus::new(plan, version));
+    let mut explanation = Explaining::new(following, edge);
+    input.read_on(&mut explanation, trace, out)
 }
 
 /// Explains an edge of a trace on the plan of a scenario: the one with the number `edge`, counted from 1, or without one

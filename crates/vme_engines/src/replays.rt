@@ -8,9 +8,9 @@ ghost use Rattle.vme_engines.specs.Outcomes.{Lent, ReplaysInput, status_with};
 ghost use Rattle.vme_engines.specs.Steps.{TakesPiece, traced};
 
 use crate::lines::{close, write_verdicts};
-use crate::pieces::{Judge, read_on};
+use crate::pieces::Judge;
 use crate::plans::plan_of;
-use crate::traces::open;
+use crate::traces::Input;
 use crate::{EngineFault, Status};
 use std::alloc::Global;
 use std::io::{Read, Write};
@@ -18,7 +18,7 @@ use vme_bus::Bus;
 use vme_model::Edge;
 use vme_slots::Plan;
 use vme_text::Text;
-use vme_trace::{Fault, Reader, flush};
+use vme_trace::{Fault, flush};
 
 /// The status of a replay with so many refused edges.
 pub(crate) fn status_of(refused: u64) -> Status
@@ -138,27 +138,10 @@ fn replay_trace<R: Read, W: Write>(
         (W.contents out.old) (W.contents out.new))
         plan (traced result) }
 {
-    let mut reader = Reader::new();
-    let mut edges = Vec::new(alloc);
-    let (first, reads) = open(&mut reader, trace, &mut edges);
-    match reader.version() {
-        Some(version) => {
-            let mut replay = Replaying::new(Bus::new(plan, version));
-            read_on(
-                &mut replay,
-                &mut reader,
-                &mut edges,
-                first,
-                reads,
-                trace,
-                out,
-            )
-        }
-        None => match first {
-            Ok(_) => Err(Fault::Read),
-            Err(fault) => Err(fault),
-        },
-    }
+    let mut input = Input::new(alloc);
+    let version = input.begin(trace)?;
+    let mut replay = Replaying::new(Bus::new(plan, version));
+    input.read_on(&mut replay, trace, out)
 }
 
 /// Replays a trace on the plan of a scenario.

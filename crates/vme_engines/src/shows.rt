@@ -14,10 +14,10 @@ ghost use Rattle.std.proofs.Common.{arith};
 ghost use Rattle.std.proofs.KnownBytes.{Keeps-refl};
 
 use crate::following::{Told, answer_of};
-use crate::pieces::{Judge, read_on};
+use crate::pieces::Judge;
 use crate::plans::plan_of;
 use crate::replays::status_of;
-use crate::traces::open;
+use crate::traces::Input;
 use crate::{EngineFault, Status};
 use std::alloc::Global;
 use std::io::{Read, Write};
@@ -26,7 +26,7 @@ use vme_bus::Bus;
 use vme_model::Edge;
 use vme_pictures::Window;
 use vme_slots::Plan;
-use vme_trace::{Fault, Reader, flush};
+use vme_trace::{Fault, flush};
 
 /// How many of `len` edges after the first `judged` are among the first `n`.
 fn count_up_to(n: u64, judged: u64, len: usize) -> usize
@@ -262,27 +262,10 @@ fn show_trace<R: Read, W: Write>(
         (W.contents out.old) (W.contents out.new))
         plan (told_answer result) }
 {
-    let mut reader = Reader::new();
-    let mut edges = Vec::new(alloc);
-    let (first, reads) = open(&mut reader, trace, &mut edges);
-    match reader.version() {
-        Some(version) => {
-            let mut showing = Showing::new(Bus::new(plan, version), stretch);
-            read_on(
-                &mut showing,
-                &mut reader,
-                &mut edges,
-                first,
-                reads,
-                trace,
-                out,
-            )
-        }
-        None => match first {
-            Ok(_) => Err(Fault::Read),
-            Err(fault) => Err(fault),
-        },
-    }
+    let mut input = Input::new(alloc);
+    let version = input.begin(trace)?;
+    let mut showing = Showing::new(Bus::new(plan, version), stretch);
+    input.read_on(&mut showing, trace, out)
 }
 
 /// Shows the edges with the numbers `from` to `to` of a trace, on the plan of a scenario, as a picture: a row for each wire

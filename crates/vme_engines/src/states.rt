@@ -12,9 +12,9 @@ ghost use Rattle.std.proofs.Common.{arith};
 ghost use Rattle.std.proofs.KnownBytes.{Keeps-refl};
 
 use crate::following::{Following, Told, answer_of};
-use crate::pieces::{Judge, read_on};
+use crate::pieces::Judge;
 use crate::plans::plan_of;
-use crate::traces::open;
+use crate::traces::Input;
 use crate::{EngineFault, Status};
 use std::alloc::Global;
 use std::io::{Read, Write};
@@ -22,7 +22,7 @@ use vme_bus::Bus;
 use vme_model::Edge;
 use vme_reasons::write_stands;
 use vme_slots::Plan;
-use vme_trace::{Fault, Reader, flush};
+use vme_trace::{Fault, flush};
 
 /// Writes where the bus stands, and has the writer hand on what it holds back.
 fn tell_place<W: Write>(following: &Following, out: &mut W) -> Result<Told, Fault>
@@ -139,28 +139,11 @@ fn state_trace<R: Read, W: Write>(
         (W.contents out.old) (W.contents out.new))
         plan (told_answer result) }
 {
-    let mut reader = Reader::new();
-    let mut edges = Vec::new(alloc);
-    let (first, reads) = open(&mut reader, trace, &mut edges);
-    match reader.version() {
-        Some(version) => {
-            let following = Following::new(Bus::new(plan, version));
-            let mut state = Stating::new(following, after);
-            read_on(
-                &mut state,
-                &mut reader,
-                &mut edges,
-                first,
-                reads,
-                trace,
-                out,
-            )
-        }
-        None => match first {
-            Ok(_) => Err(Fault::Read),
-            Err(fault) => Err(fault),
-        },
-    }
+    let mut input = Input::new(alloc);
+    let version = input.begin(trace)?;
+    let following = Following::new(Bus::new(plan, version));
+    let mut state = Stating::new(following, after);
+    input.read_on(&mut state, trace, out)
 }
 
 /// Tells where the bus stands behind the first `after` edges of a trace, or behind all, on the plan of a scenario.

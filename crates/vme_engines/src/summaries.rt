@@ -17,10 +17,10 @@ ghost use Rattle.std.proofs.KnownBytes.{Keeps-refl};
 ghost use Rattle.vme_model.specs.declared.signals.Edge.{Edge as EdgeValue};
 
 use crate::following::Following;
-use crate::pieces::{Judge, read_on};
+use crate::pieces::Judge;
 use crate::plans::plan_of;
 use crate::replays::status_of;
-use crate::traces::open;
+use crate::traces::Input;
 use crate::{EngineFault, Status};
 use std::alloc::Global;
 use std::io::{Read, Write};
@@ -28,7 +28,7 @@ use vme_bus::Bus;
 use vme_model::Edge;
 use vme_slots::Plan;
 use vme_tallies::{Tally, write_summary};
-use vme_trace::{Fault, Reader, flush};
+use vme_trace::{Fault, flush};
 
 /// A trace on the way to its end, with what its edges came to.
 #[derive(Drop)]
@@ -156,28 +156,11 @@ fn summary_of_trace<R: Read, W: Write>(
         (W.contents out.old) (W.contents out.new))
         plan (traced result) }
 {
-    let mut reader = Reader::new();
-    let mut edges = Vec::new(alloc);
-    let (first, reads) = open(&mut reader, trace, &mut edges);
-    match reader.version() {
-        Some(version) => {
-            let following = Following::new(Bus::new(plan, version));
-            let mut summing = Summing::new(following);
-            read_on(
-                &mut summing,
-                &mut reader,
-                &mut edges,
-                first,
-                reads,
-                trace,
-                out,
-            )
-        }
-        None => match first {
-            Ok(_) => Err(Fault::Read),
-            Err(fault) => Err(fault),
-        },
-    }
+    let mut input = Input::new(alloc);
+    let version = input.begin(trace)?;
+    let following = Following::new(Bus::new(plan, version));
+    let mut summing = Summing::new(following);
+    input.read_on(&mut summing, trace, out)
 }
 
 /// Sums a trace up, on the plan of a scenario.

@@ -15,11 +15,11 @@ ghost use Rattle.std.proofs.Common.{append-nil, arith, subst, sym};
 ghost use Rattle.vme_model.specs.declared.signals.Edge.{Edge as EdgeValue};
 
 use crate::following::Following;
-use crate::pieces::{Judge, read_on};
+use crate::pieces::Judge;
 use crate::plans::plan_of;
 use crate::replays::status_of;
 use crate::summaries::Summing;
-use crate::traces::open;
+use crate::traces::Input;
 use crate::{EngineFault, Status};
 use std::alloc::Global;
 use std::io::{Read, Write, sink};
@@ -28,7 +28,7 @@ use vme_bus::Bus;
 use vme_model::Edge;
 use vme_slots::Plan;
 use vme_tallies::{Sums, Tally, write_sums};
-use vme_trace::{Fault, Reader, flush};
+use vme_trace::{Fault, flush};
 
 /// A trace on the way to its end, where it gives its tally away.
 #[derive(Drop)]
@@ -88,30 +88,13 @@ fn tally_of_trace<R: Read>(alloc: Global, plan: Plan, trace: &mut R) -> Result<T
     ensures { TalliesInput (streams (R.remaining trace.old) (R.remaining trace.new) None None)
         plan result }
 {
-    let mut reader = Reader::new();
-    let mut edges = Vec::new(alloc);
-    let (first, reads) = open(&mut reader, trace, &mut edges);
-    match reader.version() {
-        Some(version) => {
-            let following = Following::new(Bus::new(plan, version));
-            let mut tallying = Tallying {
-                summing: Summing::new(following),
-            };
-            read_on(
-                &mut tallying,
-                &mut reader,
-                &mut edges,
-                first,
-                reads,
-                trace,
-                &mut sink(),
-            )
-        }
-        None => match first {
-            Ok(_) => Err(Fault::Read),
-            Err(fault) => Err(fault),
-        },
-    }
+    let mut input = Input::new(alloc);
+    let version = input.begin(trace)?;
+    let following = Following::new(Bus::new(plan, version));
+    let mut tallying = Tallying {
+        summing: Summing::new(following),
+    };
+    input.read_on(&mut tallying, trace, &mut sink())
 }
 
 /// Adds what a trace comes to, on the plan of a scenario, to the sums of those before it.

@@ -1,17 +1,96 @@
-//! Reading a trace up to its header line.
-ghost use Rattle.std.specs.Prelude.{◌≡◌, ◌≢◌, [], Ok, None, true, false};
+//! The one beginning of a trace that stands alone: it is read up to its header line.
+ghost use Rattle.std.specs.Prelude.{◌≡◌, ◌≢◌, ℕ, List, Option, [], Ok, None, true, false, OnOk, IfOk, IfErr};
+ghost use Rattle.vme_model.specs.declared.signals.Version.{Version as VersionValue};
 ghost use Rattle.vme_trace.specs.Reading.{HasRead};
+ghost use Rattle.vme_engines.specs.Streams.{streams};
 ghost use Rattle.vme_engines.specs.Steps.{Opens};
+ghost use Rattle.vme_engines.specs.Begun.{IsUntouched, IsReady, HasBegun, IsUnbegun, AnswersInput};
 
+use crate::pieces::{Judge, read_on};
 use crate::{PIECE, READS};
-use std::io::Read;
-use vme_model::Edge;
+use std::alloc::Global;
+use std::io::{Read, Write};
+use vme_model::{Edge, Version};
 use vme_trace::{Fault, Reader, pump_with};
+
+/// A trace that stands alone, as it is read.
+#[derive(Drop)]
+pub(crate) struct Input {
+    reader: Reader,
+    /// The edges of the last piece.
+    edges: Vec<Edge>,
+    /// What the read of the header line answered.
+    first: Result<bool, Fault>,
+    /// How many reads are left behind it.
+    reads: u32,
+}
+
+impl Input {
+    /// Before the first read.
+    pub(crate) fn new(alloc: Global) -> Input
+        ensures { IsUntouched result }
+    {
+        Input {
+            reader: Reader::new(),
+            edges: Vec::new(alloc),
+            first: Ok(true),
+            reads: 0,
+        }
+    }
+
+    /// Reads up to the header line, and gives the version that it names.
+    ///
+    /// Errors: those of the trace up to there.
+    pub(crate) fn begin<R: Read>(&mut self, trace: &mut R) -> Result<Version, Fault>
+        requires { IsUntouched self.old }
+        ensures ready { OnOk result (IsReady self.new) }
+        ensures begun { IfOk result (λ version.
+            HasBegun (R.remaining trace.old) (R.remaining trace.new) version self.new) }
+        ensures unbegun { IfErr result (IsUnbegun (R.remaining trace.old) (R.remaining trace.new)) }
+    {
+        let (first, reads) = open(&mut self.reader, trace, &mut self.edges);
+        self.first = first;
+        self.reads = reads;
+        match self.reader.version() {
+            Some(version) => Ok(version),
+            None => match first {
+                Ok(_) => Err(Fault::Read),
+                Err(fault) => Err(fault),
+            },
+        }
+    }
+
+    /// Has an engine take the edges of the trace, piece by piece, and gives what it answers.
+    pub(crate) fn read_on<J: Judge, R: Read, W: Write>(
+        &mut self,
+        judge: &mut J,
+        trace: &mut R,
+        out: &mut W,
+    ) -> Result<J::Answer, Fault>
+        requires ready { IsReady self.old }
+        requires begun { J.count judge.old ≡ 0 }
+        ensures { (from : Option (List ℕ)) (version : VersionValue)
+            → HasBegun from (R.remaining trace.old) version self.old
+            → AnswersInput (J.takes judge.old) version
+            (streams from (R.remaining trace.new) (W.contents out.old) (W.contents out.new))
+            result }
+    {
+        read_on(
+            judge,
+            &mut self.reader,
+            &mut self.edges,
+            self.first,
+            self.reads,
+            trace,
+            out,
+        )
+    }
+}
 
 /// Reads until the header line was read, or to a fault or the end.
 ///
 /// Gives what the last read answered, and how many reads are left.
-pub(crate) fn open<R: Read>(
+fn open<R: Read>(
     reader: &mut Reader,
     input: &mut R,
     edges: &mut Vec<Edge>,

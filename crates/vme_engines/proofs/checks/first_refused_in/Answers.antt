@@ -1,4 +1,4 @@
-use Rattle.std.proofs.Common.{◌≡◌, ◌∙◌, sym, ap, ◌+◌, ◌-◌, length}
+use Rattle.std.proofs.Common.{◌∙◌, sym, ap, ◌+◌, ◌-◌, length}
 use Rattle.vme_model.specs.Verdict.{State}
 use Rattle.vme_engines.proofs.CheckPieces.{none_refused}
 use Rattle.vme_engines.proofs.RecordedLines.{refusals_are}

@@ -1,39 +1,27 @@
-use Rattle.std.proofs.Common.{[], Bool, Result, None, refl, sym, ◌∙◌, ap, subst}
-use Rattle.vme_trace.specs.declared.Fault.{Fault}
+use Rattle.std.proofs.Common.{[], None, refl, sym, ◌∙◌, ap, subst}
+use Rattle.std.proofs.lemmas.Result.{err_from_is_err_and}
 use Rattle.vme_reasons.specs.Marked.{IsMarksOf}
 use Rattle.vme_engines.specs.declared.following.Following.{Following}
-use Rattle.vme_engines.specs.Steps.{Opens}
 use Rattle.vme_engines.specs.Streams.{streams}
-use Rattle.vme_engines.proofs.FirstReads.{never_unopened}
-use Rattle.vme_engines.proofs.FormedEdges.{formed_first}
-use Rattle.vme_engines.proofs.TalliedTraces.{tallies_all, tallies_unopened}
+use Rattle.vme_engines.specs.Summing.{IsWaiting}
+use Rattle.vme_engines.proofs.Waits.{waits_unbegun}
+use Rattle.vme_engines.proofs.TalliedTraces.{tallies_all}
 use Rattle.vme_engines.proofs.totals.tally_of_trace.Goals as goal
 
-pub read_on-requires-clause-well_formed : goal.read_on-requires-clause-well_formed
-read_on-requires-clause-well_formed g c = formed_first _ _ [] [] c.open-first.result.1 c.open-first.new.reader _ _ c.open-first.ensures.0
+pub returns-in_err-version : goal.returns-in_err-version
+returns-in_err-version g c =
+    let e = err_from_is_err_and c.from_residual.result c.from_residual.ensures.1 in
+    rw (e.1, e.2) (waits_unbegun IsWaiting tt (streams (g.R.Read.remaining c.args.trace.now) (g.R.Read.remaining c.begin.new.trace) None None) c.in_err-version.field-0.0 c.in_err-version.ensures.unbegun)
 
-pub returns-in-Some : goal.returns-in-Some
-returns-in-Some g c =
-    let ran = c.read_on.ensures c.in-Some.version (g.R.Read.remaining c.args.trace.now) [] [] (sym c.version.ensures ∙ c.in-Some.is) c.open-first.ensures.0 in
-    let same = c.new-in-Some.ensures.following in
+pub returns : goal.returns
+returns g c =
+    let ran = c.read_on.ensures _ _ c.in_ok-version.ensures.begun in
+    let same = c.new-2.ensures.following in
     let is = ap (λ (f : Following). f.bus) same ∙ c.new-following.ensures.bus ∙ c.new.ensures in
     let zero = ap (λ (f : Following). f.judged) same ∙ c.new-following.ensures.judged in (
       ran.0,
       ran.1,
-      tallies_all c.args.plan c.in-Some.version ran.0 (g.R.Read.remaining c.args.trace.now) _ c.new-in-Some.result ran.2.2.summing ran.2.0 ran.2.1 c.read_on.result
-          (record { empty = refl; bus = is; judged = zero; marks = subst (λ (f : Following). IsMarksOf c.args.plan [] f.marks) (sym same) (c.new-following.ensures.marks c.args.plan); tally = c.new-in-Some.ensures.tally })
+      tallies_all c.args.plan _ ran.0 _ _ c.new-2.result ran.2.2.summing ran.2.0 ran.2.1 c.read_on.result
+          (record { empty = refl; bus = is; judged = zero; marks = subst (λ (f : Following). IsMarksOf c.args.plan [] f.marks) (sym same) (c.new-following.ensures.marks c.args.plan); tally = c.new-2.ensures.tally })
           ran.2.3 ran.2.4,
     )
-
-pub returns-in-Ok : goal.returns-in-Ok
-returns-in-Ok g c =
-    let opens = subst (λ (a : Result Bool Fault). Opens (g.R.Read.remaining c.args.trace.now) (g.R.Read.remaining c.open-first.new.input) c.open-first.new.reader c.open-first.new.edges.items (a, c.open-first.result.1)) c.in-Ok.is c.open-first.ensures in
-    absurd
-    (never_unopened c.args.plan (g.R.Read.remaining c.args.trace.now) (g.R.Read.remaining c.open-first.new.input) None c.open-first.new.reader c.open-first.new.edges.items c.open-first.result.1
-    (sym c.version.ensures ∙ c.in-None.is) c.in-Ok.field-0 opens)
-
-pub returns : goal.returns
-returns g c =
-    let opens = subst (λ (a : Result Bool Fault). Opens (g.R.Read.remaining c.args.trace.now) (g.R.Read.remaining c.open-first.new.input) c.open-first.new.reader c.open-first.new.edges.items (a, c.open-first.result.1)) c.in-Err.is c.open-first.ensures in
-    tallies_unopened c.args.plan (streams (g.R.Read.remaining c.args.trace.now) (g.R.Read.remaining c.open-first.new.input) None None) _ _ c.open-first.result.1 c.in-Err.fault
-    (sym c.version.ensures ∙ c.in-None.is) opens

@@ -1,0 +1,43 @@
+-- A trace that stands alone, up to its header line, and what an engine answers by all of it.
+use Rattle.std.specs.Prelude.{◌≡◌, [], ℕ, List, length, true, Option, Some, None, Result, Ok}
+use Rattle.vme_model.specs.declared.signals.Version.{Version}
+use Rattle.vme_model.specs.declared.signals.Edge.{Edge}
+use Rattle.vme_model.specs.Locality.{AreWellFormed}
+use Rattle.vme_trace.specs.declared.Fault.{Fault}
+use Rattle.vme_trace.specs.Reading.{HasRead}
+use Rattle.vme_engines.specs.declared.traces.Input.{Input}
+use Rattle.vme_engines.specs.Streams.{Streams, streams, IsInput}
+use Rattle.vme_engines.specs.Steps.{IsCounted, Comes}
+use Rattle.vme_engines.specs.Pieces.{Taking, Answers}
+use Rattle.vme_engines.specs.Waiting.{StopsWaiting}
+
+-- nothing was read
+pub record IsUntouched (input : Input) : Type 0 where
+  pub reader : HasRead input.reader [] []
+  pub empty : input.edges.items ≡ []
+
+-- The edges of the trace so far can be judged, and all that are to come be counted.
+pub record IsReady (input : Input) : Type 0 where
+  pub counted : input.first ≡ Ok true
+      → IsCounted input.reader input.reads (length input.edges.items)
+  pub well_formed : AreWellFormed input.edges.items
+
+-- The trace was read up to there, and its header line names this version.
+pub record HasBegun (from at : Option (List ℕ)) (version : Version) (input : Input) : Type 0 where
+  pub known : input.reader.version ≡ Some version
+  pub came : Comes from at [] [] input.reads input.reader input.edges.items input.first
+
+-- no header line was read, and so no edge
+abbrev pub IsUnread : Option Version → List Edge → Type 0
+IsUnread version es = (version ≡ None) × (es ≡ [])
+
+-- a fault of the input before a header line
+abbrev pub IsUnbegun : Option (List ℕ) → Option (List ℕ) → Fault → Type 0
+IsUnbegun from to f =
+    (trace : List ℕ) × IsInput from trace
+    × StopsWaiting IsUnread trace (streams from to None None) f
+
+-- an engine answers this, by the whole of a trace that is all of the input
+abbrev pub AnswersInput : {S A : Type 0} → Taking S A → Version → Streams → Result A Fault → Type 0
+AnswersInput takes version s answer =
+    (trace : List ℕ) × IsInput s.from trace × Answers takes version [] trace s answer
