@@ -12,10 +12,9 @@ ghost use Rattle.vme_reasons.specs.Traced.{OfTrace};
 ghost use Rattle.vme_events.specs.Events.{asked_before, fills_burst, has_rival, is_filled, is_rival, overtakes};
 ghost use Rattle.vme_events.specs.Ordered.{OfOrdered};
 
-use crate::wires::{is_low, since};
 use vme_bus::Bus;
 use vme_model::{Driver, InterrupterRow, IrqKind, Release, RequesterRow, Row, Wire};
-use vme_reasons::Marks;
+use vme_reasons::{Marks, is_low, since};
 
 /// The board that a driver stands on; none for the controller.
 fn board_of(bus: &Bus, driver: Driver) -> Option<Row>

@@ -8,12 +8,11 @@ ghost use Rattle.vme_events.specs.Brought.{at_fall, at_rise, is_same_event, when
 ghost use Rattle.vme_events.specs.Ordered.{OfOrdered};
 
 use crate::before::{fills_burst, has_acknowledged, has_rival, overtakes};
-use crate::wires::is_low;
 use arrayvec::ArrayVec;
 use vme_bus::Bus;
 use vme_goals::Event;
 use vme_model::{Cycle, Driver, Edge, Wire};
-use vme_reasons::Marks;
+use vme_reasons::{Marks, is_low};
 
 /// The situation where the test holds.
 fn alone(holds: bool, event: Event) -> ArrayVec<Event, 2>

@@ -6,7 +6,6 @@ mod before;
 mod brought;
 pub mod laws;
 mod searches;
-mod wires;
 
 pub use brought::{comes, events_of};
 pub use searches::miss;

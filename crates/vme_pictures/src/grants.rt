@@ -34,25 +34,13 @@ pub(crate) fn holder(bus: &Bus) -> Option<u8>
     None
 }
 
-/// The chain of a grant level.
-fn grant_chain(level: u8) -> ChainId
-    ensures { result ≡ grant_chain level }
-{
-    match level {
-        0 => ChainId::Bg0,
-        1 => ChainId::Bg1,
-        2 => ChainId::Bg2,
-        _ => ChainId::Bg3,
-    }
-}
-
 /// Whether the slot's input on the chain of a grant level below 4 is low.
 fn is_input_low(bus: &Bus, level: u8, slot: u8) -> bool
     requires { level < 4 }
     ensures { result
         ≡ input bus.now.plan bus.now.history (grant_chain level) slot }
 {
-    match bus.plan().upstream(grant_chain(level), slot) {
+    match bus.plan().upstream(ChainId::of_grant(level), slot) {
         None => is_low(bus, Driver::Controller, Wire::Bg(level)),
         Some(below) => is_low(bus, Driver::Slot(below), Wire::BgOut),
     }
@@ -77,7 +65,7 @@ fn granted_on(bus: &Bus, level: u8) -> Option<u8>
     ensures range { IfSome result (λ s. s < 22) }
 {
     bus.laws();
-    for slot in bus.plan().active(grant_chain(level)) {
+    for slot in bus.plan().active(ChainId::of_grant(level)) {
         if is_granted_at(bus, level, *slot) {
             return Some(*slot);
         }

@@ -15,7 +15,7 @@ use vme_bus::Bus;
 use vme_model::{Driver, InterrupterRow, Wire};
 
 /// Whether a driver's wire is low, or its address group on; never one that no driver has.
-pub(crate) fn is_low(bus: &Bus, marks: &Marks, driver: Driver, wire: Wire) -> bool
+pub fn is_low(bus: &Bus, marks: &Marks, driver: Driver, wire: Wire) -> bool
     ensures low { OfTrace bus.now marks.now (λ _. result
         ≡ drive bus.now.history driver wire) }
     ensures had { result ≡ true → has_wire driver wire ≡ true }
@@ -25,7 +25,7 @@ pub(crate) fn is_low(bus: &Bus, marks: &Marks, driver: Driver, wire: Wire) -> bo
 }
 
 /// The last edge of a driver's wire; none where it never moved, and of one that no driver has.
-pub(crate) fn since(bus: &Bus, marks: &Marks, driver: Driver, wire: Wire) -> Option<u64>
+pub fn since(bus: &Bus, marks: &Marks, driver: Driver, wire: Wire) -> Option<u64>
     ensures { OfTrace bus.now marks.now (λ k. result ≡ since_in k driver wire) }
 {
     bus.laws();

@@ -18,25 +18,13 @@ pub(crate) struct Grant {
     pub(crate) slot: u8,
 }
 
-/// The chain of a grant level.
-fn grant_chain(level: u8) -> ChainId
-    ensures { result ≡ grant_chain level }
-{
-    match level {
-        0 => ChainId::Bg0,
-        1 => ChainId::Bg1,
-        2 => ChainId::Bg2,
-        _ => ChainId::Bg3,
-    }
-}
-
 /// Whether the slot's input on the chain of a grant level below 4 is low.
 fn is_input_low(bus: &Bus, marks: &Marks, level: u8, slot: u8) -> bool
     requires { level < 4 }
     ensures { OfTrace bus.now marks.now (λ _. result
         ≡ input bus.now.plan bus.now.history (grant_chain level) slot) }
 {
-    match bus.plan().upstream(grant_chain(level), slot) {
+    match bus.plan().upstream(ChainId::of_grant(level), slot) {
         None => is_low(bus, marks, Driver::Controller, Wire::Bg(level)),
         Some(below) => is_low(bus, marks, Driver::Slot(below), Wire::BgOut),
     }
@@ -60,7 +48,7 @@ fn granted_slot(bus: &Bus, marks: &Marks, level: u8) -> Option<u8>
         ≡ find (λ s. is_granted_at bus.now.plan bus.now.history (level, s))
         (active bus.now.plan (grant_chain level))) }
 {
-    for slot in bus.plan().active(grant_chain(level)) {
+    for slot in bus.plan().active(ChainId::of_grant(level)) {
         if is_granted_at(bus, marks, level, *slot) {
             return Some(*slot);
         }

@@ -23,5 +23,6 @@ mod wires;
 
 pub use blocks::write_why;
 pub use conditions::witnesses;
+pub use drivers::{is_low, since};
 pub use marks::Marks;
 pub use stands::write_stands;
