@@ -14,9 +14,9 @@ use vme_trace::Patient;
 /// How many bytes are read at once of an input that is read in small pieces.
 const READ: usize = 65_536;
 
-/// How many bytes are written at once: so many that no write of a long report is shorter than 65,536, since an engine
+/// How many bytes are written at once: so many that no write of a long report is shorter than 262,144, since an engine
 /// hands on up to 8,192 bytes of it.
-const WRITTEN: usize = 73_728;
+const WRITTEN: usize = 270_336;
 
 /// Opens a file. Errors: F1 where it does not open.
 pub fn open<'a>(rt: &HostRuntime, name: &'a str) -> Result<File, ProgramFault<'a>>
@@ -76,7 +76,7 @@ pub fn buffered<R: Read + Drop>(
 /// Standard output, written much at once.
 pub fn output(rt: &HostRuntime) -> Result<BufWriter<Patient<Stdout>>, ProgramFault<'static>>
     ensures empty { IfOk result (λ writer. writer_buffer writer ≡ []) }
-    ensures room { IfOk result (λ writer. writer_capacity writer ≡ 73728) }
+    ensures room { IfOk result (λ writer. writer_capacity writer ≡ 270336) }
     ensures fault { IfErr result (λ fault. fault ≡ ProgramFault.Engine EngineFault.NoMemory) }
 {
     match BufWriter::with_capacity(rt.alloc(), WRITTEN, Patient(rt.stdout())) {
