@@ -21,7 +21,7 @@ pub(crate) struct Input {
     edges: Vec<Edge>,
     /// What the read of the header line answered.
     first: Result<bool, Fault>,
-    /// How many reads are left behind it.
+    /// How many reads are left after it.
     reads: u32,
 }
 
