@@ -440,7 +440,8 @@ impl Bus {
     /// The same, but for the end of the trace. The list has room for any driver's offers.
     #[inline(always)]
     fn offer_but_full(&self, driver: Driver, round: u32) -> Option<Edge>
-        ensures { let offers = offered_but_full self.now.version self.now.plan self.now.history driver in
+        ensures { let offers = offered_but_full
+            self.now.version self.now.plan self.now.history driver in
             result ≡ slice_get offers (round % length offers) }
     {
         let mut offers: ArrayVec<Edge, 12> = ArrayVec::new();

@@ -66,7 +66,8 @@ impl BusState {
     #[inline(always)]
     fn passing_on(&self) -> SlotSet
         ensures { (s : ℕ) → has result s
-            ≡ ((if has self.now.grants s then not (has self.now.granted s) else has self.now.granted s)
+            ≡ ((if has self.now.grants s
+            then not (has self.now.granted s) else has self.now.granted s)
             && not (has self.now.granted s && has self.now.bbsy s)) }
     {
         self.granted
@@ -202,7 +203,8 @@ impl Bus {
     #[inline(always)]
     fn ready_offer_but_full(&self, ready: Ready, slot: u8, round: u32) -> Option<Edge>
         requires { IsReady self.now.version self.now.plan self.now.history ready }
-        ensures { let offers = offered_but_full self.now.version self.now.plan self.now.history (Slot slot) in
+        ensures { let offers = offered_but_full
+            self.now.version self.now.plan self.now.history (Slot slot) in
             result ≡ slice_get offers (round % length offers) }
     {
         let mut offers: ArrayVec<Edge, 12> = ArrayVec::new();
@@ -215,7 +217,8 @@ impl Bus {
     fn ready_offer(&self, ready: Ready, slot: u8, round: u32) -> Option<Edge>
         requires { IsReady self.now.version self.now.plan self.now.history ready }
         ensures { result
-            ≡ slice_get (offered self.now (Slot slot)) (round % length (offered self.now (Slot slot))) }
+            ≡ slice_get (offered self.now (Slot slot))
+            (round % length (offered self.now (Slot slot))) }
     {
         if self.is_full() {
             return None;

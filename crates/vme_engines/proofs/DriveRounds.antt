@@ -150,36 +150,3 @@ pub well_formed_at : (version : Version) (p : Plan) (h : List Edge) (i : ℕ) (e
 well_formed_at version p h i e l at =
     subst (λ (x : Edge). IsTrue (is_well_formed x)) (get_or_from_slice_get (reverse h) i e e at)
     (All-get_or (λ e. IsTrue (is_well_formed e)) (reverse h) i e (slice_get_within (reverse h) i e at) (all_well_formed version p h l))
-
--- In the loop over the edges: the lines of those before the rest were written, but for what the text holds.
-pub record HasListed (a b : Option (List ℕ)) (held : List ℕ) (es rest : List Edge) : Type 0 where
-  pub front : List ℕ
-  pub lines : edge_lines es ≡ front ++ (held ++ edge_lines rest)
-  pub wrote : Appends a b front
-
-module _ (a b c : Option (List ℕ)) (held : List ℕ) (es rest : List Edge) (run : HasListed a b held es rest) where
-  -- a prefix of the text is written
-  pub listed_on : (left : List ℕ) → HandsOn b c held left → HasListed a c left es rest
-  listed_on left w = record {
-    front = run.front ++ w.0;
-    lines =
-        run.lines ∙ ap (λ l. run.front ++ (l ++ edge_lines rest)) w.1 ∙ ap (λ l. run.front ++ l) (append_assoc w.0 left (edge_lines rest))
-        ∙ sym (append_assoc run.front w.0 (left ++ edge_lines rest));
-    wrote = Appends-trans a b c run.front w.0 run.wrote w.2;
-  }
-
-  -- the text could not be written
-  pub listed_front : AppendsFront b c held → AppendsFront a c (edge_lines es)
-  listed_front w = rw run.lines (front_behind a b c run.front _ run.wrote (front_of_more b c held _ w))
-
--- the line of the next edge is put to the text
-pub listed_more : (a b : Option (List ℕ)) (held : List ℕ) (i : ℕ) (es : List Edge) (e : Edge) → slice_get es i ≡ Some e → HasListed a b held es (drop i es)
-    → HasListed a b (held ++ edge_line e) es (drop (i + 1) es)
-listed_more a b held i es e at run = record {
-  front = run.front;
-  lines =
-      run.lines ∙ ap (λ l. run.front ++ (held ++ edge_lines l)) (drop_more es i e (slice_get_within es i e at))
-      ∙ ap (λ d. run.front ++ (held ++ (edge_line d ++ edge_lines (drop (i + 1) es)))) (get_or_from_slice_get es i e e at)
-      ∙ ap (λ l. run.front ++ l) (sym (append_assoc held (edge_line e) (edge_lines (drop (i + 1) es))));
-  wrote = run.wrote;
-}

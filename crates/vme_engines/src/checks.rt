@@ -45,7 +45,7 @@ impl Finding {
     }
 }
 
-/// The first refusal among the answers to edges behind the first `judged`: the number of its edge, and why.
+/// The first refusal among the answers to edges after the first `judged`: the number of its edge, and why.
 fn first_refused_of(judged: u64, records: &[AnswerRecord]) -> Option<(u64, Refused)>
     requires { judged + length records.now < 2 ^ 64 }
     ensures { result ≡ first_refused_of (judged + 1) (map answer_of records.now) }
@@ -63,7 +63,7 @@ fn first_refused_of(judged: u64, records: &[AnswerRecord]) -> Option<(u64, Refus
     None
 }
 
-/// Judges the edges of a chunk, which are those behind the first `judged`, and gives the first refusal among the answers.
+/// Judges the edges of a chunk, which are those after the first `judged`, and gives the first refusal among the answers.
 ///
 /// Where the trace grew by each of them, none was refused, and no answer is looked at.
 fn first_refused_in(
@@ -87,9 +87,9 @@ fn first_refused_in(
     first_refused_of(judged, &records[..chunk.len()])
 }
 
-/// Judges the edges behind the first `judged`, and answers the first that is refused: its number, and why.
+/// Judges the edges after the first `judged`, and answers the first that is refused: its number, and why.
 ///
-/// Those behind it may be judged too.
+/// Those after it may be judged too.
 fn first_refused(bus: &mut Bus, judged: u64, edges: &[Edge]) -> Option<(u64, Refused)>
     requires well_formed { AreWellFormed edges.now }
     requires count { judged + length edges.now < 2 ^ 64 }

@@ -24,7 +24,7 @@ use vme_backplane::Backplane;
 use vme_bus::{Bus, Turns};
 use vme_model::{Driver, Edge, Version};
 use vme_text::Text;
-use vme_trace::{Fault, flush, header_line, put};
+use vme_trace::{Fault, flush, header_line, put, write_line};
 
 /// A drive under way.
 #[derive(Drop)]
@@ -156,12 +156,10 @@ fn write_lines<W: Write>(backplane: &Backplane, out: &mut W) -> Result<(), Fault
     ensures fault { IfErr result (λ fault. fault ≡ Fault.Write) }
 {
     backplane.laws();
-    let mut text = Text::new();
     for place in 0..backplane.len() {
-        make_room(&mut text, out)?;
-        push_edge(&mut text, &backplane.edge_at(place));
+        write_line(&backplane.edge_at(place), out)?;
     }
-    hand_on(&mut text, out)
+    Ok(())
 }
 
 /// Writes the trace of the edges that were made on a backplane: the header line of its version and a line for each edge.

@@ -51,7 +51,7 @@ pub(crate) fn answer_of(told: Result<Told, Fault>) -> Result<Status, EngineFault
     }
 }
 
-/// How many of `len` edges behind the first `judged` are among the first `n`, unless all are and more.
+/// How many of `len` edges after the first `judged` are among the first `n`, unless all are and more.
 fn count_up_to(n: Option<u64>, judged: u64, len: usize) -> Option<usize>
     ensures some { IfSome result (λ count. (n ≡ Some (judged + count)) × (count ≤ len)) }
     ensures none { IfNone result
@@ -65,7 +65,7 @@ fn count_up_to(n: Option<u64>, judged: u64, len: usize) -> Option<usize>
     }
 }
 
-/// The place of the n-th edge, counted from 1, among `len` behind the first `judged`.
+/// The place of the n-th edge, counted from 1, among `len` after the first `judged`.
 fn place_of(n: u64, judged: u64, len: usize) -> Option<usize>
     ensures some { IfSome result (λ place. (n ≡ (judged + place) + 1) × (place < len)) }
     ensures none { IfNone result (judged < n → judged + len < n) }

@@ -128,7 +128,7 @@ fn behind(piece: &[u8], taken: usize) -> &[u8]
     &piece[taken..]
 }
 
-/// Feeds the header line of a trace and what was read behind it, and answers as a read does.
+/// Feeds the header line of a trace and what was read after it, and answers as a read does.
 fn start(
     reader: &mut Reader,
     version: Version,
@@ -145,7 +145,7 @@ fn start(
     Ok(true)
 }
 
-/// Replays a trace whose header line and a piece behind it were read, on the scenario before it.
+/// Replays a trace whose header line and a piece after it were read, on the scenario before it.
 fn replay_behind<R: Read, W: Write>(
     alloc: Global,
     front: Front,

@@ -110,7 +110,7 @@ fn push_lines(text: &mut Text, count: &Count, records: &[AnswerRecord])
 }
 
 /// Appends the verdict lines of edges, from `count` on, to a text that is written where it has no room, and counts on
-/// behind them.
+/// after them.
 ///
 /// Errors: X8 where that failed; a prefix of the lines was then written.
 #[inline(always)]

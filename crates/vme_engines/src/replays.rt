@@ -150,7 +150,7 @@ fn replay_trace<R: Read, W: Write>(
 /// `accepted A refused R`. It makes at most 16,777,216 reads. Where one gave fewer bytes than were asked for, the writer
 /// hands on what it holds back before the next.
 ///
-/// Errors: F2 and the faults of the scenario, before anything is read or written; those of the trace, behind the
+/// Errors: F2 and the faults of the scenario, before anything is read or written; those of the trace, after the
 /// verdicts on the edges before them; X8 where the output cannot be written.
 pub fn replay<R: Read, W: Write>(
     alloc: Global,

@@ -1,4 +1,4 @@
-//! Telling where the bus stands behind a trace, or behind a front of it.
+//! Telling where the bus stands after a trace, or after a prefix of it.
 ghost use Rattle.std.specs.Prelude.{◌≡◌, ◌+◌, ◌<◌, ◌^◌, length, refl, OnOk, OnErr, IfOk, IfErr};
 ghost use Rattle.std.specs.Io.KnownBytes.{Appends};
 ghost use Rattle.vme_model.specs.Stands.{stands_text};
@@ -126,7 +126,7 @@ impl Judge for Stating {
     ghost goes_on = { λ first es more old new now h. (h.1.0, h.1.3.judged) };
 }
 
-/// Tells where the bus stands behind a trace that stands alone, on a plan.
+/// Tells where the bus stands after a trace that stands alone, on a plan.
 fn state_trace<R: Read, W: Write>(
     alloc: Global,
     plan: Plan,
@@ -146,7 +146,7 @@ fn state_trace<R: Read, W: Write>(
     input.read_on(&mut state, trace, out)
 }
 
-/// Tells where the bus stands behind the first `after` edges of a trace, or behind all, on the plan of a scenario.
+/// Tells where the bus stands after the first `after` edges of a trace, or after all, on the plan of a scenario.
 ///
 /// Writes how many edges were accepted, who holds the bus, where the grant stands, what is shown, who asks, which
 /// interrupts are pending, which wires are low and which edges are open. The status is `Done`. Behind the first `after`

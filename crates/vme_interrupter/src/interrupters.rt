@@ -1,5 +1,5 @@
 //! The interrupter of one board.
-ghost use Rattle.std.specs.Prelude.{◌≡◌, ◌==◌, ◌&&◌, ◌||◌, not, if◌then◌else◌, ℕ, true, false, None, Ok, Option as OptionValue, [], ◌∷◌, List};
+ghost use Rattle.std.specs.Prelude.{◌≡◌, ◌==◌, ◌&&◌, ◌||◌, not, if◌then◌else◌, ℕ, true, false, None, Ok, Err, Option as OptionValue, [], ◌∷◌, List};
 ghost use Rattle.std.specs.Option.{option_map_or};
 ghost use Rattle.vme_model.specs.History.{serves};
 ghost use Rattle.vme_model.specs.declared.boards.InterrupterRow.{InterrupterRow as RowValue};
@@ -253,10 +253,11 @@ impl Interrupter {
     /// Whether the rules G21 to G26 allow an edge of its own wires. It is told its pins.
     ///
     /// # Errors
-    /// E2 where the wire is in that state, else E3 where the rule's guard fails.
+    /// E1 where the wire is none of its own, E2 where it is in that state, else E3 where the rule's guard fails.
     #[inline(always)]
     pub fn may(&self, edge: Edge, pins: Pins) -> Result<(), Refused>
-        ensures { (version : Version) (noted : List Noted) →
+        ensures other { is_interrupters edge.wire ≡ false → result ≡ Err Refused.NoSuchDriver }
+        ensures own { (version : Version) (noted : List Noted) →
             self.now ≡ interrupter_of self.now.slot self.now.row noted →
             is_interrupters edge.wire ≡ true →
             result ≡ ruling version (over self.now.slot self.now.row noted pins) edge }

@@ -1,5 +1,5 @@
 //! The master of one board.
-ghost use Rattle.std.specs.Prelude.{◌≡◌, ◌&&◌, ◌+◌, ◌||◌, not, ℕ, Bool, Ok, Option as OptionValue, true, false, if◌then◌else◌, nat_lt, [], ◌∷◌, List};
+ghost use Rattle.std.specs.Prelude.{◌≡◌, ◌&&◌, ◌+◌, ◌||◌, not, ℕ, Bool, Ok, Err, Option as OptionValue, true, false, if◌then◌else◌, nat_lt, [], ◌∷◌, List};
 ghost use Rattle.vme_model.specs.declared.boards.RequesterRow.{RequesterRow as RowValue};
 ghost use Rattle.vme_model.specs.declared.sets.Levels.{Levels as LevelsValue};
 ghost use Rattle.vme_model.specs.declared.signals.Version.{Version};
@@ -242,10 +242,11 @@ impl Master {
     /// It is told its pins, and whether its board drives BBSY* low.
     ///
     /// # Errors
-    /// E2 where the wire is in that state, else E3 where the rule's guard fails.
+    /// E1 where the wire is none of its own, E2 where it is in that state, else E3 where the rule's guard fails.
     #[inline(always)]
     pub fn may(&self, edge: Edge, pins: Pins, holds_bus: bool) -> Result<(), Refused>
-        ensures { (version : Version) (noted : List EdgeValue) →
+        ensures other { is_masters edge.wire ≡ false → result ≡ Err Refused.NoSuchDriver }
+        ensures own { (version : Version) (noted : List EdgeValue) →
             self.now ≡ master_of self.now.slot self.now.row self.now.handler noted →
             is_masters edge.wire ≡ true →
             result ≡ ruling version

@@ -1,5 +1,5 @@
 //! The requester of one board.
-ghost use Rattle.std.specs.Prelude.{◌≡◌, ℕ, Bool, true, false, None, Ok, [], ◌∷◌, List, Option as OptionValue};
+ghost use Rattle.std.specs.Prelude.{◌≡◌, ℕ, Bool, true, false, None, Ok, Err, [], ◌∷◌, List, Option as OptionValue};
 ghost use Rattle.std.specs.List.{list_any};
 ghost use Rattle.vme_model.specs.declared.boards.RequesterRow.{RequesterRow as RowValue};
 ghost use Rattle.vme_model.specs.declared.pins.Pins.{Pins as PinsValue};
@@ -221,10 +221,11 @@ impl Requester {
     /// It is told its pins, and whether its master's address group is off or the master's address strobe low.
     ///
     /// # Errors
-    /// E2 where the wire is in that state, else E3 where the rule's guard fails.
+    /// E1 where the wire is none of its own, E2 where it is in that state, else E3 where the rule's guard fails.
     #[inline(always)]
     pub fn may(&self, edge: Edge, pins: Pins, is_address_free: bool) -> Result<(), Refused>
-        ensures { (noted : List EdgeValue) →
+        ensures other { is_requesters edge.wire ≡ false → result ≡ Err Refused.NoSuchDriver }
+        ensures own { (noted : List EdgeValue) →
             self.now ≡ requester_of self.now.slot self.now.row self.now.version noted →
             is_requesters edge.wire ≡ true →
             result ≡ answer_over self.now.slot self.now.row self.now.version noted pins

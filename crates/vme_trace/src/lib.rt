@@ -20,7 +20,7 @@ pub use input::{pump, pump_counted, pump_with, read_piece};
 pub use patience::Patient;
 pub use reader::{Reader, parse};
 use thiserror::Error;
-pub use writer::{flush, line_of, put, spelling_of, write};
+pub use writer::{flush, line_of, put, spelling_of, write, write_line};
 
 /// Why a trace could not be read or written.
 #[derive(Clone, Copy, PartialEq, Eq, Debug, Error)]

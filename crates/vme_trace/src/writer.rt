@@ -110,6 +110,20 @@ pub fn line_of(edge: &Edge) -> ArrayVec<u8, LINE>
     line
 }
 
+/// Writes the line of an edge.
+///
+/// Errors: X8 where a write failed or took no byte; a prefix of the line was then written.
+pub fn write_line<W: Write>(edge: &Edge, out: &mut W) -> Result<(), Fault>
+    requires { IsTrue (is_well_formed edge.now) }
+    ensures ok { OnOk result
+        (Appends (W.contents out.old) (W.contents out.new) (edge_line edge.now)) }
+    ensures front { OnErr result
+        (AppendsFront (W.contents out.old) (W.contents out.new) (edge_line edge.now)) }
+    ensures fault { IfErr result (λ fault. fault ≡ Fault.Write) }
+{
+    put(out, line_of(edge).as_slice())
+}
+
 /// Writes the lines of the edges.
 fn write_lines<W: Write>(edges: &[Edge], out: &mut W) -> Result<(), Fault>
     requires { All (λ e. IsTrue (is_well_formed e)) edges.now }
@@ -120,8 +134,7 @@ fn write_lines<W: Write>(edges: &[Edge], out: &mut W) -> Result<(), Fault>
     ensures fault { IfErr result (λ fault. fault ≡ Fault.Write) }
 {
     for edge in edges {
-        let line = line_of(edge);
-        put(out, line.as_slice())?;
+        write_line(edge, out)?;
     }
     Ok(())
 }

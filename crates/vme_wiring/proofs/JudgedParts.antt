@@ -43,9 +43,13 @@ not_full true true false d n m e = cc
 not_full true true true false n m e = cc
 not_full true true true true n m e = cc
 
+-- E1 asks of a well-formed edge whether there is its driver
+pub exists_as : (p : Plan) (e : Edge) (b : Bool) → is_well_formed e ≡ true → has_driver p e.driver e.wire ≡ b → (is_well_formed e && has_driver p e.driver e.wire) ≡ b
+exists_as p e b formed has = ap (λ f. f && has_driver p e.driver e.wire) formed ∙ has
+
 -- a well-formed edge of a driver that there is
 pub exists_by : (p : Plan) (e : Edge) → is_well_formed e ≡ true → has_driver p e.driver e.wire ≡ true → (is_well_formed e && has_driver p e.driver e.wire) ≡ true
-exists_by p e formed has = rw (formed, has) refl
+exists_by p e formed has = exists_as p e true formed has
 
 module _ (version : Version) (p : Plan) (h : List Edge) (e : Edge) where
   abbrev exists : Bool
@@ -83,6 +87,15 @@ module _ (version : Version) (p : Plan) (h : List Edge) (e : Edge) where
       by_driver : (b : Bool) → exists ≡ b → Err r ≡ verdict_but_full version p h e
       by_driver true some = refused r some (sym (ap (λ b. check b NoSuchDriver (asked version p h e)) some) ∙ is)
       by_driver false none = sym is ∙ ap (λ b. check b NoSuchDriver (asked version p h e)) none ∙ no_such none
+
+  -- what a board answers, which has the part that drives the wire or has not
+  pub board_asked : (b : Bool) → exists ≡ b → (answer : Judgement) → (b ≡ false → answer ≡ Err NoSuchDriver) → (b ≡ true → answer ≡ asked version p h e)
+      → answer ≡ check exists NoSuchDriver (asked version p h e)
+  board_asked b is answer lacks told = by_part b refl ∙ sym (ap (λ x. check x NoSuchDriver (asked version p h e)) is)
+    where
+      by_part : (x : Bool) → b ≡ x → answer ≡ check b NoSuchDriver (asked version p h e)
+      by_part false none = lacks none ∙ sym (ap (λ x. check x NoSuchDriver (asked version p h e)) none)
+      by_part true some = told some ∙ sym (ap (λ x. check x NoSuchDriver (asked version p h e)) some)
 
   pub passed_asked : check exists NoSuchDriver (asked version p h e) ≡ Ok tt → last ≡ verdict_but_full version p h e
   passed_asked is =

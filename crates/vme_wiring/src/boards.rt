@@ -1,10 +1,10 @@
 //! One board, with its parts.
-ghost use Rattle.std.specs.Prelude.{◌≡◌, ◌||◌, ◌∷◌, [], ℕ, true, not, List, Option as OptionValue, option_map};
+ghost use Rattle.std.specs.Prelude.{◌≡◌, ◌||◌, ◌∷◌, [], ℕ, true, false, not, Err, List, Option as OptionValue, option_map};
 ghost use Rattle.vme_model.specs.declared.boards.RequesterRow.{RequesterRow as RequesterValue};
 ghost use Rattle.vme_model.specs.declared.sets.Levels.{Levels as LevelsValue};
 ghost use Rattle.vme_model.specs.declared.signals.Edge.{Edge as EdgeValue};
 ghost use Rattle.vme_model.specs.declared.signals.Version.{Version as VersionValue};
-ghost use Rattle.vme_model.specs.Plan.{Plan};
+ghost use Rattle.vme_model.specs.Plan.{Plan, drives};
 ghost use Rattle.vme_model.specs.History.{shown as shown_after};
 ghost use Rattle.vme_requester.specs.Local.{requester_of, is_requesters};
 ghost use Rattle.vme_master.specs.Local.{master_of, is_masters};
@@ -120,35 +120,41 @@ impl Board {
         !self.is_low(Wire::Addr) || self.is_low(Wire::AddressStrobe)
     }
 
-    /// E2 and E3 for an edge of one of its wires, by the part that drives it. E1 comes first, so that it is asked for no
-    /// other.
+    /// E1 where the board has no part that drives the wire, else E2 and E3 by that part.
     #[inline(always)]
     pub fn may(&self, edge: Edge, pins: &Pins, chains: &Chains) -> Result<(), Refused>
-        ensures { OfParts self.now (λ version p h r.
+        ensures lacks { OfParts self.now (λ _ _ _ r.
+            drives edge.wire r ≡ false → result ≡ Err Refused.NoSuchDriver) }
+        ensures asked { OfParts self.now (λ version p h r.
             IsAsked p h r (seen_by chains.now pins.now self.now.row) edge
             → result ≡ asked version p h edge) }
     {
-        match (edge.wire, &self.requester, &self.master) {
-            (Wire::Br, Some(requester), _) => requester.may_request(edge.fall),
-            (Wire::BgOut, Some(requester), _) => {
+        match (
+            edge.wire,
+            &self.requester,
+            &self.master,
+            &self.row.interrupter,
+        ) {
+            (Wire::Br, Some(requester), _, _) => requester.may_request(edge.fall),
+            (Wire::BgOut, Some(requester), _, _) => {
                 requester.may_pass(edge.fall, chains.grant_in(&self.row))
             }
-            (Wire::Bbsy, Some(requester), _) => {
+            (Wire::Bbsy, Some(requester), _, _) => {
                 let grant_in = chains.grant_in(&self.row);
                 requester.may_hold(edge.fall, pins, grant_in, self.is_address_free())
             }
-            (Wire::Addr, _, Some(master)) => {
+            (Wire::Addr, _, Some(master), _) => {
                 let holds_bus = self.is_low(Wire::Bbsy);
                 master.may_address(edge.fall, edge.value, pins, holds_bus)
             }
-            (Wire::AddressStrobe, _, Some(master)) => master.may_strobe_address(edge.fall, pins),
-            (Wire::DataStrobe, _, Some(master)) => master.may_strobe_data(edge.fall, pins),
-            (Wire::Irq, _, _) => self.interrupter.may_request(edge.fall),
-            (Wire::IackOut, _, _) => {
+            (Wire::AddressStrobe, _, Some(master), _) => master.may_strobe_address(edge.fall, pins),
+            (Wire::DataStrobe, _, Some(master), _) => master.may_strobe_data(edge.fall, pins),
+            (Wire::Irq, _, _, Some(_)) => self.interrupter.may_request(edge.fall),
+            (Wire::IackOut, _, _, Some(_)) => {
                 let iack_in = chains.iack_in(&self.row);
                 self.interrupter.may_pass(edge.fall, pins, iack_in)
             }
-            (Wire::Dtack, _, _) => {
+            (Wire::Dtack, _, _, _) => {
                 let iack_in = chains.iack_in(&self.row);
                 self.interrupter.may_answer(edge.fall, pins, iack_in)
             }

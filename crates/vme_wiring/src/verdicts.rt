@@ -26,10 +26,8 @@ impl Wiring {
         match edge.driver {
             Driver::Controller => self.arbiter.may(edge, self.shared),
             Driver::Slot(slot) => match self.board(slot) {
-                Some(board) if board.row.drives(edge.wire) => {
-                    board.may(edge, &self.shared, &self.chains)
-                }
-                _ => Err(Refused::NoSuchDriver),
+                Some(board) => board.may(edge, &self.shared, &self.chains),
+                None => Err(Refused::NoSuchDriver),
             },
         }
     }

@@ -1,21 +1,23 @@
-use Rattle.vme_trace.proofs.WrittenLines.{on_err_map}
-use Rattle.vme_engines.proofs.WrittenLines.{on_err}
-use Rattle.vme_engines.proofs.DriveRounds.{well_formed_at, listed_on, listed_more, listed_front}
+use Rattle.std.proofs.Common.{ap, sym, reverse}
+use Rattle.std.proofs.lemmas.Option.{get_or_from_slice_get, slice_get_within}
+use Rattle.vme_trace.specs.Writing.{edge_line}
+use Rattle.vme_trace.proofs.WrittenLines.{on_err, line_more, line_front}
+use Rattle.vme_engines.proofs.DriveRounds.{well_formed_at}
 use Rattle.vme_engines.proofs.drives.write_lines.Goals as goal
 
-pub push_edge-requires-clause-well_formed : goal.push_edge-requires-clause-well_formed
-push_edge-requires-clause-well_formed g c =
+pub write_line-requires : goal.write_line-requires
+write_line-requires g c =
     well_formed_at c.args.backplane.now.version c.args.backplane.now.plan c.args.backplane.now.history c.loop-place.place c.edge_at.result c.laws.ensures.legal c.edge_at.ensures
 
-pub returns-in_err-make_room-clause-front : goal.returns-in_err-make_room-clause-front
-returns-in_err-make_room-clause-front g c =
-    on_err c.from_residual.result _ (listed_front _ _ _ _ _ _ c.loop-place.invariant c.in_err-make_room.ensures.front)
+pub returns-in_err-write_line-clause-front : goal.returns-in_err-write_line-clause-front
+returns-in_err-write_line-clause-front g c =
+    let made = reverse c.args.backplane.now.history in
+    on_err _ _
+    (line_front _ _ _ made c.loop-place.place c.edge_at.result _ (slice_get_within made _ _ c.edge_at.ensures)
+    (ap (λ e. edge_line e) (sym (get_or_from_slice_get made _ _ _ c.edge_at.ensures))) c.loop-place.invariant c.in_err-write_line.ensures.front)
 
 pub loop-place-preserved : goal.loop-place-preserved
 loop-place-preserved g c =
-    rw c.push_edge.ensures
-    (listed_more _ _ _ c.loop-place.place _ c.edge_at.result c.edge_at.ensures (listed_on _ _ _ _ _ _ c.loop-place.invariant _ c.in_ok-make_room.ensures.ok))
-
-pub returns-clause-front : goal.returns-clause-front
-returns-clause-front g c =
-    on_err_map c.hand_on.result _ _ (λ w. listed_front _ _ _ _ _ _ c.loop-place.invariant w) c.hand_on.ensures.front
+    let made = reverse c.args.backplane.now.history in
+    line_more _ _ _ made c.loop-place.place c.edge_at.result _ (slice_get_within made _ _ c.edge_at.ensures)
+    (ap (λ e. edge_line e) (sym (get_or_from_slice_get made _ _ _ c.edge_at.ensures))) c.loop-place.invariant c.in_ok-write_line.ensures.ok

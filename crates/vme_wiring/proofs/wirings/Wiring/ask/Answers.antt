@@ -1,4 +1,4 @@
-use Rattle.std.proofs.Common.{◌≡◌, ◌∙◌, sym, ap, subst, true, false}
+use Rattle.std.proofs.Common.{◌≡◌, ◌∙◌, refl, sym, ap, subst, true, false}
 use Rattle.std.specs.Prelude.{Option}
 use Rattle.std.specs.Option.{option_copied, option_map_or}
 use Rattle.vme_model.specs.declared.boards.Row.{Row}
@@ -18,7 +18,7 @@ use Rattle.vme_wiring.specs.Asked.{asked}
 use Rattle.vme_wiring.proofs.RuleRows.{controller_asked}
 use Rattle.vme_wiring.proofs.LongerHistory.{placed_board}
 use Rattle.vme_wiring.proofs.FieldReads.{pins_of_board}
-use Rattle.vme_wiring.proofs.JudgedParts.{exists_by}
+use Rattle.vme_wiring.proofs.JudgedParts.{exists_as, exists_by, board_asked}
 use Rattle.vme_wiring.proofs.wirings.Wiring.ask.Goals as goal
 
 pub returns-in-Controller : goal.returns-in-Controller
@@ -40,15 +40,15 @@ returns-in-Some c version p h is =
     let s = c.in-Slot.slot in
     let formed = sym c.is_well_formed.ensures ∙ c.if-not-is_well_formed.false in
     let k = placed_board version p h s c.in-Some.board.now c.args.self.now is (sym (ap option_copied c.in-Some.is) ∙ c.board.ensures) in
-    let found = ap (board p) k.stands.slot ∙ k.found in
-    let driven = subst (λ (r : Row). drives e.wire r ≡ true) k.same_row (sym c.drives.ensures ∙ c.if-drives.true) in
-    let of_slot = subst (λ (o : Option Row). option_map_or (drives e.wire) o false ≡ true) (sym k.found) driven in
-    let some = exists_by p e formed (subst (λ d. has_driver p d e.wire ≡ true) (sym c.in-Slot.is) of_slot) in
-    c.may-in-Some.ensures version p h k.row k.is (record {
+    let b = drives e.wire k.row in
+    let of_slot = subst (λ (o : Option Row). option_map_or (drives e.wire) o false ≡ b) (sym k.found) refl in
+    let there = exists_as p e b formed (subst (λ d. has_driver p d e.wire ≡ b) (sym c.in-Slot.is) of_slot) in
+    board_asked version p h e b there c.may-in-Some.result
+    (λ lacks. c.may-in-Some.ensures.lacks version p h k.row k.is lacks)
+    (λ has. c.may-in-Some.ensures.asked version p h k.row k.is (record {
       driver = c.in-Slot.is ∙ ap (λ t. Slot t) (sym k.stands.slot);
-      row = found;
-      pins = pins_of_board version p h c.args.self.now c.in-Some.board.now k.row is k.same_row found;
+      row = ap (board p) k.stands.slot ∙ k.found;
+      pins = pins_of_board version p h c.args.self.now c.in-Some.board.now k.row is k.same_row (ap (board p) k.stands.slot ∙ k.found);
       formed = formed;
-      drives = driven;
-    })
-    ∙ sym (ap (λ b. check b NoSuchDriver (asked version p h e)) some)
+      drives = has;
+    }))
