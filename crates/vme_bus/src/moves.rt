@@ -1,5 +1,5 @@
 //! What an edge makes of a state.
-ghost use Rattle.std.specs.Prelude.{◌≡◌, ◌∷◌, ◌<◌, Ok, true, false};
+ghost use Rattle.std.specs.Prelude.{◌≡◌, ◌==◌, ◌&&◌, ◌∷◌, ◌<◌, ℕ, Ok, true, false};
 ghost use Rattle.vme_model.specs.declared.signals.Driver.TheVariants as driver;
 ghost use Rattle.vme_model.specs.Signals.{grant_level};
 ghost use Rattle.vme_model.specs.Plan.{board};
@@ -10,6 +10,7 @@ ghost use Rattle.vme_requester.specs.Local.{is_requesters};
 ghost use Rattle.vme_master.specs.Local.{is_masters};
 ghost use Rattle.vme_interrupter.specs.Local.{is_interrupters};
 ghost use Rattle.vme_bus.specs.Asks.{is_boards};
+ghost use Rattle.vme_bus.specs.Sets.{has};
 ghost use Rattle.vme_bus.specs.Records.{cycle_in, slot_in};
 ghost use Rattle.vme_bus.specs.Layouts.{grant_head, set_at};
 ghost use Rattle.vme_bus.specs.Moves.{MovesPlace, MovesSlots, turned_by, grant_turned_by, FollowsWire, FollowsGrants, served_by, strobed_by, cycles_by, shown_by, last_level_by, is_serving, release_of};
@@ -66,7 +67,22 @@ fn granted_after(set: SlotSet, fed: &[SlotSet; 28], wire: Wire) -> SlotSet
     }
 }
 
+/// The set of the slot alone, or of none.
+#[inline(always)]
+fn slot_where(slot: u8, is_in: bool) -> SlotSet
+    requires { slot < 32 }
+    ensures { (s : ℕ) → has result s ≡ (is_in && slot == s) }
+{
+    if is_in {
+        SlotSet::NONE.with(slot)
+    } else {
+        SlotSet::NONE
+    }
+}
+
 /// The boards that were served, after an edge of the slot's board, whose answers serve it or not.
+///
+/// No branch asks whether they do, which no one can foretell.
 #[inline(always)]
 fn served_after(set: SlotSet, slot: u8, edge: Edge, serves: bool) -> SlotSet
     requires { slot < 32 }
@@ -74,7 +90,7 @@ fn served_after(set: SlotSet, slot: u8, edge: Edge, serves: bool) -> SlotSet
 {
     match (edge.wire, edge.fall) {
         (Wire::Irq, true) => set.without(slot),
-        (Wire::Dtack, true) if serves => set.with(slot),
+        (Wire::Dtack, true) => set.or(slot_where(slot, serves)),
         _ => set,
     }
 }
