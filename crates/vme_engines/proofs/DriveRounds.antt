@@ -1,11 +1,9 @@
 -- The rounds of a drive, and the lines of what it made.
-use Rattle.std.proofs.Common.{◌≡◌, ◌≢◌, ◌⊎◌, inl, inr, ℕ, zero, suc, ◌+◌, ◌<◌, ◌≤◌, ◌%◌, List, [], ◌∷◌, ◌++◌, length, Ok, Err, Bool, true, false, drop, Option, Some, None, refl, sym, ◌∙◌, ap, append_assoc, subst, arith, reverse, IsTrue, slice_get, ◌==◌, if◌then◌else◌, eq-eqb, ne_eqb}
+use Rattle.std.proofs.Common.{◌≡◌, ◌≢◌, ◌⊎◌, inl, inr, ℕ, zero, suc, ◌+◌, ◌<◌, ◌≤◌, ◌%◌, List, [], ◌∷◌, length, Ok, Err, Bool, true, false, Option, Some, None, refl, sym, ◌∙◌, ap, subst, arith, reverse, IsTrue, slice_get, ◌==◌, if◌then◌else◌, eq-eqb, ne_eqb}
 use Rattle.std.specs.Option.{option_map_or}
 use Rattle.std.proofs.lemmas.Option.{get_or_from_slice_get, slice_get_within}
 use Rattle.std.proofs.lemmas.List.Elements.{All-get_or}
-use Rattle.std.proofs.lemmas.List.{drop_more}
 use Rattle.std.specs.Io.KnownBytes.{Appends}
-use Rattle.std.proofs.KnownBytes.{Appends-trans}
 use Rattle.vme_model.specs.declared.signals.Version.{Version}
 use Rattle.vme_model.specs.declared.signals.Driver.{Driver}
 use Rattle.vme_model.specs.declared.signals.Edge.{Edge}
@@ -17,10 +15,10 @@ use Rattle.vme_model.specs.Signals.{is_well_formed}
 use Rattle.vme_model.specs.Verdict.{State, made, IsLegal}
 use Rattle.vme_model.specs.Offers.{offered, turn, turns, rounds_from, rounds}
 use Rattle.vme_model.specs.Report.{trace_limit}
-use Rattle.vme_model.specs.Text.{edge_lines, text}
+use Rattle.vme_model.specs.Text.{text}
 use Rattle.vme_trace.specs.declared.Fault.{Fault}
 use Rattle.vme_trace.specs.declared.Fault.TheVariants.{Write}
-use Rattle.vme_trace.specs.Writing.{AppendsFront, edge_line}
+use Rattle.vme_trace.specs.Writing.{AppendsFront}
 use Rattle.vme_engines.specs.declared.Status.{Status}
 use Rattle.vme_engines.specs.declared.Status.TheVariants.{Done, Limit}
 use Rattle.vme_engines.specs.declared.EngineFault.TheVariants as fault
@@ -28,8 +26,6 @@ use Rattle.vme_scenario.specs.Format.{scenario}
 use Rattle.vme_engines.specs.Outcomes.{bench}
 use Rattle.vme_engines.specs.Driving.{driven, driven_text, Drives, DrivesSafely}
 use Rattle.vme_engines.proofs.LegalTrace.{all_well_formed, legal_trace}
-use Rattle.vme_engines.specs.Texts.{HandsOn}
-use Rattle.vme_engines.proofs.WrittenLines.{front_of_more, front_behind}
 
 -- ---- a turn
 
