@@ -167,7 +167,7 @@ impl BusState {
     fn is_asked(&self) -> bool
         ensures { OfHistory self.now (λ _ p h. result ≡ list_any (request_line p h) bus_numbers) }
     {
-        self.request(0) | self.request(1) | self.request(2) | self.request(3)
+        self.request(0) || self.request(1) || self.request(2) || self.request(3)
     }
 
     /// What the guard's part on the release answers, for a board with a requester.

@@ -65,7 +65,9 @@ status_to (Some g) n made _ = Done
 
 -- What a drive with a seed leaves, by what the writer held and holds: the trace of a legal list, with
 -- the edge that was missed after it; at X8 a prefix of that.
-abbrev pub Draws : Version → ℕ → ℕ → Option Goal → Option (List ℕ) → Option (List ℕ) → Plan → Answer → Type 0
+abbrev pub Draws :
+    Version → ℕ → ℕ → Option Goal → Option (List ℕ) → Option (List ℕ)
+    → Plan → Answer → Type 0
 Draws version seed n g old new p (Ok status) =
     let x = walk p version seed n g in
     Appends old new (walk_text p version seed n g)

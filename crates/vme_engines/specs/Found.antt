@@ -45,7 +45,9 @@ Sees version seed n g (Err f) p answer = f ≡ fault.Trace Write
 
 -- What a try of one seed leaves: what a drive with it leaves where it comes to the goal, and else
 -- nothing.
-abbrev pub Attempts : Version → ℕ → ℕ → Goal → Option (List ℕ) → Option (List ℕ) → Tried → Plan → Answer → Type 0
+abbrev pub Attempts :
+    Version → ℕ → ℕ → Goal → Option (List ℕ) → Option (List ℕ)
+    → Tried → Plan → Answer → Type 0
 Attempts version seed n g old new (Ok true) p answer =
     Draws version seed n (Some g) old new p (Ok Done)
 Attempts version seed n g old new (Ok false) p answer =
@@ -54,7 +56,9 @@ Attempts version seed n g old new (Err f) p answer = Draws version seed n (Some 
 
 -- What a drive over seeds leaves: what a drive leaves with the first of them that comes to the goal,
 -- and nothing where none does.
-abbrev pub Finds : Version → ℕ → ℕ → ℕ → Goal → Option (List ℕ) → Option (List ℕ) → Found → Plan → Answer → Type 0
+abbrev pub Finds :
+    Version → ℕ → ℕ → ℕ → Goal → Option (List ℕ) → Option (List ℕ)
+    → Found → Plan → Answer → Type 0
 Finds version n first last g old new (Ok (Some seed)) p answer =
     (first ≤ seed) × (seed ≤ last) × NoneBelow p version n g first seed
     × Draws version seed n (Some g) old new p (Ok Done)

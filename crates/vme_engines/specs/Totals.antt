@@ -34,7 +34,8 @@ Adds p trace s old new (Err _) = ⊥
 
 -- the same of the whole input
 abbrev pub AddsInput : Streams → Sums → Sums → Plan → Answer → Type 0
-AddsInput s old new p answer = (trace : List ℕ) × IsInput s.from trace × Adds p trace s old new answer
+AddsInput s old new p answer =
+    (trace : List ℕ) × IsInput s.from trace × Adds p trace s old new answer
 
 -- What is written of the sums: their lines, at X8 a prefix of them. The status says whether some
 -- edge was refused in some trace.

@@ -93,7 +93,8 @@ abbrev pub line_text : Plan → Answers → Topic → List ℕ
 line_text p t Edges = edges_text (length t) (accepted t) (refused t)
 line_text p t (Rule k) = rule_text k (passed_by k t) (refused_for (by_rule k) t)
 line_text p t (Refusal r) = refusal_text r (refused_for r t)
-line_text p t NeverAccepted = never_text (codes "never accepted") (rules_without (λ k. passed_by k t))
+line_text p t NeverAccepted =
+    never_text (codes "never accepted") (rules_without (λ k. passed_by k t))
 line_text p t (Met v) = met_text v (times_met v t) (first_met v t)
 line_text p t NeverMet = never_text (codes "never met") (events_without (λ v. times_met v t))
 line_text p t (Board s) = if requests p s then board_text s (board_tally s t) else []
