@@ -1,4 +1,4 @@
--- The rounds of a drive, and the lines of what it made.
+-- The rounds of a drive, what it leaves, and that the edges made are well formed.
 use Rattle.std.proofs.Common.{◌≡◌, ◌≢◌, ◌⊎◌, inl, inr, ℕ, zero, suc, ◌+◌, ◌<◌, ◌≤◌, ◌%◌, List, [], ◌∷◌, length, Ok, Err, Bool, true, false, Option, Some, None, refl, sym, ◌∙◌, ap, subst, arith, reverse, IsTrue, slice_get, ◌==◌, if◌then◌else◌, eq-eqb, ne_eqb}
 use Rattle.std.specs.Option.{option_map_or}
 use Rattle.std.proofs.lemmas.Option.{get_or_from_slice_get, slice_get_within}

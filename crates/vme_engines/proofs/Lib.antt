@@ -40,7 +40,7 @@ pub mod ShownPieces
 pub mod ShownTraces
 -- the trace of a legal list is what a check calls legal: src/laws.rt, `drives::drive`
 pub mod LegalTrace
--- the rounds of a drive, and the lines of what it made: src/drives.rt
+-- the rounds of a drive, what it leaves, and that the edges made are well formed: src/drives.rt
 pub mod DriveRounds
 -- the lines of edges, put to a text as they are made: `DrivenLines`, `DrawnLines`
 pub mod ListedLines
