@@ -1,5 +1,5 @@
 -- The answers to edges, and an answer as numbers.
-use Rattle.std.specs.Prelude.{◌-◌, ◌==◌, if◌then◌else◌, ℕ, Bool, true, Option, Some, None, Result, Ok, Err, List, [], ◌∷◌, nat_lt}
+use Rattle.std.specs.Prelude.{◌-◌, ◌==◌, if◌then◌else◌, ℕ, Bool, true, false, Option, Some, None, Result, Ok, Err, List, [], ◌∷◌, nat_lt}
 use Rattle.vme_model.specs.declared.deliveries.Delivery.{Delivery}
 use Rattle.vme_model.specs.declared.refusals.Refused.{Refused}
 use Rattle.vme_model.specs.declared.refusals.Refused.TheVariants.{NoSuchDriver, AlreadyThere, Rule, NotSettled, TraceFull}
@@ -29,6 +29,12 @@ answer_in n d =
 -- the answer that a record stands for
 abbrev pub answer_of : AnswerRecord → Result (Option Delivery) Refused
 answer_of r = answer_in r.number r.delivery
+
+-- the edge is accepted and delivers nothing
+abbrev pub is_plain : Result (Option Delivery) Refused → Bool
+is_plain (Ok None) = true
+is_plain (Ok (Some d)) = false
+is_plain (Err refused) = false
 
 -- a refusal has a number of its own
 abbrev pub is_short : Refused → Bool

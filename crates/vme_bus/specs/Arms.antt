@@ -1,5 +1,5 @@
--- The arm of an edge, by its wire and direction.
-use Rattle.std.specs.Prelude.{◌+◌, ◌*◌, ℕ, Bool, true, false}
+-- What leads to the arm of an edge: the numbers of its wire and of its driver.
+use Rattle.std.specs.Prelude.{ℕ}
 use Rattle.vme_model.specs.declared.signals.Driver.{Driver}
 use Rattle.vme_model.specs.declared.signals.Driver.TheVariants.{Controller, Slot}
 use Rattle.vme_model.specs.declared.signals.Wire.{Wire}
@@ -27,10 +27,3 @@ level_of w = 0
 abbrev pub slot_of : Driver → ℕ
 slot_of Controller = 0
 slot_of (Slot s) = s
-
-abbrev pub fall_number : Bool → ℕ
-fall_number true = 1
-fall_number false = 0
-
-abbrev pub arm : Wire → Bool → ℕ
-arm w fall = 2 * wire_number w + fall_number fall

@@ -1,7 +1,7 @@
 //! The answer to an edge as numbers alone.
 ghost use Rattle.std.specs.Prelude.{◌≡◌, Ok, Err, true, is_ok};
 ghost use Rattle.vme_model.specs.declared.deliveries.Delivery.{Delivery as DeliveryValue};
-ghost use Rattle.vme_bus.specs.Answers.{answer_in, answer_of, refusal_in, is_short};
+ghost use Rattle.vme_bus.specs.Answers.{answer_in, answer_of, is_plain, refusal_in, is_short};
 
 use vme_model::{Delivery, Refused};
 
@@ -67,6 +67,14 @@ impl AnswerRecord {
         ensures { result ≡ is_ok (answer_of self.now) }
     {
         is_accepted(self.number)
+    }
+
+    /// Whether the edge was accepted and delivered nothing.
+    #[inline(always)]
+    pub fn is_plain(&self) -> bool
+        ensures { result ≡ is_plain (answer_of self.now) }
+    {
+        self.number == ACCEPTED
     }
 }
 

@@ -1,12 +1,12 @@
 //! An arm for each wire and direction, so that an edge takes one jump.
 ghost use Rattle.std.specs.Prelude.{◌≡◌};
-ghost use Rattle.vme_bus.specs.Arms.{arm, level_of, slot_of, wire_number};
+ghost use Rattle.vme_bus.specs.Arms.{level_of, slot_of, wire_number};
 
-use vme_model::{Driver, Edge, Wire};
+use vme_model::{Driver, Wire};
 
 /// The number of a wire, in the order of `Wire`.
 #[inline(always)]
-fn wire_number(wire: Wire) -> u8
+pub(crate) fn wire_number(wire: Wire) -> u8
     ensures { result ≡ wire_number wire }
 {
     match wire {
@@ -46,14 +46,4 @@ pub(crate) fn slot_of(driver: Driver) -> u8
         Driver::Controller => 0,
         Driver::Slot(slot) => slot,
     }
-}
-
-/// The arm of an edge: two for each wire, the rise before the fall.
-///
-/// A number and no type, since the compiler makes two jumps of a match on two values, and neither can be foretold.
-#[inline(always)]
-pub(crate) fn arm_of(edge: Edge) -> u8
-    ensures { result ≡ arm edge.wire edge.fall }
-{
-    2 * wire_number(edge.wire) + u8::from(edge.fall)
 }

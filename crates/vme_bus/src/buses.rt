@@ -18,9 +18,9 @@ ghost use Rattle.vme_backplane.specs.Sound.{IsSound};
 ghost use Rattle.vme_bus.specs.States.{IsStateOf};
 
 use crate::answers::{ACCEPTED, AnswerRecord, NO_DRIVER, is_accepted, refusal_number};
-use crate::arms::{arm_of, level_of, slot_of};
+use crate::arms::{level_of, slot_of, wire_number};
 use crate::states::BusState;
-use crate::steps::step_by_arm;
+use crate::steps::{by_direction, step_by_arm};
 use arrayvec::ArrayVec;
 use std::marker::Model;
 use vme_backplane::{Counts, by_wire, choice};

@@ -12,49 +12,65 @@ ghost use Rattle.vme_bus.specs.Asks.{is_boards};
 ghost use Rattle.vme_bus.specs.Steps.{answer_but_full, kept_but_full};
 
 use crate::answers::{NO_DELIVERY, NO_DRIVER, accepted_number, answer_in, refusal_number};
-use crate::arms::{arm_of, level_of, slot_of};
+use crate::arms::{level_of, slot_of, wire_number};
 use crate::states::BusState;
 use vme_model::{Delivery, Driver, Edge, Refused, Wire};
 
-/// Takes a well-formed edge where the rules allow it, in an arm for each wire and direction, so that an edge takes one jump.
-/// Gives the number of the answer, and what is delivered.
+/// The arm of a wire's fall or that of its rise.
+macro_rules! by_direction {
+    ($state:expr, $step:ident, $edge:ident $(, $at:expr)* => $delivery:expr) => {
+        if $edge.fall {
+            $state.$step($edge, $($at,)* true, $delivery)
+        } else {
+            $state.$step($edge, $($at,)* false, $delivery)
+        }
+    };
+}
+
+/// Takes a well-formed edge where the rules allow it, in an arm for each wire and direction. Gives the number of the answer, and
+/// what is delivered.
 ///
+/// Comparisons lead to the arm, since a processor foretells most of them, and often does not foretell where a jump by a table goes.
 /// A macro, so that the arms stand in the loop over edges itself.
 macro_rules! step_by_arm {
     ($state:expr, $edge:ident, $delivery:expr) => {{
         let slot = slot_of($edge.driver);
+        let number = wire_number($edge.wire);
         // No board stands in a slot beyond 21, which the compiler does not know.
-        if slot < 22 {
-            match arm_of($edge) {
-                0 => $state.step_controller($edge, Wire::Bg(level_of($edge.wire)), false, $delivery),
-                1 => $state.step_controller($edge, Wire::Bg(level_of($edge.wire)), true, $delivery),
-                2 => $state.step_controller($edge, Wire::Bclr, false, $delivery),
-                3 => $state.step_controller($edge, Wire::Bclr, true, $delivery),
-                4 => $state.step_controller($edge, Wire::Iack, false, $delivery),
-                5 => $state.step_controller($edge, Wire::Iack, true, $delivery),
-                6 => $state.step_controller($edge, Wire::Berr, false, $delivery),
-                7 => $state.step_controller($edge, Wire::Berr, true, $delivery),
-                8 => $state.step_requester($edge, slot, Wire::Br, false, $delivery),
-                9 => $state.step_requester($edge, slot, Wire::Br, true, $delivery),
-                10 => $state.step_requester($edge, slot, Wire::BgOut, false, $delivery),
-                11 => $state.step_requester($edge, slot, Wire::BgOut, true, $delivery),
-                12 => $state.step_requester($edge, slot, Wire::Bbsy, false, $delivery),
-                13 => $state.step_requester($edge, slot, Wire::Bbsy, true, $delivery),
-                14 => $state.step_master($edge, slot, Wire::Addr, false, $delivery),
-                15 => $state.step_master($edge, slot, Wire::Addr, true, $delivery),
-                16 => $state.step_master($edge, slot, Wire::AddressStrobe, false, $delivery),
-                17 => $state.step_master($edge, slot, Wire::AddressStrobe, true, $delivery),
-                18 => $state.step_master($edge, slot, Wire::DataStrobe, false, $delivery),
-                19 => $state.step_master($edge, slot, Wire::DataStrobe, true, $delivery),
-                20 => $state.step_interrupter($edge, slot, Wire::Irq, false, $delivery),
-                21 => $state.step_interrupter($edge, slot, Wire::Irq, true, $delivery),
-                22 => $state.step_interrupter($edge, slot, Wire::IackOut, false, $delivery),
-                23 => $state.step_interrupter($edge, slot, Wire::IackOut, true, $delivery),
-                24 => $state.step_interrupter($edge, slot, Wire::Dtack, false, $delivery),
-                _ => $state.step_interrupter($edge, slot, Wire::Dtack, true, $delivery),
-            }
-        } else {
+        if slot >= 22 {
             NO_DRIVER
+        } else if number < 4 {
+            if number < 1 {
+                by_direction!($state, step_controller, $edge, Wire::Bg(level_of($edge.wire)) => $delivery)
+            } else if number < 2 {
+                by_direction!($state, step_controller, $edge, Wire::Bclr => $delivery)
+            } else if number < 3 {
+                by_direction!($state, step_controller, $edge, Wire::Iack => $delivery)
+            } else {
+                by_direction!($state, step_controller, $edge, Wire::Berr => $delivery)
+            }
+        } else if number < 7 {
+            if number < 5 {
+                by_direction!($state, step_requester, $edge, slot, Wire::Br => $delivery)
+            } else if number < 6 {
+                by_direction!($state, step_requester, $edge, slot, Wire::BgOut => $delivery)
+            } else {
+                by_direction!($state, step_requester, $edge, slot, Wire::Bbsy => $delivery)
+            }
+        } else if number < 10 {
+            if number < 8 {
+                by_direction!($state, step_master, $edge, slot, Wire::Addr => $delivery)
+            } else if number < 9 {
+                by_direction!($state, step_master, $edge, slot, Wire::AddressStrobe => $delivery)
+            } else {
+                by_direction!($state, step_master, $edge, slot, Wire::DataStrobe => $delivery)
+            }
+        } else if number < 11 {
+            by_direction!($state, step_interrupter, $edge, slot, Wire::Irq => $delivery)
+        } else if number < 12 {
+            by_direction!($state, step_interrupter, $edge, slot, Wire::IackOut => $delivery)
+        } else {
+            by_direction!($state, step_interrupter, $edge, slot, Wire::Dtack => $delivery)
         }
     }};
 }
@@ -272,4 +288,5 @@ impl BusState {
     }
 }
 
+pub(crate) use by_direction;
 pub(crate) use step_by_arm;

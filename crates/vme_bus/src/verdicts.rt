@@ -29,6 +29,9 @@ fn asked(low: bool, fall: bool, ruled: (u8, bool)) -> Result<(), Refused>
     ensures { result ≡ check (is_other_state low fall) Refused.AlreadyThere
         (check ruled.1 (Refused.Rule ruled.0) (Ok tt)) }
 {
+    if (low != fall) & ruled.1 {
+        return Ok(());
+    }
     if low == fall {
         return Err(Refused::AlreadyThere);
     }

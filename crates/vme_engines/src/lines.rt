@@ -14,7 +14,7 @@ ghost use Rattle.vme_engines.specs.Texts.{HandsOn};
 use crate::checks::Finding;
 use crate::counts::Count;
 use crate::pieces::JUDGED_AT_ONCE;
-use crate::tails::push_line;
+use crate::tails::{are_plain, push_line, push_plain};
 use arrayvec::ArrayVec;
 use std::io::Write;
 use vme_bus::{AnswerRecord, Bus};
@@ -102,6 +102,10 @@ fn push_lines(text: &mut Text, count: &Count, records: &[AnswerRecord])
     requires room { length text.old + 640 ≤ 8192 }
     ensures { text.new ≡ text.old ++ answer_lines count.now (map answer_of records.now) }
 {
+    if records.len() == 10 && are_plain(records) {
+        push_plain(text, count);
+        return;
+    }
     let mut digit = count.last_digit();
     for found in records {
         push_line(text, count, digit, found);

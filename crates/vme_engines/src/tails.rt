@@ -1,7 +1,9 @@
 //! The ends of verdict lines: what stands after the last digit of the number.
-ghost use Rattle.std.specs.Prelude.{◌≡◌, ◌+◌, ◌-◌, ◌*◌, ◌/◌, ◌<◌, ◌≤◌, ◌^◌, ◌++◌, ◌∷◌, [], length, codes};
+ghost use Rattle.std.specs.Prelude.{◌≡◌, ◌+◌, ◌-◌, ◌*◌, ◌/◌, ◌%◌, ◌<◌, ◌≤◌, ◌^◌, ◌++◌, ◌∷◌, [], length, map, codes};
 ghost use Rattle.vme_model.specs.Report.{verdict_line, verdict_text};
-ghost use Rattle.vme_bus.specs.Answers.{answer_of};
+ghost use Rattle.std.specs.List.{list_all};
+ghost use Rattle.vme_bus.specs.Answers.{answer_of, is_plain};
+ghost use Rattle.vme_engines.specs.Recorded.{plain_lines};
 
 use crate::counts::Count;
 use arrayvec::ArrayVec;
@@ -120,5 +122,34 @@ pub(crate) fn push_line(text: &mut Text, count: &Count, digit: u8, found: &Answe
     } else {
         count.push_line(text, digit, *b"........", 0);
         push_rare(text, found.answer());
+    }
+}
+
+/// Whether edges are all accepted and deliver nothing.
+#[inline(always)]
+pub(crate) fn are_plain(records: &[AnswerRecord]) -> bool
+    ensures { result ≡ list_all is_plain (map answer_of records.now) }
+{
+    let mut are = true;
+    for found in records {
+        are &= found.is_plain();
+    }
+    are
+}
+
+/// Appends the verdict lines of ten edges that are accepted and deliver nothing, from `count` on, which ends in 0.
+///
+/// Their ends are one constant, so that a line takes a third of the work.
+#[inline(always)]
+pub(crate) fn push_plain(text: &mut Text, count: &Count)
+    requires tens { count.now % 10 ≡ 0 }
+    requires small { count.now + 10 ≤ 2 ^ 64 }
+    requires room { length text.old + 640 ≤ 8192 }
+    ensures { text.new ≡ text.old ++ plain_lines count.now 10 }
+{
+    let mut digit = b'0';
+    while digit <= b'9' {
+        count.push_line(text, digit, ENDS[0], usize::from(SIZES[0]));
+        digit += 1;
     }
 }

@@ -96,7 +96,8 @@ impl Text {
         self.bytes[len..len + ROW].copy_from_slice(&row[..ROW]);
         self.bytes[end] = digit;
         self.bytes[end + 1..end + 1 + TAIL].copy_from_slice(&tail);
-        self.len = end + 1 + size;
+        // In one sum of what is known before, so that the next line waits for no more than that.
+        self.len = len + (many + 1 + size);
     }
 
     /// Appends bytes, however many.
