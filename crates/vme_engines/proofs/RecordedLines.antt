@@ -1,5 +1,6 @@
 -- The answers to edges, and what is written of them and found in them.
-use Rattle.std.proofs.Common.{◌≡◌, ℕ, ◌+◌, ◌≤◌, List, [], ◌∷◌, ◌++◌, length, drop, take, map, Option, Result, Ok, Err, refl, sym, ◌∙◌, ap, append_assoc, arith}
+use Rattle.std.proofs.Common.{◌≡◌, ℕ, suc, ◌+◌, ◌≤◌, List, [], ◌∷◌, ◌++◌, length, drop, take, map, Option, Some, None, Result, Ok, Err, true, refl, sym, ◌∙◌, ap, append_assoc, arith}
+use Rattle.std.specs.List.{list_all}
 use Rattle.std.proofs.lemmas.List.{length-map, length-take-le, map-append, take-append-drop}
 use Rattle.vme_model.specs.declared.deliveries.Delivery.{Delivery}
 use Rattle.vme_model.specs.declared.refusals.Refused.{Refused}
@@ -8,9 +9,9 @@ use Rattle.vme_model.specs.Verdict.{State, Judgement, verdict, after, kept}
 use Rattle.vme_model.specs.Deliveries.{answer, delivery, with_delivery}
 use Rattle.vme_model.specs.Report.{verdict_line, verdict_lines}
 use Rattle.vme_bus.specs.declared.answers.AnswerRecord.{AnswerRecord}
-use Rattle.vme_bus.specs.Answers.{answer_of, answers}
+use Rattle.vme_bus.specs.Answers.{answer_of, answers, is_plain}
 use Rattle.vme_engines.specs.Checking.{or_refusal, first_refusal}
-use Rattle.vme_engines.specs.Recorded.{answer_lines, first_refused_of}
+use Rattle.vme_engines.specs.Recorded.{answer_lines, plain_lines, first_refused_of}
 use Rattle.vme_engines.proofs.WrittenLines.{lines_append}
 
 -- ---- the lines
@@ -42,6 +43,20 @@ pub lines_of_chunk : (b next : State) (n later : ℕ) (es chunk behind : List Ed
     → xs ≡ answers b chunk → verdict_lines b n es ≡ answer_lines n xs ++ verdict_lines next later behind
 lines_of_chunk b next n later es chunk behind xs split state number all =
     rw (split, state, number, all) (lines_append b n chunk behind ∙ ap (λ l. l ++ verdict_lines (kept b chunk) (n + length chunk) behind) (lines_are b n chunk))
+
+-- ---- the lines of edges that are accepted and deliver nothing
+
+pub plain_are : (n : ℕ) (xs : List (Result (Option Delivery) Refused)) → list_all is_plain xs ≡ true → answer_lines n xs ≡ plain_lines n (length xs)
+plain_are n [] h = refl
+plain_are n (Ok None ∷ xs) h = ap (λ l. verdict_line n (Ok None) ++ l) (plain_are (n + 1) xs h)
+plain_are n (Ok (Some d) ∷ xs) h = absurd (cc)
+plain_are n (Err refused ∷ xs) h = absurd (cc)
+
+-- one of them is written, and fewer are left
+pub plain_more : (n next many fewer : ℕ) (text longer whole : List ℕ) → many ≡ suc fewer → next ≡ n + 1 → text ++ plain_lines n many ≡ whole → longer ≡ text ++ verdict_line n (Ok None)
+    → longer ++ plain_lines next fewer ≡ whole
+plain_more n next many fewer text longer whole is_many is_next run is =
+    rw (is_next, is) (append_assoc text (verdict_line n (Ok None)) (plain_lines (n + 1) fewer) ∙ ap (λ k. text ++ plain_lines n k) (sym is_many) ∙ run)
 
 -- ---- the first refusal
 

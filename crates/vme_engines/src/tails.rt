@@ -148,7 +148,7 @@ pub(crate) fn push_plain(text: &mut Text, count: &Count)
     ensures { text.new ≡ text.old ++ plain_lines count.now 10 }
 {
     let mut digit = b'0';
-    while digit <= b'9' {
+    'lines: while digit <= b'9' {
         count.push_line(text, digit, ENDS[0], usize::from(SIZES[0]));
         digit += 1;
     }
