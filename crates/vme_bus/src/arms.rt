@@ -1,4 +1,4 @@
-//! An arm for each wire and direction, so that an edge takes one jump.
+//! What leads to the arm of an edge: the numbers of its wire, of its level and of its slot.
 ghost use Rattle.std.specs.Prelude.{◌≡◌};
 ghost use Rattle.vme_bus.specs.Arms.{level_of, slot_of, wire_number};
 

@@ -41,7 +41,9 @@ macro_rules! step_by_arm {
             NO_DRIVER
         } else if number < 4 {
             if number < 1 {
-                by_direction!($state, step_controller, $edge, Wire::Bg(level_of($edge.wire)) => $delivery)
+                by_direction!(
+                    $state, step_controller, $edge, Wire::Bg(level_of($edge.wire)) => $delivery
+                )
             } else if number < 2 {
                 by_direction!($state, step_controller, $edge, Wire::Bclr => $delivery)
             } else if number < 3 {

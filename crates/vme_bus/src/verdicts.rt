@@ -29,6 +29,7 @@ fn asked(low: bool, fall: bool, ruled: (u8, bool)) -> Result<(), Refused>
     ensures { result ≡ check (is_other_state low fall) Refused.AlreadyThere
         (check ruled.1 (Refused.Rule ruled.0) (Ok tt)) }
 {
+    // One test for an edge that passes, as most do: what refuses another is found out behind it.
     if (low != fall) & ruled.1 {
         return Ok(());
     }
