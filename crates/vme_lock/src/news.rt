@@ -6,10 +6,10 @@ use std::thread::yield_now;
 use std::time::Duration;
 
 /// In one of so many turns that a worker waits, the other threads go first: to let them go takes longer than the turn.
-const TURNS_TO_A_YIELD: u32 = 8;
+const TURNS_TO_A_YIELD: u32 = 24;
 
 /// After so many turns a worker that waits sleeps.
-const TURNS_TO_A_NAP: u32 = 64;
+const TURNS_TO_A_NAP: u32 = 192;
 
 /// In so many turns it sleeps, and then in none: what it waits for may never come.
 const NAPS: u32 = 100;
