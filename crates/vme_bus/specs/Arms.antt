@@ -1,4 +1,4 @@
--- What leads to the arm of an edge: the numbers of its wire and of its driver.
+-- The number of a wire, by which an edge finds its arm; and the slot and the level that the arm takes.
 use Rattle.std.specs.Prelude.{ℕ}
 use Rattle.vme_model.specs.declared.signals.Driver.{Driver}
 use Rattle.vme_model.specs.declared.signals.Driver.TheVariants.{Controller, Slot}

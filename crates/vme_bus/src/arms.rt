@@ -1,10 +1,10 @@
-//! What leads to the arm of an edge: the numbers of its wire, of its level and of its slot.
+//! The number of a wire, by which an edge finds its arm; and the slot and the level that the arm takes.
 ghost use Rattle.std.specs.Prelude.{◌≡◌};
 ghost use Rattle.vme_bus.specs.Arms.{level_of, slot_of, wire_number};
 
 use vme_model::{Driver, Wire};
 
-/// The number of a wire, in the order of `Wire`.
+/// The number of a wire, in the order of `Wire`: a number, since comparisons need an order.
 #[inline(always)]
 pub(crate) fn wire_number(wire: Wire) -> u8
     ensures { result ≡ wire_number wire }

@@ -30,13 +30,15 @@ macro_rules! by_direction {
 /// Takes a well-formed edge where the rules allow it, in an arm for each wire and direction. Gives the number of the answer, and
 /// what is delivered.
 ///
-/// Comparisons lead to the arm, since a processor foretells most of them, and often does not foretell where a jump by a table goes.
-/// A macro, so that the arms stand in the loop over edges itself.
+/// Comparisons lead to the arm, since a processor foretells most of them, and may not foretell where a jump by a table goes. No more
+/// than three in a row single out one wire, as the compiler makes such a jump of four. None asks who drives the edge: of a well-formed
+/// one the wire tells whether the controller does. A macro, so that the arms stand in the loop over edges itself; who uses it brings
+/// what it names into scope.
 macro_rules! step_by_arm {
     ($state:expr, $edge:ident, $delivery:expr) => {{
         let slot = slot_of($edge.driver);
         let number = wire_number($edge.wire);
-        // No board stands in a slot beyond 21, which the compiler does not know.
+        // No board stands in a slot beyond 21, which the compiler does not know: by this test it drops the later ones.
         if slot >= 22 {
             NO_DRIVER
         } else if number < 4 {

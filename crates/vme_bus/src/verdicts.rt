@@ -23,13 +23,13 @@ use vme_model::{ChainId, Cycle, Driver, Edge, Refused, Wire};
 use vme_rules::settlings::{as_settles, berr_settles, bg_fall_settles, bg_rise_settles};
 use vme_rules::{Outcome, allowed};
 
-/// E2 and E3 of an edge, by the state of its wire, the rule that names it and what its guard answers.
+/// E2 and E3 of an edge, by whether its wire is low, whether the edge falls, and the number of its rule with what the guard answers.
 #[inline(always)]
 fn asked(low: bool, fall: bool, ruled: (u8, bool)) -> Result<(), Refused>
     ensures { result ≡ check (is_other_state low fall) Refused.AlreadyThere
         (check ruled.1 (Refused.Rule ruled.0) (Ok tt)) }
 {
-    // One test for an edge that passes, as most do: what refuses another is found out behind it.
+    // Both at once, by `&`, so that an edge that passes takes one branch: what refuses another is found out behind it.
     if (low != fall) & ruled.1 {
         return Ok(());
     }

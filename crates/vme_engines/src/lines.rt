@@ -102,6 +102,7 @@ fn push_lines(text: &mut Text, count: &Count, records: &[AnswerRecord])
     requires room { length text.old + 640 ≤ 8192 }
     ensures { text.new ≡ text.old ++ answer_lines count.now (map answer_of records.now) }
 {
+    // Most edges of a legal trace are such, and their lines take less work.
     if records.len() == 10 && are_plain(records) {
         push_plain(text, count);
         return;
@@ -113,8 +114,8 @@ fn push_lines(text: &mut Text, count: &Count, records: &[AnswerRecord])
     }
 }
 
-/// Appends the verdict lines of edges, from `count` on, to a text that is written where it has no room, and counts on
-/// after them.
+/// Appends the verdict lines of edges, from `count` on, to a text that is written out whenever it has no room for ten lines
+/// more, and counts on after them.
 ///
 /// Errors: X8 where that failed; a prefix of the lines was then written.
 #[inline(always)]
@@ -148,6 +149,8 @@ fn write_lines<W: Write>(
 
 /// Judges the edges after the first `judged`, and writes the verdict line of each. The lines are put
 /// together in `text`, whatever it held.
+///
+/// Errors: X8 where that failed; a prefix of the lines was then written.
 pub(crate) fn write_verdicts<W: Write>(
     bus: &mut Bus,
     judged: u64,

@@ -12,10 +12,11 @@ use vme_model::{Delivery, Refused};
 use vme_reasons::texts::{push, push_verdict};
 use vme_text::Text;
 
-/// How many numbers of answers have an end of their own: all but that of a delivery.
+/// How many numbers of answers have an end of their own: all that are used but that of a delivery.
 const ENDS_COUNT: usize = 64;
 
-/// The end of the verdict line of each such number, in eight bytes.
+/// The end of the verdict line of each such number, in eight bytes, of which dots do not count. 4 to 15 are of no answer, and
+/// read as S0.
 static ENDS: [[u8; 8]; ENDS_COUNT] = [
     *b" ok\n....",
     *b" E1\n....",
@@ -105,7 +106,7 @@ fn push_rare(text: &mut Text, answer: Result<Option<Delivery>, Refused>)
 
 /// Appends the verdict line of the edge whose number has the tens of `count` and this last digit: at most 64 bytes.
 ///
-/// Its end comes from the table by the number of the answer, so that no test asks what the answer is.
+/// Its end comes from the table by the number of the answer, so that one test asks what the answer is: whether it is a delivery.
 #[inline(always)]
 pub(crate) fn push_line(text: &mut Text, count: &Count, digit: u8, found: &AnswerRecord)
     requires least { 48 ≤ digit }
@@ -125,7 +126,7 @@ pub(crate) fn push_line(text: &mut Text, count: &Count, digit: u8, found: &Answe
     }
 }
 
-/// Whether edges are all accepted and deliver nothing.
+/// Whether edges are all accepted and deliver nothing. It looks at all of them, since no processor foretells where the first other one stands.
 #[inline(always)]
 pub(crate) fn are_plain(records: &[AnswerRecord]) -> bool
     ensures { result ≡ list_all is_plain (map answer_of records.now) }
@@ -139,7 +140,7 @@ pub(crate) fn are_plain(records: &[AnswerRecord]) -> bool
 
 /// Appends the verdict lines of ten edges that are accepted and deliver nothing, from `count` on, which ends in 0.
 ///
-/// Their ends are one constant, so that a line takes a third of the work.
+/// Their ends are one constant, so that a line takes half of the work.
 #[inline(always)]
 pub(crate) fn push_plain(text: &mut Text, count: &Count)
     requires tens { count.now % 10 ≡ 0 }

@@ -5,13 +5,13 @@ use std::sync::{Condvar, Wait};
 use std::thread::yield_now;
 use std::time::Duration;
 
-/// In one of so many turns that a worker waits, the other threads go first: to let them go takes longer than the turn.
+/// A worker that waits yields in one of so many turns, and not in each: a yield takes longer than such a turn.
 const TURNS_TO_A_YIELD: u32 = 24;
 
-/// After so many turns a worker that waits sleeps.
+/// After so many turns, and eight yields, a worker that waits sleeps.
 const TURNS_TO_A_NAP: u32 = 192;
 
-/// In so many turns it sleeps, and then in none: what it waits for may never come.
+/// In so many turns it sleeps, and then yields as before: what it waits for may never come.
 const NAPS: u32 = 100;
 
 /// How long it sleeps in a turn at most, in milliseconds.
@@ -33,13 +33,13 @@ impl News {
         }
     }
 
-    /// How often something was told: as often as before where no edge was made since.
+    /// How often something was told. Where it is as before, no edge was told since.
     #[inline(always)]
     pub(crate) fn count(&self) -> u64 {
         self.told.notifications()
     }
 
-    /// Tells of an edge that was made, when the lock is free again.
+    /// Tells of an edge that was made. Called when the lock is free again, so that who wakes need not wait for it.
     #[inline(always)]
     pub(crate) fn tell_edge(&self) {
         self.told.notify_all();
@@ -73,11 +73,12 @@ impl Idle {
         self.seen == count
     }
 
-    /// Waits for a turn. A long wait lasts until the driver that it waits for has a processor again, however busy the
-    /// machine is; where a worker has ended, that may be the driver, and nobody sleeps any more.
+    /// Waits for a turn. A long wait sleeps, so that its turns are not spent before the driver that it waits for has a
+    /// processor again; nothing assures that they suffice. Where a worker has ended, that may be the driver, and nobody
+    /// sleeps any more.
     pub(crate) fn wait<R: Wait>(&mut self, rt: &R, news: &News) {
         self.turns = self.turns.saturating_add(1);
-        if self.is_long() && !news.has_ended.load(Ordering::SeqCst) {
+        if self.is_nap() && !news.has_ended.load(Ordering::SeqCst) {
             let nap = Duration::from_millis(NAP_MILLIS);
             news.told.sleep(rt, self.seen, nap);
         } else if self.turns % TURNS_TO_A_YIELD == 0 {
@@ -85,7 +86,8 @@ impl Idle {
         }
     }
 
-    fn is_long(&self) -> bool {
+    /// Whether it sleeps in this turn.
+    fn is_nap(&self) -> bool {
         self.turns > TURNS_TO_A_NAP && self.turns - TURNS_TO_A_NAP <= NAPS
     }
 }

@@ -162,7 +162,7 @@ struct Work<'s, 'r> {
 
 /// Takes the next turn. `Err` where the worker ends.
 ///
-/// Where no edge was made since a look that found no offer there is none now, and the lock is not asked for.
+/// Where nothing was told since a look that found no offer, the lock is not asked for.
 fn take_turn<L: Rig, G: Gate, R: Wait>(
     rt: &R,
     shared: &Shared<'_, L>,
