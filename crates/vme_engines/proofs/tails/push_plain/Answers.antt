@@ -9,7 +9,7 @@ use Rattle.vme_engines.proofs.tails.push_plain.Goals as goal
 
 -- what is delivered where nothing is does not matter
 nothing : Delivery
-nothing = record { handler = 0; level = 0; answered_by = 0; status = 0; }
+nothing = record { handler = 0; level = 0; answered_by = 0; status = 0 }
 
 pub lines-preserved : goal.lines-preserved
 lines-preserved c =
