@@ -8,8 +8,8 @@ use std::time::Duration;
 /// A worker that waits yields in one of so many turns, and not in each: a yield takes longer than such a turn.
 const TURNS_TO_A_YIELD: u32 = 24;
 
-/// After so many turns, and eight yields, a worker that waits sleeps.
-const TURNS_TO_A_NAP: u32 = 192;
+/// After so many turns, and three yields, a worker that waits sleeps.
+const TURNS_TO_A_NAP: u32 = 72;
 
 /// In so many turns it sleeps, and then yields as before: what it waits for may never come.
 const NAPS: u32 = 100;
