@@ -4,10 +4,22 @@ import os
 import signal
 import subprocess
 import threading
+import time
+from dataclasses import dataclass
 
 
 class Stopped(Exception):
     """No command is begun any more."""
+
+
+@dataclass(frozen=True)
+class Ended:
+    """How a command ended: its status, what it printed, its seconds of processor time, and when it printed each line."""
+
+    status: int
+    said: str
+    seconds: float
+    times: tuple
 
 
 class Commands:
@@ -17,15 +29,19 @@ class Commands:
         self.running, self.lock, self.is_stopped = set(), threading.Lock(), False
 
     def call(self, words, folder):
-        """Runs a command in a folder, and returns its status and what it printed."""
+        """Runs a command in a folder, and returns how it ended."""
         with self.lock:
             if self.is_stopped:
                 raise Stopped
             how = {"cwd": folder, "stdin": subprocess.DEVNULL, "stdout": subprocess.PIPE, "stderr": subprocess.STDOUT}
             made = subprocess.Popen(words, start_new_session=True, text=True, errors="replace", **how)
             self.running.add(made)
+        began, lines, times = time.monotonic(), [], []
         try:
-            said, _ = made.communicate()
+            for line in made.stdout:
+                lines.append(line)
+                times.append(time.monotonic() - began)
+            status, seconds = reaped(made)
         except BaseException:
             end(made)
             raise
@@ -34,7 +50,7 @@ class Commands:
                 self.running.discard(made)
         if self.is_stopped:
             raise Stopped
-        return made.returncode, said
+        return Ended(status, "".join(lines), seconds, tuple(times))
 
     def stop(self):
         """Ends all that run, with what they started."""
@@ -42,6 +58,14 @@ class Commands:
             self.is_stopped = True
             for it in self.running:
                 end(it)
+
+
+def reaped(command):
+    """Waits for a command's end, and returns its status and its seconds of processor time, with those of what it started."""
+    _, status, used = os.wait4(command.pid, 0)
+    command.returncode = -os.WTERMSIG(status) if os.WIFSIGNALED(status) else os.WEXITSTATUS(status)
+    command.stdout.close()
+    return command.returncode, used.ru_utime + used.ru_stime
 
 
 def end(command):

@@ -17,11 +17,12 @@ class BadEdit(Exception):
 
 @dataclass(frozen=True)
 class Edit:
-    """An edit: its crate, its name, and its replacements as (file, old, new)."""
+    """An edit: its crate, its name, its replacements as (file, old, new), and the function that has to refuse it, if it is named."""
 
     crate: str
     name: str
     pairs: tuple
+    at: str = ""
 
     @property
     def label(self):
@@ -34,13 +35,15 @@ class Edit:
 
 @dataclass(frozen=True)
 class Reach:
-    """The functions at one of which an edit has to be refused, and all whose proofs it may change."""
+    """The functions at one of which an edit has to be refused, and all whose proofs it may change: of any function, if it edits a definition."""
 
     own: frozenset
     touched: frozenset
+    is_of_all: bool = False
 
     def is_apart_from(self, other):
-        return not self.touched & other.own and not self.own & other.touched
+        is_free = not self.is_of_all and not other.is_of_all
+        return is_free and not self.touched & other.own and not self.own & other.touched
 
 
 def read(crate, name, text):
@@ -84,8 +87,11 @@ def reach(edit, texts):
     """The functions that an edit stands in, and those that its text may change beside them.
 
     What stands in a body changes the proof of its function alone, since a caller's proof rests on the contract. What stands in a
-    contract changes those that name the function too. What stands in another item has to be refused where that item is named.
+    contract changes those that name the function too. What stands in another item has to be refused where that item is named. An
+    edit that names the function that has to refuse it may change any.
     """
+    if edit.at:
+        return Reach(frozenset([edit.at]), frozenset([edit.at]), True)
     found = {file: sources.functions(edit.crate, file, text) for file, text in texts.items() if file.startswith("src/")}
     own, touched = set(), set()
     for file, old, _ in edit.pairs:

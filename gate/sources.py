@@ -2,6 +2,7 @@
 
 import re
 from dataclasses import dataclass
+from functools import lru_cache
 
 FUNCTION = re.compile(r'( *)(?:pub(?:\([a-z: ]+\))? )?(?:const |unsafe |extern "C" )*fn (\w+)')
 IMPL = re.compile(r"(?:unsafe )?impl\b")
@@ -18,6 +19,7 @@ class Function:
     end: int
 
 
+@lru_cache(maxsize=None)
 def functions(crate, file, text):
     """Returns the functions of a source file, in order."""
     lines = text.split("\n")

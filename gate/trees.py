@@ -7,6 +7,21 @@ import shutil
 PARTS = ("src", "specs", "proofs")
 
 
+class Repository:
+    """A repository's crates: their lines of crates.txt, the libraries that each uses, and their texts as they stood when they were first read."""
+
+    def __init__(self, root):
+        self.root = root
+        self.lines, self.uses = read_crates(root)
+        self.read = {}
+
+    def texts(self, name):
+        """The texts of a crate's sources, definitions and proofs, by file."""
+        if name not in self.read:
+            self.read[name] = read_texts(self.root, name)
+        return self.read[name]
+
+
 def read_crates(root):
     """Returns the line that crates.txt has for each crate, and the libraries that each uses, by the crate's name."""
     lines, uses = {}, {}
@@ -47,14 +62,18 @@ def copy_all(root, to):
     shutil.copytree(root, to, ignore=shutil.ignore_patterns(".git", "out", "__pycache__"))
 
 
+def files_of(folder):
+    """Yields the files below a folder."""
+    for at, _, files in os.walk(folder):
+        yield from (f"{at}/{it}" for it in files)
+
+
 def read_texts(root, name):
     """Returns the texts of a crate's sources, definitions and proofs, by file."""
     texts, folder = {}, f"{root}/crates/{name}"
-    for part in PARTS:
-        for at, _, files in os.walk(f"{folder}/{part}"):
-            for file in files:
-                with open(f"{at}/{file}", encoding="utf-8") as text:
-                    texts[os.path.relpath(f"{at}/{file}", folder)] = text.read()
+    for file in (it for part in PARTS for it in files_of(f"{folder}/{part}")):
+        with open(file, encoding="utf-8") as text:
+            texts[os.path.relpath(file, folder)] = text.read()
     return texts
 
 

@@ -1,0 +1,49 @@
+"""A kit of the tests' own, by which an edit takes no time: its prover refuses a function whose name stands after `wrong_` in the source."""
+
+import os
+
+from tests.small import write
+
+PROVER = """#!/usr/bin/env python3
+import sys
+words = sys.argv[1:]
+text = open("src/lib.rt", encoding="utf-8").read()
+asked = [words[at + 1].rpartition("::")[2] for at, it in enumerate(words) if it == "--only"]
+for name in asked:
+    if f"wrong_{name}" in text:
+        print(f"src/lib.rt:1:1: {name} is wrong\\nfn numbers::{name}: no proof: `search` did not prove it")
+    else:
+        print(f"fn numbers::{name}: proved")
+print(f"only={len(asked)} proved=0")
+"""
+
+BUILDER = """#!/usr/bin/env python3
+import os
+name = os.path.basename(os.getcwd())
+os.makedirs(f"out/rlib/{name}.rlib")
+"""
+
+# The source of a crate whose edits this kit's prover can refuse.
+SOURCE = """//! Numbers, for the tests of what is kept.
+
+/// One.
+pub fn one() -> u8 {
+    1
+}
+
+/// Two.
+pub fn two() -> u8 {
+    2
+}
+"""
+GOOD = {"one_is_wrong": ("    1", "    wrong_one()"), "two_is_wrong": ("    2", "    wrong_two()")}
+BAD = {"one_is_right": ("    1", "    2 - 1")}
+
+
+def lay_out(folder, name="a kit"):
+    """Makes the kit, and returns the environment in which its `rt` is found."""
+    for file, text in {"KIT-ID": name, "bin/rattle": PROVER, "bin/rt": BUILDER, "rlibs/std.rlib/format": "", "logic_built/it": "", "rattle/logic/it": ""}.items():
+        write(f"{folder}/{file}", text)
+    for it in ("rattle", "rt"):
+        os.chmod(f"{folder}/bin/{it}", 0o755)
+    return {"PATH": f"{folder}/bin:{os.environ['PATH']}"}
