@@ -1,0 +1,213 @@
+#!/usr/bin/env python3
+"""Sees to the end of a test tool: whatever ends it, nothing is left behind, and a total is the last line.
+
+    gate/ending.py NAME COMMAND [WORD]..            a tool that is a command, such as a script of bash
+    sys.exit(ending.guard(NAME, work))              a tool in Python, whose work a function does
+
+The work is done in a process of its own, which leads a session, with a new folder as TMPDIR. What it prints is handed on. Once it
+has ended, or at SIGINT, SIGTERM or SIGHUP, all that still runs of it is ended by its process group, and the folder is removed.
+The first two signals end it even if they were ignored when it began, as they are behind `&` in a script. SIGHUP that was ignored
+stays so, since `nohup` asks for that.
+
+The last line is 'N passed, M failed', and the status is 0 only if M is 0 and N is above 0. Work that ends without a total, at
+another status than its total has, by a signal, or with nothing passed and nothing failed, has failed: a line says why, and the
+total counts it.
+"""
+
+import os
+import re
+import select
+import shutil
+import signal
+import sys
+import tempfile
+import time
+
+SIGNALS = (signal.SIGINT, signal.SIGTERM, signal.SIGHUP)
+TOTAL = re.compile(rb"(\d+) passed, (\d+) failed\n?")
+
+# How many seconds a group may take to end by SIGTERM, before it is ended by SIGKILL. A tool among them ends its own work first.
+GRACE = 5
+
+# Names the tool in the environment of its work, so that a script sees that it is guarded.
+GUARDED = "VMEBUS_GUARDED"
+
+
+class Caught:
+    """The signal that came first, if any."""
+
+    def __init__(self):
+        self.number = None
+        for it in SIGNALS:
+            if it != signal.SIGHUP or signal.getsignal(it) != signal.SIG_IGN:
+                signal.signal(it, self.note)
+
+    def note(self, number, _):
+        self.number = self.number or number
+
+
+class Relay:
+    """Hands on what the work prints, but for a total at its end, which is kept until the work has ended."""
+
+    def __init__(self, reader):
+        self.reader, self.kept, self.is_open, self.is_heard = reader, b"", True, True
+
+    def hear(self, seconds):
+        """Hands on what comes within so many seconds, and returns whether anything came."""
+        if not self.is_open or not select.select([self.reader], [], [], seconds)[0]:
+            return False
+        more = os.read(self.reader, 1 << 16)
+        self.is_open = bool(more)
+        lines = (self.kept + more).splitlines(keepends=True)
+        keeps = lines and (not lines[-1].endswith(b"\n") or TOTAL.fullmatch(lines[-1]))
+        self.kept = lines.pop() if keeps else b""
+        self.say(b"".join(lines))
+        return self.is_open
+
+    def hear_rest(self):
+        """Hands on what is there by now."""
+        while self.is_heard and self.hear(0):
+            pass
+
+    def say(self, text):
+        """Prints, for as long as there is a reader."""
+        try:
+            sys.stdout.buffer.write(text)
+            sys.stdout.buffer.flush()
+        except OSError:
+            self.is_heard = False
+            os.dup2(os.open(os.devnull, os.O_WRONLY), sys.stdout.fileno())
+
+    def total(self):
+        """The total that was kept, as two numbers, or None. A last line that is none is handed on."""
+        found = TOTAL.fullmatch(self.kept)
+        if self.kept and not found:
+            self.say(self.kept.rstrip(b"\n") + b"\n")
+        return [int(it) for it in found.groups()] if found else None
+
+
+def guard(name, work):
+    """Does a tool's work, and returns its status; `--help` is no work."""
+    if {"-h", "--help"} & set(sys.argv[1:]):
+        return work()
+    sys.stdout.flush()
+    signal.pthread_sigmask(signal.SIG_BLOCK, SIGNALS)
+    try:
+        room = tempfile.mkdtemp(prefix=f"{name}-")
+        reader, writer = os.pipe()
+        child = os.fork()
+    except OSError as fault:
+        return closed(name, Relay(None), None, f"its work cannot begin: {fault}")
+    if not child:
+        enter(name, room, writer)
+        return work()
+    os.close(writer)
+    caught, relay = Caught(), Relay(reader)
+    signal.pthread_sigmask(signal.SIG_UNBLOCK, SIGNALS)
+    status = follow(child, caught, relay)
+    end_group(child, status)
+    relay.hear_rest()
+    shutil.rmtree(room, ignore_errors=True)
+    return closed(name, relay, *judged(relay.total(), status, caught, relay))
+
+
+def enter(name, room, writer):
+    """Makes this new process the leader of the work's session, with its own folder, and without a reader at its input."""
+    os.setsid()
+    os.dup2(os.open(os.devnull, os.O_RDONLY), 0)
+    os.dup2(writer, 1)
+    os.environ[GUARDED] = name
+    os.environ["TMPDIR"] = tempfile.tempdir = room
+    for it in (signal.SIGINT, signal.SIGTERM):
+        signal.signal(it, signal.SIG_DFL)
+    signal.pthread_sigmask(signal.SIG_UNBLOCK, SIGNALS)
+    sys.stdout.reconfigure(line_buffering=True)
+
+
+def follow(child, caught, relay):
+    """Hands on what the work prints until it has ended, and returns its status, None if it is to be ended before."""
+    status = None
+    while status is None and caught.number is None and relay.is_heard:
+        if not relay.hear(0.1):
+            time.sleep(0.01)
+        status = ended(child)
+    return status
+
+
+def ended(child):
+    """The status of a process that has ended, below 0 by a signal; None while it runs."""
+    found, status = os.waitpid(child, os.WNOHANG)
+    if not found:
+        return None
+    return os.WEXITSTATUS(status) if os.WIFEXITED(status) else -os.WTERMSIG(status)
+
+
+def end_group(leader, status):
+    """Ends what runs in a group, and waits for its leader, unless that has a status, since it has ended."""
+    for number in (signal.SIGTERM, signal.SIGKILL):
+        is_there, end = reached(leader, number), time.monotonic() + GRACE
+        while is_there and time.monotonic() < end:
+            status = ended(leader) if status is None else status
+            time.sleep(0.01)
+            is_there = reached(leader, 0)
+
+
+def reached(leader, number):
+    """Sends a signal to a group, and returns whether anything of it is there."""
+    try:
+        os.killpg(leader, number)
+    except ProcessLookupError:
+        return False
+    return True
+
+
+def judged(total, status, caught, relay):
+    """The total of work that ended so, or None, and what is wrong with its end, or nothing."""
+    if caught.number is not None:
+        return None, f"interrupted by {signal.Signals(caught.number).name}"
+    if not relay.is_heard:
+        return None, "nobody reads what it prints"
+    if total is None or status < 0:
+        how = f"by {signal.Signals(-status).name}" if status < 0 else f"with status {status} and without a total"
+        return None, f"ended {how}"
+    if total == [0, 0]:
+        return None, "nothing was run"
+    if status != 0 and total[1] == 0:
+        return [total[0], 1], f"ended with status {status}"
+    return total, ""
+
+
+def closed(name, relay, total, why):
+    """Prints the last lines, and returns the status."""
+    passed, failed = total or [0, 1]
+    said = f"{name}: {why}\n" if why else ""
+    relay.say(f"{said}{passed} passed, {failed} failed\n".encode())
+    return 0 if passed and not failed else 1
+
+
+def refuse(name, why):
+    """Ends a tool that cannot do its work: a line says why, and the total counts it."""
+    print(f"{name}: {why}\n0 passed, 1 failed")
+    sys.exit(1)
+
+
+def become(words):
+    """Becomes a command, which handles signals as a command does that nobody guards."""
+    for it in (signal.SIGPIPE, signal.SIGXFSZ):
+        signal.signal(it, signal.SIG_DFL)
+    try:
+        os.execvp(words[0], words)
+    except OSError as fault:
+        print(f"{words[0]} cannot be run: {fault}")
+    return 1
+
+
+def main():
+    if len(sys.argv) < 3:
+        print(__doc__)
+        return 1
+    return guard(sys.argv[1], lambda: become(sys.argv[2:]))
+
+
+if __name__ == "__main__":
+    sys.exit(main())
