@@ -5,7 +5,7 @@
     sys.exit(ending.guard(NAME, work))              a tool in Python, whose work a function does
 
 The work is done in a process of its own, which leads a session, with a new folder as TMPDIR. What it prints is handed on. Once it
-has ended, or at SIGINT, SIGTERM or SIGHUP, all that still runs of it is ended by its process group, and the folder is removed.
+has ended, or at SIGINT, SIGTERM or SIGHUP, all that still runs of its session is ended, and the folder is removed.
 The first two signals end it even if they were ignored when it began, as they are behind `&` in a script. SIGHUP that was ignored
 stays so, since `nohup` asks for that.
 
@@ -26,7 +26,8 @@ import time
 SIGNALS = (signal.SIGINT, signal.SIGTERM, signal.SIGHUP)
 TOTAL = re.compile(rb"(\d+) passed, (\d+) failed\n?")
 
-# How many seconds a group may take to end by SIGTERM, before it is ended by SIGKILL. A tool among them ends its own work first.
+# How many seconds a session may take to end by SIGTERM, before it is ended by SIGKILL. A tool in it, which has a session of its own
+# for its work, ends that first.
 GRACE = 5
 
 # Names the tool in the environment of its work, so that a script sees that it is guarded.
@@ -105,7 +106,7 @@ def guard(name, work):
     caught, relay = Caught(), Relay(reader)
     signal.pthread_sigmask(signal.SIG_UNBLOCK, SIGNALS)
     status = follow(child, caught, relay)
-    end_group(child, status)
+    end_session(child, status)
     relay.hear_rest()
     shutil.rmtree(room, ignore_errors=True)
     return closed(name, relay, *judged(relay.total(), status, caught, relay))
@@ -142,23 +143,41 @@ def ended(child):
     return os.WEXITSTATUS(status) if os.WIFEXITED(status) else -os.WTERMSIG(status)
 
 
-def end_group(leader, status):
-    """Ends what runs in a group, and waits for its leader, unless that has a status, since it has ended."""
+def end_session(leader, status):
+    """Ends what runs in a session, and waits for its leader, unless that has a status, since it has ended."""
     for number in (signal.SIGTERM, signal.SIGKILL):
-        is_there, end = reached(leader, number), time.monotonic() + GRACE
-        while is_there and time.monotonic() < end:
-            status = ended(leader) if status is None else status
+        sent, end = set(), time.monotonic() + GRACE
+        there = members(leader)
+        while there and time.monotonic() < end:
+            for it in there - sent:
+                send(it, number)
+            sent |= there
             time.sleep(0.01)
-            is_there = reached(leader, 0)
+            there = members(leader)
+    if status is None:
+        os.waitpid(leader, 0)
 
 
-def reached(leader, number):
-    """Sends a signal to a group, and returns whether anything of it is there."""
+def members(session):
+    """The processes of a session, in whatever group, but those that have ended."""
+    found = set()
+    for name in filter(str.isdigit, os.listdir("/proc")):
+        try:
+            with open(f"/proc/{name}/stat", "rb") as text:
+                state, _, _, its_session = text.read().rpartition(b")")[2].split()[:4]
+        except (OSError, ValueError):
+            continue
+        if int(its_session) == session and state not in b"ZX":
+            found.add(int(name))
+    return found
+
+
+def send(process, number):
+    """Sends a signal to a process that may have ended."""
     try:
-        os.killpg(leader, number)
+        os.kill(process, number)
     except ProcessLookupError:
-        return False
-    return True
+        pass
 
 
 def judged(total, status, caught, relay):
