@@ -4,14 +4,15 @@
     gate/ending.py NAME COMMAND [WORD]..            a tool that is a command, such as a script of bash
     sys.exit(ending.guard(NAME, work))              a tool in Python, whose work a function does
 
-The work is done in a process of its own, which leads a session, with a new folder as TMPDIR. What it prints is handed on. Once it
-has ended, or at SIGINT, SIGTERM or SIGHUP, all that still runs of its session is ended, and the folder is removed.
-The first two signals end it even if they were ignored when it began, as they are behind `&` in a script. SIGHUP that was ignored
-stays so, since `nohup` asks for that.
+The work is done in a process of its own, which leads a session, with a new folder as TMPDIR. What it
+prints is handed on. Once it has ended, or on SIGINT, SIGTERM or SIGHUP, all that still runs of that
+session is ended, with what it began in sessions of their own, and the folder is removed. SIGINT and
+SIGTERM end it even if they were ignored when it began, as SIGINT is behind `&` in a script. SIGHUP
+stays ignored if it was, since that is what `nohup` asks for.
 
-The last line is 'N passed, M failed', and the status is 0 only if M is 0 and N is above 0. Work that ends without a total, at
-another status than its total has, by a signal, or with nothing passed and nothing failed, has failed: a line says why, and the
-total counts it.
+The last line is 'N passed, M failed', and the status is 0 only if M is 0 and N is above 0. Work fails
+if it ends without a total, by a signal, at a status other than 0 without a failure, or with nothing
+passed and nothing failed. Then a line says why, and the total counts it.
 """
 
 import os
@@ -26,8 +27,7 @@ import time
 SIGNALS = (signal.SIGINT, signal.SIGTERM, signal.SIGHUP)
 TOTAL = re.compile(rb"(\d+) passed, (\d+) failed\n?")
 
-# How many seconds a session may take to end by SIGTERM, before it is ended by SIGKILL. A tool in it, which has a session of its own
-# for its work, ends that first.
+# How many seconds the work may take to end by SIGTERM, before SIGKILL ends it.
 GRACE = 5
 
 # Names the tool in the environment of its work, so that a script sees that it is guarded.
@@ -145,31 +145,41 @@ def ended(child):
 
 def end_session(leader, status):
     """Ends what runs in a session, and waits for its leader, unless that has a status, since it has ended."""
+    sessions = {leader}
     for number in (signal.SIGTERM, signal.SIGKILL):
         sent, end = set(), time.monotonic() + GRACE
-        there = members(leader)
+        there = members(sessions)
         while there and time.monotonic() < end:
             for it in there - sent:
                 send(it, number)
             sent |= there
             time.sleep(0.01)
-            there = members(leader)
+            there = members(sessions)
     if status is None:
         os.waitpid(leader, 0)
 
 
-def members(session):
-    """The processes of a session, in whatever group, but those that have ended."""
-    found = set()
+def members(sessions):
+    """The processes of these sessions, with what they began in other sessions, which are then added."""
+    there, found = dict(processes()), set()
+    while True:
+        more = {it for it, (parent, session) in there.items() if session in sessions or parent in found} - found
+        if not more:
+            return found
+        found |= more
+        sessions |= {there[it][1] for it in more}
+
+
+def processes():
+    """All processes that run, each with its parent and its session."""
     for name in filter(str.isdigit, os.listdir("/proc")):
         try:
             with open(f"/proc/{name}/stat", "rb") as text:
-                state, _, _, its_session = text.read().rpartition(b")")[2].split()[:4]
+                state, parent, _, session = text.read().rpartition(b")")[2].split()[:4]
         except (OSError, ValueError):
             continue
-        if int(its_session) == session and state not in b"ZX":
-            found.add(int(name))
-    return found
+        if state not in b"ZX":
+            yield int(name), (int(parent), int(session))
 
 
 def send(process, number):
