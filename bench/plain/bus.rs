@@ -53,19 +53,38 @@ pub const LANE_OF: [usize; wire::COUNT] = [BR, BGOUT, BBSY, ADDR, AS, DS, IRQ, I
 /// Of an address group that goes on: an acknowledge is its level, an access this and its slot.
 pub const ACCESS: u8 = 32;
 
-/// One edge: what it does, and where its bit stands.
-#[derive(Clone, Copy, PartialEq, Eq, Debug, Default)]
-#[repr(C, align(4))]
-pub struct Edge {
-    pub kind: u8,
-    pub lane: u8,
-    pub at: u8,
-    pub value: u8,
-}
+/// One edge, in bytes from the lowest on: its kind, its mask, its bit there, and the value of an address group that goes on.
+#[derive(Clone, Copy)]
+pub struct Edge(pub u32);
 
 impl Edge {
     pub const fn new(wire: u8, rises: bool, at: u32, value: u8) -> Self {
-        Edge { kind: wire * 2 + rises as u8, lane: LANE_OF[wire as usize] as u8, at: at as u8, value }
+        Edge(wire as u32 * 2 + rises as u32 | (LANE_OF[wire as usize] as u32) << 8 | at << 16 | (value as u32) << 24)
+    }
+
+    /// The same of a board.
+    pub const fn of_slot(self, slot: u32) -> Self {
+        Edge(self.0 + (slot << 16))
+    }
+
+    #[inline(always)]
+    pub fn kind(self) -> u8 {
+        self.0 as u8
+    }
+
+    #[inline(always)]
+    fn lane(self) -> usize {
+        (self.0 >> 8) as usize & (lane::COUNT - 1)
+    }
+
+    #[inline(always)]
+    pub fn at(self) -> usize {
+        (self.0 >> 16) as usize & 31
+    }
+
+    #[inline(always)]
+    pub fn value(self) -> u8 {
+        (self.0 >> 24) as u8
     }
 }
 
@@ -263,12 +282,12 @@ impl Bus {
         let plan = &self.plan;
         let now = &mut self.state;
         let low = &mut now.low;
-        let (at, lane) = (edge.at as usize & 31, edge.lane as usize & 15);
+        let (at, lane) = (edge.at(), edge.lane());
         let bit = 1u32 << at;
         need!(E1, plan.has[lane] & bit != 0);
-        need!(E2, (low[lane] & bit != 0) == (edge.kind & 1 != 0));
+        need!(E2, (low[lane] & bit != 0) == (edge.kind() & 1 != 0));
         let mut verdict = OK;
-        match edge.kind {
+        match edge.kind() {
             // G1
             18 => {
                 let (asks, last, level) = (low[BR], now.last as usize & 3, at & 3);
@@ -333,13 +352,13 @@ impl Bus {
             // G15
             6 => {
                 need!(E3 + 15, low[BBSY] & bit != 0 && low[AS] == 0 && now.left != 0);
-                if edge.value < ACCESS {
-                    let level = edge.value & 7;
+                if edge.value() < ACCESS {
+                    let level = edge.value() & 7;
                     let asked = plan.interrupting[level as usize];
                     need!(E3 + 15, plan.handles[at] >> level & 1 != 0 && low[IRQ] & asked != 0);
                     (now.level, now.asked) = (level, asked);
                 } else {
-                    now.target = 1 << (edge.value & 31);
+                    now.target = 1 << (edge.value() & 31);
                 }
             }
             // G19

@@ -149,7 +149,7 @@ fn open_edge(lot: &mut Lot, bus: &Bus, habits: &Habits) -> Option<Edge> {
 fn any_edge(lot: &mut Lot, bus: &Bus, is_near: bool) -> Edge {
     if lot.below(6) == 0 {
         let mut edge = edge_of_controller(bus, lot.below(7) as u32);
-        edge.kind ^= (!is_near && lot.below(2) > 0) as u8;
+        edge.0 ^= (!is_near && lot.below(2) > 0) as u32;
         return edge;
     }
     let wire = lot.below(9) as u8;
@@ -169,15 +169,18 @@ pub fn write(seed: u64, edges: u64, mut output: Output) -> Result<i32, Fault> {
     let lines = Lines::new();
     output.write(&text_of(policy, slots, &boards));
     output.write(&format!("vme {version}\n"));
+    let (mut to, full) = output.next();
     for _ in 0..edges {
         let open = if lot.below(64) < habits.open { open_edge(&mut lot, &bus, &habits) } else { None };
         let is_near = lot.below(64) < habits.near;
         let edge = open.unwrap_or_else(|| any_edge(&mut lot, &bus, is_near));
         bus.step(edge);
-        let count = unsafe { lines.write(edge, output.next()) };
-        output.took(count);
-        output.make_room()?;
+        to = unsafe { lines.write(edge, to) };
+        if to >= full {
+            to = output.make_room(to)?;
+        }
     }
+    output.wrote_to(to);
     output.hand_on()?;
     Ok(0)
 }

@@ -26,65 +26,69 @@ const BOARDS: [(&str, u8); 8] = [
     ("dtack", wire::DTACK),
 ];
 
-/// What stands before the wire: two bytes, and who that is. A free place has bytes that belong to another one.
+/// What stands before the wire: two bytes, who that is, and where the wire begins. A free place has bytes that belong to another one.
 #[derive(Clone, Copy)]
 struct Head {
     bytes: u16,
-    slot: u8,
-    is_controller: bool,
+    slot: u16,
+    begin: u16,
+    /// A part of the tail's check.
+    check: u16,
 }
 
-/// What stands after it, in eight bytes and the one behind them, and how many of them count: more than there are in a free place.
+/// What stands after it, in eight bytes and a check: the ninth byte, the number of bytes, and whether it is the controller's.
+/// A free place has a number that there is not.
 #[derive(Clone, Copy)]
 struct Tail {
     bytes: u64,
+    check: u32,
     edge: Edge,
-    ninth: u8,
-    count: u8,
-    is_controller: bool,
 }
 
-const NO_EDGE: Edge = Edge { kind: 0, lane: 0, at: 0, value: 0 };
-static HEADS: [Head; 1024] = heads();
+const OF_CONTROLLER: u16 = 1 << 15;
+const FREE: Tail = Tail { bytes: 0, check: 127 << 8, edge: Edge(0) };
+static HEADS: [Head; 32] = heads();
 static TAILS: [Tail; 256] = tails();
 
-/// The bytes of a tail that count, by its length.
-static COUNTING: [u64; 10] = {
-    let mut masks = [u64::MAX; 10];
-    let mut length = 0;
-    while length < 8 {
-        masks[length] = (1 << (8 * length)) - 1;
-        length += 1;
+/// The bytes of a tail that count, by how many there are.
+static COUNTING: [[u64; 2]; 10] = {
+    let mut masks = [[u64::MAX, 0]; 10];
+    let mut count = 0;
+    while count < 8 {
+        masks[count][0] = (1 << (8 * count)) - 1;
+        count += 1;
     }
+    masks[9][1] = 255;
     masks
 };
 
+/// The factors were found by trying: no two heads have the same place, and no two tails.
 const fn place_of_head(bytes: u16) -> usize {
-    (bytes as usize & 31) << 5 | (bytes >> 8) as usize & 31
+    ((bytes as u32).wrapping_mul(0xe90e_2383) >> 27) as usize
 }
 
-/// The factor was found by trying: no two tails have the same place.
-const fn place_of_tail(bytes: u64, ninth: u8) -> usize {
-    ((bytes ^ (ninth as u64) << 32).wrapping_mul(0xa40a_8b1f_90a7_6f53) >> 56) as usize
+const fn place_of_tail(bytes: u64, ninth: u64) -> usize {
+    ((bytes ^ ninth << 32).wrapping_mul(0xa40a_8b1f_90a7_6f53) >> 56) as usize
 }
 
-const fn heads() -> [Head; 1024] {
-    let mut all = [Head { bytes: 0, slot: 0, is_controller: false }; 1024];
-    all[0].bytes = u16::MAX;
+const fn heads() -> [Head; 32] {
     let controller = u16::from_le_bytes([b'c', b' ']);
-    all[place_of_head(controller)] = Head { bytes: controller, slot: 0, is_controller: true };
+    let mut all = [Head { bytes: controller, slot: 0, begin: 2, check: OF_CONTROLLER }; 32];
     let mut slot = 1;
     while slot <= 21 {
         let one = slot as u8 % 10 + b'0';
-        let bytes = if slot < 10 { u16::from_le_bytes([one, b' ']) } else { u16::from_le_bytes([slot as u8 / 10 + b'0', one]) };
-        all[place_of_head(bytes)] = Head { bytes, slot: slot as u8, is_controller: false };
+        let (bytes, begin) = if slot < 10 { ([one, b' '], 2) } else { ([slot as u8 / 10 + b'0', one], 3) };
+        let bytes = u16::from_le_bytes(bytes);
+        let place = place_of_head(bytes);
+        assert!(all[place].slot == 0 && place != place_of_head(controller));
+        all[place] = Head { bytes, slot, begin, check: 0 };
         slot += 1;
     }
     all
 }
 
 const fn tails() -> [Tail; 256] {
-    let mut all = [Tail { bytes: 0, edge: NO_EDGE, ninth: 0, count: u8::MAX, is_controller: false }; 256];
+    let mut all = [FREE; 256];
     let mut it = 0;
     while it < CONTROLLERS.len() {
         let (name, wire, at) = CONTROLLERS[it];
@@ -125,10 +129,11 @@ const fn add(all: &mut [Tail; 256], name: &str, end: &[u8], edge: Edge, is_contr
         at += 1;
     }
     let [a, b, c, d, e, f, g, h, ninth] = bytes;
-    let tail = Tail { bytes: u64::from_le_bytes([a, b, c, d, e, f, g, h]), edge, ninth, count: at as u8, is_controller };
-    let place = place_of_tail(tail.bytes, tail.ninth);
-    assert!(all[place].count == u8::MAX);
-    all[place] = tail;
+    let bytes = u64::from_le_bytes([a, b, c, d, e, f, g, h]);
+    let check = ninth as u32 | (at as u32) << 8 | if is_controller { OF_CONTROLLER as u32 } else { 0 };
+    let place = place_of_tail(bytes, ninth as u64);
+    assert!(all[place].check == FREE.check);
+    all[place] = Tail { bytes, check, edge };
 }
 
 /// Reads the line that begins here: how many bytes stand before its line feed, more than 15 where that is not in sight, and its edge.
@@ -140,23 +145,23 @@ pub unsafe fn read(line: *const u8) -> (usize, Option<Edge>) {
     let feeds = _mm_cmpeq_epi8(_mm_loadu_si128(line as *const __m128i), _mm_set1_epi8(b'\n' as i8));
     let length = (_mm_movemask_epi8(feeds) as u32 | 1 << 31).trailing_zeros() as usize;
     let first = (line as *const u16).read_unaligned();
-    let head = &HEADS[place_of_head(first)];
-    let begin = 3 - (first >> 8 == b' ' as u16) as usize;
+    let head = HEADS.get_unchecked(place_of_head(first));
+    let begin = head.begin as usize;
     let count = length.wrapping_sub(begin);
-    if count > 9 || (begin == 3 && *line.add(2) != b' ') {
+    if count >= COUNTING.len() || *line.add(begin - 1) != b' ' {
         return (length, None);
     }
-    let bytes = (line.add(begin) as *const u64).read_unaligned() & COUNTING[count];
-    let ninth = if count == 9 { *line.add(begin + 8) } else { 0 };
-    let tail = &TAILS[place_of_tail(bytes, ninth)];
-    let differs = (bytes ^ tail.bytes) | (ninth ^ tail.ninth) as u64 | (first ^ head.bytes) as u64 | count as u64 ^ tail.count as u64;
-    if differs != 0 || head.is_controller != tail.is_controller {
+    let words = line.add(begin) as *const u64;
+    let (bytes, ninth) = (words.read_unaligned() & COUNTING[count][0], words.add(1).read_unaligned() & COUNTING[count][1]);
+    let tail = TAILS.get_unchecked(place_of_tail(bytes, ninth));
+    let check = ninth as u32 | (count as u32) << 8 | head.check as u32;
+    if (bytes ^ tail.bytes) | (first ^ head.bytes) as u64 | (check ^ tail.check) as u64 != 0 {
         return (length, None);
     }
-    let mut edge = tail.edge;
-    edge.at += head.slot;
-    (length, Some(edge))
+    (length, Some(tail.edge.of_slot(head.slot as u32)))
 }
+
+const KINDS: usize = 2 * wire::COUNT;
 
 /// The lines of all edges that a program writes.
 pub struct Lines {
@@ -166,7 +171,7 @@ pub struct Lines {
 
 impl Lines {
     pub fn new() -> Self {
-        let mut all = Lines { text: vec![[0; 16]; 26 * 32], length: vec![0; 26 * 32] };
+        let mut all = Lines { text: vec![[0; 16]; KINDS * 32], length: vec![0; KINDS * 32] };
         for (name, wire, at) in CONTROLLERS {
             all.add_both("c", name, wire, at);
         }
@@ -186,28 +191,28 @@ impl Lines {
     }
 
     fn add(&mut self, edge: Edge, text: String) {
-        let place = edge.kind as usize * 32 + edge.at as usize;
+        let place = edge.kind() as usize * 32 + edge.at();
         self.text[place][..text.len()].copy_from_slice(text.as_bytes());
         self.length[place] = text.len() as u8;
     }
 
-    /// Writes the line of an edge, and gives its length.
+    /// Writes the line of an edge, and gives where it ends.
     ///
     /// # Safety
     /// `SLACK` bytes can be written.
     #[inline(always)]
-    pub unsafe fn write(&self, edge: Edge, to: *mut u8) -> usize {
-        let place = (edge.kind as usize * 32 + edge.at as usize).min(26 * 32 - 1);
-        let length = *self.length.get_unchecked(place) as usize;
+    pub unsafe fn write(&self, edge: Edge, to: *mut u8) -> *mut u8 {
+        let place = (edge.kind() as usize * 32 + edge.at()).min(KINDS * 32 - 1);
         (to as *mut [u8; 16]).write_unaligned(*self.text.get_unchecked(place));
-        if edge.value == 0 {
-            return length;
+        let to = to.add(*self.length.get_unchecked(place) as usize);
+        if edge.value() == 0 {
+            return to;
         }
-        let (sign, number) = if edge.value < ACCESS { (b'i', edge.value) } else { (b'r', edge.value - ACCESS) };
+        let (sign, number) = if edge.value() < ACCESS { (b'i', edge.value()) } else { (b'r', edge.value() - ACCESS) };
         let (ten, one) = (number / 10 + b'0', number % 10 + b'0');
         let is_long = number >= 10;
         let value = if is_long { [sign, ten, one, b'\n'] } else { [sign, one, b'\n', 0] };
-        (to.add(length) as *mut [u8; 4]).write_unaligned(value);
-        length + 3 + is_long as usize
+        (to as *mut [u8; 4]).write_unaligned(value);
+        to.add(3 + is_long as usize)
     }
 }

@@ -113,7 +113,7 @@ fn read_header(input: &mut Input) -> Result<u8, Fault> {
         }
         if let Some(length) = length {
             let version = HEADERS.iter().position(|it| rest[..=length] == **it);
-            input.at += length + 1;
+            input.read_to(input.lines().start.wrapping_add(length + 1));
             return version.map_or_else(|| fault("X1 the trace does not begin with vme 1 or vme 2"), |it| Ok(it as u8 + 1));
         }
         let is_empty = rest.is_empty();
@@ -129,32 +129,39 @@ fn judge<const REPORTS: bool>(plan: Plan, mut input: Input) -> Status {
     let mut output = standard_output();
     let verdicts = Verdicts::new(&bus);
     bus.is_second = read_header(&mut input)? == 2;
-    let (mut counter, mut accepted, mut refused) = (Counter::new(), 0, 0);
+    let (mut counter, mut room, mut refused) = (Counter::new(), LIMIT, 0);
     loop {
-        let (bytes, mut at, end) = (input.bytes(), input.at, input.end);
-        while at < end {
-            let (length, edge) = unsafe { line::read(bytes.add(at)) };
-            let Some(edge) = edge.filter(|_| at + length < end) else { break };
-            at += length + 1;
-            let verdict = if accepted < LIMIT { bus.step(edge) } else { bus.step_full(edge) };
-            let is_accepted = verdict <= DELIVERED;
-            accepted += is_accepted as u64;
-            refused += !is_accepted as u64;
+        let lines = input.lines();
+        let (mut line, (mut to, full)) = (lines.start, output.next());
+        while line < lines.end {
+            let (length, edge) = unsafe { line::read(line) };
+            let next = line.wrapping_add(length + 1);
+            let Some(edge) = edge.filter(|_| next <= lines.end) else { break };
+            line = next;
+            let verdict = if room > 0 { bus.step(edge) } else { bus.step_full(edge) };
+            if verdict <= DELIVERED {
+                room -= 1;
+            } else {
+                refused += 1;
+            }
             if REPORTS {
-                counter.add_one();
-                verdicts.write(&counter, verdict, &mut output);
+                counter = counter.next();
+                to = unsafe { verdicts.write(counter, verdict, to) };
                 if verdict == DELIVERED {
-                    verdicts.write_delivery(&bus, edge.at as usize, &mut output);
+                    to = unsafe { verdicts.write_delivery(&bus, edge.at(), to) };
                 }
-                output.make_room()?;
-            } else if !is_accepted {
-                output.write(&format!("illegal {} {}\n", accepted + 1, text_of(verdict)));
+                if to >= full {
+                    to = output.make_room(to)?;
+                }
+            } else if refused > 0 {
+                output.write(&format!("illegal {} {}\n", LIMIT - room + 1, text_of(verdict)));
                 output.hand_on()?;
                 return Ok(2);
             }
         }
-        input.at = at;
-        match read_on(&mut input, &mut output, accepted + refused + 2) {
+        output.wrote_to(to);
+        input.read_to(line);
+        match read_on(&mut input, &mut output, LIMIT - room + refused + 2) {
             Ok(true) => {}
             Ok(false) => break,
             Err(fault) => {
@@ -163,6 +170,7 @@ fn judge<const REPORTS: bool>(plan: Plan, mut input: Input) -> Status {
             }
         }
     }
+    let accepted = LIMIT - room;
     let last = if REPORTS { format!("accepted {accepted} refused {refused}\n") } else { format!("legal {accepted}\n") };
     output.write(&last);
     output.hand_on()?;
@@ -245,9 +253,10 @@ fn drive(mut bus: Bus, edges: u64) -> Status {
 #[inline(always)]
 fn make(bus: &mut Bus, edge: Edge, lines: &Lines, output: &mut Output) -> Result<(), Fault> {
     bus.step(edge);
-    let count = unsafe { lines.write(edge, output.next()) };
-    output.took(count);
-    output.make_room()
+    let (to, full) = output.next();
+    let end = unsafe { lines.write(edge, to) };
+    output.wrote_to(end);
+    if end >= full { output.hand_on() } else { Ok(()) }
 }
 
 /// The place of the set bit that has so many set bits below it.
@@ -298,7 +307,7 @@ fn boards_edge_at(bus: &Bus, open: u32, slot: usize, place: usize) -> Edge {
     let wire = nth(open, place) as u8;
     let rises = bus.state.low[wire as usize & 15] >> slot & 1 != 0;
     let value = if wire == wire::ADDR && !rises { ACCESS + next_board(bus.plan.boards, slot) } else { 0 };
-    Edge { kind: wire * 2 + rises as u8, lane: wire, at: slot as u8, value }
+    Edge::new(wire, rises, slot as u32, value)
 }
 
 /// The board in the next higher slot, or the lowest.

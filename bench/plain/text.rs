@@ -29,8 +29,8 @@ pub fn read_some(file: &mut File, to: &mut [u8]) -> std::io::Result<usize> {
 pub struct Input {
     file: File,
     block: Vec<u8>,
-    pub at: usize,
-    pub end: usize,
+    at: usize,
+    end: usize,
     /// Whether the last read gave less than was asked for, and the next one may have to wait.
     pub is_short: bool,
 }
@@ -43,9 +43,13 @@ impl Input {
         Input { file, block, at: 0, end: begun.len(), is_short: true }
     }
 
-    #[inline(always)]
-    pub fn bytes(&self) -> *const u8 {
-        self.block.as_ptr()
+    pub fn lines(&self) -> std::ops::Range<*const u8> {
+        self.rest().as_ptr_range()
+    }
+
+    /// Notes that all before this was read.
+    pub fn read_to(&mut self, line: *const u8) {
+        self.at = line as usize - self.block.as_ptr() as usize;
     }
 
     /// The bytes that were read and not taken.
@@ -73,29 +77,32 @@ pub struct Output {
     at: usize,
 }
 
+/// So many bytes can be written where `next` and `make_room` lead to.
+pub const ROOM: usize = 128;
+
 impl Output {
     pub fn new(file: File) -> Self {
-        Output { file, block: vec![0; BLOCK + 4 * SLACK], at: 0 }
+        Output { file, block: vec![0; BLOCK + ROOM], at: 0 }
     }
 
-    /// Where the next bytes go: there is room for 128 behind a call of `make_room`.
-    #[inline(always)]
-    pub fn next(&mut self) -> *mut u8 {
-        unsafe { self.block.as_mut_ptr().add(self.at) }
+    /// Where the next bytes go, and where a block ends.
+    pub fn next(&mut self) -> (*mut u8, *mut u8) {
+        let block = self.block.as_mut_ptr();
+        unsafe { (block.add(self.at), block.add(BLOCK)) }
     }
 
-    #[inline(always)]
-    pub fn took(&mut self, count: usize) {
-        self.at += count;
+    /// Notes that bytes were written up to there.
+    pub fn wrote_to(&mut self, end: *mut u8) {
+        self.at = end as usize - self.block.as_ptr() as usize;
     }
 
-    #[inline(always)]
-    pub fn make_room(&mut self) -> Result<(), Fault> {
-        if self.at >= BLOCK { self.hand_on() } else { Ok(()) }
-    }
-
-    pub fn take_back(&mut self, count: usize) {
-        self.at -= count;
+    /// Hands on a block that is full, and gives where the next bytes go.
+    #[cold]
+    #[inline(never)]
+    pub fn make_room(&mut self, end: *mut u8) -> Result<*mut u8, Fault> {
+        self.wrote_to(end);
+        self.hand_on()?;
+        Ok(self.block.as_mut_ptr())
     }
 
     pub fn write(&mut self, text: &str) {
@@ -104,6 +111,7 @@ impl Output {
     }
 
     #[cold]
+    #[inline(never)]
     pub fn hand_on(&mut self) -> Result<(), Fault> {
         let written = self.file.write_all(&self.block[..self.at]);
         self.at = 0;
@@ -112,53 +120,57 @@ impl Output {
 }
 
 /// A number as it is written, to which one can be added.
+#[derive(Clone, Copy)]
 pub struct Counter {
     /// The last eight digits, or fewer where there are no more, the first in the lowest byte.
     digits: u64,
+    /// One of the last digit, and how many digits there are.
+    one: u64,
     length: usize,
-    /// All digits before them.
-    before: String,
+    /// What all digits before them are.
+    before: u64,
 }
 
 impl Counter {
     pub fn new() -> Self {
-        Counter { digits: b'0' as u64, length: 1, before: String::new() }
+        Counter { digits: b'0' as u64, one: 1, length: 1, before: 0 }
     }
 
     #[inline(always)]
-    pub fn add_one(&mut self) {
-        let shift = 8 * (self.length as u32 - 1);
-        if self.digits >> (shift & 63) == b'9' as u64 {
-            self.carry();
-        } else {
-            self.digits += 1 << (shift & 63);
+    pub fn next(mut self) -> Self {
+        if self.digits >= self.one * b'9' as u64 {
+            return self.carry();
         }
+        self.digits += self.one;
+        self
     }
 
-    #[inline(never)]
-    fn carry(&mut self) {
-        let mut shift = 8 * self.length;
-        while shift > 0 {
-            shift -= 8;
-            if self.digits >> shift & 255 != b'9' as u64 {
-                self.digits += 1 << shift;
-                return;
+    #[inline(always)]
+    fn carry(mut self) -> Self {
+        let mut one = self.one;
+        while one > 0 {
+            if self.digits >> one.trailing_zeros() & 255 != b'9' as u64 {
+                self.digits += one;
+                return self;
             }
-            self.digits -= 9 << shift;
+            self.digits -= 9 * one;
+            one >>= 8;
         }
         if self.length < 8 {
             self.digits = self.digits << 8 | b'1' as u64;
+            self.one <<= 8;
             self.length += 1;
         } else {
-            self.before = (self.before.parse::<u64>().unwrap_or(0) + 1).to_string();
+            self.before += 1;
         }
+        self
     }
 }
 
 /// The lines of verdicts.
 pub struct Verdicts {
-    texts: [[u8; 8]; VERDICTS],
-    lengths: [u8; VERDICTS],
+    texts: [[u8; 8]; 64],
+    lengths: [u8; 64],
     /// What a delivery adds, by level and handler, and by the board that answers.
     heads: Vec<Vec<String>>,
     tails: Vec<String>,
@@ -169,12 +181,12 @@ impl Verdicts {
         let head = |level| (0..32).map(|handler| format!(" irq {level} to {handler}")).collect();
         let tail = |(slot, status)| format!(" from {slot} status {status}\n");
         let mut all = Verdicts {
-            texts: [[0; 8]; VERDICTS],
-            lengths: [0; VERDICTS],
+            texts: [[0; 8]; 64],
+            lengths: [0; 64],
             heads: (0..8).map(head).collect(),
             tails: bus.plan.status.iter().enumerate().map(tail).collect(),
         };
-        for (place, length) in all.lengths.iter_mut().enumerate() {
+        for (place, length) in all.lengths.iter_mut().enumerate().take(VERDICTS) {
             let text = format!(" {}\n", text_of(place as u8));
             *length = text.len() as u8;
             all.texts[place][..text.len()].copy_from_slice(text.as_bytes());
@@ -182,28 +194,44 @@ impl Verdicts {
         all
     }
 
-    /// Writes the line of one edge.
+    /// Writes the line of one edge, and gives where it ends.
+    ///
+    /// # Safety
+    /// `ROOM` bytes can be written.
     #[inline(always)]
-    pub fn write(&self, counter: &Counter, verdict: u8, output: &mut Output) {
-        if !counter.before.is_empty() {
-            output.write(&counter.before);
+    pub unsafe fn write(&self, counter: Counter, verdict: u8, mut to: *mut u8) -> *mut u8 {
+        if counter.before > 0 {
+            to = write_number(counter.before, to);
         }
-        let to = output.next();
-        let place = (verdict as usize).min(VERDICTS - 1);
-        unsafe {
-            (to as *mut u64).write_unaligned(counter.digits);
-            (to.add(counter.length) as *mut [u8; 8]).write_unaligned(self.texts[place]);
-        }
-        output.took(counter.length + self.lengths[place] as usize);
+        debug_assert!((verdict as usize) < VERDICTS);
+        let place = verdict as usize & 63;
+        (to as *mut u64).write_unaligned(counter.digits);
+        to = to.add(counter.length);
+        (to as *mut [u8; 8]).write_unaligned(self.texts[place]);
+        to.add(self.lengths[place] as usize)
     }
 
     /// Writes behind the line of an answer what it delivers.
+    ///
+    /// # Safety
+    /// `ROOM` bytes can be written.
+    #[cold]
     #[inline(never)]
-    pub fn write_delivery(&self, bus: &Bus, slot: usize, output: &mut Output) {
-        output.take_back(1);
-        output.write(&self.heads[bus.state.level as usize & 7][bus.handler()]);
-        output.write(&self.tails[slot & 31]);
+    pub unsafe fn write_delivery(&self, bus: &Bus, slot: usize, to: *mut u8) -> *mut u8 {
+        let to = write_text(&self.heads[bus.state.level as usize & 7][bus.handler()], to.sub(1));
+        write_text(&self.tails[slot & 31], to)
     }
+}
+
+#[cold]
+#[inline(never)]
+unsafe fn write_number(number: u64, to: *mut u8) -> *mut u8 {
+    write_text(&number.to_string(), to)
+}
+
+unsafe fn write_text(text: &str, to: *mut u8) -> *mut u8 {
+    to.copy_from_nonoverlapping(text.as_ptr(), text.len());
+    to.add(text.len())
 }
 
 /// A verdict as it stands behind a number, without what it delivers.
