@@ -1,0 +1,23 @@
+"""Builds the plain Rust program beside which vmebus is measured and compared."""
+
+import shutil
+import subprocess
+import sys
+from pathlib import Path
+
+SOURCE = Path(__file__).resolve().parent / "plain" / "main.rs"
+
+# Tuned for speed alone, and for the same processors as vmebus.
+FLAGS = ("--edition", "2021", "-C", "opt-level=3", "-C", "target-cpu=x86-64-v2", "-C", "codegen-units=1", "-C", "lto=fat",
+         "-C", "panic=abort")
+
+
+def plain(room):
+    """The program, built in that folder by rustc; None where there is no rustc."""
+    rustc = shutil.which("rustc")
+    if not rustc:
+        return None
+    program = Path(room, "plain")
+    if subprocess.run([rustc, *FLAGS, SOURCE, "-o", program], check=False).returncode:
+        sys.exit("rustc does not build bench/plain")
+    return program
