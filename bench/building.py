@@ -8,7 +8,7 @@ from pathlib import Path
 SOURCE = Path(__file__).resolve().parent / "plain" / "main.rs"
 
 # Tuned for speed alone, and for the same processors as vmebus.
-FLAGS = ("--edition", "2021", "-C", "opt-level=3", "-C", "target-cpu=x86-64-v2", "-C", "codegen-units=1", "-C", "lto=fat",
+FLAGS = ("--edition", "2021", "-C", "opt-level=3", "-C", "target-cpu=x86-64-v2", "-C", "codegen-units=1",
          "-C", "panic=abort")
 
 

@@ -7,7 +7,7 @@ const CONTROLLER: u32 = 1;
 /// In the mask of `bgout` the grants of the controller stand above the slots.
 pub const FIRST_GRANT: u32 = 24;
 const GRANTS: u32 = 15 << FIRST_GRANT;
-/// The most edges that are accepted.
+/// The most edges that are accepted, 1,048,576.
 pub const LIMIT: u64 = 1 << 20;
 /// What an owner without a burst has left.
 const NO_BURST: u32 = u32::MAX;
@@ -426,26 +426,26 @@ impl Bus {
         let plan = &self.plan;
         let now = &self.state;
         let low = &now.low;
-        let all = |holds: bool| if holds { u32::MAX } else { 0 };
+        let all = |holds: bool| (holds as u32).wrapping_neg();
         let [br, bgout, bbsy, addr, strobe, ds, irq, iackout, dtack] =
             [low[BR], low[BGOUT], low[BBSY], low[ADDR], low[AS], low[DS], low[IRQ], low[IACKOUT], low[DTACK]];
         let (as_low, ds_low, answered) = (all(strobe != 0), all(ds != 0), all(dtack | low[BERR] != 0));
-        let released = !(br | now.grant_in | addr & !strobe) & (all(br != 0) | !plan.on_request);
+        let takes = now.grant_in & !bgout & !bbsy;
+        let stays = br | now.grant_in | addr & !strobe | if br == 0 { plan.on_request } else { 0 };
         let asked = now.pending & now.asked;
-        let withdrawn = if self.is_second { br } else { br & bbsy };
-        let passes = now.iack_in & !dtack & ds_low & all(now.level != 0) & !asked;
-        let answers = ds_low & as_low & (now.target | asked & now.iack_in & !iackout);
-        let may = |lane: usize, falls: u32, rises: u32| (falls & !low[lane] | rises & low[lane]) & plan.has[lane] & SLOTS;
+        let first = now.iack_in & !iackout;
+        let answers = now.target & plan.boards | asked & first;
+        let may_ask = if self.is_second { br | !bbsy } else { !(br ^ bbsy) };
         let wires = [
-            may(BR, !bbsy, withdrawn),
-            may(BGOUT, now.grant_in & !(br | bbsy), !now.grant_in),
-            may(BBSY, now.grant_in & !bgout & br, released),
-            may(ADDR, bbsy & !as_low & all(now.left != 0), strobe & !ds & now.strobed),
-            may(AS, addr & !as_low & all(iackout == 0), !addr),
-            may(DS, strobe & addr & !answered & !now.strobed, answered),
-            may(IRQ, !irq, !now.pending),
-            may(IACKOUT, passes, !as_low),
-            may(DTACK, answers, !ds_low),
+            may_ask & plan.has[BR],
+            takes & !br | bgout & !now.grant_in & SLOTS,
+            takes & br | bbsy & !stays,
+            bbsy & !addr & all(strobe == 0 && now.left != 0) | addr & strobe & !ds & now.strobed,
+            addr & all(strobe | iackout == 0) | strobe & !addr,
+            strobe & addr & !ds & !now.strobed & !answered | ds & answered,
+            plan.has[IRQ] & !(irq & now.pending),
+            first & !dtack & !asked & ds_low & all(now.level != 0) | iackout & !as_low & SLOTS,
+            answers & !dtack & ds_low & as_low | dtack & !ds_low,
         ];
         Open { wires, any: wires.iter().fold(0, |all, it| all | it) }
     }
