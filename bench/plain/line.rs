@@ -141,7 +141,7 @@ const fn add(all: &mut [Tail; 256], name: &str, end: &[u8], edge: Edge, is_contr
 /// # Safety
 /// `SLACK` bytes can be read.
 #[inline(always)]
-pub unsafe fn read(line: *const u8) -> (usize, Option<Edge>) {
+unsafe fn read(line: *const u8) -> (usize, Option<Edge>) {
     let feeds = _mm_cmpeq_epi8(_mm_loadu_si128(line as *const __m128i), _mm_set1_epi8(b'\n' as i8));
     let length = (_mm_movemask_epi8(feeds) as u32 | 1 << 31).trailing_zeros() as usize;
     let first = (line as *const u16).read_unaligned();
@@ -159,6 +159,24 @@ pub unsafe fn read(line: *const u8) -> (usize, Option<Edge>) {
         return (length, None);
     }
     (length, Some(tail.edge.of_slot(head.slot as u32)))
+}
+
+/// Reads the edges of whole lines, as many as there are or have room; gives how many, and where the first other line begins.
+///
+/// # Safety
+/// `SLACK` bytes can be read behind the end.
+#[inline(always)]
+pub unsafe fn read_all(edges: &mut [Edge], mut line: *const u8, end: *const u8) -> (usize, *const u8) {
+    let mut count = 0;
+    while count < edges.len() && line < end {
+        let (length, edge) = read(line);
+        let next = line.wrapping_add(length + 1);
+        let Some(edge) = edge.filter(|_| next <= end) else { break };
+        edges[count] = edge;
+        count += 1;
+        line = next;
+    }
+    (count, line)
 }
 
 const KINDS: usize = 2 * wire::COUNT;

@@ -123,6 +123,10 @@ fn read_header(input: &mut Input) -> Result<u8, Fault> {
     }
 }
 
+/// So many edges are read before the first of them is judged. Then what a processor foretells wrong of an edge costs less, as
+/// the next one need not be read first.
+const BATCH: usize = 512;
+
 /// Judges a trace: writes a line for each edge, or looks for the first that is refused.
 fn judge<const REPORTS: bool>(plan: Plan, mut input: Input) -> Status {
     let mut bus = Bus::new(plan, 1);
@@ -130,14 +134,12 @@ fn judge<const REPORTS: bool>(plan: Plan, mut input: Input) -> Status {
     let verdicts = Verdicts::new(&bus);
     bus.is_second = read_header(&mut input)? == 2;
     let (mut counter, mut room, mut refused) = (Counter::new(), LIMIT, 0);
+    let mut edges = [Edge(0); BATCH];
     loop {
         let lines = input.lines();
-        let (mut line, (mut to, full)) = (lines.start, output.next());
-        while line < lines.end {
-            let (length, edge) = unsafe { line::read(line) };
-            let next = line.wrapping_add(length + 1);
-            let Some(edge) = edge.filter(|_| next <= lines.end) else { break };
-            line = next;
+        let (count, line) = unsafe { line::read_all(&mut edges, lines.start, lines.end) };
+        let (mut to, full) = output.next();
+        for &edge in &edges[..count] {
             let verdict = if room > 0 { bus.step(edge) } else { bus.step_full(edge) };
             if verdict <= DELIVERED {
                 room -= 1;
@@ -161,6 +163,9 @@ fn judge<const REPORTS: bool>(plan: Plan, mut input: Input) -> Status {
         }
         output.wrote_to(to);
         input.read_to(line);
+        if count > 0 {
+            continue;
+        }
         match read_on(&mut input, &mut output, LIMIT - room + refused + 2) {
             Ok(true) => {}
             Ok(false) => break,
