@@ -8,8 +8,7 @@ from pathlib import Path
 SOURCE = Path(__file__).resolve().parent / "plain" / "main.rs"
 
 # Tuned for speed alone, and for the same processors as vmebus.
-FLAGS = ("--edition", "2021", "-C", "opt-level=3", "-C", "target-cpu=x86-64-v2", "-C", "codegen-units=1",
-         "-C", "panic=abort")
+FLAGS = ("--edition=2021", "-Copt-level=3", "-Ctarget-cpu=x86-64-v2", "-Ccodegen-units=1", "-Cpanic=abort", "-Crelocation-model=static")
 
 
 def plain(room):

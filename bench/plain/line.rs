@@ -50,17 +50,17 @@ const FREE: Tail = Tail { bytes: 0, check: 127 << 8, edge: Edge(0) };
 static HEADS: [Head; 32] = heads();
 static TAILS: [Tail; 256] = tails();
 
-/// The bytes of a tail that count, by how many there are.
-static COUNTING: [[u64; 2]; 10] = {
-    let mut masks = [[u64::MAX, 0]; 10];
+/// The bytes of a tail that count, by how many there are: of the first eight, and the ninth.
+static COUNTING: [u64; 10] = {
+    let mut masks = [u64::MAX; 10];
     let mut count = 0;
     while count < 8 {
-        masks[count][0] = (1 << (8 * count)) - 1;
+        masks[count] = (1 << (8 * count)) - 1;
         count += 1;
     }
-    masks[9][1] = 255;
     masks
 };
+static COUNTING_NINTH: [u32; 10] = [0, 0, 0, 0, 0, 0, 0, 0, 0, 255];
 
 /// The factors were found by trying: no two heads have the same place, and no two tails.
 const fn place_of_head(bytes: u16) -> usize {
@@ -151,10 +151,10 @@ unsafe fn read(line: *const u8) -> (usize, Option<Edge>) {
     if count >= COUNTING.len() || *line.add(begin - 1) != b' ' {
         return (length, None);
     }
-    let words = line.add(begin) as *const u64;
-    let (bytes, ninth) = (words.read_unaligned() & COUNTING[count][0], words.add(1).read_unaligned() & COUNTING[count][1]);
-    let tail = TAILS.get_unchecked(place_of_tail(bytes, ninth));
-    let check = ninth as u32 | (count as u32) << 8 | head.check as u32;
+    let bytes = (line.add(begin) as *const u64).read_unaligned() & COUNTING[count];
+    let ninth = *line.add(begin + 8) as u32 & COUNTING_NINTH[count];
+    let tail = TAILS.get_unchecked(place_of_tail(bytes, ninth as u64));
+    let check = ninth | (count as u32) << 8 | head.check as u32;
     if (bytes ^ tail.bytes) | (first ^ head.bytes) as u64 | (check ^ tail.check) as u64 != 0 {
         return (length, None);
     }
