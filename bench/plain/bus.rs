@@ -29,7 +29,7 @@ pub mod lane {
 }
 use lane::*;
 
-/// Wires. A kind of edge is twice its wire, and one more where it rises.
+/// Wires, of the boards first.
 pub mod wire {
     pub const BR: u8 = 0;
     pub const BGOUT: u8 = 1;
@@ -47,8 +47,38 @@ pub mod wire {
     pub const COUNT: usize = 13;
 }
 
+/// Kinds of edges: twice the wire, and one more where it rises.
+mod kind {
+    pub const BR_FALLS: u8 = 0;
+    pub const BR_RISES: u8 = 1;
+    pub const BGOUT_FALLS: u8 = 2;
+    pub const BGOUT_RISES: u8 = 3;
+    pub const BBSY_FALLS: u8 = 4;
+    pub const BBSY_RISES: u8 = 5;
+    pub const ADDR_FALLS: u8 = 6;
+    pub const ADDR_RISES: u8 = 7;
+    pub const AS_FALLS: u8 = 8;
+    pub const AS_RISES: u8 = 9;
+    pub const DS_FALLS: u8 = 10;
+    pub const DS_RISES: u8 = 11;
+    pub const IRQ_FALLS: u8 = 12;
+    pub const IRQ_RISES: u8 = 13;
+    pub const IACKOUT_FALLS: u8 = 14;
+    pub const IACKOUT_RISES: u8 = 15;
+    pub const DTACK_FALLS: u8 = 16;
+    pub const BG_FALLS: u8 = 18;
+    pub const BG_RISES: u8 = 19;
+    pub const BCLR_FALLS: u8 = 20;
+    pub const BCLR_RISES: u8 = 21;
+    pub const IACK_FALLS: u8 = 22;
+    pub const IACK_RISES: u8 = 23;
+    pub const BERR_FALLS: u8 = 24;
+    pub const BERR_RISES: u8 = 25;
+}
+
 /// The mask in which each wire stands.
-pub const LANE_OF: [usize; wire::COUNT] = [BR, BGOUT, BBSY, ADDR, AS, DS, IRQ, IACKOUT, DTACK, BGOUT, BCLR, IACKOUT, BERR];
+pub const LANE_OF: [usize; wire::COUNT] =
+    [BR, BGOUT, BBSY, ADDR, AS, DS, IRQ, IACKOUT, DTACK, BGOUT, BCLR, IACKOUT, BERR];
 
 /// Of an address group that goes on: an acknowledge is its level, an access this and its slot.
 pub const ACCESS: u8 = 32;
@@ -289,7 +319,7 @@ impl Bus {
         let mut verdict = OK;
         match edge.kind() {
             // G1
-            18 => {
+            kind::BG_FALLS => {
                 let (asks, last, level) = (low[BR], now.last as usize & 3, at & 3);
                 need!(E3 + 1, low[BGOUT] & GRANTS == 0 && low[BBSY] == 0);
                 need!(E3 + 1, asks & plan.asking[level] != 0 && asks & plan.before[last][level] == 0);
@@ -298,7 +328,7 @@ impl Bus {
                 now.grant_in ^= plan.feeds[at];
             }
             // G2
-            19 => {
+            kind::BG_RISES => {
                 if low[BBSY] == 0 {
                     need!(E3 + 2, self.is_second);
                     need!(E4 + 3, low[BGOUT] & plan.grant_end[at & 3] != 0);
@@ -306,51 +336,51 @@ impl Bus {
                 now.grant_in ^= plan.feeds[at];
             }
             // G3, G4
-            20 => need!(E3 + 3, is_clear_due(plan, low, now.last)),
-            21 => need!(E3 + 4, !is_clear_due(plan, low, now.last)),
+            kind::BCLR_FALLS => need!(E3 + 3, is_clear_due(plan, low, now.last)),
+            kind::BCLR_RISES => need!(E3 + 4, !is_clear_due(plan, low, now.last)),
             // G5
-            22 => {
+            kind::IACK_FALLS => {
                 need!(E3 + 5, low[AS] != 0 && low[DS] != 0 && now.level != 0);
                 now.iack_in ^= plan.iack_feeds[0];
             }
             // G6
-            23 => {
+            kind::IACK_RISES => {
                 need!(E3 + 6, low[AS] == 0);
                 now.iack_in ^= plan.iack_feeds[0];
             }
             // G7
-            24 => {
+            kind::BERR_FALLS => {
                 need!(E3 + 7, low[DS] != 0 && low[DTACK] == 0);
                 let ran_off = now.level != 0 && low[IACKOUT] & plan.iack_end != 0;
                 need!(E4 + 2, ran_off || now.target & !plan.boards != 0);
             }
             // G8
-            25 => need!(E3 + 8, low[DS] == 0),
+            kind::BERR_RISES => need!(E3 + 8, low[DS] == 0),
             // G9, G10
-            0 => need!(E3 + 9, low[BBSY] & bit == 0),
-            1 => need!(E3 + 10, self.is_second || low[BBSY] & bit != 0),
+            kind::BR_FALLS => need!(E3 + 9, low[BBSY] & bit == 0),
+            kind::BR_RISES => need!(E3 + 10, self.is_second || low[BBSY] & bit != 0),
             // G11
-            2 => {
+            kind::BGOUT_FALLS => {
                 need!(E3 + 11, now.grant_in & !(low[BR] | low[BBSY]) & bit != 0);
                 now.grant_in ^= plan.feeds[at];
             }
             // G12
-            3 => {
+            kind::BGOUT_RISES => {
                 need!(E3 + 12, now.grant_in & bit == 0);
                 now.grant_in ^= plan.feeds[at];
             }
             // G13
-            4 => {
+            kind::BBSY_FALLS => {
                 need!(E3 + 13, now.grant_in & low[BR] & !low[BGOUT] & bit != 0);
                 now.left = plan.burst[at];
             }
             // G14
-            5 => {
+            kind::BBSY_RISES => {
                 need!(E3 + 14, (low[BR] | now.grant_in | low[ADDR] & !low[AS]) & bit == 0);
                 need!(E3 + 14, plan.on_request & bit == 0 || low[BR] != 0);
             }
             // G15
-            6 => {
+            kind::ADDR_FALLS => {
                 need!(E3 + 15, low[BBSY] & bit != 0 && low[AS] == 0 && now.left != 0);
                 if edge.value() < ACCESS {
                     let level = edge.value() & 7;
@@ -362,49 +392,49 @@ impl Bus {
                 }
             }
             // G19
-            7 => {
+            kind::ADDR_RISES => {
                 need!(E3 + 19, low[AS] & !low[DS] & now.strobed & bit != 0);
                 (now.level, now.asked, now.target) = (0, 0, 0);
             }
             // G16
-            8 => {
+            kind::AS_FALLS => {
                 need!(E3 + 16, low[ADDR] & bit != 0 && low[AS] == 0);
                 need!(E4 + 1, low[IACKOUT] == 0);
                 now.left -= 1;
                 now.strobed &= !bit;
             }
             // G20
-            9 => need!(E3 + 20, low[ADDR] & bit == 0),
+            kind::AS_RISES => need!(E3 + 20, low[ADDR] & bit == 0),
             // G17
-            10 => {
+            kind::DS_FALLS => {
                 need!(E3 + 17, low[AS] & low[ADDR] & !now.strobed & bit != 0 && low[DTACK] | low[BERR] == 0);
                 now.strobed |= bit;
             }
             // G18
-            11 => need!(E3 + 18, low[DTACK] | low[BERR] != 0),
+            kind::DS_RISES => need!(E3 + 18, low[DTACK] | low[BERR] != 0),
             // G21, G22
-            12 => now.pending |= bit,
-            13 => need!(E3 + 22, now.pending & bit == 0),
+            kind::IRQ_FALLS => now.pending |= bit,
+            kind::IRQ_RISES => need!(E3 + 22, now.pending & bit == 0),
             // G23
-            14 => {
+            kind::IACKOUT_FALLS => {
                 need!(E3 + 23, now.iack_in & !low[DTACK] & !(now.pending & now.asked) & bit != 0);
                 need!(E3 + 23, low[DS] != 0 && now.level != 0);
                 now.iack_in ^= plan.iack_feeds[at];
             }
             // G24
-            15 => {
+            kind::IACKOUT_RISES => {
                 need!(E3 + 24, low[AS] == 0);
                 now.iack_in ^= plan.iack_feeds[at];
             }
             // G25
-            16 => {
+            kind::DTACK_FALLS => {
                 let answers = now.target | now.pending & now.asked & now.iack_in & !low[IACKOUT];
                 need!(E3 + 25, low[DS] != 0 && low[AS] != 0 && answers & bit != 0);
                 let is_delivery = now.level != 0;
                 now.pending &= !(bit & if is_delivery { plan.by_acknowledge } else { plan.by_access });
                 verdict = is_delivery as u8 * DELIVERED;
             }
-            // G26
+            // G26, of `dtack+`
             _ => need!(E3 + 26, low[DS] == 0),
         }
         low[lane] ^= bit;
@@ -417,7 +447,11 @@ impl Bus {
         let before = self.state;
         let verdict = self.step(edge);
         self.state = before;
-        if verdict <= DELIVERED { E5 } else { verdict }
+        if verdict <= DELIVERED {
+            E5
+        } else {
+            verdict
+        }
     }
 
     /// The open edges of all boards.
@@ -463,13 +497,15 @@ impl Bus {
                 low[BBSY] != 0 || self.is_second && low[BGOUT] & plan.grant_end[level] != 0
             } else {
                 let settled = !self.is_second || low[BGOUT] & SLOTS == 0;
-                let picked = low[BR] & plan.asking[level] != 0 && low[BR] & plan.before[now.last as usize & 3][level] == 0;
+                let picked =
+                    low[BR] & plan.asking[level] != 0 && low[BR] & plan.before[now.last as usize & 3][level] == 0;
                 granted == 0 && low[BBSY] == 0 && picked && settled
             };
             open |= (is_open as u32) << level;
         }
         let clears = is_clear_due(plan, low, now.last) == (low[BCLR] == 0);
-        let acknowledges = if low[IACKOUT] & CONTROLLER == 0 { low[AS] != 0 && low[DS] != 0 && now.level != 0 } else { low[AS] == 0 };
+        let acknowledges =
+            if low[IACKOUT] & CONTROLLER == 0 { low[AS] != 0 && low[DS] != 0 && now.level != 0 } else { low[AS] == 0 };
         let errs = if low[BERR] == 0 {
             let ran_off = now.level != 0 && low[IACKOUT] & plan.iack_end != 0;
             low[DS] != 0 && low[DTACK] == 0 && (ran_off || now.target & !plan.boards != 0)

@@ -83,7 +83,8 @@ fn text_of(policy: Policy, slots: usize, boards: &[Option<Board>; 22]) -> String
     let mut text = format!("slots = {slots}\narbiter = \"{arbiter}\"\n");
     for slot in 1..=slots {
         let Some(board) = boards[slot] else {
-            let _ = writeln!(text, "[[jumper]]\nslot = {slot}\nchains = [\"bg0\", \"bg1\", \"bg2\", \"bg3\", \"iack\"]");
+            let _ =
+                writeln!(text, "[[jumper]]\nslot = {slot}\nchains = [\"bg0\", \"bg1\", \"bg2\", \"bg3\", \"iack\"]");
             continue;
         };
         let _ = writeln!(text, "[[board]]\nslot = {slot}");
@@ -130,7 +131,8 @@ fn edge_of_board(lot: &mut Lot, bus: &Bus, wire: u8, slot: u32, rises: bool, is_
 /// Some edge that is open.
 fn open_edge(lot: &mut Lot, bus: &Bus, habits: &Habits) -> Option<Edge> {
     let (open, controllers) = (bus.open(), bus.open_of_controller());
-    let weight = |at: usize| if (if at < 9 { open.wires[at] } else { controllers }) != 0 { habits.weights[at] } else { 0 };
+    let weight =
+        |at: usize| if (if at < 9 { open.wires[at] } else { controllers }) != 0 { habits.weights[at] } else { 0 };
     let sum: usize = (0..10).map(weight).sum();
     let mut left = if sum > 0 { lot.below(sum) } else { return None };
     let mut at = 0;
@@ -154,7 +156,8 @@ fn any_edge(lot: &mut Lot, bus: &Bus, is_near: bool) -> Edge {
     }
     let wire = lot.below(9) as u8;
     let slot = if is_near { lot.bit(bus.plan.boards) } else { 1 + lot.below(21) as u32 };
-    let rises = if is_near { bus.state.low[wire as usize & (lane::COUNT - 1)] >> slot & 1 != 0 } else { lot.below(2) > 0 };
+    let rises =
+        if is_near { bus.state.low[wire as usize & (lane::COUNT - 1)] >> slot & 1 != 0 } else { lot.below(2) > 0 };
     edge_of_board(lot, bus, wire, slot, rises, false)
 }
 

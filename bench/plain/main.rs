@@ -67,7 +67,11 @@ fn read_plan(text: &[u8]) -> Result<Plan, Fault> {
 
 fn read_scenario(name: &str) -> Result<Vec<u8>, Fault> {
     let text = std::fs::read(name).map_err(|_| cannot_read(name))?;
-    if text.len() > LONGEST_SCENARIO { Err(Fault(format!("F2 {name} is too long"))) } else { Ok(text) }
+    if text.len() > LONGEST_SCENARIO {
+        Err(Fault(format!("F2 {name} is too long")))
+    } else {
+        Ok(text)
+    }
 }
 
 fn judge_files(scenario: &str, trace: &str, judge: fn(Plan, Input) -> Status) -> Status {
@@ -114,11 +118,16 @@ fn read_header(input: &mut Input) -> Result<u8, Fault> {
         if let Some(length) = length {
             let version = HEADERS.iter().position(|it| rest[..=length] == **it);
             input.read_to(input.lines().start.wrapping_add(length + 1));
-            return version.map_or_else(|| fault("X1 the trace does not begin with vme 1 or vme 2"), |it| Ok(it as u8 + 1));
+            return version
+                .map_or_else(|| fault("X1 the trace does not begin with vme 1 or vme 2"), |it| Ok(it as u8 + 1));
         }
         let is_empty = rest.is_empty();
         if !input.read_on()? {
-            return fault(if is_empty { "X1 the trace does not begin with vme 1 or vme 2" } else { "X4 the trace is cut off" });
+            return fault(if is_empty {
+                "X1 the trace does not begin with vme 1 or vme 2"
+            } else {
+                "X4 the trace is cut off"
+            });
         }
     }
 }
@@ -197,7 +206,11 @@ fn read_on(input: &mut Input, output: &mut Output, line: u64) -> Result<bool, Fa
     }
     let is_cut_off = !rest.is_empty();
     let is_more = input.read_on()?;
-    if !is_more && is_cut_off { fault("X4 the trace is cut off") } else { Ok(is_more) }
+    if !is_more && is_cut_off {
+        fault("X4 the trace is cut off")
+    } else {
+        Ok(is_more)
+    }
 }
 
 fn drive_words(words: &[&str]) -> Status {
@@ -261,7 +274,11 @@ fn make(bus: &mut Bus, edge: Edge, lines: &Lines, output: &mut Output) -> Result
     let (to, full) = output.next();
     let end = unsafe { lines.write(edge, to) };
     output.wrote_to(end);
-    if end >= full { output.hand_on() } else { Ok(()) }
+    if end >= full {
+        output.hand_on()
+    } else {
+        Ok(())
+    }
 }
 
 /// The place of the set bit that has so many set bits below it.

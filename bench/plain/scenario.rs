@@ -265,7 +265,11 @@ impl Text<'_> {
 
     fn number(&mut self) -> Option<Value> {
         let text = self.take_while(|it| it.is_ascii_alphanumeric() || "+-_".contains(it));
-        let is_spaced = text.contains("__") || text.starts_with('_') || text.ends_with('_') || text.contains("+_") || text.contains("-_");
+        let is_spaced = text.contains("__")
+            || text.starts_with('_')
+            || text.ends_with('_')
+            || text.contains("+_")
+            || text.contains("-_");
         let plain = text.replace('_', "");
         let (base, digits) = match plain.get(..2) {
             Some("0x") => (16, &plain[2..]),
@@ -296,7 +300,8 @@ fn open_header<'a>(top: &'a mut Table, mut path: Vec<String>, is_list: bool) -> 
         return None;
     }
     let table = table.open(&last)?;
-    let is_new = !table.has_header && !table.keys.iter().any(|(_, it)| !matches!(it, Value::Table(_) | Value::Tables(_)));
+    let is_new =
+        !table.has_header && !table.keys.iter().any(|(_, it)| !matches!(it, Value::Table(_) | Value::Tables(_)));
     table.has_header = true;
     is_new.then_some(table)
 }
@@ -349,7 +354,9 @@ fn tables<'a>(table: &'a Table, key: &str) -> Option<Vec<&'a Table>> {
     match table.get(key) {
         None => Some(Vec::new()),
         Some(Value::Tables(all)) => Some(all.iter().collect()),
-        Some(Value::List(all)) => all.iter().map(|it| if let Value::Table(it) = it { Some(it) } else { None }).collect(),
+        Some(Value::List(all)) => {
+            all.iter().map(|it| if let Value::Table(it) = it { Some(it) } else { None }).collect()
+        }
         _ => None,
     }
 }
@@ -412,7 +419,9 @@ fn jumper(table: &Table) -> Option<u32> {
     has_only(table, &["slot", "chains"])?;
     let Value::List(chains) = table.get("chains")? else { return None };
     chains.iter().try_fold(0, |all, it| match it {
-        Value::Word(it) => ["bg0", "bg1", "bg2", "bg3", "iack"].iter().position(|name| name == it).map(|it| all | 1 << it),
+        Value::Word(it) => {
+            ["bg0", "bg1", "bg2", "bg3", "iack"].iter().position(|name| name == it).map(|it| all | 1 << it)
+        }
         _ => None,
     })
 }

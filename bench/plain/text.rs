@@ -115,7 +115,11 @@ impl Output {
     pub fn hand_on(&mut self) -> Result<(), Fault> {
         let written = self.file.write_all(&self.block[..self.at]);
         self.at = 0;
-        if written.is_err() { fault("X8 the output cannot be written") } else { Ok(()) }
+        if written.is_err() {
+            fault("X8 the output cannot be written")
+        } else {
+            Ok(())
+        }
     }
 }
 
