@@ -1,5 +1,6 @@
 """Builds the plain Rust program beside which vmebus is measured and compared."""
 
+import os
 import shutil
 import subprocess
 import sys
@@ -8,7 +9,8 @@ from pathlib import Path
 SOURCE = Path(__file__).resolve().parent / "plain" / "main.rs"
 
 # Tuned for speed alone, and for the same processors as vmebus.
-FLAGS = ("--edition=2021", "-Copt-level=3", "-Ctarget-cpu=x86-64-v2", "-Ccodegen-units=1", "-Cpanic=abort", "-Crelocation-model=static")
+FLAGS = ("--edition=2021", "-Copt-level=3", "-Ctarget-cpu=x86-64-v2", "-Ccodegen-units=1", "-Cpanic=abort",
+         "-Crelocation-model=static")
 
 
 def plain(room):
@@ -18,5 +20,10 @@ def plain(room):
         return None
     program = Path(room, "plain")
     if subprocess.run([rustc, *FLAGS, SOURCE, "-o", program], check=False).returncode:
-        sys.exit("rustc does not build bench/plain")
+        sys.exit(f"{SOURCE.parent}: rustc does not build it")
     return program
+
+
+def missing(programs):
+    """The first of these that is no program, None where all are."""
+    return next((it for it in programs if not (os.path.isfile(it) and os.access(it, os.X_OK))), None)
