@@ -48,7 +48,7 @@ def item_name(text, line):
 
 def module_of(crate, file):
     """The path of the module that a source file is."""
-    parts = file.removeprefix("src/").removesuffix(".rt").split("/")
+    parts = re.sub(r"^src/|\.rt$", "", file).split("/")
     return "::".join([crate, *(it for it in parts if it not in ("lib", "main", "mod"))])
 
 
@@ -62,7 +62,7 @@ def owner_of(text):
     """What the prover calls the type of an impl: the type's name, and after it the trait's with its arguments, but for `Drop`.
 
     An argument of the type itself is named where it is no parameter of the impl."""
-    text = text.partition(" where ")[0].removeprefix("unsafe ").removeprefix("impl")
+    text = re.sub(r"^(?:unsafe )?impl", "", text.partition(" where ")[0])
     parameters = ""
     if text.startswith("<"):
         parameters, text = text[1 : closing(text)], text[closing(text) + 1 :]
@@ -75,7 +75,7 @@ def owner_of(text):
 
 def names_of_parameters(text):
     """The names that an impl's list of parameters declares."""
-    return {it.partition(":")[0].removeprefix("const ").strip() for it in text.split(",")}
+    return {re.sub(r"^\s*const ", "", it.partition(":")[0]).strip() for it in text.split(",")}
 
 
 def closing(text):

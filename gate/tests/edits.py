@@ -139,8 +139,8 @@ def test_misuse(count, root):
         ("no_such_crate",): "edits: there is no crate no_such_crate",
         ("numbers/no_such_edit",): "edits: there is no edit numbers/no_such_edit",
         ("numbers/",): "edits: there is no edit numbers/",
-        ("--jobs", "0", "numbers"): "edits: argument --jobs: '0' is no number above 0; gate/edits --help tells the words",
-        ("--follow", "log"): "edits: --follow goes with --built; gate/edits --help tells the words",
+        ("--jobs", "0", "numbers"): "edits: argument --jobs: '0' is no number above 0; gate/edits --help says what there is",
+        ("--follow", "log"): "edits: --follow goes with --built; gate/edits --help says what there is",
         ("--rest", root): f"edits: --rest: {root} is there already",
     }.items():
         status, said = run(root, *words)
@@ -183,13 +183,12 @@ def interrupt(count, name, root, words, scratch, mark):
     os.mkdir(scratch)
     words = [EDITS, "--root", root, "--jobs", "1", *words]
     environment = {**os.environ, "TMPDIR": scratch, "XDG_CACHE_HOME": f"{root}.cache"}
-    how = {"stdout": subprocess.PIPE, "stderr": subprocess.STDOUT, "preexec_fn": lambda: signal.signal(signal.SIGINT, signal.SIG_DFL)}
-    made = subprocess.Popen(words, env=environment, text=True, **how)
-    while not glob.glob(f"{scratch}/*/{mark}") and made.poll() is None:
+    made = subprocess.Popen(words, env=environment, text=True, stdout=subprocess.PIPE, stderr=subprocess.STDOUT)
+    while not glob.glob(f"{scratch}/*/*/{mark}") and made.poll() is None:
         time.sleep(0.05)
     made.send_signal(signal.SIGINT)
     said, _ = made.communicate()
-    is_told = said.endswith("edits: interrupted; the repository is as it was\n0 passed, 1 failed\n")
+    is_told = said.endswith("edits: interrupted by SIGINT\n0 passed, 1 failed\n")
     time.sleep(1)
     left = [it for it in glob.glob("/proc/[0-9]*/cwd") if os.path.islink(it) and folder_of(it).startswith(scratch)]
     count.tell(name, made.returncode == 1 and is_told and not os.listdir(scratch) and not left, f"{said[-500:]} {left}")
