@@ -1,8 +1,9 @@
-//! What no clause says: the texts of the errors, and that reading succeeds where memory does not run out.
+//! A scenario with every key that there is, and the plan that it makes. What is refused, and with which text, has cases in
+//! `acceptance/cases/scenario-faults`.
 use crate::asserts::assert_same;
 use std::process::Abort;
-use vme_model::{ArbiterKind, ChainId, IrqKind, PlanError, Release};
-use vme_scenario::{ScenarioError, read};
+use vme_model::{ArbiterKind, ChainId, IrqKind, Release};
+use vme_scenario::read;
 use vme_slots::Plan;
 
 /// Three boards and a jumper, with every key that there is.
@@ -27,22 +28,6 @@ interrupter = { level = 1, kind = "rora", status = 0 }
 slot = 3
 chains = ["bg0", "iack", "bg0"]
 "#;
-
-/// Scenarios that are refused, each with the text of its error: one for each text.
-const REFUSED: [(&str, &str); 6] = [
-    ("slots = ", "Q1 the scenario is not TOML"),
-    ("speed = 1\n", "Q2 unknown key speed"),
-    ("", "Q3 missing key slots"),
-    ("slots = 256\n", "Q4 bad value of slots"),
-    (
-        "slots = 1\narbiter = \"sgl\"\nboard = []\njumper = [{ slot = 2, chains = [] }, { slot = 3 }]\n",
-        "Q3 missing key jumper.2.chains",
-    ),
-    (
-        "slots = 1\narbiter = \"sgl\"\nboard = []\n",
-        "P1 slot 1 is empty",
-    ),
-];
 
 /// The plan of a scenario that can be read.
 fn plan_of(rt: &(impl Abort + AllocGlobal), text: &str) -> Plan {
@@ -90,43 +75,4 @@ fn reads_every_key(rt: HostRuntime) {
     assert_second_board(&rt, &plan);
     assert_fourth_board(&rt, &plan);
     assert_jumper(&rt, &plan);
-}
-
-/// Asserts the text of an error.
-fn assert_text(rt: &(impl Abort + AllocGlobal), error: &ScenarioError, wanted: &str) {
-    let found = error.to_string(rt.alloc()).expect(rt, "the text");
-    assert!(rt; found.as_str() == wanted, "{found}");
-}
-
-/// Asserts the text of the error that a scenario is refused with.
-fn assert_refused(rt: &(impl Abort + AllocGlobal), text: &str, wanted: &str) {
-    match read(rt.alloc(), text.as_bytes()) {
-        Ok(_) => panic!(rt; "{text:?} is read"),
-        Err(error) => assert_text(rt, &error, wanted),
-    }
-}
-
-#[test]
-fn prints_the_first_fault(rt: HostRuntime) {
-    for (text, wanted) in &REFUSED {
-        assert_refused(&rt, text, wanted);
-    }
-}
-
-#[test]
-fn prints_want_of_memory(rt: HostRuntime) {
-    assert_text(&rt, &ScenarioError::Memory, "Q6 no memory");
-    let of_the_plan = ScenarioError::Plan(PlanError::Memory);
-    assert_text(&rt, &of_the_plan, "P9 no memory");
-}
-
-/// Holds where an allocation fails too: want of memory is then answered, and no fault of the text.
-#[test]
-fn answers_the_scenario_or_want_of_memory(rt: HostRuntime) {
-    assert!(rt;
-        matches!(
-            read(rt.alloc(), EVERY_KEY.as_bytes()),
-            Ok(_) | Err(ScenarioError::Memory | ScenarioError::Plan(PlanError::Memory))
-        )
-    );
 }

@@ -97,6 +97,33 @@ const NO_BOARD: &[u8] = b"21 addr- r21\n";
 /// The lines of one tenure of the bus: 42 bytes.
 const TENURE: &[u8] = b"1 br-\nc bg3-\n1 bbsy-\n1 br+\nc bg3+\n1 bbsy+\n";
 
+/// What `joined` answers. Its contract ends here, so that it is not proved again at each device.
+fn joined_from<R: Read, W: Write>(
+    rt: &impl AllocGlobal,
+    input: &mut R,
+    out: &mut W,
+) -> Result<Status, EngineFault> {
+    joined(rt.alloc(), input, out)
+}
+
+/// What `replay` answers for a trace on the backplane of one board.
+fn replayed_from<R: Read, W: Write>(
+    rt: &impl AllocGlobal,
+    trace: &mut R,
+    out: &mut W,
+) -> Result<Status, EngineFault> {
+    replay(rt.alloc(), ONE_BOARD, trace, out)
+}
+
+/// What `check` answers for a trace on the backplane of one board.
+fn checked_from<R: Read, W: Write>(
+    rt: &impl AllocGlobal,
+    trace: &mut R,
+    out: &mut W,
+) -> Result<Status, EngineFault> {
+    check(rt.alloc(), ONE_BOARD, trace, out)
+}
+
 /// Whether an engine gave up reading.
 fn is_unread(answer: &Result<Status, EngineFault>) -> bool {
     matches!(answer, Err(EngineFault::Trace(Fault::Read)))
@@ -106,7 +133,7 @@ fn is_unread(answer: &Result<Status, EngineFault>) -> bool {
 fn a_scenario_without_end_is_read_so_often(rt: HostRuntime) {
     let mut input = Drops::new(b"", b"#\n", u32::MAX);
     let mut out = Counting { bytes: 0 };
-    let answer = joined(rt.alloc(), &mut input, &mut out);
+    let answer = joined_from(&rt, &mut input, &mut out);
     assert!(&rt; is_unread(&answer));
     assert_same(&rt, (input.reads, out.bytes), (MOST, 0));
 }
@@ -116,7 +143,7 @@ fn a_scenario_without_end_is_read_so_often(rt: HostRuntime) {
 fn a_trace_without_end_is_read_so_often(rt: HostRuntime) {
     let mut trace = Drops::new(b"vme 1\n", NO_BOARD, u32::MAX);
     let mut out = Counting { bytes: 0 };
-    let answer = replay(rt.alloc(), ONE_BOARD, &mut trace, &mut out);
+    let answer = replayed_from(&rt, &mut trace, &mut out);
     assert!(&rt; is_unread(&answer));
     assert_same(&rt, (trace.reads, out.bytes), (MOST, 13_084_990));
 }
@@ -126,7 +153,7 @@ fn a_trace_without_end_is_read_so_often(rt: HostRuntime) {
 fn a_trace_without_end_after_its_scenario_is_read_so_often(rt: HostRuntime) {
     let mut input = Drops::new(BOARD_AND_HEADER, NO_BOARD, u32::MAX);
     let mut out = Counting { bytes: 0 };
-    let answer = joined(rt.alloc(), &mut input, &mut out);
+    let answer = joined_from(&rt, &mut input, &mut out);
     assert!(&rt; is_unread(&answer));
     assert_same(&rt, (input.reads, out.bytes), (MOST, 13_084_902));
 }
@@ -136,7 +163,7 @@ fn a_trace_without_end_after_its_scenario_is_read_so_often(rt: HostRuntime) {
 fn a_long_trace_is_read_to_its_end(rt: HostRuntime) {
     let mut trace = Drops::new(b"vme 1\n", TENURE, 420_006);
     let mut out = Vec::new(rt.alloc());
-    let answer = check(rt.alloc(), ONE_BOARD, &mut trace, &mut out);
+    let answer = checked_from(&rt, &mut trace, &mut out);
     assert!(&rt; matches!(answer, Ok(Status::Done)));
     assert_same(&rt, out.as_slice(), b"legal 60000\n".as_slice());
 }
@@ -163,12 +190,12 @@ impl Write for Flushes {
 fn each_short_piece_is_handed_on(rt: HostRuntime) {
     let mut out = Flushes { count: 0 };
     let mut trace = Drops::new(b"vme 1\n", TENURE, 48);
-    let answer = replay(rt.alloc(), ONE_BOARD, &mut trace, &mut out);
+    let answer = replayed_from(&rt, &mut trace, &mut out);
     assert!(&rt; matches!(answer, Ok(Status::Done)));
     assert_same(&rt, out.count, 44);
     let mut out = Flushes { count: 0 };
     let mut input = Drops::new(BOARD_AND_HEADER, TENURE, 148);
-    let answer = joined(rt.alloc(), &mut input, &mut out);
+    let answer = joined_from(&rt, &mut input, &mut out);
     assert!(&rt; matches!(answer, Ok(Status::Done)));
     assert_same(&rt, out.count, 44);
 }
@@ -178,7 +205,7 @@ fn each_short_piece_is_handed_on(rt: HostRuntime) {
 fn a_check_is_handed_on_once(rt: HostRuntime) {
     let mut out = Flushes { count: 0 };
     let mut trace = Drops::new(b"vme 1\n", TENURE, 48);
-    let answer = check(rt.alloc(), ONE_BOARD, &mut trace, &mut out);
+    let answer = checked_from(&rt, &mut trace, &mut out);
     assert!(&rt; matches!(answer, Ok(Status::Done)));
     assert_same(&rt, out.count, 1);
 }
@@ -192,7 +219,7 @@ fn a_whole_piece_is_held_back(rt: HostRuntime) -> Result<(), AllocError> {
         text.extend_from_slice(TENURE)?;
     }
     let mut out = Flushes { count: 0 };
-    let answer = replay(rt.alloc(), ONE_BOARD, &mut text.as_slice(), &mut out);
+    let answer = replayed_from(&rt, &mut text.as_slice(), &mut out);
     assert!(&rt; matches!(answer, Ok(Status::Done)));
     assert_same(&rt, out.count, 3);
     Ok(())
@@ -297,7 +324,7 @@ fn an_interrupted_flush_is_tried_so_often(rt: HostRuntime) {
 fn reported(rt: &impl AllocGlobal, times: u32) -> (Result<Status, EngineFault>, u32, usize) {
     let mut trace = Drops::new(b"vme 1\n", TENURE, 48);
     let mut out = Patient(Interrupted::new(times, b""));
-    let answer = replay(rt.alloc(), ONE_BOARD, &mut trace, &mut out);
+    let answer = replayed_from(rt, &mut trace, &mut out);
     (answer, out.0.left, out.0.bytes)
 }
 
@@ -331,7 +358,7 @@ fn an_interrupted_scenario_is_tried_so_often(rt: HostRuntime) {
 fn joined_so(rt: &impl AllocGlobal, times: u32) -> (Result<Status, EngineFault>, u64) {
     let mut input = Interrupted::new(times, BOARD_AND_HEADER);
     let mut out = Counting { bytes: 0 };
-    let answer = joined(rt.alloc(), &mut input, &mut out);
+    let answer = joined_from(rt, &mut input, &mut out);
     (answer, out.bytes)
 }
 

@@ -38,7 +38,7 @@ fn access(driver: Driver, slot: u8) -> Edge {
 fn rows(alloc: Global, slots: u8) -> Result<Vec<Row>, AllocError> {
     let mut rows = Vec::new(alloc);
     for below in 0..slots.min(21) {
-        rows.push(requester(below + 1, 3, 1))?;
+        rows.push(requester(below + 1, 3))?;
     }
     Ok(rows)
 }

@@ -1,6 +1,5 @@
 //! What no clause says: printed texts, outside examples of the format, and that calls succeed.
 use crate::asserts::assert_same;
-use crate::boards::edge;
 use crate::devices::{Narrow, Pieces};
 use std::alloc::{AllocError, Global};
 use std::process::Abort;
@@ -14,8 +13,10 @@ const TWO_SERVED: &[u8] =
 
 fn board_edge(slot: u8, wire: Wire, fall: bool, value: Option<Cycle>) -> Edge {
     Edge {
+        driver: Driver::Slot(slot),
+        wire,
+        fall,
         value,
-        ..edge(Driver::Slot(slot), wire, fall)
     }
 }
 

@@ -1,0 +1,21 @@
+//! The tests of a plan, of the parts of a board and the controller, of chains and lines, and of the backplane, over their
+//! public calls alone.
+//!
+//! The proof of a body grows with the square of what lives in it. So cases stand in tables, and what is asserted of a case
+//! stands in a small function.
+#![tactic(auto)]
+
+#[cfg(test)]
+mod asserts;
+#[cfg(test)]
+mod backplane;
+#[cfg(test)]
+mod boards;
+#[cfg(test)]
+mod chains;
+#[cfg(test)]
+mod opens;
+#[cfg(test)]
+mod parts;
+#[cfg(test)]
+mod slots;

@@ -1,0 +1,387 @@
+//! What the command line means. What is told of words that mean nothing, and of help, `acceptance/words` has.
+use std::process::Abort;
+use vme_goals::{Event, Goal, Miss};
+use vme_model::{Condition, IrqKind, Version};
+use vme_words::{Job, words};
+
+/// Asserts which job words mean.
+fn assert_job(rt: &(impl Abort + AllocGlobal), given: &[&str], wanted: Job) {
+    match words(rt.alloc(), given) {
+        Ok(job) => assert!(rt; job == wanted),
+        Err(error) => panic!(rt; "{error}"),
+    }
+}
+
+#[test]
+fn no_words_are_joined(rt: HostRuntime) {
+    assert_job(&rt, &[], Job::Joined);
+}
+
+#[test]
+fn reads_two_files(rt: HostRuntime) {
+    let (scenario, trace) = ("board.toml", "tenure.vme");
+    assert_job(
+        &rt,
+        &["replay", scenario, trace],
+        Job::Replay { scenario, trace },
+    );
+    assert_job(
+        &rt,
+        &["check", scenario, trace],
+        Job::Check { scenario, trace },
+    );
+    assert_job(
+        &rt,
+        &["summary", scenario, trace],
+        Job::Summary { scenario, trace },
+    );
+}
+
+#[test]
+fn reads_several_traces(rt: HostRuntime) {
+    let given = ["summary", "board.toml", "a.vme", "--", "b.vme", "-c.vme"];
+    match words(rt.alloc(), &given) {
+        Ok(Job::Sums { scenario, traces }) => {
+            assert!(rt; scenario == "board.toml");
+            assert!(rt; traces.as_slice() == ["a.vme", "b.vme", "-c.vme"].as_slice());
+        }
+        _ => panic!(rt; "no sums"),
+    }
+}
+
+#[test]
+fn reads_which_edge_to_explain(rt: HostRuntime) {
+    let (scenario, trace) = ("S", "T");
+    let given: [(&[&str], Option<u64>); 3] = [
+        (&["explain", "S", "T"], None),
+        (&["explain", "--edge=1", "S", "T"], Some(1)),
+        (
+            &["explain", "S", "T", "--edge", "18446744073709551615"],
+            Some(u64::MAX),
+        ),
+    ];
+    for (given, edge) in &given {
+        let edge = *edge;
+        assert_job(
+            &rt,
+            given,
+            Job::Explain {
+                scenario,
+                trace,
+                edge,
+            },
+        );
+    }
+}
+
+#[test]
+fn reads_where_the_state_is_asked(rt: HostRuntime) {
+    let (scenario, trace) = ("S", "T");
+    let given: [(&[&str], Option<u64>); 3] = [
+        (&["state", "S", "T"], None),
+        (&["state", "S", "T", "--after", "0"], Some(0)),
+        (
+            &["state", "S", "--after=18446744073709551615", "T"],
+            Some(u64::MAX),
+        ),
+    ];
+    for (given, after) in &given {
+        let after = *after;
+        assert_job(
+            &rt,
+            given,
+            Job::State {
+                scenario,
+                trace,
+                after,
+            },
+        );
+    }
+}
+
+/// What to show of trace `T`: the words, the first edge, the last one, and whether it is painted.
+const SHOWS: [(&[&str], u64, u64, bool); 17] = [
+    (&["show", "S", "T"], 1, 60, false),
+    (&["show", "S", "T", "--color"], 1, 60, true),
+    (&["show", "S", "T", "--from", "41"], 41, 100, false),
+    (&["show", "--from=1", "S", "T"], 1, 60, false),
+    (&["show", "S", "T", "--to", "100"], 41, 100, false),
+    (&["show", "S", "T", "--to", "61"], 2, 61, false),
+    (&["show", "S", "T", "--to", "60"], 1, 60, false),
+    (&["show", "S", "T", "--to", "59"], 1, 59, false),
+    (&["show", "S", "T", "--to", "1"], 1, 1, false),
+    (
+        &["show", "S", "T", "--from", "8", "--to", "31"],
+        8,
+        31,
+        false,
+    ),
+    (
+        &["show", "--to=31", "S", "--color", "T", "--from=8"],
+        8,
+        31,
+        true,
+    ),
+    (&["show", "S", "T", "--from", "8", "--to", "8"], 8, 8, false),
+    (
+        &["show", "S", "T", "--from", "8", "--to", "207"],
+        8,
+        207,
+        false,
+    ),
+    (
+        &["show", "S", "T", "--from", "18446744073709551557"],
+        u64::MAX - 58,
+        u64::MAX,
+        false,
+    ),
+    (
+        &["show", "S", "T", "--from", "18446744073709551556"],
+        u64::MAX - 59,
+        u64::MAX,
+        false,
+    ),
+    (
+        &["show", "S", "T", "--from", "18446744073709551555"],
+        u64::MAX - 60,
+        u64::MAX - 1,
+        false,
+    ),
+    (
+        &["show", "S", "T", "--to", "18446744073709551615"],
+        u64::MAX - 59,
+        u64::MAX,
+        false,
+    ),
+];
+
+#[test]
+fn reads_which_edges_to_show(rt: HostRuntime) {
+    for (given, from, to, color) in &SHOWS {
+        let wanted = Job::Show {
+            scenario: "S",
+            trace: "T",
+            from: *from,
+            to: *to,
+            color: *color,
+        };
+        assert_job(&rt, given, wanted);
+    }
+}
+
+/// What to drive with scenario `S`: the words, the edges and the version.
+const DRIVES: [(&[&str], u32, Version); 5] = [
+    (&["drive", "S", "--edges", "8"], 8, Version::One),
+    (&["drive", "--edges=1", "S"], 1, Version::One),
+    (&["drive", "S", "--edges", "1048576"], 1048576, Version::One),
+    (
+        &["drive", "S", "--edges", "8", "--version", "1"],
+        8,
+        Version::One,
+    ),
+    (
+        &["drive", "S", "--version=2", "--edges", "8"],
+        8,
+        Version::Two,
+    ),
+];
+
+#[test]
+fn reads_what_to_drive(rt: HostRuntime) {
+    for (given, edges, version) in &DRIVES {
+        let wanted = Job::Drive {
+            scenario: "S",
+            edges: *edges,
+            version: *version,
+        };
+        assert_job(&rt, given, wanted);
+    }
+}
+
+/// What to draw with scenario `S`: the words, the edges, the seed and the version.
+const DRAWS: [(&[&str], u32, u64, Version); 3] = [
+    (
+        &["drive", "S", "--edges", "8", "--seed", "0"],
+        8,
+        0,
+        Version::One,
+    ),
+    (
+        &["drive", "--seed=7", "S", "--version=2", "--edges=1048576"],
+        1048576,
+        7,
+        Version::Two,
+    ),
+    (
+        &[
+            "drive",
+            "S",
+            "--edges",
+            "1",
+            "--seed",
+            "18446744073709551615",
+        ],
+        1,
+        u64::MAX,
+        Version::One,
+    ),
+];
+
+#[test]
+fn reads_what_to_draw(rt: HostRuntime) {
+    for (given, edges, seed, version) in &DRAWS {
+        let wanted = Job::Draw {
+            scenario: "S",
+            edges: *edges,
+            seed: *seed,
+            until: None,
+            version: *version,
+        };
+        assert_job(&rt, given, wanted);
+    }
+}
+
+/// What a trace is to end with: the word, the goal and the version.
+const GOALS: [(&str, Goal, &str, Version); 7] = [
+    (
+        "iack-passed",
+        Goal::Event(Event::IackPassed),
+        "1",
+        Version::One,
+    ),
+    (
+        "grant-timeout",
+        Goal::Event(Event::GrantTimeout),
+        "2",
+        Version::Two,
+    ),
+    ("S2", Goal::Miss(Miss::Settling(2)), "1", Version::One),
+    (
+        "G13 own bgout is high",
+        Goal::Miss(Miss::Rule(13, Condition::OwnGrantOutHigh)),
+        "1",
+        Version::One,
+    ),
+    (
+        "G1 the arbiter picks level N",
+        Goal::Miss(Miss::Rule(1, Condition::Picked)),
+        "2",
+        Version::Two,
+    ),
+    (
+        "G2 BBSY* is low",
+        Goal::Miss(Miss::Rule(2, Condition::BusyLow)),
+        "1",
+        Version::One,
+    ),
+    (
+        "G22 the request was served by an access",
+        Goal::Miss(Miss::Unserved(IrqKind::Rora)),
+        "1",
+        Version::One,
+    ),
+];
+
+#[test]
+fn reads_what_a_trace_ends_with(rt: HostRuntime) {
+    for (named, goal, version, rules) in &GOALS {
+        let given = [
+            "drive",
+            "S",
+            "--edges=8",
+            "--seed=7",
+            "--until",
+            *named,
+            "--version",
+            *version,
+        ];
+        let wanted = Job::Draw {
+            scenario: "S",
+            edges: 8,
+            seed: 7,
+            until: Some(*goal),
+            version: *rules,
+        };
+        assert_job(&rt, &given, wanted);
+    }
+}
+
+/// Which seeds to try: the word, the first and the last.
+const SEEDS: [(&str, u64, u64); 5] = [
+    ("0..9", 0, 9),
+    ("9..9", 9, 9),
+    ("0..0", 0, 0),
+    ("+7..008", 7, 8),
+    (
+        "18446744073709551614..18446744073709551615",
+        18446744073709551614,
+        u64::MAX,
+    ),
+];
+
+#[test]
+fn reads_which_seeds_to_try(rt: HostRuntime) {
+    for (named, first, last) in &SEEDS {
+        let given = [
+            "drive",
+            "--until=S2",
+            "--seeds",
+            *named,
+            "--edges=8",
+            "--version=2",
+            "S",
+        ];
+        let wanted = Job::Search {
+            scenario: "S",
+            edges: 8,
+            first: *first,
+            last: *last,
+            goal: Goal::Miss(Miss::Settling(2)),
+            version: Version::Two,
+            progress: false,
+        };
+        assert_job(&rt, &given, wanted);
+    }
+}
+
+#[test]
+fn reads_whether_seeds_are_told(rt: HostRuntime) {
+    let given = [
+        "drive",
+        "--progress",
+        "S",
+        "--edges=8",
+        "--seeds=0..9",
+        "--until=S2",
+    ];
+    let wanted = Job::Search {
+        scenario: "S",
+        edges: 8,
+        first: 0,
+        last: 9,
+        goal: Goal::Miss(Miss::Settling(2)),
+        version: Version::One,
+        progress: true,
+    };
+    assert_job(&rt, &given, wanted);
+}
+
+#[test]
+fn reads_what_to_run(rt: HostRuntime) {
+    let given = [
+        "run",
+        "S",
+        "--edges",
+        "1048576",
+        "--version=2",
+        "--turns",
+        "1000000",
+    ];
+    let wanted = Job::Run {
+        scenario: "S",
+        edges: 1048576,
+        turns: 1000000,
+        version: Version::Two,
+    };
+    assert_job(&rt, &given, wanted);
+}
