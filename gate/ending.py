@@ -95,6 +95,8 @@ def guard(name, work):
     signal.pthread_sigmask(signal.SIG_BLOCK, SIGNALS)
     try:
         room = tempfile.mkdtemp(prefix=f"{name}-")
+        # The kit runs what it built as nobody, who has to come to it.
+        os.chmod(room, 0o711)
         reader, writer = os.pipe()
         child = os.fork()
     except OSError as fault:

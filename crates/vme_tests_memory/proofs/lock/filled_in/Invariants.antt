@@ -1,4 +1,4 @@
-use Rattle.vme_tests.proofs.lock.filled_in.Given as goal
+use Rattle.vme_tests_memory.proofs.lock.filled_in.Given as goal
 
 -- the ledger of the blank, and the backplane that is opened
 abbrev pub ghosts-filled-L-Ledger : goal.ghosts-filled-L-Ledger

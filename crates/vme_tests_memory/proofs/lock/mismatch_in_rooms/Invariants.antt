@@ -1,4 +1,4 @@
-use Rattle.vme_tests.proofs.lock.mismatch_in_rooms.Given as goal
+use Rattle.vme_tests_memory.proofs.lock.mismatch_in_rooms.Given as goal
 
 -- the ledger of the blank, and the backplane that is opened
 abbrev pub ghosts-mismatch-L-Ledger : goal.ghosts-mismatch-L-Ledger

@@ -1,4 +1,4 @@
-use Rattle.vme_tests.proofs.lock.turns_of_a_worker.Given as goal
+use Rattle.vme_tests_memory.proofs.lock.turns_of_a_worker.Given as goal
 
 -- the ledger of the blank, and the backplane that is opened
 abbrev pub ghosts-one_board-L-Ledger : goal.ghosts-one_board-L-Ledger
