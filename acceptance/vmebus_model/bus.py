@@ -1,0 +1,143 @@
+"""The bus: the history of accepted edges, and the words in which the rules speak of it.
+
+An edge has the number that it has in its trace, refused edges counted; `since` and `last` go by these numbers.
+"""
+
+from bisect import bisect_right
+from collections import defaultdict
+
+from .traces import BOARD_WIRES, CONTROLLER_WIRES, GRANTS
+
+MOST_EDGES = 1_048_576
+
+
+class Bus:
+    """A backplane, the version of the rules, and what has happened on it since power-up."""
+
+    def __init__(self, plan, version):
+        self.plan, self.version = plan, version
+        self.accepted = 0
+        self.low = {wire: set() for wire in CONTROLLER_WIRES + BOARD_WIRES}  # the drivers that hold a wire low, or on
+        self.falls = defaultdict(list)  # the numbers of the falls of a driver's wire
+        self.moved = {}  # the number of the last edge of a driver's wire
+        self.answers = defaultdict(list)  # the numbers of a board's answers, by whether an acknowledge was shown
+        self.on = {}  # what each address group showed last
+        self.last_grant = (0, None)  # the level last granted, and the number of that grant
+
+    def accept(self, edge, number):
+        """Adds an edge to the history."""
+        driver, wire, falls, cycle = edge
+        if wire == "dtack" and falls:
+            self.answers[driver, self.shown().is_acknowledge].append(number)
+        if wire in GRANTS and falls:
+            self.last_grant = GRANTS.index(wire), number
+        if cycle:
+            self.on[driver] = cycle
+        if falls:
+            self.low[wire].add(driver)
+            self.falls[driver, wire].append(number)
+        else:
+            self.low[wire].discard(driver)
+        self.moved[driver, wire] = number
+        self.accepted += 1
+
+    # Lines and daisy chains
+
+    def is_low(self, segment):
+        """Whether a wire, of a driver and with a name, is low."""
+        driver, wire = segment
+        return driver in self.low[wire]
+
+    def requests(self):
+        """The levels of BR0* to BR3* that are low."""
+        return {self.plan.requesters[slot].level for slot in self.low["br"]}
+
+    def irq(self, level):
+        """The boards that hold an interrupt request line low."""
+        return {slot for slot in self.low["irq"] if self.plan.interrupters[slot].level == level}
+
+    def grants(self):
+        """The levels whose grants are low."""
+        return [level for level, wire in enumerate(GRANTS) if self.low[wire]]
+
+    def grant_in(self, slot):
+        """Whether the board's grant-in is low; it counts as high on a board without one."""
+        feeder = self.plan.feeders.get((slot, "bg"))
+        return feeder is not None and self.is_low(feeder)
+
+    def iackin(self, slot):
+        """Whether the board's iackin is low."""
+        feeder = self.plan.feeders.get((slot, "iack"))
+        return feeder is not None and self.is_low(feeder)
+
+    # What is shown
+
+    def owner_of_cycle(self):
+        """The board whose address group is on, None while every group is off."""
+        return next(iter(self.low["addr"]), None)
+
+    def shown(self):
+        """What the address group that is on says."""
+        owner = self.owner_of_cycle()
+        return None if owner is None else self.on[owner]
+
+    def acknowledge(self):
+        """The level of the acknowledge that is shown, None while none is."""
+        cycle = self.shown()
+        return cycle.number if cycle and cycle.is_acknowledge else None
+
+    def access(self):
+        """The slot of the access that is shown, None while none is."""
+        cycle = self.shown()
+        return None if cycle is None or cycle.is_acknowledge else cycle.number
+
+    # The arbiter
+
+    def level_last_granted(self):
+        """The level of the last grant, 0 before the first."""
+        return self.last_grant[0]
+
+    def pick(self):
+        """The level that the arbiter's policy picks, None if it picks none."""
+        last = self.level_last_granted()
+        if self.plan.arbiter == "sgl":
+            return 3 if 3 in self.requests() else None
+        if self.plan.arbiter == "pri":
+            return max(self.requests(), default=None)
+        return min(self.requests(), key=lambda level: (last + 3 - level) % 4, default=None)
+
+    def is_asked_above(self):
+        """Whether some request above the level last granted is low."""
+        return max(self.requests(), default=0) > self.level_last_granted()
+
+    def is_clear_due(self):
+        """Whether bus clear is due."""
+        return self.plan.arbiter == "pri" and bool(self.low["bbsy"]) and not self.grants() and self.is_asked_above()
+
+    # Since an edge
+
+    def last_fall(self, driver, wire):
+        """The number of the last fall of a wire, 0 before the first."""
+        falls = self.falls.get((driver, wire))
+        return falls[-1] if falls else 0
+
+    def cycles(self, slot):
+        """How many own `as-` came since the last own `bbsy-`."""
+        strobes = self.falls[slot, "as"]
+        return len(strobes) - bisect_right(strobes, self.last_fall(slot, "bbsy"))
+
+    def strobe(self, slot):
+        """The number of the own `ds-` since the last own `as-`, None if there was none."""
+        strobed = self.last_fall(slot, "ds")
+        return strobed if strobed > self.last_fall(slot, "as") else None
+
+    def served(self, slot):
+        """The number of the first answer since the board's last `irq-` that served it, None before that."""
+        answers = self.answers[slot, self.plan.interrupters[slot].is_roak]
+        place = bisect_right(answers, self.last_fall(slot, "irq"))
+        return answers[place] if place < len(answers) else None
+
+    def is_pending(self, slot, level):
+        """Whether a board holds an interrupt request of a level low and has not been served since."""
+        interrupter = self.plan.interrupters.get(slot)
+        return interrupter is not None and interrupter.level == level and slot in self.low["irq"] and self.served(slot) is None

@@ -1,0 +1,59 @@
+"""`explain`: how each condition of an edge's rule stands, and what it rests on."""
+
+from .bus import Bus
+from .judging import beyond
+from .readings import of_wire, readings
+from .traces import GRANTS, name_of
+from .verdicts import guard, hold, is_ok, missing, refusal, settling, step
+
+
+def explain(plan, trace, options, console):
+    """Tells of edge N, or of the first that is refused; what stands after it is not judged."""
+    bus, wanted, number = Bus(plan, trace.version), options.get("--edge"), 0
+    for number, edge in enumerate(trace, 1):
+        if number == wanted or wanted is None and refusal(bus, edge):
+            lines = list(conditions(bus, edge))
+            verdict = step(bus, edge, number)
+            console.write("\n".join([f"{number} {edge} {verdict}", *lines, ""]))
+            return 0 if is_ok(verdict) else 2
+        step(bus, edge, number)
+    if wanted is not None:
+        raise beyond(number)
+    console.write(f"legal {number}\n")
+    return 0
+
+
+def conditions(bus, edge):
+    """The lines of the conditions: that of E1 or E2 alone, those of the guard, and then those of what comes after it."""
+    absent, verdict = missing(bus.plan, edge.driver, edge.wire), refusal(bus, edge)
+    if absent:
+        yield f"fails {absent}"
+    elif verdict == "E2":
+        yield f"fails {name_of(edge.driver)} {edge.wire} is {state_before(edge)}"
+        yield "    " + of_wire(bus, (edge.driver, edge.wire))
+    else:
+        yield from told(bus, edge, guard(bus, edge))
+        if hold(guard(bus, edge)):
+            yield from told(bus, edge, settling(bus, edge))
+        if verdict == "E5":
+            yield "fails the trace has room"
+
+
+def state_before(edge):
+    """The state from which an edge has to come."""
+    if edge.wire == "addr":
+        return "off" if edge.falls else "on"
+    return "high" if edge.falls else "low"
+
+
+def told(bus, edge, some):
+    """Each of some conditions, and below it what it rests on."""
+    for name, holds, rests in some:
+        yield ("holds " if holds else "fails ") + with_level(name, bus, edge)
+        yield from ("    " + it for it in readings(bus, edge, rests))
+
+
+def with_level(name, bus, edge):
+    """A condition's name with the level in the place of N: that of the edge, or of what is shown."""
+    level = GRANTS.index(edge.wire) if edge.wire in GRANTS else edge.cycle.number if edge.cycle else bus.acknowledge()
+    return name.replace("level N", f"level {level}").replace("IRQN*", f"IRQ{level}*")

@@ -1,0 +1,137 @@
+"""One run of the program: from its words, files and standard input to what it writes and its status."""
+
+import os
+import re
+
+from . import backplane
+from .draw import drive_drawn, drive_seeds
+from .drive import drive, run
+from .explain import explain
+from .faults import Fault, WrongWords, escaped
+from .judging import check, replay
+from .show import show
+from .state import state
+from .summary import summary
+from .traces import Trace
+from .words import job_of
+
+MOST_BYTES = 1_048_576
+HEADER = re.compile(rb"^vme [12]\n", re.M)
+
+
+class Console:
+    """Where the program runs: its folder, standard input, standard output and standard error."""
+
+    def open(self, name):
+        """A function that reads a file piece by piece."""
+        try:
+            file = os.open(name, os.O_RDONLY)
+        except (OSError, ValueError):
+            raise Fault(f"F1 cannot read {escaped(name)}") from None
+        return lambda size: os.read(file, size)
+
+    def read(self, size):
+        return os.read(0, size)
+
+    def write(self, text):
+        """Writes to standard output."""
+        rest = text.encode()
+        try:
+            while rest:
+                rest = rest[os.write(1, rest) :]
+        except OSError:
+            raise Fault("X8 the output cannot be written") from None
+
+    def tell(self, line):
+        """Writes a line to standard error."""
+        os.write(2, line.encode() + b"\n")
+
+
+def scenario_of(read, name):
+    """The bytes of a scenario file."""
+    text = b""
+    while len(text) <= MOST_BYTES:
+        try:
+            piece = read(MOST_BYTES + 1)
+        except OSError:
+            raise Fault(f"F1 cannot read {escaped(name)}") from None
+        if not piece:
+            return text
+        text += piece
+    raise Fault(f"F2 {escaped(name)} is too long")
+
+
+def parted(read):
+    """Standard input without words: the scenario before the header line, and a reader of the trace that begins there."""
+    text, fails = b"", False
+    try:
+        while True:
+            piece = read(MOST_BYTES)
+            text += piece
+            if not piece:
+                break
+    except OSError:
+        fails = True
+    header = HEADER.search(text)
+    if not header:
+        raise Fault("F1 cannot read -" if fails else "X1 the trace does not begin with vme 1 or vme 2")
+    if header.start() > MOST_BYTES:
+        raise Fault("F2 - is too long")
+    return text[: header.start()], rest_of(text[header.start() :], fails)
+
+
+def rest_of(text, fails):
+    """A reader of a text, which fails behind it where reading failed there."""
+    pieces = [text]
+
+    def read(size):
+        if not pieces and fails:
+            raise OSError
+        return pieces.pop() if pieces else b""
+
+    return read
+
+
+def without_words(console):
+    scenario, read = parted(console.read)
+    return replay(backplane.read(scenario), Trace(read), console)
+
+
+def done(job, console):
+    """Does a job, and returns its status; files come first, then the scenario's text."""
+    scenario_name, *trace_names = job.files
+    scenario = scenario_of(console.open(scenario_name), scenario_name)
+    first = console.open(trace_names[0]) if trace_names else None
+    options = job.options
+    if "--progress" in options:
+        console.tell(f"trying seed {options['--seeds'][0]}")
+    plan = backplane.read(scenario)
+    if job.command == "summary":
+        return summary(plan, traces_of(trace_names, first, console), console)
+    if job.command == "run":
+        return run(plan, options, console)
+    if job.command == "drive":
+        return (drive_seeds if "--seeds" in options else drive_drawn if "--seed" in options else drive)(plan, options, console)
+    trace = Trace(first)
+    if job.command in ("replay", "check"):
+        return (replay if job.command == "replay" else check)(plan, trace, console)
+    return {"explain": explain, "state": state, "show": show}[job.command](plan, trace, options, console)
+
+
+def traces_of(names, first, console):
+    """The names of traces with their texts, each opened when the one before it is at its end."""
+    yield names[0], first, len(names) == 1
+    for name in names[1:]:
+        yield name, console.open(name), False
+
+
+def main(words, console):
+    """Runs the program with these words, and returns its status."""
+    try:
+        job = job_of(words)
+        return done(job, console) if job else without_words(console)
+    except Fault as fault:
+        console.tell(f"vmebus: {fault}")
+    except WrongWords as wrong:
+        console.tell(f"vmebus: wrong words: {wrong}")
+    return 1

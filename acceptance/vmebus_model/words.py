@@ -1,0 +1,140 @@
+"""The words of the command line: which command they ask for, of which files and with which options."""
+
+import re
+from dataclasses import dataclass, field
+from typing import Dict, List
+
+from .draw import goals
+from .faults import Fault, WrongWords
+
+GREATEST = 2**64 - 1
+MOST = 1_048_576
+WINDOW = 200
+SHOWN = 60
+NUMBER = re.compile(r"\+?0*([0-9]{1,20})")
+
+# For each command: how many operands it has, at least and at most, and the options that it takes.
+COMMANDS = {
+    "replay": (2, 2, ()),
+    "check": (2, 2, ()),
+    "explain": (2, 2, ("--edge",)),
+    "state": (2, 2, ("--after",)),
+    "show": (2, 2, ("--from", "--to", "--color")),
+    "summary": (2, None, ()),
+    "drive": (1, 1, ("--edges", "--version", "--seed", "--seeds", "--until", "--progress")),
+    "run": (1, 1, ("--edges", "--turns", "--version")),
+}
+NEEDED = {"drive": ("--edges",), "run": ("--edges", "--turns")}
+FLAGS = ("--color", "--progress")
+RANGES = {
+    "--edges": (1, MOST),
+    "--turns": (1, 1_000_000),
+    "--version": (1, 2),
+    "--edge": (1, GREATEST),
+    "--from": (1, GREATEST),
+    "--to": (1, GREATEST),
+    "--after": (0, GREATEST),
+    "--seed": (0, GREATEST),
+}
+
+
+@dataclass
+class Job:
+    """What the words ask for; `options` has those that were given, by name, with their values."""
+
+    command: str
+    files: List[str] = field(default_factory=list)
+    options: Dict[str, object] = field(default_factory=dict)
+
+
+def demand(holds, what):
+    if not holds:
+        raise WrongWords(what)
+
+
+def texts_of(words):
+    """The words as text; of those that are not UTF-8 the first is told."""
+    for number, word in enumerate(words, 1):
+        try:
+            word.decode("utf-8")
+        except UnicodeDecodeError:
+            raise Fault(f"F4 word {number} is not UTF-8") from None
+    return [word.decode("utf-8") for word in words]
+
+
+def job_of(words):
+    """The job of the program's words, None if there are none."""
+    texts = texts_of(words)
+    if not texts:
+        return None
+    demand(texts[0] in COMMANDS, "no such command")
+    job = Job(texts[0])
+    read_words(job, texts[1:])
+    least, most, _ = COMMANDS[job.command]
+    demand(least <= len(job.files) <= (most or len(job.files)), "the number of files")
+    demand(all(it in job.options for it in NEEDED.get(job.command, ())), "an option is missing")
+    job.options.setdefault("--version", 1)
+    return drive_of(job) if job.command == "drive" else window_of(job) if job.command == "show" else job
+
+
+def read_words(job, texts):
+    """Sorts operands and options; behind two dashes all are operands."""
+    waiting = list(texts)
+    while waiting:
+        word = waiting.pop(0)
+        if word == "--":
+            job.files += waiting
+            return
+        if not word.startswith("-") or word == "-":
+            job.files.append(word)
+        else:
+            read_option(job, *word.partition("="), waiting)
+
+
+def read_option(job, name, sign, value, waiting):
+    """An option, whose value is the next word where it is not in the same one."""
+    demand(name in COMMANDS[job.command][2], "no such option")
+    demand(name not in job.options, "an option twice")
+    if name in FLAGS:
+        demand(not sign, "a flag with a value")
+        job.options[name] = True
+        return
+    demand(sign or waiting, "an option without value")
+    text = value if sign else waiting.pop(0)
+    job.options[name] = text if name == "--until" else seeds(text) if name == "--seeds" else number(text, *RANGES[name])
+
+
+def number(text, least, most):
+    found = NUMBER.fullmatch(text)
+    demand(found and least <= int(found[1]) <= most, "a number")
+    return int(found[1])
+
+
+def seeds(text):
+    """The range S..T of several seeds."""
+    first, dots, last = text.partition("..")
+    demand(dots, "no range")
+    bounds = number(first, 0, GREATEST), number(last, 0, GREATEST)
+    demand(bounds[0] <= bounds[1], "an empty range")
+    return bounds
+
+
+def drive_of(job):
+    """A drive, if its options go together."""
+    options = job.options
+    demand(not ("--seed" in options and "--seeds" in options), "two kinds of seeds")
+    demand("--until" not in options or "--seed" in options or "--seeds" in options, "an event without a seed")
+    demand("--seeds" not in options or "--until" in options, "seeds without an event")
+    demand("--progress" not in options or "--seeds" in options, "progress without seeds")
+    demand("--until" not in options or options["--until"] in goals(options["--version"]), "no such event")
+    return job
+
+
+def window_of(job):
+    """A picture, with the edges of its window filled in."""
+    options = job.options
+    if "--from" not in options:
+        options["--from"] = max(1, options["--to"] - (SHOWN - 1)) if "--to" in options else 1
+    options.setdefault("--to", min(GREATEST, options["--from"] + (SHOWN - 1)))
+    demand(0 <= options["--to"] - options["--from"] < WINDOW, "the window")
+    return job
