@@ -1,0 +1,11 @@
+"""The program in Python, written from docs/RULES.md and docs/FORMATS.md alone.
+
+Where to begin: rules.py has G1 to G26 and S1 to S4, and bus.py the words in which they speak.  Then
+
+- traces.py, toml.py and backplane.py: edges, traces and scenarios, and the faults of both;
+- verdicts.py and judging.py: which refusal is the first; `replay`, `check`, and the program without words;
+- explain.py with readings.py, state.py, show.py, summary.py with events.py: what is told of a trace;
+- drive.py and draw.py: traces that the program makes, in rounds and by a seed;
+- words.py, program.py and faults.py: the command line, files and streams, and what ends a command;
+- cases.py and drawn.py: the acceptance cases, and a built program, beside the model.
+"""

@@ -6,10 +6,12 @@ from typing import FrozenSet, List, Optional
 
 from . import toml
 from .faults import Fault, escaped
-from .traces import CONTROLLER
+from .traces import CONTROLLER, wires_of
 
 CHAINS = ("bg0", "bg1", "bg2", "bg3", "iack")
 MOST_SLOTS = 21
+OF_REQUESTER = ("br", "bgout", "bbsy", "addr", "as", "ds")
+OF_INTERRUPTER = ("irq", "iackout")
 
 
 @dataclass(frozen=True)
@@ -189,16 +191,30 @@ def faults_of(rows):
 
 
 class Backplane:
-    """A backplane without fault, and the wires of its daisy chains."""
+    """A backplane without fault: its drivers by slot, the wires that each has, and its daisy chains."""
 
     def __init__(self, rows):
         self.arbiter = rows.arbiter
         self.boards = {it.slot: it for it in sorted(rows.boards, key=lambda it: it.slot)}
         self.requesters = {slot: it.requester for slot, it in self.boards.items() if it.requester}
         self.interrupters = {slot: it.interrupter for slot, it in self.boards.items() if it.interrupter}
+        self.drivers = [CONTROLLER, *self.boards]
+        self.wires = {driver: [it for it in wires_of(driver) if not self.missing(driver, it)] for driver in self.drivers}
         self.feeders, self.last_segments = {}, {}
         for chain in CHAINS:
             self.lay(chain)
+
+    def missing(self, driver, wire):
+        """What the backplane lacks for a wire of a driver, None if the wire is there."""
+        if driver == CONTROLLER:
+            return None
+        if driver not in self.boards:
+            return "the slot has a board"
+        if wire in OF_REQUESTER and driver not in self.requesters:
+            return "the board has a requester"
+        if wire in OF_INTERRUPTER and driver not in self.interrupters:
+            return "the board has an interrupter"
+        return None
 
     def lay(self, chain):
         """Finds the wire that feeds each board of a chain, and the chain's last segment."""

@@ -5,7 +5,7 @@ from .drive import written
 from .events import EVENTS, OF_VERSION_2, events_of
 from .rules import GUARDS, SETTLING, name_of_rule
 from .traces import text_of
-from .verdicts import drivers, guard, hold, next_edges, open_edges, settling
+from .verdicts import guard, hold, next_edges, open_edges, settling
 
 KINDS = (
     "bg-", "bg+", "bclr-", "bclr+", "iack-", "iack+", "berr-", "berr+", "br-", "br+", "bgout-", "bgout+", "bbsy-", "bbsy+",
@@ -86,7 +86,7 @@ class Walk:
     def drawn(self):
         """The next edge, None if nobody can make one; it is not made yet."""
         open_now = {kind: [] for kind in KINDS}
-        for driver in drivers(self.bus.plan):
+        for driver in self.bus.plan.drivers:
             for edge in open_edges(self.bus, driver):
                 open_now[kind_of(self.bus.plan, edge)].append(edge)
         counts = {kind: self.weight(kind) for kind in KINDS if open_now[kind]}
@@ -117,7 +117,7 @@ def miss(bus, goal):
     """The first edge by driver, wire and value that is the miss of this name, None if there is none."""
     if goal is None or goal in EVENTS:
         return None
-    return next((edge for driver in drivers(bus.plan) for edge in next_edges(bus, driver) if is_miss(bus, edge, goal)), None)
+    return next((edge for driver in bus.plan.drivers for edge in next_edges(bus, driver) if is_miss(bus, edge, goal)), None)
 
 
 def walked(plan, version, seed, most, goal=None):

@@ -15,7 +15,7 @@ from .draw import goals, kind_of
 from .faults import Fault
 from .program import main
 from .traces import EDGES, HEADERS
-from .verdicts import drivers, next_edges, open_edges, refusal
+from .verdicts import next_edges, open_edges, refusal
 
 EVERY_EDGE = [edge for edges in EDGES.values() for edge in edges]
 SECONDS = 60
@@ -106,13 +106,13 @@ def drawn_edge(draw, bus, legal):
     """An edge that would be accepted, or one to a wire's other state, or any."""
     if some(draw, legal):
         kinds = {}
-        for driver in drivers(bus.plan):
+        for driver in bus.plan.drivers:
             for edge in open_edges(bus, driver):
                 kinds.setdefault(kind_of(bus.plan, edge), []).append(edge)
         if kinds:
             return draw.choice(kinds[draw.choice(list(kinds))])
     if some(draw, 0.8):
-        edges = list(next_edges(bus, draw.choice(drivers(bus.plan))))
+        edges = list(next_edges(bus, draw.choice(bus.plan.drivers)))
         wire = draw.choice(edges).wire
         return draw.choice([edge for edge in edges if edge.wire == wire])
     return draw.choice(EVERY_EDGE)

@@ -2,7 +2,7 @@
 
 from .bus import Bus
 from .traces import Cycle, Edge, text_of
-from .verdicts import drivers, next_edges, refusal
+from .verdicts import next_edges, refusal
 
 
 def offers(bus, driver):
@@ -28,7 +28,7 @@ def rounds(bus, most_edges, most_rounds=None):
     edges, number = [], 0
     while most_rounds is None or number < most_rounds:
         before = len(edges)
-        for driver in drivers(bus.plan):
+        for driver in bus.plan.drivers:
             offered = offers(bus, driver)
             if offered:
                 edges.append(offered[number % len(offered)])

@@ -4,7 +4,7 @@ from .bus import Bus
 from .judging import beyond
 from .readings import of_wire, readings
 from .traces import GRANTS, name_of
-from .verdicts import guard, hold, is_ok, missing, refusal, settling, step
+from .verdicts import guard, hold, is_ok, refusal, settling, step
 
 
 def explain(plan, trace, options, console):
@@ -25,7 +25,7 @@ def explain(plan, trace, options, console):
 
 def conditions(bus, edge):
     """The lines of the conditions: that of E1 or E2 alone, those of the guard, and then those of what comes after it."""
-    absent, verdict = missing(bus.plan, edge.driver, edge.wire), refusal(bus, edge)
+    absent, verdict = bus.plan.missing(edge.driver, edge.wire), refusal(bus, edge)
     if absent:
         yield f"fails {absent}"
     elif verdict == "E2":

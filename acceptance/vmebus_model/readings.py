@@ -2,7 +2,6 @@
 
 from .rules import level_of
 from .traces import GRANTS, name_of
-from .verdicts import missing
 
 
 def readings(bus, edge, rests):
@@ -25,7 +24,7 @@ def of_wire(bus, segment):
 
 def own(bus, edge, *wires):
     """The own wires of these names; one that the board does not have is not told."""
-    return [of_wire(bus, (edge.driver, wire)) for wire in wires if not missing(bus.plan, edge.driver, wire)]
+    return [of_wire(bus, (edge.driver, wire)) for wire in wires if not bus.plan.missing(edge.driver, wire)]
 
 
 def input_of_chain(bus, edge, chain):

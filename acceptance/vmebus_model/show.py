@@ -4,7 +4,7 @@ from .bus import Bus
 from .judging import beyond
 from .state import first, grant_waits_at, holder
 from .traces import name_of
-from .verdicts import delivers, drivers, is_ok, missing, step, wires
+from .verdicts import delivers, is_ok, step
 
 LETTERS = ".abcdefghijklmnopqrstu"
 RED, GREEN, PLAIN = "\x1b[31m", "\x1b[32m", "\x1b[0m"
@@ -19,7 +19,7 @@ class Column:
         delivery = delivers(bus, edge)
         verdict = step(bus, edge, number)
         self.is_accepted = is_ok(verdict)
-        self.segment = None if missing(bus.plan, edge.driver, edge.wire) else (edge.driver, edge.wire)
+        self.segment = None if bus.plan.missing(edge.driver, edge.wire) else (edge.driver, edge.wire)
         self.mark = ("\\" if edge.falls else "/") if self.is_accepted else "x"
         self.low = {wire: set(drivers) for wire, drivers in bus.low.items()}
         grant, cycle = grant_waits_at(bus), bus.shown()
@@ -63,8 +63,8 @@ def picture(plan, columns, has_color):
     yield (" " * LABEL + "".join(it[-2:-1] if it[-1] == "0" else " " for it in numbers)).rstrip()
     yield " " * LABEL + "".join(it[-1] for it in numbers)
     moved = {it.segment for it in columns}
-    for driver in drivers(plan):
-        for wire in wires(plan, driver):
+    for driver in plan.drivers:
+        for wire in plan.wires[driver]:
             if (driver, wire) in moved:
                 yield row(f"{name_of(driver)} {wire}", [it.character((driver, wire)) for it in columns], has_color)
     for name in ("grant at", "holder", "shown", "verdict"):

@@ -5,7 +5,7 @@ from itertools import islice
 from .bus import Bus
 from .judging import beyond
 from .traces import ACCESSES, GRANTS, name_of
-from .verdicts import drivers, open_edges, step, wires
+from .verdicts import open_edges, step
 
 
 def state(plan, trace, options, console):
@@ -54,15 +54,15 @@ def lines(bus, number):
 
 def wires_that_are_low(bus):
     """A line for each driver that holds some wire low, its address group left out."""
-    for driver in drivers(bus.plan):
-        low = [wire for wire in wires(bus.plan, driver) if wire != "addr" and bus.is_low((driver, wire))]
+    for driver in bus.plan.drivers:
+        low = [wire for wire in bus.plan.wires[driver] if wire != "addr" and bus.is_low((driver, wire))]
         if low:
             yield f"low {name_of(driver)} {', '.join(low)}"
 
 
 def open_lines(bus):
     """A line for each driver with open edges; accesses, which are all open or none, are one of them."""
-    for driver in drivers(bus.plan):
+    for driver in bus.plan.drivers:
         edges = [edge for edge in open_edges(bus, driver) if edge.cycle not in ACCESSES[1:]]
         if edges:
             yield f"open {name_of(driver)} " + ", ".join(map(briefly, edges))

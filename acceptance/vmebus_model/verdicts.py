@@ -2,24 +2,7 @@
 
 from .bus import MOST_EDGES
 from .rules import GUARDS, SETTLING, name_of_rule
-from .traces import CONTROLLER, EDGES, wires_of
-
-OF_REQUESTER = ("br", "bgout", "bbsy", "addr", "as", "ds")
-OF_INTERRUPTER = ("irq", "iackout")
-
-
-def missing(plan, driver, wire):
-    """What the backplane lacks for a wire of a driver, None if the wire is there."""
-    if driver == CONTROLLER:
-        return None
-    if driver not in plan.boards:
-        return "the slot has a board"
-    if wire in OF_REQUESTER and driver not in plan.requesters:
-        return "the board has a requester"
-    if wire in OF_INTERRUPTER and driver not in plan.interrupters:
-        return "the board has an interrupter"
-    return None
-
+from .traces import EDGES
 
 def is_already_there(bus, edge):
     """Whether the wire is in the state to which the edge would bring it."""
@@ -38,12 +21,16 @@ def settling(bus, edge):
 
 
 def hold(conditions):
-    return all(holds for _, holds, _ in conditions)
+    """Whether each of some conditions holds."""
+    for _, holds, _ in conditions:
+        if not holds:
+            return False
+    return True
 
 
 def refusal(bus, edge):
     """The first refusal that applies, None if the edge is accepted."""
-    if missing(bus.plan, edge.driver, edge.wire):
+    if bus.plan.missing(edge.driver, edge.wire):
         return "E1"
     if is_already_there(bus, edge):
         return "E2"
@@ -76,22 +63,20 @@ def is_ok(verdict):
     return verdict.startswith("ok")
 
 
-def wires(plan, driver):
-    """The wires that a driver of the backplane has."""
-    return [wire for wire in wires_of(driver) if not missing(plan, driver, wire)]
-
-
-def drivers(plan):
-    """The controller and the boards, by slot."""
-    return [CONTROLLER, *plan.boards]
-
-
 def next_edges(bus, driver):
     """All edges of a driver that bring a wire to its other state, in the order of its wires."""
-    for wire in wires(bus.plan, driver):
+    for wire in bus.plan.wires[driver]:
         yield from EDGES[driver, wire, driver not in bus.low[wire]]
 
 
 def open_edges(bus, driver):
     """All edges of a driver that would be accepted now."""
-    return [edge for edge in next_edges(bus, driver) if refusal(bus, edge) is None]
+    for wire in bus.plan.wires[driver]:
+        edges = EDGES[driver, wire, driver not in bus.low[wire]]
+        # Accesses are all open or none, and an acknowledge asks for what an access asks for, and more.
+        if refusal(bus, edges[-1]) is None:
+            yield from (edge for edge in edges if edge == edges[-1] or is_access(edge) or refusal(bus, edge) is None)
+
+
+def is_access(edge):
+    return edge.cycle is not None and not edge.cycle.is_acknowledge
