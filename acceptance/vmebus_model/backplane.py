@@ -117,8 +117,8 @@ def board_of(keys):
     keys.know("slot", "requester", "interrupter", "handler")
     slot = keys.number("slot")
     requester, interrupter = requester_of(keys.part("requester")), interrupter_of(keys.part("interrupter"))
-    has_handler = "handler" in keys.table
-    return Board(slot, requester, interrupter, frozenset(keys.items("handler", lambda it: is_number(it, 1, 7)) if has_handler else ()))
+    levels = keys.items("handler", lambda it: is_number(it, 1, 7)) if "handler" in keys.table else []
+    return Board(slot, requester, interrupter, frozenset(levels))
 
 
 def requester_of(keys):

@@ -100,7 +100,8 @@ def fault_in(form):
         return f"status {wanted.statuses} is expected, and the model has {status}; it says {console.told[:200]!r}"
     if wanted.stdout is not None and console.output != wanted.stdout:
         return first_difference("standard output", wanted.stdout, console.output)
-    if not console.output.startswith(case.bytes("stdout-begins", b"")) or not console.output.endswith(case.bytes("stdout-ends", b"")):
+    begins, ends = case.bytes("stdout-begins", b""), case.bytes("stdout-ends", b"")
+    if not console.output.startswith(begins) or not console.output.endswith(ends):
         return "standard output begins or ends otherwise"
     if wanted.stderr is not None and console.told != wanted.stderr:
         return first_difference("standard error", wanted.stderr, console.told)

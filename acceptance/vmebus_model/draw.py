@@ -105,7 +105,7 @@ class Walk:
 
 
 def is_miss(bus, edge, goal):
-    """Whether an edge to its wire's other state is refused by the condition alone, or by the settling rule, that the goal names."""
+    """Whether just the condition, or the settling rule, that the goal names refuses an edge to its wire's other state."""
     rule, _, name = goal.partition(" ")
     guarding, settles = GUARDS[edge.wire, edge.falls], SETTLING.get((edge.wire, edge.falls))
     if name:

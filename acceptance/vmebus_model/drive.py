@@ -1,17 +1,21 @@
 """`drive` without a seed, and `run` as one of the orders in which its threads may come."""
 
 from .bus import Bus
-from .traces import Cycle, Edge, text_of
-from .verdicts import next_edges, refusal
+from .traces import EDGES, Cycle, Edge, text_of
+from .verdicts import is_open
 
 
 def offers(bus, driver):
-    """The edges that a driver could make now, in the order of its wires; an address group has two at most."""
-    edges = [edge for edge in next_edges(bus, driver) if edge.cycle is None]
-    if driver in bus.plan.requesters and driver not in bus.low["addr"]:
-        place = next(at for at, edge in enumerate(edges) if edge.wire == "as")
-        edges[place:place] = [Edge(driver, "addr", True, cycle) for cycle in cycles_offered(bus, driver)]
-    return [edge for edge in edges if refusal(bus, edge) is None]
+    """The edges that a driver could make now, in the order of its wires."""
+    return [edge for wire in bus.plan.wires[driver] for edge in offered(bus, driver, wire) if is_open(bus, edge)]
+
+
+def offered(bus, driver, wire):
+    """What a wire gives: the edge to its other state, and of an address group that is off two at most."""
+    falls = driver not in bus.low[wire]
+    if wire == "addr" and falls:
+        return [Edge(driver, wire, falls, cycle) for cycle in cycles_offered(bus, driver)]
+    return EDGES[driver, wire, falls]
 
 
 def cycles_offered(bus, slot):
@@ -29,9 +33,9 @@ def rounds(bus, most_edges, most_rounds=None):
     while most_rounds is None or number < most_rounds:
         before = len(edges)
         for driver in bus.plan.drivers:
-            offered = offers(bus, driver)
-            if offered:
-                edges.append(offered[number % len(offered)])
+            open_now = offers(bus, driver)
+            if open_now:
+                edges.append(open_now[number % len(open_now)])
                 bus.accept(edges[-1], len(edges))
             if len(edges) == most_edges:
                 return edges

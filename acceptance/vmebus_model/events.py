@@ -46,8 +46,9 @@ def interrupts(bus, own):
 
 
 def answers(bus, own):
-    yield "delivery", bus.acknowledge() is not None
-    yield "answered-again", bus.acknowledge() is not None and bus.answers[own, True][-1:] > [bus.last_fall(own, "irq")]
+    delivers = bus.acknowledge() is not None
+    yield "delivery", delivers
+    yield "answered-again", delivers and any(it > bus.last_fall(own, "irq") for it in bus.answers[own, True][-1:])
 
 
 def passes_acknowledge(bus, own):

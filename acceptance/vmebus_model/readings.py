@@ -1,6 +1,5 @@
 """The readings of `explain`: what each condition rests on, just before the edge."""
 
-from .rules import level_of
 from .traces import GRANTS, name_of
 
 
@@ -56,9 +55,9 @@ def last_segment(bus, edge):
 
 def requests(bus, edge):
     """Each board that asks, and the level last granted."""
-    asking = [f"{slot} br low level {bus.plan.requesters[slot].level}{since(bus.moved[slot, 'br'])}" for slot in sorted(bus.low["br"])]
-    level, number = bus.last_grant
-    return asking + [f"level last granted {level}{since(number)}"]
+    levels, (last, granted) = bus.plan.requesters, bus.last_grant
+    asking = [f"{slot} br low level {levels[slot].level} since {bus.moved[slot, 'br']}" for slot in sorted(bus.low["br"])]
+    return asking + [f"level last granted {last}{since(granted)}"]
 
 
 def bus_clear(bus, edge):

@@ -7,7 +7,7 @@ from .events import EVENTS, events_of
 from .faults import Fault, escaped
 from .rules import GUARDS, name_of_rule
 from .traces import Trace
-from .verdicts import is_ok, refusal, step
+from .verdicts import refusal, step
 
 RULES = [f"G{number}" for number in range(1, 27)]
 REFUSALS = ["S1", "S2", "S3", "S4", "E1", "E2", "E5"]

@@ -69,13 +69,18 @@ def next_edges(bus, driver):
         yield from EDGES[driver, wire, driver not in bus.low[wire]]
 
 
+def is_open(bus, edge):
+    """Whether an edge that brings a wire to its other state would be accepted now."""
+    return hold(guard(bus, edge)) and hold(settling(bus, edge)) and bus.accepted < MOST_EDGES
+
+
 def open_edges(bus, driver):
     """All edges of a driver that would be accepted now."""
     for wire in bus.plan.wires[driver]:
         edges = EDGES[driver, wire, driver not in bus.low[wire]]
         # Accesses are all open or none, and an acknowledge asks for what an access asks for, and more.
-        if refusal(bus, edges[-1]) is None:
-            yield from (edge for edge in edges if edge == edges[-1] or is_access(edge) or refusal(bus, edge) is None)
+        if is_open(bus, edges[-1]):
+            yield from (edge for edge in edges if edge == edges[-1] or is_access(edge) or is_open(bus, edge))
 
 
 def is_access(edge):
