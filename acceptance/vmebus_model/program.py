@@ -19,16 +19,30 @@ MOST_BYTES = 1_048_576
 HEADER = re.compile(rb"^vme [12]\n", re.M)
 
 
+class File:
+    """A file that is read piece by piece; a folder opens, too, and then a read of it fails."""
+
+    def __init__(self, number):
+        self.number = number
+
+    def read(self, size):
+        return os.read(self.number, size)
+
+    def __del__(self):
+        os.close(self.number)
+
+
 class Console:
     """Where the program runs: its folder, standard input, standard output and standard error."""
+
+    folder = ""
 
     def open(self, name):
         """A function that reads a file piece by piece."""
         try:
-            file = os.open(name, os.O_RDONLY)
+            return File(os.open(os.path.join(self.folder, name), os.O_RDONLY)).read
         except (OSError, ValueError):
             raise Fault(f"F1 cannot read {escaped(name)}") from None
-        return lambda size: os.read(file, size)
 
     def read(self, size):
         return os.read(0, size)

@@ -254,7 +254,7 @@ def meaning(escape):
     if line_end:
         return ""
     code = int(demand(next((it for it in codes if it), None)), 16)
-    demand(not 0xD800 <= code <= 0xDFFF)
+    demand(code < 0xD800 or 0xDFFF < code <= 0x10FFFF)
     return chr(code)
 
 
