@@ -1,19 +1,12 @@
-"""`--cases` and `--write`: the expected bytes of the acceptance cases and examples, beside those of the model.
-
-Which runs a case has, and what each must give, is read by acceptance/run; here the model runs in the place of a program.
-"""
+"""`--cases` and `--write`: what the acceptance cases and examples expect, beside what the model gives."""
 
 import re
 import tempfile
-from importlib.machinery import SourceFileLoader
 from pathlib import Path
 
+from .case_files import all_cases
 from .faults import Fault
 from .program import Console, main
-
-HERE = Path(__file__).resolve().parent.parent
-runner = SourceFileLoader("acceptance_run", str(HERE / "run")).load_module()
-first_difference = runner.first_difference
 
 
 class Kept(Console):
@@ -42,105 +35,100 @@ class Kept(Console):
         self.told += line.encode() + b"\n"
 
 
-def input_of(form, folder):
-    """The bytes of standard input, and whether reading fails behind them."""
-    kind = form.case.bytes("input", b"").split()[:1]
-    if form.joined:
-        given = b"".join(Path(folder, name).read_bytes() for name in ("scenario.toml", "trace.vme"))
-    else:
-        given = b"" if kind == [b"folder"] or not Path(folder, "stdin").is_file() else Path(folder, "stdin").read_bytes()
-    return given, kind in ([b"folder"], [b"breaks"])
+def console_of(run, folder):
+    """The console in which a run is made: its input, which may fail behind its bytes, and the room of its output."""
+    case = run.case
+    input_, output = case.text("input").split(), case.text("output").split()
+    names = ["scenario.toml", "trace.vme"] if run.is_joined else ["stdin"] if Path(folder, "stdin").is_file() else []
+    given = b"" if input_ == [b"folder"] else b"".join(Path(folder, it).read_bytes() for it in names)
+    room = None if not output else int(output[1]) if output[0] == b"at-most" else 0
+    return Kept(folder, given, input_ in ([b"folder"], [b"breaks"]), room)
 
 
-def room_of(case):
-    """How many bytes standard output takes, None if it takes all."""
-    kind = case.bytes("output", b"").split()
-    return None if not kind else int(kind[1]) if kind[0] == b"at-most" else 0
-
-
-def ran(form):
-    """The model's status for a form, and what it wrote."""
+def done(run):
+    """The model's status for a run, its console, and what is wrong with a trace that it wrote."""
     with tempfile.TemporaryDirectory(prefix="model-") as folder:
-        form.case.lay_out(folder)
-        console = Kept(folder, *input_of(form, folder), room_of(form.case))
-        status = main(form.words, console)
-        return status, console, folder_check(form, folder, status, console.output)
+        run.case.lay_out(folder)
+        console = console_of(run, folder)
+        status = main(run.words, console)
+        Path(folder, "written.vme").write_bytes(console.output)
+        return status, console, fault_in_trace(run.case, folder, status, console.output)
 
 
-def folder_check(form, folder, status, written):
-    """What is wrong with a written trace where the case says no bytes but that it is legal, or why it is refused."""
-    case = form.case
-    if not case.has("legal") and not case.has("fails"):
-        return None
-    Path(folder, "written.vme").write_bytes(written)
+def fault_in_trace(case, folder, status, written):
+    """What is wrong with a trace, if the case says that it is legal, or which condition its last edge fails."""
     asked = Kept(folder)
     if case.has("fails"):
         main([b"explain", b"scenario.toml", b"written.vme"], asked)
         fails = b"".join(it for it in asked.output.splitlines(True) if it.startswith(b"fails "))
-        return None if fails == case.bytes("fails") else f"explain: {asked.output[:200]!r}"
-    main([b"check", b"scenario.toml", b"written.vme"], asked)
-    edges = written.count(b"\n") - 1
-    least, most = map(int, case.bytes("legal").split())
-    is_right = written[:6] == case.bytes("header", b"vme 1\n") and least <= edges <= most and (status == 3) == (edges == most)
-    return None if is_right and asked.output == b"legal %d\n" % edges else f"{edges} edges, check: {asked.output[:90]!r}"
+        return None if fails == case.text("fails") else f"explain says {asked.output[:200]!r}"
+    if case.has("legal"):
+        main([b"check", b"scenario.toml", b"written.vme"], asked)
+        least, most, *limit = map(int, case.text("legal").split())
+        edges = written.count(b"\n") - 1
+        is_right = written.startswith(case.text("header", b"vme 1\n")) and least <= edges <= most
+        if not is_right or asked.output != b"legal %d\n" % edges or (status == 3) != (edges == (limit or [most])[0]):
+            return f"status {status} with {edges} edges, and check says {asked.output[:90]!r}"
+    return None
 
 
-def fault_in(form):
-    """What differs between the model and the expectation of a form, None where nothing does."""
-    case, wanted = form.case, form.outcome
-    status, console, fault = ran(form)
+def fault_in(run):
+    """What differs between the model and what a run has to give, None where nothing does."""
+    case, wanted = run.case, run.wanted
+    status, console, fault = done(run)
     if status not in wanted.statuses:
         return f"status {wanted.statuses} is expected, and the model has {status}; it says {console.told[:200]!r}"
-    if wanted.stdout is not None and console.output != wanted.stdout:
-        return first_difference("standard output", wanted.stdout, console.output)
-    begins, ends = case.bytes("stdout-begins", b""), case.bytes("stdout-ends", b"")
-    if not console.output.startswith(begins) or not console.output.endswith(ends):
+    if wanted.output is not None and console.output not in (wanted.output, case.text("stdout-or", wanted.output)):
+        return first_difference("standard output", wanted.output, console.output)
+    if not console.output.startswith(case.text("stdout-begins")) or not console.output.endswith(case.text("stdout-ends")):
         return "standard output begins or ends otherwise"
-    if wanted.stderr is not None and console.told != wanted.stderr:
-        return first_difference("standard error", wanted.stderr, console.told)
+    if not all(part in console.output for part in case.text("stdout-has").splitlines()):
+        return "standard output lacks a part"
+    if wanted.told is not None and console.told != wanted.told:
+        return first_difference("standard error", wanted.told, console.told)
     if case.has("usage") and not console.told or case.has("one-line") and not re.fullmatch(rb"[^\x00-\x1f\x7f]+\n", console.told):
         return "standard error is none, or not one line"
     return fault
 
 
+def first_difference(name, wanted, got):
+    """The first line in which two outputs differ."""
+    lines, others = wanted.split(b"\n"), got.split(b"\n")
+    at = next((at for at, (line, other) in enumerate(zip(lines, others)) if line != other), min(len(lines), len(others)))
+    line, other = ([*it[at : at + 1], None][0] for it in (lines, others))
+    return f"{name}, line {at + 1}: {line!r} is expected, and it is {other!r}"
+
+
 def compare(only, has_large, is_verbose):
-    """Compares all cases whose names begin so, and returns how many runs passed, failed and were skipped."""
-    passed = failed = rooms = 0
-    for case, forms in runner.cases():
-        if not case.name.startswith(tuple(only) or "") or case.has("large") and not has_large:
+    """Compares all cases whose names begin so with the model, and returns the status."""
+    passed = failed = in_little_room = 0
+    for case in all_cases():
+        if only and not case.name.startswith(tuple(only)) or case.has("large") and not has_large:
             continue
-        for form in forms:
-            if form.memory is not None:
-                rooms += 1
-                continue
-            fault = fault_in(form)
+        in_little_room += case.has("room")
+        for run in case.runs:
+            fault = fault_in(run)
             passed, failed = passed + (fault is None), failed + (fault is not None)
             if fault or is_verbose:
-                print(f"{'FAILED' if fault else 'ok'} {case.name} ({form.label}){': ' + fault if fault else ''}", flush=True)
-    print(f"skipped: {rooms} runs in little memory, of cases that are modelled once each")
+                print(f"{'FAILED' if fault else 'ok'} {run.name()}{': ' + fault if fault else ''}", flush=True)
+    print(f"skipped: little stack and memory, in which {in_little_room} of these cases run, too")
     print(f"{passed} passed, {failed} failed")
     return 1 if failed or not passed else 0
 
 
 def write(name):
     """Makes the expected files of a case anew."""
-    for case, forms in runner.cases():
-        if case.name == name:
-            form = next(iter(forms))
-            status, console, _ = ran(form)
-            write_files(case, form, status, console)
-            return 0
-    print(f"model: no case is named {name}")
-    return 1
-
-
-def write_files(case, form, status, console):
-    """Writes those files that the case has; a new case has `about`, `args` and `status` at least."""
-    if case.name.startswith("examples/"):
-        (case.folder / "expected").write_bytes(console.output)
-        return
-    (case.folder / "status").write_text(f"{status}\n")
-    if not any(case.has(it) for it in ("stdout-begins", "stdout-ends", "legal", "output")) or case.has("stdout"):
-        (case.folder / "stdout").write_bytes(console.output)
-    if not case.has("usage") and not case.has("one-line"):
-        (case.folder / "stderr").write_bytes(console.told)
+    case = next((it for it in all_cases() if it.name == name.strip("/")), None)
+    if case is None:
+        print(f"model: no case is named {name}; a name is SUBJECT/CASE, and its folder has a file `status`")
+        return 1
+    status, console, _ = done(case.runs[0])
+    if name.startswith("examples/"):
+        (case.path / "expected").write_bytes(console.output)
+        return 0
+    (case.path / "status").write_text(f"{status}\n")
+    if case.has("stdout") or not case.has("stdout-begins", "stdout-ends", "stdout-has", "legal", "output"):
+        (case.path / "stdout").write_bytes(console.output)
+    if not case.has("usage", "one-line"):
+        (case.path / "stderr").write_bytes(console.told)
+    return 0
