@@ -70,6 +70,15 @@ class Bus:
         feeder = self.plan.feeders.get((slot, "iack"))
         return feeder is not None and self.is_low(feeder)
 
+    def holder(self):
+        """The board that drives BBSY*, None if none does."""
+        return next(iter(self.low["bbsy"]), None)
+
+    def board_at_grant(self):
+        """The board at which a grant waits to be taken or passed on, None if no grant waits."""
+        waiting = (slot for slot in self.plan.requesters if self.grant_in(slot) and slot not in self.low["bgout"])
+        return None if self.low["bbsy"] else next(waiting, None)
+
     # What is shown
 
     def owner_of_cycle(self):

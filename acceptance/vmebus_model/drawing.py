@@ -5,7 +5,7 @@ from .bus import Bus
 from .draw import kind_of
 from .faults import Fault
 from .traces import EDGES, text_of
-from .verdicts import is_open, next_edges, open_edges
+from .verdicts import open_edges, step
 
 EVERY_EDGE = [edge for edges in EDGES.values() for edge in edges]
 
@@ -87,10 +87,9 @@ def trace_of(draw, plan):
     bus = Bus(plan, version)
     for number in range(1, 1 + draw.choice([0, 5, 20, 40, 60, 80, draw.randint(1, 250)])):
         way = draw.random()
-        edge = legal_edge(draw, bus) if way < legal else near_edge(draw, bus) if way < legal + 0.8 * (1 - legal) else None
+        edge = legal_edge(draw, bus) if way < legal else near_edge(draw, bus) if way < legal + 0.9 * (1 - legal) else None
         edges.append(edge or draw.choice(EVERY_EDGE))
-        if edge and is_open(bus, edge):
-            bus.accept(edge, number)
+        step(bus, edges[-1], number)
     text = text_of(version, edges)
     return spoiled_trace(draw, text) if some(draw, 0.1) else text
 
@@ -105,10 +104,10 @@ def legal_edge(draw, bus):
 
 
 def near_edge(draw, bus):
-    """An edge of any wire of the backplane to its other state."""
-    edges = list(next_edges(bus, draw.choice(bus.plan.drivers)))
-    wire = draw.choice(edges).wire
-    return draw.choice([edge for edge in edges if edge.wire == wire])
+    """An edge of any wire of the backplane, mostly to its other state."""
+    driver = draw.choice(bus.plan.drivers)
+    wire = draw.choice(bus.plan.wires[driver])
+    return draw.choice(EDGES[driver, wire, (driver in bus.low[wire]) == some(draw, 0.1)])
 
 
 def spoiled_trace(draw, text):

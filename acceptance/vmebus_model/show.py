@@ -1,8 +1,7 @@
 """`show`: edges of a trace as a picture, a column each."""
 
 from .bus import Bus
-from .judging import beyond
-from .state import first, grant_waits_at, holder
+from .judging import beyond, first
 from .traces import name_of
 from .verdicts import delivers, is_ok, step
 
@@ -22,10 +21,10 @@ class Column:
         self.segment = None if bus.plan.missing(edge.driver, edge.wire) else (edge.driver, edge.wire)
         self.mark = ("\\" if edge.falls else "/") if self.is_accepted else "x"
         self.low = {wire: set(drivers) for wire, drivers in bus.low.items()}
-        grant, cycle = grant_waits_at(bus), bus.shown()
+        cycle = bus.shown()
         self.below = {
-            "grant at": LETTERS[grant[1]] if grant else ".",
-            "holder": LETTERS[holder(bus) or 0],
+            "grant at": LETTERS[bus.board_at_grant() or 0],
+            "holder": LETTERS[bus.holder() or 0],
             "shown": "." if not cycle else str(cycle.number) if cycle.is_acknowledge else LETTERS[cycle.number],
             "verdict": "x" if not self.is_accepted else "!" if delivery else ".",
         }

@@ -1,10 +1,8 @@
 """`state`: where the bus stands after some edges."""
 
-from itertools import islice
-
 from .bus import Bus
-from .judging import beyond
-from .traces import ACCESSES, GRANTS, name_of
+from .judging import beyond, first
+from .traces import ACCESSES, name_of
 from .verdicts import open_edges, step
 
 
@@ -19,29 +17,11 @@ def state(plan, trace, options, console):
     return 0
 
 
-def first(trace, count):
-    """The first edges of a trace; what comes after them is not read."""
-    return islice(trace, count) if count < 2**63 else trace
-
-
-def grant_waits_at(bus):
-    """The level of the grant that waits, and the board that may take it or pass it on; None if no grant waits."""
-    for slot, requester in bus.plan.requesters.items():
-        if bus.grant_in(slot) and slot not in bus.low["bgout"] and not bus.low["bbsy"]:
-            return requester.level, slot
-    return None
-
-
-def holder(bus):
-    """The board that drives BBSY*, None if none does."""
-    return next(iter(bus.low["bbsy"]), None)
-
-
 def lines(bus, number):
     yield f"after {number} accepted {bus.accepted}"
-    owner, grant, master = holder(bus), grant_waits_at(bus), bus.owner_of_cycle()
+    owner, grant, master = bus.holder(), bus.board_at_grant(), bus.owner_of_cycle()
     yield f"holder {owner} since {bus.moved[owner, 'bbsy']}" if owner else "holder none"
-    yield f"grant {GRANTS[grant[0]]} at {grant[1]}" if grant else "grant none"
+    yield f"grant bg{bus.plan.requesters[grant].level} at {grant}" if grant else "grant none"
     yield f"shown {bus.shown()} by {master} since {bus.moved[master, 'addr']}" if master else "shown none"
     for slot in sorted(bus.low["br"]):
         yield f"asks {slot} level {bus.plan.requesters[slot].level} since {bus.moved[slot, 'br']}"
