@@ -57,19 +57,27 @@ def done(run):
 
 def fault_in_trace(case, folder, status, written):
     """What is wrong with a trace, if the case says that it is legal, or which condition its last edge fails."""
-    asked = Kept(folder)
     if case.has("fails"):
-        main([b"explain", b"scenario.toml", b"written.vme"], asked)
-        fails = b"".join(it for it in asked.output.splitlines(True) if it.startswith(b"fails "))
-        return None if fails == case.text("fails") else f"explain says {asked.output[:200]!r}"
+        lines = said_of_trace(folder, "explain").splitlines(True)
+        fails = b"".join(it for it in lines if it.startswith(b"fails "))
+        return None if fails == case.text("fails") else first_difference("explain", case.text("fails"), fails)
     if case.has("legal"):
-        main([b"check", b"scenario.toml", b"written.vme"], asked)
         least, most, *limit = map(int, case.text("legal").split())
-        edges = written.count(b"\n") - 1
+        edges, checked = written.count(b"\n") - 1, said_of_trace(folder, "check")
         is_right = written.startswith(case.text("header", b"vme 1\n")) and least <= edges <= most
-        if not is_right or asked.output != b"legal %d\n" % edges or (status == 3) != (edges == (limit or [most])[0]):
-            return f"status {status} with {edges} edges, and check says {asked.output[:90]!r}"
+        if not is_right or checked != b"legal %d\n" % edges or (status == 3) != (edges == (limit or [most])[0]):
+            return f"status {status} with {edges} edges, and check says {checked[:90]!r}"
+    if case.has("replay-has"):
+        replayed = said_of_trace(folder, "replay")
+        return None if all(it in replayed for it in case.text("replay-has").splitlines()) else "replay lacks a part"
     return None
+
+
+def said_of_trace(folder, command):
+    """What a command says of the trace that was written."""
+    asked = Kept(folder)
+    main([command.encode(), b"scenario.toml", b"written.vme"], asked)
+    return asked.output
 
 
 def fault_in(run):
