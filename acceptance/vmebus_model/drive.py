@@ -1,4 +1,6 @@
-"""`drive` without a seed, and `run` as one of the orders in which its threads may come."""
+"""`drive` without a seed, and `run` in one of the orders in which its threads may come."""
+
+import random
 
 from .bus import Bus
 from .traces import EDGES, Cycle, Edge, text_of
@@ -7,10 +9,10 @@ from .verdicts import is_open
 
 def offers(bus, driver):
     """The edges that a driver could make now, in the order of its wires."""
-    return [edge for wire in bus.plan.wires[driver] for edge in offered(bus, driver, wire) if is_open(bus, edge)]
+    return [edge for wire in bus.plan.wires[driver] for edge in edges_offered(bus, driver, wire) if is_open(bus, edge)]
 
 
-def offered(bus, driver, wire):
+def edges_offered(bus, driver, wire):
     """What a wire gives: the edge to its other state, and of an address group that is off two at most."""
     falls = driver not in bus.low[wire]
     if wire == "addr" and falls:
@@ -27,21 +29,24 @@ def cycles_offered(bus, slot):
     yield Cycle(False, min(above or bus.plan.boards))
 
 
-def rounds(bus, most_edges, most_rounds=None):
-    """The edges that are made in rounds: the controller and then the boards by slot, each by the number of the round."""
-    edges, number = [], 0
-    while most_rounds is None or number < most_rounds:
+def make(bus, edges, offered, turn):
+    """Makes the offer at the place of the turn."""
+    edges.append(offered[turn % len(offered)])
+    bus.accept(edges[-1], len(edges))
+
+
+def rounds(bus, most):
+    """The edges of rounds: the controller and then the boards by slot, until a round without any."""
+    edges, number, goes_on = [], 0, True
+    while goes_on:
         before = len(edges)
         for driver in bus.plan.drivers:
-            open_now = offers(bus, driver)
-            if open_now:
-                edges.append(open_now[number % len(open_now)])
-                bus.accept(edges[-1], len(edges))
-            if len(edges) == most_edges:
+            offered = offers(bus, driver)
+            if offered:
+                make(bus, edges, offered, number)
+            if len(edges) == most:
                 return edges
-        if len(edges) == before:
-            return edges
-        number += 1
+        number, goes_on = number + 1, len(edges) > before
     return edges
 
 
@@ -57,6 +62,17 @@ def drive(plan, options, console):
 
 
 def run(plan, options, console):
-    """The trace of threads that have their turns in rounds; theirs may come in any other order."""
+    """One of the orders in which threads may come: whose turn is next is drawn, until all turns are over or nobody can move."""
     version, most = options["--version"], options["--edges"]
-    return written(version, rounds(Bus(plan, version), most, options["--turns"]), most, console)
+    bus, edges, draw, taken = Bus(plan, version), [], random.Random(0), dict.fromkeys(plan.drivers, 0)
+    while taken and len(edges) < most:
+        driver = draw.choice(list(taken))
+        offered = offers(bus, driver)
+        if offered:
+            make(bus, edges, offered, taken[driver])
+        elif not any(offers(bus, it) for it in taken):
+            break
+        taken[driver] += 1
+        if taken[driver] == options["--turns"]:
+            del taken[driver]
+    return written(version, edges, most, console)
