@@ -119,6 +119,8 @@ def compare(only, has_large, is_verbose):
             passed, failed = passed + (fault is None), failed + (fault is not None)
             if fault or is_verbose:
                 print(f"{'FAILED' if fault else 'ok'} {run.name()}{': ' + fault if fault else ''}", flush=True)
+    if not passed + failed:
+        print("model: no case is named so")
     print(f"skipped: little stack and memory, in which {in_little_room} of these cases run, too")
     print(f"{passed} passed, {failed} failed")
     return 1 if failed or not passed else 0
@@ -134,7 +136,8 @@ def write(name):
     if name.startswith("examples/"):
         (case.path / "expected").write_bytes(console.output)
         return 0
-    (case.path / "status").write_text(f"{status}\n")
+    if status not in case.runs[0].wanted.statuses:
+        (case.path / "status").write_text(f"{status}\n")
     if case.has("stdout") or not case.has("stdout-begins", "stdout-ends", "stdout-has", "legal", "output"):
         (case.path / "stdout").write_bytes(console.output)
     if not case.has("usage", "one-line"):

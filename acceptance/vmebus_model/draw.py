@@ -10,7 +10,7 @@ from .verdicts import guard, hold, next_edges, open_edges, settling
 KINDS = (
     "bg-", "bg+", "bclr-", "bclr+", "iack-", "iack+", "berr-", "berr+", "br-", "br+", "bgout-", "bgout+", "bbsy-", "bbsy+",
     "addr-i", "addr-r", "addr-e", "addr+", "as-", "as+", "ds-", "ds+", "irq-", "irq+", "iackout-", "iackout+", "dtack-", "dtack+",
-)  # fmt: skip
+)
 FACTOR = 6364136223846793005
 
 # The conditions that a miss may be named by, as the table of docs/FORMATS.md has them.
@@ -41,7 +41,7 @@ CONDITIONS = {
     25: ("DS0* is low", "AS* is low", "own iackin is low", "own iackout is high", "pending at level N", "the own slot is shown",
          "a cycle is shown"),
     26: ("DS0* is high",),
-}  # fmt: skip
+}
 
 
 def goals(version):

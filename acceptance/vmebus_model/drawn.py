@@ -3,6 +3,7 @@
 Every number has its own draw, so that `--drawn 1 --seed S` makes the S-th anew.
 """
 
+import os
 import random
 import subprocess
 import tempfile
@@ -107,10 +108,13 @@ class Draw:
         """The words of each run, and what differs in it, None where nothing does."""
         for words in self.words:
             given = b"" if words else self.given()
-            ran = subprocess.run([program, *words], input=given, capture_output=True, cwd=folder, timeout=SECONDS)
             console = Kept(folder, given)
             status = main([it.encode() for it in words], console)
-            yield words, difference(words, ran, status, console)
+            try:
+                ran = subprocess.run([program, *words], input=given, capture_output=True, cwd=folder, timeout=SECONDS)
+                yield words, difference(words, ran, status, console)
+            except subprocess.TimeoutExpired:
+                yield words, f"it had not ended after {SECONDS} seconds"
 
 
 def difference(words, ran, status, console):
@@ -140,9 +144,12 @@ def fault_in_run(words, ran, console):
 
 def compare(program, count, seed):
     """Compares a program with the model on so many draws, and returns the status."""
-    seed = random.randrange(2**32) if seed is None else seed
-    print(f"seeds {seed} to {seed + count - 1}", flush=True)
-    passed = failed = 0
+    passed, failed, seed = 0, 0, random.randrange(2**32) if seed is None else seed
+    if os.access(program, os.X_OK):
+        print(f"seeds {seed} to {seed + count - 1}", flush=True)
+    else:
+        print(f"model: {program} is no program")
+        count, failed = 0, 1
     for number in range(seed, seed + count):
         with tempfile.TemporaryDirectory(prefix="drawn-") as folder:
             drawn = Draw(number)
@@ -158,7 +165,8 @@ def compare(program, count, seed):
 
 def write_files(seed, folder):
     """Writes the files of a draw, and prints the words of its runs."""
-    drawn = Draw(seed)
+    drawn = Draw(int(seed))
+    os.makedirs(folder, exist_ok=True)
     drawn.lay_out(folder)
     for words in drawn.words:
         print(" ".join(words) or "(no words, with stdin as standard input)")

@@ -3,7 +3,7 @@
 EVENTS = (
     "grant-passed", "late-request", "overtaken", "early-release", "overlap", "full-burst", "bus-clear", "rivals", "delivery",
     "iack-passed", "answered-again", "spurious", "bus-error", "withdrawn", "grant-timeout",
-)  # fmt: skip
+)
 OF_VERSION_2 = ("withdrawn", "grant-timeout")
 
 
@@ -72,4 +72,4 @@ SITUATIONS = {
     ("bgout", True): passes_grant, ("br", True): asks, ("bbsy", True): takes, ("bbsy", False): releases,
     ("as", True): begins_cycle, ("bclr", True): clears, ("irq", True): interrupts, ("dtack", True): answers,
     ("iackout", True): passes_acknowledge, ("berr", True): times_out, ("br", False): withdraws, ("bg", False): ends_grant,
-}  # fmt: skip
+}

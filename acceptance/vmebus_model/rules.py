@@ -236,7 +236,7 @@ GUARDS = {
     ("bbsy", True): g13, ("bbsy", False): g14, ("addr", True): g15, ("as", True): g16, ("ds", True): g17, ("ds", False): g18,
     ("addr", False): g19, ("as", False): g20, ("irq", True): g21, ("irq", False): g22, ("iackout", True): g23,
     ("iackout", False): g24, ("dtack", True): g25, ("dtack", False): g26,
-}  # fmt: skip
+}
 GUARDS.update({(wire, falls): GUARDS["bg", falls] for wire in GRANTS for falls in (True, False)})
 SETTLING = {("as", True): s1, ("berr", True): s2, **{(it, False): s3 for it in GRANTS}, **{(it, True): s4 for it in GRANTS}}
 

@@ -4,6 +4,7 @@ from .bus import MOST_EDGES
 from .rules import GUARDS, SETTLING, name_of_rule
 from .traces import EDGES
 
+
 def is_already_there(bus, edge):
     """Whether the wire is in the state to which the edge would bring it."""
     return (edge.driver in bus.low[edge.wire]) == edge.falls
