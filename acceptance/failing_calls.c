@@ -56,8 +56,8 @@ __attribute__((constructor)) static void begin(void) {
     random_calls = how && !strcmp(how, "random");
 }
 
-/* Tells the count of calls, where that is wanted. */
-static void tell(void) {
+/* Tells the count of calls, where that is wanted: also of a program that ends by `exit` or by its main's return. */
+__attribute__((destructor)) static void tell(void) {
     const char *name = getenv("FAILING_COUNT");
     char text[24];
     int file = name ? syscall(SYS_openat, AT_FDCWD, name, O_WRONLY | O_CREAT | O_TRUNC, 0600) : -1;
