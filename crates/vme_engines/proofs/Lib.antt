@@ -52,6 +52,8 @@ pub mod SlotsInTurn
 pub mod DrawnLines
 -- a walk that seeks a goal, turn by turn: src/seeks.rt, `draws::drive_drawn`
 pub mod SoughtGoals
+-- a walk that seeks an event ends with the first edge that brings it: src/laws.rt
+pub mod BroughtEvents
 -- the walk of a seed, and what was written of it: src/draws.rt
 pub mod DrawnWalks
 -- what the edges of a trace come to, piece by piece

@@ -8,6 +8,7 @@ ghost use Rattle.vme_model.specs.History.{in_order};
 ghost use Rattle.vme_model.specs.Verdict.{IsLegal};
 ghost use Rattle.vme_model.specs.Report.{trace_limit};
 ghost use Rattle.vme_model.specs.Text.{text, read_of};
+ghost use Rattle.vme_engines.specs.Bringing.{EndsWithItsEvent};
 ghost use Rattle.vme_engines.specs.Checking.{IsLegalTrace};
 
 /// The trace of a legal list is what `check` calls legal. Such lists are what `drive` and `run` write.
@@ -15,4 +16,10 @@ pub fn the_trace_of_a_legal_list_is_legal()
     ensures { (plan : Plan) (version : Version) (history : List Edge)
         → IsAccepted plan → IsLegal version plan history → length history ≤ trace_limit
         → IsLegalTrace plan (read_of (text version (in_order history))) }
+{}
+
+/// A walk that seeks an event ends with the first edge that brings it, and says that it came; else no edge of it does.
+/// `drive --until` writes the edges of such a walk.
+pub fn a_walk_ends_with_its_event()
+    ensures { EndsWithItsEvent }
 {}

@@ -1,5 +1,5 @@
-//! The tests of a plan, of the parts of a board and the controller, of chains and lines, and of the backplane, over their
-//! public calls alone.
+//! The tests of a plan, of the parts of a board and the controller, of chains and lines, of the backplane, and of both
+//! judges beside one another, over their public calls alone.
 //!
 //! The proof of a body grows with the square of what lives in it. So cases stand in tables, and what is asserted of a case
 //! stands in a small function.
@@ -13,6 +13,8 @@ mod backplane;
 mod boards;
 #[cfg(test)]
 mod chains;
+#[cfg(test)]
+mod judges;
 #[cfg(test)]
 mod opens;
 #[cfg(test)]

@@ -1,0 +1,247 @@
+//! The two judges side by side: a backplane, which keeps its edges, and a bus, which keeps numbers alone.
+//!
+//! Both are proved to answer what the rules define. Here they answer each edge that a line of a trace can spell, as built,
+//! at each state of drawn histories. A step by the numbers alone, which C calls, is the third.
+use crate::asserts::assert_same;
+use crate::boards::{board, fall, interrupter, requester, rise};
+use bitflags::Flags;
+use std::alloc::{AllocError, Global};
+use std::process::Abort;
+use std::test::Fail;
+use vme_arena::Region;
+use vme_backplane::{Backplane, Trace};
+use vme_bus::{Bus, BusState};
+use vme_model::{
+    ArbiterKind, Chains, Cycle, Driver, Edge, InterrupterRow, IrqKind, Jumper, Levels, Release,
+    RequesterRow, Row, Version, Wire,
+};
+use vme_slots::Plan;
+
+/// How many edges a line can spell: 14 of the controller, and 45 of each of 21 slots.
+const SPELLINGS: usize = 14 + 21 * 45;
+
+const CONTROLLERS: [Wire; 7] = [
+    Wire::Bg(0),
+    Wire::Bg(1),
+    Wire::Bg(2),
+    Wire::Bg(3),
+    Wire::Bclr,
+    Wire::Iack,
+    Wire::Berr,
+];
+
+/// The wires of a board whose edges have no value.
+const PLAIN: [Wire; 8] = [
+    Wire::Br,
+    Wire::BgOut,
+    Wire::Bbsy,
+    Wire::AddressStrobe,
+    Wire::DataStrobe,
+    Wire::Irq,
+    Wire::IackOut,
+    Wire::Dtack,
+];
+
+/// How many edges each history gets.
+const EDGES: u32 = 60;
+
+/// The histories: the rules, the arbiter, and the first number of the draws.
+const HISTORIES: [(Version, ArbiterKind, u32); 4] = [
+    (Version::One, ArbiterKind::Pri, 1),
+    (Version::One, ArbiterKind::Rrs, 2),
+    (Version::Two, ArbiterKind::Pri, 3),
+    (Version::Two, ArbiterKind::Rrs, 4),
+];
+
+/// Both edges of each of these wires.
+fn put_wires(edges: &mut Vec<Edge>, driver: Driver, wires: &[Wire]) -> Result<(), AllocError> {
+    for wire in wires {
+        edges.push(fall(driver, *wire))?;
+        edges.push(rise(driver, *wire))?;
+    }
+    Ok(())
+}
+
+/// The slot's address group goes on with the cycle.
+fn shows(slot: u8, cycle: Cycle) -> Edge {
+    Edge {
+        value: Some(cycle),
+        ..fall(Driver::Slot(slot), Wire::Addr)
+    }
+}
+
+/// The edges of the slot's address group.
+fn put_cycles(edges: &mut Vec<Edge>, slot: u8) -> Result<(), AllocError> {
+    edges.push(rise(Driver::Slot(slot), Wire::Addr))?;
+    for level in 1..8_u8 {
+        edges.push(shows(slot, Cycle::Acknowledge(level)))?;
+    }
+    for target in 1..22_u8 {
+        edges.push(shows(slot, Cycle::Access(target)))?;
+    }
+    Ok(())
+}
+
+/// All edges that a line can spell.
+fn spellings(alloc: Global) -> Result<Vec<Edge>, AllocError> {
+    let mut edges = Vec::new(alloc);
+    put_wires(&mut edges, Driver::Controller, &CONTROLLERS)?;
+    for slot in 1..22_u8 {
+        put_wires(&mut edges, Driver::Slot(slot), &PLAIN)?;
+        put_cycles(&mut edges, slot)?;
+    }
+    Ok(edges)
+}
+
+/// A board of the first slot that handles all levels, and gives the bus up when another requests it.
+fn first() -> Row {
+    let release = Release::Request;
+    Row {
+        requester: Some(RequesterRow { level: 3, release }),
+        handler: Levels::from_bits_retain(127),
+        ..board(1)
+    }
+}
+
+/// The same board, with an interrupter that an access serves.
+fn interrupting(row: Row, level: u8) -> Row {
+    Row {
+        interrupter: Some(InterrupterRow {
+            level,
+            kind: IrqKind::Rora,
+            status: 7,
+        }),
+        ..row
+    }
+}
+
+/// Boards in five of six slots, and a jumper in the other.
+fn six_slots(alloc: Global, arbiter: ArbiterKind) -> Result<Plan, Fail> {
+    let rows = [
+        first(),
+        interrupting(requester(2, 3, 1), 4),
+        requester(3, 1, 2),
+        interrupter(4, 4, 65),
+        interrupting(requester(6, 3, 4), 7),
+    ];
+    let jumper = Jumper {
+        slot: 5,
+        chains: Chains::from_bits_retain(0b1_1111),
+    };
+    Ok(Plan::new(alloc, 6, &rows, &[jumper], arbiter)?)
+}
+
+/// The next number of a linear congruential generator.
+fn next(number: u32) -> u32 {
+    number.wrapping_mul(1_664_525).wrapping_add(1_013_904_223)
+}
+
+/// Whether the edge may be drawn: of accesses only some, since they are many.
+fn may_be_drawn(edge: Edge, number: u32) -> bool {
+    match edge.value {
+        Some(Cycle::Access(target)) => u32::from(target) % 16 == number >> 28,
+        _ => true,
+    }
+}
+
+/// All three answer the edge alike, and where they refuse it a step leaves them as they are. Whether they accept it.
+fn accept(
+    rt: &impl Abort,
+    backplane: &mut Backplane<'_>,
+    bus: &mut Bus,
+    numbers: &BusState,
+    edge: Edge,
+) -> bool {
+    let answer = backplane.answer(edge);
+    assert_same(rt, bus.answer(edge), answer);
+    let mut copy = *numbers;
+    assert_same(rt, copy.step(edge), answer);
+    if answer.is_err() {
+        assert_same(rt, backplane.step(edge), answer);
+        assert_same(rt, bus.step(edge), answer);
+    }
+    answer.is_ok()
+}
+
+/// All three answer each of the edges alike. Of those that they accept one is drawn.
+fn draw(
+    rt: &impl Abort,
+    backplane: &mut Backplane<'_>,
+    bus: &mut Bus,
+    numbers: &BusState,
+    edges: &[Edge],
+    first: u32,
+) -> Option<Edge> {
+    let mut number = first;
+    let mut open = 0_u32;
+    let mut drawn = None;
+    for edge in edges {
+        if accept(rt, backplane, bus, numbers, *edge) && may_be_drawn(*edge, first) {
+            number = next(number);
+            open = open.saturating_add(1);
+            if (number >> 8) % open.max(1) == 0 {
+                drawn = Some(*edge);
+            }
+        }
+    }
+    drawn
+}
+
+/// All three take the edge, and tell the same of it.
+fn take(
+    rt: &impl Abort,
+    backplane: &mut Backplane<'_>,
+    bus: &mut Bus,
+    numbers: &mut BusState,
+    edge: Edge,
+) {
+    let answer = backplane.step(edge);
+    assert!(rt; answer.is_ok());
+    assert_same(rt, bus.step(edge), answer);
+    assert_same(rt, numbers.step(edge), answer);
+}
+
+/// All three answer all edges alike at each state of a drawn history.
+fn assert_alike(
+    rt: &impl Abort,
+    backplane: &mut Backplane<'_>,
+    bus: &mut Bus,
+    edges: &[Edge],
+    seed: u32,
+) {
+    let mut numbers = BusState::new(bus.plan(), bus.version());
+    let mut number = seed;
+    for _made in 0..EDGES {
+        number = next(number);
+        match draw(rt, backplane, bus, &numbers, edges, number) {
+            Some(edge) => take(rt, backplane, bus, &mut numbers, edge),
+            None => {}
+        }
+    }
+    assert_same(rt, backplane.len(), EDGES);
+}
+
+fn judge(
+    rt: &impl Abort,
+    alloc: Global,
+    edges: &[Edge],
+    history: (Version, ArbiterKind, u32),
+) -> Result<(), Fail> {
+    let (version, arbiter, seed) = history;
+    let mut region = Region::new(alloc, Trace::bytes(EDGES))?;
+    let trace = Trace::on(alloc, &mut region.rest(), EDGES)?;
+    let mut backplane = Backplane::new(six_slots(alloc, arbiter)?, trace, version);
+    let mut bus = Bus::new(six_slots(alloc, arbiter)?, version);
+    assert_alike(rt, &mut backplane, &mut bus, edges, seed);
+    Ok(())
+}
+
+#[test]
+fn both_judges_answer_each_edge_alike(rt: HostRuntime) -> Result<(), Fail> {
+    let edges = spellings(rt.alloc())?;
+    assert_same(&rt, edges.len(), SPELLINGS);
+    for history in HISTORIES {
+        judge(&rt, rt.alloc(), edges.as_slice(), history)?;
+    }
+    Ok(())
+}
