@@ -6,7 +6,8 @@
  * and gives it back before it returns.
  *
  * No function has a condition on numbers: each is answered. A pointer has to point to what its type says, be no null
- * pointer, not even delivered, and no two of one call may overlap. */
+ * pointer, not even delivered, and no two of one call may overlap. How much stack a call takes stands in
+ * docs/EMBEDDING.md. */
 #ifndef VMEBUS_H
 #define VMEBUS_H
 
