@@ -6,6 +6,7 @@ Where to begin: rules.py has G1 to G26 and S1 to S4, and bus.py the words in whi
 - verdicts.py and judging.py: which refusal is the first; `replay`, `check`, and the program without words;
 - explain.py with readings.py, state.py, show.py, summary.py with events.py: what is told of a trace;
 - drive.py and draw.py: traces that the program makes, in rounds and by a seed;
+- embedded.py: what a program in C sees of the bus;
 - words.py, program.py and faults.py: the command line, files and streams, and what ends a command;
 - cases.py and drawn.py: the acceptance cases, and a built program, beside the model.
 """

@@ -6,7 +6,8 @@
  * and gives it back before it returns.
  *
  * No function has a condition on numbers: each is answered. A pointer has to point to what its type says, be no null
- * pointer, and no two of one call may overlap. */
+ * pointer, not even delivered, and no two of one call may overlap. How much stack a call takes stands in
+ * docs/EMBEDDING.md. */
 #ifndef VMEBUS_H
 #define VMEBUS_H
 
@@ -20,7 +21,8 @@ extern "C" {
 #define VMEBUS_WORDS 165
 
 /* A bus. Its words are the library's own, with no byte between them that is not written: two buses on which the same calls
- * were made are equal by memcmp. A bus of zeros is none: vmebus_step and vmebus_line answer it VMEBUS_NO_BUS, the others 0. */
+ * were made are equal by memcmp. Words that are no bus, such as zeros, are answered VMEBUS_NO_BUS by vmebus_step and
+ * vmebus_line, and 0 by those that only read. */
 struct vmebus {
     uint32_t words[VMEBUS_WORDS];
 };
@@ -94,7 +96,7 @@ uint32_t vmebus_open(struct vmebus *bus, uint32_t version, const uint8_t *scenar
  *
  * An edge that is not accepted leaves the bus as it was. Numbers that name no edge are answered as E1: a driver above 21, a
  * wire above 15, a fall that is neither 0 nor 1, a value at a rise or at another wire than addr. What is delivered is told
- * in *delivered, which is 0 after any other call. */
+ * in *delivered: it is 0 if nothing is, and so after each answer but VMEBUS_ACCEPTED. */
 uint32_t vmebus_step(struct vmebus *bus, uint32_t driver, uint32_t wire, uint32_t fall, uint32_t value,
                      uint32_t *delivered);
 

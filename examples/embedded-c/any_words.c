@@ -2,8 +2,11 @@
  *
  *     any_words SCENARIO TRACE [ROUNDS]
  *
- * The numbers are drawn from a fixed seed. The records are those of a bus on which the trace is made, with few or all of their
- * words drawn. It ends with status 1 where a refusal changed a bus, or an answer is none that the header names. */
+ * The numbers are drawn from a fixed seed. The records are those of a bus on which the trace is
+ * made, with few or all of their words drawn. It ends with status 1 if a refusal changed a bus or
+ * delivered something, if words that are no bus show more than 0, or if an answer is none that the
+ * header names. */
+#include <stdbool.h>
 #include <stdio.h>
 #include <stdlib.h>
 #include <string.h>
@@ -65,11 +68,22 @@ static void go_on(struct vmebus *bus, const struct vmebus *opened, const uint8_t
     }
 }
 
-/* Looks at an answer to an edge on a bus that was as `before`. */
-static void look_at(uint32_t answer, const struct vmebus *bus, const struct vmebus *before, unsigned long round) {
+/* Looks at an answer to an edge on a bus that was as `before`, and at what was delivered. */
+static void look_at(uint32_t answer, uint32_t told, const struct vmebus *bus,
+                    const struct vmebus *before, unsigned long round) {
     uint32_t error = VMEBUS_ERROR(answer);
     if (answer != VMEBUS_NO_BUS && error > 5) fail("an answer that is none", round);
-    if (answer != VMEBUS_ACCEPTED && memcmp(bus, before, sizeof *bus) != 0) fail("a refusal that changed a bus", round);
+    if (answer == VMEBUS_ACCEPTED) return;
+    if (told != 0) fail("a refusal that delivered", round);
+    if (memcmp(bus, before, sizeof *bus) != 0) fail("a refusal that changed a bus", round);
+}
+
+/* Looks at all that a bus shows. Words that are no bus, as an answer to an edge said, show 0. */
+static void look_around(const struct vmebus *bus, bool is_bus, unsigned long round) {
+    struct vmebus before = *bus;
+    uint32_t seen = vmebus_holder(bus) | vmebus_grant_at(bus) | vmebus_pins(bus, draw_near(24));
+    if (memcmp(bus, &before, sizeof *bus) != 0) fail("a look that changed a bus", round);
+    if (!is_bus && seen != 0) fail("words that are no bus and show more than 0", round);
 }
 
 /* Steps a drawn edge, and a line that is drawn or a line of the trace, and looks at all that a bus tells. */
@@ -77,7 +91,8 @@ static void step_round(struct vmebus *bus, const uint8_t *trace, size_t trace_by
     struct vmebus before = *bus;
     uint32_t told = draw();
     uint32_t driver = draw_near(24), wire = draw_near(18), fall = draw_near(2), value = draw_near(56);
-    look_at(vmebus_step(bus, driver, wire, fall, value, &told), bus, &before, round);
+    uint32_t answer = vmebus_step(bus, driver, wire, fall, value, &told);
+    look_at(answer, told, bus, &before, round);
 
     uint8_t line[80];
     size_t bytes = draw() % sizeof line, at = draw() % trace_bytes;
@@ -91,11 +106,10 @@ static void step_round(struct vmebus *bus, const uint8_t *trace, size_t trace_by
         if (bytes && draw() % 4 == 0) line[draw() % bytes] = (uint8_t)draw();
     }
     before = *bus;
-    look_at(vmebus_line(bus, line, bytes, &told), bus, &before, round);
-
-    before = *bus;
-    uint32_t seen = vmebus_holder(bus) ^ vmebus_grant_at(bus) ^ vmebus_pins(bus, draw_near(24));
-    if (memcmp(bus, &before, sizeof *bus) != 0) fail("a look that changed a bus", round + (seen & 0));
+    told = draw();
+    answer = vmebus_line(bus, line, bytes, &told);
+    look_at(answer, told, bus, &before, round);
+    look_around(bus, answer != VMEBUS_NO_BUS, round);
 }
 
 /* Opens a bus by a scenario some of whose bytes are drawn. */
@@ -121,8 +135,10 @@ int main(int count, char **words) {
     unsigned long rounds = count > 3 ? strtoul(words[3], NULL, 10) : 1000000;
     struct vmebus opened, bus;
     memset(&opened, 0, sizeof opened);
-    uint32_t told;
+    uint32_t told = 1;
     if (vmebus_line(&opened, trace, 0, &told) != VMEBUS_NO_BUS) fail("a bus of zeros that is one", 0);
+    look_at(VMEBUS_NO_BUS, told, &opened, &opened, 0);
+    look_around(&opened, false, 0);
     if (vmebus_open(&opened, 1, scenario, scenario_bytes) != 0) fail("a scenario that opens no bus", 0);
 
     struct vmebus running = opened;

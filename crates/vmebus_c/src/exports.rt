@@ -75,6 +75,7 @@ fn step(bus: &mut BusState, edge: Option<Edge>, none: u32, delivered: &mut u32) 
     ensures state { OfHistory bus.old (λ version p h.
         IsStateOf version p (followed version p h edge) bus.new) }
     ensures unchanged { result ≢ 0 → bus.new ≡ bus.old }
+    ensures nothing { result ≢ 0 → delivered.new ≡ 0 }
     ensures no_bus { is_slot bus.old.layout.slots ≡ false → result ≡ no_bus }
 {
     *delivered = 0;
@@ -101,8 +102,8 @@ fn step(bus: &mut BusState, edge: Option<Edge>, none: u32, delivered: &mut u32) 
 /// fall of addr 1 to 7 for an acknowledge of that level, and 32 + t for an access to slot t.
 ///
 /// Answers 0 where the edge is accepted, and 0x100 * n + k where it is refused: n is 1 to 4 for E1 to E4, and k the number
-/// of the rule. Numbers that name no edge are E1. 0xffffffff is answered where the record is no bus. An edge that is not
-/// accepted leaves the bus as it was.
+/// of the rule. Numbers that name no edge are E1. 0xffffffff is answered if the record is no bus: its number of slots is
+/// none from 1 to 21. An edge that is not accepted leaves the record as it was, and delivers 0.
 ///
 /// What is delivered is 0, or level << 24 | handler << 16 | slot << 8 | status, with bit 31 set.
 #[unsafe(no_mangle)]
@@ -121,6 +122,7 @@ pub extern "C" fn vmebus_step(
     ensures state { OfHistory bus.old (λ version p h. IsStateOf version p
         (followed version p h (edge_of_numbers driver wire fall value)) bus.new) }
     ensures unchanged { result ≢ 0 → bus.new ≡ bus.old }
+    ensures nothing { result ≢ 0 → delivered.new ≡ 0 }
     ensures no_bus { is_slot bus.old.layout.slots ≡ false → result ≡ no_bus }
 {
     let edge = edge_of_numbers(driver, wire, fall, value);
@@ -139,38 +141,52 @@ pub extern "C" fn vmebus_line(bus: &mut BusState, line: &[u8], delivered: &mut u
     ensures state { OfHistory bus.old (λ version p h. IsStateOf version p
         (followed version p h (edge_of line.now)) bus.new) }
     ensures unchanged { result ≢ 0 → bus.new ≡ bus.old }
+    ensures nothing { result ≢ 0 → delivered.new ≡ 0 }
     ensures no_bus { is_slot bus.old.layout.slots ≡ false → result ≡ no_bus }
 {
     step(bus, edge_of(line), NO_EDGE, delivered)
 }
 
-/// The slot that holds the bus, or 0.
+/// The slot that holds the bus, or 0; 0 also if the record is no bus.
 #[unsafe(no_mangle)]
 pub extern "C" fn vmebus_holder(bus: &BusState) -> u32
-    ensures { OfHistory bus.now (λ _ p h. result ≡ unwrap_or (holder p h) 0) }
+    ensures slot { OfHistory bus.now (λ _ p h. result ≡ unwrap_or (holder p h) 0) }
+    ensures no_bus { is_slot bus.now.layout.slots ≡ false → result ≡ 0 }
 {
-    u32::from(bus.holder().unwrap_or(0))
+    match bus.holder() {
+        Some(holder) if bus.is_bus() => u32::from(holder),
+        _ => 0,
+    }
 }
 
-/// The slot at which a grant travels, or 0.
+/// The slot at which a grant travels, or 0; 0 also if the record is no bus.
 #[unsafe(no_mangle)]
 pub extern "C" fn vmebus_grant_at(bus: &BusState) -> u32
-    ensures { OfHistory bus.now (λ _ p h. result
+    ensures slot { OfHistory bus.now (λ _ p h. result
         ≡ unwrap_or (option_map (λ at. at.1) (grant_at p h)) 0) }
+    ensures no_bus { is_slot bus.now.layout.slots ≡ false → result ≡ 0 }
 {
-    u32::from(bus.grant_at().unwrap_or(0))
+    match bus.grant_at() {
+        Some(at) if bus.is_bus() => u32::from(at),
+        _ => 0,
+    }
 }
 
 /// What a driver, 0 for the controller or else the slot, reads on its pins, a bit for each that is low.
 ///
 /// Bits 0 to 3 are BR0* to BR3*, 4 BBSY*, 5 BCLR*, 6 AS*, 7 DS0*, 8 DTACK*, 9 BERR*, 10 the own grant-in, 11 the own iackin,
 /// 12 to 18 IRQ1* to IRQ7*; bits 24 to 29 are what is shown, as the value of an edge. A driver that there is not reads as
-/// the controller does.
+/// the controller does. 0 is answered if the record is no bus.
 #[unsafe(no_mangle)]
 pub extern "C" fn vmebus_pins(bus: &BusState, driver: u32) -> u32
-    ensures { OfHistory bus.now (λ _ p h. result
+    ensures pins { OfHistory bus.now (λ _ p h. result
         ≡ pins_number (pins p h (unwrap_or (driver_of_number driver) Controller))) }
+    ensures no_bus { is_slot bus.now.layout.slots ≡ false → result ≡ 0 }
 {
     let driver = driver_of(driver).unwrap_or(Driver::Controller);
-    pins_number(&bus.pins(driver))
+    if bus.is_bus() {
+        pins_number(&bus.pins(driver))
+    } else {
+        0
+    }
 }

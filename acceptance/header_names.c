@@ -1,0 +1,230 @@
+/* Prints all that vmebus.h lets a program see of a bus, by its names alone: see acceptance/library.
+ *
+ *     header_names NAME SCENARIO TRACE [NAME SCENARIO TRACE]..
+ *
+ * Each edge is made by its numbers on one bus, and as a line on another, which have to stay alike.
+ * No number of the header stands here, so that a name with a wrong number makes, or prints,
+ * something else. */
+#include <stdbool.h>
+#include <stdio.h>
+#include <stdlib.h>
+#include <string.h>
+
+#include "vmebus.h"
+
+enum { MOST_SLOTS = 21, MOST_BYTES = 64, BEHIND = 64 };
+
+struct name {
+    const char *name;
+    uint32_t number;
+};
+
+static const struct name wires[] = {
+    {"bg0", VMEBUS_BG0},         {"bg1", VMEBUS_BG1},     {"bg2", VMEBUS_BG2},
+    {"bg3", VMEBUS_BG3},         {"bclr", VMEBUS_BCLR},   {"iack", VMEBUS_IACK},
+    {"berr", VMEBUS_BERR},       {"br", VMEBUS_BR},       {"bgout", VMEBUS_BGOUT},
+    {"bbsy", VMEBUS_BBSY},       {"addr", VMEBUS_ADDR},   {"as", VMEBUS_AS},
+    {"ds", VMEBUS_DS},           {"irq", VMEBUS_IRQ},     {"iackout", VMEBUS_IACKOUT},
+    {"dtack", VMEBUS_DTACK},
+};
+
+static const struct name pins[] = {
+    {"BR0*", VMEBUS_PIN_BR(0)},   {"BR1*", VMEBUS_PIN_BR(1)},   {"BR2*", VMEBUS_PIN_BR(2)},
+    {"BR3*", VMEBUS_PIN_BR(3)},   {"BBSY*", VMEBUS_PIN_BBSY},   {"BCLR*", VMEBUS_PIN_BCLR},
+    {"AS*", VMEBUS_PIN_AS},       {"DS0*", VMEBUS_PIN_DS},      {"DTACK*", VMEBUS_PIN_DTACK},
+    {"BERR*", VMEBUS_PIN_BERR},   {"BGIN*", VMEBUS_PIN_BGIN},   {"IACKIN*", VMEBUS_PIN_IACKIN},
+    {"IRQ1*", VMEBUS_PIN_IRQ(1)}, {"IRQ2*", VMEBUS_PIN_IRQ(2)}, {"IRQ3*", VMEBUS_PIN_IRQ(3)},
+    {"IRQ4*", VMEBUS_PIN_IRQ(4)}, {"IRQ5*", VMEBUS_PIN_IRQ(5)}, {"IRQ6*", VMEBUS_PIN_IRQ(6)},
+    {"IRQ7*", VMEBUS_PIN_IRQ(7)},
+};
+
+struct text {
+    uint8_t *bytes;
+    size_t length;
+};
+
+static void fail(const char *what) {
+    perror(what);
+    exit(1);
+}
+
+/* Reads a whole file. */
+static struct text read_file(const char *path) {
+    FILE *file = fopen(path, "rb");
+    struct text text = {NULL, 0};
+    size_t room = 4096, count = 0;
+    if (file == NULL) fail(path);
+    do {
+        text.length += count;
+        if (text.bytes == NULL || text.length == room) text.bytes = realloc(text.bytes, room *= 2);
+        if (text.bytes == NULL) fail("memory");
+        count = fread(text.bytes + text.length, 1, room - text.length, file);
+    } while (count > 0);
+    if (ferror(file)) fail(path);
+    fclose(file);
+    return text;
+}
+
+/* The number of the wire that a word names; one that no wire has for any other. */
+static uint32_t wire_of(const char *word) {
+    for (size_t at = 0; at < sizeof wires / sizeof *wires; at++)
+        if (strcmp(wires[at].name, word) == 0) return wires[at].number;
+    return UINT32_MAX;
+}
+
+/* Makes the edge that a line spells by its numbers. */
+static uint32_t step(struct vmebus *bus, const uint8_t *line, size_t bytes, uint32_t *delivered) {
+    char text[MOST_BYTES + 1] = "", wire[8] = "", sign = 0, kind = 0;
+    unsigned driver = VMEBUS_CONTROLLER, argument = 0;
+    memcpy(text, line, bytes < MOST_BYTES ? bytes : MOST_BYTES);
+    if (text[0] == 'c')
+        sscanf(text, "c %7[a-z0-3]%c", wire, &sign);
+    else
+        sscanf(text, "%u %7[a-z]%c %c%u", &driver, wire, &sign, &kind, &argument);
+    uint32_t value = 0;
+    if (kind == 'i') value = VMEBUS_ACKNOWLEDGE(argument);
+    if (kind == 'r') value = VMEBUS_ACCESS(argument);
+    return vmebus_step(bus, driver, wire_of(wire), sign == '-', value, delivered);
+}
+
+/* Prints an answer, with what is delivered. */
+static void print_answer(uint32_t answer, uint32_t delivered) {
+    if (VMEBUS_IS_REFUSED(answer)) {
+        uint32_t error = VMEBUS_ERROR(answer);
+        printf("E%u", error);
+        if (error > 2) printf(" %c%u", error == 3 ? 'G' : 'S', VMEBUS_RULE(answer));
+    } else if (answer == VMEBUS_ACCEPTED)
+        printf("ok");
+    else if (answer == VMEBUS_NO_EDGE)
+        printf("no edge");
+    else
+        printf(answer == VMEBUS_NO_BUS ? "no bus" : "an answer that has no name");
+    if (delivered != 0)
+        printf(" irq %u to %u from %u status %u", VMEBUS_LEVEL(delivered),
+               VMEBUS_HANDLER(delivered), VMEBUS_ANSWERED_BY(delivered), VMEBUS_STATUS(delivered));
+    putchar('\n');
+}
+
+/* Prints what is shown: an acknowledge, an access, or nothing. */
+static void print_shown(uint32_t shown) {
+    for (unsigned level = 1; level <= 7; level++)
+        if (shown == VMEBUS_ACKNOWLEDGE(level)) printf(" i%u", level);
+    for (unsigned slot = 1; slot <= MOST_SLOTS; slot++)
+        if (shown == VMEBUS_ACCESS(slot)) printf(" r%u", slot);
+}
+
+/* Prints what a driver reads: its pins that are low, and what is shown. */
+static void print_pins(const struct vmebus *bus, uint32_t driver) {
+    uint32_t read = vmebus_pins(bus, driver);
+    for (size_t at = 0; at < sizeof pins / sizeof *pins; at++)
+        if (read & pins[at].number) printf(" %s", pins[at].name);
+    print_shown(VMEBUS_SHOWN(read));
+    putchar('\n');
+}
+
+/* Prints all that a bus shows: who holds it, where a grant travels, and what each driver reads,
+ * and one that there is not. */
+static void print_bus(const struct vmebus *bus) {
+    printf("holder %u grant %u\nc", vmebus_holder(bus), vmebus_grant_at(bus));
+    print_pins(bus, VMEBUS_CONTROLLER);
+    for (uint32_t slot = 1; slot <= MOST_SLOTS + 1; slot++) {
+        printf("%u", slot);
+        print_pins(bus, slot);
+    }
+}
+
+/* Prints the fault of a scenario, or of the trace's version, by its name. */
+static void print_fault(uint32_t fault) {
+    if (fault == 31)
+        puts("X1");
+    else if (fault == 20)
+        puts("F2");
+    else
+        printf("%c%u\n", fault > 10 ? 'Q' : 'P', fault % 10);
+}
+
+/* Opens a bus at the head of a room of some byte. A bus takes its own words, and no byte behind. */
+static uint32_t open_within(struct vmebus *bus, int byte, uint32_t version, struct text text) {
+    uint8_t *room = malloc(sizeof *bus + BEHIND);
+    if (room == NULL) fail("memory");
+    memset(room, byte, sizeof *bus + BEHIND);
+    uint32_t fault = vmebus_open((struct vmebus *)room, version, text.bytes, text.length);
+    for (size_t at = 0; at < BEHIND; at++)
+        if (room[sizeof *bus + at] != (uint8_t)byte) puts("a bus is longer than its words");
+    memcpy(bus, room, sizeof *bus);
+    free(room);
+    return fault;
+}
+
+/* Prints how no edge is answered: on words that are no bus, by a line that spells none, and by a
+ * driver that there is not. */
+static void print_no_edge(struct vmebus *bus) {
+    struct vmebus zeros;
+    uint32_t delivered = 1;
+    memset(&zeros, 0, sizeof zeros);
+    uint32_t answer = vmebus_step(&zeros, VMEBUS_CONTROLLER, VMEBUS_BG3, 1, 0, &delivered);
+    print_answer(answer, delivered);
+    delivered = 1;
+    answer = vmebus_line(bus, (const uint8_t *)"", 0, &delivered);
+    print_answer(answer, delivered);
+    delivered = 1;
+    answer = vmebus_step(bus, MOST_SLOTS + 1, VMEBUS_BR, 1, 0, &delivered);
+    print_answer(answer, delivered);
+}
+
+/* Makes the edge of a line on both buses, and prints the answer and the bus behind it. Returns
+ * whether the line spells an edge. */
+static bool follow(struct vmebus *by_line, struct vmebus *by_numbers, struct text line) {
+    uint32_t told = 1, told_too = 1;
+    uint32_t answer = vmebus_line(by_line, line.bytes, line.length, &told);
+    if (answer == VMEBUS_NO_EDGE) {
+        print_answer(answer, told);
+        return false;
+    }
+    uint32_t answer_too = step(by_numbers, line.bytes, line.length, &told_too);
+    print_answer(answer_too, told_too);
+    if (answer != answer_too || told != told_too) puts("a line is answered unlike its numbers");
+    if (memcmp(by_line, by_numbers, sizeof *by_line) != 0) puts("a line makes another edge");
+    print_bus(by_numbers);
+    return true;
+}
+
+/* The version of a trace's header, or 0 for one that is none. */
+static uint32_t version_of(struct text trace) {
+    if (trace.length < 6 || memcmp(trace.bytes, "vme ", 4) != 0 || trace.bytes[5] != '\n') return 0;
+    return (uint32_t)(trace.bytes[4] - '0');
+}
+
+/* Prints what is seen of a trace on the bus of a scenario, up to the first line that spells no
+ * edge. */
+static void judge(struct text scenario, struct text trace) {
+    struct vmebus by_line, by_numbers;
+    uint32_t version = version_of(trace);
+    uint32_t fault = open_within(&by_line, 0, version, scenario);
+    open_within(&by_numbers, 0xff, version, scenario);
+    if (fault != 0) {
+        print_fault(fault);
+        return;
+    }
+    if (memcmp(&by_line, &by_numbers, sizeof by_line) != 0) puts("a bus is shorter than its words");
+    print_no_edge(&by_numbers);
+    print_bus(&by_numbers);
+    const uint8_t *line = trace.bytes + 6, *end = trace.bytes + trace.length, *feed;
+    for (unsigned long number = 1; (feed = memchr(line, '\n', (size_t)(end - line))); number++) {
+        printf("%lu ", number);
+        struct text text = {(uint8_t *)line, (size_t)(feed - line)};
+        if (!follow(&by_line, &by_numbers, text)) return;
+        line = feed + 1;
+    }
+}
+
+int main(int count, char **words) {
+    for (int at = 1; at + 2 < count; at += 3) {
+        struct text scenario = read_file(words[at + 1]), trace = read_file(words[at + 2]);
+        printf("= %s\n", words[at]);
+        judge(scenario, trace);
+        free(scenario.bytes);
+        free(trace.bytes);
+    }
+    return 0;
+}
