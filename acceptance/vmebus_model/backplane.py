@@ -5,7 +5,7 @@ from dataclasses import dataclass
 from typing import FrozenSet, List, Optional
 
 from . import toml
-from .faults import Fault, escaped
+from .faults import Fault, told
 from .traces import CONTROLLER, wires_of
 
 CHAINS = ("bg0", "bg1", "bg2", "bg3", "iack")
@@ -65,13 +65,13 @@ class Keys:
         self.table, self.path = table, path
 
     def bad(self, name):
-        raise Fault(f"Q4 bad value of {escaped(self.path + name)}")
+        raise Fault(f"Q4 bad value of {told(self.path + name)}")
 
     def know(self, *names):
         """Refuses all other keys; of several the least by bytes is named."""
         unknown = [name for name in self.table if name not in names]
         if unknown:
-            raise Fault("Q2 unknown key " + escaped(self.path + min(unknown, key=str.encode)))
+            raise Fault("Q2 unknown key " + told(self.path + min(unknown, key=str.encode)))
 
     def value(self, name, is_good):
         """The value of a key that is needed."""

@@ -26,7 +26,8 @@ VALUES = {
     "--turns": ("1", "30", "0", "1000001"),
     "--version": ("1", "2", "0", "3", "+1", "02"),
     "--seeds": ("0..1", "+3..03", "1..0", "0..", "..1", "1", "0...1", "-1..1", f"{GREATEST}..{GREATEST}"),
-    "--until": ("delivery", "S1", "withdrawn", "S4", "G10 own bbsy is low", "G14 some BR line is low", "G21", "Delivery", ""),
+    "--until": ("delivery", "S1", "withdrawn", "S4", "G10 own bbsy is low", "G14 some BR line is low", "G21", "Delivery",
+                "G5 AS* is low", ""),
 }
 
 

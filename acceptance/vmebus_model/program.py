@@ -2,6 +2,7 @@
 
 import os
 import re
+from pathlib import Path
 
 from . import backplane
 from .draw import drive_drawn, drive_seeds
@@ -16,6 +17,9 @@ from .traces import Trace
 from .words import job_of
 
 MOST_BYTES = 1_048_576
+
+# Where the program's version stands, and nowhere else.
+WORDS = Path(__file__).resolve().parents[2] / "crates/vme_words/src/lib.rt"
 HEADER = re.compile(rb"^vme [12]\n", re.M)
 
 
@@ -111,8 +115,16 @@ def without_words(console):
     return replay(backplane.read(scenario), Trace(read), console)
 
 
+def tell_version(console):
+    """Writes the name of the program and its version, which its source alone has."""
+    console.write(re.search(r'VERSION: &str = "(.*)\\n";', WORDS.read_text(encoding="utf-8"))[1] + "\n")
+    return 0
+
+
 def done(job, console):
     """Does a job, and returns its status; files come first, then the scenario's text."""
+    if job.command == "--version":
+        return tell_version(console)
     scenario_name, *trace_names = job.files
     scenario = scenario_of(console.open(scenario_name), scenario_name)
     first = console.open(trace_names[0]) if trace_names else None

@@ -124,13 +124,12 @@ class Reader:
         return top
 
     def header(self, top):
-        """Reads a header, and returns the table that it opens; its dots go on counting, its brackets do not."""
+        """Reads a header, and returns the table that it opens; its dots go on counting, its brackets do not count."""
         brackets = 2 if self.begins("[[") else 1
         self.at += brackets
-        self.depth = brackets
+        self.depth = 0
         *parents, last = self.key()
         demand(self.took("]" * brackets))
-        self.depth -= brackets
         table = top
         for part in parents:
             table = within(table.setdefault(part, Table("longer header")))

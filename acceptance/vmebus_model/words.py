@@ -26,6 +26,7 @@ COMMANDS = {
 }
 NEEDED = {"drive": ("--edges",), "run": ("--edges", "--turns")}
 FLAGS = ("--color", "--progress")
+VERSION = ("--version", "-V")
 RANGES = {
     "--edges": (1, MOST),
     "--turns": (1, 1_000_000),
@@ -67,6 +68,8 @@ def job_of(words):
     texts = texts_of(words)
     if not texts:
         return None
+    if texts[0] in VERSION:
+        return Job("--version")
     demand(texts[0] in COMMANDS, "no such command")
     job = Job(texts[0])
     read_words(job, texts[1:])

@@ -1,10 +1,13 @@
 -- What a job leaves on its output, and answers.
 use Rattle.std.specs.Prelude.{◌≡◌, ◌⊎◌, ℕ, List, length, Option, Result, Ok, Err}
-use Rattle.std.specs.Io.KnownBytes.{Keeps}
+use Rattle.std.specs.Io.KnownBytes.{Appends, Keeps}
 use Rattle.vme_model.specs.Plan.{Plan}
 use Rattle.vme_scenario.specs.Format.{scenario as read}
 use Rattle.vme_trace.specs.declared.Fault.{Fault}
+use Rattle.vme_trace.specs.declared.Fault.TheVariants.{Write}
+use Rattle.vme_trace.specs.Writing.{AppendsFront}
 use Rattle.vme_engines.specs.declared.Status.{Status}
+use Rattle.vme_engines.specs.declared.Status.TheVariants as ends
 use Rattle.vme_engines.specs.declared.EngineFault.TheVariants as fault
 use Rattle.vme_engines.specs.Streams.{Streams, ReadNothing, WroteNothing, streams}
 use Rattle.vme_engines.specs.Outcomes.{Answer, Lent, ReplaysInput}
@@ -21,8 +24,9 @@ use Rattle.vme_run.specs.declared.RunFault.{RunFault}
 use Rattle.vme_run.specs.declared.RunFault.TheVariants as run
 use Rattle.vme_run.specs.Running.{Runs}
 use Rattle.vme_words.specs.declared.Job.{Job}
-use Rattle.vme_words.specs.declared.Job.TheVariants.{Joined, Replay, Check, Explain, State, Show, Summary, Sums, Drive, Draw, Search, Run}
+use Rattle.vme_words.specs.declared.Job.TheVariants.{Joined, OwnVersion, Replay, Check, Explain, State, Show, Summary, Sums, Drive, Draw, Search, Run}
 use Rattle.vme_words.specs.Asked.{Ask, texts_of}
+use Rattle.vme_words.specs.declared.TheConstants.{VERSION}
 use Rattle.vme_jobs.specs.Statuses.{exit_code}
 use Rattle.vme_jobs.specs.Together.{StopsAt, SumsUp}
 use Rattle.vme_jobs.specs.declared.faults.ProgramFault.{ProgramFault}
@@ -43,11 +47,18 @@ OnTrace Ends old new answer = (text : List ℕ) × (from : Known) × (to : Known
     × (let s = streams from to old new in
     Lent text (ReadNothing s × WroteNothing s) (Ends s) answer)
 
+-- the line of the program's version is written, at X8 a prefix of it
+abbrev pub TellsVersion : Known → Known → Answer → Type 0
+TellsVersion old new (Ok status) = Appends old new VERSION.now × (status ≡ ends.Done)
+TellsVersion old new (Err (fault.Trace f)) = (f ≡ Write) × AppendsFront old new VERSION.now
+TellsVersion old new (Err _) = ⊥
+
 -- What the engine of a job does, by what the output held and holds, on some text of a scenario, and
 -- some input that had these bytes left and has those: no clause can say what a file gives.
 abbrev pub Does : Job → Known → Known → Result Status RunFault → Type 0
 Does Joined old new =
     Alone (λ answer. (from : Known) × (to : Known) × Joins (streams from to old new) answer)
+Does OwnVersion old new = Alone (TellsVersion old new)
 Does (Replay scenario trace) old new = Alone (OnTrace ReplaysInput old new)
 Does (Check scenario trace) old new = Alone (OnTrace ChecksInput old new)
 Does (Explain scenario trace edge) old new = Alone (OnTrace (ExplainsInput edge) old new)

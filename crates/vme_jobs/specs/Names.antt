@@ -1,5 +1,5 @@
 -- Which names a fault may tell.
-use Rattle.std.specs.Prelude.{◌≡◌, ◌⊎◌, ℕ, List, codes, Result, Ok, Err}
+use Rattle.std.specs.Prelude.{◌≡◌, ◌⊎◌, ℕ, List, [], codes, Result, Ok, Err}
 use Rattle.std.specs.List.{Contains}
 use Rattle.std.specs.Borrow.{Bor}
 use Rattle.vme_engines.specs.declared.Status.{Status}
@@ -9,13 +9,14 @@ use Rattle.vme_run.specs.declared.RunFault.{RunFault}
 use Rattle.vme_run.specs.declared.RunFault.TheVariants as run
 use Rattle.vme_words.specs.Asked.{texts_of}
 use Rattle.vme_words.specs.declared.Job.{Job}
-use Rattle.vme_words.specs.declared.Job.TheVariants.{Joined, Replay, Check, Explain, State, Show, Summary, Sums, Drive, Draw, Search, Run}
+use Rattle.vme_words.specs.declared.Job.TheVariants.{Joined, OwnVersion, Replay, Check, Explain, State, Show, Summary, Sums, Drive, Draw, Search, Run}
 use Rattle.vme_jobs.specs.declared.faults.ProgramFault.{ProgramFault}
 use Rattle.vme_jobs.specs.declared.faults.ProgramFault.TheVariants.{CannotRead, TooLong, Engine, InTrace, Boards}
 
--- the name of the scenario of a job: standard input is `-`
+-- the name of the scenario of a job: standard input is `-`, and the version has none
 abbrev pub scenario_name : Job → List ℕ
 scenario_name Joined = codes "-"
+scenario_name OwnVersion = []
 scenario_name (Replay scenario trace) = scenario.now
 scenario_name (Check scenario trace) = scenario.now
 scenario_name (Explain scenario trace edge) = scenario.now
@@ -31,6 +32,7 @@ scenario_name (Run scenario edges turns version) = scenario.now
 -- this is the name of a file of a job
 abbrev pub IsFileOf : Job → List ℕ → Type 0
 IsFileOf Joined name = name ≡ codes "-"
+IsFileOf OwnVersion name = ⊥
 IsFileOf (Replay scenario trace) name = (name ≡ scenario.now) ⊎ (name ≡ trace.now)
 IsFileOf (Check scenario trace) name = (name ≡ scenario.now) ⊎ (name ≡ trace.now)
 IsFileOf (Explain scenario trace edge) name = (name ≡ scenario.now) ⊎ (name ≡ trace.now)

@@ -1,13 +1,13 @@
 -- How a fault shows a character: as it is, but that a control character stands as in a string of
--- TOML, so that a fault is one line.
-use Rattle.std.specs.Prelude.{ℕ, ◌+◌, ◌/◌, ◌%◌, ◌==◌, nat_lt, if◌then◌else◌, List, [], ◌∷◌, ◌++◌, codes, encode_utf8}
+-- TOML, so that a fault is one line, and a backslash, too, so that no name looks like that.
+use Rattle.std.specs.Prelude.{ℕ, ◌+◌, ◌/◌, ◌%◌, ◌==◌, ◌||◌, nat_lt, if◌then◌else◌, List, [], ◌∷◌, ◌++◌, codes, encode_utf8}
 use Rattle.std.specs.Char.{is_control}
 
 -- a digit of a number in base 16
 abbrev pub hex_digit : ℕ → ℕ
 hex_digit n = if nat_lt n 10 then 48 + n else 87 + n
 
--- the escape of a control character
+-- the escape of a control character, or of a backslash, 92
 abbrev pub escape : ℕ → List ℕ
 escape c =
     if c == 8 then codes "\\b"
@@ -15,7 +15,8 @@ escape c =
     else if c == 10 then codes "\\n"
     else if c == 12 then codes "\\f"
     else if c == 13 then codes "\\r"
+    else if c == 92 then codes "\\\\"
     else codes "\\u00" ++ hex_digit (c / 16) ∷ hex_digit (c % 16) ∷ []
 
 abbrev pub shown : ℕ → List ℕ
-shown c = if is_control c then escape c else encode_utf8 c
+shown c = if is_control c || c == 92 then escape c else encode_utf8 c

@@ -1,5 +1,9 @@
--- Why the words after the program's name are not read.
-use Rattle.std.specs.Prelude.{◌≤◌}
+-- How the words after the program's name are read, and why they are not.
+use Rattle.std.specs.Prelude.{◌≤◌, ◌+◌, ◌^◌, ◌-◌, ℕ, Result, Ok, Err, min}
+use Rattle.std.specs.declared.env.FillError.{FillError}
+use Rattle.std.specs.declared.env.FillError.TheVariants.{NotPresent, TooLong}
+use Rattle.vme_jobs.specs.declared.arguments.Outcome.{Outcome}
+use Rattle.vme_jobs.specs.declared.arguments.Outcome.TheVariants.{Word, End, Again}
 use Rattle.vme_jobs.specs.declared.arguments.WordsFault.{WordsFault}
 use Rattle.vme_jobs.specs.declared.arguments.WordsFault.TheVariants.{NotText, NoMemory}
 
@@ -7,3 +11,10 @@ use Rattle.vme_jobs.specs.declared.arguments.WordsFault.TheVariants.{NotText, No
 abbrev pub IsPlaced : WordsFault → Type 0
 IsPlaced (NotText place) = 1 ≤ place
 IsPlaced NoMemory = Unit {0}
+
+-- the answer of the system, where there was room for so many bytes: a longer word is asked for again
+-- with twice the room, as far as numbers go
+abbrev pub outcome : Result ℕ FillError → ℕ → Outcome
+outcome (Ok count) room = Word count
+outcome (Err NotPresent) room = End
+outcome (Err TooLong) room = Again (min (room + room) (2 ^ 64 - 1))

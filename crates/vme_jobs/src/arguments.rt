@@ -1,7 +1,7 @@
 //! The words after the program's name, as the system gives them.
 ghost use Rattle.std.specs.Prelude.{◌≡◌, IfErr};
 ghost use Rattle.std.specs.Process.{exit_status};
-ghost use Rattle.vme_jobs.specs.Words.{IsPlaced};
+ghost use Rattle.vme_jobs.specs.Words.{IsPlaced, outcome};
 ghost use Rattle.vme_jobs.specs.declared.arguments.WordsFault.TheVariants.{NoMemory};
 
 use crate::faults::tell;
@@ -41,19 +41,41 @@ impl<T: Drop> From<AllocFailed<T>> for WordsFault {
     }
 }
 
+/// What comes of asking for the word at some place.
+enum Outcome {
+    /// It has so many bytes.
+    Word(usize),
+    /// The last word stands before it.
+    End,
+    /// It has more bytes than there was room for, and is asked for again with this room.
+    Again(usize),
+}
+
+/// What comes of the system's answer, where there was room for so many bytes. A word of any length is
+/// asked for until it has room.
+fn outcome(answer: Result<usize, FillError>, room: usize) -> Outcome
+    ensures { result ≡ outcome answer room }
+{
+    match answer {
+        Ok(count) => Outcome::Word(count),
+        Err(FillError::NotPresent) => Outcome::End,
+        Err(FillError::TooLong) => Outcome::Again(room.saturating_add(room)),
+    }
+}
+
 /// The bytes of the word at this place; none after the last word.
 fn bytes_at(rt: &HostRuntime, place: usize) -> Result<Option<Vec<u8>>, AllocError> {
     let mut room = ROOM;
     for _ in 0..usize::BITS {
         let mut bytes = Vec::new(rt.alloc());
         bytes.resize(room, 0u8)?;
-        match rt.arg(place, bytes.as_mut_slice()) {
-            Ok(count) => {
+        match outcome(rt.arg(place, bytes.as_mut_slice()), room) {
+            Outcome::Word(count) => {
                 bytes.truncate(count);
                 return Ok(Some(bytes));
             }
-            Err(FillError::NotPresent) => return Ok(None),
-            Err(FillError::TooLong) => room = room.saturating_add(room),
+            Outcome::End => return Ok(None),
+            Outcome::Again(more) => room = more,
         }
     }
     Err(AllocError)

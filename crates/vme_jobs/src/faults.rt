@@ -74,7 +74,8 @@ impl<'a> ProgramFault<'a> {
     }
 }
 
-/// Writes the one line of a fault: control characters in it stand as a string of TOML has them.
+/// Writes the one line of a fault: control characters and backslashes in it stand as a string of TOML
+/// has them.
 pub fn tell<D: fmt::Display + Drop>(rt: &HostRuntime, fault: D) -> ExitCode
     ensures { exit_status result ≡ 1 }
 {

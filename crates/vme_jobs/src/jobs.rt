@@ -1,8 +1,10 @@
 //! Each job's engine, on the files that the words name.
-ghost use Rattle.std.specs.Prelude.{◌≡◌, ◌≤◌, IfErr};
+ghost use Rattle.std.specs.Prelude.{◌≡◌, ◌≤◌, IfErr, OnErr, OnOk};
+ghost use Rattle.std.specs.Io.KnownBytes.{Appends};
 ghost use Rattle.std.specs.Process.{exit_status};
 ghost use Rattle.vme_model.specs.Report.{trace_limit};
 ghost use Rattle.vme_words.specs.Limits.{IsWindow, IsWithin, most_turns};
+ghost use Rattle.vme_trace.specs.Writing.{AppendsFront};
 ghost use Rattle.vme_jobs.specs.Done.{IsDone};
 ghost use Rattle.vme_engines.specs.Found.{found_answer};
 ghost use Rattle.vme_jobs.specs.Names.{IsFaultOf, told_answer, told_run_answer, told_trace_answer};
@@ -24,7 +26,8 @@ use vme_goals::Goal;
 use vme_model::Version;
 use vme_run::{RunFault, run as run_scenario};
 use vme_tallies::Sums;
-use vme_words::Job;
+use vme_trace::{Fault, flush, put};
+use vme_words::{Job, VERSION};
 
 /// An engine's answer, where the scenario has this name.
 fn told<'a>(name: &'a str, answer: Result<Status, EngineFault>) -> Result<Status, ProgramFault<'a>>
@@ -90,6 +93,29 @@ fn run_joined<W: Write>(rt: &HostRuntime, out: &mut W) -> Result<Status, Program
 {
     let mut input = buffered(rt, rt.stdin())?;
     told("-", joined(rt.alloc(), &mut input, out))
+}
+
+/// Writes the program's version, and has the writer hand on what it holds back.
+fn tell_version<W: Write>(out: &mut W) -> Result<(), Fault>
+    ensures ok { OnOk result (Appends (W.contents out.old) (W.contents out.new) VERSION.now) }
+    ensures front { OnErr result
+        (AppendsFront (W.contents out.old) (W.contents out.new) VERSION.now) }
+    ensures fault { IfErr result (λ fault. fault ≡ Fault.Write) }
+{
+    put(out, VERSION.as_bytes())?;
+    flush(out)
+}
+
+/// Tells the program's version.
+#[inline(never)]
+fn run_version<W: Write>(out: &mut W) -> Result<Status, ProgramFault<'static>>
+    ensures fault { IfErr result (IsFaultOf Job.OwnVersion) }
+    ensures done { IsDone Job.OwnVersion (W.contents out.old) (W.contents out.new) result }
+{
+    match tell_version(out) {
+        Ok(()) => Ok(Status::Done),
+        Err(fault) => Err(ProgramFault::Engine(EngineFault::Trace(fault))),
+    }
 }
 
 /// Replays a trace.
@@ -355,6 +381,7 @@ pub fn run<'a, R: Threads + Wait + Sync, W: Write>(
 {
     match job {
         Job::Joined => run_joined(rt, out),
+        Job::OwnVersion => run_version(out),
         Job::Replay { scenario, trace } => run_replay(rt, scenario, trace, out),
         Job::Check { scenario, trace } => run_check(rt, scenario, trace, out),
         Job::Explain {

@@ -16,7 +16,7 @@ fn hex_digit(n: u32) -> char
     }
 }
 
-/// A character of a line: a control character stands as a string of TOML has it.
+/// A character of a line: a control character and a backslash stand as a string of TOML has them.
 #[derive(Clone, Copy)]
 struct Shown(char);
 
@@ -30,6 +30,7 @@ impl fmt::Display for Shown {
             '\n' => write!(f, "\\n"),
             '\u{c}' => write!(f, "\\f"),
             '\r' => write!(f, "\\r"),
+            '\\' => write!(f, "\\\\"),
             c if c.is_control() => {
                 let (high, low) = (hex_digit(c as u32 / 16), hex_digit(c as u32 % 16));
                 write!(f, "\\u00{high}{low}")
@@ -39,7 +40,7 @@ impl fmt::Display for Shown {
     }
 }
 
-/// Writes what it is given, and line feeds as they are where it `breaks` lines.
+/// Writes what it is given. Where it `breaks` lines, line feeds and backslashes stand as they are.
 #[derive(Drop)]
 struct Line<'a, W> {
     out: &'a mut fmt::Formatter<W>,
@@ -49,7 +50,7 @@ struct Line<'a, W> {
 impl<W: fmt::Write> fmt::Write for Line<'_, W> {
     fn write_str(&mut self, s: &str) -> fmt::Result {
         for c in s.chars() {
-            if self.breaks && c == '\n' {
+            if self.breaks && (c == '\n' || c == '\\') {
                 self.out.write_char(c)?;
             } else {
                 write!(self.out, "{}", Shown(c))?;

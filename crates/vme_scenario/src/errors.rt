@@ -7,24 +7,45 @@ ghost use Rattle.vme_scenario.specs.Faults.{Fault, path, below};
 
 use crate::faults::{BoardFault, KeyFault, TextFault};
 use std::alloc::{AllocError, Global};
+use std::fmt;
 use thiserror::Error;
 use vme_model::PlanError;
+
+/// The most characters of a key that are told.
+const MOST_TOLD: usize = 200;
+
+/// A key as users see it: a longer one ends after 200 characters, with `..`.
+#[derive(Clone, Copy)]
+struct Told<'a>(&'a str);
+
+impl fmt::Display for Told<'_> {
+    fn fmt<W: fmt::Write>(&self, f: &mut fmt::Formatter<W>) -> fmt::Result {
+        for (count, c) in self.0.chars().enumerate() {
+            if count == MOST_TOLD {
+                return f.write_str("..");
+            }
+            f.write_char(c)?;
+        }
+        Ok(())
+    }
+}
 
 /// Why a text is no scenario, by the numbers that users see.
 ///
 /// A key is its path from the top table, with the number of a board or jumper from 1, as `board.2.requester.level`.
+/// Its text has at most 200 characters of it, and then `..`.
 #[derive(PartialEq, Eq, Debug, Drop, Error)]
 pub enum ScenarioError {
     /// The text is not UTF-8, or not TOML.
     #[error("Q1 the scenario is not TOML")]
     NotToml,
     /// The format has no such key; of several in one table it is the least by bytes.
-    #[error("Q2 unknown key {key}")]
+    #[error("Q2 unknown key {}", Told(.key.as_str()))]
     UnknownKey { key: String },
-    #[error("Q3 missing key {key}")]
+    #[error("Q3 missing key {}", Told(.key.as_str()))]
     Missing { key: String },
     /// The value is of another kind, a word that is not in the list, or out of range.
-    #[error("Q4 bad value of {key}")]
+    #[error("Q4 bad value of {}", Told(.key.as_str()))]
     BadValue { key: String },
     /// The scenario can be read, and its plan is refused.
     #[error("{0}")]

@@ -4,12 +4,13 @@ use Rattle.clap.specs.Words.{Row, Text}
 use Rattle.vme_words.specs.Asked.{IsNoJob}
 use Rattle.vme_words.specs.Unfits.{IsUnfit}
 use Rattle.vme_words.specs.declared.Unfit.{Unfit}
-use Rattle.vme_words.specs.declared.Unfit.TheVariants.{Missing, NoMemory, Window, Event, Seedless, Aimless, Seeded, Seeds, Idle}
+use Rattle.vme_words.specs.declared.Unfit.TheVariants.{Missing, NoMemory, Window, Beside, Event, Seedless, Aimless, Seeded, Seeds, Idle}
 
 one : (name : Text) (rows : List Row) (unfit : Unfit) → unfit ≢ Missing → unfit ≢ NoMemory → IsUnfit name rows unfit → IsNoJob name rows
 one name rows Missing other room is = absurd (other refl)
 one name rows NoMemory other room is = absurd (room refl)
 one name rows (Window from to) other room is = is
+one name rows (Beside named) other room is = is
 one name rows (Event named version) other room is = is
 one name rows Seedless other room is = is
 one name rows Aimless other room is = is

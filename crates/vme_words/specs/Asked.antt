@@ -2,14 +2,15 @@
 use Rattle.std.specs.Prelude.{◌≡◌, ◌≢◌, ◌↔◌, ◌⊎◌, ◌+◌, ◌-◌, ◌^◌, ◌<◌, ◌≤◌, ◌++◌, ℕ, Bool, true, false, IsTrue, List, [], ◌∷◌, Option, Some, None, codes, length, map, max, min, option_map, IsSomeAnd}
 use Rattle.std.specs.Borrow.{Bor}
 use Rattle.std.specs.Str.Parse.{IsNumeral, digits_value, without_leading_plus}
-use Rattle.clap.specs.Words.{Row, Text, all_of, first_of, one_of, subcommand_of}
+use Rattle.clap.specs.Words.{IsAmong, Row, Text, all_of, fault_of, first_of, one_of, subcommand_of}
+use Rattle.clap.specs.declared.error.kind.ErrorKind.TheVariants.{DisplayVersion}
 use Rattle.vme_model.specs.declared.Version.{Version}
 use Rattle.vme_model.specs.declared.Version.TheVariants.{One, Two}
 use Rattle.vme_goals.specs.declared.goals.Goal.{Goal}
-use Rattle.vme_goals.specs.Goals.{goal_of}
+use Rattle.vme_words.specs.Alone.{aim_of}
 use Rattle.vme_words.specs.Commands.{commands}
 use Rattle.vme_words.specs.declared.Job.{Job}
-use Rattle.vme_words.specs.declared.Job.TheVariants.{Joined, Replay, Check, Explain, State, Show, Summary, Sums, Drive, Draw, Search, Run}
+use Rattle.vme_words.specs.declared.Job.TheVariants.{Joined, OwnVersion, Replay, Check, Explain, State, Show, Summary, Sums, Drive, Draw, Search, Run}
 use Rattle.vme_words.specs.Limits.{IsNoWindow}
 
 -- the words that are lent, as texts
@@ -60,11 +61,11 @@ first_of_window rows = first_shown (spelled (codes "from") rows) (spelled (codes
 abbrev pub last_of_window : List Row → ℕ
 last_of_window rows = last_shown (spelled (codes "to") rows) (first_of_window rows)
 
--- what `--until` names, of all that the version can come to
+-- what `--until` names, of all that a trace of the version can come to
 abbrev pub IsAim : List Row → Version → Option Goal → Type 0
 IsAim rows version None = first_of (codes "until") rows ≡ None
 IsAim rows version (Some goal) = (named : Text) × (first_of (codes "until") rows ≡ Some named)
-    × (goal_of named version ≡ Some goal)
+    × (aim_of named version ≡ Some goal)
 
 -- a text spells this seed, in decimal digits
 abbrev pub IsSeed : Text → ℕ → Type 0
@@ -92,6 +93,7 @@ IsTold rows progress = IsFlag (codes "progress") rows progress
 -- a command of this name, with these operands, is this job
 abbrev pub AsksFor : Text → List Row → Job → Type 0
 AsksFor name rows Joined = ⊥
+AsksFor name rows OwnVersion = ⊥
 AsksFor name rows (Replay scenario trace) = (name ≡ codes "replay")
     × IsFile (codes "SCENARIO") rows scenario.now × IsFile (codes "TRACE") rows trace.now
 AsksFor name rows (Check scenario trace) = (name ≡ codes "check")
@@ -128,19 +130,23 @@ AsksFor name rows (Run scenario edges turns version) = (name ≡ codes "run")
     × IsFile (codes "SCENARIO") rows scenario.now × AreOptions rows edges version
     × (spelled (codes "turns") rows ≡ Some turns)
 
--- no words ask for standard input; others for what their command says, with the operands that the
--- command line gives it
+-- the command line comes to the option that asks for the program's own version
+abbrev pub AskForVersion : List Text → Type 0
+AskForVersion words = IsAmong DisplayVersion (fault_of commands words)
+
+-- no words ask for standard input; others for the version, or for what their command says, with the
+-- operands that the command line gives it
 abbrev pub Ask : List Text → Job → Type 0
 Ask [] job = job ≡ Joined
-Ask (word ∷ words) job =
-    IsSomeAnd (subcommand_of commands (word ∷ words)) (λ met. AsksFor met.0 met.1 job)
+Ask (word ∷ words) job = (AskForVersion (word ∷ words) × (job ≡ OwnVersion))
+    ⊎ IsSomeAnd (subcommand_of commands (word ∷ words)) (λ met. AsksFor met.0 met.1 job)
 
--- `--until` is given without seeds, or names nothing that the version can come to
+-- `--until` is given without seeds, or names nothing that a trace of the version can come to
 abbrev pub IsNoAim : List Row → Type 0
 IsNoAim rows = (named : Text) × (first_of (codes "until") rows ≡ Some named)
     × (((spelled (codes "seed") rows ≡ None) × (first_of (codes "seeds") rows ≡ None))
     ⊎ ((version : Version) × (spelled (codes "version") rows ≡ Some (version_number version))
-    × (goal_of named version ≡ None)))
+    × (aim_of named version ≡ None)))
 
 -- `--seeds` is given beside `--seed` or without `--until`, or names no seeds
 abbrev pub AreNotTried : List Row → Type 0

@@ -1,5 +1,5 @@
 -- The command line of the program: which commands it has, which files and options each takes, and
--- which are required.
+-- which are required; the program alone tells its version.
 use Rattle.std.specs.Prelude.{◌^◌, ◌-◌, ℕ, List, [], ◌∷◌, Some, true, false, codes, pos}
 use Rattle.vme_model.specs.Report.{trace_limit}
 use Rattle.vme_words.specs.Limits.{most_turns}
@@ -120,6 +120,10 @@ run = (leaf (codes "run") (edges ∷ turns ∷ version ∷ [])).top
 
 abbrev pub commands : App
 commands = record {
-  top = record (new_shape (codes "vmebus")) { is_leaf = false; no_binary_name = true };
+  top = record (new_shape (codes "vmebus")) {
+    is_leaf = false;
+    no_binary_name = true;
+    has_version = true;
+  };
   subs = replay ∷ check ∷ explain ∷ state ∷ show ∷ summary ∷ drive ∷ run ∷ [];
 }

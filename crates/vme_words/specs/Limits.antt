@@ -2,7 +2,7 @@
 use Rattle.std.specs.Prelude.{◌≤◌, ◌<◌, ◌+◌, ◌⊎◌, ℕ, IfSome}
 use Rattle.vme_model.specs.Report.{trace_limit}
 use Rattle.vme_words.specs.declared.Job.{Job}
-use Rattle.vme_words.specs.declared.Job.TheVariants.{Joined, Replay, Check, Explain, State, Show, Summary, Sums, Drive, Draw, Search, Run}
+use Rattle.vme_words.specs.declared.Job.TheVariants.{Joined, OwnVersion, Replay, Check, Explain, State, Show, Summary, Sums, Drive, Draw, Search, Run}
 
 abbrev pub most_turns : ℕ
 most_turns = 1000000
@@ -23,6 +23,7 @@ IsWithin (Draw scenario edges seed until version) = (1 ≤ edges) × (edges ≤ 
 IsWithin (Search scenario edges first last goal version progress) =
     (1 ≤ edges) × (edges ≤ trace_limit) × (first ≤ last)
 IsWithin Joined = Unit {0}
+IsWithin OwnVersion = Unit {0}
 IsWithin (Replay scenario trace) = Unit {0}
 IsWithin (Check scenario trace) = Unit {0}
 IsWithin (Explain scenario trace edge) = IfSome edge (λ n. 1 ≤ n)

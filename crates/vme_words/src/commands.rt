@@ -4,7 +4,7 @@ ghost use Rattle.clap.specs.Words.{App, Rule, Shape, app_of, new_app, rule_of, s
 ghost use Rattle.clap.specs.Simple.{on_top};
 ghost use Rattle.vme_words.specs.Commands as said;
 
-use crate::{MOST_EDGES, MOST_TURNS};
+use crate::{MOST_EDGES, MOST_TURNS, VERSION};
 use clap::builder::ValueParser;
 use clap::{Arg, ArgAction, Command, value_parser};
 use std::alloc::{AllocError, Global};
@@ -146,7 +146,7 @@ EVENT is a situation that an accepted edge brings about,
   iack-passed answered-again spurious bus-error, and in version 2 withdrawn grant-timeout
 or what alone refuses an edge, which is then the last of the trace: a rule and one of its conditions
 as `vmebus explain` writes it, with N for a level, or a settling rule, as S2. docs/FORMATS.md tells
-what each event is, and has all conditions.
+what each event is, and has all conditions; six of them never refuse an edge alone, and are no EVENT.
 
 With --seeds it tries the seeds S to T in order. The first with which EVENT comes within the given
 number of edges is told on standard error as `seed S`, its trace is written, and the exit status is
@@ -459,10 +459,12 @@ fn run<'a>(alloc: Global) -> Result<Command<'a>, AllocError>
 /// The program without its commands.
 fn program<'a>(alloc: Global) -> Result<Command<'a>, AllocError>
     ensures { IfOk result (λ c.
-        app_of c ≡ on_top (λ s. record s { no_binary_name = true }) (new_app (codes "vmebus"))) }
+        app_of c ≡ on_top (λ s. record s { no_binary_name = true; has_version = true })
+        (new_app (codes "vmebus"))) }
 {
     Command::new(alloc, "vmebus")
         .no_binary_name(true)
+        .version(VERSION)
         .about(ABOUT)
         .after_help(OVERVIEW)
         .bin_name("vmebus")

@@ -8,14 +8,19 @@ ghost use Rattle.vme_words.specs.Commands.{commands as commands_said};
 ghost use Rattle.vme_words.specs.Limits.{IsWithin};
 ghost use Rattle.vme_words.specs.Unfits.{IsUnfit};
 
+mod alone;
 mod commands;
 
+use alone::aim_named;
 use clap::error::ErrorKind;
 use clap::{ArgMatches, Error};
 use commands::{commands, drive, show};
 use std::alloc::{AllocError, Global};
 use vme_goals::{Goal, goal_of};
 use vme_model::{TRACE_LIMIT, Version};
+
+/// The program's name and its version, as the line that `--version` writes. They stand here alone.
+pub const VERSION: &str = "vmebus 1.0.0\n";
 
 /// The most edges that a run makes.
 pub const MOST_EDGES: u32 = TRACE_LIMIT;
@@ -34,6 +39,8 @@ const SHOWN: u64 = 60;
 pub enum Job<'a> {
     /// Replay what stands on standard input: a scenario, and a trace after it.
     Joined,
+    /// Tell the program's own version, [`VERSION`].
+    OwnVersion,
     /// Replay a trace.
     Replay {
         /// The file of the boards.
@@ -154,6 +161,8 @@ enum Unfit<'a> {
     NoMemory,
     /// No picture goes from this edge to that one.
     Window { from: u64, to: u64 },
+    /// No trace comes to what has this name: another condition always fails beside it.
+    Beside { named: &'a str },
     /// The version of the rules comes to nothing of this name.
     Event { named: &'a str, version: Version },
     /// The trace is to end with something, and there is no seed.
@@ -237,8 +246,8 @@ fn version_of<'a>(operands: &ArgMatches<'a>) -> Result<Version, Unfit<'a>>
     }
 }
 
-/// What `--until` names, of all that the version of the rules can come to; none where it is not
-/// given.
+/// What `--until` names, of all that a trace of the version of the rules can come to; none where it
+/// is not given.
 fn aim_of<'a>(operands: &ArgMatches<'a>, version: Version) -> Result<Option<Goal>, Unfit<'a>>
     ensures aim { IfOk result (IsAim (rows_of (found_of operands.now)) version) }
     ensures unfit { spelled (codes "version") (rows_of (found_of operands.now))
@@ -247,8 +256,9 @@ fn aim_of<'a>(operands: &ArgMatches<'a>, version: Version) -> Result<Option<Goal
 {
     match text_of(operands, "until") {
         None => Ok(None),
-        Some(named) => match goal_of(named, version) {
+        Some(named) => match aim_named(named, version) {
             Some(goal) => Ok(Some(goal)),
+            None if goal_of(named, version).is_some() => Err(Unfit::Beside { named }),
             None => Err(Unfit::Event { named, version }),
         },
     }
@@ -538,6 +548,17 @@ fn no_event(alloc: Global, named: &str, version: Version) -> Result<Error, Alloc
     drive(alloc)?.error(ErrorKind::ValueValidation, &text)
 }
 
+/// The error where what has that name fails, and another condition always fails beside it.
+fn no_miss(alloc: Global, named: &str) -> Result<Error, AllocError>
+    ensures { IfOk result (λ error. kind_of error ≡ ErrorKind.ValueValidation) }
+{
+    let text = format!(in alloc;
+        "invalid value '{named}' for '--until <EVENT>': wherever this condition fails, another \
+         one of the rule fails too, so that it never refuses an edge alone"
+    )?;
+    drive(alloc)?.error(ErrorKind::ValueValidation, &text)
+}
+
 /// The error where there is no seed.
 fn no_seed(alloc: Global) -> Result<Error, AllocError>
     ensures { IfOk result (λ error. kind_of error ≡ ErrorKind.ValueValidation) }
@@ -591,6 +612,7 @@ fn error_of(alloc: Global, unfit: Unfit<'_>) -> Result<Error, AllocError>
         Unfit::Missing => missing(alloc),
         Unfit::NoMemory => Err(AllocError),
         Unfit::Window { from, to } => no_window(alloc, from, to),
+        Unfit::Beside { named } => no_miss(alloc, named),
         Unfit::Event { named, version } => no_event(alloc, named, version),
         Unfit::Seedless => no_seed(alloc),
         Unfit::Aimless => no_aim(alloc),
@@ -600,14 +622,29 @@ fn error_of(alloc: Global, unfit: Unfit<'_>) -> Result<Error, AllocError>
     }
 }
 
+/// The job where the command line ended with this error: to ask for the version is none.
+fn job_at<'a>(error: Error) -> Result<Job<'a>, Error>
+    ensures version { IfOk result (λ job.
+        (kind_of error ≡ ErrorKind.DisplayVersion) × (job ≡ Job.OwnVersion)) }
+    ensures other { IfErr result (λ told.
+        (kind_of error ≢ ErrorKind.DisplayVersion) × (told ≡ error)) }
+{
+    match error.kind() {
+        ErrorKind::DisplayVersion => Ok(Job::OwnVersion),
+        _ => Err(error),
+    }
+}
+
 /// The job that the words after the program's name ask for.
 ///
-/// No words ask for [`Job::Joined`]. An error's `Display` is the text for the user; a call for help is one too.
+/// No words ask for [`Job::Joined`]. An error's `Display` is the text for the user; a call for help
+/// is one too, but one for the version is [`Job::OwnVersion`].
 pub fn words<'a>(alloc: Global, words: &'a [&'a str]) -> Result<Job<'a>, Error>
     ensures within { IfOk result IsWithin }
     ensures asked { IfOk result (Ask (texts_of words.entry.now)) }
-    ensures taken { IfOk result (λ _.
-        (length words.entry.now ≡ 0) ⊎ (fault_of commands_said (texts_of words.entry.now) ≡ [])) }
+    ensures taken { IfOk result (λ job. (length words.entry.now ≡ 0) ⊎ (job ≡ Job.OwnVersion)
+        ⊎ (fault_of commands_said (texts_of words.entry.now) ≡ [])) }
+    ensures version { IfErr result (λ error. kind_of error ≢ ErrorKind.DisplayVersion) }
     ensures refused { IfErr result (λ error. IsAmong (kind_of error)
         (ErrorKind.OutOfMemory ∷ ErrorKind.MissingSubcommand
         ∷ fault_of commands_said (texts_of words.entry.now))
@@ -618,8 +655,9 @@ pub fn words<'a>(alloc: Global, words: &'a [&'a str]) -> Result<Job<'a>, Error>
     if words.is_empty() {
         return Ok(Job::Joined);
     }
-    match asked(alloc, words)? {
-        Ok(job) => Ok(job),
-        Err(unfit) => Err(error_of(alloc, unfit)?),
+    match asked(alloc, words) {
+        Ok(Ok(job)) => Ok(job),
+        Ok(Err(unfit)) => Err(error_of(alloc, unfit)?),
+        Err(error) => job_at(error),
     }
 }

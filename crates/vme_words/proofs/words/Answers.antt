@@ -7,10 +7,10 @@ use Rattle.vme_words.specs.declared.Unfit.TheVariants.{Missing}
 use Rattle.vme_words.proofs.NoJobs.{no_job}
 use Rattle.vme_words.proofs.words.Goals as goal
 
-pub returns-in_ok-error_of-in-Err-clause-refused : goal.returns-in_ok-error_of-in-Err-clause-refused
-returns-in_ok-error_of-in-Err-clause-refused c =
-    let unfit : c.in-Err.unfit ≢ Missing → IsSomeAnd (subcommand_of commands_said (texts_of c.args.words.now)) (λ met. IsUnfit met.0 met.1 c.in-Err.unfit) = search rules in
-    elim c.in_ok-error_of-in-Err.ensures [
+pub returns-in_ok-error_of-in-Ok-Err-clause-refused : goal.returns-in_ok-error_of-in-Ok-Err-clause-refused
+returns-in_ok-error_of-in-Ok-Err-clause-refused c =
+    let unfit : c.in-Ok-Err.unfit ≢ Missing → IsSomeAnd (subcommand_of commands_said (texts_of c.args.words.now)) (λ met. IsUnfit met.0 met.1 c.in-Ok-Err.unfit) = search rules in
+    elim c.in_ok-error_of-in-Ok-Err.ensures [
       | inl none ↦ inl (search rules)
-      | inr wrong ↦ inr (wrong.0, no_job _ c.in-Err.unfit wrong.1 wrong.2 unfit)
+      | inr wrong ↦ inr (wrong.0, no_job _ c.in-Ok-Err.unfit wrong.1 wrong.2 unfit)
     ]

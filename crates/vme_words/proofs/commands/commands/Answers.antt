@@ -6,7 +6,7 @@ use Rattle.vme_words.specs.Commands.{check, drive, explain, replay, run, show, s
 use Rattle.vme_words.proofs.commands.commands.Goals as goal
 
 abbrev bare : App
-bare = on_top (λ s. record s { no_binary_name = true }) (new_app (codes "vmebus"))
+bare = on_top (λ s. record s { no_binary_name = true; has_version = true }) (new_app (codes "vmebus"))
 
 abbrev judging : App
 judging = with_subcommand (with_subcommand bare replay) check

@@ -1,0 +1,38 @@
+//! Conditions that refuse an edge alone, and those that never do.
+ghost use Rattle.std.specs.Prelude.{◌≡◌};
+ghost use Rattle.vme_words.specs.Alone as spec;
+
+use vme_goals::{Goal, Miss, goal_of};
+use vme_model::{Condition, Version};
+
+/// Whether another condition of that rule fails, too, wherever this one does.
+fn is_never_alone(rule: u8, condition: Condition) -> bool
+    ensures { result ≡ spec.is_never_alone rule condition }
+{
+    match condition {
+        Condition::AddressStrobeLow => rule == 5 || rule == 25,
+        Condition::AddressStrobeHigh => rule == 16,
+        Condition::OwnAddressOn => rule == 17,
+        Condition::AcknowledgeShown => rule == 23,
+        Condition::CycleShown => rule == 25,
+        _ => false,
+    }
+}
+
+/// Whether some trace can come to it: a condition that never fails alone is none.
+fn can_come(goal: Goal) -> bool
+    ensures { result ≡ spec.can_come goal }
+{
+    match goal {
+        Goal::Miss(Miss::Rule(rule, condition)) => !is_never_alone(rule, condition),
+        _ => true,
+    }
+}
+
+/// What words name, of all that a trace of the version of the rules can come to.
+pub(crate) fn aim_named(named: &str, version: Version) -> Option<Goal>
+    ensures { result ≡ spec.aim_of named.now version }
+{
+    let goal = goal_of(named, version)?;
+    if can_come(goal) { Some(goal) } else { None }
+}
