@@ -1,15 +1,14 @@
 -- What a hold tells a worker that waits or ends.
-use Rattle.std.proofs.Common.{◌≡◌, ◌≢◌, ℕ, ◌<◌, ◌≤◌, List, [], ◌∷◌, Bool, true, false, refl, sym, ap, ◌∙◌, subst, arith, length}
-use Rattle.std.specs.Prelude.{◌==◌, ◌%◌, not, if◌then◌else◌, slice_get, get_or, Option, Some, None, Result, Ok, Err}
+use Rattle.std.proofs.Common.{◌≡◌, ◌≢◌, ℕ, List, [], ◌∷◌, Bool, true, false, refl, sym, ap, ◌∙◌, subst, arith, length}
+use Rattle.std.specs.Prelude.{◌==◌, ◌%◌, not, if◌then◌else◌, slice_get, Option, None, Result, Ok, Err}
 use Rattle.std.proofs.lemmas.Bool.Decides.{nat_tests}
 use Rattle.std.proofs.lemmas.Option.{slice_get-get_or}
 use Rattle.std.proofs.lemmas.Nat.{mod_below}
-use Rattle.vme_model.specs.declared.signals.Driver.{Driver}
 use Rattle.vme_model.specs.declared.signals.Edge.{Edge}
 use Rattle.vme_model.specs.declared.deliveries.Delivery.{Delivery}
 use Rattle.vme_model.specs.declared.refusals.Refused.{Refused}
 use Rattle.vme_model.specs.Signals.{is_same_driver}
-use Rattle.vme_model.specs.Verdict.{State, IsLegal}
+use Rattle.vme_model.specs.Verdict.{State}
 use Rattle.vme_model.specs.Deliveries.{answer}
 use Rattle.vme_model.specs.Counts.{count}
 use Rattle.vme_model.specs.Offers.{offered}
@@ -17,11 +16,9 @@ use Rattle.vme_lock.specs.declared.views.Turn.{Turn}
 use Rattle.vme_lock.specs.declared.views.Lost.{Lost}
 use Rattle.vme_lock.specs.declared.views.EdgeRefused.{EdgeRefused}
 use Rattle.vme_lock.specs.declared.views.EdgeRefused.TheVariants as refused
-use Rattle.vme_lock.specs.declared.workers.Spent.{Spent}
-use Rattle.vme_lock.specs.declared.workers.Spent.TheVariants as spent
 use Rattle.vme_lock.specs.Seats.{Place}
 use Rattle.vme_lock.specs.Holds.{OfSome, loss_of, turn_of, turn_answer, edge_answer, ending, by_step}
-use Rattle.vme_lock.specs.Endings.{HasNoOffer, IsFull, HasLost, IsSpent, IsEnded, EndsIn}
+use Rattle.vme_lock.specs.Endings.{HasNoOffer, HasLost}
 
 -- an answer that does not end the worker
 not_ended : (r : Result Turn Lost) (v : Turn) → Ok v ≡ ending r → Ok v ≡ r
@@ -36,19 +33,11 @@ seen b s t v is = go (count b.history s.driver == s.made) refl is
     go true same is = (grind (arith, nat_tests), cc)
     go false apart is = absurd (cc)
 
--- a seat that is lost in a turn
-apart_in_turn : (b : State) (s : Place) (t : ℕ) (l : Lost) → Err l ≡ turn_answer b s t → count b.history s.driver ≢ s.made
-apart_in_turn b s t l is = go (count b.history s.driver == s.made) refl is
-  where
-    go : (x : Bool) → (count b.history s.driver == s.made) ≡ x → Err l ≡ (if not x then Err (loss_of b s) else Ok (turn_of b s.driver t)) → count b.history s.driver ≢ s.made
-    go true same is = absurd (cc)
-    go false apart is = grind (arith, nat_tests)
-
 not_lost_by_step : (r : Result (Option Delivery) Refused) (l : Lost) → Err (refused.Lost l) ≡ by_step r → ⊥
 not_lost_by_step (Ok d) l is = cc
 not_lost_by_step (Err f) l is = cc
 
--- and one that is lost at an edge
+-- a seat that is lost at an edge
 apart_at_edge : (b : State) (s : Place) (e : Edge) (l : Lost) → Err (refused.Lost l) ≡ edge_answer b s e → count b.history s.driver ≢ s.made
 apart_at_edge b s e l is = go (is_same_driver e.driver s.driver) (count b.history s.driver == s.made) refl is
   where
@@ -57,17 +46,9 @@ apart_at_edge b s e l is = go (is_same_driver e.driver s.driver) (count b.histor
     go true true same is = absurd (not_lost_by_step (answer b e) l is)
     go true false apart is = grind (arith, nat_tests)
 
-pub lost_in_turn : (opened : State) (s : Place) (t : ℕ) (l : Lost) → OfSome opened (λ b. Err l ≡ turn_answer b s t) → HasLost opened s
-lost_in_turn opened s t l some = (some.0, some.1, some.2, apart_in_turn some.0 s t l some.3)
-
-pub lost_at_edge : (opened : State) (s : Place) (e : Edge) (l : Lost) → OfSome opened (λ b. Err (refused.Lost l) ≡ edge_answer b s e) → HasLost opened s
-lost_at_edge opened s e l some = (some.0, some.1, some.2, apart_at_edge some.0 s e l some.3)
-
--- the history is as long as the bounds allow
-pub full_in_turn : (opened : State) (s : Place) (t edges : ℕ) (v : Turn) → OfSome opened (λ b. Ok v ≡ ending (turn_answer b s t)) → edges ≤ v.total → IsFull opened edges s
-full_in_turn opened s t edges v some many =
-    let is = seen some.0 s t v (not_ended (turn_answer some.0 s t) v some.3) in
-    (some.0, some.1, some.2, (subst (λ (x : Turn). edges ≤ x.total) is.1 many, is.0))
+pub lost_at_edge : (opened : State) (s after : Place) (e : Edge) (r : Result (Option Delivery) EdgeRefused) (l : Lost) → r ≡ Err (refused.Lost l) → after ≡ s → OfSome opened (λ b. r ≡ edge_answer b s e) → HasLost opened after
+lost_at_edge opened s after e r l is same some =
+    subst (λ (x : Place). HasLost opened x) (sym same) (some.0, some.1, some.2, apart_at_edge some.0 s e l (sym is ∙ some.3))
 
 -- of offers there is one in each turn
 none_there : (es : List Edge) (t : ℕ) → slice_get es (t % length es) ≡ None → es ≡ []
@@ -77,23 +58,7 @@ none_there (e ∷ es) t none =
     absurd (cc)
 
 -- there is no offer
-pub none_in_turn : (opened : State) (s : Place) (t : ℕ) (v : Turn) → OfSome opened (λ b. Ok v ≡ ending (turn_answer b s t)) → v.offer ≡ None → HasNoOffer opened s.driver v.total
-none_in_turn opened s t v some none =
+pub none_in_turn : (opened : State) (s : Place) (t total : ℕ) (v : Turn) → total ≡ v.total → v.offer ≡ None → OfSome opened (λ b. Ok v ≡ ending (turn_answer b s t)) → HasNoOffer opened s.driver total
+none_in_turn opened s t total v many none some =
     let is = seen some.0 s t v (not_ended (turn_answer some.0 s t) v some.3) in
-    (some.0, some.1, some.2, (sym (ap (λ (x : Turn). x.total) is.1), none_there (offered some.0 s.driver) t (sym (ap (λ (x : Turn). x.offer) is.1) ∙ none)))
-
--- what ends a worker in a hold ends it in its turn
-pub ends_in : (opened : State) (answers : ℕ → Bool → Type 0) (turn edges : ℕ) (s : Place) (why : Spent) → IsEnded opened edges s why → EndsIn opened answers turn edges s why
-ends_in opened answers turn edges s spent.Turns ended = absurd ended
-ends_in opened answers turn edges s spent.Gate ended = absurd ended
-ends_in opened answers turn edges s spent.Edges ended = ended
-ends_in opened answers turn edges s spent.NoRoom ended = ended
-ends_in opened answers turn edges s spent.Lost ended = ended
-
--- and so at all
-pub is_spent : (opened : State) (answers : ℕ → Bool → Type 0) (turn turns edges : ℕ) (s : Place) (why : Spent) → turn < turns → EndsIn opened answers turn edges s why → IsSpent opened answers turns edges s why
-is_spent opened answers turn turns edges s spent.Turns before ended = absurd ended
-is_spent opened answers turn turns edges s spent.Gate before ended = (turn, before, ended)
-is_spent opened answers turn turns edges s spent.Edges before ended = ended
-is_spent opened answers turn turns edges s spent.NoRoom before ended = ended
-is_spent opened answers turn turns edges s spent.Lost before ended = ended
+    (some.0, some.1, some.2, (sym (ap (λ (x : Turn). x.total) is.1) ∙ sym many, none_there (offered some.0 s.driver) t (sym (ap (λ (x : Turn). x.offer) is.1) ∙ none)))

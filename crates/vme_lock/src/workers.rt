@@ -158,12 +158,16 @@ fn try_offer<L: Rig, R: Wait>(
     if seen.total >= bounds.edges {
         return Err(Spent::Edges);
     }
-    let Some(edge) = seen.offer else {
-        let idle = Some(Idle::since(seen.total));
-        return Ok(Tried { made: false, idle });
-    };
-    let made = make_edge(rt, shared, seat, pages, edge)?;
-    Ok(Tried { made, idle: None })
+    match seen.offer {
+        None => {
+            let idle = Some(Idle::since(seen.total));
+            Ok(Tried { made: false, idle })
+        }
+        Some(edge) => match make_edge(rt, shared, seat, pages, edge) {
+            Ok(made) => Ok(Tried { made, idle: None }),
+            Err(spent) => Err(spent),
+        },
+    }
 }
 
 /// Tells the gate that a turn is over, before which the seat had made so many edges.

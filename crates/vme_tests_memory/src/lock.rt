@@ -99,7 +99,7 @@ fn history_of(alloc: Global, backplane: &Backplane<'_>) -> Result<Vec<Edge>, All
 
 /// What the boards did.
 #[derive(Drop)]
-struct Ran {
+pub struct Ran {
     logs: Vec<Vec<Edge>>,
     made: Vec<u32>,
     history: Vec<Edge>,
