@@ -215,7 +215,9 @@ impl<'s, 'r, L: Rig, R: Wait> Gate for Requests<'s, 'r, L, R> {
     fn after(&self, _driver: Driver, turn: u32, _accepted: bool) {
         let mut first = self.first.lock(self.rt);
         if turn == self.after {
-            let _ = self.shared.edge(self.rt, &mut *first, fall(FIRST, Wire::Br));
+            let _ = self
+                .shared
+                .edge(self.rt, &mut *first, fall(FIRST, Wire::Br));
         } else {
             let _ = self.shared.look(self.rt, &*first);
         }
