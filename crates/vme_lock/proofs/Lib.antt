@@ -10,6 +10,8 @@ pub mod HoldAnswers
 pub mod OneHold
 -- that an edge made is well formed: `laws::edge_in`
 pub mod WellFormed
+-- what a hold tells a worker that waits or ends: `workers`
+pub mod Waiting
 -- the pages of a worker: `logs::Pages`
 pub mod LogPages
 -- one seat and log more: `threads::run_all`; as many seats as drivers: `Shared::close`

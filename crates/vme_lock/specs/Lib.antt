@@ -2,6 +2,7 @@
 pub mod Seats
 pub mod Holds
 pub mod Closing
+pub mod Endings
 -- Words between the functions, which no public contract says.
 pub mod Following
 pub mod Logs

@@ -36,6 +36,7 @@ impl<'r, L: Rig> Shared<'r, L> {
         };
         backplane.laws();
         let counts = counts_of(&backplane);
+        let news = News::new(backplane.len());
         let (book, rest) = blank.open::<L>();
         let mut room = Opening { seats, book, rest };
         room.seat_all(&backplane, &counts);
@@ -48,7 +49,7 @@ impl<'r, L: Rig> Shared<'r, L> {
         };
         let shared = Shared {
             lock: Mutex::new(held),
-            news: News::new(),
+            news,
         };
         Ok((shared, seats))
     }

@@ -65,9 +65,12 @@ impl<'r, L: Rig> Shared<'r, L> {
     {
         let mut held = self.lock.lock(rt);
         let answer = edge_in(&mut *held, seat, edge);
+        if answer.is_ok() {
+            self.news.tell_edges(held.backplane.len());
+        }
         drop(held);
         if answer.is_ok() {
-            self.news.tell_edge();
+            self.news.wake();
         }
         answer
     }

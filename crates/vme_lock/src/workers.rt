@@ -1,7 +1,8 @@
 //! A worker: one driver's turns, in each of which it asks for one offer and makes one edge at most.
-ghost use Rattle.std.specs.Prelude.{◌≡◌, ◌≢◌, ◌+◌, ◌<◌, ◌≤◌, [], IfErr, IfOk, OnOk, length, min, true};
+ghost use Rattle.std.specs.Prelude.{◌≡◌, ℕ, ◌+◌, ◌<◌, ◌≤◌, [], IfErr, IfOk, IfSome, MatchBool, None, OnOk, length, min, true};
 ghost use Rattle.vme_lock.specs.Seats.{seat_after, IsWithin};
 ghost use Rattle.vme_lock.specs.Holds.{OfSome, ending, turn_answer};
+ghost use Rattle.vme_lock.specs.Endings.{EndsIn, HasNoOffer, IsEnded, IsSpent};
 
 use crate::logs::{Log, Pages, Room};
 use crate::news::Idle;
@@ -13,8 +14,15 @@ use vme_model::{Driver, Edge};
 
 /// Who lets a worker begin and end its turns. No lock is held while it is asked.
 pub trait Gate {
+    ghost use Rattle.std.specs.Prelude.{ℕ, Bool};
+    ghost use Rattle.vme_model.specs.declared.signals.Driver.{Driver};
+
+    /// What it may answer a driver before a turn.
+    ghost answers: { Self → Driver → ℕ → Bool → Type 0 };
+
     /// Whether the driver takes this turn, counted from 0.
-    fn before(&self, driver: Driver, turn: u32) -> bool;
+    fn before(&self, driver: Driver, turn: u32) -> bool
+        ensures { answers self.now driver turn result };
 
     /// Told at the end of a turn whether the driver made an edge in it.
     fn after(&self, driver: Driver, turn: u32, accepted: bool);
@@ -25,6 +33,10 @@ pub trait Gate {
 pub struct OpenGate;
 
 impl Gate for OpenGate {
+    ghost use Rattle.std.specs.Prelude.{◌≡◌, true};
+
+    ghost answers = { λ gate driver turn answer. answer ≡ true };
+
     fn before(&self, _driver: Driver, _turn: u32) -> bool
         ensures { result ≡ true }
     {
@@ -76,7 +88,10 @@ fn make_edge<L: Rig, R: Wait>(
     ensures driver { seat.new.driver ≡ seat.old.driver }
     ensures made { seat.new.made + length pages.old.edges ≡ seat.old.made + length pages.new.edges }
     ensures one { length pages.new.edges ≤ length pages.old.edges + 1 }
-    ensures early { IfErr result (λ spent. spent ≢ Spent.Turns) }
+    ensures accepted { IfOk result (λ accepted. MatchBool accepted
+        (seat.new.made ≡ seat.old.made + 1)
+        (seat.new.made ≡ seat.old.made)) }
+    ensures ended { IfErr result (λ spent. (edges : ℕ) → IsEnded L.opened edges seat.new spent) }
 {
     if pages.make_room().is_err() {
         return Err(Spent::NoRoom);
@@ -100,7 +115,7 @@ fn see_turn<L: Rig, R: Wait>(
 ) -> Result<Turn, Spent>
     ensures answer { OfSome L.opened (λ b. result ≡ ending (turn_answer b seat.now turn)) }
     ensures own { IfOk result (λ t. seat.now.made ≤ t.total) }
-    ensures early { IfErr result (λ spent. spent ≢ Spent.Turns) }
+    ensures ended { IfErr result (λ spent. (edges : ℕ) → IsEnded L.opened edges seat.now spent) }
 {
     match shared.turn(rt, seat, turn) {
         Ok(seen) => Ok(seen),
@@ -108,15 +123,13 @@ fn see_turn<L: Rig, R: Wait>(
     }
 }
 
-/// What came of a turn.
+/// What came of a look.
 #[derive(Clone, Copy)]
-enum Tried {
-    /// An edge was made.
-    Made,
-    /// The offer was refused, since another made an edge before it.
-    Refused,
-    /// There was no offer.
-    Nothing,
+struct Tried {
+    /// Whether an edge was made. Else there was no offer, or it was refused, since another made an edge before it.
+    made: bool,
+    /// Where there was no offer.
+    idle: Option<Idle>,
 }
 
 /// Looks what the seat's driver may do in a turn, and tries it.
@@ -134,20 +147,34 @@ fn try_offer<L: Rig, R: Wait>(
     ensures made { seat.new.made + length pages.old.edges ≡ seat.old.made + length pages.new.edges }
     ensures one { length pages.new.edges ≤ length pages.old.edges + 1 }
     ensures most { length pages.new.edges ≤ bounds.edges }
-    ensures early { IfErr result (λ spent. spent ≢ Spent.Turns) }
+    ensures accepted { IfOk result (λ t. MatchBool t.made
+        (seat.new.made ≡ seat.old.made + 1)
+        (seat.new.made ≡ seat.old.made)) }
+    ensures idle { IfOk result (λ t.
+        IfSome t.idle (λ i. HasNoOffer L.opened seat.new.driver i.seen)) }
+    ensures ended { IfErr result (IsEnded L.opened bounds.edges seat.new) }
 {
     let seen = see_turn(rt, shared, seat, turn)?;
     if seen.total >= bounds.edges {
         return Err(Spent::Edges);
     }
     match seen.offer {
-        None => Ok(Tried::Nothing),
+        None => {
+            let idle = Some(Idle::since(seen.total));
+            Ok(Tried { made: false, idle })
+        }
         Some(edge) => match make_edge(rt, shared, seat, pages, edge) {
-            Ok(true) => Ok(Tried::Made),
-            Ok(false) => Ok(Tried::Refused),
+            Ok(made) => Ok(Tried { made, idle: None }),
             Err(spent) => Err(spent),
         },
     }
+}
+
+/// Tells the gate that a turn is over, before which the seat had made so many edges.
+fn tell_gate<L: Rig, G: Gate>(gate: &G, seat: &Seat<L>, turn: u32, before: u32, accepted: bool)
+    requires { MatchBool accepted (seat.now.made ≡ before + 1) (seat.now.made ≡ before) }
+{
+    gate.after(seat.driver(), turn, accepted);
 }
 
 /// What a worker did so far.
@@ -162,7 +189,7 @@ struct Work<'s, 'r> {
 
 /// Takes the next turn. `Err` where the worker ends.
 ///
-/// Where nothing was told since a look that found no offer, the lock is not asked for.
+/// The lock is not asked for where the history has as many edges as at a look that found no offer: it would find none.
 fn take_turn<L: Rig, G: Gate, R: Wait>(
     rt: &R,
     shared: &Shared<'_, L>,
@@ -174,37 +201,37 @@ fn take_turn<L: Rig, G: Gate, R: Wait>(
     requires turns { work.old.turns < bounds.turns }
     requires logged { length work.old.pages.edges ≤ seat.old.made }
     requires most { length work.old.pages.edges ≤ bounds.edges }
+    requires idle { IfSome work.old.idle (λ i. HasNoOffer L.opened seat.old.driver i.seen) }
     ensures driver { seat.new.driver ≡ seat.old.driver }
     ensures turns { OnOk result (work.new.turns ≡ work.old.turns + 1) }
     ensures made { seat.new.made + length work.old.pages.edges
         ≡ seat.old.made + length work.new.pages.edges }
     ensures one { length work.new.pages.edges ≤ length work.old.pages.edges + 1 }
     ensures most { length work.new.pages.edges ≤ bounds.edges }
-    ensures early { IfErr result (λ spent. spent ≢ Spent.Turns) }
+    ensures idle { OnOk result
+        (IfSome work.new.idle (λ i. HasNoOffer L.opened seat.new.driver i.seen)) }
+    ensures gate { OnOk result (G.answers gate.now seat.old.driver work.old.turns true) }
+    ensures ended { IfErr result (EndsIn L.opened (G.answers gate.now seat.old.driver)
+        work.old.turns bounds.edges seat.new) }
 {
     let Work { turns, pages, idle } = work;
     let turn = *turns;
-    let driver = seat.driver();
-    if !gate.before(driver, turn) {
+    let before = seat.made();
+    if !gate.before(seat.driver(), turn) {
         return Err(Spent::Gate);
     }
-    // Read before the look: an edge that is made between them makes the next turn look again.
-    let count = shared.news.count();
-    let tried = match idle {
-        Some(idle) if idle.is_still(count) => {
+    let accepted = match idle {
+        Some(idle) if idle.is_still(shared.news.edges()) => {
             idle.wait(rt, &shared.news);
-            Tried::Nothing
+            false
         }
         _ => {
             let tried = try_offer(rt, shared, seat, bounds, turn, pages)?;
-            *idle = match tried {
-                Tried::Nothing => Some(Idle::since(count)),
-                Tried::Made | Tried::Refused => None,
-            };
-            tried
+            *idle = tried.idle;
+            tried.made
         }
     };
-    gate.after(driver, turn, matches!(tried, Tried::Made));
+    tell_gate(gate, seat, turn, before, accepted);
     *turns += 1;
     Ok(())
 }
@@ -218,11 +245,14 @@ fn take_turns<L: Rig, G: Gate, R: Wait>(
     bounds: Bounds,
     work: &mut Work<'_, '_>,
 ) -> Spent
-    requires { (work.old.turns ≡ 0) × (work.old.pages.edges ≡ []) }
+    requires none { (work.old.turns ≡ 0) × (work.old.pages.edges ≡ []) }
+    requires idle { work.old.idle ≡ None }
     ensures driver { seat.new.driver ≡ seat.old.driver }
     ensures turns { result ≡ Spent.Turns → work.new.turns ≡ bounds.turns }
     ensures made { seat.new.made ≡ seat.old.made + length work.new.pages.edges }
     ensures most { IsWithin bounds.turns bounds.edges work.new.pages.edges }
+    ensures spent { IsSpent L.opened (G.answers gate.now seat.new.driver)
+        bounds.turns bounds.edges seat.new result }
 {
     for _turn in 0..bounds.turns {
         if let Err(spent) = take_turn(rt, shared, seat, gate, bounds, work) {
@@ -234,10 +264,13 @@ fn take_turns<L: Rig, G: Gate, R: Wait>(
 
 /// Works a seat: makes edges of its driver, one a turn at most, each among those that it is offered. May wait for the lock.
 ///
-/// Hands back the seat and the log of the edges made. In turn `t` the offer at place `t` modulo their number is tried; where
-/// no edge was made since a turn without an offer, there is none. The worker ends after its turns, or as soon as the gate
-/// answers false, the history has as many edges as the bounds allow, no room is found for an edge, or the history is not the
-/// seat's.
+/// Hands back the seat and the log of the edges made. In turn `t` the offer at place `t` modulo their number is tried. The
+/// worker ends after its turns, or as soon as the gate answers false, the history has as many edges as the bounds allow, no
+/// room is found for an edge, or the history is not the seat's.
+///
+/// After a turn without an offer it asks for the lock again only once the history is longer. That length stands beside the
+/// lock too, written in the hold that makes an edge. So a turn in which it does not ask is one in which it would find no
+/// offer, as long as no such hold has begun; in a turn after it, it asks.
 pub fn work_board<'r, L: Rig, G: Gate, R: Wait>(
     rt: &R,
     shared: &Shared<'_, L>,
@@ -248,6 +281,8 @@ pub fn work_board<'r, L: Rig, G: Gate, R: Wait>(
 ) -> (Seat<L>, Log<'r>, Spent)
     ensures seat { result.0 ≡ seat_after seat result.1 }
     ensures most { IsWithin bounds.turns bounds.edges result.1 }
+    ensures spent { IsSpent L.opened (G.answers gate.now seat.driver)
+        bounds.turns bounds.edges result.0 result.2 }
 {
     let Room { scratch, log } = room;
     let mut log = Vec::new(log);

@@ -1,9 +1,13 @@
-//! Gates that make the threads of boards wait for one another, and that count.
-use crate::boards::{FIRST, SECOND};
+//! Gates that make the threads of boards wait for one another, that make edges, and that count.
+ghost use Rattle.std.specs.Prelude.{⊤};
+
+use crate::boards::{FIRST, SECOND, fall};
 use std::hint::spin_loop;
 use std::sync::atomic::{AtomicBool, AtomicU32, Ordering};
-use vme_lock::Gate;
-use vme_model::Driver;
+use std::sync::{Condvar, Mutex, Wait};
+use std::time::Duration;
+use vme_lock::{Gate, Rig, Seat, Shared};
+use vme_model::{Driver, Wire};
 
 /// How often a gate looks for a flag before it gives up.
 const LOOKS: u32 = 200_000_000;
@@ -19,13 +23,15 @@ fn comes_up(flag: &AtomicBool) -> bool {
     false
 }
 
-/// A gate at which each driver waits once: slot 1 for an edge of slot 2, the others for both others.
+/// A gate at which each driver waits once before a turn: slot 1 for an edge of slot 2, the others for both others. After that
+/// edge slot 2 waits for one of slot 1.
 #[derive(Drop)]
 pub struct Together {
     controller: AtomicBool,
     first: AtomicBool,
     second: AtomicBool,
     edge: AtomicBool,
+    answer: AtomicBool,
     ran_out: AtomicBool,
 }
 
@@ -36,6 +42,7 @@ impl Together {
             first: AtomicBool::new(false),
             second: AtomicBool::new(false),
             edge: AtomicBool::new(false),
+            answer: AtomicBool::new(false),
             ran_out: AtomicBool::new(false),
         }
     }
@@ -53,6 +60,8 @@ impl Together {
 }
 
 impl Gate for Together {
+    ghost answers = { λ gate driver turn answer. ⊤ };
+
     fn before(&self, driver: Driver, turn: u32) -> bool {
         match (driver, turn) {
             (Driver::Controller, 0) => {
@@ -74,9 +83,14 @@ impl Gate for Together {
         true
     }
 
-    fn after(&self, driver: Driver, _turn: u32, accepted: bool) {
-        if accepted && driver == SECOND {
-            self.edge.store(true, Ordering::SeqCst);
+    fn after(&self, driver: Driver, turn: u32, accepted: bool) {
+        match (driver, turn, accepted) {
+            (FIRST, 0, true) => self.answer.store(true, Ordering::SeqCst),
+            (SECOND, 0, true) => {
+                self.edge.store(true, Ordering::SeqCst);
+                self.wait_for(&self.answer);
+            }
+            _ => {}
         }
     }
 }
@@ -98,6 +112,8 @@ impl Stops {
 }
 
 impl Gate for Stops {
+    ghost answers = { λ gate driver turn answer. ⊤ };
+
     fn before(&self, driver: Driver, _turn: u32) -> bool {
         driver != FIRST || self.accepted.load(Ordering::SeqCst) < self.after
     }
@@ -124,6 +140,8 @@ impl Asked {
 }
 
 impl Gate for Asked {
+    ghost answers = { λ gate driver turn answer. ⊤ };
+
     fn before(&self, driver: Driver, _turn: u32) -> bool {
         driver != Driver::Controller || comes_up(&self.edge)
     }
@@ -140,6 +158,7 @@ impl Gate for Asked {
 pub struct Counts {
     open: bool,
     after: AtomicU32,
+    accepted: AtomicU32,
 }
 
 impl Counts {
@@ -147,6 +166,7 @@ impl Counts {
         Counts {
             open,
             after: AtomicU32::new(0),
+            accepted: AtomicU32::new(0),
         }
     }
 
@@ -154,14 +174,112 @@ impl Counts {
     pub fn calls(&self) -> u32 {
         self.after.load(Ordering::SeqCst)
     }
+
+    /// How often it was told of an accepted edge.
+    pub fn accepted(&self) -> u32 {
+        self.accepted.load(Ordering::SeqCst)
+    }
 }
 
 impl Gate for Counts {
+    ghost answers = { λ gate driver turn answer. ⊤ };
+
     fn before(&self, _driver: Driver, _turn: u32) -> bool {
         self.open
     }
 
-    fn after(&self, _driver: Driver, _turn: u32, _accepted: bool) {
+    fn after(&self, _driver: Driver, _turn: u32, accepted: bool) {
         self.after.fetch_add(1, Ordering::SeqCst);
+        if accepted {
+            self.accepted.fetch_add(1, Ordering::SeqCst);
+        }
+    }
+}
+
+/// A gate that tries the lock after each turn, by a look of slot 1, and makes its request after one of them.
+#[derive(Drop)]
+pub struct Requests<'s, 'r, L: Rig, R: Wait> {
+    pub rt: &'s R,
+    pub shared: &'s Shared<'r, L>,
+    pub first: Mutex<Seat<L>>,
+    pub after: u32,
+}
+
+impl<'s, 'r, L: Rig, R: Wait> Gate for Requests<'s, 'r, L, R> {
+    ghost answers = { λ gate driver turn answer. ⊤ };
+
+    fn before(&self, _driver: Driver, _turn: u32) -> bool {
+        true
+    }
+
+    fn after(&self, _driver: Driver, turn: u32, _accepted: bool) {
+        let mut first = self.first.lock(self.rt);
+        if turn == self.after {
+            let _ = self
+                .shared
+                .edge(self.rt, &mut *first, fall(FIRST, Wire::Br));
+        } else {
+            let _ = self.shared.look(self.rt, &*first);
+        }
+    }
+}
+
+/// A gate at which slot 1 naps before its first turn, a millisecond each time, until the controller's last turn is over, and
+/// then takes none.
+#[derive(Drop)]
+pub struct Naps<'s, R: Wait> {
+    rt: &'s R,
+    /// The controller's turns.
+    turns: u32,
+    /// How often slot 1 naps at most.
+    most: u32,
+    is_over: AtomicBool,
+    nobody: Condvar,
+    ran_out: AtomicBool,
+}
+
+impl<'s, R: Wait> Naps<'s, R> {
+    pub fn new(rt: &'s R, turns: u32, most: u32) -> Naps<'s, R> {
+        Naps {
+            rt,
+            turns,
+            most,
+            is_over: AtomicBool::new(false),
+            nobody: Condvar::new(),
+            ran_out: AtomicBool::new(false),
+        }
+    }
+
+    /// Whether slot 1 napped in vain.
+    pub fn ran_out(&self) -> bool {
+        self.ran_out.load(Ordering::SeqCst)
+    }
+
+    fn nap_till_over(&self) {
+        for _nap in 0..self.most {
+            if self.is_over.load(Ordering::SeqCst) {
+                return;
+            }
+            self.nobody.sleep(self.rt, 0, Duration::from_millis(1));
+        }
+        self.ran_out.store(true, Ordering::SeqCst);
+    }
+}
+
+impl<'s, R: Wait> Gate for Naps<'s, R> {
+    ghost answers = { λ gate driver turn answer. ⊤ };
+
+    fn before(&self, driver: Driver, _turn: u32) -> bool {
+        if driver == FIRST {
+            self.nap_till_over();
+            return false;
+        }
+        true
+    }
+
+    fn after(&self, driver: Driver, turn: u32, _accepted: bool) {
+        if driver == Driver::Controller && turn.saturating_add(1) == self.turns {
+            self.is_over.store(true, Ordering::SeqCst);
+        }
     }
 }

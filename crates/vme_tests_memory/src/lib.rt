@@ -16,3 +16,5 @@ mod gates;
 mod lock;
 #[cfg(test)]
 mod store;
+#[cfg(test)]
+mod waiting;

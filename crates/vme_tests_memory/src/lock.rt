@@ -22,10 +22,10 @@ use vme_model::{ArbiterKind, Cycle, Driver, Edge, Refused, Row, Version, Wire};
 use vme_slots::Plan;
 
 /// The bytes of a lease that is long enough for 1,000 edges.
-const AMPLE: usize = 8192;
+pub const AMPLE: usize = 8192;
 
 /// The bytes of a region for a trace and 22 ample rooms.
-const MEMORY: usize = 1_048_576;
+pub const MEMORY: usize = 1_048_576;
 
 fn access(driver: Driver, slot: u8) -> Edge {
     Edge {
@@ -50,7 +50,7 @@ fn plan(alloc: Global, slots: u8) -> Result<Plan, Fail> {
 }
 
 /// A backplane with these boards.
-fn boards<'r>(
+pub fn boards<'r>(
     alloc: Global,
     rest: &mut Rest<'r>,
     slots: u8,
@@ -62,7 +62,7 @@ fn boards<'r>(
 }
 
 /// A room with a lease for scratch and one for the log, of these sizes.
-fn room<'r>(rest: &mut Rest<'r>, sizes: (usize, usize)) -> Result<Room<'r>, Fail> {
+pub fn room<'r>(rest: &mut Rest<'r>, sizes: (usize, usize)) -> Result<Room<'r>, Fail> {
     Ok(Room {
         scratch: rest.carve(sizes.0)?,
         log: rest.carve(sizes.1)?,
@@ -99,7 +99,7 @@ fn history_of(alloc: Global, backplane: &Backplane<'_>) -> Result<Vec<Edge>, All
 
 /// What the boards did.
 #[derive(Drop)]
-struct Ran {
+pub struct Ran {
     logs: Vec<Vec<Edge>>,
     made: Vec<u32>,
     history: Vec<Edge>,
@@ -246,7 +246,7 @@ fn benches<'r>(
 }
 
 /// Runs boards in rooms of these sizes, one for each driver.
-fn run_in_rooms<G: Gate + Sync, R: Threads + Wait + Sync>(
+pub fn run_in_rooms<G: Gate + Sync, R: Threads + Wait + Sync>(
     rt: &R,
     alloc: Global,
     slots: u8,
@@ -271,7 +271,8 @@ fn refused_memory(rt: HostRuntime) -> Result<(), Fail> {
     Ok(())
 }
 
-/// Neither threads one after the other nor a lock that is held while the gate is called gets through this.
+/// Neither threads one after the other nor a lock that is held while the gate is called, before a turn or after it, gets
+/// through this.
 #[test]
 fn all_run_at_once(rt: HostRuntime) -> Result<(), Fail> {
     let gate = Together::new();
@@ -339,13 +340,16 @@ fn logged(ran: &Ran) -> usize {
     logged
 }
 
-/// 21 boards, a hundred times over: each closed history is legal, and as long as the logs. In its first turn each board asks.
+/// 21 boards, a hundred times over: each closed history is legal, and as long as the logs, and their gate is told of as many
+/// edges. In its first turn each board asks.
 #[test]
 fn many_boards_many_times(rt: HostRuntime) -> Result<(), Fail> {
     for _run in 0..100u8 {
-        let ran = run_in_rooms(&rt, rt.alloc(), 21, &OpenGate, 20, &[(AMPLE, AMPLE); 22])?;
+        let gate = Counts::new(true);
+        let ran = run_in_rooms(&rt, rt.alloc(), 21, &gate, 20, &[(AMPLE, AMPLE); 22])?;
         assert!(rt; is_legal(rt.alloc(), ran.history.as_slice())?);
         assert!(rt; logged(&ran) == ran.history.len() && logged(&ran) > 20);
+        assert!(rt; logged(&ran) == gate.accepted() as usize);
     }
     Ok(())
 }
@@ -529,7 +533,7 @@ fn idles(open: bool, sizes: (usize, usize), spent: Spent) -> Task<'static> {
 }
 
 /// Whether these edges stand in a log, and no others.
-fn is_log_of(log: &Log<'_>, edges: &[Edge]) -> bool {
+pub fn is_log_of(log: &Log<'_>, edges: &[Edge]) -> bool {
     for place in 0..log.len() {
         if edges.get(place as usize).copied() != Some(log.edge_at(place)) {
             return false;
@@ -538,11 +542,11 @@ fn is_log_of(log: &Log<'_>, edges: &[Edge]) -> bool {
     log.len() as usize == edges.len()
 }
 
-/// What a worker did, and how often its gate was called after a turn.
-fn assert_worked(rt: &impl Abort, task: Task<'_>, log: &Log<'_>, spent: Spent, calls: u32) {
+/// What a worker did, and what its gate was told.
+fn assert_worked(rt: &impl Abort, task: Task<'_>, log: &Log<'_>, spent: Spent, gate: &Counts) {
     assert!(rt; spent == task.spent);
-    assert!(rt; spent != Spent::Turns || calls == task.bounds.turns);
-    assert!(rt; is_log_of(log, task.edges));
+    assert!(rt; spent != Spent::Turns || gate.calls() == task.bounds.turns);
+    assert!(rt; is_log_of(log, task.edges) && log.len() == gate.accepted());
 }
 
 /// Works a seat with a gate that counts.
@@ -556,7 +560,7 @@ fn work<L: Rig, R: Wait + Abort>(
     let gate = Counts::new(task.open);
     let room = room(rest, task.sizes)?;
     let (seat, log, spent) = work_board(rt, shared, seat, &gate, task.bounds, room);
-    assert_worked(rt, task, &log, spent, gate.calls());
+    assert_worked(rt, task, &log, spent, &gate);
     Ok(seat)
 }
 
@@ -649,7 +653,7 @@ fn one_thread<L: Rig, R: Wait + Abort>(
 }
 
 /// Opens a backplane with one board: the lock, the controller's seat and the board's.
-fn open_one<'r, L: Rig>(
+pub fn open_one<'r, L: Rig>(
     alloc: Global,
     blank: Blank,
     backplane: Backplane<'r>,
