@@ -22,9 +22,8 @@ use Rattle.vme_trace.specs.Writing.{AppendsFront}
 use Rattle.vme_engines.specs.declared.Status.{Status}
 use Rattle.vme_engines.specs.declared.Status.TheVariants.{Done, Limit}
 use Rattle.vme_engines.specs.declared.EngineFault.TheVariants as fault
-use Rattle.vme_scenario.specs.Format.{scenario}
 use Rattle.vme_engines.specs.Outcomes.{bench}
-use Rattle.vme_engines.specs.Driving.{driven, driven_text, Drives, DrivesSafely}
+use Rattle.vme_engines.specs.Driving.{driven, driven_text, Drives}
 use Rattle.vme_engines.proofs.LegalTrace.{all_well_formed, legal_trace}
 
 -- ---- a turn
@@ -137,8 +136,8 @@ module _ (p : Plan) (version : Version) (n : ℕ) (b : State) (is : b ≡ rounds
   pub drives_cut : (old new : Option (List ℕ)) (f : Fault) → f ≡ Write → AppendsFront old new (text b.version (in_order b.history)) → Drives version n old new p (Err (fault.Trace f))
   drives_cut old new f e w = (e, subst (AppendsFront old new) text_is w)
 
-  pub drives_safely : (old : List ℕ) → scenario old ≡ Ok p → IsSafe b.plan b.history → DrivesSafely old version n
-  drives_safely old read safe = (p, read, subst (IsSafe p) history_is (subst (λ (q : Plan). IsSafe q b.history) grew.plan safe))
+  pub drives_safe : IsSafe b.plan b.history → IsSafe p (driven p version n)
+  drives_safe safe = subst (IsSafe p) history_is (subst (λ (q : Plan). IsSafe q b.history) grew.plan safe)
 
 -- ---- the lines of a legal list
 

@@ -1,5 +1,5 @@
 -- Up to the header line of a trace that stands alone, and up to a plan.
-use Rattle.std.proofs.Common.{◌≡◌, ◌≢◌, inl, inr, ℕ, List, [], ◌++◌, length, Bool, true, Option, None, unwrap_or, Result, Ok, Err, refl, sym, ◌∙◌, subst}
+use Rattle.std.proofs.Common.{◌≡◌, ◌≢◌, ◌≤◌, inl, inr, ℕ, List, [], ◌++◌, length, Bool, true, Option, None, unwrap_or, Result, Ok, Err, refl, sym, ◌∙◌, subst}
 use Rattle.std.proofs.KnownBytes.{Appends-nil}
 use Rattle.vme_model.specs.declared.signals.Version.{Version}
 use Rattle.vme_model.specs.declared.signals.Edge.{Edge}
@@ -12,7 +12,8 @@ use Rattle.vme_trace.specs.Reading as trace
 use Rattle.vme_engines.specs.declared.EngineFault.{EngineFault}
 use Rattle.vme_engines.specs.declared.EngineFault.TheVariants as fault
 use Rattle.vme_engines.specs.Streams.{Streams, streams}
-use Rattle.vme_engines.specs.Outcomes.{Answer, Lent, lines_of, HasFault, ReplayStops, ReplaysInput}
+use Rattle.vme_scenario.specs.Format.{scenario}
+use Rattle.vme_engines.specs.Outcomes.{Answer, scenario_limit, Lent, LentAsking, lines_of, HasFault, ReplayStops, ReplaysInput}
 use Rattle.vme_engines.specs.Steps.{IsNoPlan, IsCounted, ReadFails, Comes, Opens}
 use Rattle.vme_engines.specs.Waiting.{StopsWaiting}
 use Rattle.vme_engines.specs.Begun.{IsUnread, IsUnbegun}
@@ -28,6 +29,23 @@ no_plan text nothing Runs (fault.Trace f) h done = absurd h
 no_plan text nothing Runs fault.CannotRead h done = absurd h
 no_plan text nothing Runs fault.NoMemory h done = absurd h
 no_plan text nothing Runs (fault.Beyond n) h done = absurd h
+
+-- the same of an engine that asks for memory
+pub asks : (text : List ℕ) (nothing : Type 0) (Runs : Plan → Answer → Type 0) (answer : Answer) → Lent text nothing Runs answer → LentAsking text nothing Runs answer
+asks text nothing Runs (Ok status) h = h
+asks text nothing Runs (Err fault.TooLong) h = h
+asks text nothing Runs (Err (fault.Scenario e)) h = h
+asks text nothing Runs (Err (fault.Trace f)) h = h
+asks text nothing Runs (Err fault.CannotRead) h = h
+asks text nothing Runs (Err fault.NoMemory) h = absurd h
+asks text nothing Runs (Err (fault.Beyond n)) h = h
+
+pub no_plan_asking : (text : List ℕ) (nothing : Type 0) (Runs : Plan → Answer → Type 0) (f : EngineFault) → IsNoPlan text f → nothing → LentAsking text nothing Runs (Err f)
+no_plan_asking text nothing Runs f h done = asks text nothing Runs (Err f) (no_plan text nothing Runs f h done)
+
+-- no memory for what it asks for
+pub no_room : (text : List ℕ) (nothing : Type 0) (Runs : Plan → Answer → Type 0) (p : Plan) (f : EngineFault) → length text ≤ scenario_limit → scenario text ≡ Ok p → nothing → f ≡ fault.NoMemory → LentAsking text nothing Runs (Err f)
+no_room text nothing Runs p f short read done is = subst (λ (e : EngineFault). LentAsking text nothing Runs (Err e)) (sym is) (p, short, read, done)
 
 -- ---- the first reads
 

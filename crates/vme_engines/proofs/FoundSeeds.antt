@@ -64,7 +64,7 @@ module _ (version : Version) (seed n : ℕ) (g : Goal) (text : List ℕ) where
   pub seen_fault : (a : Option (List ℕ)) (f : EngineFault) → Lent text ⊤ (Sees version seed n g (Err f)) (Err f) → Lent text (Keeps a a) (Attempts version seed n g a a (Err f)) (Err f)
   seen_fault a fault.TooLong l = (l.0, Keeps-refl a)
   seen_fault a (fault.Scenario e) l = (l.0, l.1, Keeps-refl a)
-  seen_fault a fault.NoMemory l = (l.0, l.1, l.2, Keeps-refl a)
+  seen_fault a fault.NoMemory l = absurd l
   seen_fault a (fault.Trace f) l = let is : f ≡ Write = let h = l.3 in cc in (l.0, l.1, l.2, (is, front_of_none a (walk_text l.0 version seed n (Some g))))
   seen_fault a (fault.Beyond e) l = let h = l.3 in absurd (cc)
   seen_fault a fault.CannotRead l = absurd l
@@ -123,7 +123,7 @@ module _ (version : Version) (n first last : ℕ) (g : Goal) (text : List ℕ) (
   pub fault_here : (f : EngineFault) → Lent text (Keeps b c) (Attempts version seed n g b c (Err f)) (Err f) → Lent text (Keeps a c) (Finds version n first last g a c (Err f)) (Err f)
   fault_here fault.TooLong l = (l.0, keeps_trans a b c k l.1)
   fault_here (fault.Scenario e) l = (l.0, l.1, keeps_trans a b c k l.2)
-  fault_here fault.NoMemory l = (l.0, l.1, l.2, keeps_trans a b c k l.3)
+  fault_here fault.NoMemory l = absurd l
   fault_here (fault.Trace f) l = (l.0, l.1, l.2, (seed, from, to, none l.0 l.2, draws_kept version seed n (Some g) a b c l.0 (Err (fault.Trace f)) k l.3))
   fault_here (fault.Beyond e) l = absurd (l.3)
   fault_here fault.CannotRead l = absurd l

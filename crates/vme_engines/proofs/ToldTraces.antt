@@ -24,7 +24,7 @@ use Rattle.vme_engines.specs.declared.following.Told.TheVariants.{Block, Beyond}
 use Rattle.vme_engines.specs.declared.EngineFault.TheVariants as fault
 use Rattle.vme_engines.specs.declared.checks.Finding.TheVariants.{Legal}
 use Rattle.vme_engines.specs.Streams.{Streams}
-use Rattle.vme_engines.specs.Outcomes.{Answer, Lent, scenario_limit, bench}
+use Rattle.vme_engines.specs.Outcomes.{Answer, LentAsking, scenario_limit, bench}
 use Rattle.vme_engines.specs.Checking.{or_refusal, first_refusal, refusal_of, finding_line}
 use Rattle.vme_engines.specs.Explaining.{IsAsked, IsUnasked, edge_status, IsExplained, IsAllLegal, IsTold, Explains, ExplainsInput}
 use Rattle.vme_engines.specs.Stating.{IsReached, IsAhead, IsStated, States, StatesInput}
@@ -231,7 +231,7 @@ explains_unbegun p s edge f kept h = let t = waits_unbegun (IsUnasked edge p) (w
 -- ---- the scenario
 
 pub lent_told : (text : List ℕ) (nothing : Type 0) (Runs : Plan → Answer → Type 0) (p : Plan) (r : Result Told Fault) → length text ≤ scenario_limit → scenario text ≡ Ok p → Runs p (told_answer r)
-    → Lent text nothing Runs (told_answer r)
+    → LentAsking text nothing Runs (told_answer r)
 lent_told text nothing Runs p (Ok (Block status)) short is h = (p, short, is, h)
 lent_told text nothing Runs p (Ok (Beyond n)) short is h = (p, short, is, h)
 lent_told text nothing Runs p (Err f) short is h = (p, short, is, h)

@@ -5,15 +5,18 @@ use Rattle.std.specs.Io.KnownBytes.{Consumes}
 use Rattle.std.specs.declared.alloc.AllocError.{AllocError}
 use Rattle.vme_model.specs.declared.signals.Version.{Version}
 use Rattle.vme_model.specs.declared.signals.Edge.{Edge}
+use Rattle.vme_model.specs.Plan.{Plan}
 use Rattle.vme_model.specs.Text.{header, read_of}
 use Rattle.vme_trace.specs.declared.Fault.{Fault}
 use Rattle.vme_trace.specs.Reading as trace
 use Rattle.vme_trace.specs.Reading.{IsOneLine}
+use Rattle.vme_engines.specs.declared.Status.{Status}
 use Rattle.vme_engines.specs.declared.joins.Found.{Found}
 use Rattle.vme_engines.specs.declared.joins.Front.{Front}
 use Rattle.vme_engines.specs.Streams.{streams, IsInput, WroteNothing}
-use Rattle.vme_engines.specs.Outcomes.{Answer, scenario_limit, Lent, Replays}
+use Rattle.vme_engines.specs.Outcomes.{Answer, scenario_limit, LentAsking, Replays}
 use Rattle.vme_engines.specs.Joining.{cut}
+use Rattle.vme_engines.specs.Steps.{traced}
 
 -- a cut of what stands after these bytes
 abbrev pub behind : List ℕ → Option (List ℕ × List ℕ) → Option (List ℕ × List ℕ)
@@ -76,6 +79,18 @@ Starts bytes reader es (Ok false) = ⊥
 Starts bytes reader es (Err f) =
     (more : List ℕ) → trace.HasFaultAfter (read_of (bytes ++ more)) reader.version es f
 
+-- What stands after a text was replayed on a plan: a header line, what was read after it, and the
+-- rest.
+abbrev pub ReplaysBehind :
+    Plan → Version → List ℕ
+    → Option (List ℕ) → Option (List ℕ) → Option (List ℕ) → Option (List ℕ)
+    → Result Status Fault → Type 0
+ReplaysBehind p version rest at to old new answer =
+    (from : Option (List ℕ)) (before : List ℕ)
+    → Consumes from at (before ++ (header_line version ++ rest))
+    → (others : List ℕ) × IsInput from (before ++ (header_line version ++ others))
+    × Replays p before (header_line version ++ others) (streams from to old new) (traced answer)
+
 -- What stands after the text of a scenario was replayed: its header line, what was read after it,
 -- and the rest.
 abbrev pub JoinsBehind :
@@ -87,5 +102,5 @@ JoinsBehind f version rest at to old new answer =
     → IsHeld f.held.items (before ++ header version)
     → Consumes from at (before ++ (header_line version ++ rest))
     → (others : List ℕ) × IsInput from (before ++ (header_line version ++ others))
-    × Lent before (WroteNothing (streams from to old new))
+    × LentAsking before (WroteNothing (streams from to old new))
     (λ p r. Replays p before (header_line version ++ others) (streams from to old new) r) answer

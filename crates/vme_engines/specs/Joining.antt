@@ -4,7 +4,7 @@ use Rattle.std.specs.Str.{bytes_eq}
 use Rattle.vme_trace.specs.declared.Fault.TheVariants.{Header, Read}
 use Rattle.vme_engines.specs.declared.EngineFault.TheVariants as fault
 use Rattle.vme_engines.specs.Streams.{Streams, IsInput, HasConsumed, IsReadOut, WroteNothing}
-use Rattle.vme_engines.specs.Outcomes.{Answer, Lent, Replays}
+use Rattle.vme_engines.specs.Outcomes.{Answer, LentAsking, Replays}
 
 -- the bytes begin with a header line
 abbrev pub begins_trace : List ℕ → Bool
@@ -34,5 +34,5 @@ abbrev pub Joins : Streams → Answer → Type 0
 Joins s answer =
     ((text : List ℕ) × (trace : List ℕ) × IsInput s.from (text ++ trace)
     × (cut true (text ++ trace) ≡ Some (text, trace))
-    × Lent text (WroteNothing s) (λ p r. Replays p text trace s r) answer)
+    × LentAsking text (WroteNothing s) (λ p r. Replays p text trace s r) answer)
     ⊎ ((bytes : List ℕ) × HasConsumed s bytes × WroteNothing s × FindsNoTrace s bytes answer)

@@ -25,13 +25,12 @@ abbrev pub scenario_limit : ℕ
 scenario_limit = 1048576
 
 -- An engine that is lent the text of a scenario: the first fault is answered and `nothing` is
--- done, or it runs on the plan.
+-- done, or it runs on the plan. It asks for no memory of its own, so that it never answers F3.
 abbrev pub Lent : List ℕ → Type 0 → (Plan → Answer → Type 0) → Answer → Type 0
 Lent text nothing Runs (Err fault.TooLong) = (scenario_limit < length text) × nothing
 Lent text nothing Runs (Err (fault.Scenario e)) =
     (length text ≤ scenario_limit) × IsErrorOf (scenario text) e × nothing
-Lent text nothing Runs (Err fault.NoMemory) =
-    (p : Plan) × (length text ≤ scenario_limit) × (scenario text ≡ Ok p) × nothing
+Lent text nothing Runs (Err fault.NoMemory) = ⊥
 Lent text nothing Runs (Err (fault.Trace f)) =
     (p : Plan) × (length text ≤ scenario_limit) × (scenario text ≡ Ok p)
     × Runs p (Err (fault.Trace f))
@@ -41,6 +40,14 @@ Lent text nothing Runs (Err (fault.Beyond edges)) =
 Lent text nothing Runs (Err fault.CannotRead) = ⊥
 Lent text nothing Runs (Ok status) =
     (p : Plan) × (length text ≤ scenario_limit) × (scenario text ≡ Ok p) × Runs p (Ok status)
+
+-- The same of an engine that asks for memory once the scenario has its plan: where that is refused,
+-- F3 is answered and `nothing` is done. No clause can say that memory was refused, as the allocator
+-- tells nothing of itself.
+abbrev pub LentAsking : List ℕ → Type 0 → (Plan → Answer → Type 0) → Answer → Type 0
+LentAsking text nothing Runs (Err fault.NoMemory) =
+    (p : Plan) × (length text ≤ scenario_limit) × (scenario text ≡ Ok p) × nothing
+LentAsking text nothing Runs answer = Lent text nothing Runs answer
 
 -- the backplane on which a trace of that version is judged
 abbrev pub bench : Plan → Version → State

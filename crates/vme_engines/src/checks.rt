@@ -7,13 +7,13 @@ ghost use Rattle.vme_model.specs.Locality.{AreWellFormed};
 ghost use Rattle.vme_model.specs.Verdict.{kept};
 ghost use Rattle.vme_bus.specs.Answers.{answer_of, answers};
 ghost use Rattle.vme_engines.specs.Streams.{streams, ReadNothing, WroteNothing};
-ghost use Rattle.vme_engines.specs.Outcomes.{Lent};
+ghost use Rattle.vme_engines.specs.Outcomes.{LentAsking};
 ghost use Rattle.vme_engines.specs.Checking.{ChecksInput, first_refusal, finding_status};
 ghost use Rattle.vme_engines.specs.Recorded.{first_refused_of};
 ghost use Rattle.vme_engines.specs.Steps.{ChecksPiece, FindsInput};
 
 use crate::lines::write_finding;
-use crate::pieces::{JUDGED_AT_ONCE, Judge};
+use crate::pieces::{JUDGED_AT_ONCE, Judge, buffer_of};
 use crate::plans::plan_of;
 use crate::traces::Input;
 use crate::{EngineFault, Status};
@@ -183,19 +183,22 @@ impl Judge for Checking {
 }
 
 /// Checks a trace that stands alone, on a plan.
+#[inline(never)]
 fn find<R: Read, W: Write>(
     alloc: Global,
     plan: Plan,
+    buffer: &mut [u8],
     trace: &mut R,
     out: &mut W,
 ) -> Result<Finding, Fault>
+    requires room { length buffer.old ≡ 69632 }
     ensures finds { FindsInput plan (R.remaining trace.old) (R.remaining trace.new) result }
     ensures kept { Keeps (W.contents out.old) (W.contents out.new) }
 {
     let mut input = Input::new(alloc);
-    let version = input.begin(trace)?;
+    let version = input.begin(buffer, trace)?;
     let mut check = Checking::new(Bus::new(plan, version));
-    input.read_on(&mut check, trace, out)
+    input.read_on(&mut check, buffer, trace, out)
 }
 
 /// Checks a trace on the plan of a scenario.
@@ -203,7 +206,7 @@ fn find<R: Read, W: Write>(
 /// Writes `illegal N VERDICT` where the N-th edge is the first that is refused, and reads no further; or `legal N` where
 /// all N edges are accepted, which are then a legal list and so a safe one. The status is `SomeRefused` or `Done`. It makes at most 16,777,216 reads.
 ///
-/// Errors: F2 and the faults of the scenario, before anything is read or written; those of the trace, where no edge
+/// Errors: F2, the faults of the scenario and F3, before anything is read or written; those of the trace, where no edge
 /// before them is refused, and then nothing is written; X8 where the output cannot be written.
 pub fn check<R: Read, W: Write>(
     alloc: Global,
@@ -213,10 +216,11 @@ pub fn check<R: Read, W: Write>(
 ) -> Result<Status, EngineFault>
     ensures { let s = streams (R.remaining trace.old) (R.remaining trace.new)
         (W.contents out.old) (W.contents out.new) in
-        Lent scenario.now (ReadNothing s × WroteNothing s) (ChecksInput s) result }
+        LentAsking scenario.now (ReadNothing s × WroteNothing s) (ChecksInput s) result }
 {
     let plan = plan_of(alloc, scenario)?;
-    let finding = match find(alloc, plan, trace, out) {
+    let mut buffer = buffer_of(alloc)?;
+    let finding = match find(alloc, plan, &mut buffer, trace, out) {
         Ok(finding) => finding,
         Err(fault) => return Err(EngineFault::Trace(fault)),
     };

@@ -106,6 +106,7 @@ fn write_edges<W: Write>(
 /// Writes the trace of a walk: the header line, and the line of each edge as it is made.
 ///
 /// Errors: X8 where the output cannot be written; a prefix of the trace was then written.
+#[inline(never)]
 pub(crate) fn write_walk<W: Write>(
     walk: &mut Walk,
     goal: Option<Goal>,

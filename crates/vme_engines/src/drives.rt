@@ -2,6 +2,7 @@
 ghost use Rattle.std.specs.Prelude.{◌≡◌, ◌==◌, ◌++◌, [], ℕ, false, OnOk, OnErr, IfErr, IsTrue, length, if◌then◌else◌};
 ghost use Rattle.std.specs.Io.KnownBytes.{Appends, Keeps};
 ghost use Rattle.vme_model.specs.Plan.{drivers};
+ghost use Rattle.vme_model.specs.Safe.{IsSafe};
 ghost use Rattle.vme_model.specs.History.{in_order};
 ghost use Rattle.vme_model.specs.declared.signals.Driver.TheVariants.{Slot};
 ghost use Rattle.vme_model.specs.Offers.{offered, turn, turns, rounds};
@@ -12,7 +13,8 @@ ghost use Rattle.vme_trace.specs.Writing.{AppendsFront, edge_line};
 ghost use Rattle.vme_engines.specs.Texts.{HandsOn, ListsOn, trace_made};
 ghost use Rattle.vme_engines.specs.Outcomes.{Lent};
 ghost use Rattle.vme_engines.specs.declared.Status.TheVariants.{Done, Limit};
-ghost use Rattle.vme_engines.specs.Driving.{boards, Drives, DrivesSafely};
+ghost use Rattle.vme_engines.specs.Driving.{boards, driven, Drives, DrivesSafely};
+ghost use Rattle.vme_engines.specs.Steps.{traced};
 
 use crate::edges::push_edge;
 use crate::lines::{hand_on, make_room};
@@ -23,6 +25,7 @@ use std::io::Write;
 use vme_backplane::Backplane;
 use vme_bus::{Bus, Turns};
 use vme_model::{Driver, Edge, Version};
+use vme_slots::Plan;
 use vme_text::Text;
 use vme_trace::{Fault, flush, header_line, put, write_line};
 
@@ -190,6 +193,25 @@ pub fn status_of(made: u32, edges: u32) -> Status
     }
 }
 
+/// Lets the drivers of a plan make edges in turn, at most `edges`, and writes their trace. Its frame is large.
+#[inline(never)]
+fn drive_on<W: Write>(
+    plan: Plan,
+    edges: u32,
+    out: &mut W,
+    version: Version,
+) -> Result<Status, Fault>
+    ensures outcome { Drives version edges (W.contents out.old) (W.contents out.new)
+        plan (traced result) }
+    ensures safe { OnOk result (IsSafe plan (driven plan version edges)) }
+{
+    let mut drive = Driving::new(Bus::new(plan, version));
+    drive.write(edges, out)?;
+    drive.bus.laws();
+    drive.bus.safety();
+    Ok(status_of(drive.bus.len(), edges))
+}
+
 /// Lets the drivers of a scenario make edges in turn, at most `edges`, and writes their trace.
 ///
 /// The status is `Limit` where `edges` of them were made, and else `Done`. A driver with k offers makes, in round r, the
@@ -212,13 +234,8 @@ pub fn drive<W: Write>(
     ensures safe { OnOk result (DrivesSafely scenario.now version edges) }
 {
     let plan = plan_of(alloc, scenario)?;
-    let mut drive = Driving::new(Bus::new(plan, version));
-    match drive.write(edges, out) {
-        Ok(()) => {
-            drive.bus.laws();
-            drive.bus.safety();
-            Ok(status_of(drive.bus.len(), edges))
-        }
+    match drive_on(plan, edges, out, version) {
+        Ok(status) => Ok(status),
         Err(fault) => Err(EngineFault::Trace(fault)),
     }
 }

@@ -6,7 +6,7 @@ ghost use Rattle.vme_model.specs.Locality.{AreWellFormed};
 ghost use Rattle.vme_model.specs.Why.{why_text};
 ghost use Rattle.vme_trace.specs.Writing.{AppendsFront};
 ghost use Rattle.vme_engines.specs.Streams.{streams, ReadNothing, WroteNothing};
-ghost use Rattle.vme_engines.specs.Outcomes.{Lent};
+ghost use Rattle.vme_engines.specs.Outcomes.{LentAsking};
 ghost use Rattle.vme_engines.specs.Explaining.{ExplainsInput, edge_status};
 ghost use Rattle.vme_engines.specs.Followed.{EndsMissing, ExplainsPiece, told_answer};
 ghost use Rattle.vme_reasons.specs.Traced.{OfTrace};
@@ -16,7 +16,7 @@ ghost use Rattle.std.proofs.KnownBytes.{Keeps-refl};
 use crate::checks::Finding;
 use crate::following::{Following, Told, answer_of};
 use crate::lines::write_finding;
-use crate::pieces::Judge;
+use crate::pieces::{Judge, buffer_of};
 use crate::plans::plan_of;
 use crate::traces::Input;
 use crate::{EngineFault, Status};
@@ -151,23 +151,26 @@ impl Judge for Explaining {
 }
 
 /// Explains an edge of a trace that stands alone, on a plan.
+#[inline(never)]
 fn explain_trace<R: Read, W: Write>(
     alloc: Global,
     plan: Plan,
+    buffer: &mut [u8],
     trace: &mut R,
     edge: Option<u64>,
     out: &mut W,
 ) -> Result<Told, Fault>
+    requires room { length buffer.old ≡ 69632 }
     ensures { ExplainsInput edge
         (streams (R.remaining trace.old) (R.remaining trace.new)
         (W.contents out.old) (W.contents out.new))
         plan (told_answer result) }
 {
     let mut input = Input::new(alloc);
-    let version = input.begin(trace)?;
+    let version = input.begin(buffer, trace)?;
     let following = Following::new(Bus::new(plan, version));
     let mut explanation = Explaining::new(following, edge);
-    input.read_on(&mut explanation, trace, out)
+    input.read_on(&mut explanation, buffer, trace, out)
 }
 
 /// Explains an edge of a trace on the plan of a scenario: the one with the number `edge`, counted from 1, or without one
@@ -177,7 +180,7 @@ fn explain_trace<R: Read, W: Write>(
 /// status is `SomeRefused` where the edge is refused, and else `Done`. Without a number, where no edge is refused, it
 /// writes `legal N`. Behind that edge it judges none. It makes at most 16,777,216 reads.
 ///
-/// Errors: F2 and the faults of the scenario, before anything is read or written; those of the trace before the
+/// Errors: F2, the faults of the scenario and F3, before anything is read or written; those of the trace before the
 /// edge, and X9 where a trace without fault has fewer edges, or the number is 0: then nothing is written; X8 where the
 /// output cannot be written.
 pub fn explain<R: Read, W: Write>(
@@ -189,8 +192,16 @@ pub fn explain<R: Read, W: Write>(
 ) -> Result<Status, EngineFault>
     ensures { let s = streams (R.remaining trace.old) (R.remaining trace.new)
         (W.contents out.old) (W.contents out.new) in
-        Lent scenario.now (ReadNothing s × WroteNothing s) (ExplainsInput edge s) result }
+        LentAsking scenario.now (ReadNothing s × WroteNothing s) (ExplainsInput edge s) result }
 {
     let plan = plan_of(alloc, scenario)?;
-    answer_of(explain_trace(alloc, plan, trace, edge, out))
+    let mut buffer = buffer_of(alloc)?;
+    answer_of(explain_trace(
+        alloc,
+        plan,
+        &mut buffer,
+        trace,
+        edge,
+        out,
+    ))
 }

@@ -4,9 +4,9 @@ ghost use Rattle.vme_model.specs.Text.{header};
 ghost use Rattle.vme_trace.specs.Reading.{HasRead};
 ghost use Rattle.vme_engines.specs.Streams.{streams};
 ghost use Rattle.vme_engines.specs.Joining.{Joins};
-ghost use Rattle.vme_engines.specs.Front.{header_line, IsHeld, IsFront, IsTextOf, Takes, Finds, Starts, JoinsBehind};
+ghost use Rattle.vme_engines.specs.Front.{header_line, IsHeld, IsFront, IsTextOf, Takes, Finds, Starts, JoinsBehind, ReplaysBehind};
 
-use crate::pieces::read_on;
+use crate::pieces::{buffer_of, read_on};
 use crate::plans::plan_of;
 use crate::replays::Replaying;
 use crate::{EngineFault, READS, SCENARIO_LIMIT, Status};
@@ -15,6 +15,7 @@ use std::alloc::{AllocError, Global};
 use std::io::{Read, Write};
 use vme_bus::Bus;
 use vme_model::{Edge, Version};
+use vme_slots::Plan;
 use vme_trace::{Fault, Reader, header_line, header_of, read_piece};
 
 /// How many bytes are held before a trace: those of the greatest scenario and a header line.
@@ -145,6 +146,41 @@ fn start(
     Ok(true)
 }
 
+/// Replays a trace whose header line and a piece after it were read, on a plan. Its frame is large.
+#[inline(never)]
+fn replay_rest<R: Read, W: Write>(
+    alloc: Global,
+    plan: Plan,
+    version: Version,
+    rest: &[u8],
+    reads: u32,
+    buffer: &mut [u8],
+    input: &mut R,
+    out: &mut W,
+) -> Result<Status, Fault>
+    requires room { length buffer.old ≡ 69632 }
+    requires rest { length rest.now ≤ 512 }
+    requires reads { reads < 16777216 }
+    ensures { ReplaysBehind plan version rest.now
+        (R.remaining input.old) (R.remaining input.new)
+        (W.contents out.old) (W.contents out.new) result }
+{
+    let mut reader = Reader::new();
+    let mut edges = Vec::new(alloc);
+    let first = start(&mut reader, version, rest, &mut edges);
+    let mut replay = Replaying::new(Bus::new(plan, version));
+    read_on(
+        &mut replay,
+        &mut reader,
+        &mut edges,
+        first,
+        reads,
+        buffer,
+        input,
+        out,
+    )
+}
+
 /// Replays a trace whose header line and a piece after it were read, on the scenario before it.
 fn replay_behind<R: Read, W: Write>(
     alloc: Global,
@@ -163,16 +199,14 @@ fn replay_behind<R: Read, W: Write>(
 {
     let text = front.into_text();
     let plan = plan_of(alloc, &text)?;
-    let mut reader = Reader::new();
-    let mut edges = Vec::new(alloc);
-    let first = start(&mut reader, version, rest, &mut edges);
-    let mut replay = Replaying::new(Bus::new(plan, version));
-    match read_on(
-        &mut replay,
-        &mut reader,
-        &mut edges,
-        first,
+    let mut buffer = buffer_of(alloc)?;
+    match replay_rest(
+        alloc,
+        plan,
+        version,
+        rest,
         reads,
+        &mut buffer,
         input,
         out,
     ) {

@@ -4,11 +4,11 @@ ghost use Rattle.std.proofs.Common.{arith};
 ghost use Rattle.std.proofs.KnownBytes.{Appends-nil};
 ghost use Rattle.vme_model.specs.Locality.{AreWellFormed};
 ghost use Rattle.vme_engines.specs.Streams.{streams, ReadNothing, WroteNothing};
-ghost use Rattle.vme_engines.specs.Outcomes.{Lent, ReplaysInput, status_with};
+ghost use Rattle.vme_engines.specs.Outcomes.{LentAsking, ReplaysInput, status_with};
 ghost use Rattle.vme_engines.specs.Steps.{TakesPiece, traced};
 
 use crate::lines::{close, write_verdicts};
-use crate::pieces::Judge;
+use crate::pieces::{Judge, buffer_of};
 use crate::plans::plan_of;
 use crate::traces::Input;
 use crate::{EngineFault, Status};
@@ -127,21 +127,24 @@ impl Judge for Replaying {
 }
 
 /// Replays a trace that stands alone, on a plan.
+#[inline(never)]
 fn replay_trace<R: Read, W: Write>(
     alloc: Global,
     plan: Plan,
+    buffer: &mut [u8],
     trace: &mut R,
     out: &mut W,
 ) -> Result<Status, Fault>
+    requires room { length buffer.old ≡ 69632 }
     ensures { ReplaysInput
         (streams (R.remaining trace.old) (R.remaining trace.new)
         (W.contents out.old) (W.contents out.new))
         plan (traced result) }
 {
     let mut input = Input::new(alloc);
-    let version = input.begin(trace)?;
+    let version = input.begin(buffer, trace)?;
     let mut replay = Replaying::new(Bus::new(plan, version));
-    input.read_on(&mut replay, trace, out)
+    input.read_on(&mut replay, buffer, trace, out)
 }
 
 /// Replays a trace on the plan of a scenario.
@@ -150,7 +153,7 @@ fn replay_trace<R: Read, W: Write>(
 /// `accepted A refused R`. It makes at most 16,777,216 reads. Where one gave fewer bytes than were asked for, the writer
 /// hands on what it holds back before the next.
 ///
-/// Errors: F2 and the faults of the scenario, before anything is read or written; those of the trace, after the
+/// Errors: F2, the faults of the scenario and F3, before anything is read or written; those of the trace, after the
 /// verdicts on the edges before them; X8 where the output cannot be written.
 pub fn replay<R: Read, W: Write>(
     alloc: Global,
@@ -160,10 +163,11 @@ pub fn replay<R: Read, W: Write>(
 ) -> Result<Status, EngineFault>
     ensures { let s = streams (R.remaining trace.old) (R.remaining trace.new)
         (W.contents out.old) (W.contents out.new) in
-        Lent scenario.now (ReadNothing s × WroteNothing s) (ReplaysInput s) result }
+        LentAsking scenario.now (ReadNothing s × WroteNothing s) (ReplaysInput s) result }
 {
     let plan = plan_of(alloc, scenario)?;
-    match replay_trace(alloc, plan, trace, out) {
+    let mut buffer = buffer_of(alloc)?;
+    match replay_trace(alloc, plan, &mut buffer, trace, out) {
         Ok(status) => Ok(status),
         Err(fault) => Err(EngineFault::Trace(fault)),
     }

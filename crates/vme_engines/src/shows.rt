@@ -5,7 +5,7 @@ ghost use Rattle.vme_model.specs.declared.signals.Edge.{Edge as EdgeValue};
 ghost use Rattle.vme_model.specs.Verdict.{State};
 ghost use Rattle.vme_trace.specs.Writing.{AppendsFront};
 ghost use Rattle.vme_engines.specs.Streams.{streams, ReadNothing, WroteNothing};
-ghost use Rattle.vme_engines.specs.Outcomes.{Lent};
+ghost use Rattle.vme_engines.specs.Outcomes.{LentAsking};
 ghost use Rattle.vme_engines.specs.Showing.{ShowsInput};
 ghost use Rattle.vme_engines.specs.Stretches.{IsStretch};
 ghost use Rattle.vme_engines.specs.Shown.{Ends, EndsStretch, GoesOn, IsBefore, IsFresh, IsShown, ShowsPiece, status_to, stretch_text};
@@ -14,7 +14,7 @@ ghost use Rattle.std.proofs.Common.{arith};
 ghost use Rattle.std.proofs.KnownBytes.{Keeps-refl};
 
 use crate::following::{Told, answer_of};
-use crate::pieces::Judge;
+use crate::pieces::{Judge, buffer_of};
 use crate::plans::plan_of;
 use crate::replays::status_of;
 use crate::traces::Input;
@@ -249,13 +249,16 @@ impl Judge for Showing {
 }
 
 /// Shows a stretch of a trace that stands alone, on a plan.
+#[inline(never)]
 fn show_trace<R: Read, W: Write>(
     alloc: Global,
     plan: Plan,
+    buffer: &mut [u8],
     trace: &mut R,
     stretch: Stretch,
     out: &mut W,
 ) -> Result<Told, Fault>
+    requires room { length buffer.old ≡ 69632 }
     requires stretch { IsStretch stretch }
     ensures { ShowsInput stretch.from stretch.to stretch.color
         (streams (R.remaining trace.old) (R.remaining trace.new)
@@ -263,9 +266,9 @@ fn show_trace<R: Read, W: Write>(
         plan (told_answer result) }
 {
     let mut input = Input::new(alloc);
-    let version = input.begin(trace)?;
+    let version = input.begin(buffer, trace)?;
     let mut showing = Showing::new(Bus::new(plan, version), stretch);
-    input.read_on(&mut showing, trace, out)
+    input.read_on(&mut showing, buffer, trace, out)
 }
 
 /// Shows the edges with the numbers `from` to `to` of a trace, on the plan of a scenario, as a picture: a row for each wire
@@ -275,7 +278,7 @@ fn show_trace<R: Read, W: Write>(
 /// delivery green. The status is `SomeRefused` where an edge up to the last of them is refused, and else `Done`. After
 /// that edge it judges none. It makes at most 16,777,216 reads.
 ///
-/// Errors: F2 and the faults of the scenario, before anything is read or written; those of the trace up to the edge
+/// Errors: F2, the faults of the scenario and F3, before anything is read or written; those of the trace up to the edge
 /// `to`, after the picture of the edges before them; X9 where a trace without fault has fewer than `from` edges: then
 /// nothing is written; X8 where the output cannot be written.
 pub fn show<R: Read, W: Write>(
@@ -292,9 +295,17 @@ pub fn show<R: Read, W: Write>(
     requires few { to < from + 200 }
     ensures { let s = streams (R.remaining trace.old) (R.remaining trace.new)
         (W.contents out.old) (W.contents out.new) in
-        Lent scenario.now (ReadNothing s × WroteNothing s) (ShowsInput from to color s) result }
+        LentAsking scenario.now (ReadNothing s × WroteNothing s) (ShowsInput from to color s) result }
 {
     let plan = plan_of(alloc, scenario)?;
+    let mut buffer = buffer_of(alloc)?;
     let stretch = Stretch { from, to, color };
-    answer_of(show_trace(alloc, plan, trace, stretch, out))
+    answer_of(show_trace(
+        alloc,
+        plan,
+        &mut buffer,
+        trace,
+        stretch,
+        out,
+    ))
 }

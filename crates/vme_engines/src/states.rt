@@ -4,7 +4,7 @@ ghost use Rattle.std.specs.Io.KnownBytes.{Appends};
 ghost use Rattle.vme_model.specs.Stands.{stands_text};
 ghost use Rattle.vme_trace.specs.Writing.{AppendsFront};
 ghost use Rattle.vme_engines.specs.Streams.{streams, ReadNothing, WroteNothing};
-ghost use Rattle.vme_engines.specs.Outcomes.{Lent};
+ghost use Rattle.vme_engines.specs.Outcomes.{LentAsking};
 ghost use Rattle.vme_engines.specs.Stating.{StatesInput};
 ghost use Rattle.vme_engines.specs.Followed.{EndsBehind, StatesPiece, told_answer};
 ghost use Rattle.vme_reasons.specs.Traced.{OfTrace};
@@ -12,7 +12,7 @@ ghost use Rattle.std.proofs.Common.{arith};
 ghost use Rattle.std.proofs.KnownBytes.{Keeps-refl};
 
 use crate::following::{Following, Told, answer_of};
-use crate::pieces::Judge;
+use crate::pieces::{Judge, buffer_of};
 use crate::plans::plan_of;
 use crate::traces::Input;
 use crate::{EngineFault, Status};
@@ -127,23 +127,26 @@ impl Judge for Stating {
 }
 
 /// Tells where the bus stands after a trace that stands alone, on a plan.
+#[inline(never)]
 fn state_trace<R: Read, W: Write>(
     alloc: Global,
     plan: Plan,
+    buffer: &mut [u8],
     trace: &mut R,
     after: Option<u64>,
     out: &mut W,
 ) -> Result<Told, Fault>
+    requires room { length buffer.old ≡ 69632 }
     ensures { StatesInput after
         (streams (R.remaining trace.old) (R.remaining trace.new)
         (W.contents out.old) (W.contents out.new))
         plan (told_answer result) }
 {
     let mut input = Input::new(alloc);
-    let version = input.begin(trace)?;
+    let version = input.begin(buffer, trace)?;
     let following = Following::new(Bus::new(plan, version));
     let mut state = Stating::new(following, after);
-    input.read_on(&mut state, trace, out)
+    input.read_on(&mut state, buffer, trace, out)
 }
 
 /// Tells where the bus stands after the first `after` edges of a trace, or after all, on the plan of a scenario.
@@ -152,7 +155,7 @@ fn state_trace<R: Read, W: Write>(
 /// interrupts are pending, which wires are low and which edges are open. The status is `Done`. Behind the first `after`
 /// edges it judges none. It makes at most 16,777,216 reads.
 ///
-/// Errors: F2 and the faults of the scenario, before anything is read or written; those of the trace up to that
+/// Errors: F2, the faults of the scenario and F3, before anything is read or written; those of the trace up to that
 /// place, and X9 where a trace without fault ends before it: then nothing is written; X8 where the output cannot be
 /// written.
 pub fn state<R: Read, W: Write>(
@@ -164,8 +167,16 @@ pub fn state<R: Read, W: Write>(
 ) -> Result<Status, EngineFault>
     ensures { let s = streams (R.remaining trace.old) (R.remaining trace.new)
         (W.contents out.old) (W.contents out.new) in
-        Lent scenario.now (ReadNothing s × WroteNothing s) (StatesInput after s) result }
+        LentAsking scenario.now (ReadNothing s × WroteNothing s) (StatesInput after s) result }
 {
     let plan = plan_of(alloc, scenario)?;
-    answer_of(state_trace(alloc, plan, trace, after, out))
+    let mut buffer = buffer_of(alloc)?;
+    answer_of(state_trace(
+        alloc,
+        plan,
+        &mut buffer,
+        trace,
+        after,
+        out,
+    ))
 }

@@ -8,7 +8,7 @@ ghost use Rattle.vme_tallies.specs.Tally.{answered, refused};
 ghost use Rattle.vme_tallies.specs.Tallied.{IsTallyOf};
 ghost use Rattle.vme_tallies.specs.Summary.{summary_text};
 ghost use Rattle.vme_engines.specs.Streams.{streams, ReadNothing, WroteNothing};
-ghost use Rattle.vme_engines.specs.Outcomes.{Lent, status_with};
+ghost use Rattle.vme_engines.specs.Outcomes.{LentAsking, status_with};
 ghost use Rattle.vme_engines.specs.Steps.{traced};
 ghost use Rattle.vme_engines.specs.Summing.{SumsInput};
 ghost use Rattle.vme_engines.specs.Summed.{IsSumOf, OfSum, SumsPiece};
@@ -17,7 +17,7 @@ ghost use Rattle.std.proofs.KnownBytes.{Keeps-refl};
 ghost use Rattle.vme_model.specs.declared.signals.Edge.{Edge as EdgeValue};
 
 use crate::following::Following;
-use crate::pieces::Judge;
+use crate::pieces::{Judge, buffer_of};
 use crate::plans::plan_of;
 use crate::replays::status_of;
 use crate::traces::Input;
@@ -145,22 +145,25 @@ impl Judge for Summing {
 }
 
 /// Sums up a trace that stands alone, on a plan.
+#[inline(never)]
 fn summary_of_trace<R: Read, W: Write>(
     alloc: Global,
     plan: Plan,
+    buffer: &mut [u8],
     trace: &mut R,
     out: &mut W,
 ) -> Result<Status, Fault>
+    requires room { length buffer.old ≡ 69632 }
     ensures { SumsInput
         (streams (R.remaining trace.old) (R.remaining trace.new)
         (W.contents out.old) (W.contents out.new))
         plan (traced result) }
 {
     let mut input = Input::new(alloc);
-    let version = input.begin(trace)?;
+    let version = input.begin(buffer, trace)?;
     let following = Following::new(Bus::new(plan, version));
     let mut summing = Summing::new(following);
-    input.read_on(&mut summing, trace, out)
+    input.read_on(&mut summing, buffer, trace, out)
 }
 
 /// Sums a trace up, on the plan of a scenario.
@@ -170,7 +173,7 @@ fn summary_of_trace<R: Read, W: Write>(
 /// it, and how many cycles and answers it made. The status is that of a replay. It makes at most
 /// 16,777,216 reads.
 ///
-/// Errors: F2 and the faults of the scenario, before anything is read or written; those of the
+/// Errors: F2, the faults of the scenario and F3, before anything is read or written; those of the
 /// trace, and then nothing is written; X8 where the output cannot be written.
 pub fn summary<R: Read, W: Write>(
     alloc: Global,
@@ -180,10 +183,11 @@ pub fn summary<R: Read, W: Write>(
 ) -> Result<Status, EngineFault>
     ensures { let s = streams (R.remaining trace.old) (R.remaining trace.new)
         (W.contents out.old) (W.contents out.new) in
-        Lent scenario.now (ReadNothing s × WroteNothing s) (SumsInput s) result }
+        LentAsking scenario.now (ReadNothing s × WroteNothing s) (SumsInput s) result }
 {
     let plan = plan_of(alloc, scenario)?;
-    match summary_of_trace(alloc, plan, trace, out) {
+    let mut buffer = buffer_of(alloc)?;
+    match summary_of_trace(alloc, plan, &mut buffer, trace, out) {
         Ok(status) => Ok(status),
         Err(fault) => Err(EngineFault::Trace(fault)),
     }

@@ -7,7 +7,7 @@ ghost use Rattle.vme_tallies.specs.Tally.{refused};
 ghost use Rattle.vme_tallies.specs.Summed.{OfSums};
 ghost use Rattle.vme_tallies.specs.Sums.{sums_text, total};
 ghost use Rattle.vme_engines.specs.Added.{TalliesInput, TalliesPiece};
-ghost use Rattle.vme_engines.specs.Outcomes.{Lent, status_with};
+ghost use Rattle.vme_engines.specs.Outcomes.{Lent, LentAsking, status_with};
 ghost use Rattle.vme_engines.specs.Streams.{streams, ReadNothing};
 ghost use Rattle.vme_engines.specs.Summed.{IsSumOf};
 ghost use Rattle.vme_engines.specs.Totals.{AddsInput, Tells};
@@ -15,7 +15,7 @@ ghost use Rattle.std.proofs.Common.{append-nil, arith, subst, sym};
 ghost use Rattle.vme_model.specs.declared.signals.Edge.{Edge as EdgeValue};
 
 use crate::following::Following;
-use crate::pieces::Judge;
+use crate::pieces::{Judge, buffer_of};
 use crate::plans::plan_of;
 use crate::replays::status_of;
 use crate::summaries::Summing;
@@ -84,17 +84,24 @@ impl Judge for Tallying {
 }
 
 /// What the edges of a trace that stands alone come to, on a plan.
-fn tally_of_trace<R: Read>(alloc: Global, plan: Plan, trace: &mut R) -> Result<Tally, Fault>
+#[inline(never)]
+fn tally_of_trace<R: Read>(
+    alloc: Global,
+    plan: Plan,
+    buffer: &mut [u8],
+    trace: &mut R,
+) -> Result<Tally, Fault>
+    requires room { length buffer.old ≡ 69632 }
     ensures { TalliesInput (streams (R.remaining trace.old) (R.remaining trace.new) None None)
         plan result }
 {
     let mut input = Input::new(alloc);
-    let version = input.begin(trace)?;
+    let version = input.begin(buffer, trace)?;
     let following = Following::new(Bus::new(plan, version));
     let mut tallying = Tallying {
         summing: Summing::new(following),
     };
-    input.read_on(&mut tallying, trace, &mut sink())
+    input.read_on(&mut tallying, buffer, trace, &mut sink())
 }
 
 /// Adds what a trace comes to, on the plan of a scenario, to the sums of those before it.
@@ -102,7 +109,7 @@ fn tally_of_trace<R: Read>(alloc: Global, plan: Plan, trace: &mut R) -> Result<T
 /// The trace begins at power-up, whatever was added before. The status says whether some edge of it
 /// was refused. It makes at most 16,777,216 reads.
 ///
-/// Errors: F2 and the faults of the scenario, before anything is read; those of the trace.
+/// Errors: F2, the faults of the scenario and F3, before anything is read; those of the trace.
 /// Nothing is added then.
 pub fn add_trace<R: Read>(
     alloc: Global,
@@ -111,11 +118,12 @@ pub fn add_trace<R: Read>(
     sums: &mut Sums,
 ) -> Result<Status, EngineFault>
     ensures adds { let s = streams (R.remaining trace.old) (R.remaining trace.new) None None in
-        Lent scenario.now (ReadNothing s) (AddsInput s sums.old sums.new) result }
+        LentAsking scenario.now (ReadNothing s) (AddsInput s sums.old sums.new) result }
     ensures kept { IfErr result (λ _. sums.new ≡ sums.old) }
 {
     let plan = plan_of(alloc, scenario)?;
-    match tally_of_trace(alloc, plan, trace) {
+    let mut buffer = buffer_of(alloc)?;
+    match tally_of_trace(alloc, plan, &mut buffer, trace) {
         Ok(tally) => {
             sums.add(&tally);
             Ok(status_of(tally.refused()))
@@ -125,6 +133,7 @@ pub fn add_trace<R: Read>(
 }
 
 /// Writes what traces came to together, on a plan, and has the writer hand on what it holds back.
+#[inline(never)]
 fn tell<W: Write>(plan: &Plan, sums: &Sums, out: &mut W) -> Result<Status, Fault>
     ensures status { IfOk result (λ status. OfSums sums.now (λ ts.
         status ≡ status_with (total refused ts))) }

@@ -1,5 +1,5 @@
 //! The one beginning of a trace that stands alone: it is read up to its header line.
-ghost use Rattle.std.specs.Prelude.{◌≡◌, ◌≢◌, ℕ, List, Option, [], Ok, None, true, false, OnOk, IfOk, IfErr};
+ghost use Rattle.std.specs.Prelude.{◌≡◌, ◌≢◌, ℕ, List, Option, [], Ok, None, true, false, length, OnOk, IfOk, IfErr};
 ghost use Rattle.vme_model.specs.declared.signals.Version.{Version as VersionValue};
 ghost use Rattle.vme_trace.specs.Reading.{HasRead};
 ghost use Rattle.vme_engines.specs.Streams.{streams};
@@ -7,7 +7,7 @@ ghost use Rattle.vme_engines.specs.Steps.{Opens};
 ghost use Rattle.vme_engines.specs.Begun.{IsUntouched, IsReady, HasBegun, IsUnbegun, AnswersInput};
 
 use crate::pieces::{Judge, read_on};
-use crate::{PIECE, READS};
+use crate::READS;
 use std::alloc::Global;
 use std::io::{Read, Write};
 use vme_model::{Edge, Version};
@@ -38,17 +38,22 @@ impl Input {
         }
     }
 
-    /// Reads up to the header line, and gives the version that it names.
+    /// Reads up to the header line into the buffer of a piece, and gives the version that it names.
     ///
     /// Errors: those of the trace up to there.
-    pub(crate) fn begin<R: Read>(&mut self, trace: &mut R) -> Result<Version, Fault>
-        requires { IsUntouched self.old }
+    pub(crate) fn begin<R: Read>(
+        &mut self,
+        buffer: &mut [u8],
+        trace: &mut R,
+    ) -> Result<Version, Fault>
+        requires room { length buffer.old ≡ 69632 }
+        requires untouched { IsUntouched self.old }
         ensures ready { OnOk result (IsReady self.new) }
         ensures begun { IfOk result (λ version.
             HasBegun (R.remaining trace.old) (R.remaining trace.new) version self.new) }
         ensures unbegun { IfErr result (IsUnbegun (R.remaining trace.old) (R.remaining trace.new)) }
     {
-        let (first, reads) = open(&mut self.reader, trace, &mut self.edges);
+        let (first, reads) = open(&mut self.reader, trace, &mut self.edges, buffer);
         self.first = first;
         self.reads = reads;
         match self.reader.version() {
@@ -64,9 +69,11 @@ impl Input {
     pub(crate) fn read_on<J: Judge, R: Read, W: Write>(
         &mut self,
         judge: &mut J,
+        buffer: &mut [u8],
         trace: &mut R,
         out: &mut W,
     ) -> Result<J::Answer, Fault>
+        requires room { length buffer.old ≡ 69632 }
         requires ready { IsReady self.old }
         requires begun { J.count judge.old ≡ 0 }
         ensures { (from : Option (List ℕ)) (version : VersionValue)
@@ -81,6 +88,7 @@ impl Input {
             &mut self.edges,
             self.first,
             self.reads,
+            buffer,
             trace,
             out,
         )
@@ -94,15 +102,16 @@ fn open<R: Read>(
     reader: &mut Reader,
     input: &mut R,
     edges: &mut Vec<Edge>,
+    buffer: &mut [u8],
 ) -> (Result<bool, Fault>, u32)
+    requires room { length buffer.old ≡ 69632 }
     requires reader { HasRead reader.old [] [] }
     requires empty { edges.old.items ≡ [] }
     ensures { Opens (R.remaining input.old) (R.remaining input.new)
         reader.new edges.new.items result }
 {
-    let mut buffer = [0u8; PIECE];
     'reads: for done in 0..READS {
-        let more = pump_with(reader, input, edges, &mut buffer);
+        let more = pump_with(reader, input, edges, buffer);
         if is_settled(more, reader) {
             return (more, READS - 1 - done);
         }

@@ -16,7 +16,7 @@ use Rattle.vme_tallies.specs.Summed.{AreSumsOf, OfSums}
 use Rattle.vme_engines.specs.declared.Status.{Status}
 use Rattle.vme_engines.specs.declared.EngineFault.TheVariants as fault
 use Rattle.vme_engines.specs.Streams.{ReadNothing, streams}
-use Rattle.vme_engines.specs.Outcomes.{Answer, Lent}
+use Rattle.vme_engines.specs.Outcomes.{Answer, Lent, LentAsking}
 use Rattle.vme_engines.specs.Totals.{AddsInput, IsWhole, Tells}
 use Rattle.vme_words.specs.declared.Job.{Job}
 use Rattle.vme_words.specs.Asked.{texts_of}
@@ -40,7 +40,7 @@ plan_is r p q one two = ap (plan_or p) (sym one ∙ two)
 -- ---- one more file
 
 pub file_done : (text : List ℕ) (scenario trace : Bor (List ℕ)) (old new : Added) (from to : Known) (answer : Answer)
-    → Lent text (ReadNothing (streams from to None None)) (AddsInput (streams from to None None) old new) answer
+    → LentAsking text (ReadNothing (streams from to None None)) (AddsInput (streams from to None None) old new) answer
     → AddsFile text scenario trace old new (told_trace_answer scenario trace answer)
 file_done text scenario trace old new from to (Ok status) h = (h.0, h.2, h.3.0, h.3.2.0, h.3.2.1, h.3.2.3)
 file_done text scenario trace old new from to (Err fault.CannotRead) h = absurd h

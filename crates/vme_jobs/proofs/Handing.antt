@@ -10,7 +10,7 @@ use Rattle.vme_trace.specs.declared.Fault.{Fault}
 use Rattle.vme_engines.specs.declared.Status.{Status}
 use Rattle.vme_engines.specs.declared.EngineFault.TheVariants as fault
 use Rattle.vme_engines.specs.Streams.{Streams, ReadNothing, WroteNothing, streams}
-use Rattle.vme_engines.specs.Outcomes.{Answer, Lent}
+use Rattle.vme_engines.specs.Outcomes.{Answer, Lent, LentAsking}
 use Rattle.vme_engines.specs.Driving.{Drives}
 use Rattle.vme_engines.specs.Drawing.{Draws}
 use Rattle.vme_engines.specs.Found.{Found, Finds, found_answer}
@@ -44,7 +44,7 @@ joined_done name from to old new answer does =
 
 -- an engine on a scenario and a trace
 pub on_trace : (Stops : List ℕ → Fault → Type 0) (Ends : Streams → Plan → Answer → Type 0) (name : Bor (List ℕ)) (text : List ℕ) (from to old new : Known) (answer : Answer)
-    → Lent text (ReadNothing (streams from to old new) × WroteNothing (streams from to old new)) (Ends (streams from to old new)) answer
+    → LentAsking text (ReadNothing (streams from to old new) × WroteNothing (streams from to old new)) (Ends (streams from to old new)) answer
     → Hands (Alone (OnTrace Ends old new)) Stops (Keeps old new) (told_answer name answer)
 on_trace Stops Ends name text from to old new answer does =
     handed Stops (OnTrace Ends old new) (Keeps old new) name answer (text, from, to, does) (λ h. absurd h.3) (λ h. h.3.1.1)

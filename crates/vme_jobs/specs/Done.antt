@@ -10,7 +10,7 @@ use Rattle.vme_engines.specs.declared.Status.{Status}
 use Rattle.vme_engines.specs.declared.Status.TheVariants as ends
 use Rattle.vme_engines.specs.declared.EngineFault.TheVariants as fault
 use Rattle.vme_engines.specs.Streams.{Streams, ReadNothing, WroteNothing, streams}
-use Rattle.vme_engines.specs.Outcomes.{Answer, Lent, ReplaysInput}
+use Rattle.vme_engines.specs.Outcomes.{Answer, Lent, LentAsking, ReplaysInput}
 use Rattle.vme_engines.specs.Checking.{ChecksInput}
 use Rattle.vme_engines.specs.Explaining.{ExplainsInput}
 use Rattle.vme_engines.specs.Stating.{StatesInput}
@@ -45,7 +45,7 @@ Alone Ends (Err _) = ⊥
 abbrev pub OnTrace : (Streams → Plan → Answer → Type 0) → Known → Known → Answer → Type 0
 OnTrace Ends old new answer = (text : List ℕ) × (from : Known) × (to : Known)
     × (let s = streams from to old new in
-    Lent text (ReadNothing s × WroteNothing s) (Ends s) answer)
+    LentAsking text (ReadNothing s × WroteNothing s) (Ends s) answer)
 
 -- the line of the program's version is written, at X8 a prefix of it
 abbrev pub TellsVersion : Known → Known → Answer → Type 0

@@ -14,8 +14,8 @@ use vme_trace::Patient;
 /// How many bytes are read at once of an input that is read in small pieces.
 const READ: usize = 65_536;
 
-/// How many bytes are written at once: so many that no write of a long report is shorter than 262,144, since an engine
-/// hands on up to 8,192 bytes of it.
+/// How many bytes are written at once: so many that a write of a long report is no shorter than 262,144, since an engine
+/// puts in up to 8,192 bytes of it, but for those behind a piece that ends with a whole line.
 const WRITTEN: usize = 270_336;
 
 /// Opens a file. Errors: F1 where it does not open.

@@ -15,7 +15,7 @@ use Rattle.vme_model.specs.Report.{at_power_up}
 use Rattle.vme_trace.specs.Writing.{AppendsFront}
 use Rattle.vme_engines.specs.declared.Status.{Status}
 use Rattle.vme_engines.specs.declared.EngineFault.TheVariants as fault
-use Rattle.vme_engines.proofs.FirstReads.{no_plan}
+use Rattle.vme_engines.proofs.FirstReads.{no_plan_asking}
 use Rattle.vme_run.specs.declared.RunFault.{RunFault}
 use Rattle.vme_run.specs.declared.RunFault.TheVariants.{Engine, NotStarted, LogDiffers, NotReplayed}
 use Rattle.vme_run.specs.Running.{IsMade, IsRun, AreHandedBack, HasOtherLogs, RunsOn, Runs}
@@ -74,7 +74,7 @@ played_again version p n turns opened closed b first played made =
 
 -- nothing, where there is no plan
 pub not_read : (lent : List ℕ) (version : Version) (n turns : ℕ) (old : Option (List ℕ)) (f : RunFault) → IsUnread lent f → Runs lent version n turns old old (Err f)
-not_read lent version n turns old (Engine f) none = no_plan lent (Keeps old old) (RunsOn version n turns old old) f none (Keeps-refl _)
+not_read lent version n turns old (Engine f) none = no_plan_asking lent (Keeps old old) (RunsOn version n turns old old) f none (Keeps-refl _)
 not_read lent version n turns old NotStarted none = absurd none
 not_read lent version n turns old (LogDiffers driver at) none = absurd none
 not_read lent version n turns old (NotReplayed at) none = absurd none

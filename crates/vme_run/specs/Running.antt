@@ -16,7 +16,7 @@ use Rattle.vme_trace.specs.Writing.{AppendsFront}
 use Rattle.vme_engines.specs.declared.Status.{Status}
 use Rattle.vme_engines.specs.declared.Status.TheVariants.{Done, Limit}
 use Rattle.vme_engines.specs.declared.EngineFault.TheVariants as fault
-use Rattle.vme_engines.specs.Outcomes.{Answer, Lent, scenario_limit}
+use Rattle.vme_engines.specs.Outcomes.{Answer, LentAsking, scenario_limit}
 use Rattle.vme_lock.specs.Closing.{FirstDiffers}
 use Rattle.vme_run.specs.declared.RunFault.{RunFault}
 use Rattle.vme_run.specs.declared.RunFault.TheVariants.{Engine, NotStarted, LogDiffers, NotReplayed}
@@ -74,9 +74,9 @@ RunAnswer = Result Status RunFault
 -- it is read, and the drivers of its plan ran, or found no memory (F3, L3).
 abbrev pub Runs : List ℕ → Version → ℕ → ℕ → Option (List ℕ) → Option (List ℕ) → RunAnswer → Type 0
 Runs lent version n turns old new (Ok status) =
-    Lent lent (Keeps old new) (RunsOn version n turns old new) (Ok status)
+    LentAsking lent (Keeps old new) (RunsOn version n turns old new) (Ok status)
 Runs lent version n turns old new (Err (Engine f)) =
-    Lent lent (Keeps old new) (RunsOn version n turns old new) (Err f)
+    LentAsking lent (Keeps old new) (RunsOn version n turns old new) (Err f)
 Runs lent version n turns old new (Err NotStarted) = OfPlan lent (λ p. Keeps old new)
 Runs lent version n turns old new (Err (LogDiffers driver at)) =
     OfPlan lent (λ p. HasOtherLogs version n turns p driver at × Keeps old new)

@@ -42,7 +42,7 @@ take-requires-in-reads g c =
       count = omega (arith, same, c.pump_counted-more.new.edges.small, c.pump_counted-more.new.edges.ok.0, c.pump_counted-more.new.edges.ok.1);
       well_formed = rw c.deref-in-reads.ensures.value
           (let counted = c.reads.invariant.counted in
-          let size : length c.reads.buffer ≡ 69632 = omega arith in
+          let size : length c.reads.buffer ≡ 69632 = omega (arith, c.reads.auto.buffer, c.requires.room) in
           formed_piece _ _ counted.bytes c.pump_counted-more.new.reader counted.es c.pump_counted-more.new.edges.items c.pump_counted-more.result.0 (rw (c.clear.ensures.items, size) at (c.pump_counted-more.ensures.reads counted.bytes counted.es counted.read)));
     }
 
@@ -52,7 +52,7 @@ returns-in_err-answer-2 g c =
     let e = err_from_is_err_and c.from_residual-in_err-answer-2.result c.from_residual-in_err-answer-2.ensures.1 in
     let one_less : c.args.reads - c.reads.counter ≡ (c.args.reads - (c.reads.counter + 1)) + 1 = omega arith in
     let r = subst (IsUnderWay (g.J.Judge.takes c.args.judge.now) version text head from _ _ _ c.reads.judge c.reads.reader) one_less (c.reads.invariant.under_way version from text head known came_first) in
-    let size : length c.reads.buffer ≡ 69632 = omega arith in
+    let size : length c.reads.buffer ≡ 69632 = omega (arith, c.reads.auto.buffer, c.requires.room) in
     let h = rw (c.clear.ensures.items, size) at (c.pump_counted-more.ensures.reads (head ++ r.reading.later) r.es r.reading.read) in
     let next = came text head from _ _ _ _ _ r.es _ r.reading c.pump_counted-more.result.0 h in
     let stays = stays_known text head from _ _ _ _ _ r.es _ r.reading version r.known c.pump_counted-more.result.0 h in
@@ -64,7 +64,7 @@ returns-in-Some-2 g c =
     λ version from text head known came_first.
     let one_less : c.args.reads - c.reads.counter ≡ (c.args.reads - (c.reads.counter + 1)) + 1 = omega arith in
     let r = subst (IsUnderWay (g.J.Judge.takes c.args.judge.now) version text head from _ _ _ c.reads.judge c.reads.reader) one_less (c.reads.invariant.under_way version from text head known came_first) in
-    let size : length c.reads.buffer ≡ 69632 = omega arith in
+    let size : length c.reads.buffer ≡ 69632 = omega (arith, c.reads.auto.buffer, c.requires.room) in
     let h = rw (c.clear.ensures.items, size) at (c.pump_counted-more.ensures.reads (head ++ r.reading.later) r.es r.reading.read) in
     let next = came text head from _ _ _ _ _ r.es _ r.reading c.pump_counted-more.result.0 h in
     let stays = stays_known text head from _ _ _ _ _ r.es _ r.reading version r.known c.pump_counted-more.result.0 h in
@@ -77,14 +77,14 @@ reads-preserved g c =
     let counted = subst (λ (n : ℕ). IsCounted c.reads.reader n (g.J.Judge.count c.reads.judge)) less c.reads.invariant.counted in
     let here = rw (c.deref-in-reads.ensures.value, c.in-None-2.is) at (c.in_ok-answer-2.ensures c.reads.judge [] (g.W.Write.contents c.reads.out) (g.met.J.Judge.begins c.reads.judge (g.W.Write.contents c.reads.out))) in
     let grown = g.met.J.Judge.goes_on c.reads.judge c.pump_counted-more.new.edges.items c.pump_counted-more.result.0 _ _ c.take-in-reads.new.self here in
-    let size : length c.reads.buffer ≡ 69632 = omega arith in
+    let size : length c.reads.buffer ≡ 69632 = omega (arith, c.reads.auto.buffer, c.requires.room) in
     let went = rw (c.clear.ensures.items, grown.0, size) at (c.pump_counted-more.ensures.reads counted.bytes counted.es counted.read) in
     record {
       counted = rw grown.1 (counted_more _ _ _ _ (c.args.reads - (c.reads.counter + 1)) (g.J.Judge.count c.reads.judge) _ counted went);
       under_way = λ version from text head known came_first.
           let one_less : c.args.reads - c.reads.counter ≡ (c.args.reads - (c.reads.counter + 1)) + 1 = omega arith in
           let r = subst (IsUnderWay (g.J.Judge.takes c.args.judge.now) version text head from _ _ _ c.reads.judge c.reads.reader) one_less (c.reads.invariant.under_way version from text head known came_first) in
-          let size : length c.reads.buffer ≡ 69632 = omega arith in
+          let size : length c.reads.buffer ≡ 69632 = omega (arith, c.reads.auto.buffer, c.requires.room) in
           let h = rw (c.clear.ensures.items, size) at (c.pump_counted-more.ensures.reads (head ++ r.reading.later) r.es r.reading.read) in
           let next = came text head from _ _ _ _ _ r.es _ r.reading c.pump_counted-more.result.0 h in
           let stays = stays_known text head from _ _ _ _ _ r.es _ r.reading version r.known c.pump_counted-more.result.0 h in
