@@ -10,8 +10,6 @@ import trees
 import verdicts
 from outcomes import Outcome
 
-# The most batches that one copy of a crate checks one after another, so that several copies share a large crate.
-LENGTH = 6
 CHECKED = re.compile(r"checked (\S+), \d+ of \d+")
 
 
@@ -55,24 +53,17 @@ class Edits:
         """The functions at which the edits of a batch have to be refused."""
         return {path for it in batch for path in self.reach[it].own}
 
-    def shares(self):
-        """The batches, in shares that can be tried side by side."""
-        batches = self.batches()
-        number = -(-len(batches) // LENGTH)
-        return [batches[it::number] for it in range(number)]
-
 
 class Trial:
-    """A share of a crate's batches. What their edits leave as it is, is proved once, as far as they need it."""
+    """A crate's batches, one after another in one copy: to prove what they leave as it is costs as much as they do, and so is done once."""
 
-    def __init__(self, edits, number, share, room, logs):
-        self.edits, self.share, self.name, self.logs = edits, share, edits.name, logs
-        self.label, self.folder = f"{edits.name}-{number}", f"{room}/{edits.name}-{number}"
+    def __init__(self, edits, room, logs):
+        self.edits, self.name, self.logs, self.folder = edits, edits.name, logs, f"{room}/{edits.name}"
 
     def outcomes(self, prover):
         """Tries all edits, and yields each with what came of it."""
-        for number, batch in enumerate(self.share):
-            yield from self.try_batch(prover, batch, f"{self.label}-{number}")
+        for number, batch in enumerate(self.edits.batches()):
+            yield from self.try_batch(prover, batch, f"{self.name}-{number}")
         shutil.rmtree(self.folder)
 
     def try_batch(self, prover, batch, label):
