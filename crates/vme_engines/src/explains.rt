@@ -196,12 +196,5 @@ pub fn explain<R: Read, W: Write>(
 {
     let plan = plan_of(alloc, scenario)?;
     let mut buffer = buffer_of(alloc)?;
-    answer_of(explain_trace(
-        alloc,
-        plan,
-        &mut buffer,
-        trace,
-        edge,
-        out,
-    ))
+    answer_of(explain_trace(alloc, plan, &mut buffer, trace, edge, out))
 }

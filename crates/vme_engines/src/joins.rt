@@ -200,16 +200,7 @@ fn replay_behind<R: Read, W: Write>(
     let text = front.into_text();
     let plan = plan_of(alloc, &text)?;
     let mut buffer = buffer_of(alloc)?;
-    match replay_rest(
-        alloc,
-        plan,
-        version,
-        rest,
-        reads,
-        &mut buffer,
-        input,
-        out,
-    ) {
+    match replay_rest(alloc, plan, version, rest, reads, &mut buffer, input, out) {
         Ok(status) => Ok(status),
         Err(fault) => Err(EngineFault::Trace(fault)),
     }

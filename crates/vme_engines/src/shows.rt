@@ -300,12 +300,5 @@ pub fn show<R: Read, W: Write>(
     let plan = plan_of(alloc, scenario)?;
     let mut buffer = buffer_of(alloc)?;
     let stretch = Stretch { from, to, color };
-    answer_of(show_trace(
-        alloc,
-        plan,
-        &mut buffer,
-        trace,
-        stretch,
-        out,
-    ))
+    answer_of(show_trace(alloc, plan, &mut buffer, trace, stretch, out))
 }

@@ -171,12 +171,5 @@ pub fn state<R: Read, W: Write>(
 {
     let plan = plan_of(alloc, scenario)?;
     let mut buffer = buffer_of(alloc)?;
-    answer_of(state_trace(
-        alloc,
-        plan,
-        &mut buffer,
-        trace,
-        after,
-        out,
-    ))
+    answer_of(state_trace(alloc, plan, &mut buffer, trace, after, out))
 }

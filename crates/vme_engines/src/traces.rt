@@ -6,8 +6,8 @@ ghost use Rattle.vme_engines.specs.Streams.{streams};
 ghost use Rattle.vme_engines.specs.Steps.{Opens};
 ghost use Rattle.vme_engines.specs.Begun.{IsUntouched, IsReady, HasBegun, IsUnbegun, AnswersInput};
 
-use crate::pieces::{Judge, read_on};
 use crate::READS;
+use crate::pieces::{Judge, read_on};
 use std::alloc::Global;
 use std::io::{Read, Write};
 use vme_model::{Edge, Version};
