@@ -1,4 +1,4 @@
-use Rattle.vme_tests_memory.proofs.lock.run_in_rooms.Given as goal
+use Rattle.vme_tests_memory.proofs.lock.run_under.Given as goal
 
 -- the ledger of the blank, and the backplane that is opened
 abbrev pub ghosts-run_and_close-L-Ledger : goal.ghosts-run_and_close-L-Ledger
