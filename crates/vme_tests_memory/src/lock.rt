@@ -360,7 +360,15 @@ fn many_boards_many_times(rt: HostRuntime) -> Result<(), Fail> {
     for run in 0..100u8 {
         let version = if run < 50 { Version::One } else { Version::Two };
         let gate = Counts::new(true);
-        let ran = run_under(&rt, rt.alloc(), 21, version, &gate, 20, &[(AMPLE, AMPLE); 22])?;
+        let ran = run_under(
+            &rt,
+            rt.alloc(),
+            21,
+            version,
+            &gate,
+            20,
+            &[(AMPLE, AMPLE); 22],
+        )?;
         assert!(rt; is_legal(rt.alloc(), version, ran.history.as_slice())?);
         assert!(rt; logged(&ran) == ran.history.len() && logged(&ran) > 20);
         assert!(rt; logged(&ran) == gate.accepted() as usize);
