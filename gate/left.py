@@ -3,9 +3,10 @@
 
     gate/left.py FOLDER [PROCESS]..    ends these processes, too
 
-A command of the kit that is stopped while it starts another one may leave it behind, in a session of its own. What names
-the folder in its words or its environment belongs to it. That holds for all that runs with the folder as its TMPDIR, or
-below it. Each is ended by its own id, by SIGTERM, and by SIGKILL if it still runs after some seconds.
+A command of the kit that is stopped while it starts another one may leave that one behind, in a
+session of its own. A process is of the folder if its words or its environment name the folder, as
+they do if the folder is its TMPDIR. Each is ended by its own id: by SIGTERM, and by SIGKILL if it
+still runs after some seconds.
 """
 
 import os
@@ -33,11 +34,12 @@ def end(folder, others=()):
 def running(folder, others):
     """The processes of a folder that run, but for this one, and which of the others do.
 
-    A process that is begun while this looks may stand before those that were seen already, so that none is there only if a
-    second look finds none."""
+    A process that begins during a look may stand among those that were passed already. So none is
+    there only if a second look finds none."""
     mark = os.fsencode(folder)
     for _ in range(2):
-        found = {it for it, _ in ending.processes() if it in others or names(it, mark) and may_end(it)}
+        there = (it for it, _ in ending.processes())
+        found = {it for it in there if it in others or names(it, mark) and may_end(it)}
         if found:
             return found
     return set()

@@ -9,12 +9,19 @@ import time
 
 from tests import small
 
-# What plays the kit: it says how it was called, and prints a total; of the crate `endless` it leaves a process behind.
+# What plays the kit: it notes how it was called, and prints a total. Of the crate `endless` it
+# leaves a process behind when it is stopped.
 KIT = r"""#!/usr/bin/env bash
 echo "$*" >>"$CALLS"
-if [[ $2 == endless ]]; then setsid sleep 30 >/dev/null 2>&1 & sleep 0.3; touch "$CALLS.begun"; exec sleep 30; fi
+if [[ $2 == endless ]]; then
+    setsid sleep 30 >/dev/null 2>&1 &
+    sleep 0.3
+    touch "$CALLS.begun"
+    exec sleep 30
+fi
 echo "2 passed, 0 failed (1 crate)"
 """
+TOTAL = "2 passed, 0 failed (1 crate)"
 
 
 def test_all(count, room):
@@ -23,7 +30,8 @@ def test_all(count, room):
     small.lay_out(root, {})
     small.write(f"{root}/crates.txt", "# none\nnumbers:\nendless may_wait=2: numbers\n")
     shutil.copytree(f"{root}/crates/numbers", f"{root}/crates/endless")
-    shutil.copytree(small.GATE, f"{root}/gate", ignore=shutil.ignore_patterns("tests", "__pycache__"))
+    left_out = shutil.ignore_patterns("tests", "__pycache__")
+    shutil.copytree(small.GATE, f"{root}/gate", ignore=left_out)
     small.write(f"{root}/gate/singly", "")
     small.write(f"{root}/bin/rt", KIT)
     os.chmod(f"{root}/bin/rt", 0o755)
@@ -39,7 +47,8 @@ def scratch(root):
 
 def start(root, *words):
     """Starts gate/kit there, with its temporary files in a folder of their own."""
-    more = {"PATH": f"{root}/bin:{os.environ['PATH']}", "CALLS": f"{root}/calls", "TMPDIR": scratch(root)}
+    more = {"PATH": f"{root}/bin:{os.environ['PATH']}", "CALLS": f"{root}/calls"}
+    more["TMPDIR"] = scratch(root)
     how = {"text": True, "stdout": subprocess.PIPE, "stderr": subprocess.STDOUT}
     return subprocess.Popen([f"{root}/gate/kit", *words], env={**os.environ, **more}, **how)
 
@@ -62,19 +71,21 @@ def calls(root):
 
 
 def test_names(count, root):
-    """A name that is no crate is refused before anything is copied, and before it goes on by itself."""
-    for words, name in ((("numbers", "nosuch"), "nosuch"), (("--background", "number"), "number"), (("none",), "none"), (("",), "")):
+    """A name that is no crate is refused before anything is copied, also in the background."""
+    for words in (("numbers", "nosuch"), ("--background", "number"), ("none",), ("",)):
         ran = run(root, *words)
-        is_well = ran == (1, f"gate/kit: no crate {name} in crates.txt\n", "") and not os.listdir(scratch(root))
+        wanted = 1, f"gate/kit: no crate {words[-1]} in crates.txt\n", ""
+        is_well = ran == wanted and not os.listdir(scratch(root))
         count.tell(f"gate/kit {' '.join(words)}", is_well, str(ran))
 
 
 def test_help(count, root):
-    """The help says what is to be known of a call in the background, and a call without names shows it."""
+    """The help says what --background does; a call without names shows the help."""
     for words, status in ((("--help",), 0), ((), 1), (("--background",), 1)):
         ran = run(root, *words)
         said = " ".join(ran[1].split())
-        has_all = all(it in said for it in ("usage: gate/kit ", "the name of its log", "Once its last line is the total"))
+        parts = "usage: gate/kit ", "the name of its log", "Once its last line is the total"
+        has_all = all(it in said for it in parts)
         is_well = ran[0] == status and ran[2] == "" and has_all
         count.tell(f"gate/kit {' '.join(words)} shows its help", is_well, str(ran))
 
@@ -82,20 +93,22 @@ def test_help(count, root):
 def test_passes(count, root):
     """It calls the kit's gate on these crates, and ends as that does."""
     status, said, called = run(root, "numbers", "endless")
-    is_well = (status, said.splitlines()[-1], called) == (0, "2 passed, 0 failed (1 crate)", "ci numbers endless\n")
-    count.tell("crates that pass", is_well and not os.listdir(scratch(root)), f"{status} {said} {called}")
+    is_well = (status, said.splitlines()[-1], called) == (0, TOTAL, "ci numbers endless\n")
+    is_well = is_well and not os.listdir(scratch(root))
+    count.tell("crates that pass", is_well, f"{status} {said} {called}")
 
 
 def test_background(count, root):
     """In the background it names its log, whose last line is the total once it has ended."""
     status, said, _ = run(root, "--background", "numbers")
     log, end, text = said.rstrip("\n"), time.monotonic() + 20, ""
-    while not text.endswith(" (1 crate)\n") and time.monotonic() < end:
+    while not text.endswith(f"{TOTAL}\n") and time.monotonic() < end:
         time.sleep(0.05)
         with open(log, encoding="utf-8") as it:
             text = it.read()
-    is_well = status == 0 and re.fullmatch(r".*/scratch/vmebus-kit-\w+\.log", log) and calls(root) == "ci numbers\n"
-    count.tell("in the background", is_well and text.splitlines()[-1] == "2 passed, 0 failed (1 crate)", f"{status} {said} {text}")
+    is_well = status == 0 and re.fullmatch(r".*/scratch/vmebus-kit-\w+\.log", log)
+    is_well = is_well and calls(root) == "ci numbers\n" and text.splitlines()[-1] == TOTAL
+    count.tell("in the background", is_well, f"{status} {said} {text}")
     os.remove(log)
 
 
