@@ -14,7 +14,8 @@ import time
 from tests.small import GATE, write
 
 # What plays the kit: it works on vme_slow and vme_known for as many seconds as a file says, ends a function each second, and
-# keeps the files that the kit keeps. Of vme_slow it says how many functions there are, of vme_known it does not.
+# keeps the files that the kit keeps. Of vme_slow it says how many functions there are, of vme_known it does not. It may have
+# something to read first, and leave a process behind when it is stopped.
 KIT = r"""#!/usr/bin/env bash
 crate=${PWD##*/}
 echo "$crate $*" >>../../calls
@@ -23,6 +24,8 @@ if [[ ! -f seconds ]]; then exit; fi
 if [[ $crate == vme_broken ]]; then echo "error[E7]: no such name"; exit 1; fi
 seconds=$(cat seconds)
 if [[ $crate == vme_slow ]]; then echo "so far: 0 of $seconds functions checked; the verdict comes last"; fi
+if [[ -f leaves ]]; then setsid sleep 40 & fi
+if [[ -f reading ]]; then sleep "$(cat reading)"; fi
 mkdir -p out/incremental/kit
 for ((at = 1; at <= seconds; at++)); do
     sleep 1
@@ -62,13 +65,16 @@ def lay_out(root, crates=CRATES, seconds=None):
         write(f"{root}/{file}", EXAMPLE)
     write(f"{root}/bin/rt", KIT)
     os.chmod(f"{root}/bin/rt", 0o755)
-    shutil.copy(f"{os.path.dirname(GATE)}/build", f"{root}/build")
+    os.mkdir(f"{root}/gate")
+    for file in ("build", "gate/left.py", "gate/ending.py"):
+        shutil.copy(f"{os.path.dirname(GATE)}/{file}", f"{root}/{file}")
 
 
 def start(root, *words, path=None):
     """Starts ./build there."""
     how = {"text": True, "stdout": subprocess.PIPE, "stderr": subprocess.STDOUT}
-    how["env"] = {**os.environ, "PATH": path or f"{root}/bin:{os.environ['PATH']}"}
+    os.makedirs(f"{root}/scratch", exist_ok=True)
+    how["env"] = {**os.environ, "PATH": path or f"{root}/bin:{os.environ['PATH']}", "TMPDIR": f"{root}/scratch"}
     return subprocess.Popen([sys.executable, f"{root}/build", *words], **how)
 
 
@@ -91,6 +97,7 @@ def test_lines(count, room):
     the third has taken 22, 102 are expected for the program."""
     root = f"{room}/lines of a build"
     lay_out(root, seconds={"vme_slow": 22, "vme_known": 12})
+    write(f"{root}/crates/vme_known/reading", "11")
     write(f"{root}/crates/vmebus/out/build-times.json", json.dumps({"vme_known": 60, "vme_kept": 30}))
     made = start(root)
     lines, pauses = read_timed(made)
@@ -101,11 +108,13 @@ def test_lines(count, room):
     count.tell("how long it takes", lines[0] == wanted, lines[0])
     news = [match[1] for match in map(LINE.fullmatch, lines) if match]
     count.tell("no line twice", len(news) > 6 and all(one != other for one, other in zip(news, news[1:])), said)
-    counts = r"1 of 4 crates; vme_slow: ([5-9]|1\d|2[01]) of 22 functions, \d+ s.*; then about 3 min"
+    counts = r"1 of 4 crates; vme_slow: ([5-9]|1\d|2[01]) of 22 functions, \d+ s.*; then at most about 3 min"
     slow = [it for it in news if re.match(counts, it)]
     count.tell("functions of a crate", len(slow) >= 2, said)
-    known = [it for it in news if re.match(r"2 of 4 crates; vme_known: \d+ functions, \d+ s of about 60; then about 2 min", it)]
+    known = [it for it in news if re.match(r"2 of 4 crates; vme_known: \d+ functions, \d+ s of about 60; then at most about 2 min", it)]
     count.tell("the time of the last build", len(known) >= 1, said)
+    reads = [it for it in news if re.match(r"2 of 4 crates; vme_known: reads the sources, \d+ s of about 60; then at most", it)]
+    count.tell("a crate that is read", len(reads) >= 1, said)
     count.tell("a kept crate", news[0] == "1 of 4 crates; vme_kept: was proved before", said)
     count.tell("a proved crate", any(re.fullmatch(r"2 of 4 crates; vme_slow: 22 functions proved in \d+ s", it) for it in news), said)
     count.tell("the example", f"all proved; one bus tenure, as the program judges it:\n{EXAMPLE}the program is one file" in said, said)
@@ -141,7 +150,8 @@ def test_faults(count, room):
     count.tell("a wrong report", made == 1 and said.splitlines()[-1] == wanted, said)
     for word, status in (("--help", 0), ("crate", 1)):
         said, made = ended(start(root, word))
-        count.tell(f"./build {word}", made == status and said.startswith("usage: ./build ") and said.count("\n") == 1, said)
+        is_well = said.startswith("usage: ./build ") and said.count("\n") == 2 and "neither the tests nor vmebus_c" in said
+        count.tell(f"./build {word}", made == status and is_well, said)
 
 
 def ended(made):
@@ -151,17 +161,21 @@ def ended(made):
 
 
 def test_interrupts(count, room):
-    """An interrupt ends what runs, and says so in a line."""
-    for name, number in (("an interrupt", signal.SIGINT), ("a hangup", signal.SIGHUP)):
+    """A signal ends what runs, with what the kit leaves, and says so in a line; it then ends the build as it ends others."""
+    signals = ("an interrupt", signal.SIGINT), ("a request to end", signal.SIGTERM), ("a hangup", signal.SIGHUP)
+    for name, number in signals:
         root = f"{room}/{name}"
         lay_out(root, "vme_slow:\nvmebus: vme_slow\n", {"vme_slow": 50})
+        write(f"{root}/crates/vme_slow/leaves", "")
         made = start(root)
         while not os.path.exists(f"{root}/crates/vme_slow/out/incremental/kit"):
             time.sleep(0.05)
         made.send_signal(number)
         said, status = ended(made)
         wanted = "build: stopped; what was proved is kept, and ./build goes on from there"
-        count.tell(name, status == 1 and said.splitlines()[-1] == wanted and not running(root), f"{said} {running(root)}")
+        count.tell(name, status == -number and said.splitlines()[-1] == wanted, f"{status} {said}")
+        rest = running(root), os.listdir(f"{root}/scratch")
+        count.tell(f"nothing is left of {name}", not any(rest), str(rest))
 
 
 def running(root):
