@@ -53,7 +53,7 @@ enum Outcome {
 
 /// What comes of the system's answer, where there was room for so many bytes. A word of any length is
 /// asked for until it has room.
-fn outcome(answer: Result<usize, FillError>, room: usize) -> Outcome
+fn outcome_of(answer: Result<usize, FillError>, room: usize) -> Outcome
     ensures { result ≡ outcome answer room }
 {
     match answer {
@@ -69,7 +69,7 @@ fn bytes_at(rt: &HostRuntime, place: usize) -> Result<Option<Vec<u8>>, AllocErro
     for _ in 0..usize::BITS {
         let mut bytes = Vec::new(rt.alloc());
         bytes.resize(room, 0u8)?;
-        match outcome(rt.arg(place, bytes.as_mut_slice()), room) {
+        match outcome_of(rt.arg(place, bytes.as_mut_slice()), room) {
             Outcome::Word(count) => {
                 bytes.truncate(count);
                 return Ok(Some(bytes));
