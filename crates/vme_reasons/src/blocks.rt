@@ -34,13 +34,6 @@ fn verdict_line(n: u64, bus: &Bus, edge: &Edge) -> ArrayVec<u8, LINE>
     line
 }
 
-/// What is shown.
-fn shown(bus: &Bus) -> Option<Cycle>
-    ensures { result ≡ shown bus.now.plan bus.now.history }
-{
-    bus.pins(Driver::Controller).shown
-}
-
 /// The line of a condition.
 fn condition_line(bus: &Bus, edge: &Edge, tested: Tested) -> ArrayVec<u8, LINE>
     requires { IsTrue (is_well_formed edge.now) }
@@ -48,7 +41,7 @@ fn condition_line(bus: &Bus, edge: &Edge, tested: Tested) -> ArrayVec<u8, LINE>
 {
     let text = tested
         .condition
-        .text(edge, board_of(bus, edge.driver), shown(bus));
+        .text(edge, board_of(bus, edge.driver), bus.shown());
     let mut line = ArrayVec::new();
     push(&mut line, if tested.holds { b"holds " } else { b"fails " });
     push(&mut line, text.as_slice());

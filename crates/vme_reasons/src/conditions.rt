@@ -73,7 +73,7 @@ fn last_acknowledge(bus: &Bus, marks: &Marks) -> Option<Witness>
     ensures { OfTrace bus.now marks.now (λ k.
         option_to_list result ≡ last_told bus.now k) }
 {
-    let cycle = bus.pins(Driver::Controller).shown?;
+    let cycle = bus.shown()?;
     if cycle.is_acknowledge() {
         Some(last_segment(bus, marks, ChainId::Iack))
     } else {
