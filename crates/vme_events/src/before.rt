@@ -60,8 +60,7 @@ fn asked_before(bus: &Bus, marks: &Marks, driver: Driver, slot: u8) -> bool
         → result ≡ asked_before bus.now.history driver slot) }
 {
     let other = Driver::Slot(slot);
-    bus.is_low(other, Wire::Br)
-        && asked_at(bus, marks, other) < asked_at(bus, marks, driver)
+    bus.is_low(other, Wire::Br) && asked_at(bus, marks, other) < asked_at(bus, marks, driver)
 }
 
 /// Whether the driver's request is low, and another that is low is older.
@@ -110,8 +109,7 @@ fn is_pending(bus: &Bus, marks: &Marks, slot: u8, level: u8) -> bool
     let driver = Driver::Slot(slot);
     match interrupter_of(bus, driver) {
         Some(interrupter) if interrupter.level == level => {
-            bus.is_low(driver, Wire::Irq)
-                && marks.served_since(slot, interrupter.kind).is_none()
+            bus.is_low(driver, Wire::Irq) && marks.served_since(slot, interrupter.kind).is_none()
         }
         _ => false,
     }

@@ -15,7 +15,7 @@ use crate::parts::addressed;
 use crate::wires::seen;
 use arrayvec::ArrayVec;
 use vme_bus::Bus;
-use vme_model::{ChainId, Condition, Driver, Edge, Wire, Witness};
+use vme_model::{ChainId, Condition, Edge, Wire, Witness};
 
 /// Puts one more behind the others, where there is one.
 fn tell(witness: Option<Witness>, told: &mut ArrayVec<Witness, ROOM>)

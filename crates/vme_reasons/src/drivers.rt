@@ -36,8 +36,7 @@ pub(crate) fn is_pending(
     match driver {
         Driver::Controller => false,
         Driver::Slot(slot) => {
-            bus.is_low(driver, Wire::Irq)
-                && marks.served_since(slot, interrupter.kind).is_none()
+            bus.is_low(driver, Wire::Irq) && marks.served_since(slot, interrupter.kind).is_none()
         }
     }
 }
