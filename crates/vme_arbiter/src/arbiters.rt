@@ -269,14 +269,6 @@ impl<P: Policy> Arbiter<P> {
         }
     }
 
-    /// The arbiter over a policy whose controller's edges left that.
-    #[inline(always)]
-    pub fn of(policy: P, controller: Controller) -> Arbiter<P>
-        ensures { result ≡ (policy, controller) }
-    {
-        Arbiter { policy, controller }
-    }
-
     /// Whether the controller drives the wire low; only `bg0` to `bg3`, `bclr`, `iack` and `berr` are its own.
     #[inline(always)]
     pub fn is_low(&self, wire: Wire) -> bool

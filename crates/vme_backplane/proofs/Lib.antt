@@ -9,7 +9,7 @@ pub mod Alike
 -- the offers and the open edges, from those but for the end of the trace: `Backplane::offers`, `offer`,
 -- `open_edges`
 pub mod OfferChoice
--- an offer is an edge that would be accepted: `Backplane::make_offer`, `step`
+-- an offer is an edge that would be accepted: `Backplane::step`, and who makes an offer
 pub mod AcceptedOffers
 -- what an edge fails with the end of the trace, from what it fails without: `Backplane::told`, `failing`
 pub mod Failing

@@ -1,6 +1,5 @@
 //! A backplane, which takes edges one by one.
 ghost use Rattle.std.specs.Prelude.{◌≡◌, ◌==◌, ◌&&◌, ◌+◌, ◌%◌, ◌<◌, ◌≤◌, ◌↔◌, [], IfOk, IsTrue, Ok, Some, false, true, is_ok, length, slice_get};
-ghost use Rattle.std.specs.Option.{option_map_or};
 ghost use Rattle.vme_model.specs.History.{in_order};
 ghost use Rattle.vme_model.specs.Signals.{is_well_formed};
 ghost use Rattle.vme_model.specs.Verdict.{verdict, verdict_but_full, made, after, kept, IsLegal};
@@ -280,15 +279,6 @@ impl<'r> Backplane<'r> {
         self.store.push(edge);
     }
 
-    /// The same, with an arm for each wire.
-    #[inline(always)]
-    fn make_by_wire(&mut self, edge: Edge)
-        requires { verdict self.old edge ≡ Ok tt }
-        ensures { self.new ≡ made self.old edge }
-    {
-        by_wire!(edge => self.make(edge))
-    }
-
     /// Steps through all the edges, past those that are refused.
     pub fn run(&mut self, edges: &[Edge]) -> Counts
         ensures state { self.new ≡ kept self.old edges.now }
@@ -373,26 +363,6 @@ impl<'r> Backplane<'r> {
             return None;
         }
         choice(self.offers(driver).as_slice(), round)
-    }
-
-    /// Makes the offer that the driver makes in a round, if it has any, and answers it.
-    ///
-    /// It is `offer`, and a step with what that answers: the edge is not judged again.
-    #[inline(always)]
-    pub fn make_offer(&mut self, driver: Driver, round: u32) -> Option<Edge>
-        ensures offer { result
-            ≡ slice_get (offered self.old driver) (round % length (offered self.old driver)) }
-        ensures state { self.new ≡ option_map_or (made self.old) result self.old }
-        ensures sound { IsSound self.new }
-    {
-        let offer = self.offer(driver, round);
-        match offer {
-            Some(edge) => self.make_by_wire(edge),
-            None => {}
-        }
-        self.laws();
-        self.safety();
-        offer
     }
 
     /// What was delivered, in the order of time.

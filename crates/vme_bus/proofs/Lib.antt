@@ -32,7 +32,7 @@ pub mod Places
 pub mod LongerHistory
 -- what the sets say of one slot: `BusState::outputs`, `is_driven_low`, `row`, `told_by_rule`
 pub mod OneSlot
--- the slots whose parts do not wait are those of the sets at work: `BusState::requesters_at_work` and its like
+-- the slots whose masters do not wait are those of the sets at work: `BusState::masters_at_work`
 pub mod AtWork
 -- where a grant stops, it travels: `BusState::grant_at`, `Bus::grant_at`
 pub mod Standing

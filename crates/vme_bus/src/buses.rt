@@ -7,6 +7,7 @@ ghost use Rattle.vme_model.specs.Views.{pins};
 ghost use Rattle.vme_model.specs.Deliveries.{answer};
 ghost use Rattle.vme_model.specs.Signals.{is_well_formed};
 ghost use Rattle.vme_model.specs.Locality.{AreWellFormed};
+ghost use Rattle.vme_model.specs.declared.signals.Driver.TheVariants.{Controller};
 ghost use Rattle.vme_model.specs.declared.deliveries.Delivery.{Delivery as DeliveryValue};
 ghost use Rattle.vme_bus.specs.Answers.{answer_in, answer_of, answers};
 ghost use Rattle.vme_model.specs.Offers.{offered};
@@ -26,6 +27,7 @@ use vme_model::{Condition, Delivery, Driver, Edge, Pins, Refused, TRACE_LIMIT, V
 use vme_past::Past;
 use vme_rules::Outcome;
 use vme_slots::Plan;
+use vme_wiring::put_controller;
 
 /// A bus: the version of its rules, its plan, and the numbers that the edges so far lead to.
 ///
@@ -383,31 +385,11 @@ impl Bus {
         self.state.pins(driver)
     }
 
-    /// The driver's edges that would be accepted, in the order of its wires, with one acknowledge
-    /// and one access at most to show.
-    pub fn offers(&self, driver: Driver) -> ArrayVec<Edge, 16>
-        ensures { result.items ≡ offered self.now driver }
-    {
-        if self.is_full() {
-            return ArrayVec::new();
-        }
-        self.offers_but_full(driver)
-    }
-
-    /// The same, but for the end of the trace.
-    fn offers_but_full(&self, driver: Driver) -> ArrayVec<Edge, 16>
-        ensures { result.items
-            ≡ offered_but_full self.now.version self.now.plan self.now.history driver }
-    {
-        self.state.offers(driver)
-    }
-
     /// All edges that the driver can make: of those that move one of its wires, those that would be
     /// accepted, in the order of its wires. An address group goes on with each acknowledge, by
     /// level, and then with each access, by slot.
     ///
-    /// Each is tried, whether or not a board would consider it, so that it takes longer than
-    /// `offers`.
+    /// Each is tried, whether or not a board would consider it.
     pub fn open_edges(&self, driver: Driver) -> ArrayVec<Edge, 36>
         ensures edges { result.items ≡ open_edges self.now driver }
         ensures all { IsAllThatIsAllowed self.now driver result.items }
@@ -419,31 +401,28 @@ impl Bus {
         }
     }
 
-    /// The offer that the driver makes in a round, if it has any: of k offers the one at place
-    /// `round mod k`.
-    ///
-    /// It tries the edges of a driver that waits for another's too: `Turns` asks only the slots that
-    /// may have an offer.
+    /// What the controller is offered in a round, if it is offered anything: of k offers the one at
+    /// place `round mod k`.
     #[inline(always)]
-    pub fn offer(&self, driver: Driver, round: u32) -> Option<Edge>
-        ensures { result
-            ≡ slice_get (offered self.now driver) (round % length (offered self.now driver)) }
+    pub(crate) fn controller_offer(&self, round: u32) -> Option<Edge>
+        ensures { result ≡ slice_get (offered self.now Controller)
+            (round % length (offered self.now Controller)) }
     {
         if self.is_full() {
             return None;
         }
-        self.offer_but_full(driver, round)
+        self.controller_offer_but_full(round)
     }
 
-    /// The same, but for the end of the trace. The list has room for any driver's offers.
+    /// The same, but for the end of the trace.
     #[inline(always)]
-    fn offer_but_full(&self, driver: Driver, round: u32) -> Option<Edge>
+    fn controller_offer_but_full(&self, round: u32) -> Option<Edge>
         ensures { let offers = offered_but_full
-            self.now.version self.now.plan self.now.history driver in
+            self.now.version self.now.plan self.now.history Controller in
             result ≡ slice_get offers (round % length offers) }
     {
         let mut offers: ArrayVec<Edge, 12> = ArrayVec::new();
-        self.state.put_offers(driver, &mut offers);
+        put_controller(&self.state, &mut offers);
         choice(offers.as_slice(), round)
     }
 

@@ -10,6 +10,7 @@ ghost use Rattle.vme_model.specs.Report.{trace_limit};
 ghost use Rattle.vme_model.specs.Safe.{IsSafe, IsOrderly};
 ghost use Rattle.vme_model.specs.Verdict.{made, verdict, IsLegal};
 ghost use Rattle.vme_wiring.specs.Offered.{offered_but_full, requester_wires, master_wires, interrupter_wires};
+ghost use Rattle.vme_wiring.specs.Judged.{master_waits};
 ghost use Rattle.vme_wiring.specs.Waits.{is_access_to};
 ghost use Rattle.vme_backplane.specs.Sound.{IsSound};
 ghost use Rattle.vme_bus.specs.Records.{cycle_in};
@@ -22,7 +23,7 @@ use crate::states::BusState;
 use arrayvec::ArrayVec;
 use std::marker::Model;
 use vme_backplane::choice;
-use vme_model::{Driver, Edge, Version};
+use vme_model::{Cycle, Driver, Edge, Version};
 use vme_wiring::{Waiting, put_parts};
 
 /// Of each part of the boards, the slots where it may have an edge to make: where it is in none of them, it has none.
@@ -101,6 +102,16 @@ impl BusState {
         }
     }
 
+    /// The slots that hold the bus, or whose address group or strobes are on.
+    #[inline(always)]
+    fn masters_at_work(&self) -> SlotSet
+        ensures { OfHistory self.now (λ _ p h. (s : ℕ)
+            → has result s ≡ not (master_waits p h s)) }
+    {
+        let showing = self.addr.or(self.address_strobe).or(self.data_strobe);
+        self.bbsy.or(showing)
+    }
+
     /// The slots whose masters may have an edge to make.
     #[inline(always)]
     fn ready_masters(&self) -> SlotSet
@@ -129,6 +140,17 @@ impl BusState {
             SlotSet::NONE
         } else {
             self.layout.interrupters.and(self.acknowledges)
+        }
+    }
+
+    /// The slot that an access is shown to.
+    #[inline(always)]
+    fn accessed(&self) -> SlotSet
+        ensures { (s : ℕ) → s < 22 → has result s ≡ is_access_to s (cycle_in self.now.shown) }
+    {
+        match self.shown() {
+            Some(Cycle::Access(slot)) if slot < 22 => SlotSet::NONE.with(slot),
+            _ => SlotSet::NONE,
         }
     }
 
@@ -304,7 +326,7 @@ impl Turns {
             ≡ slice_get (offered self.now driver) (round % length (offered self.now driver)) }
     {
         match driver {
-            Driver::Controller => self.bus.offer(driver, round),
+            Driver::Controller => self.bus.controller_offer(round),
             Driver::Slot(slot) => self.bus.ready_offer(self.ready, slot, round),
         }
     }

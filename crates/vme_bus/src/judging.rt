@@ -1,7 +1,6 @@
 //! What a bus answers as a state that its edges lead to, and what is made of the answers.
-ghost use Rattle.std.specs.Prelude.{◌≡◌, ◌≤◌, []};
+ghost use Rattle.std.specs.Prelude.{◌≡◌};
 ghost use Rattle.vme_model.specs.Failing.{tested_but_full, unmet_but_full};
-ghost use Rattle.vme_wiring.specs.Offered.{offered_but_full};
 ghost use Rattle.vme_wiring.specs.Opens.{open_but_full};
 
 use crate::states::BusState;
@@ -9,7 +8,7 @@ use arrayvec::ArrayVec;
 use vme_model::{Condition, Cycle, Driver, Edge, Levels, Refused, Wire};
 use vme_rules::Outcome;
 use vme_rules::controllers::bg_falls;
-use vme_wiring::{Judges, Waiting, failing_by, offers_of, open_edges_of, put_offers, told_by};
+use vme_wiring::{Judges, failing_by, open_edges_of, told_by};
 
 impl Judges for BusState {
     ghost use Rattle.vme_bus.specs.States.{IsStateOf};
@@ -93,11 +92,6 @@ impl Judges for BusState {
             None => None,
         }
     }
-
-    #[inline(always)]
-    fn waiting(&self, slot: u8) -> Waiting {
-        self.waiting_parts(slot)
-    }
 }
 
 impl BusState {
@@ -121,31 +115,9 @@ impl BusState {
         failing_by(self, edge)
     }
 
-    /// What a driver is offered, but for the end of the trace: of the edges that are considered for
-    /// it those that the rules allow, in the order of its wires.
-    pub fn offers(&self, driver: Driver) -> ArrayVec<Edge, 16>
-        ensures { OfHistory self.now (λ version p h. result.items
-            ≡ offered_but_full version p h driver) }
-    {
-        offers_of(self, driver)
-    }
-
-    /// Puts the same into an empty list that has room for it.
-    #[inline(always)]
-    pub(crate) fn put_offers<const N: usize>(&self, driver: Driver, offers: &mut ArrayVec<Edge, N>)
-        requires room { 11 ≤ N }
-        requires empty { offers.old.items ≡ [] }
-        ensures { OfHistory self.now (λ version p h. offers.new.items
-            ≡ offered_but_full version p h driver) }
-    {
-        put_offers(self, driver, offers);
-    }
-
     /// All edges that a driver can make, but for the end of the trace: of those that move one of
     /// its wires those that the rules allow, in the order of its wires. An address group goes on
     /// with each acknowledge, by level, and then with each access, by slot.
-    ///
-    /// `offers` has one acknowledge and one access of them at most.
     pub fn open_edges(&self, driver: Driver) -> ArrayVec<Edge, 36>
         ensures { OfHistory self.now (λ version p h. result.items
             ≡ open_but_full version p h driver) }

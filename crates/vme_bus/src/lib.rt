@@ -3,7 +3,6 @@
 
 mod answers;
 mod arms;
-mod at_work;
 mod buses;
 mod choices;
 mod judging;
@@ -18,7 +17,6 @@ mod states;
 mod steps;
 mod turns;
 mod verdicts;
-mod waits;
 
 pub use answers::AnswerRecord;
 pub use buses::Bus;

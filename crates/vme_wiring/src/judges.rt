@@ -15,7 +15,7 @@ ghost use Rattle.vme_master.specs.Local.{is_masters};
 ghost use Rattle.vme_interrupter.specs.Local.{is_interrupters};
 ghost use Rattle.vme_wiring.specs.Asked.{asked_guard, exists};
 ghost use Rattle.vme_wiring.specs.Offered.{is_open};
-ghost use Rattle.vme_wiring.specs.Judged.{OfState, may_grant, requester_waits, master_waits, interrupter_waits};
+ghost use Rattle.vme_wiring.specs.Judged.{OfState, may_grant};
 
 use vme_model::{Cycle, Driver, Edge, Levels, Refused, Wire};
 use vme_rules::Outcome;
@@ -33,7 +33,7 @@ pub struct Waiting {
 /// A state of the bus, as its edges so far lead to it.
 ///
 /// Which conditions an edge fails and what a driver is offered is made of these answers, once for
-/// all states: `told_by`, `failing_by`, `offers_of` and `open_edges_of`.
+/// all states: `told_by`, `failing_by`, `put_controller`, `put_parts` and `open_edges_of`.
 pub trait Judges {
     /// It is the state that the history leads to.
     ghost is_of: { VersionValue → PlanValue → List EdgeValue → Self → Type 0 };
@@ -102,14 +102,6 @@ pub trait Judges {
     fn handled(&self, slot: u8) -> Option<Levels>
         ensures { OfState is_of self.now (λ _ p _. result
             ≡ option_map (λ r. r.handler) (board p slot)) };
-
-    /// Which parts of a slot's board wait; all where there is no board.
-    fn waiting(&self, slot: u8) -> Waiting
-        ensures requester { OfState is_of self.now (λ version p h.
-            result.requester ≡ requester_waits version p h slot) }
-        ensures master { OfState is_of self.now (λ _ p h. result.master ≡ master_waits p h slot) }
-        ensures interrupter { OfState is_of self.now (λ _ p h.
-            result.interrupter ≡ interrupter_waits p h slot) };
 
     /// A history that leads to a state is legal.
     ghost is_legal: { (version : VersionValue) (p : PlanValue) (h : List EdgeValue) (state : Self)

@@ -1,14 +1,16 @@
 //! What a wiring answers as a state of the bus, and what is made of the answers.
-ghost use Rattle.std.specs.Prelude.{◌≡◌, ◌&&◌, find, nat_lt, is_some};
+ghost use Rattle.std.specs.Prelude.{◌≡◌, ◌&&◌, [], find, nat_lt, is_some};
+ghost use Rattle.vme_model.specs.declared.signals.Driver.TheVariants.{Slot};
 ghost use Rattle.vme_model.specs.Failing.{tested_but_full, unmet_but_full};
 ghost use Rattle.vme_model.specs.Plan.{board, up_to};
 ghost use Rattle.vme_model.specs.Offers.{turned};
 ghost use Rattle.vme_wiring.specs.Offered.{is_open, offered_but_full};
 ghost use Rattle.vme_wiring.specs.Opens.{open_but_full};
+ghost use Rattle.vme_wiring.specs.Judged.{requester_waits, master_waits, interrupter_waits};
 
 use crate::conditions::{failing_by, told_by};
 use crate::judges::{Judges, Waiting};
-use crate::offers::{offers_of, showing};
+use crate::offers::{put_controller, put_parts, showing};
 use crate::opens::open_edges_of;
 use crate::wirings::Wiring;
 use arrayvec::ArrayVec;
@@ -93,18 +95,6 @@ impl Judges for Wiring {
             None => None,
         }
     }
-
-    #[inline(always)]
-    fn waiting(&self, slot: u8) -> Waiting {
-        match self.board(slot) {
-            Some(board) => self.waiting_parts(board),
-            None => Waiting {
-                requester: true,
-                master: true,
-                interrupter: true,
-            },
-        }
-    }
 }
 
 impl Wiring {
@@ -160,13 +150,46 @@ impl Wiring {
         failing_by(self, edge)
     }
 
+    /// Which parts of a slot's board wait; all where there is no board.
+    #[inline(always)]
+    fn waiting(&self, slot: u8) -> Waiting
+        ensures requester { OfHistory self.now (λ version p h.
+            result.requester ≡ requester_waits version p h slot) }
+        ensures master { OfHistory self.now (λ _ p h. result.master ≡ master_waits p h slot) }
+        ensures interrupter { OfHistory self.now (λ _ p h.
+            result.interrupter ≡ interrupter_waits p h slot) }
+    {
+        match self.board(slot) {
+            Some(board) => self.waiting_parts(board),
+            None => Waiting {
+                requester: true,
+                master: true,
+                interrupter: true,
+            },
+        }
+    }
+
+    /// Puts what the slot's board is offered into an empty list; nothing where there is no board.
+    fn put_slot(&self, slot: u8, offers: &mut ArrayVec<Edge, 16>)
+        requires { offers.old.items ≡ [] }
+        ensures { OfHistory self.now (λ version p h. offers.new.items
+            ≡ offered_but_full version p h (Slot slot)) }
+    {
+        put_parts(self, slot, self.waiting(slot), offers);
+    }
+
     /// What a driver is offered, but for the end of the trace: of the edges that are considered for
     /// it those that the rules allow, in the order of its wires.
     pub fn offers(&self, driver: Driver) -> ArrayVec<Edge, 16>
         ensures { OfHistory self.now (λ version p h. result.items
             ≡ offered_but_full version p h driver) }
     {
-        offers_of(self, driver)
+        let mut offers = ArrayVec::new();
+        match driver {
+            Driver::Controller => put_controller(self, &mut offers),
+            Driver::Slot(slot) => self.put_slot(slot, &mut offers),
+        }
+        offers
     }
 
     /// All edges that a driver can make, but for the end of the trace: of those that move one of

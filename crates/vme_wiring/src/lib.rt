@@ -17,7 +17,7 @@ mod wirings;
 
 pub use conditions::{failing_by, told_by};
 pub use judges::{Judges, Waiting};
-pub use offers::{offers_of, put_offers, put_parts};
+pub use offers::{put_controller, put_parts};
 pub use opens::open_edges_of;
 pub use sights::delivered_by;
 pub use wirings::Wiring;

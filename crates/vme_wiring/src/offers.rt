@@ -217,8 +217,8 @@ fn offer_interrupter<J: Judges, const N: usize>(
     offer_turned(state, Driver::Slot(slot), Wire::Dtack, may, offers);
 }
 
-/// Puts what the slot's board is offered into an empty list, where the parts that wait are offered nothing: those are not
-/// asked.
+/// Puts what the slot's board is offered, but for the end of the trace, into an empty list, where the parts that wait are
+/// offered nothing: those are not asked.
 pub fn put_parts<J: Judges, const N: usize>(
     state: &J,
     slot: u8,
@@ -237,16 +237,6 @@ pub fn put_parts<J: Judges, const N: usize>(
     offer_requester(state, slot, waiting.requester, offers);
     offer_master(state, slot, waiting.master, offers);
     offer_interrupter(state, slot, waiting.interrupter, offers);
-}
-
-/// Puts what the slot's board is offered into an empty list; nothing where there is no board.
-fn put_slot<J: Judges, const N: usize>(state: &J, slot: u8, offers: &mut ArrayVec<Edge, N>)
-    requires room { 11 ≤ N }
-    requires empty { offers.old.items ≡ [] }
-    ensures { OfState J.is_of state.now (λ version p h. offers.new.items
-        ≡ offered_but_full version p h (Slot slot)) }
-{
-    put_parts(state, slot, state.waiting(slot), offers);
 }
 
 /// Puts the edge of a level's grant after the others where the rules allow it: none falls but where
@@ -272,8 +262,8 @@ fn offer_grant<J: Judges, const N: usize>(
     offer_turned(state, Driver::Controller, Wire::Bg(level), may, offers);
 }
 
-/// Puts what the controller is offered into an empty list.
-pub(crate) fn put_controller<J: Judges, const N: usize>(state: &J, offers: &mut ArrayVec<Edge, N>)
+/// Puts what the controller is offered, but for the end of the trace, into an empty list.
+pub fn put_controller<J: Judges, const N: usize>(state: &J, offers: &mut ArrayVec<Edge, N>)
     requires room { 7 ≤ N }
     requires empty { offers.old.items ≡ [] }
     ensures { OfState J.is_of state.now (λ version p h. offers.new.items
@@ -290,33 +280,4 @@ pub(crate) fn put_controller<J: Judges, const N: usize>(state: &J, offers: &mut 
     offer_turned(state, Driver::Controller, Wire::Iack, may, offers);
     let may = state.may_control(Wire::Berr);
     offer_turned(state, Driver::Controller, Wire::Berr, may, offers);
-}
-
-/// Puts what a driver is offered, but for the end of the trace, into an empty list: of the edges that are considered for
-/// it those that the rules allow, in the order of its wires.
-pub fn put_offers<J: Judges, const N: usize>(
-    state: &J,
-    driver: Driver,
-    offers: &mut ArrayVec<Edge, N>,
-)
-    requires room { 11 ≤ N }
-    requires empty { offers.old.items ≡ [] }
-    ensures { OfState J.is_of state.now (λ version p h. offers.new.items
-        ≡ offered_but_full version p h driver) }
-{
-    match driver {
-        Driver::Controller => put_controller(state, offers),
-        Driver::Slot(slot) => put_slot(state, slot, offers),
-    }
-}
-
-/// What a driver is offered, but for the end of the trace: of the edges that are considered for it
-/// those that the rules allow, in the order of its wires.
-pub fn offers_of<J: Judges>(state: &J, driver: Driver) -> ArrayVec<Edge, 16>
-    ensures { OfState J.is_of state.now (λ version p h. result.items
-        ≡ offered_but_full version p h driver) }
-{
-    let mut offers = ArrayVec::new();
-    put_offers(state, driver, &mut offers);
-    offers
 }

@@ -86,8 +86,6 @@ fn slot_open_edges<J: Judges>(state: &J, slot: u8) -> ArrayVec<Edge, 36>
 /// All edges that a driver can make, but for the end of the trace: of those that move one of its
 /// wires those that the rules allow, in the order of its wires. An address group goes on with each
 /// acknowledge, by level, and then with each access, by slot.
-///
-/// `offers_of` has one acknowledge and one access of them at most.
 pub fn open_edges_of<J: Judges>(state: &J, driver: Driver) -> ArrayVec<Edge, 36>
     ensures { OfState J.is_of state.now (λ version p h. result.items
         ≡ open_but_full version p h driver) }

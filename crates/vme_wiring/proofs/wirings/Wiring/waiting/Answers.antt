@@ -6,7 +6,7 @@ use Rattle.vme_model.specs.declared.signals.Driver.TheVariants.{Slot}
 use Rattle.vme_model.specs.Readings.{readings}
 use Rattle.vme_wiring.specs.Waits.{waits_for_grant, waits_for_bus, waits_for_cycle, is_unserved}
 use Rattle.vme_wiring.proofs.NoOffers.{row_here}
-use Rattle.vme_wiring.proofs.judging.WiringJudges.waiting.Goals as goal
+use Rattle.vme_wiring.proofs.wirings.Wiring.waiting.Goals as goal
 
 pub returns-in-Some-clause-requester : goal.returns-in-Some-clause-requester
 returns-in-Some-clause-requester c version p h is =
