@@ -1,4 +1,4 @@
-"""The program in Python, written from docs/RULES.md and docs/FORMATS.md alone.
+"""The program in Python, written from docs/RULES.md, TRACES.md, COMMANDS.md and FAULTS.md alone.
 
 Where to begin: rules.py has G1 to G26 and S1 to S4, and bus.py the words in which they speak.  Then
 

@@ -13,7 +13,7 @@ KINDS = (
 )
 FACTOR = 6364136223846793005
 
-# The conditions that a miss may be named by, as the table of docs/FORMATS.md has them.
+# The conditions that a miss may be named by, as the table of docs/COMMANDS.md has them.
 CONDITIONS = {
     1: ("all four grants are high", "BBSY* is high", "the arbiter picks level N"),
     2: ("BBSY* is low",),

@@ -1,7 +1,7 @@
 """TOML 1.1 as far as a scenario needs it: which texts are TOML, and the values of their keys.
 
 Tables are dicts, arrays are lists, and a date or time is a `Moment`.  Whatever is no TOML, or goes beyond the bounds of
-docs/FORMATS.md, is the fault Q1; so neither a reason nor a place is kept.
+docs/FAULTS.md, is the fault Q1; so neither a reason nor a place is kept.
 """
 
 import math

@@ -1,5 +1,6 @@
 //! A plain program beside which `bench/measure` measures vmebus: it judges and drives by the same rules, reads and writes
-//! the same lines, and proves nothing. It is written from docs/RULES.md and docs/FORMATS.md alone, for speed.
+//! the same lines, and proves nothing. It is written from docs/RULES.md, TRACES.md, COMMANDS.md
+//! and FAULTS.md alone, for speed.
 //!
 //!     plain                                          a scenario and a trace on standard input
 //!     plain replay SCENARIO TRACE
