@@ -19,6 +19,7 @@ use std::io::Write;
 use vme_draws::Walk;
 use vme_goals::Goal;
 use vme_model::Version;
+use vme_slots::Plan;
 use vme_text::Text;
 use vme_trace::{Fault, flush, header_line, line_of, put};
 
@@ -169,6 +170,27 @@ pub(crate) fn draw_trace<W: Write>(
     }
 }
 
+/// Draws edges on a plan by the numbers of a seed, at most so many and up to the goal, and writes their trace. Its frame
+/// is large.
+///
+/// Errors: X8 where the output cannot be written.
+#[inline(never)]
+fn draw_on<W: Write>(
+    plan: Plan,
+    edges: u32,
+    seed: u64,
+    until: Option<Goal>,
+    out: &mut W,
+    version: Version,
+) -> Result<Status, EngineFault>
+    ensures outcome { Draws version seed edges until (W.contents out.old) (W.contents out.new)
+        plan result }
+    ensures safe { OnOk result (WalksSafely plan version seed edges until) }
+{
+    let walk = &mut Walk::new(plan, version, seed);
+    draw_trace(walk, edges, until, out)
+}
+
 /// Draws edges of a scenario's bus among all that the rules allow, by the numbers of a seed, and writes their
 /// trace: at most `edges`, and with a goal up to the edge that brings it about. Where the goal is a condition, it ends
 /// with the first edge that this condition alone refuses, which is written after the others and counts as one of them.
@@ -195,6 +217,5 @@ pub fn drive_drawn<W: Write>(
     ensures safe { OnOk result (DrawsSafely scenario.now version seed edges until) }
 {
     let plan = plan_of(alloc, scenario)?;
-    let walk = &mut Walk::new(plan, version, seed);
-    draw_trace(walk, edges, until, out)
+    draw_on(plan, edges, seed, until, out, version)
 }

@@ -15,6 +15,7 @@ use std::io::Write;
 use vme_draws::Walk;
 use vme_goals::Goal;
 use vme_model::Version;
+use vme_slots::Plan;
 use vme_trace::Fault;
 
 /// Whether a walk comes to the goal. Nothing is written of it.
@@ -98,6 +99,29 @@ fn search<W: Write, P: Progress>(
     }
 }
 
+/// Tries one seed after the other on a plan, from the first to the last, until one comes to the goal: that seed, whose
+/// trace is then written. None where none does. Its frame is large.
+#[inline(never)]
+fn search_on<W: Write, P: Progress>(
+    plan: Plan,
+    edges: u32,
+    first_seed: u64,
+    last_seed: u64,
+    goal: Goal,
+    out: &mut W,
+    version: Version,
+    progress: &mut P,
+) -> Result<Option<u64>, EngineFault>
+    requires { first_seed ≤ last_seed }
+    ensures outcome { Finds version edges first_seed last_seed goal
+        (W.contents out.old) (W.contents out.new) result plan (found_answer result) }
+    ensures safe { IfOk result (λ found. IfSome found (λ seed.
+        WalksSafely plan version seed edges (Some goal))) }
+{
+    let walk = &mut Walk::new(plan, version, first_seed);
+    search(walk, edges, first_seed, last_seed, goal, out, progress)
+}
+
 /// Draws edges of a scenario's bus by one seed after the other, from the first to the last, until the walk of one
 /// comes to the goal within `edges`. Its trace is written, and the seed is answered. Where none comes to it, nothing is
 /// written, and the answer is none. `progress` is told each seed before it is tried, and while it is tried how many of
@@ -125,6 +149,5 @@ pub fn drive_found<W: Write, P: Progress>(
         DrawsSafely scenario.now version seed edges (Some goal))) }
 {
     let plan = plan_of(alloc, scenario)?;
-    let walk = &mut Walk::new(plan, version, first_seed);
-    search(walk, edges, first_seed, last_seed, goal, out, progress)
+    search_on(plan, edges, first_seed, last_seed, goal, out, version, progress)
 }
