@@ -86,7 +86,8 @@ impl Walk {
         }
     }
 
-    /// Begins the walk anew, by the numbers of a seed: no edge was made. The plan and the version stay.
+    /// Begins the walk anew, by the numbers of a seed: no edge was made. The plan and the version
+    /// stay.
     pub fn restart(&mut self, seed: u64)
         ensures { self.new ≡ at_start (at_power_up self.old.state.version self.old.state.plan
             trace_limit) seed }

@@ -94,6 +94,23 @@ module _ (p : Plan) (version : Version) (seed n : ℕ) (g : Goal) (start : Walk)
       let on : IsOn version p (walk_to (Some g) n start).walk = walk_stays version p (Some g) n start (subst (λ (w : Walk). IsOn version p w) (sym is) (record { version = refl; plan = refl })) in
       (ap (λ (x : State). x.plan) same ∙ on.plan, ap (λ (x : State). x.version) same ∙ on.version)
 
+  -- so what it draws when it is begun once more is what its seed draws
+  module _ (b : State) (same : b ≡ (walk_to (Some g) n start).walk.state) (again : Walk) (is_again : again ≡ at_start (bench b.plan b.version) seed) where
+    kept : (b.plan ≡ p) × (b.version ≡ version)
+    kept = attempt_kept b same
+
+    pub redrawn : (old new : Option (List ℕ)) (answer : Answer) → Draws again.state.version again.seed n (Some g) old new again.state.plan answer → Draws version seed n (Some g) old new p answer
+    redrawn old new answer d =
+        subst (λ (q : Plan). Draws version seed n (Some g) old new q answer) kept.0
+        (subst (λ (v : Version). Draws v seed n (Some g) old new b.plan answer) kept.1
+        (subst (λ (w : Walk). Draws w.state.version w.seed n (Some g) old new w.state.plan answer) is_again d))
+
+    pub safely_redrawn : WalksSafely again.state.plan again.state.version again.seed n (Some g) → WalksSafely p version seed n (Some g)
+    safely_redrawn safe =
+        subst (λ (q : Plan). WalksSafely q version seed n (Some g)) kept.0
+        (subst (λ (v : Version). WalksSafely b.plan v seed n (Some g)) kept.1
+        (subst (λ (w : Walk). WalksSafely w.state.plan w.state.version w.seed n (Some g)) is_again safe))
+
 -- it cannot be written
 pub attempt_fault : (p : Plan) (version : Version) (seed n : ℕ) (g : Goal) (a : Option (List ℕ)) (f : EngineFault) → f ≡ fault.Trace Write → Attempts p version seed n g a a (Err f)
 attempt_fault p version seed n g a f is =

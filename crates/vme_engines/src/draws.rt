@@ -143,7 +143,8 @@ fn status_to(goal: Option<Goal>, edges: u32, made: u32, ending: Ending) -> Statu
     }
 }
 
-/// Draws edges and makes them, at most so many and up to the goal, on a walk that has none, and writes their trace.
+/// Draws edges and makes them, at most so many and up to the goal, on a walk that has none, and
+/// writes their trace.
 ///
 /// Errors: X8 where the output cannot be written.
 pub(crate) fn draw_trace<W: Write>(
@@ -170,8 +171,8 @@ pub(crate) fn draw_trace<W: Write>(
     }
 }
 
-/// Draws edges on a plan by the numbers of a seed, at most so many and up to the goal, and writes their trace. Its frame
-/// is large.
+/// Draws edges on a plan by the numbers of a seed, at most so many and up to the goal, and writes
+/// their trace. Its frame is large.
 ///
 /// Errors: X8 where the output cannot be written.
 #[inline(never)]

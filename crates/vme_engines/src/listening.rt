@@ -14,13 +14,14 @@ pub trait Progress {
     fn drawn(&mut self, seed: u64, edges: u64);
 }
 
-/// Stands in for the output while a seed is tried. It keeps nothing of the trace, and tells by its lines how many edges
-/// were drawn.
+/// Stands in for the output while a seed is tried. It keeps nothing of the trace, and counts its
+/// lines to say how many edges were drawn.
 #[derive(Drop)]
 pub(crate) struct Listener<'p, P> {
     progress: &'p mut P,
     seed: u64,
-    /// How many lines it was given. The first is the header line, and each other one that of an edge.
+    /// How many lines it was given. The first is the header line, and each other one that of an
+    /// edge.
     lines: u64,
 }
 

@@ -68,8 +68,8 @@ fn attempt<W: Write, P: Progress>(
     Ok(true)
 }
 
-/// Tries one seed after the other on a walk, from the first to the last, until one comes to the goal: that seed, whose
-/// trace is then written. None where none does.
+/// Tries one seed after the other on a walk, from the first to the last, until one comes to the
+/// goal: that seed, whose trace is then written. None where none does.
 fn search<W: Write, P: Progress>(
     walk: &mut Walk,
     edges: u32,
@@ -99,8 +99,8 @@ fn search<W: Write, P: Progress>(
     }
 }
 
-/// Tries one seed after the other on a plan, from the first to the last, until one comes to the goal: that seed, whose
-/// trace is then written. None where none does. Its frame is large.
+/// Tries one seed after the other on a plan, from the first to the last, until one comes to the
+/// goal: that seed, whose trace is then written. None where none does. Its frame is large.
 #[inline(never)]
 fn search_on<W: Write, P: Progress>(
     plan: Plan,
@@ -122,12 +122,14 @@ fn search_on<W: Write, P: Progress>(
     search(walk, edges, first_seed, last_seed, goal, out, progress)
 }
 
-/// Draws edges of a scenario's bus by one seed after the other, from the first to the last, until the walk of one
-/// comes to the goal within `edges`. Its trace is written, and the seed is answered. Where none comes to it, nothing is
-/// written, and the answer is none. `progress` is told each seed before it is tried, and while it is tried how many of
-/// its edges were drawn. The scenario is read once, before the first seed.
+/// Draws edges of a scenario's bus by one seed after the other, from the first to the last, until
+/// the walk of one comes to the goal within `edges`. Its trace is written, and the seed is answered.
+/// Where none comes to it, nothing is written, and the answer is none. The scenario is read once,
+/// before the first seed. `progress` hears of each seed before it is tried, and while it is tried of
+/// how many edges were drawn.
 ///
-/// Errors: F2 and the faults of the scenario, before a seed is tried; X8 where the output cannot be written.
+/// Errors: F2 and the faults of the scenario, before a seed is tried; X8 where the output cannot be
+/// written.
 pub fn drive_found<W: Write, P: Progress>(
     alloc: Global,
     scenario: &[u8],
@@ -149,5 +151,7 @@ pub fn drive_found<W: Write, P: Progress>(
         DrawsSafely scenario.now version seed edges (Some goal))) }
 {
     let plan = plan_of(alloc, scenario)?;
-    search_on(plan, edges, first_seed, last_seed, goal, out, version, progress)
+    search_on(
+        plan, edges, first_seed, last_seed, goal, out, version, progress,
+    )
 }

@@ -30,8 +30,8 @@ impl<'r> Teller<'r> {
         }
     }
 
-    /// Whether a line is due at that time, which is then the last one told: the first, and any other as soon as a second
-    /// has passed since the last.
+    /// Whether a line is due at that time, which is then the last one told: the first, and any other
+    /// as soon as a second has passed since the last.
     fn is_due_at(&mut self, now: Instant) -> bool
         ensures { IsPaced self.old.told self.new.told now result }
     {

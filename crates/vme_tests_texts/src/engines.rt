@@ -1,5 +1,5 @@
-//! What no clause says of the engines: the texts of their faults, and that each seed is told before it is tried, and its
-//! edges while it is.
+//! What no clause says of the engines: the texts of their faults, and that each seed is told before
+//! it is tried, and its edges while it is.
 use std::process::Abort;
 use vme_engines::{EngineFault, Progress, drive_found};
 use vme_goals::{Event, Goal};
@@ -41,8 +41,8 @@ slot = 3
 interrupter = { level = 4, kind = \"roak\", status = 66 }
 ";
 
-/// Keeps how many seeds it heard of, how often it heard of a seed's edges, and whether all came in order: the seeds from 0
-/// on, and of each its edges by 1,024.
+/// Keeps how many seeds it heard of, how often it heard of a seed's edges, and whether all came in
+/// order: the seeds from 0 on, and of each its edges by 1,024.
 #[derive(Drop)]
 struct Heard {
     seeds: u64,

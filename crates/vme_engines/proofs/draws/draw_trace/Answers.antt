@@ -30,8 +30,8 @@ returns-in-Ok-clause-safe g c =
     let ends : c.in-Ok.ending ≡ (walk p v w.seed c.args.edges c.args.until).ending = c.in-Ok.ensures.ending ∙ ap (λ (x : Walk). (walk_to c.args.until c.args.edges x).ending) c.requires in
     walks_safely p v w.seed c.args.edges c.args.until c.bus-bus.result.now c.in-Ok.ending is ends c.safety.ensures.safe c.safety.ensures.orderly
 
-pub returns-clause-outcome : goal.returns-clause-outcome
-returns-clause-outcome g c = (
+pub returns-in-Err-clause-outcome : goal.returns-in-Err-clause-outcome
+returns-in-Err-clause-outcome g c = (
   c.in-Err.ensures.fault,
   subst (λ (x : Walk). AppendsFront (g.W.Write.contents c.args.out.now) (g.W.Write.contents c.write_walk.new.out) (ended_text x.state.version (walk_to c.args.until c.args.edges x))) c.requires c.in-Err.ensures.front,
 )
