@@ -1,8 +1,7 @@
 -- Seeds that are tried one after the other.
-use Rattle.std.proofs.Common.{◌≡◌, ◌∙◌, refl, sym, ap, subst, ℕ, ◌+◌, ◌≤◌, ◌<◌, ◌⊎◌, ⊎_elim, ◌++◌, Bool, true, false, not, List, length, Option, Some, None, Result, Ok, Err, arith}
-use Rattle.std.specs.Prelude.{IfOk, IfSome, IsTrue, OnOk}
+use Rattle.std.proofs.Common.{◌≡◌, ◌∙◌, refl, sym, ap, subst, ℕ, ◌+◌, ◌≤◌, ◌<◌, ◌⊎◌, ⊎_elim, ◌++◌, Bool, true, false, not, List, length, Option, Some, None, Ok, Err, arith}
+use Rattle.std.specs.Prelude.{IfOk, IfSome, OnOk}
 use Rattle.std.specs.Io.KnownBytes.{Appends, Keeps}
-use Rattle.std.proofs.KnownBytes.{Keeps-refl}
 use Rattle.vme_model.specs.declared.signals.Version.{Version}
 use Rattle.vme_model.specs.Plan.{Plan}
 use Rattle.vme_model.specs.Verdict.{State}
@@ -52,20 +51,11 @@ came_to g n made Over h = absurd (cc)
 came_to g n made Came h = refl
 came_to g n made (Missed e) h = refl
 
-pub over_is : (x : Ending) → is_over x ≡ true → x ≡ Over
-over_is Over h = refl
-over_is Came h = absurd (cc)
-over_is (Missed e) h = absurd (cc)
-
 -- ---- a try of one seed
 
 over_not : (x : Bool) → true ≡ not x → x ≡ false
 over_not true h = absurd (cc)
 over_not false h = refl
-
-not_over : (x : Bool) → false ≡ not x → x ≡ true
-not_over true h = refl
-not_over false h = absurd (cc)
 
 -- the walk of a seed, by where it began
 module _ (p : Plan) (version : Version) (seed n : ℕ) (g : Goal) (start : Walk) (is : start ≡ at_start (bench p version) seed) where
@@ -74,11 +64,6 @@ module _ (p : Plan) (version : Version) (seed n : ℕ) (g : Goal) (start : Walk)
 
   over_is_of : is_over (walk_to (Some g) n start).ending ≡ is_over (walk p version seed n (Some g)).ending
   over_is_of = ap is_over ending_is
-
-  -- it does not come to the goal, and nothing is written
-  pub attempt_over : (a : Option (List ℕ)) (came : Bool) → came ≡ not (is_over (walk_to (Some g) n start).ending) → came ≡ false → Attempts p version seed n g a a (Ok false)
-  attempt_over a came seen is_false =
-      (over_is (walk p version seed n (Some g)).ending (sym over_is_of ∙ not_over (is_over (walk_to (Some g) n start).ending) (sym is_false ∙ seen)), Keeps-refl a)
 
   -- it comes to it, and is drawn once more
   pub attempt_came : (a b : Option (List ℕ)) (came : Bool) (status : Status) → came ≡ not (is_over (walk_to (Some g) n start).ending) → came ≡ true → Draws version seed n (Some g) a b p (Ok status)

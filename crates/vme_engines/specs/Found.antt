@@ -1,17 +1,15 @@
 -- What a drive over seeds leaves and answers.
-use Rattle.std.specs.Prelude.{◌≡◌, ◌≤◌, ◌<◌, ◌+◌, ℕ, Bool, true, false, not, List, Option, Some, None, Result, Ok, Err}
+use Rattle.std.specs.Prelude.{◌≡◌, ◌≤◌, ◌<◌, ◌+◌, ℕ, Bool, true, false, List, Option, Some, None, Result, Ok, Err}
 use Rattle.std.specs.Io.KnownBytes.{Keeps}
 use Rattle.vme_model.specs.declared.signals.Version.{Version}
 use Rattle.vme_model.specs.Plan.{Plan}
 use Rattle.vme_goals.specs.declared.goals.Goal.{Goal}
-use Rattle.vme_trace.specs.declared.Fault.TheVariants.{Write}
 use Rattle.vme_engines.specs.declared.EngineFault.{EngineFault}
 use Rattle.vme_engines.specs.declared.EngineFault.TheVariants as fault
 use Rattle.vme_engines.specs.declared.Status.TheVariants.{Done, Limit}
 use Rattle.vme_engines.specs.declared.seeks.Ending.TheVariants.{Over}
 use Rattle.vme_engines.specs.Outcomes.{Answer}
 use Rattle.vme_engines.specs.Drawing.{walk, Draws}
-use Rattle.vme_engines.specs.Seeking.{is_over}
 
 -- whether a seed comes to the goal
 abbrev pub Tried : Type 0
