@@ -1,7 +1,8 @@
 /* Loaded before the C library by acceptance/failing-calls: counts the program's calls of one kind,
    and has some of them fail or move a single byte. FAILING_KIND names the kind, FAILING_CALL the
    number of the call from 1 (0: none), and FAILING_COUNT a file for their count. With FAILING_HOW
-   `stays` all calls from that one on fail, and with `random` some that the number picks. */
+   `stays` all calls from that one on fail, and with `random` some that the number picks. With
+   CLOCK_STEP each reading of the clock is so many milliseconds later than the one before. */
 #define _GNU_SOURCE
 #include <dlfcn.h>
 #include <errno.h>
@@ -12,20 +13,22 @@
 #include <stdlib.h>
 #include <string.h>
 #include <sys/syscall.h>
+#include <time.h>
 #include <unistd.h>
 
 extern void *__libc_malloc(size_t);
 extern void *__libc_calloc(size_t, size_t);
 extern void *__libc_realloc(void *, size_t);
 
-enum kind { NONE, MEMORY, STREAM, INTERRUPTED, INTERRUPTED_FILES, NOT_READY, SHORT, OPENING, OPENING_INTERRUPTED, THREAD };
+enum kind { NONE, MEMORY, STREAM, INTERRUPTED, INTERRUPTED_FILES, NOT_READY, SHORT, OPENING, OPENING_INTERRUPTED, THREAD, CLOCK };
 
-static const char *const names[] = {"none", "memory", "stream", "interrupted", "interrupted-files", "not-ready", "short", "opening", "opening-interrupted", "thread"};
+static const char *const names[] = {"none", "memory", "stream", "interrupted", "interrupted-files", "not-ready", "short", "opening", "opening-interrupted", "thread", "clock"};
 
 static enum kind kind;
 static long failing;
 static int stays, random_calls;
 static long calls;
+static long clock_step, clock_readings;
 
 /* Whether a call of this number is one of those that the number `failing` picks: one in four. */
 static int is_picked(unsigned long call) {
@@ -45,15 +48,16 @@ static int is_it(enum kind of) {
 }
 
 __attribute__((constructor)) static void begin(void) {
-    const char *name = getenv("FAILING_KIND"), *call = getenv("FAILING_CALL"), *how = getenv("FAILING_HOW");
+    const char *name = getenv("FAILING_KIND"), *call = getenv("FAILING_CALL"), *how = getenv("FAILING_HOW"), *step = getenv("CLOCK_STEP");
     if (name && call) {
         failing = atol(call);
-        for (int at = MEMORY; at <= THREAD; at++)
+        for (int at = MEMORY; at <= CLOCK; at++)
             if (!strcmp(name, names[at]))
                 kind = at;
     }
     stays = how && !strcmp(how, "stays");
     random_calls = how && !strcmp(how, "random");
+    clock_step = step ? atol(step) : 0;
 }
 
 /* Tells the count of calls, where that is wanted: also of a program that ends by `exit` or by its main's return. */
@@ -139,4 +143,20 @@ int pthread_create(pthread_t *thread, const pthread_attr_t *how, void *(*work)(v
     if (!made)
         made = (create *)dlsym(RTLD_NEXT, "pthread_create");
     return is_it(THREAD) ? EAGAIN : made(thread, how, work, with);
+}
+
+/* A reading of the clock that only goes on. One that fails takes its time, too. */
+int clock_gettime(clockid_t which, struct timespec *time) {
+    if (which != CLOCK_MONOTONIC)
+        return syscall(SYS_clock_gettime, which, time);
+    long long now = __atomic_add_fetch(&clock_readings, 1, __ATOMIC_SEQ_CST) * (long long)clock_step;
+    if (is_it(CLOCK)) {
+        errno = EINVAL;
+        return -1;
+    }
+    if (!clock_step)
+        return syscall(SYS_clock_gettime, which, time);
+    time->tv_sec = now / 1000;
+    time->tv_nsec = now % 1000 * 1000000;
+    return 0;
 }

@@ -129,9 +129,9 @@ def done(job, console):
     scenario = scenario_of(console.open(scenario_name), scenario_name)
     first = console.open(trace_names[0]) if trace_names else None
     options = job.options
+    plan = backplane.read(scenario)
     if "--progress" in options:
         console.tell(f"trying seed {options['--seeds'][0]}")
-    plan = backplane.read(scenario)
     if job.command == "summary":
         return summary(plan, traces_of(trace_names, first, console), console)
     if job.command == "run":

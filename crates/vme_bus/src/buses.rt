@@ -78,6 +78,16 @@ impl Bus {
         }
     }
 
+    /// Puts the bus back to power-up: no edge was made. The plan and the version stay.
+    pub fn restart(&mut self)
+        ensures { self.new ≡ at_power_up self.old.version self.old.plan trace_limit }
+    {
+        self.state = BusState::new(&self.plan, self.version);
+        self.made = 0;
+        self.max = TRACE_LIMIT;
+        self.past = Past::new();
+    }
+
     /// What holds of every bus.
     pub fn laws(&self)
         ensures accepted { IsAccepted self.now.plan }

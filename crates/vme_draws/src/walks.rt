@@ -86,6 +86,19 @@ impl Walk {
         }
     }
 
+    /// Begins the walk anew, by the numbers of a seed: no edge was made. The plan and the version
+    /// stay.
+    pub fn restart(&mut self, seed: u64)
+        ensures { self.new ≡ at_start (at_power_up self.old.state.version self.old.state.plan
+            trace_limit) seed }
+    {
+        self.seed = seed;
+        self.numbers = Pcg32::new(seed, 0);
+        self.weights = Weights::draw(&mut self.numbers);
+        self.made = Tally::new();
+        self.bus.restart();
+    }
+
     /// The edge that two words choose: the first the kind, and the second one of its open edges.
     fn choice(&mut self, first: u32, second: u32) -> Option<Edge>
         ensures edge { result ≡ chosen self.old first second }

@@ -9,7 +9,6 @@ use Rattle.vme_model.specs.Accepted.{IsAccepted}
 use Rattle.vme_model.specs.Safe.{IsSafe, IsOrderly}
 use Rattle.vme_model.specs.Verdict.{State, IsLegal}
 use Rattle.vme_model.specs.Report.{trace_limit}
-use Rattle.vme_scenario.specs.Format.{scenario}
 use Rattle.vme_draws.specs.Walks.{at_start}
 use Rattle.vme_draws.proofs.Walked.{IsOn}
 use Rattle.vme_goals.specs.declared.goals.Goal.{Goal}
@@ -17,7 +16,7 @@ use Rattle.vme_engines.specs.declared.Status.{Status}
 use Rattle.vme_engines.specs.declared.seeks.Ending.{Ending}
 use Rattle.vme_engines.specs.declared.seeks.Ending.TheVariants.{Over, Came, Missed}
 use Rattle.vme_engines.specs.Outcomes.{bench}
-use Rattle.vme_engines.specs.Drawing.{walk, walk_text, EndsRightly, status_to, Draws, DrawsSafely}
+use Rattle.vme_engines.specs.Drawing.{walk, walk_text, EndsRightly, status_to, Draws, WalksSafely}
 use Rattle.vme_engines.proofs.LegalTrace.{legal_trace}
 use Rattle.vme_engines.proofs.SoughtGoals.{walk_stays, refused_end}
 
@@ -60,10 +59,8 @@ module _ (p : Plan) (version : Version) (seed n : ℕ) (g : Option Goal) (b : St
       said ∙ ap (λ h. status_to g n (length h) ending) history_is ∙ ap (status_to g n (length (walk p version seed n g).walk.state.history)) ends,
     )
 
-  pub draws_safely : (old : List ℕ) → scenario old ≡ Ok p → IsSafe b.plan b.history → IsOrderly b.version b.plan b.history → DrawsSafely old version seed n g
-  draws_safely old read safe orderly = (
-    p,
-    read,
+  pub walks_safely : IsSafe b.plan b.history → IsOrderly b.version b.plan b.history → WalksSafely p version seed n g
+  walks_safely safe orderly = (
     subst (IsSafe p) history_is (subst (λ (q : Plan). IsSafe q b.history) plan_is safe),
     subst (IsOrderly version p) history_is (subst (λ (q : Plan). IsOrderly version q b.history) plan_is (subst (λ (v : Version). IsOrderly v b.plan b.history) version_is orderly)),
   )

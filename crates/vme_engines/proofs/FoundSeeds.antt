@@ -1,11 +1,13 @@
 -- Seeds that are tried one after the other.
 use Rattle.std.proofs.Common.{◌≡◌, ◌∙◌, refl, sym, ap, subst, ℕ, ◌+◌, ◌≤◌, ◌<◌, ◌⊎◌, ⊎_elim, ◌++◌, Bool, true, false, not, List, length, Option, Some, None, Ok, Err, arith}
-use Rattle.std.specs.Prelude.{⊤}
+use Rattle.std.specs.Prelude.{IfOk, IfSome, OnOk}
 use Rattle.std.specs.Io.KnownBytes.{Appends, Keeps}
-use Rattle.std.proofs.KnownBytes.{Keeps-refl}
 use Rattle.vme_model.specs.declared.signals.Version.{Version}
 use Rattle.vme_model.specs.Plan.{Plan}
+use Rattle.vme_model.specs.Verdict.{State}
 use Rattle.vme_scenario.specs.Format.{scenario}
+use Rattle.vme_draws.specs.Walks.{Walk, at_start}
+use Rattle.vme_draws.proofs.Walked.{IsOn}
 use Rattle.vme_goals.specs.declared.goals.Goal.{Goal}
 use Rattle.vme_trace.specs.declared.Fault.TheVariants.{Write}
 use Rattle.vme_engines.specs.declared.Status.{Status}
@@ -14,14 +16,15 @@ use Rattle.vme_engines.specs.declared.EngineFault.{EngineFault}
 use Rattle.vme_engines.specs.declared.EngineFault.TheVariants as fault
 use Rattle.vme_engines.specs.declared.seeks.Ending.{Ending}
 use Rattle.vme_engines.specs.declared.seeks.Ending.TheVariants.{Over, Came, Missed}
-use Rattle.vme_engines.specs.Outcomes.{Answer, Lent}
-use Rattle.vme_engines.specs.Drawing.{walk, walk_text, status_to, Draws}
-use Rattle.vme_engines.specs.Seeking.{is_over}
-use Rattle.vme_engines.specs.Found.{NoneBelow, Attempts, Finds, Sees, tried_answer}
+use Rattle.vme_engines.specs.Outcomes.{Answer, Lent, bench, scenario_limit}
+use Rattle.vme_engines.specs.Drawing.{walk, walk_text, status_to, Draws, DrawsSafely, WalksSafely}
+use Rattle.vme_engines.specs.Seeking.{is_over, walk_to}
+use Rattle.vme_engines.specs.Found.{Tried, NoneBelow, Attempts, Finds, Found, found_answer}
+use Rattle.vme_engines.proofs.SoughtGoals.{walk_stays}
 use Rattle.vme_engines.proofs.WrittenLines.{front_of_none}
 
 -- what is kept, and then kept or grown
-pub keeps_trans : (a b c : Option (List ℕ)) → Keeps a b → Keeps b c → Keeps a c
+keeps_trans : (a b c : Option (List ℕ)) → Keeps a b → Keeps b c → Keeps a c
 keeps_trans None b c k l = tt
 keeps_trans (Some xs) None c k l = absurd k
 keeps_trans (Some xs) (Some ys) None k l = absurd l
@@ -48,82 +51,128 @@ came_to g n made Over h = absurd (cc)
 came_to g n made Came h = refl
 came_to g n made (Missed e) h = refl
 
-pub over_is : (x : Ending) → is_over x ≡ true → x ≡ Over
-over_is Over h = refl
-over_is Came h = absurd (cc)
-over_is (Missed e) h = absurd (cc)
-
 -- ---- a try of one seed
 
 over_not : (x : Bool) → true ≡ not x → x ≡ false
 over_not true h = absurd (cc)
 over_not false h = refl
 
-module _ (version : Version) (seed n : ℕ) (g : Goal) (text : List ℕ) where
-  -- a fault, before anything is written
-  pub seen_fault : (a : Option (List ℕ)) (f : EngineFault) → Lent text ⊤ (Sees version seed n g (Err f)) (Err f) → Lent text (Keeps a a) (Attempts version seed n g a a (Err f)) (Err f)
-  seen_fault a fault.TooLong l = (l.0, Keeps-refl a)
-  seen_fault a (fault.Scenario e) l = (l.0, l.1, Keeps-refl a)
-  seen_fault a fault.NoMemory l = absurd l
-  seen_fault a (fault.Trace f) l = let is : f ≡ Write = let h = l.3 in cc in (l.0, l.1, l.2, (is, front_of_none a (walk_text l.0 version seed n (Some g))))
-  seen_fault a (fault.Beyond e) l = let h = l.3 in absurd (cc)
-  seen_fault a fault.CannotRead l = absurd l
+-- the walk of a seed, by where it began
+module _ (p : Plan) (version : Version) (seed n : ℕ) (g : Goal) (start : Walk) (is : start ≡ at_start (bench p version) seed) where
+  ending_is : (walk_to (Some g) n start).ending ≡ (walk p version seed n (Some g)).ending
+  ending_is = ap (λ (w : Walk). (walk_to (Some g) n w).ending) is
 
-  -- the seed comes to the goal, and is drawn once more
-  pub came_done : (a b : Option (List ℕ)) (came : Bool) (status : Status) → came ≡ true → Lent text ⊤ (Sees version seed n g (Ok came)) (tried_answer (Ok came)) → Lent text (Keeps a b) (Draws version seed n (Some g) a b) (Ok status)
-      → Lent text (Keeps a b) (Attempts version seed n g a b (Ok true)) (Ok Done)
-  came_done a b false status is seen l = absurd (cc)
-  came_done a b true status is seen l =
-      let x = walk l.0 version seed n (Some g) in
-      let not_over : is_over x.ending ≡ false = over_not (is_over x.ending) (subst (λ (q : Plan). true ≡ not (is_over (walk q version seed n (Some g)).ending)) (same seen.0 l.0 seen.2 l.2) seen.3) in
-      (l.0, l.1, l.2, (l.3.0, l.3.1, l.3.2, came_to g n (length x.walk.state.history) x.ending not_over))
-    where
-      same : (q p : Plan) → scenario text ≡ Ok q → scenario text ≡ Ok p → q ≡ p
-      same q p one other = cc
+  over_is_of : is_over (walk_to (Some g) n start).ending ≡ is_over (walk p version seed n (Some g)).ending
+  over_is_of = ap is_over ending_is
+
+  -- it comes to it, and is drawn once more
+  pub attempt_came : (a b : Option (List ℕ)) (came : Bool) (status : Status) → came ≡ not (is_over (walk_to (Some g) n start).ending) → came ≡ true → Draws version seed n (Some g) a b p (Ok status)
+      → Attempts p version seed n g a b (Ok true)
+  attempt_came a b came status seen is_true d =
+      let x = walk p version seed n (Some g) in
+      let away : is_over x.ending ≡ false = sym over_is_of ∙ over_not (is_over (walk_to (Some g) n start).ending) (sym is_true ∙ seen) in
+      (d.0, d.1, d.2, came_to g n (length x.walk.state.history) x.ending away)
+
+  -- its plan and its version stay
+  pub attempt_kept : (b : State) → b ≡ (walk_to (Some g) n start).walk.state → (b.plan ≡ p) × (b.version ≡ version)
+  attempt_kept b same =
+      let on : IsOn version p (walk_to (Some g) n start).walk = walk_stays version p (Some g) n start (subst (λ (w : Walk). IsOn version p w) (sym is) (record { version = refl; plan = refl })) in
+      (ap (λ (x : State). x.plan) same ∙ on.plan, ap (λ (x : State). x.version) same ∙ on.version)
+
+  -- so what it draws when it is begun once more is what its seed draws
+  module _ (b : State) (same : b ≡ (walk_to (Some g) n start).walk.state) (again : Walk) (is_again : again ≡ at_start (bench b.plan b.version) seed) where
+    kept : (b.plan ≡ p) × (b.version ≡ version)
+    kept = attempt_kept b same
+
+    pub redrawn : (old new : Option (List ℕ)) (answer : Answer) → Draws again.state.version again.seed n (Some g) old new again.state.plan answer → Draws version seed n (Some g) old new p answer
+    redrawn old new answer d =
+        subst (λ (q : Plan). Draws version seed n (Some g) old new q answer) kept.0
+        (subst (λ (v : Version). Draws v seed n (Some g) old new b.plan answer) kept.1
+        (subst (λ (w : Walk). Draws w.state.version w.seed n (Some g) old new w.state.plan answer) is_again d))
+
+    pub safely_redrawn : WalksSafely again.state.plan again.state.version again.seed n (Some g) → WalksSafely p version seed n (Some g)
+    safely_redrawn safe =
+        subst (λ (q : Plan). WalksSafely q version seed n (Some g)) kept.0
+        (subst (λ (v : Version). WalksSafely b.plan v seed n (Some g)) kept.1
+        (subst (λ (w : Walk). WalksSafely w.state.plan w.state.version w.seed n (Some g)) is_again safe))
+
+-- it cannot be written
+pub attempt_fault : (p : Plan) (version : Version) (seed n : ℕ) (g : Goal) (a : Option (List ℕ)) (f : EngineFault) → f ≡ fault.Trace Write → Attempts p version seed n g a a (Err f)
+attempt_fault p version seed n g a f is =
+    subst (λ (e : EngineFault). Attempts p version seed n g a a (Err e)) (sym is) (refl, front_of_none a (walk_text p version seed n (Some g)))
 
 -- ---- one seed after the other
 
-module _ (version : Version) (n first last : ℕ) (g : Goal) (text : List ℕ) (a b c : Option (List ℕ)) (seed : ℕ) (k : Keeps a b)
-    (from : first ≤ seed) (to : seed ≤ last) (none : (p : Plan) → scenario text ≡ Ok p → NoneBelow p version n g first seed) where
-  none_more : (p : Plan) → scenario text ≡ Ok p → (walk p version seed n (Some g)).ending ≡ Over → NoneBelow p version n g first (seed + 1)
-  none_more p read over s low high = ⊎_elim
-      (λ (l : s < seed). none p read s low l)
+-- on the same plan and in the same version
+module _ (p q : Plan) (version v : Version) (seed n : ℕ) (g : Goal) (one : q ≡ p) (other : v ≡ version) where
+  pub tried_on : (a b : Option (List ℕ)) (t : Tried) → Attempts q v seed n g a b t → Attempts p version seed n g a b t
+  tried_on a b t tried = subst (λ (x : Plan). Attempts x version seed n g a b t) one (subst (λ (x : Version). Attempts q x seed n g a b t) other tried)
+
+  pub safe_on : WalksSafely q v seed n (Some g) → WalksSafely p version seed n (Some g)
+  safe_on safe = subst (λ (x : Plan). WalksSafely x version seed n (Some g)) one (subst (λ (x : Version). WalksSafely q x seed n (Some g)) other safe)
+
+module _ (p : Plan) (version : Version) (n first last : ℕ) (g : Goal) (a b c : Option (List ℕ)) (seed : ℕ) (k : Keeps a b)
+    (from : first ≤ seed) (to : seed ≤ last) (none : NoneBelow p version n g first seed) where
+  none_more : (walk p version seed n (Some g)).ending ≡ Over → NoneBelow p version n g first (seed + 1)
+  none_more over s low high = ⊎_elim
+      (λ (l : s < seed). none s low l)
       (λ (l : s ≡ seed). subst (λ t. (walk p version t n (Some g)).ending ≡ Over) (sym l) over)
       (below_or s seed high)
     where
       below_or : (s t : ℕ) → s < t + 1 → (s < t) ⊎ (s ≡ t)
       below_or s t h = grind arith
 
-  abbrev Tried_of : Bool → Type 0
-  Tried_of came = Lent text (Keeps b c) (Attempts version seed n g b c (Ok came)) (tried_answer (Ok came))
-
   -- the seed comes to the goal
-  pub found_here : (came : Bool) → came ≡ true → Tried_of came → Lent text (Keeps a c) (Finds version n first last g a c (Ok (Some seed))) (Ok Done)
-  found_here true is l = (l.0, l.1, l.2, (from, to, none l.0 l.2, draws_kept version seed n (Some g) a b c l.0 (Ok Done) k l.3))
-  found_here false is l = absurd (cc)
+  pub found_here : (came : Bool) → came ≡ true → Attempts p version seed n g b c (Ok came) → Finds version n first last g a c (Ok (Some seed)) p (Ok Done)
+  found_here true is tried = (from, to, none, draws_kept version seed n (Some g) a b c p (Ok Done) k tried)
+  found_here false is tried = absurd (cc)
 
   -- it doesn't
-  pub none_still : (came : Bool) → came ≡ false → Tried_of came → (p : Plan) → scenario text ≡ Ok p → NoneBelow p version n g first (seed + 1)
-  none_still true is l p read = absurd (cc)
-  none_still false is l p read = none_more p read (subst (λ (q : Plan). (walk q version seed n (Some g)).ending ≡ Over) (same l.0 (l.2) read) l.3.0)
-    where
-      same : (q : Plan) → scenario text ≡ Ok q → scenario text ≡ Ok p → q ≡ p
-      same q one other = cc
+  pub none_still : (came : Bool) → came ≡ false → Attempts p version seed n g b c (Ok came) → NoneBelow p version n g first (seed + 1)
+  none_still true is tried = absurd (cc)
+  none_still false is tried = none_more tried.0
 
-  pub still_kept : (came : Bool) → came ≡ false → Tried_of came → Keeps a c
-  still_kept true is l = absurd (cc)
-  still_kept false is l = keeps_trans a b c k l.3.1
+  pub still_kept : (came : Bool) → came ≡ false → Attempts p version seed n g b c (Ok came) → Keeps a c
+  still_kept true is tried = absurd (cc)
+  still_kept false is tried = keeps_trans a b c k tried.1
 
   -- it is the last
-  pub none_found : (came : Bool) → came ≡ false → seed ≡ last → Tried_of came → Lent text (Keeps a c) (Finds version n first last g a c (Ok None)) (Ok Limit)
-  none_found true is same l = absurd (cc)
-  none_found false is same l = (l.0, l.1, l.2, (subst (λ s. NoneBelow l.0 version n g first (s + 1)) same (none_still false is l l.0 l.2), still_kept false is l))
+  pub none_found : (came : Bool) → came ≡ false → seed ≡ last → Attempts p version seed n g b c (Ok came) → Finds version n first last g a c (Ok None) p (Ok Limit)
+  none_found came is same tried = (subst (λ s. NoneBelow p version n g first (s + 1)) same (none_still came is tried), still_kept came is tried)
 
   -- a fault
-  pub fault_here : (f : EngineFault) → Lent text (Keeps b c) (Attempts version seed n g b c (Err f)) (Err f) → Lent text (Keeps a c) (Finds version n first last g a c (Err f)) (Err f)
-  fault_here fault.TooLong l = (l.0, keeps_trans a b c k l.1)
-  fault_here (fault.Scenario e) l = (l.0, l.1, keeps_trans a b c k l.2)
-  fault_here fault.NoMemory l = absurd l
-  fault_here (fault.Trace f) l = (l.0, l.1, l.2, (seed, from, to, none l.0 l.2, draws_kept version seed n (Some g) a b c l.0 (Err (fault.Trace f)) k l.3))
-  fault_here (fault.Beyond e) l = absurd (l.3)
-  fault_here fault.CannotRead l = absurd l
+  pub fault_here : (f : EngineFault) → Attempts p version seed n g b c (Err f) → Finds version n first last g a c (Err f) p (Err f)
+  fault_here f tried = (seed, from, to, none, draws_kept version seed n (Some g) a b c p (Err f) k tried)
+
+-- ---- on the plan of a scenario
+
+module _ (text : List ℕ) (p : Plan) (short : length text ≤ scenario_limit) (read : scenario text ≡ Ok p) (version : Version) (n : ℕ) (a b : Option (List ℕ)) where
+  pub drawn_lent : (seed : ℕ) (g : Option Goal) (answer : Answer) → Draws version seed n g a b p answer → Lent text (Keeps a b) (Draws version seed n g a b) answer
+  drawn_lent seed g (Ok status) d = (p, short, read, d)
+  drawn_lent seed g (Err (fault.Trace f)) d = (p, short, read, d)
+  drawn_lent seed g (Err (fault.Scenario e)) d = absurd d
+  drawn_lent seed g (Err (fault.Beyond e)) d = absurd d
+  drawn_lent seed g (Err fault.TooLong) d = absurd d
+  drawn_lent seed g (Err fault.NoMemory) d = absurd d
+  drawn_lent seed g (Err fault.CannotRead) d = absurd d
+
+  pub drawn_safely : (seed : ℕ) (g : Option Goal) (answer : Answer) → OnOk answer (WalksSafely p version seed n g) → OnOk answer (DrawsSafely text version seed n g)
+  drawn_safely seed g (Ok status) safe = (p, read, safe)
+  drawn_safely seed g (Err f) safe = tt
+
+  module _ (first last : ℕ) (g : Goal) where
+    pub found_lent : (found : Found) → Finds version n first last g a b found p (found_answer found) → Lent text (Keeps a b) (Finds version n first last g a b found) (found_answer found)
+    found_lent (Ok (Some seed)) f = (p, short, read, f)
+    found_lent (Ok None) f = (p, short, read, f)
+    found_lent (Err (fault.Trace e)) f = (p, short, read, f)
+    found_lent (Err (fault.Scenario e)) f = absurd (f.4)
+    found_lent (Err (fault.Beyond e)) f = absurd (f.4)
+    found_lent (Err fault.TooLong) f = absurd (f.4)
+    found_lent (Err fault.NoMemory) f = absurd (f.4)
+    found_lent (Err fault.CannotRead) f = absurd (f.4)
+
+    pub found_safely : (found : Found) → IfOk found (λ o. IfSome o (λ seed. WalksSafely p version seed n (Some g)))
+        → IfOk found (λ o. IfSome o (λ seed. DrawsSafely text version seed n (Some g)))
+    found_safely (Ok (Some seed)) safe = (p, read, safe)
+    found_safely (Ok None) safe = tt
+    found_safely (Err f) safe = tt

@@ -50,7 +50,7 @@ pub mod DrivenLines
 pub mod SlotsInTurn
 -- the lines of a walk, written as its edges are made: `seeks::seek`, `draws::take`
 pub mod DrawnLines
--- a walk that seeks a goal, turn by turn: src/seeks.rt, `draws::drive_drawn`
+-- a walk that seeks a goal, turn by turn: src/seeks.rt, `draws::draw_trace`
 pub mod SoughtGoals
 -- a walk that seeks an event ends with the first edge that brings it: src/laws.rt
 pub mod BroughtEvents
@@ -58,7 +58,7 @@ pub mod BroughtEvents
 pub mod DrawnWalks
 -- what the edges of a trace come to, piece by piece
 pub mod Sums
--- seeds that are tried one after the other: src/seeds.rt
+-- seeds that are tried one after the other: src/seeds.rt, `draws::drive_drawn`
 pub mod FoundSeeds
 -- the ends of verdict lines in a table
 pub mod VerdictEnds

@@ -78,11 +78,16 @@ Draws version seed n g old new p (Err (fault.Trace f)) =
     (f ≡ Write) × AppendsFront old new (walk_text p version seed n g)
 Draws version seed n g old new p (Err _) = ⊥
 
--- The edges that were made are a safe and orderly list.
+-- The edges that the walk of a seed makes on a plan are a safe and orderly list.
+abbrev pub WalksSafely : Plan → Version → ℕ → ℕ → Option Goal → Type 0
+WalksSafely p version seed n g =
+    IsSafe p (walk p version seed n g).walk.state.history
+    × IsOrderly version p (walk p version seed n g).walk.state.history
+
+-- So are those that were made on the plan of a scenario.
 abbrev pub DrawsSafely : List ℕ → Version → ℕ → ℕ → Option Goal → Type 0
 DrawsSafely lent version seed n g =
-    (p : Plan) × (scenario lent ≡ Ok p) × IsSafe p (walk p version seed n g).walk.state.history
-    × IsOrderly version p (walk p version seed n g).walk.state.history
+    (p : Plan) × (scenario lent ≡ Ok p) × WalksSafely p version seed n g
 
 -- an edge that was missed is well formed
 abbrev pub IsWellFormed : Ending → Type 0

@@ -1,17 +1,15 @@
 -- What a drive over seeds leaves and answers.
-use Rattle.std.specs.Prelude.{◌≡◌, ◌≤◌, ◌<◌, ◌+◌, ℕ, Bool, true, false, not, List, Option, Some, None, Result, Ok, Err}
+use Rattle.std.specs.Prelude.{◌≡◌, ◌≤◌, ◌<◌, ◌+◌, ℕ, Bool, true, false, List, Option, Some, None, Result, Ok, Err}
 use Rattle.std.specs.Io.KnownBytes.{Keeps}
 use Rattle.vme_model.specs.declared.signals.Version.{Version}
 use Rattle.vme_model.specs.Plan.{Plan}
 use Rattle.vme_goals.specs.declared.goals.Goal.{Goal}
-use Rattle.vme_trace.specs.declared.Fault.TheVariants.{Write}
 use Rattle.vme_engines.specs.declared.EngineFault.{EngineFault}
 use Rattle.vme_engines.specs.declared.EngineFault.TheVariants as fault
 use Rattle.vme_engines.specs.declared.Status.TheVariants.{Done, Limit}
 use Rattle.vme_engines.specs.declared.seeks.Ending.TheVariants.{Over}
 use Rattle.vme_engines.specs.Outcomes.{Answer}
 use Rattle.vme_engines.specs.Drawing.{walk, Draws}
-use Rattle.vme_engines.specs.Seeking.{is_over}
 
 -- whether a seed comes to the goal
 abbrev pub Tried : Type 0
@@ -21,12 +19,7 @@ Tried = Result Bool EngineFault
 abbrev pub Found : Type 0
 Found = Result (Option ℕ) EngineFault
 
--- the answers that a drive with that seed would give
-abbrev pub tried_answer : Tried → Answer
-tried_answer (Ok true) = Ok Done
-tried_answer (Ok false) = Ok Limit
-tried_answer (Err f) = Err f
-
+-- the answer that a drive with that seed would give
 abbrev pub found_answer : Found → Answer
 found_answer (Ok (Some seed)) = Ok Done
 found_answer (Ok None) = Ok Limit
@@ -37,22 +30,14 @@ abbrev pub NoneBelow : Plan → Version → ℕ → Goal → ℕ → ℕ → Typ
 NoneBelow p version n g first seed =
     (s : ℕ) → first ≤ s → s < seed → (walk p version s n (Some g)).ending ≡ Over
 
--- What is seen of the walk of one seed: whether it comes to the goal.
-abbrev pub Sees : Version → ℕ → ℕ → Goal → Tried → Plan → Answer → Type 0
-Sees version seed n g (Ok has_come) p answer =
-    has_come ≡ not (is_over (walk p version seed n (Some g)).ending)
-Sees version seed n g (Err f) p answer = f ≡ fault.Trace Write
-
 -- What a try of one seed leaves: what a drive with it leaves where it comes to the goal, and else
 -- nothing.
 abbrev pub Attempts :
-    Version → ℕ → ℕ → Goal → Option (List ℕ) → Option (List ℕ)
-    → Tried → Plan → Answer → Type 0
-Attempts version seed n g old new (Ok true) p answer =
-    Draws version seed n (Some g) old new p (Ok Done)
-Attempts version seed n g old new (Ok false) p answer =
+    Plan → Version → ℕ → ℕ → Goal → Option (List ℕ) → Option (List ℕ) → Tried → Type 0
+Attempts p version seed n g old new (Ok true) = Draws version seed n (Some g) old new p (Ok Done)
+Attempts p version seed n g old new (Ok false) =
     ((walk p version seed n (Some g)).ending ≡ Over) × Keeps old new
-Attempts version seed n g old new (Err f) p answer = Draws version seed n (Some g) old new p (Err f)
+Attempts p version seed n g old new (Err f) = Draws version seed n (Some g) old new p (Err f)
 
 -- What a drive over seeds leaves: what a drive leaves with the first of them that comes to the goal,
 -- and nothing where none does.

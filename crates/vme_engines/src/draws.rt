@@ -3,9 +3,9 @@ ghost use Rattle.std.specs.Prelude.{◌≡◌, [], OnOk, OnErr, IfOk, IfErr};
 ghost use Rattle.std.specs.Io.KnownBytes.{Appends, Keeps};
 ghost use Rattle.vme_model.specs.Text.{edge_lines};
 ghost use Rattle.vme_trace.specs.Writing.{AppendsFront};
-ghost use Rattle.vme_draws.specs.Walks.{walked};
-ghost use Rattle.vme_engines.specs.Outcomes.{Lent};
-ghost use Rattle.vme_engines.specs.Drawing.{Draws, DrawsSafely, IsWellFormed, ended_lines, ended_text, missed_of, status_to};
+ghost use Rattle.vme_draws.specs.Walks.{at_start, walked};
+ghost use Rattle.vme_engines.specs.Outcomes.{Lent, bench};
+ghost use Rattle.vme_engines.specs.Drawing.{Draws, DrawsSafely, IsWellFormed, WalksSafely, ended_lines, ended_text, missed_of, status_to};
 ghost use Rattle.vme_engines.specs.Seeking.{walk_to};
 ghost use Rattle.vme_engines.specs.Texts.{ListsOn};
 
@@ -19,6 +19,7 @@ use std::io::Write;
 use vme_draws::Walk;
 use vme_goals::Goal;
 use vme_model::Version;
+use vme_slots::Plan;
 use vme_text::Text;
 use vme_trace::{Fault, flush, header_line, line_of, put};
 
@@ -142,6 +143,55 @@ fn status_to(goal: Option<Goal>, edges: u32, made: u32, ending: Ending) -> Statu
     }
 }
 
+/// Draws edges and makes them, at most so many and up to the goal, on a walk that has none, and
+/// writes their trace.
+///
+/// Errors: X8 where the output cannot be written.
+pub(crate) fn draw_trace<W: Write>(
+    walk: &mut Walk,
+    edges: u32,
+    until: Option<Goal>,
+    out: &mut W,
+) -> Result<Status, EngineFault>
+    requires { walk.old
+        ≡ at_start (bench walk.old.state.plan walk.old.state.version) walk.old.seed }
+    ensures outcome { Draws walk.old.state.version walk.old.seed edges until
+        (W.contents out.old) (W.contents out.new) walk.old.state.plan result }
+    ensures safe { OnOk result
+        (WalksSafely walk.old.state.plan walk.old.state.version walk.old.seed edges until) }
+{
+    match write_walk(walk, until, edges, out) {
+        Ok(ending) => {
+            let bus = walk.bus();
+            bus.laws();
+            bus.safety();
+            Ok(status_to(until, edges, bus.len(), ending))
+        }
+        Err(fault) => Err(EngineFault::Trace(fault)),
+    }
+}
+
+/// Draws edges on a plan by the numbers of a seed, at most so many and up to the goal, and writes
+/// their trace. Its frame is large.
+///
+/// Errors: X8 where the output cannot be written.
+#[inline(never)]
+fn draw_on<W: Write>(
+    plan: Plan,
+    edges: u32,
+    seed: u64,
+    until: Option<Goal>,
+    out: &mut W,
+    version: Version,
+) -> Result<Status, EngineFault>
+    ensures outcome { Draws version seed edges until (W.contents out.old) (W.contents out.new)
+        plan result }
+    ensures safe { OnOk result (WalksSafely plan version seed edges until) }
+{
+    let walk = &mut Walk::new(plan, version, seed);
+    draw_trace(walk, edges, until, out)
+}
+
 /// Draws edges of a scenario's bus among all that the rules allow, by the numbers of a seed, and writes their
 /// trace: at most `edges`, and with a goal up to the edge that brings it about. Where the goal is a condition, it ends
 /// with the first edge that this condition alone refuses, which is written after the others and counts as one of them.
@@ -168,14 +218,5 @@ pub fn drive_drawn<W: Write>(
     ensures safe { OnOk result (DrawsSafely scenario.now version seed edges until) }
 {
     let plan = plan_of(alloc, scenario)?;
-    let mut walk = Walk::new(plan, version, seed);
-    match write_walk(&mut walk, until, edges, out) {
-        Ok(ending) => {
-            let bus = walk.bus();
-            bus.laws();
-            bus.safety();
-            Ok(status_to(until, edges, bus.len(), ending))
-        }
-        Err(fault) => Err(EngineFault::Trace(fault)),
-    }
+    draw_on(plan, edges, seed, until, out, version)
 }

@@ -1,4 +1,4 @@
-//! Which seed is tried, told on standard error.
+//! How far a search came, told on standard error.
 ghost use Rattle.std.specs.Prelude.{◌≡◌, None};
 ghost use Rattle.vme_jobs.specs.Paced.{IsPaced};
 
@@ -8,7 +8,7 @@ use vme_engines::Progress;
 /// For how many seconds nothing is told after a line.
 const PAUSE: u64 = 1;
 
-/// Tells which seed is tried, once a second at most, or nothing.
+/// Tells how far a search came, once a second at most, or nothing.
 #[derive(Drop)]
 pub(crate) struct Teller<'r> {
     rt: &'r HostRuntime,
@@ -30,13 +30,11 @@ impl<'r> Teller<'r> {
         }
     }
 
-    /// Whether a line is due now, which is then the last one told. None is while the clock cannot be read.
-    fn is_due(&mut self) -> bool
-        ensures { IsPaced self.old.told self.new.told result }
+    /// Whether a line is due at that time, which is then the last one told: the first, and any other
+    /// as soon as a second has passed since the last.
+    fn is_due_at(&mut self, now: Instant) -> bool
+        ensures { IsPaced self.old.told self.new.told now result }
     {
-        let Ok(now) = Instant::now(self.rt) else {
-            return false;
-        };
         if let Some(told) = self.told
             && now.duration_since(told).as_secs() < PAUSE
         {
@@ -45,12 +43,29 @@ impl<'r> Teller<'r> {
         self.told = Some(now);
         true
     }
+
+    /// Whether a line is due now, and wanted. None is while the clock cannot be read.
+    fn is_due(&mut self) -> bool {
+        if !self.is_wanted {
+            return false;
+        }
+        match Instant::now(self.rt) {
+            Ok(now) => self.is_due_at(now),
+            Err(_) => false,
+        }
+    }
 }
 
 impl Progress for Teller<'_> {
     fn trying(&mut self, seed: u64) {
-        if self.is_wanted && self.is_due() {
+        if self.is_due() {
             let _ = eprintln!(self.rt; "trying seed {seed}");
+        }
+    }
+
+    fn drawn(&mut self, seed: u64, edges: u64) {
+        if self.is_due() {
+            let _ = eprintln!(self.rt; "trying seed {seed}, {edges} edges so far");
         }
     }
 }

@@ -19,7 +19,7 @@ use Rattle.vme_engines.proofs.FirstReads.{no_plan_asking}
 use Rattle.vme_run.specs.declared.RunFault.{RunFault}
 use Rattle.vme_run.specs.declared.RunFault.TheVariants.{Engine, NotStarted, LogDiffers, NotReplayed}
 use Rattle.vme_run.specs.Running.{IsMade, IsRun, AreHandedBack, HasOtherLogs, RunsOn, Runs}
-use Rattle.vme_run.specs.Between.{IsRead, IsUnread, IsGrown, IsPlayed, HasGrownApart, IsNotPlayed, EndsRun, IsWritten}
+use Rattle.vme_run.specs.Between.{IsRead, IsUnread, IsGrown, IsPlayed, HasGrownApart, IsNotPlayed, IsWritten}
 
 -- what can be made is no more than what is asked for
 pub fits : (n others m : ℕ) → m ≡ min n others → m ≤ n
@@ -53,10 +53,6 @@ other_logs version p m n turns b driver at fits grown apart =
 version_of : (version : Version) (p : Plan) (n turns : ℕ) (b : State) → IsPlayed turns (at_power_up version p n) b → b.version ≡ version
 version_of version p n turns b played = ap (λ x. x.version) played.0.0.1
 
--- a scenario is read as one plan
-pub read_again : (lent : List ℕ) (p q : Plan) → IsRead lent p → IsRead lent q → q ≡ p
-read_again lent p q one two = let a = one.read in let b = two.read in cc
-
 -- a second backplane of the plan is the played one without its edges
 pub reopened : (version : Version) (p : Plan) (n turns : ℕ) (opened closed again : State) → opened ≡ at_power_up version p n → again ≡ at_power_up version p n → IsPlayed turns opened closed → again ≡ record closed { history = [] }
 reopened version p n turns opened closed again first second played =
@@ -79,16 +75,13 @@ not_read lent version n turns old NotStarted none = absurd none
 not_read lent version n turns old (LogDiffers driver at) none = absurd none
 not_read lent version n turns old (NotReplayed at) none = absurd none
 
-pub ends_unread : (lent : List ℕ) (version : Version) (most turns : ℕ) (f : RunFault) → IsUnread lent f → EndsRun lent version most turns f
-ends_unread lent version most turns f none n old fits = not_read lent version n turns old f none
-
 -- nothing, for want of memory
 pub runs_out : (lent : List ℕ) (version : Version) (n turns : ℕ) (p : Plan) (old : Option (List ℕ)) → IsRead lent p → Runs lent version n turns old old (Err (Engine fault.NoMemory))
 runs_out lent version n turns p old is = (p, is.short, is.read, Keeps-refl _)
 
 module _ (lent : List ℕ) (version : Version) (m n turns : ℕ) (fits : m ≤ n) (p : Plan) (old : Option (List ℕ)) (is : IsRead lent p) where
   -- nothing, where the boards were not played
-  not_played_from : (f : RunFault) → IsNotPlayed turns (at_power_up version p m) f → Runs lent version n turns old old (Err f)
+  pub not_played_from : (f : RunFault) → IsNotPlayed turns (at_power_up version p m) f → Runs lent version n turns old old (Err f)
   not_played_from (Engine fault.NoMemory) none = (p, is.short, is.read, Keeps-refl _)
   not_played_from (Engine fault.TooLong) none = absurd none
   not_played_from (Engine (fault.Scenario e)) none = absurd none
@@ -114,9 +107,10 @@ module _ (lent : List ℕ) (version : Version) (m n turns : ℕ) (fits : m ≤ n
   written new b (Err (LogDiffers driver at)) played none = absurd none
   written new b (Err (NotReplayed at)) played none = absurd none
 
-pub ends_out : (lent : List ℕ) (version : Version) (most turns : ℕ) (p : Plan) → IsRead lent p → EndsRun lent version most turns (Engine fault.NoMemory)
-ends_out lent version most turns p is n old fits = runs_out lent version n turns p old is
+-- the first of two backplanes was not played
+pub unplayed : (version : Version) (p : Plan) (m turns : ℕ) (opened : State) (f : RunFault) → opened ≡ at_power_up version p m → IsNotPlayed turns opened f → IsNotPlayed turns (at_power_up version p m) f
+unplayed version p m turns opened f first none = subst (λ (o : State). IsNotPlayed turns o f) first none
 
-pub ends_unplayed : (lent : List ℕ) (version : Version) (most turns : ℕ) (p : Plan) (opened : State) (f : RunFault) → IsRead lent p → opened ≡ at_power_up version p most → IsNotPlayed turns opened f → EndsRun lent version most turns f
-ends_unplayed lent version most turns p opened f is first none n old fits =
-    not_played_from lent version most n turns fits p old is f (subst (λ (o : State). IsNotPlayed turns o f) first none)
+-- or there was no memory for them
+pub unopened : (turns : ℕ) (opened : State) (f : RunFault) → f ≡ Engine fault.NoMemory → IsNotPlayed turns opened f
+unopened turns opened f is = subst (λ (e : RunFault). IsNotPlayed turns opened e) (sym is) tt

@@ -1,7 +1,6 @@
 -- What the functions of a run tell one another.
 use Rattle.std.specs.Prelude.{◌≡◌, ◌==◌, ◌≤◌, ◌+◌, ◌*◌, ℕ, List, length, Option, Ok, Err, if◌then◌else◌}
 use Rattle.std.specs.Io.KnownBytes.{Appends}
-use Rattle.vme_model.specs.declared.signals.Version.{Version}
 use Rattle.vme_model.specs.declared.signals.Driver.{Driver}
 use Rattle.vme_model.specs.declared.signals.Edge.{Edge}
 use Rattle.vme_model.specs.Plan.{Plan, drivers}
@@ -20,7 +19,7 @@ use Rattle.vme_lock.specs.Seats.{Place, Follows}
 use Rattle.vme_lock.specs.Closing.{IsClosing, AreLogs, FirstDiffers}
 use Rattle.vme_run.specs.declared.RunFault.{RunFault}
 use Rattle.vme_run.specs.declared.RunFault.TheVariants.{Engine, NotStarted, LogDiffers, NotReplayed}
-use Rattle.vme_run.specs.Running.{AreInTurns, AreHandedBack, RunAnswer, Runs}
+use Rattle.vme_run.specs.Running.{AreInTurns, AreHandedBack, RunAnswer}
 
 -- the scenario is read as this plan
 pub record IsRead (lent : List ℕ) (p : Plan) : Type 0 where
@@ -77,11 +76,6 @@ IsNotPlayed turns opened NotStarted = Unit {0}
 IsNotPlayed turns opened (LogDiffers driver at) =
     (b : State) × IsGrown turns opened b × HasGrownApart turns opened b driver at
 IsNotPlayed turns opened (NotReplayed at) = ⊥
-
--- the fault ends a run of so many edges at most, with nothing written
-abbrev pub EndsRun : List ℕ → Version → ℕ → ℕ → RunFault → Type 0
-EndsRun lent version most turns f =
-    (n : ℕ) (old : Option (List ℕ)) → most ≤ n → Runs lent version n turns old old (Err f)
 
 -- what is left of the trace of a backplane, and the answer
 abbrev pub IsWritten : State → ℕ → Option (List ℕ) → Option (List ℕ) → RunAnswer → Type 0

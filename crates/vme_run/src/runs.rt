@@ -1,7 +1,7 @@
 //! A run from a scenario to a trace.
 ghost use Rattle.std.specs.Prelude.{◌≡◌, ◌≤◌, ◌+◌, ◌*◌, [], Ok, IfOk, IfErr, length, min};
 ghost use Rattle.vme_model.specs.Report.{at_power_up, trace_limit};
-ghost use Rattle.vme_run.specs.Between.{EndsRun, IsPlayed, IsRead, IsUnread, IsWritten};
+ghost use Rattle.vme_run.specs.Between.{IsNotPlayed, IsPlayed, IsRead, IsUnread, IsWritten};
 ghost use Rattle.vme_run.specs.Running.{Runs};
 
 use crate::RunFault;
@@ -25,6 +25,18 @@ fn plan_for(alloc: Global, text: &[u8]) -> Result<Plan, RunFault>
     match plan_of(alloc, text) {
         Ok(plan) => Ok(plan),
         Err(fault) => Err(RunFault::Engine(fault)),
+    }
+}
+
+/// The same plan once more. Errors: F3.
+fn plan_again(alloc: Global, plan: &Plan) -> Result<Plan, RunFault>
+    ensures plan { IfOk result (λ again. again ≡ plan.now) }
+    ensures fault { IfErr result (λ f. f ≡ RunFault.Engine EngineFault.NoMemory) }
+{
+    let (slots, arbiter) = (plan.slots(), plan.arbiter());
+    match Plan::new(alloc, slots, plan.rows(), plan.jumpers(), arbiter) {
+        Ok(again) => Ok(again),
+        Err(_) => Err(RunFault::Engine(EngineFault::NoMemory)),
     }
 }
 
@@ -63,28 +75,23 @@ fn replay<'r>(closed: &Backplane<'_>, mut second: Backplane<'r>) -> Result<Backp
     Ok(second)
 }
 
-/// Two backplanes of a scenario at power-up, the first of the plan that was read.
+/// Two backplanes of a plan at power-up. Errors: F3.
 fn backplanes_on<'r>(
     alloc: Global,
     rest: &mut Rest<'r>,
-    scenario: &[u8],
     plan: Plan,
-    bounds: Bounds,
+    edges: u32,
     version: Version,
 ) -> Result<(Backplane<'r>, Backplane<'r>), RunFault>
-    requires read { IsRead scenario.now plan }
-    ensures first { IfOk result (λ two. two.0 ≡ at_power_up version plan bounds.edges) }
-    ensures second { IfOk result (λ two. two.1 ≡ at_power_up version plan bounds.edges) }
-    ensures fault { IfErr result (EndsRun scenario.now version bounds.edges bounds.turns) }
+    ensures first { IfOk result (λ two. two.0 ≡ at_power_up version plan edges) }
+    ensures second { IfOk result (λ two. two.1 ≡ at_power_up version plan edges) }
+    ensures fault { IfErr result (λ f. f ≡ RunFault.Engine EngineFault.NoMemory) }
 {
-    let Ok(first) = backplane_on(alloc, rest, plan, bounds.edges, version) else {
+    let again = plan_again(alloc, &plan)?;
+    let Ok(first) = backplane_on(alloc, rest, plan, edges, version) else {
         return Err(RunFault::Engine(EngineFault::NoMemory));
     };
-    let again = match plan_for(alloc, scenario) {
-        Ok(again) => again,
-        Err(fault) => return Err(fault),
-    };
-    let Ok(second) = backplane_on(alloc, rest, again, bounds.edges, version) else {
+    let Ok(second) = backplane_on(alloc, rest, again, edges, version) else {
         return Err(RunFault::Engine(EngineFault::NoMemory));
     };
     Ok((first, second))
@@ -95,17 +102,16 @@ fn made_twice<'r, R: Threads + Wait + Sync>(
     rt: &R,
     alloc: Global,
     rest: &mut Rest<'r>,
-    scenario: &[u8],
     plan: Plan,
     bounds: Bounds,
     version: Version,
 ) -> Result<Backplane<'r>, RunFault>
-    requires limit { bounds.edges ≤ trace_limit }
-    requires read { IsRead scenario.now plan }
+    requires { bounds.edges ≤ trace_limit }
     ensures made { IfOk result (IsPlayed bounds.turns (at_power_up version plan bounds.edges)) }
-    ensures fault { IfErr result (EndsRun scenario.now version bounds.edges bounds.turns) }
+    ensures fault { IfErr result
+        (IsNotPlayed bounds.turns (at_power_up version plan bounds.edges)) }
 {
-    match backplanes_on(alloc, rest, scenario, plan, bounds, version) {
+    match backplanes_on(alloc, rest, plan, bounds.edges, version) {
         Err(fault) => Err(fault),
         Ok((first, second)) => match play(rt, alloc, first, bounds) {
             Err(fault) => Err(fault),
@@ -152,15 +158,7 @@ pub fn run<R: Threads + Wait + Sync, W: Write>(
         return Err(RunFault::Engine(EngineFault::NoMemory));
     };
     let bounds = Bounds { turns, edges: most };
-    match made_twice(
-        rt,
-        alloc,
-        &mut region.rest(),
-        scenario,
-        plan,
-        bounds,
-        version,
-    ) {
+    match made_twice(rt, alloc, &mut region.rest(), plan, bounds, version) {
         Ok(made) => write_made(&made, edges, out),
         Err(fault) => Err(fault),
     }

@@ -151,7 +151,8 @@ what each event is, and has all conditions; six of them never refuse an edge alo
 With --seeds it tries the seeds S to T in order. The first with which EVENT comes within the given
 number of edges is told on standard error as `seed S`, its trace is written, and the exit status is
 0. Where it comes with none, `no seed` is told, nothing is written, and the exit status is 3. With
---progress it tells on standard error which seed it tries, as `trying seed S`, once a second at most.
+--progress it tells on standard error which seed it tries, as `trying seed S`, once a second at most,
+and of a long one how many edges it has drawn.
 
 Examples:
   vmebus drive board.toml --edges 1000 > tenure.vme
