@@ -57,7 +57,7 @@ impl Summing {
         ensures sum { OfSum self.old (λ b es. IsSumOf b (es ++ edge.now ∷ []) self.new) }
     {
         let events = self.following.events(edge);
-        let answer = self.following.answer(edge);
+        let answer = self.following.step(edge);
         self.following.judged += 1;
         self.tally.note(edge, &answer, events.as_slice());
     }

@@ -9,7 +9,7 @@ use Rattle.vme_engines.proofs.explains.explain_piece.Goals as goal
 pub returns-in_err-status-in-Some : goal.returns-in_err-status-in-Some
 returns-in_err-status-in-Some g c =
     let e = err_from_is_err_and c.from_residual.result c.from_residual.ensures.1 in
-    let status = edge_status c.follow_to.new.self.bus c.in-Some.found in
+    let status = edge_status c.follow_to.new.self.bus c.in-Some.found.edge in
     rw (e.1, e.2)
     (inr (
       c.in_err-status-in-Some.ensures.fault,

@@ -11,13 +11,13 @@ returns-in_err-tell_place g c =
     rw (e.1, e.2)
     (inr (
       c.in_err-tell_place.ensures.fault,
-      place_told c.args.after c.args.following.now c.follow_through.new.self c.args.edges.now c.args.more (AppendsFront (g.W.Write.contents c.args.out.now) (g.W.Write.contents c.tell_place.new.out)) c.if-follow_through.ensures c.in_err-tell_place.ensures.front,
+      place_told c.args.after c.follow_through.result c.args.following.now c.follow_through.new.self c.args.edges.now c.args.more (AppendsFront (g.W.Write.contents c.args.out.now) (g.W.Write.contents c.tell_place.new.out)) ? c.follow_through.ensures c.in_err-tell_place.ensures.front,
     ))
 
 pub returns-then-follow_through : goal.returns-then-follow_through
 returns-then-follow_through g c =
     rw c.in_ok-tell_place.ensures.told
-    (place_told c.args.after c.args.following.now c.follow_through.new.self c.args.edges.now c.args.more (Appends (g.W.Write.contents c.args.out.now) (g.W.Write.contents c.tell_place.new.out)) c.if-follow_through.ensures c.in_ok-tell_place.ensures.ok, refl)
+    (place_told c.args.after c.follow_through.result c.args.following.now c.follow_through.new.self c.args.edges.now c.args.more (Appends (g.W.Write.contents c.args.out.now) (g.W.Write.contents c.tell_place.new.out)) ? c.follow_through.ensures c.in_ok-tell_place.ensures.ok, refl)
 
 pub returns-in_err-end-in-Ok-false : goal.returns-in_err-end-in-Ok-false
 returns-in_err-end-in-Ok-false g c =

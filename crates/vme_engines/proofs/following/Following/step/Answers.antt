@@ -1,6 +1,6 @@
 use Rattle.std.proofs.Common.{◌+◌, sym}
 use Rattle.vme_engines.proofs.FollowedEdges.{noted}
-use Rattle.vme_engines.proofs.following.Following.answer.Goals as goal
+use Rattle.vme_engines.proofs.following.Following.step.Goals as goal
 
 pub returns-in-Ok-clause-marks : goal.returns-in-Ok-clause-marks
 returns-in-Ok-clause-marks c =
