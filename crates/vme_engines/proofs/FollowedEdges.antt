@@ -1,9 +1,7 @@
 -- A trace that is followed edge by edge.
 use Rattle.std.proofs.Common.{◌≡◌, ℕ, ◌+◌, ◌<◌, ◌≤◌, List, [], ◌∷◌, ◌++◌, length, Bool, true, false, Option, Some, None, Result, Ok, Err, is_ok, get_or, take, drop, if◌then◌else◌, refl, sym, ◌∙◌, ap, subst, arith, take-append-drop}
-use Rattle.std.specs.Prelude.{slice_get}
 use Rattle.std.proofs.Math.ListN.{length-append}
-use Rattle.std.proofs.lemmas.List.{take_all, take_more, drop_more, length-take-le}
-use Rattle.std.proofs.lemmas.Option.{slice_get_within, slice_get_cases, get_or_from_slice_get}
+use Rattle.std.proofs.lemmas.List.{take_more, drop_more, length-take-le}
 use Rattle.vme_model.specs.declared.deliveries.Delivery.{Delivery}
 use Rattle.vme_model.specs.declared.refusals.Refused.{Refused}
 use Rattle.vme_model.specs.declared.signals.Cycle.{Cycle}
@@ -19,7 +17,7 @@ use Rattle.vme_reasons.specs.Marked.{IsMarksOf}
 use Rattle.vme_engines.specs.declared.following.Following.{Following}
 use Rattle.vme_engines.specs.Checking.{or_refusal, first_refusal}
 use Rattle.vme_reasons.specs.Traced.{OfTrace}
-use Rattle.vme_engines.specs.Followed.{Follows, ComesTo, IsMissing}
+use Rattle.vme_engines.specs.Followed.{Follows, ComesTo}
 use Rattle.vme_engines.proofs.WrittenLines.{kept_append}
 use Rattle.vme_engines.proofs.CheckPieces.{refusal_behind}
 
@@ -167,23 +165,13 @@ comes_to_refused first mid now es i d r h one none refused answered is count mar
 }
 
 -- the n-th of the trace
-pub comes_to_number : (n : ℕ) (first now : Following) (es : List Edge) (i : ℕ) (e : Edge) (r : Result (Option Delivery) Refused) → slice_get es i ≡ Some e → n ≡ (first.judged + i) + 1 → Follows first (take i es) now
+pub comes_to_number : (n : ℕ) (first now : Following) (es : List Edge) (i : ℕ) (e : Edge) (r : Result (Option Delivery) Refused) → i < length es → e ≡ get_or es i e → n ≡ (first.judged + i) + 1 → Follows first (take i es) now
     → r ≡ answer now.bus e → ComesTo (Some n) first es (record { edge = e; answer = r }) now
-comes_to_number n first now es i e r at is one answered =
-    let within = slice_get_within es i e at in record {
-      front = take i es;
-      rest = drop (i + 1) es;
-      split = split_at es i e within ∙ ap (λ x. take i es ++ (x ∷ drop (i + 1) es)) (get_or_from_slice_get es i e e at);
-      asked = is ∙ ap (λ m. (first.judged + m) + 1) (sym (length-take-le i es (omega arith)));
-      follows = one;
-      answered = answered;
-    }
-
--- all were followed, up to the one before the n-th
-pub missing_next : (n : ℕ) (first now : Following) (es : List Edge) (i : ℕ) → slice_get es i ≡ None → i ≤ length es → n ≡ (first.judged + i) + 1 → Follows first (take i es) now
-    → IsMissing (Some n) first.bus first.judged es × Follows first es now
-missing_next n first now es i at h is one =
-    let past : length es ≤ i = grind (arith, slice_get_cases es i) in (
-      (λ asked given low. let same : n ≡ asked = grind arith in omega (arith, same, is, past, h), λ none. absurd cc),
-      subst (λ (l : List Edge). Follows first l now) (take_all i es past) one,
-    )
+comes_to_number n first now es i e r h at is one answered = record {
+  front = take i es;
+  rest = drop (i + 1) es;
+  split = split_at es i e h ∙ ap (λ x. take i es ++ (x ∷ drop (i + 1) es)) (sym at);
+  asked = is ∙ ap (λ m. (first.judged + m) + 1) (sym (length-take-le i es (omega arith)));
+  follows = one;
+  answered = answered;
+}

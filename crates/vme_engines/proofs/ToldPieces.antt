@@ -1,6 +1,5 @@
 -- What is told of a trace, piece by piece.
 use Rattle.std.proofs.Common.{◌≡◌, inl, inr, ℕ, ◌+◌, List, [], ◌∷◌, ◌++◌, length, take, drop, Bool, true, false, Option, Some, None, Result, Ok, Err, OnErr, is_ok, refl, sym, ◌∙◌, ap, subst, arith, append_assoc, append-nil, take-append-drop}
-use Rattle.std.specs.Prelude.{is_some}
 use Rattle.std.proofs.lemmas.List.{length-take-le}
 use Rattle.std.specs.Io.KnownBytes.{Keeps, Appends}
 use Rattle.std.proofs.KnownBytes.{Keeps-trans, Appends-kept}
@@ -177,10 +176,9 @@ edge_told edge first mid es found status W here ends block = record {
 }
 
 -- the place that was reached is told
-pub place_told : (after count : Option ℕ) (first mid : Following) (es : List Edge) (more : Result Bool Fault) (W : List ℕ → Type 0) → is_some count ≡ true → Reaches after first es mid count
+pub place_told : (after : Option ℕ) (n : ℕ) (first mid : Following) (es : List Edge) (more : Result Bool Fault) (W : List ℕ → Type 0) → Reaches after first es mid (Some n)
     → OfTrace mid.bus mid.marks (λ k. W (stands_text mid.judged mid.bus k)) → TellsPlace after first es more W
-place_told after None first mid es more W some h block = absurd cc
-place_told after (Some n) first mid es more W some h block = record {
+place_told after n first mid es more W h block = record {
   front = take n es;
   rest = drop n es;
   split = sym (take-append-drop n es);

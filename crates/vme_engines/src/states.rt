@@ -66,8 +66,9 @@ fn state_piece<W: Write>(
     ensures { StatesPiece after following.old edges.now more
         (W.contents out.old) (W.contents out.new) following.new result }
 {
-    if following.follow_through(after, edges).is_some() {
-        return Ok(Some(tell_place(following, out)?));
+    match following.follow_through(after, edges) {
+        Some(_) => return Ok(Some(tell_place(following, out)?)),
+        None => {}
     }
     match more {
         Ok(true) => Ok(None),
