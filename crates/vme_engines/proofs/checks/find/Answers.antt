@@ -11,9 +11,9 @@ returns-in_err-version-clause-finds g c =
 pub returns-clause-finds : goal.returns-clause-finds
 returns-clause-finds g c =
     let ran = c.read_on.ensures _ _ c.in_ok-version.ensures.begun in
-    (ran.0, ran.1, (finds_all (λ s. s.bus) (λ s. s.judged) c.args.plan _ ran.0 _ c.new-bus.result 0 c.read_on.result c.new-bus.ensures refl ran.2).0)
+    (ran.0, ran.1, (finds_all (λ s. s.bus) (λ s. s.judged) c.args.plan _ ran.0 _ c.new.result 0 c.read_on.result c.new.ensures refl ran.2).0)
 
 pub returns-clause-kept : goal.returns-clause-kept
 returns-clause-kept g c =
     let ran = c.read_on.ensures _ _ c.in_ok-version.ensures.begun in
-    (finds_all (λ s. s.bus) (λ s. s.judged) c.args.plan _ ran.0 _ c.new-bus.result 0 c.read_on.result c.new-bus.ensures refl ran.2).1
+    (finds_all (λ s. s.bus) (λ s. s.judged) c.args.plan _ ran.0 _ c.new.result 0 c.read_on.result c.new.ensures refl ran.2).1
