@@ -1,11 +1,12 @@
 -- A trace that is followed edge by edge.
-use Rattle.std.proofs.Common.{◌≡◌, ℕ, ◌+◌, ◌<◌, ◌≤◌, List, [], ◌∷◌, ◌++◌, length, Bool, true, false, Option, Some, None, Result, Ok, Err, is_ok, get_or, take, drop, if◌then◌else◌, refl, sym, ◌∙◌, ap, subst, arith, take-append-drop}
+use Rattle.std.proofs.Common.{◌≡◌, ℕ, ◌+◌, ◌<◌, List, [], ◌∷◌, ◌++◌, length, Bool, true, false, Option, Some, None, Result, Ok, Err, is_ok, get_or, take, drop, if◌then◌else◌, refl, sym, ◌∙◌, ap, subst, arith, take-append-drop}
 use Rattle.std.proofs.Math.ListN.{length-append}
 use Rattle.std.proofs.lemmas.List.{take_more, drop_more, length-take-le}
 use Rattle.vme_model.specs.declared.deliveries.Delivery.{Delivery}
 use Rattle.vme_model.specs.declared.refusals.Refused.{Refused}
 use Rattle.vme_model.specs.declared.signals.Cycle.{Cycle}
 use Rattle.vme_model.specs.declared.signals.Edge.{Edge}
+use Rattle.vme_model.specs.declared.signals.Wire.{Wire}
 use Rattle.vme_model.specs.declared.signals.Wire.TheVariants.{Dtack}
 use Rattle.vme_model.specs.Plan.{Plan}
 use Rattle.vme_model.specs.History.{shown}
@@ -90,14 +91,22 @@ ok_with (Err r) d = refl
 with_by : (t : Bool) (n : ℕ) (e : Edge) (k : Numbered) → t ≡ true → (if t then (n, e) ∷ k else k) ≡ (n, e) ∷ k
 with_by t n e k is = rw is refl
 
--- an accepted edge was noted
-pub noted : (b : State) (n : ℕ) (e : Edge) (old new : Marks) (v : Option Cycle) → is_ok (verdict b e) ≡ true → (e.wire ≡ Dtack → v ≡ shown b.plan b.history)
+made_by : (t : Bool) (b : State) (e : Edge) → t ≡ true → (if t then made b e else b) ≡ made b e
+made_by t b e is = rw is refl
+
+-- an edge of DTACK* leaves what is shown
+shown_stays : (p : Plan) (h : List Edge) (e : Edge) → e.wire ≡ Dtack → shown p (e ∷ h) ≡ shown p h
+shown_stays p h e is = subst (λ (w : Wire). shown p ((record e { wire = w }) ∷ h) ≡ shown p h) (sym is) refl
+
+-- an accepted edge was noted, once it was made
+pub noted : (b now : State) (n : ℕ) (e : Edge) (old new : Marks) (v : Option Cycle) → is_ok (verdict b e) ≡ true → now ≡ after b e → (e.wire ≡ Dtack → v ≡ shown now.plan now.history)
     → ((p : Plan) (k : Numbered) → IsMarksOf p k old → (e.wire ≡ Dtack → v ≡ shown p (edges_in k)) → IsMarksOf p ((n, e) ∷ k) new)
     → OfTrace b old (λ k. IsMarksOf b.plan (numbered_with b n e k) new)
-noted b n e old new v accepted is h =
+noted b now n e old new v accepted is shows h =
+    let behind : now ≡ made b e = is ∙ made_by (is_ok (verdict b e)) b e accepted in
     λ k edges of.
     subst (λ (m : Numbered). IsMarksOf b.plan m new) (sym (with_by (is_ok (verdict b e)) n e k accepted))
-    (h b.plan k of (λ dtack. is dtack ∙ ap (shown b.plan) (sym edges)))
+    (h b.plan k of (λ dtack. shows dtack ∙ ap (λ s. shown s.plan s.history) behind ∙ shown_stays b.plan b.history e dtack ∙ ap (shown b.plan) (sym edges)))
 
 pub follows_one : (first now : Following) (e : Edge) → now.bus ≡ after first.bus e → now.judged ≡ first.judged + 1
     → OfTrace first.bus first.marks (λ k. IsMarksOf first.bus.plan (numbered_with first.bus (first.judged + 1) e k) now.marks) → Follows first (e ∷ []) now

@@ -4,12 +4,11 @@ use Rattle.std.specs.Prelude.{if◌then◌else◌}
 use Rattle.std.proofs.Math.ListN.{length-append}
 use Rattle.std.specs.Io.KnownBytes.{Keeps, Appends}
 use Rattle.std.proofs.KnownBytes.{Keeps-refl, Keeps-trans}
-use Rattle.vme_model.specs.declared.deliveries.Delivery.{Delivery}
 use Rattle.vme_model.specs.declared.signals.Version.{Version}
 use Rattle.vme_model.specs.declared.signals.Edge.{Edge}
 use Rattle.vme_model.specs.Plan.{Plan}
-use Rattle.vme_model.specs.Verdict.{State, Judgement, verdict, made, after, kept}
-use Rattle.vme_model.specs.Deliveries.{delivery, with_delivery}
+use Rattle.vme_model.specs.Verdict.{State, verdict, made, after, kept}
+use Rattle.vme_model.specs.Deliveries.{delivery}
 use Rattle.vme_model.specs.Text.{read_of}
 use Rattle.vme_model.specs.Numbered.{Numbered, numbered_with, numbered}
 use Rattle.vme_reasons.specs.Marked.{IsMarksOf}

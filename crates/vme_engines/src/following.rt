@@ -117,9 +117,10 @@ impl Following {
             (λ k. IsMarksOf self.old.bus.plan
             (numbered_with self.old.bus (self.old.judged + 1) edge.now k) self.new.marks) }
     {
-        let shown = self.shown_at(*edge);
         match self.bus.step(*edge) {
             Ok(delivery) => {
+                // Such an edge does not change what is shown.
+                let shown = self.shown_at(*edge);
                 self.marks.note(edge, self.judged + 1, shown);
                 Ok(delivery)
             }
