@@ -10,7 +10,7 @@ use Rattle.vme_goals.specs.declared.goals.Goal.TheVariants as goal
 use Rattle.vme_events.specs.Events.{comes}
 use Rattle.vme_engines.specs.declared.seeks.Ending.TheVariants.{Came}
 use Rattle.vme_engines.specs.Seeking.{Ended, ends_by, sought}
-use Rattle.vme_engines.specs.Bringing.{NoneBrings, LastBrings, IsSoOf, EndsWithItsEvent}
+use Rattle.vme_engines.specs.Bringing.{NoneBrings, IsSoOf, EndsWithItsEvent}
 
 module _ (p : Plan) (v : Event) where
   of_none : NoneBrings p v []

@@ -1,20 +1,24 @@
 -- A trace that is followed edge by edge.
-use Rattle.std.proofs.Common.{◌≡◌, ℕ, ◌+◌, ◌<◌, ◌≤◌, List, [], ◌∷◌, ◌++◌, length, Bool, true, false, Option, Some, None, Ok, Err, is_ok, get_or, take, drop, if◌then◌else◌, refl, sym, ◌∙◌, ap, subst, arith, take-append-drop}
+use Rattle.std.proofs.Common.{◌≡◌, ℕ, ◌+◌, ◌<◌, List, [], ◌∷◌, ◌++◌, length, Bool, true, false, Option, Some, None, Result, Ok, Err, is_ok, get_or, take, drop, if◌then◌else◌, refl, sym, ◌∙◌, ap, subst, arith, take-append-drop}
 use Rattle.std.proofs.Math.ListN.{length-append}
 use Rattle.std.proofs.lemmas.List.{take_more, drop_more, length-take-le}
+use Rattle.vme_model.specs.declared.deliveries.Delivery.{Delivery}
+use Rattle.vme_model.specs.declared.refusals.Refused.{Refused}
 use Rattle.vme_model.specs.declared.signals.Cycle.{Cycle}
 use Rattle.vme_model.specs.declared.signals.Edge.{Edge}
+use Rattle.vme_model.specs.declared.signals.Wire.{Wire}
 use Rattle.vme_model.specs.declared.signals.Wire.TheVariants.{Dtack}
 use Rattle.vme_model.specs.Plan.{Plan}
 use Rattle.vme_model.specs.History.{shown}
 use Rattle.vme_model.specs.Verdict.{State, Judgement, verdict, made, after, kept}
+use Rattle.vme_model.specs.Deliveries.{answer, with_delivery}
 use Rattle.vme_model.specs.Numbered.{Numbered, edges_in, numbered_with, numbered_on}
 use Rattle.vme_reasons.specs.declared.marks.Marks.{Marks}
 use Rattle.vme_reasons.specs.Marked.{IsMarksOf}
 use Rattle.vme_engines.specs.declared.following.Following.{Following}
 use Rattle.vme_engines.specs.Checking.{or_refusal, first_refusal}
 use Rattle.vme_reasons.specs.Traced.{OfTrace}
-use Rattle.vme_engines.specs.Followed.{Follows, ComesTo, Reaches}
+use Rattle.vme_engines.specs.Followed.{Follows, ComesTo}
 use Rattle.vme_engines.proofs.WrittenLines.{kept_append}
 use Rattle.vme_engines.proofs.CheckPieces.{refusal_behind}
 
@@ -80,17 +84,29 @@ module _ (first mid : Following) (es : List Edge) (one : Follows first es mid) w
 
 -- ---- one edge
 
+pub ok_with : (j : Judgement) (d : Option Delivery) → is_ok (with_delivery j d) ≡ is_ok j
+ok_with (Ok u) d = refl
+ok_with (Err r) d = refl
+
 with_by : (t : Bool) (n : ℕ) (e : Edge) (k : Numbered) → t ≡ true → (if t then (n, e) ∷ k else k) ≡ (n, e) ∷ k
 with_by t n e k is = rw is refl
 
--- an accepted edge was noted
-pub noted : (b : State) (n : ℕ) (e : Edge) (old new : Marks) (v : Option Cycle) → is_ok (verdict b e) ≡ true → (e.wire ≡ Dtack → v ≡ shown b.plan b.history)
+made_by : (t : Bool) (b : State) (e : Edge) → t ≡ true → (if t then made b e else b) ≡ made b e
+made_by t b e is = rw is refl
+
+-- an edge of DTACK* leaves what is shown
+shown_stays : (p : Plan) (h : List Edge) (e : Edge) → e.wire ≡ Dtack → shown p (e ∷ h) ≡ shown p h
+shown_stays p h e is = subst (λ (w : Wire). shown p ((record e { wire = w }) ∷ h) ≡ shown p h) (sym is) refl
+
+-- an accepted edge was noted, once it was made
+pub noted : (b now : State) (n : ℕ) (e : Edge) (old new : Marks) (v : Option Cycle) → is_ok (verdict b e) ≡ true → now ≡ after b e → (e.wire ≡ Dtack → v ≡ shown now.plan now.history)
     → ((p : Plan) (k : Numbered) → IsMarksOf p k old → (e.wire ≡ Dtack → v ≡ shown p (edges_in k)) → IsMarksOf p ((n, e) ∷ k) new)
     → OfTrace b old (λ k. IsMarksOf b.plan (numbered_with b n e k) new)
-noted b n e old new v accepted is h =
+noted b now n e old new v accepted is shows h =
+    let behind : now ≡ made b e = is ∙ made_by (is_ok (verdict b e)) b e accepted in
     λ k edges of.
     subst (λ (m : Numbered). IsMarksOf b.plan m new) (sym (with_by (is_ok (verdict b e)) n e k accepted))
-    (h b.plan k of (λ dtack. is dtack ∙ ap (shown b.plan) (sym edges)))
+    (h b.plan k of (λ dtack. shows dtack ∙ ap (λ s. shown s.plan s.history) behind ∙ shown_stays b.plan b.history e dtack ∙ ap (shown b.plan) (sym edges)))
 
 pub follows_one : (first now : Following) (e : Edge) → now.bus ≡ after first.bus e → now.judged ≡ first.judged + 1
     → OfTrace first.bus first.marks (λ k. IsMarksOf first.bus.plan (numbered_with first.bus (first.judged + 1) e k) now.marks) → Follows first (e ∷ []) now
@@ -143,31 +159,28 @@ split_at : (es : List Edge) (i : ℕ) (d : Edge) → i < length es → es ≡ ta
 split_at es i d h = sym (take-append-drop i es) ∙ ap (λ l. take i es ++ l) (drop_more es i d h)
 
 -- the first that is refused
-pub comes_to_refused : (first mid now : Following) (es : List Edge) (i : ℕ) (d : Edge) → i < length es → Follows first (take i es) mid
-    → first_refusal (first.judged + 1) first.bus (take i es) ≡ None → is_ok (verdict mid.bus (get_or es i d)) ≡ false
+pub comes_to_refused : (first mid now : Following) (es : List Edge) (i : ℕ) (d : Edge) (r : Result (Option Delivery) Refused) → i < length es → Follows first (take i es) mid
+    → first_refusal (first.judged + 1) first.bus (take i es) ≡ None → is_ok (verdict mid.bus (get_or es i d)) ≡ false → r ≡ answer mid.bus (get_or es i d)
     → now.bus ≡ after mid.bus (get_or es i d) → now.judged ≡ mid.judged
     → OfTrace mid.bus mid.marks (λ k. IsMarksOf mid.bus.plan (numbered_with mid.bus (mid.judged + 1) (get_or es i d) k) now.marks)
-    → ComesTo None first es (get_or es i d) now
-comes_to_refused first mid now es i d h one none refused is count marks = record {
+    → ComesTo None first es (record { edge = get_or es i d; answer = r }) now
+comes_to_refused first mid now es i d r h one none refused answered is count marks = record {
   front = take i es;
   rest = drop (i + 1) es;
   split = split_at es i d h;
   asked = (none, ap (λ s. is_ok (verdict s (get_or es i d))) (sym one.bus) ∙ refused);
   follows = follows_refused first mid now (take i es) (get_or es i d) one refused is count marks;
+  answered = answered ∙ ap (λ s. answer s (get_or es i d)) (sym (is ∙ after_refused (is_ok (verdict mid.bus (get_or es i d))) mid.bus (get_or es i d) refused));
 }
 
 -- the n-th of the trace
-pub comes_to_number : (n : ℕ) (first now : Following) (es : List Edge) (i : ℕ) (d : Edge) → i < length es → n ≡ (first.judged + i) + 1 → Follows first (take i es) now
-    → ComesTo (Some n) first es (get_or es i d) now
-comes_to_number n first now es i d h is one = record {
+pub comes_to_number : (n : ℕ) (first now : Following) (es : List Edge) (i : ℕ) (e : Edge) (r : Result (Option Delivery) Refused) → i < length es → e ≡ get_or es i e → n ≡ (first.judged + i) + 1 → Follows first (take i es) now
+    → r ≡ answer now.bus e → ComesTo (Some n) first es (record { edge = e; answer = r }) now
+comes_to_number n first now es i e r h at is one answered = record {
   front = take i es;
   rest = drop (i + 1) es;
-  split = split_at es i d h;
+  split = split_at es i e h ∙ ap (λ x. take i es ++ (x ∷ drop (i + 1) es)) (sym at);
   asked = is ∙ ap (λ m. (first.judged + m) + 1) (sym (length-take-le i es (omega arith)));
   follows = one;
+  answered = answered;
 }
-
--- the n-th was followed
-pub reached_front : (after : Option ℕ) (first now : Following) (es : List Edge) (i : ℕ) → i ≤ length es → after ≡ Some (first.judged + i) → Follows first (take i es) now
-    → Reaches after first es now true
-reached_front after first now es i h is one = (take i es, drop i es, sym (take-append-drop i es), is ∙ ap (λ m. Some (first.judged + m)) (sym (length-take-le i es h)), one)

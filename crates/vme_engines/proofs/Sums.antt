@@ -4,12 +4,11 @@ use Rattle.std.specs.Prelude.{if◌then◌else◌}
 use Rattle.std.proofs.Math.ListN.{length-append}
 use Rattle.std.specs.Io.KnownBytes.{Keeps, Appends}
 use Rattle.std.proofs.KnownBytes.{Keeps-refl, Keeps-trans}
-use Rattle.vme_model.specs.declared.deliveries.Delivery.{Delivery}
 use Rattle.vme_model.specs.declared.signals.Version.{Version}
 use Rattle.vme_model.specs.declared.signals.Edge.{Edge}
 use Rattle.vme_model.specs.Plan.{Plan}
-use Rattle.vme_model.specs.Verdict.{State, Judgement, verdict, made, after, kept}
-use Rattle.vme_model.specs.Deliveries.{delivery, with_delivery}
+use Rattle.vme_model.specs.Verdict.{State, verdict, made, after, kept}
+use Rattle.vme_model.specs.Deliveries.{delivery}
 use Rattle.vme_model.specs.Text.{read_of}
 use Rattle.vme_model.specs.Numbered.{Numbered, numbered_with, numbered}
 use Rattle.vme_reasons.specs.Marked.{IsMarksOf}
@@ -36,7 +35,7 @@ use Rattle.vme_engines.specs.Begun.{IsUnbegun}
 use Rattle.vme_engines.specs.Summing.{IsSummedUp, IsWaiting, Sums, SumsInput}
 use Rattle.vme_engines.specs.Summed.{IsSumOf, SumsPiece}
 use Rattle.vme_engines.proofs.WrittenLines.{kept_append}
-use Rattle.vme_engines.proofs.FollowedEdges.{kept_plan, edges_on, numbered_append}
+use Rattle.vme_engines.proofs.FollowedEdges.{kept_plan, edges_on, numbered_append, ok_with}
 use Rattle.vme_engines.proofs.ReadOn.{came_begins}
 use Rattle.vme_engines.proofs.ToldPieces.{appends_behind, front_after}
 use Rattle.vme_engines.proofs.Waits.{stops_waiting, waits_unbegun}
@@ -50,10 +49,6 @@ answered_append b t (e ∷ es) fs = answered_append (after b e) (answered_edge b
 answered_length : (b : State) (t : Told) (es : List Edge) → length (answered_on b t es) ≡ length t + length es
 answered_length b t [] = omega arith
 answered_length b t (e ∷ es) = let is = answered_length (after b e) (answered_edge b e ∷ t) es in omega (arith, is)
-
-ok_with : (j : Judgement) (d : Option Delivery) → is_ok (with_delivery j d) ≡ is_ok j
-ok_with (Ok u) d = refl
-ok_with (Err r) d = refl
 
 -- what is accepted is kept
 kept_count : (b : State) (t : Told) (es : List Edge) → accepted (answered_on b t es) + length b.history ≡ accepted t + length (kept b es).history

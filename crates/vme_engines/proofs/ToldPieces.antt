@@ -1,5 +1,6 @@
 -- What is told of a trace, piece by piece.
-use Rattle.std.proofs.Common.{◌≡◌, inl, inr, ℕ, ◌+◌, List, [], ◌∷◌, ◌++◌, length, Bool, true, false, Option, Some, None, Result, Ok, Err, OnErr, is_ok, refl, sym, ◌∙◌, ap, subst, arith, append_assoc, append-nil}
+use Rattle.std.proofs.Common.{◌≡◌, inl, inr, ℕ, ◌+◌, List, [], ◌∷◌, ◌++◌, length, take, drop, Bool, false, Option, Some, None, Result, Ok, Err, OnErr, is_ok, refl, sym, ◌∙◌, ap, subst, arith, append_assoc, append-nil, take-append-drop}
+use Rattle.std.proofs.lemmas.List.{length-take-le}
 use Rattle.std.specs.Io.KnownBytes.{Keeps, Appends}
 use Rattle.std.proofs.KnownBytes.{Keeps-trans, Appends-kept}
 use Rattle.vme_model.specs.declared.signals.Edge.{Edge}
@@ -12,6 +13,7 @@ use Rattle.vme_trace.specs.Writing.{AppendsFront}
 use Rattle.vme_reasons.specs.declared.marks.Marks.{Marks}
 use Rattle.vme_engines.specs.declared.Status.{Status}
 use Rattle.vme_engines.specs.declared.following.Following.{Following}
+use Rattle.vme_engines.specs.declared.following.Found.{Found}
 use Rattle.vme_engines.specs.declared.following.Told.{Told}
 use Rattle.vme_engines.specs.declared.following.Told.TheVariants.{Block, Beyond}
 use Rattle.vme_engines.specs.declared.checks.Finding.TheVariants.{Legal}
@@ -161,27 +163,27 @@ module _ (first mid : Following) (es fs : List Edge) (old at new : Option (List 
 -- ---- within a piece
 
 -- the edge that was come to is told
-pub edge_told : (edge : Option ℕ) (first mid : Following) (es : List Edge) (e : Edge) (status : Status) (W : List ℕ → Type 0) → ComesTo edge first es e mid
-    → status ≡ edge_status mid.bus e → OfTrace mid.bus mid.marks (λ k. W (why_text (mid.judged + 1) mid.bus k e)) → TellsEdge edge first es status W
-edge_told edge first mid es e status W here ends block = record {
+pub edge_told : (edge : Option ℕ) (first mid : Following) (es : List Edge) (found : Found) (status : Status) (W : List ℕ → Type 0) → ComesTo edge first es found mid
+    → status ≡ edge_status mid.bus found.edge → OfTrace mid.bus mid.marks (λ k. W (why_text (mid.judged + 1) mid.bus k found.edge)) → TellsEdge edge first es status W
+edge_told edge first mid es found status W here ends block = record {
   front = here.front;
-  e = e;
+  e = found.edge;
   rest = here.rest;
   split = here.split;
   asked = here.asked;
-  ends = ends ∙ ap (λ s. edge_status s e) here.follows.bus;
-  block = block_here first mid here.front here.follows (λ n b k. why_text (n + 1) b k e) W block;
+  ends = ends ∙ ap (λ s. edge_status s found.edge) here.follows.bus;
+  block = block_here first mid here.front here.follows (λ n b k. why_text (n + 1) b k found.edge) W block;
 }
 
 -- the place that was reached is told
-pub place_told : (after : Option ℕ) (first mid : Following) (es : List Edge) (more : Result Bool Fault) (W : List ℕ → Type 0) (h : Reaches after first es mid true)
+pub place_told : (after : Option ℕ) (n : ℕ) (first mid : Following) (es : List Edge) (more : Result Bool Fault) (W : List ℕ → Type 0) → Reaches after first es mid (Some n)
     → OfTrace mid.bus mid.marks (λ k. W (stands_text mid.judged mid.bus k)) → TellsPlace after first es more W
-place_told after first mid es more W h block = record {
-  front = h.0;
-  rest = h.1;
-  split = h.2;
-  reached = subst (λ (a : Option ℕ). IsPlace a first.judged h.0 h.1 more) (sym h.3) refl;
-  block = block_here first mid h.0 h.4 stands_text W block;
+place_told after n first mid es more W h block = record {
+  front = take n es;
+  rest = drop n es;
+  split = sym (take-append-drop n es);
+  reached = rw h.1 (ap (λ m. first.judged + m) (sym (length-take-le n es h.0)));
+  block = block_here first mid (take n es) h.2 stands_text W block;
 }
 
 -- the end of the trace is told

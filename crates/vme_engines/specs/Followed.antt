@@ -1,8 +1,9 @@
 -- What the edges of a trace do to an engine that follows it, up to the one that it waits for.
-use Rattle.std.specs.Prelude.{◌≡◌, ◌⊎◌, ◌<◌, ◌≤◌, ◌+◌, ◌++◌, ◌∷◌, [], ℕ, Bool, true, false, List, length, is_ok, Option, Some, None, Result, Ok, Err}
+use Rattle.std.specs.Prelude.{◌≡◌, ◌⊎◌, ◌<◌, ◌≤◌, ◌+◌, ◌++◌, ◌∷◌, [], ℕ, Bool, true, false, List, length, take, is_ok, Option, Some, None, Result, Ok, Err}
 use Rattle.std.specs.Io.KnownBytes.{Appends, Keeps}
 use Rattle.vme_model.specs.declared.signals.Edge.{Edge}
 use Rattle.vme_model.specs.Verdict.{State, verdict, kept}
+use Rattle.vme_model.specs.Deliveries.{answer}
 use Rattle.vme_model.specs.Numbered.{numbered_on}
 use Rattle.vme_model.specs.Why.{why_text}
 use Rattle.vme_model.specs.Stands.{stands_text}
@@ -13,6 +14,7 @@ use Rattle.vme_trace.specs.Writing.{AppendsFront}
 use Rattle.vme_engines.specs.declared.Status.{Status}
 use Rattle.vme_engines.specs.declared.Status.TheVariants.{Done}
 use Rattle.vme_engines.specs.declared.following.Following.{Following}
+use Rattle.vme_engines.specs.declared.following.Found.{Found}
 use Rattle.vme_engines.specs.declared.following.Told.{Told}
 use Rattle.vme_engines.specs.declared.following.Told.TheVariants.{Block, Beyond}
 use Rattle.vme_engines.specs.declared.checks.Finding.TheVariants.{Legal}
@@ -52,13 +54,14 @@ IsMissing edge b n es =
 
 -- the edge that is asked for is one of these; those before it were followed
 pub record ComesTo
-    (edge : Option ℕ) (first : Following) (es : List Edge) (e : Edge) (now : Following)
+    (edge : Option ℕ) (first : Following) (es : List Edge) (found : Found) (now : Following)
     : Type 0 where
   pub front : List Edge
   pub rest : List Edge
-  pub split : es ≡ front ++ e ∷ rest
-  pub asked : IsNext edge first.bus first.judged front e
+  pub split : es ≡ front ++ found.edge ∷ rest
+  pub asked : IsNext edge first.bus first.judged front found.edge
   pub follows : Follows first front now
+  pub answered : found.answer ≡ answer now.bus found.edge
 
 -- the edge that is asked for is told by its block
 pub record TellsEdge
@@ -134,12 +137,11 @@ abbrev pub IsNotBefore : Option ℕ → ℕ → List Edge → Type 0
 IsNotBefore after n es =
     (wanted : ℕ) → after ≡ Some wanted → n ≤ wanted → n + length es ≤ wanted
 
--- whether it was reached, behind a front that was followed; else all edges were followed
-abbrev pub Reaches : Option ℕ → Following → List Edge → Following → Bool → Type 0
-Reaches after first es now true =
-    (front : List Edge) × (rest : List Edge) × (es ≡ front ++ rest)
-    × (after ≡ Some (first.judged + length front)) × Follows first front now
-Reaches after first es now false = IsBehind after first.judged es × Follows first es now
+-- it was reached behind so many edges, which were followed; else all were
+abbrev pub Reaches : Option ℕ → Following → List Edge → Following → Option ℕ → Type 0
+Reaches after first es now (Some count) =
+    (count ≤ length es) × (after ≡ Some (first.judged + count)) × Follows first (take count es) now
+Reaches after first es now None = IsBehind after first.judged es × Follows first es now
 
 -- where the bus stands is told by its block
 pub record TellsPlace

@@ -148,16 +148,6 @@ pub(crate) struct Checking {
     judged: u64,
 }
 
-impl Checking {
-    /// Before the first edge.
-    fn new(bus: Bus) -> Checking
-        ensures bus { result.bus ≡ bus }
-        ensures judged { result.judged ≡ 0 }
-    {
-        Checking { bus, judged: 0 }
-    }
-}
-
 impl Judge for Checking {
     type Answer = Finding;
 
@@ -197,7 +187,10 @@ fn find<R: Read, W: Write>(
 {
     let mut input = Input::new(alloc);
     let version = input.begin(buffer, trace)?;
-    let mut check = Checking::new(Bus::new(plan, version));
+    let mut check = Checking {
+        bus: Bus::new(plan, version),
+        judged: 0,
+    };
     input.read_on(&mut check, buffer, trace, out)
 }
 

@@ -3,6 +3,7 @@ ghost use Rattle.std.specs.Prelude.{◌≡◌, ◌+◌, ◌<◌, ◌^◌, length
 ghost use Rattle.std.specs.Io.KnownBytes.{Appends};
 ghost use Rattle.vme_model.specs.Signals.{is_well_formed};
 ghost use Rattle.vme_model.specs.Locality.{AreWellFormed};
+ghost use Rattle.vme_model.specs.Deliveries.{answer};
 ghost use Rattle.vme_model.specs.Why.{why_text};
 ghost use Rattle.vme_trace.specs.Writing.{AppendsFront};
 ghost use Rattle.vme_engines.specs.Streams.{streams, ReadNothing, WroteNothing};
@@ -14,7 +15,7 @@ ghost use Rattle.std.proofs.Common.{arith};
 ghost use Rattle.std.proofs.KnownBytes.{Keeps-refl};
 
 use crate::checks::Finding;
-use crate::following::{Following, Told, answer_of};
+use crate::following::{Following, Found, Told, answer_of};
 use crate::lines::write_finding;
 use crate::pieces::{Judge, buffer_of};
 use crate::plans::plan_of;
@@ -28,30 +29,32 @@ use vme_reasons::write_why;
 use vme_slots::Plan;
 use vme_trace::{Fault, flush};
 
-/// Writes the block of the next edge, and has the writer hand on what it holds back. The status says whether the edge
-/// is refused.
-fn tell_edge<W: Write>(following: &mut Following, edge: &Edge, out: &mut W) -> Result<Status, Fault>
-    requires room { following.old.judged + 1 < 2 ^ 64 }
-    requires well_formed { IsTrue (is_well_formed edge.now) }
+/// Writes the block of the edge that was found, and has the writer hand on what it holds back. The status says whether
+/// the edge is refused.
+fn tell_edge<W: Write>(following: &Following, found: &Found, out: &mut W) -> Result<Status, Fault>
+    requires room { following.now.judged + 1 < 2 ^ 64 }
+    requires well_formed { IsTrue (is_well_formed found.now.edge) }
+    requires answered { found.now.answer ≡ answer following.now.bus found.now.edge }
     ensures status { IfOk result
-        (λ status. status ≡ edge_status following.old.bus edge.now) }
-    ensures ok { OnOk result (OfTrace following.old.bus following.old.marks
+        (λ status. status ≡ edge_status following.now.bus found.now.edge) }
+    ensures ok { OnOk result (OfTrace following.now.bus following.now.marks
         (λ k. Appends (W.contents out.old) (W.contents out.new)
-        (why_text (following.old.judged + 1) following.old.bus k edge.now))) }
-    ensures front { OnErr result (OfTrace following.old.bus following.old.marks
+        (why_text (following.now.judged + 1) following.now.bus k found.now.edge))) }
+    ensures front { OnErr result (OfTrace following.now.bus following.now.marks
         (λ k. AppendsFront (W.contents out.old) (W.contents out.new)
-        (why_text (following.old.judged + 1) following.old.bus k edge.now))) }
+        (why_text (following.now.judged + 1) following.now.bus k found.now.edge))) }
     ensures fault { IfErr result (λ fault. fault ≡ Fault.Write) }
 {
     write_why(
         following.judged + 1,
         &following.bus,
         &following.marks,
-        edge,
+        &found.edge,
+        &found.answer,
         out,
     )?;
     flush(out)?;
-    match following.bus.step(*edge) {
+    match found.answer {
         Ok(_) => Ok(Status::Done),
         Err(_) => Ok(Status::SomeRefused),
     }
@@ -86,12 +89,9 @@ fn explain_piece<W: Write>(
     ensures { ExplainsPiece edge following.old edges.now more
         (W.contents out.old) (W.contents out.new) following.new result }
 {
-    match following.follow_to(edge, edges) {
-        Some(found) => {
-            let status = tell_edge(following, &found, out)?;
-            return Ok(Some(Told::Block(status)));
-        }
-        None => {}
+    if let Some(found) = following.follow_to(edge, edges) {
+        let status = tell_edge(following, &found, out)?;
+        return Ok(Some(Told::Block(status)));
     }
     match more {
         Ok(true) => Ok(None),
@@ -106,16 +106,6 @@ struct Explaining {
     following: Following,
     /// The number of the edge that is asked for; without one the first that is refused.
     edge: Option<u64>,
-}
-
-impl Explaining {
-    /// Before the first edge.
-    fn new(following: Following, edge: Option<u64>) -> Explaining
-        ensures following { result.following ≡ following }
-        ensures edge { result.edge ≡ edge }
-    {
-        Explaining { following, edge }
-    }
 }
 
 impl Judge for Explaining {
@@ -169,7 +159,7 @@ fn explain_trace<R: Read, W: Write>(
     let mut input = Input::new(alloc);
     let version = input.begin(buffer, trace)?;
     let following = Following::new(Bus::new(plan, version));
-    let mut explanation = Explaining::new(following, edge);
+    let mut explanation = Explaining { following, edge };
     input.read_on(&mut explanation, buffer, trace, out)
 }
 

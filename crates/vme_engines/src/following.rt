@@ -14,7 +14,6 @@ ghost use Rattle.vme_engines.specs.Followed.{Follows, IsMissing, ComesTo, Reache
 
 use crate::{EngineFault, Status};
 use arrayvec::ArrayVec;
-use vme_backplane::by_wire;
 use vme_bus::Bus;
 use vme_events::events_of;
 use vme_goals::Event;
@@ -29,6 +28,13 @@ pub(crate) enum Told {
     Block(Status),
     /// The whole trace has so many edges, too few.
     Beyond(u64),
+}
+
+/// An edge that is asked for and not yet made, with the answer to it.
+#[derive(Clone, Copy)]
+pub(crate) struct Found {
+    pub(crate) edge: Edge,
+    pub(crate) answer: Result<Option<Delivery>, Refused>,
 }
 
 /// A trace under way: the bus, and the numbers of the edges that it accepted.
@@ -65,15 +71,6 @@ fn count_up_to(n: Option<u64>, judged: u64, len: usize) -> Option<usize>
     }
 }
 
-/// The place of the n-th edge, counted from 1, among `len` after the first `judged`.
-fn place_of(n: u64, judged: u64, len: usize) -> Option<usize>
-    ensures some { IfSome result (λ place. (n ≡ (judged + place) + 1) × (place < len)) }
-    ensures none { IfNone result (judged < n → judged + len < n) }
-{
-    let place = count_up_to(n.checked_sub(1), judged, len)?;
-    if place < len { Some(place) } else { None }
-}
-
 impl Following {
     /// Before the first edge.
     pub(crate) fn new(bus: Bus) -> Following
@@ -100,41 +97,6 @@ impl Following {
         }
     }
 
-    /// Notes the next edge, which would be accepted, before it is made.
-    #[inline(always)]
-    fn note(&mut self, edge: Edge)
-        requires room { self.old.judged + 1 < 2 ^ 64 }
-        requires accepted { verdict self.old.bus edge ≡ Ok tt }
-        ensures bus { self.new.bus ≡ self.old.bus }
-        ensures judged { self.new.judged ≡ self.old.judged }
-        ensures marks { OfTrace self.old.bus self.old.marks
-            (λ k. IsMarksOf self.old.bus.plan
-            (numbered_with self.old.bus (self.old.judged + 1) edge k) self.new.marks) }
-    {
-        let shown = self.shown_at(edge);
-        self.marks.note(&edge, self.judged + 1, shown);
-    }
-
-    /// Makes the next edge where it is accepted, and answers whether it was. It is not yet counted.
-    fn step(&mut self, edge: Edge) -> bool
-        requires { self.old.judged + 1 < 2 ^ 64 }
-        ensures accepted { result ≡ is_ok (verdict self.old.bus edge) }
-        ensures bus { self.new.bus ≡ after self.old.bus edge }
-        ensures judged { self.new.judged ≡ self.old.judged }
-        ensures marks { OfTrace self.old.bus self.old.marks
-            (λ k. IsMarksOf self.old.bus.plan
-            (numbered_with self.old.bus (self.old.judged + 1) edge k) self.new.marks) }
-    {
-        by_wire!(edge => match self.bus.verdict(edge) {
-            Ok(()) => {
-                self.note(edge);
-                self.bus.make(edge);
-                true
-            }
-            Err(_) => false,
-        })
-    }
-
     /// The situations that an edge brings about that is about to be made.
     pub(crate) fn events(&self, edge: &Edge) -> ArrayVec<Event, 2>
         ensures { OfOrdered self.now.bus self.now.marks (λ _. result.items
@@ -145,7 +107,7 @@ impl Following {
 
     /// Makes the next edge where it is accepted, and gives the answer to it. It is not yet counted.
     #[inline(always)]
-    pub(crate) fn answer(&mut self, edge: &Edge) -> Result<Option<Delivery>, Refused>
+    pub(crate) fn step(&mut self, edge: &Edge) -> Result<Option<Delivery>, Refused>
         requires { self.old.judged + 1 < 2 ^ 64 }
         ensures answer { result ≡ answer self.old.bus edge.now }
         ensures accepted { is_ok result ≡ is_ok (verdict self.old.bus edge.now) }
@@ -155,9 +117,10 @@ impl Following {
             (λ k. IsMarksOf self.old.bus.plan
             (numbered_with self.old.bus (self.old.judged + 1) edge.now k) self.new.marks) }
     {
-        let shown = self.shown_at(*edge);
         match self.bus.step(*edge) {
             Ok(delivery) => {
+                // Such an edge does not change what is shown.
+                let shown = self.shown_at(*edge);
                 self.marks.note(edge, self.judged + 1, shown);
                 Ok(delivery)
             }
@@ -171,22 +134,26 @@ impl Following {
         ensures { Follows self.old edges.now self.new }
     {
         for edge in edges {
-            self.step(*edge);
+            let _ = self.step(edge);
             self.judged += 1;
         }
     }
 
     /// Follows the edges up to the first that is refused, which it gives.
-    fn follow_to_refused(&mut self, edges: &[Edge]) -> Option<Edge>
+    fn follow_to_refused(&mut self, edges: &[Edge]) -> Option<Found>
         requires { self.old.judged + length edges.now < 2 ^ 64 }
-        ensures some { IfSome result (λ e. ComesTo None self.old edges.now e self.new) }
+        ensures some { IfSome result (λ found. ComesTo None self.old edges.now found self.new) }
         ensures none { IfNone result
             (IsMissing None self.old.bus self.old.judged edges.now
             × Follows self.old edges.now self.new) }
     {
         for edge in edges {
-            if !self.step(*edge) {
-                return Some(*edge);
+            let answer = self.step(edge);
+            if answer.is_err() {
+                return Some(Found {
+                    edge: *edge,
+                    answer,
+                });
             }
             self.judged += 1;
         }
@@ -194,29 +161,23 @@ impl Following {
     }
 
     /// Follows the edges up to the n-th of the trace, which it gives.
-    fn follow_to_number(&mut self, n: u64, edges: &[Edge]) -> Option<Edge>
+    fn follow_to_number(&mut self, n: u64, edges: &[Edge]) -> Option<Found>
         requires { self.old.judged + length edges.now < 2 ^ 64 }
-        ensures some { IfSome result (λ e. ComesTo (Some n) self.old edges.now e self.new) }
+        ensures some { IfSome result (λ found. ComesTo (Some n) self.old edges.now found self.new) }
         ensures none { IfNone result
             (IsMissing (Some n) self.old.bus self.old.judged edges.now
             × Follows self.old edges.now self.new) }
     {
-        match place_of(n, self.judged, edges.len()) {
-            Some(place) => {
-                self.follow(&edges[..place]);
-                Some(edges[place])
-            }
-            None => {
-                self.follow(edges);
-                None
-            }
-        }
+        let place = self.follow_through(n.checked_sub(1), edges)?;
+        let edge = *edges.get(place)?;
+        let answer = self.bus.answer(edge);
+        Some(Found { edge, answer })
     }
 
     /// Follows the edges up to the one that is asked for, which it gives: that of a number, or the first that is refused.
-    pub(crate) fn follow_to(&mut self, edge: Option<u64>, edges: &[Edge]) -> Option<Edge>
+    pub(crate) fn follow_to(&mut self, edge: Option<u64>, edges: &[Edge]) -> Option<Found>
         requires { self.old.judged + length edges.now < 2 ^ 64 }
-        ensures some { IfSome result (λ e. ComesTo edge self.old edges.now e self.new) }
+        ensures some { IfSome result (λ found. ComesTo edge self.old edges.now found self.new) }
         ensures none { IfNone result
             (IsMissing edge self.old.bus self.old.judged edges.now
             × Follows self.old edges.now self.new) }
@@ -227,20 +188,13 @@ impl Following {
         }
     }
 
-    /// Follows the edges among the first `n` of the trace, or all. Whether the n-th was the last.
-    pub(crate) fn follow_through(&mut self, n: Option<u64>, edges: &[Edge]) -> bool
+    /// Follows the edges among the first `n` of the trace, or all. How many those are, if the n-th was the last.
+    pub(crate) fn follow_through(&mut self, n: Option<u64>, edges: &[Edge]) -> Option<usize>
         requires { self.old.judged + length edges.now < 2 ^ 64 }
         ensures { Reaches n self.old edges.now self.new result }
     {
-        match count_up_to(n, self.judged, edges.len()) {
-            Some(count) => {
-                self.follow(&edges[..count]);
-                true
-            }
-            None => {
-                self.follow(edges);
-                false
-            }
-        }
+        let count = count_up_to(n, self.judged, edges.len());
+        self.follow(&edges[..count.unwrap_or(edges.len())]);
+        count
     }
 }

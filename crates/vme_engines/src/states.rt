@@ -66,8 +66,9 @@ fn state_piece<W: Write>(
     ensures { StatesPiece after following.old edges.now more
         (W.contents out.old) (W.contents out.new) following.new result }
 {
-    if following.follow_through(after, edges) {
-        return Ok(Some(tell_place(following, out)?));
+    match following.follow_through(after, edges) {
+        Some(_) => return Ok(Some(tell_place(following, out)?)),
+        None => {}
     }
     match more {
         Ok(true) => Ok(None),
@@ -82,16 +83,6 @@ struct Stating {
     following: Following,
     /// How many edges stand before it; without a number all.
     after: Option<u64>,
-}
-
-impl Stating {
-    /// Before the first edge.
-    fn new(following: Following, after: Option<u64>) -> Stating
-        ensures following { result.following ≡ following }
-        ensures after { result.after ≡ after }
-    {
-        Stating { following, after }
-    }
 }
 
 impl Judge for Stating {
@@ -145,7 +136,7 @@ fn state_trace<R: Read, W: Write>(
     let mut input = Input::new(alloc);
     let version = input.begin(buffer, trace)?;
     let following = Following::new(Bus::new(plan, version));
-    let mut state = Stating::new(following, after);
+    let mut state = Stating { following, after };
     input.read_on(&mut state, buffer, trace, out)
 }
 

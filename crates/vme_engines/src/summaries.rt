@@ -5,7 +5,6 @@ ghost use Rattle.vme_model.specs.Signals.{is_well_formed};
 ghost use Rattle.vme_model.specs.Locality.{AreWellFormed};
 ghost use Rattle.vme_trace.specs.Writing.{AppendsFront};
 ghost use Rattle.vme_tallies.specs.Tally.{answered, refused};
-ghost use Rattle.vme_tallies.specs.Tallied.{IsTallyOf};
 ghost use Rattle.vme_tallies.specs.Summary.{summary_text};
 ghost use Rattle.vme_engines.specs.Streams.{streams, ReadNothing, WroteNothing};
 ghost use Rattle.vme_engines.specs.Outcomes.{LentAsking, status_with};
@@ -38,17 +37,6 @@ pub(crate) struct Summing {
 }
 
 impl Summing {
-    /// Before the first edge.
-    pub(crate) fn new(following: Following) -> Summing
-        ensures following { result.following ≡ following }
-        ensures tally { IsTallyOf [] result.tally }
-    {
-        Summing {
-            following,
-            tally: Tally::new(),
-        }
-    }
-
     /// Takes in the next edge.
     fn take_edge(&mut self, edge: &Edge)
         requires room { self.old.following.judged + 1 < 2 ^ 64 }
@@ -57,7 +45,7 @@ impl Summing {
         ensures sum { OfSum self.old (λ b es. IsSumOf b (es ++ edge.now ∷ []) self.new) }
     {
         let events = self.following.events(edge);
-        let answer = self.following.answer(edge);
+        let answer = self.following.step(edge);
         self.following.judged += 1;
         self.tally.note(edge, &answer, events.as_slice());
     }
@@ -162,7 +150,8 @@ fn summary_of_trace<R: Read, W: Write>(
     let mut input = Input::new(alloc);
     let version = input.begin(buffer, trace)?;
     let following = Following::new(Bus::new(plan, version));
-    let mut summing = Summing::new(following);
+    let tally = Tally::new();
+    let mut summing = Summing { following, tally };
     input.read_on(&mut summing, buffer, trace, out)
 }
 

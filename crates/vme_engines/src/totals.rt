@@ -98,8 +98,9 @@ fn tally_of_trace<R: Read>(
     let mut input = Input::new(alloc);
     let version = input.begin(buffer, trace)?;
     let following = Following::new(Bus::new(plan, version));
+    let tally = Tally::new();
     let mut tallying = Tallying {
-        summing: Summing::new(following),
+        summing: Summing { following, tally },
     };
     input.read_on(&mut tallying, buffer, trace, &mut sink())
 }

@@ -1,8 +1,10 @@
 //! The block that tells why an edge has its verdict.
 ghost use Rattle.std.specs.Prelude.{◌≡◌, ◌++◌, IsTrue, IfErr, OnOk, OnErr, All};
 ghost use Rattle.std.specs.Io.KnownBytes.{Appends};
+ghost use Rattle.vme_model.specs.Deliveries.{answer as answer_to};
 ghost use Rattle.vme_model.specs.History.{shown};
 ghost use Rattle.vme_model.specs.Signals.{is_well_formed};
+ghost use Rattle.vme_model.specs.Verdict.{State};
 ghost use Rattle.vme_model.specs.Why.{edge_verdict, reason_lines, witness_lines, why_text};
 ghost use Rattle.vme_trace.specs.Writing.{AppendsFront};
 ghost use Rattle.vme_reasons.specs.Blocks.{IsSpoken, condition_line, reason, reasons_text};
@@ -16,20 +18,25 @@ use crate::texts::{LINE, push, push_number, push_verdict, witness_line};
 use arrayvec::ArrayVec;
 use std::io::Write;
 use vme_bus::Bus;
-use vme_model::{Cycle, Driver, Edge, Tested, Witness};
+use vme_model::{Cycle, Delivery, Driver, Edge, Refused, Tested, Witness};
 use vme_trace::{Fault, put, spelling_of};
 
 /// The first line: the number of the edge, the edge, and its verdict.
-fn verdict_line(n: u64, bus: &Bus, edge: &Edge) -> ArrayVec<u8, LINE>
+fn verdict_line(
+    n: u64,
+    edge: &Edge,
+    answer: &Result<Option<Delivery>, Refused>,
+) -> ArrayVec<u8, LINE>
     requires { IsTrue (is_well_formed edge.now) }
-    ensures { result.items ≡ edge_verdict n bus.now edge.now }
+    ensures { (b : State) → answer.now ≡ answer_to b edge.now
+        → result.items ≡ edge_verdict n b edge.now }
 {
     let mut line = ArrayVec::new();
     push_number(&mut line, n);
     push(&mut line, b" ");
     push(&mut line, spelling_of(edge).as_slice());
     push(&mut line, b" ");
-    push_verdict(&mut line, &bus.answer(*edge));
+    push_verdict(&mut line, answer);
     push(&mut line, b"\n");
     line
 }
@@ -119,7 +126,8 @@ fn write_reasons<W: Write>(
 /// Writes why an edge has its verdict: a line with its number `n`, the edge and the verdict, and for
 /// each condition that is tested of it a line, with one behind it for each of its witnesses.
 ///
-/// The edge is well formed and not yet made, and the marks are of the bus's edges.
+/// The edge is well formed and not yet made, `answer` is the answer to it, and the marks are of the
+/// bus's edges.
 ///
 /// # Errors
 /// X8 where the output cannot be written; a prefix of the block was then written.
@@ -128,9 +136,11 @@ pub fn write_why<W: Write>(
     bus: &Bus,
     marks: &Marks,
     edge: &Edge,
+    answer: &Result<Option<Delivery>, Refused>,
     out: &mut W,
 ) -> Result<(), Fault>
-    requires { IsTrue (is_well_formed edge.now) }
+    requires well_formed { IsTrue (is_well_formed edge.now) }
+    requires answered { answer.now ≡ answer_to bus.now edge.now }
     ensures ok { OnOk result (OfTrace bus.now marks.now
         (λ k. Appends (W.contents out.old) (W.contents out.new)
         (why_text n bus.now k edge.now))) }
@@ -139,7 +149,7 @@ pub fn write_why<W: Write>(
         (why_text n bus.now k edge.now))) }
     ensures fault { IfErr result (λ fault. fault ≡ Fault.Write) }
 {
-    put(out, verdict_line(n, bus, edge).as_slice())?;
+    put(out, verdict_line(n, edge, answer).as_slice())?;
     let told: Conditions = bus.told(*edge);
     write_reasons(bus, marks, edge, told.as_slice(), out)
 }

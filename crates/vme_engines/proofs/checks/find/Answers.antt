@@ -1,4 +1,4 @@
-use Rattle.std.proofs.Common.{◌∙◌}
+use Rattle.std.proofs.Common.{refl}
 use Rattle.std.proofs.lemmas.Result.{err_from_is_err_and}
 use Rattle.vme_engines.proofs.CheckPieces.{finds_unbegun, finds_all}
 use Rattle.vme_engines.proofs.checks.find.Goals as goal
@@ -11,11 +11,9 @@ returns-in_err-version-clause-finds g c =
 pub returns-clause-finds : goal.returns-clause-finds
 returns-clause-finds g c =
     let ran = c.read_on.ensures _ _ c.in_ok-version.ensures.begun in
-    let is = c.new-check.ensures.bus ∙ c.new.ensures in
-    (ran.0, ran.1, (finds_all (λ s. s.bus) (λ s. s.judged) c.args.plan _ ran.0 _ c.new-check.result.bus c.new-check.result.judged c.read_on.result is c.new-check.ensures.judged ran.2).0)
+    (ran.0, ran.1, (finds_all (λ s. s.bus) (λ s. s.judged) c.args.plan _ ran.0 _ c.new.result 0 c.read_on.result c.new.ensures refl ran.2).0)
 
 pub returns-clause-kept : goal.returns-clause-kept
 returns-clause-kept g c =
     let ran = c.read_on.ensures _ _ c.in_ok-version.ensures.begun in
-    let is = c.new-check.ensures.bus ∙ c.new.ensures in
-    (finds_all (λ s. s.bus) (λ s. s.judged) c.args.plan _ ran.0 _ c.new-check.result.bus c.new-check.result.judged c.read_on.result is c.new-check.ensures.judged ran.2).1
+    (finds_all (λ s. s.bus) (λ s. s.judged) c.args.plan _ ran.0 _ c.new.result 0 c.read_on.result c.new.ensures refl ran.2).1

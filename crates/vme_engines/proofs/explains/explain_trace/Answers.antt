@@ -1,8 +1,6 @@
-use Rattle.std.proofs.Common.{◌≡◌, [], sym, ◌∙◌, ap, subst}
+use Rattle.std.proofs.Common.{◌≡◌, ◌∙◌}
 use Rattle.std.proofs.lemmas.Result.{err_from_is_err_and}
 use Rattle.std.proofs.KnownBytes.{Keeps-refl}
-use Rattle.vme_reasons.specs.Marked.{IsMarksOf}
-use Rattle.vme_engines.specs.declared.following.Following.{Following}
 use Rattle.vme_engines.specs.declared.explains.Explaining.{Explaining}
 use Rattle.vme_engines.specs.Streams.{streams}
 use Rattle.vme_engines.proofs.ToldTraces.{explains_all, explains_unbegun}
@@ -15,13 +13,9 @@ returns-in_err-version g c =
 
 pub returns : goal.returns
 returns g c =
-    let ran = c.read_on.ensures _ _ c.in_ok-version.ensures.begun in
-    let same = c.new-explanation.ensures.following in
-    let is = ap (λ (f : Following). f.bus) same ∙ c.new-following.ensures.bus ∙ c.new.ensures in
-    let zero = ap (λ (f : Following). f.judged) same ∙ c.new-following.ensures.judged in (
+    let ran = c.read_on.ensures _ _ c.in_ok-version.ensures.begun in (
       ran.0,
       ran.1,
-      rw (← c.new-explanation.ensures.edge)
-          (explains_all (λ (s : Explaining). s.following) (λ (s : Explaining). s.edge ≡ c.new-explanation.result.edge) c.args.plan _ ran.0 _ c.new-explanation.result.edge c.new-explanation.result.following c.read_on.result is zero
-          (λ q. subst (λ (f : Following). IsMarksOf q [] f.marks) (sym same) (c.new-following.ensures.marks q)) ran.2),
+      explains_all (λ (s : Explaining). s.following) (λ (s : Explaining). s.edge ≡ c.args.edge) c.args.plan _ ran.0 _ c.args.edge c.new-following.result c.read_on.result (c.new-following.ensures.bus ∙ c.new.ensures) c.new-following.ensures.judged
+          c.new-following.ensures.marks ran.2,
     )

@@ -1,8 +1,6 @@
-use Rattle.std.proofs.Common.{[], refl, sym, ◌∙◌, ap, subst}
+use Rattle.std.proofs.Common.{refl, ◌∙◌}
 use Rattle.std.proofs.lemmas.Result.{err_from_is_err_and}
 use Rattle.std.proofs.KnownBytes.{Keeps-refl}
-use Rattle.vme_reasons.specs.Marked.{IsMarksOf}
-use Rattle.vme_engines.specs.declared.following.Following.{Following}
 use Rattle.vme_engines.specs.Streams.{streams}
 use Rattle.vme_engines.proofs.Sums.{sums_all, sums_unbegun}
 use Rattle.vme_engines.proofs.summaries.summary_of_trace.Goals as goal
@@ -14,13 +12,10 @@ returns-in_err-version g c =
 
 pub returns : goal.returns
 returns g c =
-    let ran = c.read_on.ensures _ _ c.in_ok-version.ensures.begun in
-    let same = c.new-summing.ensures.following in
-    let is = ap (λ (f : Following). f.bus) same ∙ c.new-following.ensures.bus ∙ c.new.ensures in
-    let zero = ap (λ (f : Following). f.judged) same ∙ c.new-following.ensures.judged in (
+    let ran = c.read_on.ensures _ _ c.in_ok-version.ensures.begun in (
       ran.0,
       ran.1,
-      sums_all c.args.plan _ ran.0 _ c.new-summing.result c.read_on.result
-          (record { empty = refl; bus = is; judged = zero; marks = subst (λ (f : Following). IsMarksOf c.args.plan [] f.marks) (sym same) (c.new-following.ensures.marks c.args.plan); tally = c.new-summing.ensures.tally })
+      sums_all c.args.plan _ ran.0 _ _ c.read_on.result
+          (record { empty = refl; bus = c.new-following.ensures.bus ∙ c.new.ensures; judged = c.new-following.ensures.judged; marks = c.new-following.ensures.marks c.args.plan; tally = c.new-tally.ensures })
           ran.2,
     )

@@ -1,4 +1,4 @@
-use Rattle.std.proofs.Common.{◌≡◌, ◌∙◌, ap, ◌+◌, ◌-◌, ◌*◌, ◌/◌, ◌≤◌, ◌<◌, ◌++◌, [], length, take, get_or, arith, Ok, None}
+use Rattle.std.proofs.Common.{◌≡◌, ◌∙◌, ap, ◌+◌, ◌-◌, ◌*◌, ◌/◌, ◌≤◌, ◌++◌, [], take, get_or, arith, Ok, None}
 use Rattle.std.specs.Fmt.{decimal}
 use Rattle.vme_model.specs.declared.deliveries.Delivery.{Delivery}
 use Rattle.vme_model.specs.Report.{verdict_line}

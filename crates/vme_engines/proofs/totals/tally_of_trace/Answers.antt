@@ -1,7 +1,5 @@
-use Rattle.std.proofs.Common.{[], None, refl, sym, ◌∙◌, ap, subst}
+use Rattle.std.proofs.Common.{None, refl, ◌∙◌}
 use Rattle.std.proofs.lemmas.Result.{err_from_is_err_and}
-use Rattle.vme_reasons.specs.Marked.{IsMarksOf}
-use Rattle.vme_engines.specs.declared.following.Following.{Following}
 use Rattle.vme_engines.specs.Streams.{streams}
 use Rattle.vme_engines.specs.Summing.{IsWaiting}
 use Rattle.vme_engines.proofs.Waits.{waits_unbegun}
@@ -15,13 +13,10 @@ returns-in_err-version g c =
 
 pub returns : goal.returns
 returns g c =
-    let ran = c.read_on.ensures _ _ c.in_ok-version.ensures.begun in
-    let same = c.new-2.ensures.following in
-    let is = ap (λ (f : Following). f.bus) same ∙ c.new-following.ensures.bus ∙ c.new.ensures in
-    let zero = ap (λ (f : Following). f.judged) same ∙ c.new-following.ensures.judged in (
+    let ran = c.read_on.ensures _ _ c.in_ok-version.ensures.begun in (
       ran.0,
       ran.1,
-      tallies_all c.args.plan _ ran.0 _ _ c.new-2.result ran.2.2.summing ran.2.0 ran.2.1 c.read_on.result
-          (record { empty = refl; bus = is; judged = zero; marks = subst (λ (f : Following). IsMarksOf c.args.plan [] f.marks) (sym same) (c.new-following.ensures.marks c.args.plan); tally = c.new-2.ensures.tally })
+      tallies_all c.args.plan _ ran.0 _ _ _ ran.2.2.summing ran.2.0 ran.2.1 c.read_on.result
+          (record { empty = refl; bus = c.new-following.ensures.bus ∙ c.new.ensures; judged = c.new-following.ensures.judged; marks = c.new-following.ensures.marks c.args.plan; tally = c.new-tally.ensures })
           ran.2.3 ran.2.4,
     )
