@@ -22,7 +22,7 @@ not_less a b l = grind (arith, nat_tests)
 pub same_less : (a s t : ℕ) → (a < s → a < t) → (a < t → a < s) → nat_lt a s ≡ nat_lt a t
 same_less a s t f g = grind (arith, nat_tests, f, g)
 
--- two bounds with the same numbers below them
+-- two bounds that have the same numbers below them
 pub same_part : (test : ℕ → Bool) (a b n : ℕ) → ((t : ℕ) → test t ≡ true → t ≤ n → nat_lt t a ≡ nat_lt t b) → low_part test a n ≡ low_part test b n
 same_part test a b zero h = refl
 same_part test a b (suc n) h = same_head (test (suc n)) refl (same_part test a b n (λ t e l. h t e (omega arith)))
@@ -108,7 +108,7 @@ below_to test (suc n) s = subst (λ xs. IsBelowTo test (suc n) s (find (λ t. na
     first true e false f rest r = subst (λ z. IsBelowTo test (suc n) s (cond z (Some (suc n)) (find (λ t. nat_lt t s) rest))) (sym f) (next (find (λ t. nat_lt t s) rest) (λ e'. not_lt f) r)
     first false e y f rest r = next (find (λ t. nat_lt t s) rest) (λ e'. absurd (cc (e, e'))) r
 
--- where all that passes is from 1 to n
+-- the greatest number below, if all that passes is from 1 to n
 pub is_below : (test : ℕ → Bool) (n s : ℕ) → ((t : ℕ) → test t ≡ true → (1 ≤ t) × (t ≤ n)) → IsBelow test s (find (λ t. nat_lt t s) (reverse (filter test (up_to n))))
 is_below test n s range = whole (find (λ t. nat_lt t s) (reverse (filter test (up_to n)))) (below_to test n s)
   where

@@ -1,5 +1,5 @@
--- The address lines, the strobes and the answers, as four phases: what holds in each, and which
--- phase each edge leads to.
+-- The address lines, the strobes and the answers, as four phases: what holds in each, and the phase
+-- to which each edge leads.
 use Rattle.std.proofs.Common.{◌≡◌, ◌≢◌, ℕ, suc, ◌<◌, ◌≤◌, Bool, true, false, List, [], ◌∷◌, Option, Some, None, refl, sym, ap, ◌∙◌, subst, arith, ⊎_elim}
 use Rattle.std.specs.Prelude.{map}
 use Rattle.std.proofs.lemmas.Bool.{cases_lt}
@@ -34,8 +34,8 @@ pub data Answer : Type 0 where
   Error : Answer
 
 -- No address strobe is low. Or slot s drives it, and no data strobe has fallen; or its data strobe
--- is low, with the segments of the acknowledge chain below slot hi, the controller's where g says
--- so; or its data strobe rose again.
+-- is low, with the segments of the acknowledge chain below slot hi, the controller's included if g
+-- is true; or its data strobe rose again.
 pub data Cyclic : Type 0 where
   Quiet : Cyclic
   Fresh : (s : ℕ) → Cyclic
@@ -266,7 +266,7 @@ module _ (on master brd : ℕ → Bool) (slots : ℕ) where
       high : (t : ℕ) (g : Bool) (hi : ℕ) → IsAsking v t g hi → (w : ℕ) → dstrobe' w ≡ false
       high t g hi i w = grind (arith, u w, i.dstrobe_only w, i.dstrobe_only s l)
 
-  -- where a low acknowledge stands
+  -- the place at which a low acknowledge stands
   pub record IsFront (g : Bool) (hi s : ℕ) : Type 0 where
     pub low : g ≡ true
     pub above : hi ≤ s
@@ -308,7 +308,7 @@ module _ (on master brd : ℕ → Bool) (slots : ℕ) where
   not_both (Some (Acknowledge level)) g hi t a b n = omega (arith, a.2, n.1 t a.0)
   not_both (Some (Access x)) g hi t a b n = cc (a, b, n)
 
-  -- nobody has answered yet where a slot that hasn't is asked
+  -- nobody has answered yet if a slot that has not answered is asked
   silent : (v : CycleWires) (m s : ℕ) (g : Bool) (hi : ℕ) (a : Answer) → v.dtack s ≡ false → brd s ≡ true → CanAnswer v.shown g hi s → ((t : ℕ) → a ≡ By t → v.dtack t ≡ true) → Justified v.shown g hi a → a ≡ Silent
   silent v m s g hi Silent d b c low j = refl
   silent v m s g hi (By t) d b c low j = let e = same_place v.shown g hi s t c j in absurd (cc (low t refl, e))

@@ -1,4 +1,4 @@
--- The grant chains, as four phases: what holds in each, and which phase each edge leads to.
+-- The grant chains, as four phases: what holds in each, and the phase to which each edge leads.
 use Rattle.std.proofs.Common.{◌≡◌, ◌≢◌, ◌⊎◌, ℕ, zero, suc, ◌+◌, ◌-◌, ◌<◌, ◌≤◌, Bool, true, false, List, [], ◌∷◌, Option, Some, None, refl, sym, ap, ◌∙◌, subst, arith, inl, inr, ⊎_elim}
 use Rattle.std.specs.Prelude.{◌&&◌, nat_lt, if◌then◌else◌, map}
 use Rattle.std.proofs.lemmas.Bool.{cases_lt}
@@ -25,8 +25,8 @@ Sets new old s v = (t : ℕ) → ((t ≡ s) × (new t ≡ v)) ⊎ ((t ≢ s) × 
 
 -- No grant is low, and nobody holds the bus. Or the controller's segment of chain c is low, with
 -- those of its slots below hi. Or slot k of chain c holds the bus, and the segments from lo up to
--- it are low, with the controller's where g says so. Or, in the second version, the controller took
--- the grant of chain c back, and the segments from lo on are low.
+-- it are low, the controller's included if g is true. Or, in the second version, the controller
+-- took the grant of chain c back, and the segments from lo on are low.
 pub data Phase : Type 0 where
   Idle : Phase
   Granting : (c hi : ℕ) → Phase
@@ -140,13 +140,13 @@ module _ (on : ℕ → ℕ → Bool) (slots : ℕ) (two : Bool) where
   idle_low v m None i low = cc (i.bg_high m)
   idle_low v m (Some p) i low = cc (i.out_high p)
 
-  -- while a grant goes on, where a low grant-in stands
+  -- while a grant goes on, the place at which a low grant-in stands
   granting_low : OneChain → (v : GrantWires) (c hi m s : ℕ) (found : Option ℕ) → IsBelow (on m) s found → IsGranting v c hi → segment_of v m found ≡ true → (m ≡ c) × ((t : ℕ) → on m t ≡ true → t < s → t < hi)
   granting_low one v c hi m s None b i low = (i.bg_only m low, λ t w l. absurd (b t w l))
   granting_low one v c hi m s (Some p) b i low =
       (one m c p b.passes (i.out_on p low), λ t w l. omega (arith, b.greatest t w l, i.out_below p low))
 
-  -- and where a high one does
+  -- while a grant goes on, the place at which a high grant-in stands
   granting_high : (v : GrantWires) (c hi s : ℕ) (found : Option ℕ) → IsBelow (on c) s found → IsGranting v c hi → segment_of v c found ≡ false → hi < s
   granting_high v c hi s None b i high = absurd (cc i.bg_low)
   granting_high v c hi s (Some p) b i high = past p b i high
@@ -598,7 +598,7 @@ module _ (on : ℕ → ℕ → Bool) (slots : ℕ) (two : Bool) where
       at_end (Some s) None b w low = absurd (b s w (omega (arith, (within n s w).1)))
       at_end (Some s) (Some p) b w low = i.out_each p (subst (λ y. on y p ≡ true) (one n c s w (i.out_on s low)) b.passes) (omega (arith, b.greatest s w (omega (arith, (within n s w).1)), i.out_above s low))
 
-  -- where a grant stands and who waits for it
+  -- the slot at which a grant stands, and the board that waits for it
   pub record Found (v : GrantWires) (n : ℕ) (before : ℕ → Option ℕ) : Type 0 where
     pub slot : ℕ
     pub waiter : ℕ
@@ -660,7 +660,7 @@ module _ (on : ℕ → ℕ → Bool) (slots : ℕ) (two : Bool) where
       go : (c : ℕ) → n ≡ c → IsGranting v c hi → ((s : ℕ) × Stands v n s (before s)) ⊎ (segment_of v n last ≡ true)
       go c f i = stands_or_ends_granting v n hi before last b e (subst (λ x. IsGranting v x hi) (sym f) i)
 
-  -- what a take tells
+  -- what a take says about the grant before it
   pub record Rightful (v : GrantWires) (m k : ℕ) : Type 0 where
     pub granted : v.granted ≡ Some m
     pub untaken : v.taken ≡ false
@@ -688,7 +688,7 @@ module _ (on : ℕ → ℕ → Bool) (slots : ℕ) (two : Bool) where
       let e = held_front one v c k lo m s g found b low high i in absurd (cc (i.holds, e))
   rightful one v m s found b low high free (Expired c lo, i) = absurd (expired_front one v c lo m s found b low high i)
 
-  -- in the first version every segment is high where a grant may begin
+  -- in the first version every segment is high if a grant may begin
   pub clear_before : two ≡ false → (v : GrantWires) → ((m : ℕ) → m < 4 → v.bg m ≡ false) → ((m s : ℕ) → on m s ≡ true → v.busy s ≡ false) → Phased v → (s : ℕ) → v.out s ≡ false
   clear_before e v high free (Idle, i) s = i.out_high s
   clear_before e v high free (Granting c hi, i) s = absurd (cc (high c i.few, i.bg_low))

@@ -80,7 +80,7 @@ pick_bus s t n l e = agreed (s n) (t n) (at_four (at_place s t) n l e)
 pub has_bus : (low : ℕ → Bool) (n : ℕ) → n < 4 → has_bus_level (bus_levels low) n ≡ low n
 has_bus low n l = pick_bus (has_bus_level (bus_levels low)) low n l (bus_all (low 0) (low 1) (low 2) (low 3))
 
--- looking through a list goes on alike where the test is the same at its head
+-- the search of a list goes on alike if the test is the same at its head
 find_cons : {A : Type 0} (s t : A → Bool) (x : A) (xs : List A) → s x ≡ t x → find s xs ≡ find t xs → find s (x ∷ xs) ≡ find t (x ∷ xs)
 find_cons {A} s t x xs e f = cc
 

@@ -1,4 +1,4 @@
--- Where the bus is told to stand, it does, and accesses are open together.
+-- The bus stands where it is reported to stand, and either all accesses are open or none is.
 use Rattle.std.proofs.Common.{◌≡◌, ◌∙◌, ℕ, zero, suc, ◌<◌, Bool, true, false, List, [], ◌∷◌, ◌++◌, Some, None, Ok, refl, sym, ap, subst, arith}
 use Rattle.std.specs.Prelude.{◌&&◌, not, if◌then◌else◌, find, map}
 use Rattle.std.specs.List.{All, Contains}
@@ -24,7 +24,7 @@ use Rattle.vme_model.specs.Stands.{holder, is_granted_at, grant_places, grant_at
 use Rattle.vme_model.proofs.Bools.{and_left, and_right, never}
 use Rattle.vme_model.proofs.OpenEdges.{here, there, by_map, by_flat_map}
 
--- what a search finds passes and is in the list, and it finds nothing only where nothing passes
+-- what a search finds passes and is in the list, and it finds nothing only if nothing passes
 found_step : {X : Type 0} (test : X → Bool) (y x : X) (ys : List X) (b : Bool) → test y ≡ b → (if b then Some y else find test ys) ≡ Some x → (find test ys ≡ Some x → (test x ≡ true) × Contains ys x) → (test x ≡ true) × Contains (y ∷ ys) x
 found_step test y x ys true e h next =
     let same : y ≡ x = cc in (subst (λ z. test z ≡ true) same e, subst (λ z. Contains (y ∷ ys) z) same (here y ys))

@@ -1,4 +1,4 @@
--- What is told of edges and of a bus, to the byte: examples, computed.
+-- What is reported of edges and of a bus, to the byte: examples, computed.
 use Rattle.std.proofs.Common.{◌≡◌, ℕ, true, false, List, [], ◌∷◌, ◌++◌, Some, None, refl, codes}
 use Rattle.std.specs.Fmt.{digits}
 use Rattle.vme_model.specs.declared.boards.Row.{Row}
@@ -33,7 +33,7 @@ rise d w = record { driver = d; wire = w; fall = false; value = None }
 abbrev shows : ℕ → Cycle → Edge
 shows s cycle = record { driver = Slot s; wire = Addr; fall = true; value = Some cycle }
 
--- what is told of an edge behind others, and of the bus, in version 1
+-- what is reported of an edge after others, and of the bus, in version 1
 abbrev told : Plan → ℕ → List Edge → Edge → List ℕ
 told p n es e = why_text n (kept (at_power_up One p 100) es) (numbered (at_power_up One p 100) es) e
 
