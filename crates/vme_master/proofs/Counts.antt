@@ -16,7 +16,7 @@ one_more c most = grind arith
 none_more : (c most : ℕ) → nat_lt (min c most) most ≡ nat_lt c most
 none_more c most = grind arith
 
--- it says as much of the burst as the whole count
+-- the counted cycles say as much about the burst as all cycles do
 pub below_burst : (c : ℕ) (release : Release) → is_below_burst (min c (most_cycles release)) release ≡ is_below_burst c release
 below_burst c (Done burst) = none_more c burst
 below_burst c Request = refl
