@@ -1,4 +1,5 @@
--- A requester's local state, and what its rules read. A list of noted edges has its newest edge first.
+-- A requester's local state, and what its rules read. A list of noted edges has its newest edge
+-- first.
 use Rattle.std.specs.Prelude.{◌≡◌, ◌||◌, ℕ, Bool, true, false, not, Some, None, List}
 use Rattle.vme_model.specs.declared.boards.RequesterRow.{RequesterRow}
 use Rattle.std.specs.Option.{option_and_then}

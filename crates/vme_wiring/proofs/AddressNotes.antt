@@ -86,7 +86,7 @@ showing version p h s r false v ok legal allowed k d =
       shown = ap (option_and_then (λ t. last_value (at s Addr false v ∷ h) (Slot t))) off ∙ no_value v d.value;
     }
 
--- the same where the wire is known to be the address group
+-- what is shown at an edge of the wire that is known to be the address group
 pub record IsShownAt (p : Plan) (h : List Edge) (s : ℕ) (w : Wire) (fall : Bool) (v : Option Cycle) : Type 0 where
   pub addressing : addressing p (at s w fall v ∷ h) ≡ addressing_after (addressing p h) s w fall
   pub shown : shown p (at s w fall v ∷ h) ≡ v

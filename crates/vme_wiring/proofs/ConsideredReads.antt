@@ -62,7 +62,7 @@ two_shown f None (Some t) = refl
 two_shown f (Some v) None = refl
 two_shown f (Some v) (Some t) = refl
 
--- so it does where a board handles these levels
+-- with what the address group may go on, if the board handles these levels
 pub record GoesOn (p : Plan) (h : List Edge) (s : ℕ) (handled : Levels) : Type 0 where
   pub row : Row
   pub handles : row.handler ≡ handled

@@ -80,7 +80,7 @@ module _ (version : Version) (p : Plan) (h : List Edge) (e : Edge) where
       sym (passed_before (is_other_state (drive h e.driver e.wire) e.fall) holds AlreadyThere named last is)
       ∙ sym (ap (λ b. check b NoSuchDriver between) some)
 
-  -- the same where E1 is asked for with what a part answers
+  -- the refusal is that of the verdict, if E1 is asked for together with what a part answers
   pub refused_asked : (r : Refused) → check exists NoSuchDriver (asked version p h e) ≡ Err r → Err r ≡ verdict_but_full version p h e
   refused_asked r is = by_driver exists refl
     where

@@ -4,7 +4,7 @@ pub mod Parts
 pub mod RuleRows
 -- how a count moves with one board that pulls: `note_line`
 pub mod PullCounts
--- what an edge of another driver leaves as it was: `Wiring::note`
+-- what an edge of another driver leaves unchanged: `Wiring::note`
 pub mod Others
 -- how the segments of a chain move with the boards that work it: `note_segment`
 pub mod SegmentMoves
@@ -24,11 +24,13 @@ pub mod FieldReads
 pub mod JudgedParts
 -- before any edge: `Wiring::new`
 pub mod Fresh
--- what is read of the edges that are considered: `next_board`, `board_above`, `is_low`, `offer_address`
+-- what is read of the edges that are considered: `next_board`, `board_above`, `is_low`,
+-- `offer_address`
 pub mod ConsideredReads
 -- what a part answers by its own fields: `Board::may`
 pub mod PartAnswers
--- who waits has no edge that the rules allow: `Wiring::is_waiting`, `waiting_parts`, `offer_requester`
+-- who waits has no edge that the rules allow: `Wiring::is_waiting`, `waiting_parts`,
+-- `offer_requester`
 pub mod NoOffers
 -- lists that grow by what passes a test: `offer_requester` and its like
 pub mod More
@@ -36,5 +38,5 @@ pub mod More
 pub mod EachNumber
 -- a quiet board to which nothing has come waits, and a busy bus has no grant: `Wiring::is_waiting`
 pub mod Quiet
--- the guard that a part reads by its own fields: `Board::told` and the parts of it
+-- the guard that a part reads by its own fields: `Board::told` and its parts
 pub mod PartGuards

@@ -29,7 +29,7 @@ use Rattle.vme_wiring.proofs.PullCounts.{any_pulls, IsSameElsewhere, IsMoved, pu
 use Rattle.vme_wiring.proofs.Others.{drive_same}
 use Rattle.vme_wiring.proofs.AllowedBoards.{Stands, IsDriven, at, at_head, own_after, flipped}
 
--- which boards pull, of those that pass a gate
+-- which of the boards that pass a test pull the line
 abbrev gated : (Row → Bool) → List Edge → Wire → Row → Bool
 gated gate h w q = gate q && drive h (Slot q.slot) w
 

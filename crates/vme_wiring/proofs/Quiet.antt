@@ -1,4 +1,5 @@
--- A board that is quiet, and to which nothing has come, waits; while the bus is busy no grant falls.
+-- A board that is quiet, and to which nothing has come, waits; while the bus is busy no grant
+-- falls.
 use Rattle.std.proofs.Common.{◌≡◌, ◌∙◌, refl, ap, Bool, true, false, ℕ, List}
 use Rattle.std.specs.Prelude.{◌&&◌, not, Some, filter, [], ◌∷◌}
 use Rattle.std.specs.List.{list_all}
@@ -26,7 +27,7 @@ use Rattle.vme_wiring.specs.declared.wirings.Wiring.{Wiring}
 use Rattle.vme_wiring.proofs.FieldReads.{own_of_controller}
 use Rattle.vme_wiring.proofs.NoOffers.{closed, reads_grant, reads_bus, reads_cycle}
 
--- part by part, or what its wires say and then what has come to it
+-- the same truth part by part, or by its wires and then by what reaches it
 by_parts : (r m i u a : Bool) → ((r && m && i) && (u && a)) ≡ ((r && u) && m && (i && a))
 by_parts true true true true a = refl
 by_parts true true true false a = refl
