@@ -1,4 +1,5 @@
--- What a slot holds is one machine value, and is reached through a `&` with the thread's token. Assumes `Logic`.
+-- What a slot holds is one machine value, and is reached through a `&` with the thread's token.
+-- Assumes `Logic`.
 use Rattle.std.proofs.Common.{◌≡◌, ℕ, List, [], ◌∷◌, IfSome, None, Some, T, refl, subst}
 use seplogic.Ra.Ura.{Ura}
 use mir.Syntax.{Ty, Fn, Callee}

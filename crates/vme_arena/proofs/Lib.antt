@@ -8,7 +8,7 @@ pub mod Cells
 pub mod Homes
 -- what all granules own goes out for the rest of a borrow: `Granules::lend`
 pub mod LentGranules
--- the same of a region: `Region::lend`
+-- what a region owns is lent for the rest of a borrow: `Region::lend`
 pub mod LentRegion
 -- the slots of a signature, and what runs after a part of a body: all that is walked by hand
 pub mod Parts
@@ -22,5 +22,5 @@ pub mod Sent
 pub mod Steps
 -- room in units of 16 bytes, and room with no alignment: `Granules`, `Loan`, `Piece::join`
 pub mod Units
--- the values of the structs as the machine has them
+-- the values of the structs, as the machine has them
 pub mod Values

@@ -43,7 +43,7 @@ look_seen b s v is same =
     let found : look_answer b s ≡ Ok (view_of b s.driver) = ap (λ (x : Bool). if x then Err (loss_of b s) else Ok (view_of b s.driver)) (is_lost-same b s same) in
     ap (λ (x : View). Ok x) is ∙ sym found
 
--- the same of a turn
+-- a turn is answered by L5 if the numbers differ
 pub turn_lost : (b : State) (s : Place) (t own : ℕ) → own ≡ count b.history s.driver → own ≢ s.made → Err (record { own = own }) ≡ turn_answer b s t
 turn_lost b s t own is apart =
     let read : is_lost b s ≡ true = is_lost-other b s (λ same. apart (is ∙ same)) in

@@ -10,11 +10,11 @@ pub mod HoldAnswers
 pub mod OneHold
 -- that an edge made is well formed: `laws::edge_in`
 pub mod WellFormed
--- what a hold tells a worker that waits or ends: `workers`
+-- what a hold shows a worker that waits or ends: `workers`
 pub mod Waiting
 -- the pages of a worker: `logs::Pages`
 pub mod LogPages
--- one seat and log more: `threads::run_all`; as many seats as drivers: `Shared::close`
+-- one more seat and log: `threads::run_all`; as many seats as drivers: `Shared::close`
 pub mod SeatsAndLogs
 -- one driver's edges beside its log: `closing::difference`
 pub mod LogDifference

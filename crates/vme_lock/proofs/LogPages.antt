@@ -42,7 +42,7 @@ fits pages n page room count some is =
     let here : room_of pages ≡ 256 - length page = ap (λ x. option_map_or (λ page. 256 - length page) x 0) read in
     omega (arith, here)
 
--- where there is room there is a page
+-- if there is room, there is a page
 pub some_page : (pages : List (List Edge)) → 0 < room_of pages → 0 < length pages
 some_page [] room = absurd (omega arith)
 some_page (x ∷ pages) room = omega arith

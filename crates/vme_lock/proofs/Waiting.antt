@@ -1,4 +1,4 @@
--- What a hold tells a worker that waits or ends.
+-- What a hold shows a worker that waits or ends.
 use Rattle.std.proofs.Common.{◌≡◌, ◌≢◌, ℕ, List, [], ◌∷◌, Bool, true, false, refl, sym, ap, ◌∙◌, subst, arith, length}
 use Rattle.std.specs.Prelude.{◌==◌, ◌%◌, not, if◌then◌else◌, slice_get, Option, None, Result, Ok, Err}
 use Rattle.std.proofs.lemmas.Bool.Decides.{nat_tests}

@@ -92,7 +92,8 @@ move_to_spec 𝓤 𝓛 𝓜 𝓡 wired T L =
     sets ! (agg ! (and_then ! (get ! refl) (no_more !))) refl (tt, (tt, tt)) $
     sets ! (agg ! (and_then ! (get ! refl) (and_then ! (get ! refl) (no_more !)))) refl (tt, (tt, (tt, tt))) $
     sets ! (agg ! (and_then ! (get ! refl) (and_then ! (get ! refl) (no_more !)))) refl (tt, ((tt, (tt, tt)), ((tt, tt), tt))) $
-    -- [the values; the old room; the lifetime; the new rest; the new token; the old rest; the old token]
+    -- [the values; the old room; the lifetime; the new rest; the new token; the old rest; the old
+    -- token]
     move ! (1 ∷ 5 ∷ []) $ use2 𝓛 (‵ (froom (ty_array τ old) b x.at)) (emptied E 𝓛 len old b x.at counts.2) $ use1 𝓛 (‵ (froom τ₀ b x.at)) (𝓛.laws.room-raw (ty_array τ old) b x.at) $ move ! (5 ∷ []) $
     fpick ! (λ _. move ! (1 ∷ 0 ∷ []) $ use2 𝓛 (‵ (units_at from m)) (apply∗ 𝓤 (sem 𝓛 (froom τ₀ b x.at)) (sem 𝓛 (units_at from m))) $
     returns ! (look_at ! 0 refl) $ free_all ! refl $
