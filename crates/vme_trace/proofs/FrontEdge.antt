@@ -78,7 +78,7 @@ slots_found = (
   ),
 )
 
--- a board with some wire is that of a slot
+-- a board that has some wire is the board of a slot
 is_slot_of : (s : ℕ) (w : Wire) → has_wire (Slot s) w ≡ true → is_slot s ≡ true
 is_slot_of s (Bg n) h = absurd (true_false (sym h))
 is_slot_of s Bclr h = absurd (true_false (sym h))
@@ -221,7 +221,7 @@ front_found e text rest front =
     ap first_edge (front.is ∙ laid_out (driver_text e.driver) (wire_text e.wire) (sign e.fall) (argument e.value) rest)
     ∙ chained e.driver e.wire e.fall e.value rest k.0 k.1
 
--- ---- where a part is missing there is no edge
+-- ---- if a part is missing, there is no edge
 
 pub no_driver : (text : List ℕ) → first_driver text ≡ None → first_edge text ≡ None
 unfolding first_edge

@@ -1,4 +1,4 @@
--- The lines of a piece that are read where they lie.
+-- The lines of a piece that are read in place.
 use Rattle.std.proofs.Common.{◌≡◌, ◌<◌, ◌≤◌, ◌+◌, ◌-◌, ◌^◌, min, zero, suc, append_assoc, append-nil, All, sym, ◌∙◌, ℕ, Bool, true, cond, List, [], ◌∷◌, ◌++◌, length, Option, Some, None, is_some, subst, refl, ap, arith, length-append}
 use Rattle.vme_model.specs.declared.signals.Version.{Version}
 use Rattle.vme_model.specs.declared.signals.Edge.{Edge}

@@ -61,7 +61,7 @@ spelled line e h =
           absurd (true_false (sym (ap (λ l. bytes_eq l (spelling e)) h.1 ∙ bytes_same (spelling e)) ∙ f))
     ]
 
--- what no edge is spelled as
+-- a line that spells no edge is read as none
 no_edge : (line : List ℕ) → ((e : Edge) → Spells line e → ⊥) → edge_of line ≡ None
 no_edge line not =
     elim (some_or_none (edge_of line)) [

@@ -4,7 +4,8 @@ ghost use Rattle.vme_model.specs.Text.{version_of, header};
 
 use vme_model::Version;
 
-/// The version that a header line names, without its line feed; none where the line is no header line.
+/// The version that a header line names, given without its line feed; none if the line is not a
+/// header line.
 pub fn header_of(line: &[u8]) -> Option<Version>
     ensures { result ≡ version_of line.now }
 {
