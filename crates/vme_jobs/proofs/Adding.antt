@@ -59,7 +59,7 @@ unopened_file text scenario trace old new f why = elim why [
 
 -- ---- all files
 
--- what the sums are of, where so many files were read
+-- what has been added up after so many files were read
 abbrev pub SoFar : List ℕ → ℕ → Added → Type 0
 SoFar text before sums = (p : Plan) → read text ≡ Ok p → (ts : Traces) × WereRead p before ts × AreSumsOf ts sums
 
@@ -125,7 +125,7 @@ sums_stopped text scenario traces held (Engine (fault.Beyond edges)) h = absurd 
 sums_stopped text scenario traces held (InTrace name f) h = ((text, h.1, h.2, h.3), Keeps-refl held)
 sums_stopped text scenario traces held (Boards f) h = absurd h
 
--- the files that a fault may tell of
+-- the files that a fault may name
 pub sums_fault : (text : List ℕ) (job : Job) (scenario : Bor (List ℕ)) (traces : List (Bor (List ℕ))) (f : ProgramFault) → scenario_name job ≡ scenario.now → ((name : List ℕ) → Contains (texts_of traces) name → IsFileOf job name)
     → Blames text scenario (Contains (texts_of traces)) (λ p name g. StopsAt (texts_of traces) name g p) f → IsFaultOf job f
 sums_fault text job scenario traces (CannotRead name) is files h = files name.now h

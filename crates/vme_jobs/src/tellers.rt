@@ -1,24 +1,24 @@
-//! Which seed is tried, told on standard error.
+//! The progress of a search: the seed that is tried, printed on standard error.
 ghost use Rattle.std.specs.Prelude.{◌≡◌, None};
 ghost use Rattle.vme_jobs.specs.Paced.{IsPaced};
 
 use std::time::Instant;
 use vme_engines::Progress;
 
-/// For how many seconds nothing is told after a line.
+/// For how many seconds nothing is printed after a line.
 const PAUSE: u64 = 1;
 
-/// Tells which seed is tried, once a second at most, or nothing.
+/// Prints the seed that is tried, at most once a second, or nothing.
 #[derive(Drop)]
 pub(crate) struct Teller<'r> {
     rt: &'r HostRuntime,
     is_wanted: bool,
-    /// When it told one last.
+    /// When it printed its last line.
     told: Option<Instant>,
 }
 
 impl<'r> Teller<'r> {
-    /// One that told nothing yet, and tells something only where it `is_wanted`.
+    /// A teller that has printed nothing yet. It prints lines only if `is_wanted` is true.
     pub(crate) fn new(rt: &'r HostRuntime, is_wanted: bool) -> Teller<'r>
         ensures wanted { result.is_wanted ≡ is_wanted }
         ensures told { result.told ≡ None }
@@ -30,7 +30,8 @@ impl<'r> Teller<'r> {
         }
     }
 
-    /// Whether a line is due now, which is then the last one told. None is while the clock cannot be read.
+    /// Whether a line is due now. If so, it counts as the last one printed. No line is due while
+    /// the clock cannot be read.
     fn is_due(&mut self) -> bool
         ensures { IsPaced self.old.told self.new.told result }
     {

@@ -52,7 +52,7 @@ same_length a b i j digits lacks is =
     let short : ¬ (length a < i) = λ less. lacks (length a) less b (drop-append_seam a (dots ++ b)) in
     omega arith
 
--- where a numeral stands before two dots, they are the first
+-- if a numeral stands before two dots, these are the first two dots
 apart : (begins ends a b : Text) → AllDigits 10 (without_leading_plus a) → IsParted (a ++ (dots ++ b)) begins ends → (begins ≡ a) × (ends ≡ b)
 apart begins ends a b digits s =
     let at : length a ≡ s.0 = same_length a b s.0 s.1 digits s.2.0 s.2.1.split in (
