@@ -19,7 +19,7 @@ pub record GrantWires : Type 0 where
   -- a slot of the level gave its request up since the last grant, without the bus
   pub withdrawn : ℕ → Bool
 
--- new is old but for v at s
+-- new is old except for v at s
 abbrev pub Sets : (new old : ℕ → Bool) → ℕ → Bool → Type 0
 Sets new old s v = (t : ℕ) → ((t ≡ s) × (new t ≡ v)) ⊎ ((t ≢ s) × (new t ≡ old t))
 

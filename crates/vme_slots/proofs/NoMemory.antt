@@ -18,7 +18,7 @@ is_memory _ = false
 record IsPlain (o : Option PlanError) : Type 0 where
   plain : option_map_or is_memory o false ≡ false
 
--- the same holds of the first value, and of those after it
+-- no first value is P9, if neither the first one nor those after it are
 plain_first : (a : Option PlanError) (rest : List (Option PlanError)) → IsPlain a → IsPlain (first_of rest) → IsPlain (first_of (a ∷ rest))
 plain_first None rest here later = later
 plain_first (Some e) rest here later = here

@@ -1,4 +1,5 @@
-//! What no clause says of the engines: the texts of their faults, and that each seed is told before it is tried.
+//! What no clause says of the engines: the texts of their faults, and that each seed is reported
+//! before it is tried.
 use std::process::Abort;
 use vme_engines::{EngineFault, Progress, drive_found};
 use vme_goals::{Event, Goal};
@@ -40,7 +41,7 @@ slot = 3
 interrupter = { level = 4, kind = \"roak\", status = 66 }
 ";
 
-/// Keeps how many seeds it heard of, and whether each came after the one before, from 0 on.
+/// Keeps how many seeds were reported to it, and whether each came after the one before, from 0 on.
 #[derive(Drop)]
 struct Heard {
     seeds: u64,
@@ -54,7 +55,8 @@ impl Progress for Heard {
     }
 }
 
-/// Which of the seeds from 0 to `last` comes to an acknowledge that is handed on, and what was heard of.
+/// Which of the seeds from 0 to `last` reaches an acknowledge that is passed on, and what was
+/// reported.
 fn sought(rt: &impl AllocGlobal, last: u64) -> (Option<u64>, Heard) {
     let mut heard = Heard {
         seeds: 0,
@@ -74,7 +76,7 @@ fn sought(rt: &impl AllocGlobal, last: u64) -> (Option<u64>, Heard) {
     (answer.unwrap_or(None), heard)
 }
 
-// What the trace of seed 10 is, the cases of `drive --until` show.
+// The trace of seed 10 is shown by the cases of `drive --until`.
 #[test]
 fn seeds_are_told_in_order(rt: HostRuntime) {
     for (last, seed, seeds) in [(9, None, 10), (20, Some(10), 11)] {

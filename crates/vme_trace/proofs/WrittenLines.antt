@@ -7,7 +7,7 @@ use Rattle.vme_model.specs.declared.signals.Edge.{Edge}
 use Rattle.vme_model.specs.Text.{edge_lines}
 use Rattle.vme_trace.specs.Writing.{AppendsFront, edge_line}
 
--- these bytes, but for the rest, went to a writer
+-- these bytes without the rest went to a writer
 abbrev pub Wrote : Option (List ℕ) → Option (List ℕ) → List ℕ → List ℕ → Type 0
 Wrote old new bytes rest = (front : List ℕ) × (bytes ≡ front ++ rest) × Appends old new front
 

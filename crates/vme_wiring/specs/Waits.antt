@@ -53,7 +53,7 @@ abbrev pub is_unaddressed : Option Cycle → Bool → Row → Bool
 is_unaddressed cycle iack_in b =
     not (is_access_to b.slot cycle) && option_map_or (λ i. not iack_in) b.interrupter true
 
--- nothing has come to a board that sees these pins
+-- nothing has reached a board that sees these pins
 abbrev pub is_left_alone : Version → Pins → Row → Bool
 is_left_alone version seen b =
     is_ungranted version seen.grant_in b && is_unaddressed seen.shown seen.iack_in b

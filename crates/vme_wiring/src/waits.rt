@@ -111,7 +111,7 @@ impl Wiring {
         }
     }
 
-    /// Whether nothing has come to the board.
+    /// Whether nothing has reached the board that it could answer or pass on.
     #[inline(always)]
     fn is_left_alone(&self, board: &Board) -> bool
         ensures { result ≡ is_left_alone self.now.version
