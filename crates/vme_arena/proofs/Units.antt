@@ -51,7 +51,7 @@ module _ {M : Type 1} {𝓤 : Ura M} (𝓛 : Logic 𝓤) (b : ℕ) where
   abbrev Units : ℕ → ℕ → Pr
   Units x n = H.room (units_of n) b x
 
-  -- n bytes at x, with no alignment
+  -- n bytes at x, without alignment
   abbrev Loose : ℕ → ℕ → Pr
   Loose x n = H.room (loose n) b x
 

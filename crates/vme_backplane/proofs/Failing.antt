@@ -1,4 +1,4 @@
--- What an edge fails with the end of the trace, from what it fails without.
+-- What an edge fails with the end of the trace, from what it fails without it.
 use Rattle.std.proofs.Common.{◌≡◌, ◌∙◌, refl, sym, ap, Bool, true, false, [], ◌∷◌, length}
 use Rattle.std.specs.Prelude.{◌==◌, ◌&&◌, not, Ok, Err, is_ok}
 use Rattle.vme_model.specs.declared.conditions.Condition.TheVariants.{HasRoom}

@@ -23,14 +23,14 @@ use Rattle.vme_interrupter.specs.Local.{Noted, InterrupterState, edges, interrup
 abbrev edge : Driver → Wire → Bool → Option Cycle → Edge
 edge d w f v = record { driver = d; wire = w; fall = f; value = v }
 
--- whatever is shown, it is passed on alike
+-- whatever is shown, it is passed on by the state as over the list
 passed_alike : (s : ℕ) (row : Option InterrupterRow) (noted : List Noted) (pins : Pins) (shown : Option Cycle) →
     is_passed_by (local (interrupter_of s row noted) pins) shown ≡ is_passed_by (over s row noted pins) shown
 passed_alike s row noted pins None = refl
 passed_alike s row noted pins (Some (Acknowledge level)) = refl
 passed_alike s row noted pins (Some (Access t)) = refl
 
--- and answered
+-- whatever is shown, it is answered by the state as over the list
 answered_alike : (s : ℕ) (row : Option InterrupterRow) (noted : List Noted) (pins : Pins) (shown : Option Cycle) →
     may_answer (local (interrupter_of s row noted) pins) shown ≡ may_answer (over s row noted pins) shown
 answered_alike s row noted pins None = refl

@@ -1,4 +1,4 @@
--- Traces that are added up, file by file, and the answer that is handed on.
+-- Traces that are added up, file by file, and the answer that is passed on.
 use Rattle.std.proofs.Common.{◌≡◌, ◌⊎◌, ◌∙◌, inl, inr, ℕ, ◌+◌, List, [], ◌∷◌, length, Option, Some, None, Result, Ok, Err, refl, sym, ap, subst, arith}
 use Rattle.std.specs.Io.KnownBytes.{Keeps}
 use Rattle.std.specs.Borrow.{Bor}
@@ -28,7 +28,7 @@ use Rattle.vme_jobs.specs.Names.{IsFaultOf, IsFileOf, scenario_name, told_answer
 use Rattle.vme_jobs.specs.Together.{StopsAt, SumsUp, WereRead}
 use Rattle.vme_jobs.proofs.Handing.{handed}
 
--- the plan of a text is one
+-- a text has only one plan
 plan_or : {E : Type 0} → Plan → Result Plan E → Plan
 plan_or other (Ok p) = p
 plan_or other (Err e) = other
@@ -50,7 +50,7 @@ file_done text scenario trace old new from to (Err (fault.Trace f)) h = (refl, h
 file_done text scenario trace old new from to (Err (fault.Beyond edges)) h = absurd h.3.2
 file_done text scenario trace old new from to (Err fault.NoMemory) h = tt
 
--- a file that does not open, or no memory for what is handed to the engine
+-- a file that does not open, or no memory for what is passed to the engine
 pub unopened_file : (text : List ℕ) (scenario trace : Bor (List ℕ)) (old new : Added) (f : ProgramFault) → (f ≡ CannotRead trace) ⊎ (f ≡ Engine fault.NoMemory) → AddsFile text scenario trace old new (Err f)
 unopened_file text scenario trace old new f why = elim why [
   | inl is ↦ subst (λ (g : ProgramFault). AddsFile text scenario trace old new (Err g)) (sym is) refl

@@ -1,4 +1,4 @@
--- One worker more.
+-- One more worker.
 use Rattle.std.proofs.Common.{◌≡◌, ◌<◌, ℕ, List, [], ◌∷◌, ◌++◌, length, suc, set, get_or, ap, refl}
 use Rattle.std.proofs.Math.Seq.{map-set_same}
 use Rattle.vme_model.specs.declared.signals.Driver.{Driver}

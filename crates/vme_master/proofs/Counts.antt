@@ -9,7 +9,7 @@ use Rattle.vme_model.specs.Rules.{is_below_burst}
 use Rattle.vme_model.specs.Rules as rules
 use Rattle.vme_master.specs.Local.{most_cycles}
 
--- one more of them
+-- one more cycle, in such a count
 pub one_more : (c most : ℕ) → (if nat_lt (min c most) most then min c most + 1 else min c most) ≡ min (1 + c) most
 one_more c most = grind arith
 
@@ -21,7 +21,7 @@ pub below_burst : (c : ℕ) (release : Release) → is_below_burst (min c (most_
 below_burst c (Done burst) = none_more c burst
 below_burst c Request = refl
 
--- so does the part of a guard that reads it
+-- the part of a guard that reads the counted cycles says as much as with all cycles
 pub burst_guard : (c : ℕ) (release : Release) → rules.below_burst (min c (most_cycles release)) release ≡ rules.below_burst c release
 burst_guard c (Done burst) = ap (λ b. asks WithinBurst b) (none_more c burst)
 burst_guard c Request = refl

@@ -55,7 +55,7 @@ guards_by_parts version s row handler noted pins holds_bus DataStrobe true v own
 guards_by_parts version s row handler noted pins holds_bus DataStrobe false v own = refl
 guards_by_parts version s row handler noted pins holds_bus w f v own = absurd (cc)
 
--- so do their guards
+-- the guards of a state that comes from a list are those over the list
 pub guards_over : (version : Version) (state : MasterState) (noted : List Edge) (pins : Pins) (holds_bus : Bool) (w x : Wire) (f : Bool) (v : Option Cycle) → state ≡ master_of state.slot state.row state.handler noted → w ≡ x → is_masters x ≡ true →
     (guard One (local state pins holds_bus) x f v).1 ≡ (guard version (over state.slot state.row state.handler noted pins holds_bus) w f v).1
 guards_over version state noted pins holds_bus w x f v same is own =

@@ -1,4 +1,4 @@
--- Tests.
+-- What tests say that hold or fail.
 use Rattle.std.proofs.Common.{◌≡◌, ℕ, Bool, true, false, Option, Some, None, refl, arith}
 use Rattle.std.specs.Prelude.{◌&&◌, not, ◌==◌, if◌then◌else◌}
 use Rattle.std.proofs.lemmas.Bool.Decides.{nat_tests}

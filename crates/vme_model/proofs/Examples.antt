@@ -1,6 +1,6 @@
 -- Why the rules are needed: histories that break a claim, although all of their edges but one are
--- allowed. That one is refused by the rule named; were it allowed too, the list would be legal and
--- not safe.
+-- allowed. That one is refused by the rule named; if it were allowed too, the list would be legal
+-- and not safe.
 use Rattle.std.proofs.Common.{◌≡◌, ◌⊎◌, ℕ, zero, suc, ◌++◌, Bool, true, false, List, [], ◌∷◌, Option, Some, None, Ok, refl, sym, ◌∙◌, subst, arith, inl, inr, map}
 use Rattle.std.specs.List.{Contains}
 use Rattle.vme_model.specs.declared.boards.Row.{Row}

@@ -6,11 +6,11 @@ pub mod Guards
 pub mod Failing
 -- the slots of a chain below a bound
 pub mod Below
--- what an accepted plan says of its rows
+-- what an accepted plan says about its rows
 pub mod Ranges
 -- the four phases of the grant chains, and which edge leads to which
 pub mod GrantPhases
--- what a plan in range says of its slots
+-- what a plan in range says about its slots
 pub mod Members
 -- what an edge that is allowed has passed
 pub mod AllowedEdges

@@ -1,4 +1,4 @@
--- What a plan in range says of its slots.
+-- What a plan in range says about its slots.
 use Rattle.std.proofs.Common.{◌≡◌, ℕ, zero, suc, ◌<◌, ◌≤◌, Bool, true, false, List, [], ◌∷◌, Option, Some, None, refl, sym, ap, ◌∙◌, subst, arith}
 use Rattle.std.specs.Prelude.{◌&&◌, ◌||◌, ◌==◌, if◌then◌else◌, filter, find, is_some}
 use Rattle.std.specs.List.{list_any, All, Contains}

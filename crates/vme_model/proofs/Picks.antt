@@ -1,5 +1,5 @@
 -- Which level a policy picks, by the four request lines: the laws that each policy gives, and what
--- follows of every one.
+-- follows for every policy.
 use Rattle.std.proofs.Common.{◌≡◌, refl, sym, ap, subst, ℕ, zero, suc, ◌%◌, ◌<◌, ◌==◌, Bool, true, false, List, [], ◌∷◌, arith}
 use Rattle.std.specs.Prelude.{Option, Some, None, find, ◌&&◌, ◌||◌, not, nat_le, nat_lt, if◌then◌else◌}
 use Rattle.std.specs.List.{list_all}
@@ -210,7 +210,7 @@ pub pick_is_low : (kind : ArbiterKind) (low : ℕ → Bool) (last n : ℕ) →
 pick_is_low kind low last n e =
     (laws_of kind).is_low low last n (found (is_pick kind low last) bus_numbers n e)
 
--- what holds of the four holds of each
+-- what holds for all four levels holds for each of them
 pub at_four : (t : ℕ → Bool) (n : ℕ) → n < 4 → list_all t bus_numbers ≡ true → t n ≡ true
 at_four t zero l e = and_left _ _ e
 at_four t (suc zero) l e = and_left _ _ (and_right (t 0) _ e)

@@ -106,7 +106,7 @@ none_travels p h e n s t =
     never (sym (All-contains (λ m. is_granted_at p h m ≡ false) (grant_places p) (n, s) (none_passes (is_granted_at p h) (grant_places p) e) (stop p h n s t))
     ∙ three (input p h (grant_chain n) s) (drive h (Slot s) BgOut) (drive h (Slot s) Bbsy) t.granted t.unpassed t.untaken)
 
--- the verdict on an access asks of its slot only that there can be such a one
+-- the verdict on an access depends on its slot only in that there can be such a slot
 pub accesses_alike : (b : State) (d : Driver) (s t : ℕ) → is_slot s ≡ true → is_slot t ≡ true → verdict b (showing d (Access s)) ≡ verdict b (showing d (Access t))
 accesses_alike b d s t hs ht =
     ap (λ x. check (holds (asks HasDriver ((has_wire d Addr && x) && has_driver b.plan d Addr))) NoSuchDriver

@@ -62,7 +62,7 @@ four_slots = record {
   arbiter = Sgl;
 }
 
--- two processors, memory, and boards that ask for the bus, for service or for both; slot 6 is empty
+-- two processors, memory, and boards that request the bus, an interrupt or both; slot 6 is empty
 abbrev nine_slots : Plan
 nine_slots = record {
   slots = 9;
@@ -177,7 +177,7 @@ grant_stands_at_4 : stand nine_slots 4 before_grant_stands_at_4 ≡
 unfolding digits
 grant_stands_at_4 = refl
 
--- slot 1 holds the bus after three accesses, and slot 5 asks
+-- slot 1 holds the bus after three accesses, and slot 5 requests it
 abbrev before_slot_1_holds : List Edge
 before_slot_1_holds =
     fall (Slot 1) Br ∷ fall Controller (Bg 1) ∷ fall (Slot 1) Bbsy ∷ rise (Slot 1) Br

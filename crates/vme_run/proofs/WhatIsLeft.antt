@@ -21,7 +21,7 @@ use Rattle.vme_run.specs.declared.RunFault.TheVariants.{Engine, NotStarted, LogD
 use Rattle.vme_run.specs.Running.{IsMade, IsRun, AreHandedBack, HasOtherLogs, RunsOn, Runs}
 use Rattle.vme_run.specs.Between.{IsRead, IsUnread, IsGrown, IsPlayed, HasGrownApart, IsNotPlayed, EndsRun, IsWritten}
 
--- what can be made is no more than what is asked for
+-- what can be made is no more than what is requested
 pub fits : (n others m : ℕ) → m ≡ min n others → m ≤ n
 fits n others m is = subst (λ x. x ≤ n) (sym is) (min-le_left n others)
 
@@ -49,7 +49,7 @@ other_logs version p m n turns b driver at fits grown apart =
     let back : AreHandedBack turns (length (drivers p)) (length b.history) apart.0 = record { each = apart.2.each; short = apart.2.short; all = apart.2.all ∙ sym many } in
     (b.history, apart.0, made_of version p m n turns b fits grown, back, apart.4)
 
--- in the version handed in
+-- the version that was passed in
 version_of : (version : Version) (p : Plan) (n turns : ℕ) (b : State) → IsPlayed turns (at_power_up version p n) b → b.version ≡ version
 version_of version p n turns b played = ap (λ x. x.version) played.0.0.1
 
@@ -82,7 +82,7 @@ not_read lent version n turns old (NotReplayed at) none = absurd none
 pub ends_unread : (lent : List ℕ) (version : Version) (most turns : ℕ) (f : RunFault) → IsUnread lent f → EndsRun lent version most turns f
 ends_unread lent version most turns f none n old fits = not_read lent version n turns old f none
 
--- nothing, for want of memory
+-- nothing is left if memory runs out
 pub runs_out : (lent : List ℕ) (version : Version) (n turns : ℕ) (p : Plan) (old : Option (List ℕ)) → IsRead lent p → Runs lent version n turns old old (Err (Engine fault.NoMemory))
 runs_out lent version n turns p old is = (p, is.short, is.read, Keeps-refl _)
 

@@ -17,7 +17,7 @@ use Rattle.vme_trace.specs.Fronts.{First, IsFrontLine, first_driver, first_contr
 use Rattle.vme_trace.proofs.AllEdges.{In, in_slots, in_levels, edge}
 use Rattle.vme_trace.proofs.Lines.{true_false}
 
--- P holds of each
+-- P holds for each
 abbrev AllOf : (ℕ → Type 0) → List ℕ → Type 0
 AllOf P [] = Unit {0}
 AllOf P (x ∷ xs) = P x × AllOf P xs
@@ -189,7 +189,7 @@ value_found Addr true (Some (Acknowledge v)) h rest = ap as_value (all_in FindsL
 value_found Addr true (Some (Access s)) h rest = ap as_value (all_in FindsAccess s (up_to 21) accesses_found (in_slots s h) rest)
 value_found w fall (Some c) h rest = absurd (true_false (sym h))
 
--- ---- the parts of a line, one after the other
+-- ---- the parts of a line, one after another
 
 infixl 10 ◌>>=◌
 abbrev ◌>>=◌ : {A B : Type 0} → Option A → (A → Option B) → Option B

@@ -1,4 +1,4 @@
--- A line spells at most one edge, and it is found in it.
+-- A line spells at most one edge, and that edge is found in it.
 use Rattle.std.proofs.Common.{◌≡◌, ◌≢◌, ◌<◌, ◌≤◌, ◌⊎◌, ◌&&◌, not, leb, ℕ, Bool, true, false, eqb, List, [], ◌∷◌, ◌++◌, length, get_or, drop, Option, Some, None, option_map, refl, sym, ◌∙◌, ap, arith, inl, inr, append-nil, length-append}
 use Rattle.std.proofs.lemmas.Bool.{and_parts}
 use Rattle.std.proofs.lemmas.Bool.Decides.{nat_tests}
@@ -78,7 +78,7 @@ is_one_line (b ∷ bs) = not (eqb b 10) && is_one_line bs
 abbrev fits : Edge → Bool
 fits e = is_one_line (spelling e) && leb (length (spelling e)) 15
 
--- so does the spelling of every well-formed edge: computed for each of them
+-- the spelling of every well-formed edge has that property: computed for each edge
 all_fit : list_all fits all_edges ≡ true
 unfolding all_edges
 all_fit = refl

@@ -38,7 +38,7 @@ apart s t differ = first (s == t) refl
     first true e = absurd (differ (grind (arith, nat_tests)))
     first false e = refl
 
--- an address group goes on: no other is
+-- if an address group goes on, no other one is on
 going_on : (p : Plan) (h : List Edge) (s : ℕ) (r : Row) (v : Option Cycle) → Stands p s r → OneAddresses (at s Addr true v ∷ h) → addressing p (at s Addr true v ∷ h) ≡ Some s
 going_on p h s r v k one =
     let e = at s Addr true v in
@@ -47,7 +47,7 @@ going_on p h s r v k one =
     find_up_to_first test p.slots s k.from_one k.to_last own
     (λ t low less. is_false (test t) (λ on. let same : t ≡ s = one t s on own in absurd (omega arith)))
 
--- or off: none is left
+-- if an address group goes off, none is left on
 gone_off : (p : Plan) (h : List Edge) (s : ℕ) (v : Option Cycle) → drive h (Slot s) Addr ≡ true → OneAddresses h → addressing p (at s Addr false v ∷ h) ≡ None
 gone_off p h s v was one =
     let e = at s Addr false v in

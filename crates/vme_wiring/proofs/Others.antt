@@ -110,7 +110,7 @@ parts_same version p h e r other =
     of_parts : (board : Option RequesterState → Option MasterState → InterrupterState → Board) {x x' : Option RequesterState} {y y' : Option MasterState} {z z' : InterrupterState} → x ≡ x' → y ≡ y' → z ≡ z' → board x y z ≡ board x' y' z'
     of_parts board {x} {x'} {y} {y'} {z} {z'} a b c = ap (λ t. board t y z) a ∙ ap (λ t. board x' t z) b ∙ ap (λ t. board x' y' t) c
 
--- an edge of a wire that does not concern a part leaves the part
+-- an edge of a wire that does not concern a part leaves the part unchanged
 abbrev pub concerns_master : Wire → Bool
 concerns_master Bbsy = true
 concerns_master Addr = true

@@ -1,4 +1,5 @@
--- `move_to` moves the values to the new room, and makes the old a piece again. Assumes `Logic`.
+-- `move_to` moves the values to the new room, and makes the old room a piece again. Assumes
+-- `Logic`.
 use Rattle.vme_arena.proofs.Steps.{◌≡◌, ℕ, ◌+◌, ◌-◌, ◌*◌, ◌^◌, ◌<◌, ◌≤◌, List, [], ◌∷◌, ◌++◌, refl, sym, ap, subst, ◌∙◌, arith, w64, SProp, emp, apply∗, Lft, Share, ftrue, froom, flft, full_share, Ty, Fn, Val, vint, vunit, ty_array, size, capped, capped_is, Env, WpFn, fact, fact_i, tables, sem, ‵, raw, ◌⊛◌, given, later, prop, settles, at_ret, ◌$◌, ◌∵◌, !, qed, by, move, drop, use0, use1, use2, use3, split, split3, join, learn, rewrite, regoal, fsplit, fsplit3, fjoin, fpick, await, whole, sub, agg, stop, fld, of_opd, no_more, and_then, first, blocks, exec, returns, enter, alloc_all, pass_all, free_all, look_at, get, get_in, sets, lands_last, env, RattleType, owns, Ptr, block_ptr, types_at, nothing, heard, Tuple, Stays, stay_dropped, walk_of, Goes-blank, Goes-dropped, after, fm, pair_of, pair_val, proved_at, leaves}
 use Rattle.vme_arena.proofs.Parts.{param, going_on, leaving}
 use mir.Syntax.{Args, a_type, place}
