@@ -70,7 +70,7 @@ impl<'r, L: Rig> Shared<'r, L> {
     }
 }
 
-/// All seats together made as many edges as the book has.
+/// Adds up all seats: together they made as many edges as the book has.
 fn count_all<L: Rig>(book: &mut Book<L>, spare: Share<L>, mut seats: Seats<L>)
     requires all { spare.parts + vec_len seats ≡ L.parts }
     requires spare { spare.amount ≡ 0 }

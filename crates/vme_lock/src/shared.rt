@@ -34,8 +34,8 @@ impl<'r, L: Rig> Shared<'r, L> {
         look_in(&*held, seat)
     }
 
-    /// What the seat's driver may do in a turn, counted from 0: of k offers the one at place `turn
-    /// mod k`. It may wait for the lock.
+    /// What the seat's driver may do in a turn, counted from 0: of k offers the one at place
+    /// `turn mod k`. It may wait for the lock.
     ///
     /// # Errors
     /// `Lost` (L5) if the history has another number of the driver's edges than its seat made.

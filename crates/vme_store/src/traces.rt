@@ -82,8 +82,8 @@ impl<'r> Trace<'r> {
     }
 
     /// Reserves room for `max` edges, 0 to 1,048,576, with a page on each lease in turn. No later
-    /// step asks for memory. Page `p`, counted from 0, holds the lesser of 65,536 and `max - 65,536
-    /// * p` edges.
+    /// step asks for memory. Page `p`, counted from 0, holds the lesser of 65,536 and
+    /// `max - 65,536 * p` edges.
     ///
     /// # Errors
     /// `TooMany` if `max` is greater than 1,048,576; otherwise `WrongLeases` if there are more or
