@@ -1,4 +1,5 @@
 //! One region of memory, carved into stretches that serve collections as their allocators.
+//! docs/ARENA.md explains it.
 //!
 //! A stretch lives as long as the borrow of its region, and may move to another thread. Carving is
 //! exact: it is refused only if the region's rest is too short, and then nothing changes.

@@ -127,7 +127,7 @@ impl<'r> Backplane<'r> {
     }
 
     /// A law: the history of every backplane is safe and orderly. The call costs nothing, and gives
-    /// these facts to the prover.
+    /// these facts to the prover. docs/SAFETY.md explains the claims.
     #[tactic(auto, using(vme_model::proofs::Safety::legal_is_safe, vme_model::proofs::Safety::legal_is_orderly))]
     pub fn safety(&self)
         ensures safe { IsSafe self.now.plan self.now.history }

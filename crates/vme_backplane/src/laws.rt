@@ -1,7 +1,7 @@
 //! What holds for every legal list of edges on every accepted plan, and for any two backplanes.
 //!
 //! The functions do nothing and cost nothing. Each states a theorem by its contract, and a call of
-//! it gives the theorem to the prover.
+//! it gives the theorem to the prover. docs/SAFETY.md explains the claims.
 ghost use Rattle.std.specs.Prelude.{◌≡◌, List};
 ghost use Rattle.vme_model.specs.Accepted.{IsAccepted};
 ghost use Rattle.vme_model.specs.Locality.{AreWellFormed, IsLocal};

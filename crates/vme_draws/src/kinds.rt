@@ -94,7 +94,7 @@ fn addressing(plan: &Plan, value: Option<Cycle>) -> Kind
 }
 
 impl Kind {
-    /// The kind of an edge on a plan.
+    /// The kind of an edge on a plan. Source: profile.
     pub fn of(plan: &Plan, edge: &Edge) -> Kind
         ensures { result ≡ kind_of plan.now edge.now }
     {

@@ -1,4 +1,4 @@
-//! Seats at one locked backplane, and a thread for each board.
+//! Seats at one locked backplane, and a thread for each board. docs/THREADS.md explains them.
 //!
 //! Each hold of the lock makes one edge or none. The module `laws` has what a hold does to the
 //! value that it borrows.

@@ -14,7 +14,8 @@ pub enum Release {
     Request,
 }
 
-/// A board's requester, with the one master that it serves.
+/// A board's requester, with the one master that it serves. Source: Std 1014, chapter 3; that a
+/// board has at most one is profile.
 #[derive(Clone, Copy, PartialEq, Eq, Debug)]
 pub struct RequesterRow {
     /// The level of BR0* to BR3*, 0 to 3.
@@ -31,7 +32,8 @@ pub enum IrqKind {
     Rora,
 }
 
-/// A board's interrupter.
+/// A board's interrupter. Source: Std 1014, chapter 4; its single level and status byte are
+/// profile.
 #[derive(Clone, Copy, PartialEq, Eq, Debug)]
 pub struct InterrupterRow {
     /// The level of IRQ1* to IRQ7*, 1 to 7.
@@ -73,7 +75,7 @@ pub enum ArbiterKind {
 }
 
 impl Row {
-    /// Whether the board has a requester on that level.
+    /// Whether the board has a requester on that level. Source: Std 1014, chapter 3.
     pub fn requests_on(&self, level: u8) -> bool
         ensures { result ≡ requests_on level self.now }
     {

@@ -108,7 +108,7 @@ pub enum Condition {
     HasRoom,
 }
 
-/// A condition of a guard, and whether it holds just before an edge.
+/// A condition of a guard, and whether it holds just before an edge. Source: profile.
 #[derive(Clone, Copy, PartialEq, Eq, Debug, Default)]
 pub struct Tested {
     /// The condition.
@@ -119,6 +119,7 @@ pub struct Tested {
 
 impl Condition {
     /// The condition's text, or none if the text depends on the edge, its board or what is shown.
+    /// docs/COMMANDS.md lists the texts.
     pub fn fixed_text(self) -> Option<&'static str>
         ensures text { option_map (λ text. text.now) result ≡ fixed_text self }
         ensures short { IfSome result (λ text. length text.now ≤ 48) }

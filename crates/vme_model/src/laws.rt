@@ -1,7 +1,8 @@
 //! What holds for every legal list of edges on every accepted plan, and for every guard.
 //!
 //! These functions do nothing and cost nothing. Each states a theorem over the definitions by its
-//! contract, and a call of it gives the theorem to the prover.
+//! contract, and a call of it gives the theorem to the prover. The claims are profile;
+//! docs/SAFETY.md explains them.
 ghost use Rattle.std.specs.Prelude.{◌≡◌, ◌↔◌, ℕ, Some, None, true, not, Bool, List, [], Ok, Option, map, filter, is_ok, is_some};
 ghost use Rattle.std.specs.List.{All, list_all};
 ghost use Rattle.vme_model.specs.Accepted.{IsAccepted};

@@ -37,7 +37,7 @@ impl fmt::Display for Refused {
 
 impl Error for Refused {}
 
-/// The field of a plan that is out of range.
+/// The field of a plan that is out of range (P8). Source: profile.
 #[derive(Clone, Copy, PartialEq, Eq, Debug)]
 pub enum Field {
     Slots,

@@ -13,7 +13,7 @@ pub enum Version {
     Two,
 }
 
-/// Who drives a wire: the controller in slot 1, or the board of a slot.
+/// Who drives a wire: the controller in slot 1, or the board of a slot. Source: profile.
 #[derive(Clone, Copy, PartialEq, Eq, Debug, Default)]
 pub enum Driver {
     #[default]
@@ -22,7 +22,8 @@ pub enum Driver {
     Slot(u8),
 }
 
-/// A wire, named by what drives it at that place.
+/// A wire, named by what drives it at that place. Source: Std 1014, chapters 2 to 4; that an
+/// address group is one wire is profile.
 #[derive(Clone, Copy, PartialEq, Eq, Debug, Default)]
 pub enum Wire {
     /// The controller's bus grant of a level, 0 to 3.
@@ -91,7 +92,7 @@ fn is_level(level: u8) -> bool
 }
 
 impl Version {
-    /// Whether this is the second version of the rules.
+    /// Whether this is the second version of the rules. Source: profile.
     #[inline(always)]
     pub fn is_two(self) -> bool
         ensures { result ≡ is_two self }

@@ -116,7 +116,7 @@ fn moved_text(edge: &Edge) -> ArrayVec<u8, TEXT>
 
 impl Condition {
     /// The condition's text for a well-formed edge. The text depends on the board in the edge's
-    /// slot and on what is shown before the edge.
+    /// slot and on what is shown before the edge. docs/COMMANDS.md lists the texts.
     pub fn text(self, edge: &Edge, board: Option<Row>, shown: Option<Cycle>) -> ArrayVec<u8, TEXT>
         requires { IsTrue (is_well_formed edge.now) }
         ensures { result.items ≡ condition_text self edge.now board shown }

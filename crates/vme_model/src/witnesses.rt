@@ -2,7 +2,8 @@
 
 use crate::signals::{Cycle, Driver, Wire};
 
-/// A reading of a condition: a wire as it is before the edge, or what the condition counts.
+/// A reading of a condition: a wire as it is before the edge, or what the condition counts. Source:
+/// profile.
 ///
 /// An edge is given by its number in the trace, from 1.
 #[derive(Clone, Copy, PartialEq, Eq, Debug)]

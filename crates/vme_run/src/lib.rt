@@ -1,5 +1,5 @@
 //! The engine of `run`: a scenario's boards make edges, each in a thread of its own, and the trace
-//! of these edges is written.
+//! of these edges is written. docs/THREADS.md explains it.
 #![tactic(auto)]
 
 ghost use Rattle.std.specs.Prelude.{Some};
@@ -14,7 +14,7 @@ use thiserror::Error;
 use vme_engines::EngineFault;
 use vme_model::Driver;
 
-/// Why a run gave up, by the numbers that users see.
+/// Why a run gave up, by the numbers that users see. docs/FAULTS.md lists them.
 #[derive(PartialEq, Eq, Debug, Drop, Error)]
 pub enum RunFault {
     /// The scenario is refused, memory ran out, or the trace could not be written.

@@ -248,6 +248,7 @@ pub(crate) fn edge_at(text: &[u8]) -> Option<(Edge, &[u8])>
 }
 
 /// The edge that a line spells, given without its line feed; none if it spells no edge.
+/// docs/TRACES.md has the spellings.
 pub fn edge_of(line: &[u8]) -> Option<Edge>
     ensures { result ≡ edge_of line.now }
 {

@@ -23,7 +23,8 @@ pub use reader::{Reader, parse};
 use thiserror::Error;
 pub use writer::{flush, line_of, put, spelling_of, write, write_line};
 
-/// Why a trace could not be read or written, by the numbers that users see.
+/// Why a trace could not be read or written, by the numbers that users see. docs/FAULTS.md lists
+/// them.
 #[derive(Clone, Copy, PartialEq, Eq, Debug, Error)]
 pub enum Fault {
     /// X1: the first line is not a header, or there is no line.

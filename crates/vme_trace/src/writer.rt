@@ -75,7 +75,7 @@ pub(crate) fn push_text(line: &mut ArrayVec<u8, LINE>, text: &[u8])
 }
 
 /// The spelling of an edge: its line without the line feed, at most 12 bytes. The edge has to be
-/// well formed.
+/// well formed. docs/TRACES.md has the spellings.
 pub fn spelling_of(edge: &Edge) -> ArrayVec<u8, LINE>
     requires { IsTrue (is_well_formed edge.now) }
     ensures text { result.items ≡ spelling edge.now }
@@ -147,7 +147,7 @@ fn write_lines<W: Write>(edges: &[Edge], out: &mut W) -> Result<(), Fault>
 }
 
 /// Writes the trace of the edges: the header line, and a line for each edge. The edges have to be
-/// well formed.
+/// well formed. docs/TRACES.md describes the text.
 ///
 /// # Errors
 /// X8 if a write failed or took no byte; a prefix of the trace was written then.

@@ -147,7 +147,8 @@ impl Chains {
         }
     }
 
-    /// The board passes its grant on (`bgout` falls), or its `bgout` rises again.
+    /// The board passes its grant on (`bgout` falls), or its `bgout` rises again. Source: Std 1014,
+    /// chapter 3.
     #[inline(always)]
     pub fn pass_grant(&mut self, row: &Row, fall: bool)
         requires other { CanMove row.now Wire.BgOut fall self.old }
@@ -158,7 +159,8 @@ impl Chains {
         self.drive(chain, segment, fall);
     }
 
-    /// The board passes the acknowledge on (`iackout` falls), or its `iackout` rises again.
+    /// The board passes the acknowledge on (`iackout` falls), or its `iackout` rises again. Source:
+    /// Std 1014, chapter 4.
     pub fn pass_acknowledge(&mut self, row: &Row, fall: bool)
         requires other { CanMove row.now Wire.IackOut fall self.old }
         ensures { self.new ≡ after_board row.now Wire.IackOut fall self.old }

@@ -90,7 +90,7 @@ impl Lines {
         self.irq[level] = moved(self.irq[level], fall);
     }
 
-    /// The bus request lines that are low.
+    /// The bus request lines that are low. Source: Std 1014, chapter 3.
     pub fn requests(&self) -> BusLevels
         ensures { result ≡ bus_levels (λ n. nat_lt 0 (get_or self.now.br n 0)) }
     {
@@ -98,7 +98,7 @@ impl Lines {
         BusLevels::of_lines([zero.is_low(), one.is_low(), two.is_low(), three.is_low()])
     }
 
-    /// The interrupt request lines that are low.
+    /// The interrupt request lines that are low. Source: Std 1014, chapter 4.
     pub fn irqs(&self) -> Levels
         ensures { result ≡ irq_levels (λ n. nat_lt 0 (get_or self.now.irq n 0)) }
     {

@@ -10,7 +10,7 @@ use std::marker::Model;
 use vme_model::{Cycle, Edge, Row, Version, Wire};
 
 /// Whether the board's requester, if it has one, requests the bus, passes no grant on and does not
-/// hold the bus.
+/// hold the bus. Source: Std 1014, chapter 3.
 #[inline(always)]
 pub fn is_requester_quiet(board: &Board) -> bool
     ensures { result ≡ is_requester_quiet (low_of board.now) board.now.row }
@@ -24,6 +24,7 @@ pub fn is_requester_quiet(board: &Board) -> bool
 }
 
 /// Whether the board does not hold the bus, its address group is off and its strobes are high.
+/// Source: Std 1014, chapters 2 and 3.
 #[inline(always)]
 pub fn is_master_quiet(board: &Board) -> bool
     ensures { result ≡ is_master_quiet (low_of board.now) }
@@ -35,6 +36,7 @@ pub fn is_master_quiet(board: &Board) -> bool
 }
 
 /// Whether the board answers nothing, and its interrupter, if it has one, passes no acknowledge on.
+/// Source: Std 1014, chapters 2 and 4.
 #[inline(always)]
 pub fn is_interrupter_quiet(board: &Board) -> bool
     ensures { result ≡ is_interrupter_quiet (low_of board.now) board.now.row }

@@ -54,7 +54,7 @@ impl Wiring {
         pins
     }
 
-    /// What a driver reads on its pins.
+    /// What a driver reads on its pins. Source: profile.
     pub fn pins(&self, driver: Driver) -> Pins
         ensures { OfHistory self.now (λ _ p h. result ≡ pins p h driver) }
     {
