@@ -233,7 +233,7 @@ fn run_summary<'a, W: Write>(
     told(scenario, summary(rt.alloc(), &text, &mut input, out))
 }
 
-/// Adds what the trace of that name, one of several on the scenario, exercised to the sums.
+/// Adds to the sums what the trace of that name exercised. It is one of several on the scenario.
 fn add_file<'a>(
     rt: &HostRuntime,
     text: &[u8],

@@ -33,7 +33,7 @@ pub const MOST_TURNS: u32 = 1_000_000;
 /// The most edges that a picture shows.
 pub const MOST_SHOWN: u64 = 200;
 
-/// How many edges a picture shows if one of its ends is not given.
+/// How many edges a picture shows if its first and last edge are not both given.
 const SHOWN: u64 = 60;
 
 /// What the program is to do. Files have the names that the user gave. docs/COMMANDS.md describes
@@ -202,7 +202,7 @@ fn file_of<'a>(operands: &ArgMatches<'a>, name: &str) -> Result<&'a str, Unfit<'
     }
 }
 
-/// The files that the operands of that name name; none if there is no such operand.
+/// The files that are given for the operand of that name; none if it is not given.
 fn files_of<'m, 'a>(operands: &'m ArgMatches<'a>, name: &str) -> Option<&'m [&'a str]>
     ensures { option_map (λ files. texts_of files.now) result
         ≡ all_of name.now (rows_of (found_of operands.now)) }
