@@ -241,7 +241,7 @@ impl Controller {
 }
 
 /// An arbiter over a policy, with the controller's IACK daisy-chain driver and bus timer. Source:
-/// Std 1014, chapters 3, 4 and 2.
+/// Std 1014, chapters 2 to 4.
 ///
 /// A clause sees it as a pair: its policy and its local state.
 #[derive(Clone, Copy, PartialEq, Eq, Debug)]

@@ -23,7 +23,7 @@ use vme_rules::laws::five_have_room;
 use vme_rules::{Outcome, allowed};
 
 /// A board's interrupter with its data transfer acknowledge, as what its own edges left: which of
-/// its wires are low, and whether its request was served. Source: Std 1014, chapters 4 and 2.
+/// its wires are low, and whether its request was served. Source: Std 1014, chapters 2 and 4.
 #[derive(Clone, Copy, PartialEq, Eq, Debug)]
 pub struct Interrupter {
     slot: u8,
@@ -239,7 +239,7 @@ impl Interrupter {
     }
 
     /// Whether the rules G25 and G26 allow an edge of its `dtack`, given its pins and the input of
-    /// the acknowledge chain. Source: Std 1014, chapters 4 and 2; that every board has a register
+    /// the acknowledge chain. Source: Std 1014, chapters 2 and 4; that every board has a register
     /// is profile.
     ///
     /// # Errors

@@ -50,7 +50,7 @@ pub fn iackout_rises<A: Outcome>(address_strobe: bool) -> A
 }
 
 /// Part of G25: an acknowledge reached the board while it is pending, or an access to its slot is
-/// shown. Source: Std 1014, chapters 4 and 2; that every board has a register is profile.
+/// shown. Source: Std 1014, chapters 2 and 4; that every board has a register is profile.
 pub fn answers<A: Outcome>(
     iack_in: bool,
     iackout: bool,
@@ -70,7 +70,7 @@ pub fn answers<A: Outcome>(
 }
 
 /// G25, the board answers: DS0* and AS* are low, and `answering` holds. Source: Std 1014, chapters
-/// 4 and 2.
+/// 2 and 4.
 pub fn dtack_falls<A: Outcome>(data_strobe: bool, address_strobe: bool, answering: A) -> A
     ensures { (g : Guard) → A.tells answering g →
         A.tells result (dtack_falls data_strobe address_strobe g) }
