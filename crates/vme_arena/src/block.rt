@@ -52,7 +52,7 @@ impl<T> Block<T> {
         Block { ptr, marker }
     }
 
-    // The same bytes, counted as room for `_cap` values.
+    // The block, with its bytes counted as room for `_cap` values.
     pub(crate) fn narrow(self, _cap: usize) -> Block<T>
         requires { (self.len ≤ _cap) × (_cap ≤ self.cap)
             × (block_size (_cap * type_size T.row) ≡ block_size (self.cap * type_size T.row)) }

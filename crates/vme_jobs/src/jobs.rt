@@ -375,7 +375,7 @@ fn run_run<'a, R: Threads + Wait + Sync, W: Write>(
 /// Does a job. `threads` starts the threads of `run`.
 ///
 /// # Errors
-/// Those of its files, and then those of its engine.
+/// The errors of its files, and then those of its engine.
 pub fn run<'a, R: Threads + Wait + Sync, W: Write>(
     rt: &HostRuntime,
     threads: &R,

@@ -112,7 +112,7 @@ module _ (on master brd : ℕ → Bool) (slots : ℕ) where
     pub from_start : g ≡ false → hi ≡ 0
     pub iout_below : (t : ℕ) → on t ≡ true → v.iout t ≡ true → t < hi
     pub iout_each : (t : ℕ) → on t ≡ true → t < hi → v.iout t ≡ true
-    -- how the acknowledge came to its place
+    -- how the acknowledge reached its place
     pub acknowledged : g ≡ true → v.acknowledged ≡ v.shown
     pub passers : g ≡ true → v.passers ≡ unasked v.shown (low_part on hi slots)
     pub unanswered : g ≡ true → answer ≡ Silent → v.answered ≡ false

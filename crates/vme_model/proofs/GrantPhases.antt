@@ -88,7 +88,7 @@ module _ (on : ℕ → ℕ → Bool) (slots : ℕ) (two : Bool) where
     pub out_each : (s : ℕ) → on c s ≡ true → s < hi → v.out s ≡ true
     pub free : (s : ℕ) → v.busy s ≡ false
     pub wanted : IsWanted v c hi ⊎ IsWithdrawn v c
-    -- how the grant came to its place
+    -- how the grant reached its place
     pub granted : v.granted ≡ Some c
     pub untaken : v.taken ≡ false
     pub passers : v.passers ≡ quiet (low_part (on c) hi slots)

@@ -16,8 +16,8 @@ use vme_model::Edge;
 /// end of the input; the reader is finished then.
 ///
 /// # Errors
-/// Those of `Reader::feed` and `Reader::finish`; X5 if the read failed. A read that was interrupted
-/// is tried again, at most 65,535 times. If the reader is used up, nothing is read.
+/// The errors of `Reader::feed` and `Reader::finish`; X5 if the read failed. A read that was
+/// interrupted is tried again, at most 65,535 times. If the reader is used up, nothing is read.
 pub fn pump<R: Read, A: Allocator>(
     reader: &mut Reader,
     input: &mut R,
@@ -40,7 +40,7 @@ pub fn pump<R: Read, A: Allocator>(
 /// less in a large buffer.
 ///
 /// # Errors
-/// Those of [`pump`]. If the reader is used up, nothing is read.
+/// The errors of [`pump`]. If the reader is used up, nothing is read.
 pub fn pump_with<R: Read, A: Allocator>(
     reader: &mut Reader,
     input: &mut R,

@@ -12,7 +12,7 @@ const TRIES: u32 = 65_536;
 /// Reads. A read that was interrupted is tried again, at most 65,535 times.
 ///
 /// # Errors
-/// Those of the reader, except for an interruption; a timeout if the last try was interrupted.
+/// The errors of the reader, except for an interruption; a timeout if the last try was interrupted.
 pub(crate) fn read_patiently<R: Read>(input: &mut R, buffer: &mut [u8]) -> Result<usize>
     ensures bound { ReadsAtMost result buffer.new }
     ensures bytes { ReadConsumes (R.remaining input.old) (R.remaining input.new) result buffer.new }
@@ -31,7 +31,7 @@ pub(crate) fn read_patiently<R: Read>(input: &mut R, buffer: &mut [u8]) -> Resul
 /// Writes. A write that was interrupted is tried again, at most 65,535 times.
 ///
 /// # Errors
-/// Those of the writer, except for an interruption; a timeout if the last try was interrupted.
+/// The errors of the writer, except for an interruption; a timeout if the last try was interrupted.
 pub(crate) fn write_patiently<W: Write>(out: &mut W, bytes: &[u8]) -> Result<usize>
     ensures bound { WritesAtMost result bytes.now }
     ensures bytes { WriteAppends (W.contents out.old) (W.contents out.new) result bytes.now }
@@ -50,7 +50,7 @@ pub(crate) fn write_patiently<W: Write>(out: &mut W, bytes: &[u8]) -> Result<usi
 /// Flushes. A flush that was interrupted is tried again, at most 65,535 times.
 ///
 /// # Errors
-/// Those of the writer, except for an interruption; a timeout if the last try was interrupted.
+/// The errors of the writer, except for an interruption; a timeout if the last try was interrupted.
 pub(crate) fn flush_patiently<W: Write>(out: &mut W) -> Result<()>
     ensures bytes { Keeps (W.contents out.old) (W.contents out.new) }
     ensures retried { IfErr result (λ e. error_kind e ≢ ErrorKind.Interrupted) }
