@@ -19,11 +19,6 @@ use Rattle.vme_pictures.specs.Picture.{columns, mark, edge_mark, state_mark, gra
 use Rattle.vme_pictures.specs.Picture as picture
 use Rattle.vme_pictures.specs.Columns.{cell, column_of, is_accepted, low_after, verdict_cell, verdict_of, wire_cell, wire_cells}
 
--- ---- a search
-
-pub find_past : (test : ℕ → Bool) (xs : List ℕ) (i d : ℕ) → i < length xs → test (get_or xs i d) ≡ false → find test (drop i xs) ≡ find test (drop (i + 1) xs)
-find_past test xs i d h fails = ap (find test) (drop_more xs i d h) ∙ ap (λ (b : Bool). if b then Some (get_or xs i d) else find test (drop (i + 1) xs)) fails
-
 -- ---- what is still to be drawn of a wire
 
 pub cells_next : (color low : Bool) (d : Driver) (w : Wire) (cs : List Column) (i : ℕ) (c : Column) → i < length cs
