@@ -13,7 +13,7 @@ use Rattle.vme_model.specs.Plan.{Plan, board, drives, has_driver}
 use Rattle.vme_model.specs.History.{drive}
 use Rattle.vme_model.specs.Accepted.{IsAccepted}
 use Rattle.vme_model.specs.GrantSafety.{Travels, Holds, OneTravels, OneHolds}
-use Rattle.vme_model.specs.Safe.{IsSafe, OnEachPrefix}
+use Rattle.vme_model.specs.Safe.{OnEachPrefix}
 use Rattle.vme_model.specs.Stands.{holder, grant_at}
 use Rattle.vme_model.specs.declared.refusals.Refused.{Refused}
 use Rattle.vme_model.specs.declared.refusals.Refused.TheVariants.{NoSuchDriver, AlreadyThere, Rule, NotSettled, TraceFull}

@@ -1,6 +1,6 @@
 -- The marks of a row, one after another, and what they are of the edges of a stretch.
 use Rattle.std.proofs.Common.{◌≡◌, ◌∙◌, ℕ, ◌+◌, ◌<◌, Bool, true, false, List, [], ◌∷◌, ◌++◌, length, drop, map, get_or, Option, Some, None, Result, Ok, Err, is_ok, refl, sym, ap}
-use Rattle.std.specs.Prelude.{◌&&◌, if◌then◌else◌, find}
+use Rattle.std.specs.Prelude.{◌&&◌, if◌then◌else◌}
 use Rattle.std.specs.List.{flat_map}
 use Rattle.std.proofs.lemmas.List.{drop_more}
 use Rattle.vme_model.specs.declared.deliveries.Delivery.{Delivery}
