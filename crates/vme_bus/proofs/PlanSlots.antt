@@ -1,5 +1,5 @@
 -- The slots of an accepted plan are ones that there can be, and so is who is found among them; what is shown is in range: `Bus::holder`, `addressing`, `shown`.
-use Rattle.std.proofs.Common.{◌≡◌, ◌∙◌, sym, subst, refl, ℕ, zero, suc, ◌<◌, ◌≤◌, Bool, true, false, List, [], ◌∷◌, Option, Some, None, Ok, arith}
+use Rattle.std.proofs.Common.{◌≡◌, ◌∙◌, sym, subst, refl, ℕ, zero, suc, ◌≤◌, Bool, true, false, List, [], ◌∷◌, Option, Some, None, Ok, arith}
 use Rattle.std.specs.Prelude.{find, if◌then◌else◌, IfSome, IsTrue}
 use Rattle.std.specs.List.{All}
 use Rattle.std.specs.Option.{option_and_then, option_map_or}

@@ -74,7 +74,9 @@ impl BusState {
             NO_DRIVER
         } else if number < 4 {
             if number < 1 {
-                by_direction!(self, step_controller, edge, Wire::Bg(level_of(edge.wire)) => delivery)
+                by_direction!(
+                    self, step_controller, edge, Wire::Bg(level_of(edge.wire)) => delivery
+                )
             } else if number < 2 {
                 by_direction!(self, step_controller, edge, Wire::Bclr => delivery)
             } else if number < 3 {

@@ -15,8 +15,8 @@ use vme_model::{Cycle, Driver, Edge, IrqKind, Wire};
 /// edges that served its request and that strobed data, each by its number in the trace; and how
 /// many cycles a board has begun in its tenure.
 ///
-/// They stand in places of fixed number, and an edge moves a few of them. What is so since then, the
-/// bus itself answers.
+/// They stand in places of fixed number, and an edge moves a few of them. What is so since then,
+/// the bus itself answers.
 #[derive(Drop)]
 pub struct Marks {
     pub(crate) moves: Moves,

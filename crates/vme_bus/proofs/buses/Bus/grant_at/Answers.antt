@@ -1,5 +1,4 @@
-use Rattle.std.proofs.Common.{◌≡◌, ◌∙◌, sym, Some, None}
-use Rattle.vme_model.specs.Stands.{grant_at}
+use Rattle.std.proofs.Common.{◌∙◌, sym}
 use Rattle.vme_bus.proofs.Standing.{grant_here, grant_nowhere, grant_range, only_grant, no_grant}
 use Rattle.vme_bus.proofs.buses.Bus.grant_at.Goals as goal
 
