@@ -3,8 +3,9 @@ ghost use Rattle.std.specs.Prelude.{◌≡◌, ◌≤◌, ◌++◌};
 ghost use Rattle.std.specs.List.{list_any};
 ghost use Rattle.arrayvec.specs.ArrayVec.{array_vec_len};
 ghost use Rattle.vme_events.specs.Events.{comes, events_of, is_access};
+ghost use Rattle.vme_goals.specs.Events.{is_same_event};
 ghost use Rattle.vme_model.specs.Signals.{is_acknowledge};
-ghost use Rattle.vme_events.specs.Brought.{at_fall, at_rise, is_same_event, when};
+ghost use Rattle.vme_events.specs.Brought.{at_fall, at_rise, when};
 ghost use Rattle.vme_events.specs.Ordered.{OfOrdered};
 
 use crate::before::{fills_burst, has_acknowledged, has_rival, overtakes};

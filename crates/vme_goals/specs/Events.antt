@@ -1,6 +1,9 @@
 -- Events: situations that an accepted edge brings about, and their names. (Which situations have a
 -- name is this project's profile.)
 use Rattle.std.specs.Prelude.{ℕ, Bool, true, List, [], ◌∷◌, codes}
+use Rattle.std.specs.List.{position_or_len}
+use denote.Enum.Bare.{sameb}
+use Rattle.vme_goals.specs.contracts.events.Event.{the_type}
 use Rattle.vme_model.specs.declared.signals.Version.{Version}
 use Rattle.vme_model.specs.Signals.{is_two}
 use Rattle.vme_goals.specs.declared.events.Event.{Event}
@@ -13,6 +16,14 @@ all_events =
     ∷ event.FullBurst ∷ event.BusClear ∷ event.Rivals ∷ event.Delivery ∷ event.IackPassed
     ∷ event.AnsweredAgain ∷ event.Spurious ∷ event.BusError ∷ event.Withdrawn
     ∷ event.GrantTimeout ∷ []
+
+-- the same event
+abbrev pub is_same_event : Event → Event → Bool
+is_same_event = sameb the_type
+
+-- the place of an event among all events, from 0
+unfoldable pub event_index : Event → ℕ
+event_index v = position_or_len (is_same_event v) all_events
 
 -- the name of each event
 abbrev pub event_text : Event → List ℕ

@@ -1,6 +1,6 @@
 //! Events: situations of a bus that a trace can reach. docs/COMMANDS.md describes them.
-ghost use Rattle.std.specs.Prelude.{◌≡◌, ◌≤◌, length, Some};
-ghost use Rattle.vme_goals.specs.Events.{event_text, has_event};
+ghost use Rattle.std.specs.Prelude.{◌≡◌, ◌<◌, ◌≤◌, length, Some};
+ghost use Rattle.vme_goals.specs.Events.{event_index, event_text, has_event};
 
 use std::fmt;
 use vme_model::Version;
@@ -43,8 +43,11 @@ pub enum Event {
 }
 
 impl Event {
+    /// How many events there are.
+    pub const COUNT: usize = 15;
+
     /// All events, in their order.
-    pub const ALL: [Event; 15] = [
+    pub const ALL: [Event; Event::COUNT] = [
         Event::GrantPassed,
         Event::LateRequest,
         Event::Overtaken,
@@ -61,6 +64,14 @@ impl Event {
         Event::Withdrawn,
         Event::GrantTimeout,
     ];
+
+    /// The place of the event among all events, from 0.
+    pub fn index(self) -> usize
+        ensures at { result ≡ event_index self }
+        ensures within { result < Event.COUNT }
+    {
+        self as usize
+    }
 
     /// The name of the event, at most 14 bytes.
     pub fn name(self) -> &'static str
