@@ -1,0 +1,62 @@
+//! How many moments before it was seen an edge may have taken effect.
+ghost use Rattle.std.specs.Prelude.{◌≡◌, ℕ, length};
+ghost use Rattle.vme_moments.specs.Before.{slack_of};
+
+use vme_model::Driver;
+
+/// How many places there are for slots: that of slot 0 is not used.
+const PLACES: usize = 22;
+
+/// The greatest number of moments by which an edge of each driver took effect before it was seen.
+#[derive(Clone, Copy, PartialEq, Eq, Debug)]
+pub struct Slacks {
+    controller: u64,
+    boards: [u64; PLACES],
+}
+
+impl Slacks {
+    ghost use Rattle.std.specs.Prelude.{◌≢◌};
+
+    /// The same for all drivers.
+    pub fn all(slack: u64) -> Slacks
+        ensures controller { slack_of result Driver.Controller ≡ slack }
+        ensures boards { (s : ℕ) → slack_of result (Driver.Slot s) ≡ slack }
+    {
+        Slacks {
+            controller: slack,
+            boards: [slack; PLACES],
+        }
+    }
+
+    /// That of a driver.
+    #[inline(always)]
+    pub fn of(&self, driver: Driver) -> u64
+        ensures { result ≡ slack_of self.now driver }
+    {
+        match driver {
+            Driver::Controller => self.controller,
+            Driver::Slot(slot) if usize::from(slot) < PLACES => self.boards[usize::from(slot)],
+            Driver::Slot(_) => 0,
+        }
+    }
+
+    /// The greatest of all drivers.
+    pub fn greatest(&self) -> u64 {
+        let mut greatest = self.controller;
+        for slack in &self.boards {
+            greatest = greatest.max(*slack);
+        }
+        greatest
+    }
+
+    /// With another for one driver.
+    pub fn set(&mut self, driver: Driver, slack: u64) {
+        match driver {
+            Driver::Controller => self.controller = slack,
+            Driver::Slot(slot) if usize::from(slot) < PLACES => {
+                self.boards[usize::from(slot)] = slack;
+            }
+            Driver::Slot(_) => {}
+        }
+    }
+}

@@ -1,0 +1,75 @@
+//! The kinds of beginnings from which nothing longer comes than was found.
+use crate::taken::Taken;
+use crate::{OrderFault, WINDOW};
+use std::alloc::Global;
+use vme_bus::{BusKind, BusState};
+
+/// How many kinds are remembered.
+const REMEMBERED: usize = 65_536;
+
+/// The kind of a beginning: the places in it, and what its edges lead to.
+#[derive(Clone, Copy, PartialEq, Eq)]
+pub(crate) struct Kind {
+    /// The least place that is not in it.
+    least: usize,
+    /// Which of the places from there on are. None behind them is.
+    window: [bool; WINDOW],
+    bus: BusKind,
+}
+
+impl Kind {
+    /// That of a beginning with these places, whose edges lead to this state.
+    pub(crate) fn of(taken: &Taken, state: &BusState) -> Kind {
+        Kind {
+            least: taken.least(),
+            window: taken.window(),
+            bus: state.to_kind(),
+        }
+    }
+
+    /// A number that is the same for equal kinds, and seldom for others.
+    fn to_number(&self) -> u64 {
+        let mut number = self.bus.to_number() ^ self.least as u64;
+        for is_taken in &self.window {
+            number = number.rotate_left(1) ^ u64::from(*is_taken);
+        }
+        number.wrapping_mul(0x9e37_79b9_7f4a_7c15) >> 32
+    }
+}
+
+/// Some kinds of beginnings from which nothing longer comes: a later one may take the place of an
+/// earlier.
+#[derive(Drop)]
+pub(crate) struct Dead {
+    kinds: Vec<Option<Kind>>,
+}
+
+impl Dead {
+    /// None so far.
+    pub(crate) fn new(alloc: Global) -> Result<Dead, OrderFault> {
+        let mut kinds = Vec::new(alloc);
+        match kinds.resize(REMEMBERED, None) {
+            Ok(()) => Ok(Dead { kinds }),
+            Err(_) => Err(OrderFault::NoMemory),
+        }
+    }
+
+    /// Where a kind is remembered.
+    fn place_of(&self, kind: &Kind) -> usize {
+        (kind.to_number() % REMEMBERED as u64) as usize
+    }
+
+    /// Whether the kind is remembered.
+    pub(crate) fn has(&self, kind: &Kind) -> bool {
+        match &self.kinds[self.place_of(kind)] {
+            Some(known) => *known == *kind,
+            None => false,
+        }
+    }
+
+    /// Remembers a kind.
+    pub(crate) fn note(&mut self, kind: Kind) {
+        let place = self.place_of(&kind);
+        self.kinds[place] = Some(kind);
+    }
+}

@@ -1,0 +1,83 @@
+//! Which places can come next.
+ghost use Rattle.std.specs.Prelude.{◌≡◌, ◌<◌, ◌≤◌, All, IfErr, IfOk, length, reverse};
+ghost use Rattle.vme_model.specs.Report.{trace_limit};
+ghost use Rattle.vme_order.specs.Orders.{AreInOrder, AreNext};
+
+use crate::OrderFault;
+use crate::taken::Taken;
+use std::alloc::Global;
+use vme_moments::{Seen, Slacks, is_before};
+
+/// Whether a place can come next: it was not taken, and all that came before it were.
+fn is_free(seen: &[Seen], slacks: &Slacks, taken: &Taken, place: usize) -> bool {
+    if taken.has(place) {
+        return false;
+    }
+    for other in taken.least()..place {
+        if !taken.has(other) && is_before(slacks, &seen[other], &seen[place]) {
+            return false;
+        }
+    }
+    true
+}
+
+/// Whether the least place that was not taken came before all from that one on.
+fn is_out_of_reach(seen: &[Seen], slacks: &Slacks, least: usize, place: usize) -> bool {
+    least < place
+        && seen[least].moment.saturating_add(slacks.greatest()) < seen[place].moment
+}
+
+/// The least place from that one on that can come next, if there is any.
+pub(crate) fn next_free(
+    seen: &[Seen],
+    slacks: &Slacks,
+    taken: &Taken,
+    from: usize,
+) -> Option<usize> {
+    for place in from..seen.len() {
+        if is_out_of_reach(seen, slacks, taken.least(), place) {
+            return None;
+        }
+        if is_free(seen, slacks, taken, place) {
+            return Some(place);
+        }
+    }
+    None
+}
+
+/// The places that were taken, of an order.
+fn taken_by(alloc: Global, places: usize, order: &[u32]) -> Result<Taken, OrderFault> {
+    let mut taken = Taken::new(alloc, places)?;
+    for place in order {
+        taken.take(*place as usize);
+    }
+    Ok(taken)
+}
+
+/// The places that can come next after a beginning, by place.
+///
+/// Errors: F3.
+pub fn next_places(
+    alloc: Global,
+    seen: &[Seen],
+    slacks: &Slacks,
+    order: &[u32],
+) -> Result<Vec<u32>, OrderFault>
+    requires few { length seen.now ≤ trace_limit }
+    requires ascending { AreInOrder seen.now }
+    requires within { All (λ place. place < length seen.now) order.now }
+    ensures next { IfOk result (λ next.
+        AreNext slacks.now seen.now (reverse order.now) next.items) }
+    ensures fault { IfErr result (λ fault. fault ≡ OrderFault.NoMemory) }
+{
+    let taken = taken_by(alloc, seen.len(), order)?;
+    let mut places = Vec::new(alloc);
+    let mut from = 0;
+    while let Some(place) = next_free(seen, slacks, &taken, from) {
+        if places.push(place as u32).is_err() {
+            return Err(OrderFault::NoMemory);
+        }
+        from = place + 1;
+    }
+    Ok(places)
+}

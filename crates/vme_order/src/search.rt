@@ -1,0 +1,130 @@
+//! The search for the longest legal beginning.
+ghost use Rattle.std.specs.Prelude.{◌≡◌, ◌≤◌, Err, IfOk, length, reverse};
+ghost use Rattle.vme_model.specs.Report.{trace_limit};
+ghost use Rattle.vme_order.specs.Orders.{AreInOrder, HasFarPlace, IsLongest};
+
+use crate::dead::{Dead, Kind};
+use crate::free::next_free;
+use crate::paths::Path;
+use crate::taken::Taken;
+use crate::{OrderFault, WINDOW};
+use std::alloc::Global;
+use vme_bus::BusState;
+use vme_model::Version;
+use vme_moments::{Seen, Slacks};
+use vme_slots::Plan;
+
+/// A search under way: depth first, the lesser place first.
+#[derive(Drop)]
+struct Search {
+    path: Path,
+    /// The places of the path.
+    taken: Taken,
+    /// The kinds of beginnings from which nothing longer comes than the longest so far.
+    dead: Dead,
+    /// The longest beginning so far, and of those of its length the least.
+    longest: Vec<u32>,
+    /// How many of its first places are those of the path.
+    shared: usize,
+}
+
+impl Search {
+    /// Before the first edge.
+    fn new(alloc: Global, start: BusState, places: usize) -> Result<Search, OrderFault> {
+        Ok(Search {
+            path: Path::new(alloc, start)?,
+            taken: Taken::new(alloc, places)?,
+            dead: Dead::new(alloc)?,
+            longest: Vec::new(alloc),
+            shared: 0,
+        })
+    }
+
+    /// Keeps the path where it is longer than the longest so far.
+    fn keep_longest(&mut self) -> Result<(), OrderFault> {
+        if self.path.places().len() <= self.longest.len() {
+            return Ok(());
+        }
+        self.longest.truncate(self.shared);
+        for place in &self.path.places()[self.shared..] {
+            if self.longest.push(*place).is_err() {
+                return Err(OrderFault::NoMemory);
+            }
+        }
+        self.shared = self.longest.len();
+        Ok(())
+    }
+
+    /// Goes on with a place that can come next, where its edge is allowed and something longer may
+    /// come of it.
+    fn enter(&mut self, seen: &[Seen], place: usize) -> Result<bool, OrderFault> {
+        let mut state = *self.path.state();
+        if state.step(seen[place].edge).is_err() {
+            return Ok(false);
+        }
+        self.taken.take(place);
+        if self.dead.has(&Kind::of(&self.taken, &state)) {
+            self.taken.give_back(place);
+            return Ok(false);
+        }
+        self.path.push(place, state)?;
+        self.keep_longest()?;
+        Ok(true)
+    }
+
+    /// Goes back by a place, of which nothing longer comes.
+    fn leave(&mut self, seen: &[Seen]) -> Option<usize> {
+        self.dead.note(Kind::of(&self.taken, self.path.state()));
+        let place = self.path.pop(seen)?;
+        self.taken.give_back(place);
+        self.shared = self.shared.min(self.path.places().len());
+        Some(place)
+    }
+
+    /// Searches until a beginning has all places, or none is left that may be longer.
+    fn run(&mut self, seen: &[Seen], slacks: &Slacks) -> Result<(), OrderFault> {
+        let mut from = 0;
+        while self.longest.len() < seen.len() {
+            match next_free(seen, slacks, &self.taken, from) {
+                Some(place) if place - self.taken.least() >= WINDOW => {
+                    return Err(OrderFault::TooManyOrders);
+                }
+                Some(place) => {
+                    if self.enter(seen, place)? {
+                        from = self.taken.least();
+                    } else {
+                        from = place + 1;
+                    }
+                }
+                None => match self.leave(seen) {
+                    Some(place) => from = place + 1,
+                    None => return Ok(()),
+                },
+            }
+        }
+        Ok(())
+    }
+}
+
+/// The longest legal beginning, and of those of its length the least.
+///
+/// Errors: F5 where a place that can come next after a legal beginning is greater by 128 or more than
+/// the least that is not in it; F3.
+pub fn longest(
+    alloc: Global,
+    plan: &Plan,
+    version: Version,
+    seen: &[Seen],
+    slacks: &Slacks,
+) -> Result<Vec<u32>, OrderFault>
+    requires few { length seen.now ≤ trace_limit }
+    requires ascending { AreInOrder seen.now }
+    ensures longest { IfOk result (λ order.
+        IsLongest version plan.now slacks.now seen.now (reverse order.items)) }
+    ensures many { result ≡ Err OrderFault.TooManyOrders
+        → HasFarPlace version plan.now slacks.now seen.now }
+{
+    let mut search = Search::new(alloc, BusState::new(plan, version), seen.len())?;
+    search.run(seen, slacks)?;
+    Ok(search.longest)
+}
