@@ -4,3 +4,9 @@
 pub mod Before
 -- believe: what a text of moments says
 pub mod Moments
+-- believe: beginnings, legal ones, and which is sought
+pub mod Orders
+-- believe: which text was read, and what is answered to it
+pub mod Reading
+-- believe, for `laws` alone: a list that is cut into moments
+pub mod Cuts

@@ -5,6 +5,7 @@
 #![tactic(auto)]
 
 mod before;
+pub mod laws;
 mod numbers;
 mod reader;
 mod slacks;

@@ -1,5 +1,6 @@
 //! Reading moments.
 ghost use Rattle.std.specs.Prelude.{◌≡◌};
+ghost use Rattle.vme_moments.specs.Reading.{ReadsMoments};
 
 use crate::numbers::moment_of;
 use crate::{MomentsFault, SEEN_LIMIT, Seen};
@@ -137,7 +138,9 @@ impl Reader {
 /// Reads moments to their end.
 ///
 /// Errors: the first fault of the text, X1 to X4, X10 or F6; X5 where a read failed, and X6.
-pub fn read_moments<R: Read>(alloc: Global, input: &mut R) -> Result<Moments, MomentsFault> {
+pub fn read_moments<R: Read>(alloc: Global, input: &mut R) -> Result<Moments, MomentsFault>
+    ensures { ReadsMoments (R.remaining input.old) (R.remaining input.new) result }
+{
     let mut reader = Reader::new(alloc);
     let mut buffer = [0u8; 512];
     for _ in 0..READS {

@@ -1,4 +1,4 @@
--- The definitions of orders. `believe` marks what a theorem rests on.
+-- The words of the search. What is sought is `vme_moments.specs.Orders`.
 
--- believe: beginnings, legal ones, and which is sought
-pub mod Orders
+-- words: what a search under way keeps
+pub mod Searching

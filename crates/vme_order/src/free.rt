@@ -1,7 +1,7 @@
 //! Which places can come next.
 ghost use Rattle.std.specs.Prelude.{◌≡◌, ◌<◌, ◌≤◌, All, IfErr, IfOk, length, reverse};
 ghost use Rattle.vme_model.specs.Report.{trace_limit};
-ghost use Rattle.vme_order.specs.Orders.{AreInOrder, AreNext};
+ghost use Rattle.vme_moments.specs.Orders.{AreInOrder, AreNext};
 
 use crate::OrderFault;
 use crate::taken::Taken;

@@ -1,7 +1,7 @@
 //! The search for the longest legal beginning.
 ghost use Rattle.std.specs.Prelude.{◌≡◌, ◌≤◌, Err, IfOk, length, reverse};
 ghost use Rattle.vme_model.specs.Report.{trace_limit};
-ghost use Rattle.vme_order.specs.Orders.{AreInOrder, HasFarPlace, IsLongest};
+ghost use Rattle.vme_moments.specs.Orders.{AreInOrder, HasFarPlace, IsLongest};
 
 use crate::dead::{Dead, Kind};
 use crate::free::next_free;

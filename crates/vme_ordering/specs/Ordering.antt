@@ -13,7 +13,7 @@ use Rattle.vme_moments.specs.declared.Seen.{Seen}
 use Rattle.vme_moments.specs.declared.slacks.Slacks.{Slacks}
 use Rattle.vme_moments.specs.Moments.{read_of}
 use Rattle.vme_moments.specs.Reading.{IsFaultOf}
-use Rattle.vme_order.specs.Orders.{IsLongest, AreNext, HasFarPlace}
+use Rattle.vme_moments.specs.Orders.{IsLongest, AreNext, HasFarPlace}
 use Rattle.vme_engines.specs.declared.Status.{Status}
 use Rattle.vme_engines.specs.declared.Status.TheVariants.{Done, SomeRefused}
 use Rattle.vme_engines.specs.declared.EngineFault.TheVariants as engine
@@ -102,3 +102,13 @@ Orders form x p bytes s (Err (fault.Engine _)) = ⊥
 -- an order of the whole input
 abbrev pub OrdersInput : Form → Slacks → Streams → Plan → Answer → Type 0
 OrdersInput form x s p answer = (bytes : List ℕ) × IsInput s.from bytes × Orders form x p bytes s answer
+
+-- An engine that is lent the text of a scenario: the first fault is answered and `nothing` is done, or
+-- it runs on the plan.
+abbrev pub LentText : List ℕ → Type 0 → (Plan → Answer → Type 0) → Answer → Type 0
+LentText text nothing Runs (Err (fault.Engine engine.TooLong)) =
+    (scenario_limit < length text) × nothing
+LentText text nothing Runs (Err (fault.Engine (engine.Scenario e))) =
+    (length text ≤ scenario_limit) × IsErrorOf (scenario text) e × nothing
+LentText text nothing Runs answer =
+    (p : Plan) × (length text ≤ scenario_limit) × (scenario text ≡ Ok p) × Runs p answer

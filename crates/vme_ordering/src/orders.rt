@@ -1,5 +1,7 @@
 //! Reading moments, finding an order of their edges, and writing it.
 ghost use Rattle.std.specs.Prelude.{◌≡◌};
+ghost use Rattle.vme_engines.specs.Streams.{ReadNothing, WroteNothing, streams};
+ghost use Rattle.vme_ordering.specs.Ordering.{LentText, OrdersInput};
 
 use crate::lines::{write_edges, write_head};
 use crate::{Form, OrderingFault};
@@ -85,7 +87,12 @@ pub fn order<R: Read, W: Write>(
     slacks: &Slacks,
     form: Form,
     out: &mut W,
-) -> Result<Status, OrderingFault> {
+) -> Result<Status, OrderingFault>
+    ensures { let s = streams (R.remaining moments.old) (R.remaining moments.new)
+        (W.contents out.old) (W.contents out.new) in
+        LentText scenario.now (ReadNothing s × WroteNothing s) (OrdersInput form slacks.now s)
+        result }
+{
     let plan = plan_of(alloc, scenario)?;
     let moments = match read_moments(alloc, moments) {
         Ok(moments) => moments,

@@ -1,6 +1,6 @@
 -- Orders of edges that were seen. Edges are named by their places in the list of what was seen, from
 -- 0 on, and a list of places has the newest first.
-use Rattle.std.specs.Prelude.{◌≡◌, ◌⊎◌, ◌+◌, ◌<◌, ◌≤◌, ◌↔◌, ◌++◌, ◌∷◌, ℕ, IsTrue, List, [], Contains, Option, Some, None, length, map, reverse}
+use Rattle.std.specs.Prelude.{◌≡◌, ◌⊎◌, ◌+◌, ◌<◌, ◌≤◌, ◌↔◌, ◌∷◌, ℕ, IsTrue, List, [], Contains, Some, length}
 use Rattle.std.specs.List.{slice_get}
 use Rattle.std.specs.Option.{option_map_or}
 use Rattle.vme_model.specs.declared.signals.Version.{Version}
@@ -86,7 +86,3 @@ pub record HasFarPlace (version : Version) (p : Plan) (x : Slacks) (ms : List Se
   pub far : ℕ
   pub free : IsFree x ms places far
   pub is_far : near + 128 ≤ far
-
--- the order of places that were made, oldest first
-abbrev pub newest_first : List ℕ → List ℕ
-newest_first order = reverse order
