@@ -1,6 +1,6 @@
 -- Orders of edges that were seen. Edges are named by their places in the list of what was seen, from
 -- 0 on, and a list of places has the newest first.
-use Rattle.std.specs.Prelude.{◌≡◌, ◌⊎◌, ◌+◌, ◌<◌, ◌≤◌, ◌↔◌, ◌∷◌, ℕ, IsTrue, List, [], Contains, Some, length}
+use Rattle.std.specs.Prelude.{◌≡◌, ◌==◌, ◌||◌, ◌⊎◌, ◌+◌, ◌<◌, ◌≤◌, ◌↔◌, ◌∷◌, ℕ, Bool, true, false, List, [], Some, length}
 use Rattle.std.specs.List.{slice_get}
 use Rattle.std.specs.Option.{option_map_or}
 use Rattle.vme_model.specs.declared.signals.Version.{Version}
@@ -11,20 +11,23 @@ use Rattle.vme_moments.specs.declared.Seen.{Seen}
 use Rattle.vme_moments.specs.declared.slacks.Slacks.{Slacks}
 use Rattle.vme_moments.specs.Before.{before}
 
+-- the place is one of these
+abbrev pub has : List ℕ → ℕ → Bool
+has [] j = false
+has (i ∷ places) j = i == j || has places j
+
 -- the edge at one place came before that at the other
-pub record IsBefore (x : Slacks) (ms : List Seen) (i j : ℕ) : Type 0 where
-  pub first : Seen
-  pub other : Seen
-  pub first_is : slice_get ms i ≡ Some first
-  pub other_is : slice_get ms j ≡ Some other
-  pub holds : IsTrue (before x first other)
+abbrev pub came_before : Slacks → List Seen → ℕ → ℕ → Bool
+came_before x ms i j =
+    option_map_or (λ a. option_map_or (λ b. before x a b) (slice_get ms j) false)
+    (slice_get ms i) false
 
 -- A place can come next after others: it is a place, it is not one of them, and each that came
 -- before it is.
 pub record IsFree (x : Slacks) (ms : List Seen) (places : List ℕ) (j : ℕ) : Type 0 where
   pub within : j < length ms
-  pub new : ¬ Contains places j
-  pub behind : (i : ℕ) → IsBefore x ms i j → Contains places i
+  pub new : has places j ≡ false
+  pub behind : (i : ℕ) → came_before x ms i j ≡ true → has places i ≡ true
 
 -- each place could come next after those before it
 abbrev pub IsBeginning : Slacks → List Seen → List ℕ → Type 0
@@ -46,7 +49,7 @@ pub record IsLegalBeginning (version : Version) (p : Plan) (x : Slacks) (ms : Li
 -- Of two lists of one length the first is the lesser: at the first place in which they differ it has
 -- the lesser number.
 abbrev pub IsLesser : List ℕ → List ℕ → Type 0
-IsLesser [] _ = ⊥
+IsLesser [] others = ⊥
 IsLesser (a ∷ as) [] = ⊥
 IsLesser (a ∷ as) (b ∷ bs) = IsLesser as bs ⊎ ((as ≡ bs) × (a < b))
 
@@ -60,29 +63,30 @@ pub record IsLongest (version : Version) (p : Plan) (x : Slacks) (ms : List Seen
   pub least : (others : List ℕ) → IsLegalBeginning version p x ms others
       → length others ≡ length places → ¬ IsLesser others places
 
--- each number is greater than those before it in the list
+-- each number is less than all that follow it in the list
 abbrev pub IsAscending : List ℕ → Type 0
 IsAscending [] = Unit {0}
-IsAscending (n ∷ ns) = ((m : ℕ) → Contains ns m → n < m) × IsAscending ns
+IsAscending (n ∷ ns) = ((m : ℕ) → has ns m ≡ true → n < m) × IsAscending ns
 
 -- these places can come next, in order, and no other
 pub record AreNext (x : Slacks) (ms : List Seen) (places next : List ℕ) : Type 0 where
   pub ascending : IsAscending next
-  pub all : (j : ℕ) → (Contains next j) ↔ (IsFree x ms places j)
+  pub free : (j : ℕ) → has next j ≡ true → IsFree x ms places j
+  pub all : (j : ℕ) → IsFree x ms places j → has next j ≡ true
 
 -- the moments do not fall
 abbrev pub AreInOrder : List Seen → Type 0
 AreInOrder ms = (i j : ℕ) (a b : Seen) → i < j → slice_get ms i ≡ Some a → slice_get ms j ≡ Some b
     → a.moment ≤ b.moment
 
--- after a legal beginning a place can come next that is greater by 128 or more than one that is not
--- in it
+-- After a legal beginning a place can come next that is greater by 128 or more than the least that
+-- is not in it.
 pub record HasFarPlace (version : Version) (p : Plan) (x : Slacks) (ms : List Seen) : Type 0 where
   pub places : List ℕ
   pub legal : IsLegalBeginning version p x ms places
-  pub near : ℕ
-  pub missing : ¬ Contains places near
-  pub least : (i : ℕ) → i < near → Contains places i
+  pub least : ℕ
+  pub missing : has places least ≡ false
+  pub below : (i : ℕ) → i < least → has places i ≡ true
   pub far : ℕ
   pub free : IsFree x ms places far
-  pub is_far : near + 128 ≤ far
+  pub is_far : least + 128 ≤ far

@@ -1,0 +1,2 @@
+-- what was tried in vain, and what is left: `search::Search::run`, `enter` and `leave`
+pub mod Tried
