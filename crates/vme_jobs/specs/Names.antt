@@ -94,6 +94,7 @@ abbrev pub told_order_answer :
 told_order_answer name (Ok status) = Ok status
 told_order_answer name (Err (order.Engine f)) = Err (told_fault name f)
 told_order_answer name (Err (order.Moments f)) = Err (Ordering (order.Moments f))
+told_order_answer name (Err (order.NoBoard slot)) = Err (Ordering (order.NoBoard slot))
 told_order_answer name (Err order.TooManyOrders) = Err (Ordering order.TooManyOrders)
 
 -- a file of this name cannot be read, or there is no memory for it

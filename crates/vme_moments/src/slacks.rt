@@ -1,6 +1,6 @@
 //! How many moments before it was seen an edge may have taken effect.
 ghost use Rattle.std.specs.Prelude.{◌≡◌, ℕ, length};
-ghost use Rattle.vme_moments.specs.Before.{slack_of};
+ghost use Rattle.vme_moments.specs.Before.{names, slack_of};
 
 use vme_model::Driver;
 
@@ -12,6 +12,8 @@ const PLACES: usize = 22;
 pub struct Slacks {
     controller: u64,
     boards: [u64; PLACES],
+    /// The slots whose boards are named with a slack of their own.
+    are_named: [bool; PLACES],
 }
 
 impl Slacks {
@@ -25,6 +27,7 @@ impl Slacks {
         Slacks {
             controller: slack,
             boards: [slack; PLACES],
+            are_named: [false; PLACES],
         }
     }
 
@@ -55,8 +58,16 @@ impl Slacks {
             Driver::Controller => self.controller = slack,
             Driver::Slot(slot) if usize::from(slot) < PLACES => {
                 self.boards[usize::from(slot)] = slack;
+                self.are_named[usize::from(slot)] = true;
             }
             Driver::Slot(_) => {}
         }
+    }
+
+    /// Whether the board of a slot is named with a slack of its own.
+    pub fn names(&self, slot: u8) -> bool
+        ensures { result ≡ names self.now slot }
+    {
+        usize::from(slot) < PLACES && self.are_named[usize::from(slot)]
     }
 }

@@ -1,16 +1,17 @@
 -- What is written of an order, and what the engine `order` answers.
-use Rattle.std.specs.Prelude.{◌≡◌, ◌⊎◌, ◌==◌, ◌≤◌, ◌<◌, ◌+◌, ◌++◌, ◌∷◌, [], ℕ, List, length, reverse, codes, decimal, Option, Some, None, Result, Ok, Err, if◌then◌else◌}
+use Rattle.std.specs.Prelude.{◌≡◌, ◌≢◌, ◌⊎◌, ◌==◌, ◌≤◌, ◌<◌, ◌+◌, ◌++◌, ◌∷◌, [], ℕ, List, length, reverse, codes, decimal, IsTrue, Option, Some, None, Result, Ok, Err, if◌then◌else◌}
 use Rattle.std.specs.List.{slice_get}
 use Rattle.std.specs.Option.{option_map_or}
 use Rattle.vme_model.specs.declared.signals.Version.{Version}
 use Rattle.vme_model.specs.declared.signals.Edge.{Edge}
-use Rattle.vme_model.specs.Plan.{Plan}
+use Rattle.vme_model.specs.Plan.{Plan, board}
 use Rattle.vme_model.specs.Text.{spelling, text}
 use Rattle.vme_scenario.specs.Format.{scenario}
 use Rattle.vme_scenario.specs.Errors.{IsErrorOf}
 use Rattle.vme_trace.specs.declared.Fault.TheVariants as trace
 use Rattle.vme_moments.specs.declared.Seen.{Seen}
 use Rattle.vme_moments.specs.declared.slacks.Slacks.{Slacks}
+use Rattle.vme_moments.specs.Before.{names}
 use Rattle.vme_moments.specs.Moments.{read_of}
 use Rattle.vme_moments.specs.Reading.{IsFaultOf}
 use Rattle.vme_moments.specs.Orders.{IsLongest, AreNext, HasFarPlace}
@@ -87,12 +88,18 @@ pub record FindsFar (x : Slacks) (p : Plan) (bytes : List ℕ) : Type 0 where
   pub whole : (read_of bytes).fault ≡ None
   pub far : HasFarPlace version p x (read_of bytes).seen
 
+-- each board that is named with a slack of its own is there
+abbrev pub NamesBoards : Slacks → Plan → Type 0
+NamesBoards x p = (slot : ℕ) → IsTrue (names x slot) → board p slot ≢ None
+
 -- What an order of moments on a plan leaves. F3 and X6, where memory was refused, leave nothing.
 abbrev pub Orders : Form → Slacks → Plan → List ℕ → Streams → Answer → Type 0
 Orders form x p bytes s (Ok status) =
-    (f : Finds x p bytes) × IsReadOut s × Wrote s (finds_text form x p bytes f)
+    NamesBoards x p × (f : Finds x p bytes) × IsReadOut s × Wrote s (finds_text form x p bytes f)
     × (status ≡ status_of (read_of bytes).seen f.order)
 Orders form x p bytes s (Err (fault.Moments f)) = IsFaultOf bytes f × WroteNothing s
+Orders form x p bytes s (Err (fault.NoBoard slot)) =
+    IsTrue (names x slot) × (board p slot ≡ None) × WroteNothing s
 Orders form x p bytes s (Err fault.TooManyOrders) = FindsFar x p bytes × WroteNothing s
 Orders form x p bytes s (Err (fault.Engine (engine.Trace trace.Write))) =
     (f : Finds x p bytes) × WroteFront s (finds_text form x p bytes f)

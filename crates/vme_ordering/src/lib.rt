@@ -27,6 +27,9 @@ pub enum OrderingFault {
     /// The moments are at fault, or could not be read.
     #[error("{0}")]
     Moments(MomentsFault),
+    /// A slack is named for the board of this slot, and there is none.
+    #[error("no board has the slot {0} of --slack")]
+    NoBoard(u8),
     /// There are more orders than can be tried.
     #[error("F5 too many orders")]
     TooManyOrders,

@@ -29,6 +29,16 @@ fn fault_of(fault: OrderFault) -> OrderingFault {
     }
 }
 
+/// The first slot without a board whose board is named with a slack.
+fn unknown_slot(plan: &Plan, slacks: &Slacks) -> Option<u8> {
+    for slot in 1..22u8 {
+        if slacks.names(slot) && !plan.has_board(slot) {
+            return Some(slot);
+        }
+    }
+    None
+}
+
 /// The places of the longest legal beginning, and those that can come next after it.
 #[derive(Drop)]
 struct Found {
@@ -94,6 +104,10 @@ pub fn order<R: Read, W: Write>(
         result }
 {
     let plan = plan_of(alloc, scenario)?;
+    match unknown_slot(&plan, slacks) {
+        Some(slot) => return Err(OrderingFault::NoBoard(slot)),
+        None => {}
+    }
     let moments = match read_moments(alloc, moments) {
         Ok(moments) => moments,
         Err(fault) => return Err(OrderingFault::Moments(fault)),

@@ -26,6 +26,7 @@ fn place_of(driver: Driver) -> usize {
 }
 
 /// Drivers with a slack each, as far as a text was read.
+#[derive(Drop)]
 struct Named {
     slacks: Slacks,
     are_named: [bool; 22],
