@@ -2,3 +2,5 @@
 pub mod Earlier
 -- an order of a list that was cut into moments: `laws::a_legal_run_has_an_order`
 pub mod CutRuns
+-- line by line and byte by byte: `reader::Reader::take_line` and its like
+pub mod ReaderSteps

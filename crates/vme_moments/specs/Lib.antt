@@ -10,3 +10,5 @@ pub mod Orders
 pub mod Reading
 -- believe, for `laws` alone: a list that is cut into moments
 pub mod Cuts
+-- words: what a reader does with lines and bytes
+pub mod Taking

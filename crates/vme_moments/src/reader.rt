@@ -1,6 +1,10 @@
 //! Reading moments.
-ghost use Rattle.std.specs.Prelude.{◌≡◌};
+ghost use Rattle.std.specs.Prelude.{◌≡◌, ◌∷◌, [], ℕ, List, None};
+ghost use Rattle.vme_model.specs.Text.{edge_of, next_number};
+ghost use Rattle.vme_trace.specs.Reading.{IsPart};
+ghost use Rattle.vme_moments.specs.Moments.{at_edge, at_moment, line_says, read_of};
 ghost use Rattle.vme_moments.specs.Reading.{ReadsMoments};
+ghost use Rattle.vme_moments.specs.Taking.{Ends, IsSound, Says, Takes, rest_of};
 
 use crate::numbers::moment_of;
 use crate::{MomentsFault, SEEN_LIMIT, Seen};
@@ -39,7 +43,10 @@ struct Reader {
 
 impl Reader {
     /// Before the first byte.
-    fn new(alloc: Global) -> Reader {
+    fn new(alloc: Global) -> Reader
+        ensures sound { IsSound result }
+        ensures rest { (more : List ℕ) → rest_of result more ≡ read_of more }
+    {
         Reader {
             version: None,
             line: 1,
@@ -50,7 +57,9 @@ impl Reader {
     }
 
     /// Takes the line of a moment.
-    fn take_moment(&mut self, moment: u64) -> Result<(), MomentsFault> {
+    fn take_moment(&mut self, moment: u64) -> Result<(), MomentsFault>
+        ensures { Says (at_moment self.old.line self.old.now moment) self.old self.new result }
+    {
         match self.now {
             Some(last) if moment < last => Err(MomentsFault::Earlier { n: self.line }),
             _ => {
@@ -60,9 +69,15 @@ impl Reader {
         }
     }
 
-    /// Takes the line of an edge.
-    fn take_edge(&mut self) -> Result<(), MomentsFault> {
-        let (Some(edge), Some(moment)) = (edge_of(self.part.as_slice()), self.now) else {
+    /// Takes the line of an edge, or one that spells none.
+    fn take_edge(&mut self) -> Result<(), MomentsFault>
+        ensures { Says (at_edge self.old.line self.old.now (edge_of self.old.part.items))
+            self.old self.new result }
+    {
+        let Some(edge) = edge_of(self.part.as_slice()) else {
+            return Err(MomentsFault::Trace(Fault::Line { n: self.line }));
+        };
+        let Some(moment) = self.now else {
             return Err(MomentsFault::Trace(Fault::Line { n: self.line }));
         };
         if self.seen.len() >= SEEN_LIMIT {
@@ -75,11 +90,40 @@ impl Reader {
         }
     }
 
+    /// Takes a line behind the header.
+    fn take_other(&mut self) -> Result<(), MomentsFault>
+        requires { IsPart self.old.part.items }
+        ensures { Says (line_says self.old.line self.old.now self.old.part.items)
+            self.old self.new result }
+    {
+        match moment_of(self.part.as_slice()) {
+            Some(moment) => self.take_moment(moment),
+            None => self.take_edge(),
+        }
+    }
+
+    /// Goes on to the next line.
+    fn go_on(&mut self)
+        ensures part { self.new.part.items ≡ [] }
+        ensures line { self.new.line ≡ next_number self.old.line }
+        ensures version { self.new.version ≡ self.old.version }
+        ensures now { self.new.now ≡ self.old.now }
+        ensures seen { self.new.seen.items ≡ self.old.seen.items }
+    {
+        self.part.clear();
+        self.line = self.line.saturating_add(1);
+    }
+
     /// Takes the header line.
-    fn take_header(&mut self) -> Result<(), MomentsFault> {
+    fn take_header(&mut self) -> Result<(), MomentsFault>
+        requires sound { IsSound self.old }
+        requires unnamed { self.old.version ≡ None }
+        ensures { Takes self.old (10 ∷ []) self.new result }
+    {
         match header_of(self.part.as_slice()) {
             Some(version) => {
                 self.version = Some(version);
+                self.go_on();
                 Ok(())
             }
             None => Err(MomentsFault::Trace(Fault::Header)),
@@ -87,22 +131,23 @@ impl Reader {
     }
 
     /// Takes the line whose bytes stand in the part.
-    fn take_line(&mut self) -> Result<(), MomentsFault> {
+    fn take_line(&mut self) -> Result<(), MomentsFault>
+        requires { IsSound self.old }
+        ensures { Takes self.old (10 ∷ []) self.new result }
+    {
         if self.version.is_none() {
-            self.take_header()?;
-        } else {
-            match moment_of(self.part.as_slice()) {
-                Some(moment) => self.take_moment(moment)?,
-                None => self.take_edge()?,
-            }
+            return self.take_header();
         }
-        self.part.clear();
-        self.line = self.line.saturating_add(1);
+        self.take_other()?;
+        self.go_on();
         Ok(())
     }
 
     /// Takes a byte.
-    fn take(&mut self, byte: u8) -> Result<(), MomentsFault> {
+    fn take(&mut self, byte: u8) -> Result<(), MomentsFault>
+        requires { IsSound self.old }
+        ensures { Takes self.old (byte ∷ []) self.new result }
+    {
         if byte == b'\n' {
             return self.take_line();
         }
@@ -113,7 +158,10 @@ impl Reader {
     }
 
     /// Takes a piece.
-    fn feed(&mut self, piece: &[u8]) -> Result<(), MomentsFault> {
+    fn feed(&mut self, piece: &[u8]) -> Result<(), MomentsFault>
+        requires { IsSound self.old }
+        ensures { Takes self.old piece.now self.new result }
+    {
         for byte in piece {
             self.take(*byte)?;
         }
@@ -121,7 +169,10 @@ impl Reader {
     }
 
     /// Takes what was read for the whole.
-    fn finish(self) -> Result<Moments, MomentsFault> {
+    fn finish(self) -> Result<Moments, MomentsFault>
+        requires { IsSound self }
+        ensures { Ends (rest_of self []) result }
+    {
         if !self.part.is_empty() {
             return Err(MomentsFault::Trace(Fault::CutOff));
         }

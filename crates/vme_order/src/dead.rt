@@ -5,7 +5,7 @@ use std::alloc::Global;
 use vme_bus::{BusKind, BusState};
 
 /// How many kinds are remembered.
-const REMEMBERED: usize = 65_536;
+const REMEMBERED: usize = 32_768;
 
 /// The kind of a beginning: the places in it, and what its edges lead to.
 #[derive(Clone, Copy, PartialEq, Eq)]

@@ -21,10 +21,10 @@ fn is_free(seen: &[Seen], slacks: &Slacks, taken: &Taken, place: usize) -> bool 
     true
 }
 
-/// Whether the least place that was not taken came before all from that one on.
-fn is_out_of_reach(seen: &[Seen], slacks: &Slacks, least: usize, place: usize) -> bool {
-    least < place
-        && seen[least].moment.saturating_add(slacks.greatest()) < seen[place].moment
+/// Whether the least place that was not taken came before all from that one on: no slack reaches back
+/// from there.
+fn is_out_of_reach(seen: &[Seen], greatest: u64, least: usize, place: usize) -> bool {
+    least < place && seen[least].moment.saturating_add(greatest) < seen[place].moment
 }
 
 /// The least place from that one on that can come next, if there is any.
@@ -34,8 +34,9 @@ pub(crate) fn next_free(
     taken: &Taken,
     from: usize,
 ) -> Option<usize> {
+    let greatest = slacks.greatest();
     for place in from..seen.len() {
-        if is_out_of_reach(seen, slacks, taken.least(), place) {
+        if is_out_of_reach(seen, greatest, taken.least(), place) {
             return None;
         }
         if is_free(seen, slacks, taken, place) {

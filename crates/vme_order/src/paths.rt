@@ -5,7 +5,7 @@ use vme_bus::BusState;
 use vme_moments::Seen;
 
 /// After how many edges a state is kept each time.
-const STRETCH: usize = 32;
+const STRETCH: usize = 64;
 
 /// A beginning that grows and shrinks at its end.
 #[derive(Drop)]
@@ -13,7 +13,7 @@ pub(crate) struct Path {
     places: Vec<u32>,
     /// What its edges lead to.
     state: BusState,
-    /// What its first 0, 32, 64 .. edges lead to.
+    /// What its first 0, 64, 128 .. edges lead to.
     kept: Vec<BusState>,
 }
 
