@@ -1,26 +1,23 @@
 -- A text of moments: the lines of a trace, and between them the moments at which its edges were
 -- seen. What is a line, an edge or a header is `vme_model.specs.Text`.
-use Rattle.std.specs.Prelude.{◌&&◌, ◌+◌, ◌*◌, ◌-◌, ◌^◌, ℕ, Bool, List, [], ◌∷◌, ◌++◌, Option, Some, None, Result, Ok, Err, option_map, codes, decimal, drop, length, nat_lt, if◌then◌else◌}
+use Rattle.std.specs.Prelude.{◌==◌, ◌&&◌, ◌^◌, ◌∷◌, ◌++◌, [], ℕ, List, Option, Some, None, Result, Ok, Err, option_map, decimal, length, nat_lt, if◌then◌else◌}
 use Rattle.std.specs.Str.{bytes_eq}
+use Rattle.std.specs.Str.Parse.{digits_value}
 use Rattle.vme_model.specs.declared.signals.Version.{Version}
 use Rattle.vme_model.specs.declared.signals.Edge.{Edge}
 use Rattle.vme_model.specs.Text.{TextFault, no_header, no_edge, too_long, cut_off, split_lines, is_too_long, next_number, end_fault, edge_of, version_of}
 use Rattle.vme_moments.specs.declared.Seen.{Seen}
 
--- the number of some decimal digits, after those that make a number
-abbrev pub number_after : ℕ → List ℕ → ℕ
-number_after n [] = n
-number_after n (d ∷ ds) = number_after (10 * n + (d - 48)) ds
+-- the number that these bytes spell in decimal, without a leading zero, where it has 64 bits at most
+unfoldable pub number_of : List ℕ → Option ℕ
+number_of digits =
+    let n = digits_value 10 digits in
+    if bytes_eq digits (decimal n) && nat_lt n (2 ^ 64) then Some n else None
 
--- the line of a moment
-abbrev pub moment_text : ℕ → List ℕ
-moment_text n = codes "@" ++ decimal n
-
--- the moment whose line this is, if it is one
-unfoldable pub moment_of : List ℕ → Option ℕ
-moment_of line =
-    let n = number_after 0 (drop 1 line) in
-    if bytes_eq line (moment_text n) && nat_lt n (2 ^ 64) then Some n else None
+-- the moment whose line this is, if it is one: the sign of a moment, and its number
+abbrev pub moment_of : List ℕ → Option ℕ
+moment_of [] = None
+moment_of (b ∷ digits) = if b == 64 then number_of digits else None
 
 -- why moments cannot be read: as a trace, or with the number of the line, X10, or F6
 pub data MomentsFault : Type 0 where
