@@ -1,4 +1,10 @@
 //! The kinds of beginnings from which nothing longer comes than was found.
+ghost use Rattle.std.specs.Prelude.{◌≡◌, ◌+◌, ◌<◌, ◌⊎◌, ℕ, List, true, length, IfErr, IfOk};
+ghost use Rattle.vme_moments.specs.Orders.{has};
+ghost use Rattle.vme_order.specs.declared.dead.Kind.{Kind as KindValue};
+ghost use Rattle.vme_order.specs.Places.{AreTaken, IsCounted};
+ghost use Rattle.vme_order.specs.Searching.{IsOfKind, Keeps, LeadsTo, Task};
+
 use crate::taken::Taken;
 use crate::{OrderFault, WINDOW};
 use std::alloc::Global;
@@ -19,7 +25,13 @@ pub(crate) struct Kind {
 
 impl Kind {
     /// That of a beginning with these places, whose edges lead to this state.
-    pub(crate) fn of(taken: &Taken, state: &BusState) -> Kind {
+    pub(crate) fn of(taken: &Taken, state: &BusState) -> Kind
+        requires { IsCounted taken.now }
+        ensures { (t : Task) (places : List ℕ) → LeadsTo t places state.now
+            → AreTaken t.seen places taken.now
+            → ((i : ℕ) → has places i ≡ true → i < taken.now.least + 128)
+            → IsOfKind t places result }
+    {
         Kind {
             least: taken.least(),
             window: taken.window(),
@@ -46,7 +58,11 @@ pub(crate) struct Dead {
 
 impl Dead {
     /// None so far.
-    pub(crate) fn new(alloc: Global) -> Result<Dead, OrderFault> {
+    pub(crate) fn new(alloc: Global) -> Result<Dead, OrderFault>
+        ensures room { IfOk result (λ dead. length dead.kinds.items ≡ 32768) }
+        ensures none { IfOk result (λ dead. (kind : KindValue) → ¬ (Keeps dead kind)) }
+        ensures fault { IfErr result (λ fault. fault ≡ OrderFault.NoMemory) }
+    {
         let mut kinds = Vec::new(alloc);
         match kinds.resize(REMEMBERED, None) {
             Ok(()) => Ok(Dead { kinds }),
@@ -55,12 +71,17 @@ impl Dead {
     }
 
     /// Where a kind is remembered.
-    fn place_of(&self, kind: &Kind) -> usize {
+    fn place_of(&self, kind: &Kind) -> usize
+        ensures { result < 32768 }
+    {
         (kind.to_number() % REMEMBERED as u64) as usize
     }
 
     /// Whether the kind is remembered.
-    pub(crate) fn has(&self, kind: &Kind) -> bool {
+    pub(crate) fn has(&self, kind: &Kind) -> bool
+        requires { length self.now.kinds.items ≡ 32768 }
+        ensures { result ≡ true → Keeps self.now kind.now }
+    {
         match &self.kinds[self.place_of(kind)] {
             Some(known) => *known == *kind,
             None => false,
@@ -68,7 +89,12 @@ impl Dead {
     }
 
     /// Remembers a kind.
-    pub(crate) fn note(&mut self, kind: Kind) {
+    pub(crate) fn note(&mut self, kind: Kind)
+        requires { length self.old.kinds.items ≡ 32768 }
+        ensures room { length self.new.kinds.items ≡ 32768 }
+        ensures kept { (other : KindValue) → Keeps self.new other
+            → (other ≡ kind) ⊎ Keeps self.old other }
+    {
         let place = self.place_of(&kind);
         self.kinds[place] = Some(kind);
     }

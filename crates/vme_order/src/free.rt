@@ -1,7 +1,9 @@
 //! Which places can come next.
-ghost use Rattle.std.specs.Prelude.{◌≡◌, ◌<◌, ◌≤◌, All, IfErr, IfOk, length, reverse};
+ghost use Rattle.std.specs.Prelude.{◌≡◌, ◌<◌, ◌≤◌, ℕ, List, true, All, IfErr, IfOk, length, reverse};
 ghost use Rattle.vme_model.specs.Report.{trace_limit};
-ghost use Rattle.vme_moments.specs.Orders.{AreInOrder, AreNext};
+ghost use Rattle.vme_moments.specs.Orders.{AreInOrder, AreNext, IsFree};
+ghost use Rattle.vme_order.specs.Places.{AreTaken, AreUnfree, IsNextFree};
+ghost use Rattle.vme_order.specs.declared.taken.Taken.{Taken as TakenValue};
 
 use crate::OrderFault;
 use crate::taken::Taken;
@@ -9,7 +11,14 @@ use std::alloc::Global;
 use vme_moments::{Seen, Slacks, is_before};
 
 /// Whether a place can come next: it was not taken, and all that came before it were.
-fn is_free(seen: &[Seen], slacks: &Slacks, taken: &Taken, place: usize) -> bool {
+fn is_free(seen: &[Seen], slacks: &Slacks, taken: &Taken, place: usize) -> bool
+    requires ascending { AreInOrder seen.now }
+    requires within { place < length seen.now }
+    ensures free { (places : List ℕ) → AreTaken seen.now places taken.now → result ≡ true
+        → IsFree slacks.now seen.now places place }
+    ensures all { (places : List ℕ) → AreTaken seen.now places taken.now
+        → IsFree slacks.now seen.now places place → result ≡ true }
+{
     if taken.has(place) {
         return false;
     }
@@ -23,8 +32,15 @@ fn is_free(seen: &[Seen], slacks: &Slacks, taken: &Taken, place: usize) -> bool 
 
 /// Whether the least place that was not taken came before all from that one on: no slack reaches back
 /// from there.
-fn is_out_of_reach(seen: &[Seen], greatest: u64, least: usize, place: usize) -> bool {
-    least < place && seen[least].moment.saturating_add(greatest) < seen[place].moment
+fn is_out_of_reach(seen: &[Seen], slacks: &Slacks, least: usize, place: usize) -> bool
+    requires ascending { AreInOrder seen.now }
+    requires within { place < length seen.now }
+    ensures { (places : List ℕ) (taken : TakenValue) → AreTaken seen.now places taken
+        → taken.least ≡ least → result ≡ true
+        → AreUnfree slacks.now seen.now places place (length seen.now) }
+{
+    least < place
+        && seen[least].moment.saturating_add(slacks.greatest()) < seen[place].moment
 }
 
 /// The least place from that one on that can come next, if there is any.
@@ -33,10 +49,13 @@ pub(crate) fn next_free(
     slacks: &Slacks,
     taken: &Taken,
     from: usize,
-) -> Option<usize> {
-    let greatest = slacks.greatest();
+) -> Option<usize>
+    requires ascending { AreInOrder seen.now }
+    ensures { (places : List ℕ) → AreTaken seen.now places taken.now
+        → IsNextFree slacks.now seen.now places from result }
+{
     for place in from..seen.len() {
-        if is_out_of_reach(seen, greatest, taken.least(), place) {
+        if is_out_of_reach(seen, slacks, taken.least(), place) {
             return None;
         }
         if is_free(seen, slacks, taken, place) {
@@ -47,8 +66,12 @@ pub(crate) fn next_free(
 }
 
 /// The places that were taken, of an order.
-fn taken_by(alloc: Global, places: usize, order: &[u32]) -> Result<Taken, OrderFault> {
-    let mut taken = Taken::new(alloc, places)?;
+fn taken_by(alloc: Global, seen: &[Seen], order: &[u32]) -> Result<Taken, OrderFault>
+    requires within { All (λ place. place < length seen.now) order.now }
+    ensures taken { IfOk result (AreTaken seen.now (reverse order.now)) }
+    ensures fault { IfErr result (λ fault. fault ≡ OrderFault.NoMemory) }
+{
+    let mut taken = Taken::new(alloc, seen.len())?;
     for place in order {
         taken.take(*place as usize);
     }
@@ -71,10 +94,10 @@ pub fn next_places(
         AreNext slacks.now seen.now (reverse order.now) next.items) }
     ensures fault { IfErr result (λ fault. fault ≡ OrderFault.NoMemory) }
 {
-    let taken = taken_by(alloc, seen.len(), order)?;
+    let taken = taken_by(alloc, seen, order)?;
     let mut places = Vec::new(alloc);
     let mut from = 0;
-    while let Some(place) = next_free(seen, slacks, &taken, from) {
+    'places: while let Some(place) = next_free(seen, slacks, &taken, from) {
         if places.push(place as u32).is_err() {
             return Err(OrderFault::NoMemory);
         }

@@ -1,7 +1,8 @@
 //! The search for the longest legal beginning.
-ghost use Rattle.std.specs.Prelude.{◌≡◌, ◌≤◌, Err, IfOk, length, reverse};
+ghost use Rattle.std.specs.Prelude.{◌≡◌, ◌+◌, ◌<◌, ◌≤◌, ℕ, [], Err, IfErr, IfOk, MatchOption, Ok, length, reverse, true, false};
 ghost use Rattle.vme_model.specs.Report.{trace_limit};
 ghost use Rattle.vme_moments.specs.Orders.{AreInOrder, HasFarPlace, IsLongest};
+ghost use Rattle.vme_order.specs.Searching.{IsBarren, IsNextIn, IsTriedOut, IsUnderWay, LeadsTo, Task};
 
 use crate::dead::{Dead, Kind};
 use crate::free::next_free;
@@ -30,7 +31,11 @@ struct Search {
 
 impl Search {
     /// Before the first edge.
-    fn new(alloc: Global, start: BusState, places: usize) -> Result<Search, OrderFault> {
+    fn new(alloc: Global, start: BusState, places: usize) -> Result<Search, OrderFault>
+        ensures under_way { (t : Task) → LeadsTo t [] start → places ≡ length t.seen
+            → IfOk result (IsUnderWay t 0) }
+        ensures fault { IfErr result (λ fault. fault ≡ OrderFault.NoMemory) }
+    {
         Ok(Search {
             path: Path::new(alloc, start)?,
             taken: Taken::new(alloc, places)?,
@@ -57,7 +62,15 @@ impl Search {
 
     /// Goes on with a place that can come next, where its edge is allowed and something longer may
     /// come of it.
-    fn enter(&mut self, seen: &[Seen], place: usize) -> Result<bool, OrderFault> {
+    fn enter(&mut self, seen: &[Seen], place: usize) -> Result<bool, OrderFault>
+        requires { place < length seen.now }
+        ensures entered { (t : Task) (from : ℕ) → t.seen ≡ seen.now → IsUnderWay t from self.old
+            → IsNextIn t from place self.old → result ≡ Ok true → IsUnderWay t 0 self.new }
+        ensures passed { (t : Task) (from : ℕ) → t.seen ≡ seen.now → IsUnderWay t from self.old
+            → IsNextIn t from place self.old → result ≡ Ok false
+            → IsUnderWay t (place + 1) self.new }
+        ensures fault { IfErr result (λ fault. fault ≡ OrderFault.NoMemory) }
+    {
         let mut state = *self.path.state();
         if state.step(seen[place].edge).is_err() {
             return Ok(false);
@@ -73,7 +86,12 @@ impl Search {
     }
 
     /// Goes back by a place, of which nothing longer comes.
-    fn leave(&mut self, seen: &[Seen]) -> Option<usize> {
+    fn leave(&mut self, seen: &[Seen]) -> Option<usize>
+        ensures { (t : Task) (from : ℕ) → t.seen ≡ seen.now → IsUnderWay t from self.old
+            → IsTriedOut t from self.old
+            → MatchOption result (IsBarren t (length self.new.longest.items) [])
+            (λ place. IsUnderWay t (place + 1) self.new) }
+    {
         self.dead.note(Kind::of(&self.taken, self.path.state()));
         let place = self.path.pop(seen)?;
         self.taken.give_back(place);
@@ -82,9 +100,19 @@ impl Search {
     }
 
     /// Searches until a beginning has all places, or none is left that may be longer.
-    fn run(&mut self, seen: &[Seen], slacks: &Slacks) -> Result<(), OrderFault> {
+    fn run(&mut self, seen: &[Seen], slacks: &Slacks) -> Result<(), OrderFault>
+        requires { AreInOrder seen.now }
+        ensures longest { (t : Task) → t.seen ≡ seen.now → t.slacks ≡ slacks.now
+            → IsUnderWay t 0 self.old
+            → IfOk result (λ _. IsLongest t.version t.plan t.slacks t.seen
+            (reverse self.new.longest.items)) }
+        ensures many { (t : Task) → t.seen ≡ seen.now → t.slacks ≡ slacks.now
+            → IsUnderWay t 0 self.old
+            → result ≡ Err OrderFault.TooManyOrders
+            → HasFarPlace t.version t.plan t.slacks t.seen }
+    {
         let mut from = 0;
-        while self.longest.len() < seen.len() {
+        'places: while self.longest.len() < seen.len() {
             match next_free(seen, slacks, &self.taken, from) {
                 Some(place) if place - self.taken.least() >= WINDOW => {
                     return Err(OrderFault::TooManyOrders);
