@@ -107,13 +107,13 @@ sums_lent text n sums old new (Err (fault.Beyond edges)) all h = absurd h.3
 sums_lent text n sums old new (Err fault.NoMemory) all h = h
 
 pub sums_done : (Stops : List ℕ → Fault → Type 0) (scenario : Bor (List ℕ)) (text : List ℕ) (n : ℕ) (sums : Added) (old new : Known) (answer : Answer) → SoFar text n sums → Lent text (Keeps old new) (Tells sums old new) answer
-    → Hands (Alone (λ a. (t : List ℕ) × Lent t (Keeps old new) (SumsUp n old new) a)) Stops (Keeps old new) (told_answer scenario answer)
+    → Hands (Alone (λ a. (t : List ℕ) × Lent t (Keeps old new) (SumsUp n old new) a)) Stops (λ f. ⊥) (Keeps old new) (told_answer scenario answer)
 sums_done Stops scenario text n sums old new answer all told =
-    handed Stops (λ a. (t : List ℕ) × Lent t (Keeps old new) (SumsUp n old new) a) (Keeps old new) scenario answer (text, sums_lent text n sums old new answer all told) (λ h. absurd h.1) (λ h. h.1.1)
+    handed Stops (λ f. ⊥) (λ a. (t : List ℕ) × Lent t (Keeps old new) (SumsUp n old new) a) (Keeps old new) scenario answer (text, sums_lent text n sums old new answer all told) (λ h. absurd h.1) (λ h. h.1.1)
 
 -- a fault before the sums are written
 pub sums_stopped : (text : List ℕ) (scenario : Bor (List ℕ)) (traces : List (Bor (List ℕ))) (held : Known) (f : ProgramFault) → Blames text scenario (Contains (texts_of traces)) (λ p name g. StopsAt (texts_of traces) name g p) f
-    → Hands (Alone (λ a. (t : List ℕ) × Lent t (Keeps held held) (SumsUp (length traces) held held) a)) (λ name g. (t : List ℕ) × (p : Plan) × (read t ≡ Ok p) × StopsAt (texts_of traces) name g p) (Keeps held held) (Err f)
+    → Hands (Alone (λ a. (t : List ℕ) × Lent t (Keeps held held) (SumsUp (length traces) held held) a)) (λ name g. (t : List ℕ) × (p : Plan) × (read t ≡ Ok p) × StopsAt (texts_of traces) name g p) (λ g. ⊥) (Keeps held held) (Err f)
 sums_stopped text scenario traces held (CannotRead name) h = Keeps-refl held
 sums_stopped text scenario traces held (TooLong name) h = Keeps-refl held
 sums_stopped text scenario traces held (Engine (fault.Scenario e)) h = inl (text, (h.0, h.1, Keeps-refl held))

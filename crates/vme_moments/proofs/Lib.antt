@@ -1,3 +1,5 @@
+-- the number that digits spell: `numbers::number_of`
+pub mod Numerals
 -- what one part made, and what slack allows: `laws`
 pub mod Earlier
 -- an order of a list that was cut into moments: `laws::a_legal_run_has_an_order`
