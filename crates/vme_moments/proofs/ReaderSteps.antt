@@ -5,7 +5,7 @@ use Rattle.vme_model.specs.declared.signals.Version.{Version}
 use Rattle.vme_model.specs.Text.{TextFault, no_header, too_long, cut_off, split_lines, is_too_long, next_number, end_fault, version_of}
 use Rattle.vme_trace.specs.Reading.{IsOneLine, IsPart}
 use Rattle.vme_trace.specs.declared.Fault.TheVariants as trace
-use Rattle.vme_trace.proofs.Lines.{split_line, split_rest, within, IsOneLine-append}
+use Rattle.vme_trace.proofs.Lines.{head_of, head_long, over, some_bytes, split_line, split_rest, within, IsOneLine-append}
 use Rattle.vme_moments.specs.declared.Seen.{Seen}
 use Rattle.vme_moments.specs.declared.MomentsFault.{MomentsFault}
 use Rattle.vme_moments.specs.declared.MomentsFault.TheVariants.{Trace, Earlier, TooMany}
@@ -54,3 +54,65 @@ many_step v seen s others full some =
         rw (length-append seen (s.seen ++ (others s.now).0), length-append s.seen (others s.now).0)
         (omega arith) in
     rw (many_test (length (seen ++ (s.seen ++ (others s.now).0))) long) refl
+
+-- the header line
+pub header_step : (v : Version) (n : ℕ) (now : Option ℕ) (seen : List Seen) (part more : List ℕ)
+    → IsPart part → version_of part ≡ Some v
+    → rest_at None n now seen (split_lines (part ++ 10 ∷ more))
+    ≡ rest_at (Some v) 2 None [] (split_lines more)
+header_step v n now seen part more h is =
+    rw (split_line part more h.one_line, within part h.short, is) refl
+
+pub header_missed : (n : ℕ) (now : Option ℕ) (seen : List Seen) (part more : List ℕ)
+    → IsPart part → version_of part ≡ None
+    → (rest_at None n now seen (split_lines (part ++ 10 ∷ more))).fault ≡ Some (of_trace no_header)
+header_missed n now seen part more h is =
+    rw (split_line part more h.one_line, within part h.short, is) refl
+
+long_at : (v : Option Version) (n : ℕ) (now : Option ℕ) (seen : List Seen)
+    (s : List (List ℕ) × List ℕ) → length seen ≤ seen_limit → (v ≡ None → n ≡ 1)
+    → 64 < length (head_of s) → (rest_at v n now seen s).fault ≡ Some (of_trace (too_long n))
+unfolding read_seen
+long_at None n now seen ([], rest) few first h = rw (over rest h, first refl) refl
+long_at None n now seen (l ∷ ls, rest) few first h = rw (over l h, first refl) refl
+long_at (Some v) n now seen ([], rest) few first h =
+    rw (over rest h, append-nil seen, few_test (length seen) few) refl
+long_at (Some v) n now seen (l ∷ ls, rest) few first h =
+    rw (over l h, append-nil seen, few_test (length seen) few) refl
+
+-- a line of over 64 bytes
+pub long_step : (v : Option Version) (n : ℕ) (now : Option ℕ) (seen : List Seen)
+    (part more : List ℕ) (b : ℕ) → length seen ≤ seen_limit → (v ≡ None → n ≡ 1) → IsOneLine part
+    → (b ≡ 10 → ⊥) → 64 ≤ length part
+    → (rest_at v n now seen (split_lines (part ++ b ∷ more))).fault ≡ Some (of_trace (too_long n))
+long_step v n now seen part more b few first one other full =
+    let line : IsOneLine (part ++ b ∷ []) = IsOneLine-append part (b ∷ []) one (other, tt) in
+    let long : 64 < length (part ++ b ∷ []) =
+        rw (length-append part (b ∷ [])) (omega arith) in
+    let head : length (part ++ b ∷ []) ≤ length (head_of (split_lines ((part ++ b ∷ []) ++ more))) =
+        head_long (part ++ b ∷ []) more line in
+    long_at v n now seen (split_lines (part ++ b ∷ more)) few first
+    (rw (← append_assoc part (b ∷ []) more) (omega arith))
+
+-- the end of the text
+pub end_cut : (v : Option Version) (n : ℕ) (now : Option ℕ) (seen : List Seen) (part : List ℕ)
+    → length seen ≤ seen_limit → IsPart part → 0 < length part
+    → (rest_at v n now seen (split_lines (part ++ []))).fault ≡ Some (of_trace cut_off)
+unfolding read_seen
+end_cut v n now seen [] few h some = absurd (omega arith)
+end_cut None n now seen (b ∷ part) few h some =
+    rw (append-nil (b ∷ part), split_rest (b ∷ part) h.one_line, within (b ∷ part) h.short, some_bytes b part) refl
+end_cut (Some v) n now seen (b ∷ part) few h some =
+    rw (append-nil (b ∷ part), split_rest (b ∷ part) h.one_line, within (b ∷ part) h.short, some_bytes b part,
+    append-nil seen, few_test (length seen) few) refl
+
+pub end_absent : (n : ℕ) (now : Option ℕ) (seen : List Seen)
+    → (rest_at None n now seen (split_lines [])).fault ≡ Some (of_trace no_header)
+unfolding split_lines
+end_absent n now seen = refl
+
+pub end_whole : (v : Version) (n : ℕ) (now : Option ℕ) (seen : List Seen) → length seen ≤ seen_limit
+    → rest_at (Some v) n now seen (split_lines [])
+    ≡ record { version = Some v; seen = seen; fault = None }
+unfolding split_lines read_seen
+end_whole v n now seen few = rw (append-nil seen, few_test (length seen) few) refl

@@ -17,7 +17,9 @@ use Rattle.vme_moments.specs.Reading.{fault_of}
 pub record IsSound (r : Reader) : Type 0 where
   pub part : IsPart r.part.items
   pub few : length r.seen.items ≤ seen_limit
-  pub first : r.version ≡ None → r.line ≡ 1
+  pub first_line : r.version ≡ None → r.line ≡ 1
+  pub first_now : r.version ≡ None → r.now ≡ None
+  pub first_seen : r.version ≡ None → r.seen.items ≡ []
 
 -- what was seen, before others
 abbrev pub after :
