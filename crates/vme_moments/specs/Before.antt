@@ -1,5 +1,5 @@
 -- Which of two edges that were seen came before the other.
-use Rattle.std.specs.Prelude.{◌==◌, ◌&&◌, ◌||◌, ◌+◌, ℕ, Bool, true, false, nat_lt, get_or, slice_index_or}
+use Rattle.std.specs.Prelude.{◌==◌, ◌&&◌, ◌||◌, ◌+◌, ◌<◌, ℕ, Bool, true, false, nat_lt, get_or, slice_index_or}
 use Rattle.vme_model.specs.declared.signals.Driver.{Driver}
 use Rattle.vme_model.specs.declared.signals.Driver.TheVariants as driver
 use Rattle.vme_model.specs.declared.signals.Wire.{Wire}
@@ -36,6 +36,11 @@ is_same_part _ _ = false
 abbrev pub slack_of : Slacks → Driver → ℕ
 slack_of x driver.Controller = x.controller
 slack_of x (driver.Slot s) = get_or x.boards s 0
+
+-- the controller, or a slot that a backplane can have
+abbrev pub IsKnown : Driver → Type 0
+IsKnown driver.Controller = Unit {0}
+IsKnown (driver.Slot s) = s < 22
 
 -- the board of the slot is named with a slack of its own
 abbrev pub names : Slacks → ℕ → Bool

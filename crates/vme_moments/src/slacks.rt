@@ -1,6 +1,8 @@
 //! How many moments before it was seen an edge may have taken effect.
-ghost use Rattle.std.specs.Prelude.{◌≡◌, ℕ, length};
-ghost use Rattle.vme_moments.specs.Before.{names, slack_of};
+ghost use Rattle.std.specs.Prelude.{◌≡◌, ◌≢◌, ◌||◌, ◌<◌, ◌≤◌, ℕ, false};
+ghost use Rattle.vme_model.specs.declared.signals.Driver.{Driver as DriverValue};
+ghost use Rattle.vme_model.specs.Signals.{is_same_driver};
+ghost use Rattle.vme_moments.specs.Before.{IsKnown, names, slack_of};
 
 use vme_model::Driver;
 
@@ -17,12 +19,11 @@ pub struct Slacks {
 }
 
 impl Slacks {
-    ghost use Rattle.std.specs.Prelude.{◌≢◌};
-
     /// The same for all drivers.
     pub fn all(slack: u64) -> Slacks
         ensures controller { slack_of result Driver.Controller ≡ slack }
-        ensures boards { (s : ℕ) → slack_of result (Driver.Slot s) ≡ slack }
+        ensures boards { (s : ℕ) → s < 22 → slack_of result (Driver.Slot s) ≡ slack }
+        ensures unnamed { (s : ℕ) → names result s ≡ false }
     {
         Slacks {
             controller: slack,
@@ -44,7 +45,9 @@ impl Slacks {
     }
 
     /// The greatest of all drivers.
-    pub fn greatest(&self) -> u64 {
+    pub fn greatest(&self) -> u64
+        ensures { (d : DriverValue) → slack_of self.now d ≤ result }
+    {
         let mut greatest = self.controller;
         for slack in &self.boards {
             greatest = greatest.max(*slack);
@@ -53,7 +56,14 @@ impl Slacks {
     }
 
     /// With another for one driver.
-    pub fn set(&mut self, driver: Driver, slack: u64) {
+    pub fn set(&mut self, driver: Driver, slack: u64)
+        requires { IsKnown driver }
+        ensures slack { slack_of self.new driver ≡ slack }
+        ensures others { (d : DriverValue) → d ≢ driver
+            → slack_of self.new d ≡ slack_of self.old d }
+        ensures named { (s : ℕ) → names self.new s
+            ≡ (is_same_driver driver (Driver.Slot s) || names self.old s) }
+    {
         match driver {
             Driver::Controller => self.controller = slack,
             Driver::Slot(slot) if usize::from(slot) < PLACES => {

@@ -8,6 +8,18 @@ use Rattle.vme_moments.specs.declared.slacks.Slacks.{Slacks}
 use Rattle.vme_moments.specs.Before.{slack_of}
 use Rattle.vme_words.specs.Numbers.{IsSeed}
 
+-- a text is the name of a driver
+abbrev pub IsDriverName : Text → Driver → Type 0
+IsDriverName text d = Contains all_drivers d × (text ≡ driver_text d)
+
+abbrev pub IsNoDriver : Text → Type 0
+IsNoDriver text = (d : Driver) → ¬ IsDriverName text d
+
+-- where a driver stands among all: the controller, and then the boards by slot
+abbrev pub place_of : Driver → ℕ
+place_of Controller = 0
+place_of (Slot s) = s
+
 -- a driver with its slack
 pub record Late : Type 0 where
   pub driver : Driver

@@ -1,13 +1,16 @@
 //! What `--slack` names.
-ghost use Rattle.std.specs.Prelude.{◌≡◌, MatchOption};
-ghost use Rattle.vme_words.specs.Slacks.{AreSlacks, NameNoSlacks};
+ghost use Rattle.std.specs.Prelude.{◌≡◌, ◌<◌, MatchOption};
+ghost use Rattle.vme_moments.specs.Before.{IsKnown};
+ghost use Rattle.vme_words.specs.Slacks.{AreSlacks, IsDriverName, IsNoDriver, NameNoSlacks, place_of};
 
 use crate::seed_in;
 use vme_model::Driver;
 use vme_moments::Slacks;
 
 /// The driver of that name.
-fn driver_in(name: &str) -> Option<Driver> {
+fn driver_in(name: &str) -> Option<Driver>
+    ensures { MatchOption result (IsNoDriver name.now) (IsDriverName name.now) }
+{
     match name.as_bytes() {
         [b'c'] => Some(Driver::Controller),
         [ones @ b'1'..=b'9'] => Some(Driver::Slot(*ones - b'0')),
@@ -18,7 +21,11 @@ fn driver_in(name: &str) -> Option<Driver> {
 }
 
 /// Where a driver stands among all: the controller, and then the boards by slot.
-fn place_of(driver: Driver) -> usize {
+fn place_of(driver: Driver) -> usize
+    requires { IsKnown driver }
+    ensures place { result ≡ place_of driver }
+    ensures within { result < 22 }
+{
     match driver {
         Driver::Controller => 0,
         Driver::Slot(slot) => usize::from(slot),
