@@ -25,46 +25,46 @@ pub data MomentsFault : Type 0 where
   earlier : ℕ → MomentsFault
   too_many : MomentsFault
 
--- the moment that holds after a line, and what was seen in it
+-- the last moment after a line, and what was seen in it
 pub record Said : Type 0 where
-  pub now : Option ℕ
+  pub last : Option ℕ
   pub seen : List Seen
 
 -- the n-th line is a moment, and there was one before it, if any
 abbrev pub at_moment : ℕ → Option ℕ → ℕ → Result Said MomentsFault
-at_moment n None m = Ok (record { now = Some m; seen = [] })
+at_moment n None m = Ok (record { last = Some m; seen = [] })
 at_moment n (Some last) m =
-    if nat_lt m last then Err (earlier n) else Ok (record { now = Some m; seen = [] })
+    if nat_lt m last then Err (earlier n) else Ok (record { last = Some m; seen = [] })
 
 -- the n-th line is an edge, if it spells one, below a moment, if there was one
 abbrev pub at_edge : ℕ → Option ℕ → Option Edge → Result Said MomentsFault
 at_edge n (Some m) (Some e) =
-    Ok (record { now = Some m; seen = record { edge = e; moment = m; line = n } ∷ [] })
+    Ok (record { last = Some m; seen = record { edge = e; moment = m; line = n } ∷ [] })
 at_edge n _ _ = Err (of_trace (no_edge n))
 
 abbrev pub at_either : ℕ → Option ℕ → Option ℕ → Option Edge → Result Said MomentsFault
-at_either n now (Some m) e = at_moment n now m
-at_either n now None e = at_edge n now e
+at_either n last (Some m) e = at_moment n last m
+at_either n last None e = at_edge n last e
 
 -- what the n-th line says
 abbrev pub line_says : ℕ → Option ℕ → List ℕ → Result Said MomentsFault
-line_says n now line =
+line_says n last line =
     if is_too_long line then Err (of_trace (too_long n))
-    else at_either n now (moment_of line) (edge_of line)
+    else at_either n last (moment_of line) (edge_of line)
 
 -- what a line says, before the lines after it
 abbrev pub before_others :
     Result Said MomentsFault → (Option ℕ → List Seen × Option MomentsFault)
     → List Seen × Option MomentsFault
 before_others (Err fault) others = ([], Some fault)
-before_others (Ok said) others = (said.seen ++ (others said.now).0, (others said.now).1)
+before_others (Ok said) others = (said.seen ++ (others said.last).0, (others said.last).1)
 
 -- the lines from the n-th on, after the header line, and the rest after them
 unfoldable pub read_seen :
     ℕ → Option ℕ → List (List ℕ) → List ℕ → List Seen × Option MomentsFault
-read_seen n now [] rest = ([], option_map (λ f. of_trace f) (end_fault n rest))
-read_seen n now (line ∷ lines) rest =
-    before_others (line_says n now line) (λ m. read_seen (next_number n) m lines rest)
+read_seen n last [] rest = ([], option_map (λ f. of_trace f) (end_fault n rest))
+read_seen n last (line ∷ lines) rest =
+    before_others (line_says n last line) (λ m. read_seen (next_number n) m lines rest)
 
 -- what the bytes say: the version, once the header line stands, what was seen up to the first
 -- fault, and that fault

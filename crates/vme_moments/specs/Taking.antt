@@ -18,7 +18,7 @@ pub record IsSound (r : Reader) : Type 0 where
   pub part : IsPart r.part.items
   pub few : length r.seen.items ≤ seen_limit
   pub first_line : r.version ≡ None → r.line ≡ 1
-  pub first_now : r.version ≡ None → r.now ≡ None
+  pub first_last : r.version ≡ None → r.last ≡ None
   pub first_seen : r.version ≡ None → r.seen.items ≡ []
 
 -- what was seen, before others
@@ -29,14 +29,14 @@ after seen others = (seen ++ others.0, others.1)
 -- what further lines say, where so much was seen before them
 abbrev pub rest_at :
     Option Version → ℕ → Option ℕ → List Seen → List (List ℕ) × List ℕ → Reading
-rest_at None n now seen s = read_from_header s.0 s.1
-rest_at (Some version) n now seen s =
-    behind_header (Some version) (after seen (read_seen n now s.0 s.1))
+rest_at None n last seen s = read_from_header s.0 s.1
+rest_at (Some version) n last seen s =
+    behind_header (Some version) (after seen (read_seen n last s.0 s.1))
 
 -- what the whole text says, where these bytes are left of it
 abbrev pub rest_of : Reader → List ℕ → Reading
 rest_of r bytes =
-    rest_at r.version r.line r.now r.seen.items (split_lines (r.part.items ++ bytes))
+    rest_at r.version r.line r.last r.seen.items (split_lines (r.part.items ++ bytes))
 
 -- the first fault of a text; there may be no memory before it
 abbrev pub IsFault : Reading → MomentsFault → Type 0
@@ -48,7 +48,7 @@ pub record SaysOn (s : Said) (old new : Reader) : Type 0 where
   pub version : new.version ≡ old.version
   pub line : new.line ≡ old.line
   pub part : new.part.items ≡ old.part.items
-  pub now : new.now ≡ s.now
+  pub last : new.last ≡ s.last
   pub seen : new.seen.items ≡ old.seen.items ++ s.seen
   pub few : length old.seen.items ≤ seen_limit → length new.seen.items ≤ seen_limit
 

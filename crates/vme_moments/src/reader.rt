@@ -37,7 +37,7 @@ struct Reader {
     line: u64,
     part: ArrayVec<u8, PART>,
     /// The last moment.
-    now: Option<u64>,
+    last: Option<u64>,
     seen: Vec<Seen>,
 }
 
@@ -51,19 +51,19 @@ impl Reader {
             version: None,
             line: 1,
             part: ArrayVec::new(),
-            now: None,
+            last: None,
             seen: Vec::new(alloc),
         }
     }
 
     /// Takes the line of a moment.
     fn take_moment(&mut self, moment: u64) -> Result<(), MomentsFault>
-        ensures { Says (at_moment self.old.line self.old.now moment) self.old self.new result }
+        ensures { Says (at_moment self.old.line self.old.last moment) self.old self.new result }
     {
-        match self.now {
+        match self.last {
             Some(last) if moment < last => Err(MomentsFault::Earlier { n: self.line }),
             _ => {
-                self.now = Some(moment);
+                self.last = Some(moment);
                 Ok(())
             }
         }
@@ -71,13 +71,13 @@ impl Reader {
 
     /// Takes the line of an edge, or one that spells none.
     fn take_edge(&mut self) -> Result<(), MomentsFault>
-        ensures { Says (at_edge self.old.line self.old.now (edge_of self.old.part.items))
+        ensures { Says (at_edge self.old.line self.old.last (edge_of self.old.part.items))
             self.old self.new result }
     {
         let Some(edge) = edge_of(self.part.as_slice()) else {
             return Err(MomentsFault::Trace(Fault::Line { n: self.line }));
         };
-        let Some(moment) = self.now else {
+        let Some(moment) = self.last else {
             return Err(MomentsFault::Trace(Fault::Line { n: self.line }));
         };
         if self.seen.len() >= SEEN_LIMIT {
@@ -93,7 +93,7 @@ impl Reader {
     /// Takes a line behind the header.
     fn take_other(&mut self) -> Result<(), MomentsFault>
         requires { IsPart self.old.part.items }
-        ensures { Says (line_says self.old.line self.old.now self.old.part.items)
+        ensures { Says (line_says self.old.line self.old.last self.old.part.items)
             self.old self.new result }
     {
         match moment_of(self.part.as_slice()) {
@@ -107,7 +107,7 @@ impl Reader {
         ensures part { self.new.part.items ≡ [] }
         ensures line { self.new.line ≡ next_number self.old.line }
         ensures version { self.new.version ≡ self.old.version }
-        ensures now { self.new.now ≡ self.old.now }
+        ensures last { self.new.last ≡ self.old.last }
         ensures seen { self.new.seen.items ≡ self.old.seen.items }
     {
         self.part.clear();
