@@ -1,8 +1,10 @@
 //! Reading moments.
-ghost use Rattle.std.specs.Prelude.{◌≡◌, ◌∷◌, [], ℕ, List, None};
+ghost use Rattle.std.specs.Prelude.{◌≡◌, ◌≤◌, ◌∷◌, [], ℕ, List, All, IfOk, IsTrue, None, length};
+ghost use Rattle.vme_model.specs.Signals.{is_well_formed};
 ghost use Rattle.vme_model.specs.Text.{edge_of, next_number};
 ghost use Rattle.vme_trace.specs.Reading.{IsPart};
-ghost use Rattle.vme_moments.specs.Moments.{at_edge, at_moment, line_says, read_of};
+ghost use Rattle.vme_moments.specs.Moments.{at_edge, at_moment, line_says, read_of, seen_limit};
+ghost use Rattle.vme_moments.specs.Orders.{AreInOrder};
 ghost use Rattle.vme_moments.specs.Reading.{ReadsMoments};
 ghost use Rattle.vme_moments.specs.Taking.{Ends, IsSound, Says, Takes, rest_of};
 
@@ -190,7 +192,10 @@ impl Reader {
 ///
 /// Errors: the first fault of the text, X1 to X4, X10 or F6; X5 where a read failed, and X6.
 pub fn read_moments<R: Read>(alloc: Global, input: &mut R) -> Result<Moments, MomentsFault>
-    ensures { ReadsMoments (R.remaining input.old) (R.remaining input.new) result }
+    ensures reads { ReadsMoments (R.remaining input.old) (R.remaining input.new) result }
+    ensures ordered { IfOk result (λ m. AreInOrder m.seen.items) }
+    ensures formed { IfOk result (λ m. All (λ s. IsTrue (is_well_formed s.edge)) m.seen.items) }
+    ensures few { IfOk result (λ m. length m.seen.items ≤ seen_limit) }
 {
     let mut reader = Reader::new(alloc);
     let mut buffer = [0u8; 512];
