@@ -162,6 +162,7 @@ pub accepted_links : (t : Task) (path q : List ℕ) (j : ℕ) (s : Seen) (b c : 
     → OfHistory b (λ version p h. IsStateOf version p (kept_but_full version p h s.edge) c)
     → LeadsTo t path b → IsOneKind t q path → IsOneKind t (j ∷ q) (j ∷ path)
 accepted_links t path q j s b c f is accepted state leads kind = record {
+  count = ap (λ n. suc n) kind.count;
   places = λ i. ap (λ z. eqb j i || z) (kind.places i);
   state = c;
   first = accepted_leads t q j s b c f is accepted state (kind_leads t q path b leads kind);

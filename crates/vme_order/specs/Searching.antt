@@ -29,8 +29,9 @@ IsLegalIn t places = IsLegalBeginning t.version t.plan t.slacks t.seen places
 abbrev pub LeadsTo : Task → List ℕ → BusState → Type 0
 LeadsTo t places b = IsStateOf t.version t.plan (edges_at t.seen places) b
 
--- two beginnings have the same places, and lead to one state
+-- two beginnings have the same places, as many, and lead to one state
 pub record IsOneKind (t : Task) (q r : List ℕ) : Type 0 where
+  pub count : length q ≡ length r
   pub places : (i : ℕ) → has q i ≡ has r i
   pub state : BusState
   pub first : LeadsTo t q state
@@ -70,6 +71,7 @@ pub record IsOfKind (t : Task) (q : List ℕ) (kind : Kind) : Type 0 where
   pub state : BusState
   pub leads : LeadsTo t q state
   pub bus : kind_of state ≡ kind.bus
+  pub count : length q ≡ kind.count
   pub below : (i : ℕ) → i < kind.least → has q i ≡ true
   pub window : (k : ℕ) → k < 128 → slice_index_or kind.window k false ≡ has q (kind.least + k)
   pub beyond : (i : ℕ) → kind.least + 128 ≤ i → has q i ≡ false

@@ -16,6 +16,8 @@ const REMEMBERED: usize = 32_768;
 /// The kind of a beginning: the places in it, and what its edges lead to.
 #[derive(Clone, Copy, PartialEq, Eq)]
 pub(crate) struct Kind {
+    /// How many places are in it.
+    count: usize,
     /// The least place that is not in it.
     least: usize,
     /// Which of the places from there on are. None behind them is.
@@ -24,15 +26,16 @@ pub(crate) struct Kind {
 }
 
 impl Kind {
-    /// That of a beginning with these places, whose edges lead to this state.
-    pub(crate) fn of(taken: &Taken, state: &BusState) -> Kind
+    /// That of a beginning with so many places, these, whose edges lead to this state.
+    pub(crate) fn of(count: usize, taken: &Taken, state: &BusState) -> Kind
         requires { IsCounted taken.now }
         ensures { (t : Task) (places : List ℕ) → LeadsTo t places state.now
-            → AreTaken t.seen places taken.now
+            → length places ≡ count → AreTaken t.seen places taken.now
             → ((i : ℕ) → has places i ≡ true → i < taken.now.least + 128)
             → IsOfKind t places result }
     {
         Kind {
+            count,
             least: taken.least(),
             window: taken.window(),
             bus: state.to_kind(),

@@ -76,7 +76,8 @@ impl Search {
             return Ok(false);
         }
         self.taken.take(place);
-        if self.dead.has(&Kind::of(&self.taken, &state)) {
+        let count = self.path.places().len() + 1;
+        if self.dead.has(&Kind::of(count, &self.taken, &state)) {
             self.taken.give_back(place);
             return Ok(false);
         }
@@ -92,7 +93,9 @@ impl Search {
             → MatchOption result (IsBarren t (length self.new.longest.items) [])
             (λ place. IsUnderWay t (place + 1) self.new) }
     {
-        self.dead.note(Kind::of(&self.taken, self.path.state()));
+        let count = self.path.places().len();
+        let kind = Kind::of(count, &self.taken, self.path.state());
+        self.dead.note(kind);
         let place = self.path.pop(seen)?;
         self.taken.give_back(place);
         self.shared = self.shared.min(self.path.places().len());
