@@ -2,3 +2,5 @@
 pub mod Tried
 -- beginnings of one kind: `search::Search::enter` and `leave`
 pub mod SameKind
+-- a search ends: `search::Search::run`
+pub mod Ranks

@@ -1,5 +1,5 @@
 //! Which places can come next.
-ghost use Rattle.std.specs.Prelude.{◌≡◌, ◌<◌, ◌≤◌, ℕ, List, true, All, IfErr, IfOk, length, reverse};
+ghost use Rattle.std.specs.Prelude.{◌≡◌, ◌<◌, ◌≤◌, ℕ, List, true, All, IfErr, IfOk, IfSome, length, reverse};
 ghost use Rattle.vme_model.specs.Report.{trace_limit};
 ghost use Rattle.vme_moments.specs.Orders.{AreInOrder, AreNext, IsFree};
 ghost use Rattle.vme_order.specs.Places.{AreTaken, AreUnfree, IsNextFree};
@@ -50,9 +50,11 @@ pub(crate) fn next_free(
     taken: &Taken,
     from: usize,
 ) -> Option<usize>
-    requires ascending { AreInOrder seen.now }
-    ensures { (places : List ℕ) → AreTaken seen.now places taken.now
+    requires { AreInOrder seen.now }
+    ensures next { (places : List ℕ) → AreTaken seen.now places taken.now
         → IsNextFree slacks.now seen.now places from result }
+    ensures behind { IfSome result (λ place. from ≤ place) }
+    ensures within { IfSome result (λ place. place < length seen.now) }
 {
     for place in from..seen.len() {
         if is_out_of_reach(seen, slacks, taken.least(), place) {

@@ -1,5 +1,5 @@
 //! The search for the longest legal beginning.
-ghost use Rattle.std.specs.Prelude.{◌≡◌, ◌+◌, ◌<◌, ◌≤◌, ℕ, [], Err, IfErr, IfOk, MatchOption, Ok, length, reverse, true, false};
+ghost use Rattle.std.specs.Prelude.{◌≡◌, ◌+◌, ◌<◌, ◌≤◌, ◌++◌, ◌∷◌, ℕ, [], Err, IfErr, IfOk, MatchOption, Ok, length, reverse, true, false};
 ghost use Rattle.vme_model.specs.Report.{trace_limit};
 ghost use Rattle.vme_moments.specs.Orders.{AreInOrder, HasFarPlace, IsLongest};
 ghost use Rattle.vme_order.specs.Searching.{IsBarren, IsNextIn, IsTriedOut, IsUnderWay, LeadsTo, Task};
@@ -69,6 +69,10 @@ impl Search {
         ensures passed { (t : Task) (from : ℕ) → t.seen ≡ seen.now → IsUnderWay t from self.old
             → IsNextIn t from place self.old → result ≡ Ok false
             → IsUnderWay t (place + 1) self.new }
+        ensures grown { result ≡ Ok true
+            → self.new.path.places.items ≡ self.old.path.places.items ++ place ∷ [] }
+        ensures same { result ≡ Ok false
+            → self.new.path.places.items ≡ self.old.path.places.items }
         ensures fault { IfErr result (λ fault. fault ≡ OrderFault.NoMemory) }
     {
         let mut state = *self.path.state();
@@ -88,10 +92,12 @@ impl Search {
 
     /// Goes back by a place, of which nothing longer comes.
     fn leave(&mut self, seen: &[Seen]) -> Option<usize>
-        ensures { (t : Task) (from : ℕ) → t.seen ≡ seen.now → IsUnderWay t from self.old
+        ensures left { (t : Task) (from : ℕ) → t.seen ≡ seen.now → IsUnderWay t from self.old
             → IsTriedOut t from self.old
             → MatchOption result (IsBarren t (length self.new.longest.items) [])
             (λ place. IsUnderWay t (place + 1) self.new) }
+        ensures places { MatchOption result (self.old.path.places.items ≡ [])
+            (λ place. self.old.path.places.items ≡ self.new.path.places.items ++ place ∷ []) }
     {
         let count = self.path.places().len();
         let kind = Kind::of(count, &self.taken, self.path.state());
