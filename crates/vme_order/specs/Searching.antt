@@ -1,5 +1,5 @@
 -- What a search for an order keeps of the beginnings that it has tried.
-use Rattle.std.specs.Prelude.{◌≡◌, ◌⊎◌, ◌+◌, ◌*◌, ◌/◌, ◌<◌, ◌≤◌, ◌∷◌, ℕ, true, false, List, [], Some, length, reverse, slice_index_or, take}
+use Rattle.std.specs.Prelude.{◌≡◌, ◌⊎◌, ◌+◌, ◌*◌, ◌/◌, ◌<◌, ◌≤◌, ◌∷◌, ℕ, true, false, All, List, [], Some, length, reverse, slice_index_or, take}
 use Rattle.std.specs.List.{slice_get}
 use Rattle.vme_model.specs.declared.signals.Version.{Version}
 use Rattle.vme_model.specs.Plan.{Plan}
@@ -13,7 +13,7 @@ use Rattle.vme_order.specs.declared.dead.Dead.{Dead}
 use Rattle.vme_order.specs.declared.dead.Kind.{Kind}
 use Rattle.vme_order.specs.declared.paths.Path.{Path}
 use Rattle.vme_order.specs.declared.search.Search.{Search}
-use Rattle.vme_order.specs.Places.{AreTaken}
+use Rattle.vme_order.specs.Places.{AreTaken, IsCounted}
 
 -- what is searched in
 pub record Task : Type 0 where
@@ -90,16 +90,31 @@ AreBarren t n d =
 abbrev pub newest_first : Path → List ℕ
 newest_first path = reverse path.places.items
 
+-- A path of so many places at most, each below that number, keeps a state for each 64 of them.
+pub record IsRoute (n : ℕ) (path : Path) : Type 0 where
+  pub places : All (λ p. p < n) path.places.items
+  pub count : length path.kept.items ≡ length path.places.items / 64 + 1
+
 -- the state of a path is that of its places, and the states that it keeps are those of its first 0,
 -- 64, 128 .. places
 pub record IsPathIn (t : Task) (path : Path) : Type 0 where
   pub within : (i : ℕ) → has (newest_first path) i ≡ true → i < length t.seen
   pub leads : LeadsTo t (newest_first path) path.state
-  pub count : length path.kept.items ≡ length path.places.items / 64 + 1
   pub kept : (c : ℕ) (b : BusState) → slice_get path.kept.items c ≡ Some b
       → LeadsTo t (reverse (take (64 * c) path.places.items)) b
 
 -- ---- a search
+
+-- The parts of a search in so many places fit together.
+pub record IsFit (n : ℕ) (s : Search) : Type 0 where
+  pub route : IsRoute n s.path
+  pub counted : IsCounted s.taken
+  pub room : length s.taken.flags.items ≡ n
+  pub kinds : length s.dead.kinds.items ≡ 32768
+  pub short : length s.path.places.items ≤ length s.longest.items
+  pub within : All (λ p. p < n) s.longest.items
+  pub shared_path : s.shared ≤ length s.path.places.items
+  pub shared_longest : s.shared ≤ length s.longest.items
 
 -- A search under way, where the places below that one were tried.
 pub record IsUnderWay (t : Task) (from : ℕ) (s : Search) : Type 0 where
@@ -107,17 +122,13 @@ pub record IsUnderWay (t : Task) (from : ℕ) (s : Search) : Type 0 where
   pub legal : IsLegalIn t (newest_first s.path)
   pub taken : AreTaken t.seen (newest_first s.path) s.taken
   pub near : (i : ℕ) → has (newest_first s.path) i ≡ true → i < s.taken.least + 128
-  pub room : length s.dead.kinds.items ≡ 32768
   pub barren : AreBarren t (length s.longest.items) s.dead
   pub tried : AreTried t (length s.longest.items) from (newest_first s.path)
   pub linked : AreLinked t (newest_first s.path)
-  pub short : length s.path.places.items ≤ length s.longest.items
   pub found : IsLegalIn t (reverse s.longest.items)
   pub least : (others : List ℕ) → IsLegalIn t others → length others ≡ length s.longest.items
       → ¬ IsLesser others (reverse s.longest.items)
   pub shared : take s.shared s.longest.items ≡ take s.shared s.path.places.items
-  pub shared_path : s.shared ≤ length s.path.places.items
-  pub shared_longest : s.shared ≤ length s.longest.items
 
 -- a place comes next, and none between it and those that were tried does
 pub record IsNextIn (t : Task) (from place : ℕ) (s : Search) : Type 0 where

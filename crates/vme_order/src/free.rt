@@ -2,7 +2,7 @@
 ghost use Rattle.std.specs.Prelude.{◌≡◌, ◌<◌, ◌≤◌, ℕ, List, true, All, IfErr, IfOk, IfSome, length, reverse};
 ghost use Rattle.vme_model.specs.Report.{trace_limit};
 ghost use Rattle.vme_moments.specs.Orders.{AreInOrder, AreNext, IsFree};
-ghost use Rattle.vme_order.specs.Places.{AreTaken, AreUnfree, IsNextFree};
+ghost use Rattle.vme_order.specs.Places.{AreTaken, AreUnfree, IsCounted, IsNextFree};
 ghost use Rattle.vme_order.specs.declared.taken.Taken.{Taken as TakenValue};
 
 use crate::OrderFault;
@@ -13,7 +13,9 @@ use vme_moments::{Seen, Slacks, is_before};
 /// Whether a place can come next: it was not taken, and all that came before it were.
 fn is_free(seen: &[Seen], slacks: &Slacks, taken: &Taken, place: usize) -> bool
     requires ascending { AreInOrder seen.now }
+    requires counted { IsCounted taken.now }
     requires within { place < length seen.now }
+    ensures new { result ≡ true → taken.now.least ≤ place }
     ensures free { (places : List ℕ) → AreTaken seen.now places taken.now → result ≡ true
         → IsFree slacks.now seen.now places place }
     ensures all { (places : List ℕ) → AreTaken seen.now places taken.now
@@ -50,11 +52,14 @@ pub(crate) fn next_free(
     taken: &Taken,
     from: usize,
 ) -> Option<usize>
-    requires { AreInOrder seen.now }
+    requires ascending { AreInOrder seen.now }
+    requires counted { IsCounted taken.now }
+    requires room { length taken.now.flags.items ≡ length seen.now }
     ensures next { (places : List ℕ) → AreTaken seen.now places taken.now
         → IsNextFree slacks.now seen.now places from result }
     ensures behind { IfSome result (λ place. from ≤ place) }
     ensures within { IfSome result (λ place. place < length seen.now) }
+    ensures least { IfSome result (λ place. taken.now.least ≤ place) }
 {
     for place in from..seen.len() {
         if is_out_of_reach(seen, slacks, taken.least(), place) {

@@ -1,7 +1,7 @@
 //! A beginning, and the states that its edges lead to.
-ghost use Rattle.std.specs.Prelude.{◌≡◌, ◌^◌, ◌<◌, ◌≤◌, ◌++◌, ◌∷◌, [], length, IfErr, IfOk, MatchOption, OnOk, reverse};
+ghost use Rattle.std.specs.Prelude.{ℕ, ◌≡◌, ◌^◌, ◌<◌, ◌≤◌, ◌++◌, ◌∷◌, [], length, IfErr, IfOk, MatchOption, OnOk, reverse};
 ghost use Rattle.vme_model.specs.Report.{trace_limit};
-ghost use Rattle.vme_order.specs.Searching.{IsLegalIn, IsPathIn, LeadsTo, Task, newest_first};
+ghost use Rattle.vme_order.specs.Searching.{IsLegalIn, IsPathIn, IsRoute, LeadsTo, Task, newest_first};
 
 use crate::OrderFault;
 use std::alloc::Global;
@@ -24,6 +24,7 @@ pub(crate) struct Path {
 impl Path {
     /// The one without an edge.
     pub(crate) fn new(alloc: Global, state: BusState) -> Result<Path, OrderFault>
+        ensures route { (n : ℕ) → IfOk result (IsRoute n) }
         ensures path { (t : Task) → LeadsTo t [] state → IfOk result (IsPathIn t) }
         ensures empty { IfOk result (λ path. path.places.items ≡ []) }
         ensures fault { IfErr result (λ fault. fault ≡ OrderFault.NoMemory) }
@@ -57,6 +58,7 @@ impl Path {
     /// Adds a place, whose edge leads to this state.
     pub(crate) fn push(&mut self, place: usize, state: BusState) -> Result<(), OrderFault>
         requires { place < trace_limit }
+        ensures route { (n : ℕ) → IsRoute n self.old → place < n → OnOk result (IsRoute n self.new) }
         ensures path { (t : Task) → IsPathIn t self.old → place < length t.seen
             → LeadsTo t (place ∷ newest_first self.old) state → OnOk result (IsPathIn t self.new) }
         ensures places { OnOk result
@@ -76,6 +78,8 @@ impl Path {
 
     /// Takes the last place away, if there is one.
     pub(crate) fn pop(&mut self, seen: &[Seen]) -> Option<usize>
+        requires { IsRoute (length seen.now) self.old }
+        ensures route { IsRoute (length seen.now) self.new }
         ensures path { (t : Task) → t.seen ≡ seen.now → IsPathIn t self.old
             → IsLegalIn t (newest_first self.old) → IsPathIn t self.new }
         ensures places { MatchOption result (self.old.places.items ≡ [])

@@ -1,8 +1,8 @@
 //! The search for the longest legal beginning.
-ghost use Rattle.std.specs.Prelude.{◌≡◌, ◌+◌, ◌<◌, ◌≤◌, ◌++◌, ◌∷◌, ℕ, [], Err, IfErr, IfOk, MatchOption, Ok, length, reverse, true, false};
+ghost use Rattle.std.specs.Prelude.{◌≡◌, ◌+◌, ◌<◌, ◌≤◌, ◌++◌, ◌∷◌, ℕ, [], All, Err, IfErr, IfOk, MatchOption, Ok, OnOk, length, reverse, take, true, false};
 ghost use Rattle.vme_model.specs.Report.{trace_limit};
 ghost use Rattle.vme_moments.specs.Orders.{AreInOrder, HasFarPlace, IsLongest};
-ghost use Rattle.vme_order.specs.Searching.{IsBarren, IsNextIn, IsTriedOut, IsUnderWay, LeadsTo, Task};
+ghost use Rattle.vme_order.specs.Searching.{IsBarren, IsFit, IsNextIn, IsTriedOut, IsUnderWay, LeadsTo, Task};
 
 use crate::dead::{Dead, Kind};
 use crate::free::next_free;
@@ -32,6 +32,7 @@ struct Search {
 impl Search {
     /// Before the first edge.
     fn new(alloc: Global, start: BusState, places: usize) -> Result<Search, OrderFault>
+        ensures fit { IfOk result (IsFit places) }
         ensures under_way { (t : Task) → LeadsTo t [] start → places ≡ length t.seen
             → IfOk result (IsUnderWay t 0) }
         ensures fault { IfErr result (λ fault. fault ≡ OrderFault.NoMemory) }
@@ -46,7 +47,22 @@ impl Search {
     }
 
     /// Keeps the path where it is longer than the longest so far.
-    fn keep_longest(&mut self) -> Result<(), OrderFault> {
+    fn keep_longest(&mut self) -> Result<(), OrderFault>
+        requires path { self.old.shared ≤ length self.old.path.places.items }
+        requires longest { self.old.shared ≤ length self.old.longest.items }
+        requires next { length self.old.path.places.items ≤ length self.old.longest.items + 1 }
+        ensures path { self.new.path ≡ self.old.path }
+        ensures taken { self.new.taken ≡ self.old.taken }
+        ensures dead { self.new.dead ≡ self.old.dead }
+        ensures kept { length self.old.path.places.items ≤ length self.old.longest.items
+            → self.new ≡ self.old }
+        ensures longer { length self.old.longest.items < length self.old.path.places.items
+            → take self.old.shared self.old.longest.items
+            ≡ take self.old.shared self.old.path.places.items
+            → OnOk result ((self.new.longest.items ≡ self.old.path.places.items)
+            × (self.new.shared ≡ length self.old.path.places.items)) }
+        ensures fault { IfErr result (λ fault. fault ≡ OrderFault.NoMemory) }
+    {
         if self.path.places().len() <= self.longest.len() {
             return Ok(());
         }
@@ -63,7 +79,10 @@ impl Search {
     /// Goes on with a place that can come next, where its edge is allowed and something longer may
     /// come of it.
     fn enter(&mut self, seen: &[Seen], place: usize) -> Result<bool, OrderFault>
-        requires { place < length seen.now }
+        requires fit { IsFit (length seen.now) self.old }
+        requires few { length seen.now ≤ trace_limit }
+        requires within { place < length seen.now }
+        ensures fit { OnOk result (IsFit (length seen.now) self.new) }
         ensures entered { (t : Task) (from : ℕ) → t.seen ≡ seen.now → IsUnderWay t from self.old
             → IsNextIn t from place self.old → result ≡ Ok true → IsUnderWay t 0 self.new }
         ensures passed { (t : Task) (from : ℕ) → t.seen ≡ seen.now → IsUnderWay t from self.old
@@ -92,6 +111,9 @@ impl Search {
 
     /// Goes back by a place, of which nothing longer comes.
     fn leave(&mut self, seen: &[Seen]) -> Option<usize>
+        requires { IsFit (length seen.now) self.old }
+        ensures fit { IsFit (length seen.now) self.new }
+        ensures longest { self.new.longest ≡ self.old.longest }
         ensures left { (t : Task) (from : ℕ) → t.seen ≡ seen.now → IsUnderWay t from self.old
             → IsTriedOut t from self.old
             → MatchOption result (IsBarren t (length self.new.longest.items) [])
@@ -110,7 +132,10 @@ impl Search {
 
     /// Searches until a beginning has all places, or none is left that may be longer.
     fn run(&mut self, seen: &[Seen], slacks: &Slacks) -> Result<(), OrderFault>
-        requires { AreInOrder seen.now }
+        requires fit { IsFit (length seen.now) self.old }
+        requires few { length seen.now ≤ trace_limit }
+        requires ascending { AreInOrder seen.now }
+        ensures within { OnOk result (All (λ p. p < length seen.now) self.new.longest.items) }
         ensures longest { (t : Task) → t.seen ≡ seen.now → t.slacks ≡ slacks.now
             → IsUnderWay t 0 self.old
             → IfOk result (λ _. IsLongest t.version t.plan t.slacks t.seen
@@ -156,6 +181,7 @@ pub fn longest(
 ) -> Result<Vec<u32>, OrderFault>
     requires few { length seen.now ≤ trace_limit }
     requires ascending { AreInOrder seen.now }
+    ensures within { IfOk result (λ order. All (λ p. p < length seen.now) order.items) }
     ensures longest { IfOk result (λ order.
         IsLongest version plan.now slacks.now seen.now (reverse order.items)) }
     ensures many { result ≡ Err OrderFault.TooManyOrders
