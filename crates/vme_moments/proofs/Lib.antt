@@ -6,3 +6,5 @@ pub mod Earlier
 pub mod CutRuns
 -- line by line and byte by byte: `reader::Reader::take_line` and its like
 pub mod ReaderSteps
+-- a reader takes bytes: `reader::Reader::take`, `feed` and their like
+pub mod TakenBytes
