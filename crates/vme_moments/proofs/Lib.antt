@@ -1,5 +1,5 @@
 -- the number that digits spell: `numbers::number_of`
-pub mod Numerals
+pub mod Spelled
 -- what one part made, and what slack allows: `laws`
 pub mod Earlier
 -- an order of a list that was cut into moments: `laws::a_legal_run_has_an_order`
@@ -8,3 +8,5 @@ pub mod CutRuns
 pub mod ReaderSteps
 -- a reader takes bytes: `reader::Reader::take`, `feed` and their like
 pub mod TakenBytes
+-- no slack is greater than the greatest: `slacks::Slacks::greatest`
+pub mod Greatest

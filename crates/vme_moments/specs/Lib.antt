@@ -12,3 +12,5 @@ pub mod Reading
 pub mod Cuts
 -- words: what a reader does with lines and bytes
 pub mod Taking
+-- words: the number that a text spells
+pub mod Numerals

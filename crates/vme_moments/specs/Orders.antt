@@ -50,8 +50,8 @@ pub record IsLegalBeginning (version : Version) (p : Plan) (x : Slacks) (ms : Li
 -- the lesser number.
 abbrev pub IsLesser : List ℕ → List ℕ → Type 0
 IsLesser [] others = ⊥
-IsLesser (a ∷ as) [] = ⊥
-IsLesser (a ∷ as) (b ∷ bs) = IsLesser as bs ⊎ ((as ≡ bs) × (a < b))
+IsLesser (i ∷ places) [] = ⊥
+IsLesser (i ∷ places) (j ∷ others) = IsLesser places others ⊎ ((places ≡ others) × (i < j))
 
 -- The longest legal beginning, and of those of its length the least. It is an order, and then the
 -- least legal one, where it has all places; else there is no legal order.
@@ -79,14 +79,13 @@ abbrev pub AreInOrder : List Seen → Type 0
 AreInOrder ms = (i j : ℕ) (a b : Seen) → i < j → slice_get ms i ≡ Some a → slice_get ms j ≡ Some b
     → a.moment ≤ b.moment
 
--- After a legal beginning a place can come next that is greater by 128 or more than the least that
--- is not in it.
+-- A legal beginning goes on legally with a place that is greater by 128 or more than the least that is
+-- not in it.
 pub record HasFarPlace (version : Version) (p : Plan) (x : Slacks) (ms : List Seen) : Type 0 where
   pub places : List ℕ
-  pub legal : IsLegalBeginning version p x ms places
   pub least : ℕ
   pub missing : has places least ≡ false
   pub below : (i : ℕ) → i < least → has places i ≡ true
   pub far : ℕ
-  pub free : IsFree x ms places far
   pub is_far : least + 128 ≤ far
+  pub legal : IsLegalBeginning version p x ms (far ∷ places)

@@ -1,16 +1,39 @@
 //! The line of a moment.
-ghost use Rattle.std.specs.Prelude.{◌≡◌};
+ghost use Rattle.std.specs.Prelude.{◌≡◌, ◌≢◌, ◌<◌, ◌^◌, ℕ, MatchOption, true, false, decimal, length, slice_index};
 ghost use Rattle.vme_moments.specs.Moments.{moment_of, number_of};
+ghost use Rattle.vme_moments.specs.Numerals.{IsNumber};
 
 use std::str;
+
+/// Whether digits have neither a sign nor a leading zero.
+fn is_plain(digits: &[u8]) -> bool
+    ensures unsigned { result ≡ true → slice_index digits.now 0 ≢ 43 }
+    ensures short { result ≡ true → slice_index digits.now 0 ≡ 48 → length digits.now ≡ 1 }
+    ensures other { result ≡ false → (n : ℕ) → n < 2 ^ 64 → digits.now ≢ decimal n }
+{
+    match digits {
+        [b'+', ..] | [b'0', _, ..] => false,
+        _ => true,
+    }
+}
+
+/// The number that a text spells.
+fn number_in(text: &str) -> Option<u64>
+    ensures { MatchOption result ((n : ℕ) → ¬ (IsNumber text.now n)) (λ n. IsNumber text.now n) }
+{
+    text.parse().ok()
+}
 
 /// The number that digits spell, without a sign or a leading zero, where it has room in 64 bits.
 fn number_of(digits: &[u8]) -> Option<u64>
     ensures { result ≡ number_of digits.now }
 {
-    match digits {
-        [b'+', ..] | [b'0', _, ..] => None,
-        _ => str::from_utf8(digits).ok()?.parse().ok(),
+    if !is_plain(digits) {
+        return None;
+    }
+    match str::from_utf8(digits) {
+        Ok(text) => number_in(text),
+        Err(_) => None,
     }
 }
 

@@ -243,9 +243,9 @@ kind_barren t n next path q tried none kind short =
 
 -- ---- what is lesser was tried
 
-lesser_nothing : (as : List ℕ) → IsLesser as [] → ⊥
+lesser_nothing : (front : List ℕ) → IsLesser front [] → ⊥
 lesser_nothing [] h = h
-lesser_nothing (a ∷ as) h = h
+lesser_nothing (a ∷ front) h = h
 
 -- of what goes on from a lesser list than a path, nothing longer comes
 pub lesser_tried : (t : Task) (n next : ℕ) (path : List ℕ) → AreTried t n next path

@@ -134,7 +134,6 @@ pub record IsUnderWay (t : Task) (from : ℕ) (s : Search) : Type 0 where
 pub record IsNextIn (t : Task) (from place : ℕ) (s : Search) : Type 0 where
   pub behind : from ≤ place
   pub free : IsFree t.slacks t.seen (newest_first s.path) place
-  pub near : place < s.taken.least + 128
   pub least : (j : ℕ) → from ≤ j → j < place → IsFree t.slacks t.seen (newest_first s.path) j → ⊥
 
 -- no place is left to try

@@ -82,6 +82,7 @@ impl Search {
         requires fit { IsFit (length seen.now) self.old }
         requires few { length seen.now ≤ trace_limit }
         requires within { place < length seen.now }
+        requires least { self.old.taken.least ≤ place }
         ensures fit { OnOk result (IsFit (length seen.now) self.new) }
         ensures entered { (t : Task) (from : ℕ) → t.seen ≡ seen.now → IsUnderWay t from self.old
             → IsNextIn t from place self.old → result ≡ Ok true → IsUnderWay t 0 self.new }
@@ -92,11 +93,16 @@ impl Search {
             → self.new.path.places.items ≡ self.old.path.places.items ++ place ∷ [] }
         ensures same { result ≡ Ok false
             → self.new.path.places.items ≡ self.old.path.places.items }
-        ensures fault { IfErr result (λ fault. fault ≡ OrderFault.NoMemory) }
+        ensures far { (t : Task) (from : ℕ) → t.seen ≡ seen.now → IsUnderWay t from self.old
+            → IsNextIn t from place self.old → result ≡ Err OrderFault.TooManyOrders
+            → HasFarPlace t.version t.plan t.slacks t.seen }
     {
         let mut state = *self.path.state();
         if state.step(seen[place].edge).is_err() {
             return Ok(false);
+        }
+        if place - self.taken.least() >= WINDOW {
+            return Err(OrderFault::TooManyOrders);
         }
         self.taken.take(place);
         let count = self.path.places().len() + 1;
@@ -148,9 +154,6 @@ impl Search {
         let mut from = 0;
         'places: while self.longest.len() < seen.len() {
             match next_free(seen, slacks, &self.taken, from) {
-                Some(place) if place - self.taken.least() >= WINDOW => {
-                    return Err(OrderFault::TooManyOrders);
-                }
                 Some(place) => {
                     if self.enter(seen, place)? {
                         from = self.taken.least();
@@ -170,7 +173,7 @@ impl Search {
 
 /// The longest legal beginning, and of those of its length the least.
 ///
-/// Errors: F5 where a place that can come next after a legal beginning is greater by 128 or more than
+/// Errors: F5 where a legal beginning goes on legally with a place that is greater by 128 or more than
 /// the least that is not in it; F3.
 pub fn longest(
     alloc: Global,
