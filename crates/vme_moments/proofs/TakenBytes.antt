@@ -1,5 +1,5 @@
 -- A reader of moments takes bytes.
-use Rattle.std.proofs.Common.{◌≡◌, ◌≢◌, ◌⊎◌, inl, inr, ◌<◌, ◌≤◌, ◌+◌, ◌++◌, ◌∷◌, [], ℕ, Bool, true, false, List, Option, Some, None, Result, Ok, Err, length, option_map, refl, sym, ◌∙◌, ap, subst, arith, append_assoc, append-nil, length-append}
+use Rattle.std.proofs.Common.{◌≡◌, ◌≢◌, ◌⊎◌, inl, inr, ◌<◌, ◌≤◌, ◌+◌, ◌++◌, ◌∷◌, [], ℕ, Bool, true, false, List, Option, Some, None, Result, Ok, Err, is_none, length, option_map, refl, sym, ◌∙◌, ap, subst, arith, append_assoc, append-nil, length-append}
 use Rattle.vme_model.specs.declared.signals.Version.{Version}
 use Rattle.vme_model.specs.Text.{no_header, too_long, split_lines, next_number, version_of}
 use Rattle.vme_trace.specs.Reading.{IsPart}
@@ -12,7 +12,10 @@ use Rattle.vme_moments.specs.Moments.{Reading, Said, of_trace, before_others, be
 use Rattle.vme_moments.specs.Moments as said
 use Rattle.vme_moments.specs.Reading.{fault_of}
 use Rattle.vme_moments.specs.Taking.{HasNoRoom, IsFault, IsSound, Says, SaysOn, Takes, after, rest_at, rest_of}
-use Rattle.vme_moments.proofs.ReaderSteps.{line_step, said_step, fault_step, many_step}
+use Rattle.vme_trace.proofs.Lines.{IsOneLine-append, no_bytes}
+use Rattle.vme_trace.specs.Reading.{IsOneLine}
+use Rattle.vme_model.specs.Text.{cut_off}
+use Rattle.vme_moments.proofs.ReaderSteps.{line_step, said_step, fault_step, many_step, header_step, header_missed, long_step, end_cut, end_absent, end_whole}
 
 -- nothing was taken yet
 pub taken_none : (r : Reader) → IsSound r → Takes r [] r (Ok tt)
@@ -85,3 +88,149 @@ line_many old v s named part full some says more =
     (line_step v old.line old.last old.seen.items old.part.items more part)
     ∙ rw says (many_step v old.seen.items s
     (λ m. read_seen (next_number old.line) m (split_lines more).0 (split_lines more).1) full some))
+
+-- ---- the header line
+
+some_none : (v : Version) → (let o : Option Version = Some v in o ≡ None) → ⊥
+some_none v h = cc
+
+no_part : (part : List ℕ) → part ≡ [] → IsPart part
+no_part [] h = record { one_line = tt; short = omega arith }
+no_part (b ∷ part) h = absurd (some_bytes b part h)
+  where
+  some_bytes : (b : ℕ) (part : List ℕ) → (b ∷ part) ≡ [] → ⊥
+  some_bytes b part h = cc
+
+-- a reader behind the header stands well
+named_sound : (new : Reader) (v : Version) → new.version ≡ Some v → new.part.items ≡ []
+    → length new.seen.items ≤ seen_limit → IsSound new
+named_sound new v named empty few = record {
+  part = no_part new.part.items empty;
+  few = few;
+  first_line = λ h. absurd (some_none v (sym named ∙ h));
+  first_last = λ h. absurd (some_none v (sym named ∙ h));
+  first_seen = λ h. absurd (some_none v (sym named ∙ h));
+}
+
+pub header_sound : (old new : Reader) (v : Version) → IsSound old → new.part.items ≡ []
+    → new.version ≡ Some v → new.seen.items ≡ old.seen.items → IsSound new
+header_sound old new v sound empty named seen =
+    named_sound new v named empty (subst (λ (l : List Seen). length l ≤ seen_limit) (sym seen) sound.few)
+
+pub header_taken : (old new : Reader) (v : Version) → IsSound old → old.version ≡ None
+    → version_of old.part.items ≡ Some v → new.part.items ≡ [] → new.version ≡ Some v
+    → new.line ≡ next_number old.line → new.last ≡ old.last → new.seen.items ≡ old.seen.items
+    → (more : List ℕ) → rest_of old (10 ∷ more) ≡ rest_of new more
+header_taken old new v sound unnamed is empty named line last seen more =
+    let one : new.line ≡ 2 = line ∙ ap next_number (sound.first_line unnamed) in
+    let none : new.last ≡ None = last ∙ sound.first_last unnamed in
+    let nothing : new.seen.items ≡ [] = seen ∙ sound.first_seen unnamed in
+    rw (unnamed, named, one, none, nothing, empty)
+    (header_step v old.line old.last old.seen.items old.part.items more sound.part is)
+
+pub header_absent : (old : Reader) → IsSound old → old.version ≡ None
+    → version_of old.part.items ≡ None → (more : List ℕ)
+    → option_map fault_of (rest_of old (10 ∷ more)).fault ≡ Some (Trace trace.Header)
+header_absent old sound unnamed is more =
+    rw unnamed (ap (λ (o : Option said.MomentsFault). option_map fault_of o)
+    (header_missed old.line old.last old.seen.items old.part.items more sound.part is))
+
+-- ---- a line behind the header
+
+some_version : (o : Option Version) → is_none o ≡ false → (v : Version) × (o ≡ Some v)
+some_version None h = absurd (true_not h)
+  where
+  true_not : true ≡ false → ⊥
+  true_not h = cc
+some_version (Some v) h = (v, refl)
+
+other_at : (old new : Reader) (v : Version) (r : Result Said said.MomentsFault) (f : MomentsFault)
+    → IsSound old → old.version ≡ Some v → line_says old.line old.last old.part.items ≡ r
+    → Says r old new (Err f) → (more : List ℕ) → IsFault (rest_of old (10 ∷ more)) f
+other_at old new v (Ok s) f sound named is (inl none) more =
+    subst (λ (g : MomentsFault). IsFault (rest_of old (10 ∷ more)) g) (sym none) tt
+other_at old new v (Ok s) f sound named is (inr many) more =
+    subst (λ (g : MomentsFault). IsFault (rest_of old (10 ∷ more)) g) (sym many.0)
+    (is_fault (rest_of old (10 ∷ more)) too_many
+    (line_many old v s named sound.part many.1 many.2 is more))
+other_at old new v (Err g) f sound named is same more =
+    subst (λ (h : MomentsFault). IsFault (rest_of old (10 ∷ more)) h) same
+    (is_fault (rest_of old (10 ∷ more)) g (line_faulty old v g named sound.part sound.few is more))
+
+pub other_faulty : (old new : Reader) (f : MomentsFault) → IsSound old → is_none old.version ≡ false
+    → Says (line_says old.line old.last old.part.items) old new (Err f)
+    → (more : List ℕ) → IsFault (rest_of old (10 ∷ more)) f
+other_faulty old new f sound some says =
+    let v = some_version old.version some in
+    other_at old new v.0 (line_says old.line old.last old.part.items) f sound v.1 refl says
+
+other_on : (old mid new : Reader) (v : Version) (r : Result Said said.MomentsFault)
+    → IsSound old → old.version ≡ Some v → line_says old.line old.last old.part.items ≡ r
+    → Says r old mid (Ok tt) → new.part.items ≡ [] → new.version ≡ mid.version
+    → new.line ≡ next_number mid.line → new.last ≡ mid.last → new.seen.items ≡ mid.seen.items
+    → Takes old (10 ∷ []) new (Ok tt)
+other_on old mid new v (Ok s) sound named is says empty version line last seen =
+    let name : new.version ≡ Some v = version ∙ says.version ∙ named in
+    (named_sound new v name empty
+    (subst (λ (l : List Seen). length l ≤ seen_limit) (sym seen) (says.few sound.few)),
+    λ more. line_taken old new v s named sound.part is name
+    (line ∙ ap next_number says.line) empty (last ∙ says.last) (seen ∙ says.seen) more)
+other_on old mid new v (Err g) sound named is says empty version line last seen = absurd says
+
+pub other_taken : (old mid new : Reader) → IsSound old → is_none old.version ≡ false
+    → Says (line_says old.line old.last old.part.items) old mid (Ok tt) → new.part.items ≡ []
+    → new.version ≡ mid.version → new.line ≡ next_number mid.line → new.last ≡ mid.last
+    → new.seen.items ≡ mid.seen.items → Takes old (10 ∷ []) new (Ok tt)
+other_taken old mid new sound some says =
+    let v = some_version old.version some in
+    other_on old mid new v.0 (line_says old.line old.last old.part.items) sound v.1 refl says
+
+-- ---- a byte
+
+pub byte_sound : (old new : Reader) (b : ℕ) → IsSound old → (b ≡ 10 → ⊥)
+    → new.version ≡ old.version → new.line ≡ old.line → new.last ≡ old.last
+    → new.seen.items ≡ old.seen.items → new.part.items ≡ old.part.items ++ b ∷ []
+    → length new.part.items ≤ 64 → IsSound new
+byte_sound old new b sound other version line last seen part short = record {
+  part = record {
+    one_line = subst (λ (l : List ℕ). IsOneLine l) (sym part)
+        (IsOneLine-append old.part.items (b ∷ []) sound.part.one_line (other, tt));
+    short = short;
+  };
+  few = subst (λ (l : List Seen). length l ≤ seen_limit) (sym seen) sound.few;
+  first_line = λ h. line ∙ sound.first_line (sym version ∙ h);
+  first_last = λ h. last ∙ sound.first_last (sym version ∙ h);
+  first_seen = λ h. seen ∙ sound.first_seen (sym version ∙ h);
+}
+
+pub byte_too_long : (old : Reader) (b : ℕ) → IsSound old → (b ≡ 10 → ⊥) → 64 ≤ length old.part.items
+    → (more : List ℕ)
+    → option_map fault_of (rest_of old (b ∷ more)).fault ≡ Some (Trace (trace.TooLong old.line))
+byte_too_long old b sound other full more =
+    ap (λ (o : Option said.MomentsFault). option_map fault_of o)
+    (long_step old.version old.line old.last old.seen.items old.part.items more b sound.few
+    sound.first_line sound.part.one_line other full)
+
+-- ---- the end
+
+pub ends_cut : (r : Reader) → IsSound r → 0 < length r.part.items
+    → option_map fault_of (rest_of r []).fault ≡ Some (Trace trace.CutOff)
+ends_cut r sound some =
+    ap (λ (o : Option said.MomentsFault). option_map fault_of o)
+    (end_cut r.version r.line r.last r.seen.items r.part.items sound.few sound.part some)
+
+pub ends_whole : (r : Reader) (v : Version) → IsSound r → length r.part.items ≡ 0
+    → r.version ≡ Some v → ((rest_of r []).version ≡ Some v)
+    × ((rest_of r []).seen ≡ r.seen.items) × ((rest_of r []).fault ≡ None)
+ends_whole r v sound none named =
+    let whole : rest_of r [] ≡ record { version = Some v; seen = r.seen.items; fault = None } =
+        rw (named, no_bytes r.part.items none) (end_whole v r.line r.last r.seen.items sound.few) in
+    (ap (λ (x : Reading). x.version) whole, ap (λ (x : Reading). x.seen) whole,
+    ap (λ (x : Reading). x.fault) whole)
+
+pub ends_absent : (r : Reader) → IsSound r → length r.part.items ≡ 0 → r.version ≡ None
+    → option_map fault_of (rest_of r []).fault ≡ Some (Trace trace.Header)
+ends_absent r sound none unnamed =
+    rw (unnamed, no_bytes r.part.items none)
+    (ap (λ (o : Option said.MomentsFault). option_map fault_of o)
+    (end_absent r.line r.last r.seen.items))

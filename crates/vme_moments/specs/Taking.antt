@@ -1,8 +1,6 @@
 -- What a reader of moments does with lines and bytes.
-use Rattle.std.specs.Prelude.{◌≡◌, ◌≢◌, ◌⊎◌, ◌<◌, ◌≤◌, ◌++◌, ◌∷◌, [], ℕ, List, All, IsTrue, Option, Some, None, Result, Ok, Err, length, option_map}
+use Rattle.std.specs.Prelude.{◌≡◌, ◌⊎◌, ◌<◌, ◌≤◌, ◌++◌, ◌∷◌, [], ℕ, List, Option, Some, None, Result, Ok, Err, length, option_map}
 use Rattle.vme_model.specs.declared.signals.Version.{Version}
-use Rattle.std.specs.List.{slice_get}
-use Rattle.vme_model.specs.Signals.{is_well_formed}
 use Rattle.vme_model.specs.Text.{split_lines}
 use Rattle.vme_trace.specs.Reading.{IsPart}
 use Rattle.vme_trace.specs.declared.Fault.TheVariants as trace
@@ -13,20 +11,10 @@ use Rattle.vme_moments.specs.declared.reader.Moments.{Moments}
 use Rattle.vme_moments.specs.declared.reader.Reader.{Reader}
 use Rattle.vme_moments.specs.Moments.{Reading, Said, behind_header, read_from_header, read_seen, seen_limit}
 use Rattle.vme_moments.specs.Moments as said
-use Rattle.vme_moments.specs.Orders.{AreInOrder}
 use Rattle.vme_moments.specs.Reading.{fault_of}
-
--- what a reader has seen so far: well-formed edges at moments that do not fall, up to the last
-pub record IsSeenSoFar (r : Reader) : Type 0 where
-  pub formed : All (λ s. IsTrue (is_well_formed s.edge)) r.seen.items
-  pub ordered : AreInOrder r.seen.items
-  pub below : (i m : ℕ) (s : Seen) → r.last ≡ Some m → slice_get r.seen.items i ≡ Some s
-      → s.moment ≤ m
-  pub begun : (i : ℕ) (s : Seen) → slice_get r.seen.items i ≡ Some s → r.last ≢ None
 
 -- a reader between two bytes: no fault stands in what it has read
 pub record IsSound (r : Reader) : Type 0 where
-  pub so_far : IsSeenSoFar r
   pub part : IsPart r.part.items
   pub few : length r.seen.items ≤ seen_limit
   pub first_line : r.version ≡ None → r.line ≡ 1

@@ -11,10 +11,13 @@ fn is_plain(digits: &[u8]) -> bool
     ensures short { result ≡ true → slice_index digits.now 0 ≡ 48 → length digits.now ≡ 1 }
     ensures other { result ≡ false → (n : ℕ) → n < 2 ^ 64 → digits.now ≢ decimal n }
 {
-    match digits {
-        [b'+', ..] | [b'0', _, ..] => false,
-        _ => true,
+    if digits.is_empty() {
+        return true;
     }
+    if digits[0] == b'+' {
+        return false;
+    }
+    digits[0] != b'0' || digits.len() == 1
 }
 
 /// The number that a text spells.
