@@ -10,3 +10,5 @@ pub mod ReaderSteps
 pub mod TakenBytes
 -- no slack is greater than the greatest: `slacks::Slacks::greatest`
 pub mod Greatest
+-- what is read stands in order: `reader::read_moments`
+pub mod InOrder

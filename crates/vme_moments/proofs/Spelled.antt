@@ -1,11 +1,11 @@
 -- The number that digits spell.
-use Rattle.std.proofs.Common.{◌≡◌, ◌≢◌, ◌&&◌, ◌<◌, ◌≤◌, ◌^◌, ℕ, Bool, true, false, eqb, ltb, cond, List, [], ◌∷◌, Option, Some, None, MatchOption, length, get_or, refl, sym, ◌∙◌, ap, subst, arith}
+use Rattle.std.proofs.Common.{◌≡◌, ◌≢◌, ◌&&◌, ◌<◌, ◌≤◌, ◌^◌, ℕ, Bool, true, false, eqb, ltb, cond, List, [], ◌∷◌, Option, Some, None, MatchOption, length, get_or, zero, suc, refl, sym, ◌∙◌, ap, subst, arith}
 use Rattle.std.specs.Prelude.{decimal}
 use Rattle.std.specs.Int.{IsInRange}
 use Rattle.std.specs.Str.{IsUtf8}
 use Rattle.std.proofs.lemmas.Str.{IsUtf8-from_ascii}
 use Rattle.std.proofs.lemmas.Bool.Decides.{nat_tests}
-use Rattle.std.proofs.lemmas.Fmt.{IsAscii-decimal, decimal-digits_value, decimal_is_IsNumeral}
+use Rattle.std.proofs.lemmas.Fmt.{IsAscii-decimal, decimal-digits_value, decimal_digit, decimal_is_IsNumeral, first_decimal}
 use Rattle.std.proofs.lemmas.Slice.Eq.{bytes_eq-Decides}
 use Rattle.std.proofs.lemmas.Str.Parse.{IsNumeralModel, not_in_digits, numerals_by_value, tells_digits, without_leading_plus_none}
 use Rattle.std.specs.Str.{bytes_eq}
@@ -89,8 +89,26 @@ no_text ds none =
 pub not_plain : (ds : List ℕ) → ((n : ℕ) → n < 2 ^ 64 → ds ≢ decimal n) → None ≡ number_of ds
 not_plain ds none = sym (number_missed ds none)
 
-plus_decimal : (ds rest : List ℕ) (n : ℕ) → n < 2 ^ 64 → ds ≡ 43 ∷ rest → ds ≢ decimal n
-plus_decimal ds rest n small is same =
+-- no number in decimal begins with a plus
+pub plus_decimal : (ds : List ℕ) (n : ℕ) → n < 2 ^ 64 → get_or ds 0 0 ≡ 43 → ds ≢ decimal n
+plus_decimal ds n small is same =
     let spelled = decimal_is_IsNumeral n small in
-    let first : get_or (decimal n) 0 0 ≡ 43 = ap (λ (l : List ℕ). get_or l 0 0) (sym same ∙ is) in
+    let first : get_or (decimal n) 0 0 ≡ 43 =
+        sym (ap (λ (l : List ℕ). get_or l 0 0) same) ∙ is in
     not_in_digits own (decimal n) 43 spelled.0.1 no_plus_among 0 spelled.0.0 first
+
+-- no longer one begins with a zero
+pub zero_decimal : (ds : List ℕ) (n : ℕ) → n < 2 ^ 64 → get_or ds 0 0 ≡ 48 → eqb (length ds) 1 ≡ false
+    → ds ≢ decimal n
+zero_decimal ds zero small is long same =
+    let one : length ds ≡ 1 =
+        ap (λ (l : List ℕ). length l) (same ∙ decimal_digit 0 (omega arith)) in
+    absurd (not_one (length ds) one long)
+  where
+  not_one : (k : ℕ) → k ≡ 1 → eqb k 1 ≡ false → ⊥
+  not_one k h f = grind (arith, nat_tests)
+zero_decimal ds (suc n) small is long same =
+    let first : 48 < get_or (decimal (suc n)) 0 0 = first_decimal (suc n) (omega arith) small in
+    let zero_first : get_or (decimal (suc n)) 0 0 ≡ 48 =
+        sym (ap (λ (l : List ℕ). get_or l 0 0) same) ∙ is in
+    absurd (omega arith)

@@ -1,5 +1,6 @@
 -- A reader of moments takes bytes.
-use Rattle.std.proofs.Common.{◌≡◌, ◌≢◌, ◌⊎◌, inl, inr, ◌<◌, ◌≤◌, ◌+◌, ◌++◌, ◌∷◌, [], ℕ, Bool, true, false, List, Option, Some, None, Result, Ok, Err, is_none, length, option_map, refl, sym, ◌∙◌, ap, subst, arith, append_assoc, append-nil, length-append}
+use Rattle.std.proofs.Common.{◌≡◌, ◌≢◌, ◌⊎◌, inl, inr, ◌<◌, ◌≤◌, ◌+◌, ◌++◌, ◌∷◌, [], ℕ, Bool, true, false, List, Option, Some, None, Result, Ok, Err, is_some, length, option_map, refl, sym, ◌∙◌, ap, subst, arith, add-one, append_assoc, append-nil, drop, get_or, length-append, suc, take, zero}
+use Rattle.std.proofs.lemmas.List.{take_all, take_more}
 use Rattle.vme_model.specs.declared.signals.Version.{Version}
 use Rattle.vme_model.specs.Text.{no_header, too_long, split_lines, next_number, version_of}
 use Rattle.vme_trace.specs.Reading.{IsPart}
@@ -137,10 +138,10 @@ header_absent old sound unnamed is more =
 
 -- ---- a line behind the header
 
-some_version : (o : Option Version) → is_none o ≡ false → (v : Version) × (o ≡ Some v)
+some_version : (o : Option Version) → is_some o ≡ true → (v : Version) × (o ≡ Some v)
 some_version None h = absurd (true_not h)
   where
-  true_not : true ≡ false → ⊥
+  true_not : false ≡ true → ⊥
   true_not h = cc
 some_version (Some v) h = (v, refl)
 
@@ -157,7 +158,7 @@ other_at old new v (Err g) f sound named is same more =
     subst (λ (h : MomentsFault). IsFault (rest_of old (10 ∷ more)) h) same
     (is_fault (rest_of old (10 ∷ more)) g (line_faulty old v g named sound.part sound.few is more))
 
-pub other_faulty : (old new : Reader) (f : MomentsFault) → IsSound old → is_none old.version ≡ false
+pub other_faulty : (old new : Reader) (f : MomentsFault) → IsSound old → is_some old.version ≡ true
     → Says (line_says old.line old.last old.part.items) old new (Err f)
     → (more : List ℕ) → IsFault (rest_of old (10 ∷ more)) f
 other_faulty old new f sound some says =
@@ -177,7 +178,7 @@ other_on old mid new v (Ok s) sound named is says empty version line last seen =
     (line ∙ ap next_number says.line) empty (last ∙ says.last) (seen ∙ says.seen) more)
 other_on old mid new v (Err g) sound named is says empty version line last seen = absurd says
 
-pub other_taken : (old mid new : Reader) → IsSound old → is_none old.version ≡ false
+pub other_taken : (old mid new : Reader) → IsSound old → is_some old.version ≡ true
     → Says (line_says old.line old.last old.part.items) old mid (Ok tt) → new.part.items ≡ []
     → new.version ≡ mid.version → new.line ≡ next_number mid.line → new.last ≡ mid.last
     → new.seen.items ≡ mid.seen.items → Takes old (10 ∷ []) new (Ok tt)
@@ -234,3 +235,40 @@ ends_absent r sound none unnamed =
     rw (unnamed, no_bytes r.part.items none)
     (ap (λ (o : Option said.MomentsFault). option_map fault_of o)
     (end_absent r.line r.last r.seen.items))
+
+-- ---- a piece
+
+-- a piece that is read up to a byte
+cut_piece : (piece : List ℕ) (i : ℕ) → i < length piece
+    → piece ≡ take i piece ++ (get_or piece i 0 ∷ drop (i + 1) piece)
+cut_piece [] i lt = absurd (omega arith)
+cut_piece (b ∷ piece) zero lt = refl
+cut_piece (b ∷ piece) (suc i) lt =
+    rw (add-one (suc i)) (ap (λ l. b ∷ l) (cut_piece piece i (omega arith) ∙ rw (add-one i) refl))
+
+-- one byte of a piece more is taken
+pub piece_more : (old mid new : Reader) (piece : List ℕ) (i : ℕ) → i < length piece
+    → Takes old (take i piece) mid (Ok tt) → Takes mid (get_or piece i 0 ∷ []) new (Ok tt)
+    → Takes old (take (i + 1) piece) new (Ok tt)
+piece_more old mid new piece i lt first then =
+    subst (λ (l : List ℕ). Takes old l new (Ok tt)) (sym (take_more piece i 0 lt))
+    (taken_more old mid new (take i piece) (get_or piece i 0 ∷ []) first then)
+
+-- a byte of a piece is at fault
+pub piece_faulty : (old mid : Reader) (piece : List ℕ) (i : ℕ) (f : MomentsFault)
+    → i < length piece → Takes old (take i piece) mid (Ok tt)
+    → ((more : List ℕ) → IsFault (rest_of mid (get_or piece i 0 ∷ more)) f)
+    → (more : List ℕ) → IsFault (rest_of old (piece ++ more)) f
+piece_faulty old mid piece i f lt first then more =
+    let whole : piece ++ more ≡ take i piece ++ (get_or piece i 0 ∷ (drop (i + 1) piece ++ more)) =
+        ap (λ (l : List ℕ). l ++ more) (cut_piece piece i lt)
+        ∙ append_assoc (take i piece) (get_or piece i 0 ∷ drop (i + 1) piece) more in
+    subst (λ (r : Reading). IsFault r f)
+    (sym (ap (λ (l : List ℕ). rest_of old l) whole
+    ∙ first.1 (get_or piece i 0 ∷ (drop (i + 1) piece ++ more))))
+    (then (drop (i + 1) piece ++ more))
+
+pub piece_whole : (old new : Reader) (piece : List ℕ) (i : ℕ) → length piece ≤ i
+    → Takes old (take i piece) new (Ok tt) → Takes old piece new (Ok tt)
+piece_whole old new piece i h taken =
+    subst (λ (l : List ℕ). Takes old l new (Ok tt)) (take_all i piece h) taken
