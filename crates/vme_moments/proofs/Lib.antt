@@ -12,3 +12,5 @@ pub mod TakenBytes
 pub mod Greatest
 -- what is read stands in order: `reader::read_moments`
 pub mod InOrder
+-- a reader and its input: `reader::read_moments`
+pub mod InputRead

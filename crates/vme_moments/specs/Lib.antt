@@ -14,3 +14,5 @@ pub mod Cuts
 pub mod Taking
 -- words: the number that a text spells
 pub mod Numerals
+-- words: what a reader has read of its input
+pub mod Consumed

