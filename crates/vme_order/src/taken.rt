@@ -1,5 +1,5 @@
 //! Which places were taken.
-ghost use Rattle.std.specs.Prelude.{◌≡◌, ◌==◌, ◌||◌, ◌&&◌, ◌+◌, ◌<◌, ℕ, not, true, false, length, slice_index_or, IfOk, IfErr};
+ghost use Rattle.std.specs.Prelude.{◌≡◌, ◌==◌, ◌||◌, ◌&&◌, ◌+◌, ◌<◌, ◌≤◌, ℕ, not, true, false, length, slice_index_or, IfOk, IfErr};
 ghost use Rattle.vme_order.specs.Places.{IsCounted, holds};
 
 use crate::{OrderFault, WINDOW};
@@ -46,6 +46,7 @@ impl Taken {
 
     /// Counts on where the least place was taken.
     fn count_on(&mut self)
+        requires within { self.old.least ≤ length self.old.flags.items }
         requires below { (i : ℕ) → i < self.old.least → holds self.old i ≡ true }
         ensures counted { IsCounted self.new }
         ensures flags { self.new.flags.items ≡ self.old.flags.items }
