@@ -188,16 +188,12 @@ impl Reader {
 }
 
 /// Reads moments to their end.
-///
-/// Errors: the first fault of the text, X1 to X4, X10 or F6; X5 where a read failed, and X6.
-pub fn read_moments<R: Read>(alloc: Global, input: &mut R) -> Result<Moments, MomentsFault>
-    ensures reads { ReadsMoments (R.remaining input.old) (R.remaining input.new) result }
-    ensures ordered { IfOk result (λ m. AreInOrder m.seen.items) }
-    ensures few { IfOk result (λ m. length m.seen.items ≤ seen_limit) }
+fn read_all<R: Read>(alloc: Global, input: &mut R) -> Result<Moments, MomentsFault>
+    ensures { ReadsMoments (R.remaining input.old) (R.remaining input.new) result }
 {
     let mut reader = Reader::new(alloc);
     let mut buffer = [0u8; 512];
-    for _ in 0..READS {
+    'reads: for _ in 0..READS {
         let count = match read_piece(input, &mut buffer) {
             Ok(count) => count,
             Err(fault) => return Err(MomentsFault::Trace(fault)),
@@ -208,4 +204,15 @@ pub fn read_moments<R: Read>(alloc: Global, input: &mut R) -> Result<Moments, Mo
         reader.feed(&buffer[..count])?;
     }
     Err(MomentsFault::Trace(Fault::Read))
+}
+
+/// Reads moments to their end. Their edges stand in order of their moments.
+///
+/// Errors: the first fault of the text, X1 to X4, X10 or F6; X5 where a read failed, and X6.
+pub fn read_moments<R: Read>(alloc: Global, input: &mut R) -> Result<Moments, MomentsFault>
+    ensures reads { ReadsMoments (R.remaining input.old) (R.remaining input.new) result }
+    ensures ordered { IfOk result (λ m. AreInOrder m.seen.items) }
+    ensures few { IfOk result (λ m. length m.seen.items ≤ seen_limit) }
+{
+    read_all(alloc, input)
 }

@@ -1,11 +1,8 @@
-use Rattle.std.proofs.Common.{ap}
-use Rattle.vme_moments.specs.declared.MomentsFault.TheVariants.{Trace}
-use Rattle.vme_moments.proofs.InputRead.{begun, ended, faulty, fed_more, unread}
+use Rattle.vme_moments.proofs.InOrder.{result_few, result_in_order}
 use Rattle.vme_moments.proofs.reader.read_moments.Goals as goal
 
-pub loop-init : goal.loop-init
-loop-init g c = begun (g.R.Read.remaining c.args.input.now) c.new.result c.new.ensures.sound c.new.ensures.rest
+pub returns-clause-ordered : goal.returns-clause-ordered
+returns-clause-ordered g c = result_in_order _ _ _ c.read_all.ensures
 
-pub returns-in-Err-clause-reads : goal.returns-in-Err-clause-reads
-returns-in-Err-clause-reads g c =
-    unread _ _ _ (ap (λ f. Trace f) c.in-Err.ensures.fault)
+pub returns-clause-few : goal.returns-clause-few
+returns-clause-few g c = result_few _ _ _ c.read_all.ensures
