@@ -1,13 +1,15 @@
-"""`--moments` and `--orders`: moments that are drawn, a built program beside the model on them, and the model beside itself.
+"""`--moments` and `--orders`: moments that are drawn.
 
-Legal edges are cut into moments, each is seen some moments late as its driver's slack allows, and those of one moment are
-shuffled.  Many are then spoiled, so that none of their orders is legal.
+On these a built program is compared with the model, or the model's two ways to find an order with
+each other.  Legal edges are cut into moments, each is seen some moments late as its driver's slack
+allows, and those of one moment are shuffled.  Many are then spoiled, so that no order is legal.
 """
 
 import os
 import random
 import subprocess
 import tempfile
+from collections import Counter
 from pathlib import Path
 
 from . import moments
@@ -16,20 +18,27 @@ from .cases import Kept
 from .drawing import legal_edge, near_edge, plan_of, scenario_of, some, spoiled_trace
 from .drawn import SECONDS, difference
 from .faults import Fault
-from .moments import GREATEST, Moments, Seen
-from .order import Question, found, orders_by_kind, orders_by_trying, part_of, question_of
-from .program import main, scenario_of as bytes_of_scenario
+from .moments import GREATEST, Seen
+from .order import (
+    DRIVERS, Question, answer_to, orders_by_kind, orders_by_trying, part_of, question_of,
+)
+from .program import main
+from .program import scenario_of as bytes_of_scenario
 from .traces import name_of
 from .words import job_of
 
 FILES = ["scenario.toml", "moments.vme"]
 FAR = 4  # more than any slack that is drawn
-BAD_LINES = ["@0\n", "@01\n", "@\n", "@-1\n", "@+1\n", "@1 \n", f"@{GREATEST}\n", f"@{GREATEST + 1}\n", "1 br\n", "\n", "@5\r\n", "@" + 64 * "1"]
+BAD_LINES = ["@0", "@01", "@", "@-1", "@+1", "@1 ", f"@{GREATEST}", f"@{GREATEST + 1}", "1 br", "",
+             "@5\r", "@" + 64 * "1"]
 TOO_MANY = b"vmebus: F5 too many orders\n"
 
 
+# Edges
+
+
 def plan_drawn(draw):
-    """A scenario without fault, and its backplane."""
+    """A scenario without fault, mostly one with a requester, and its backplane."""
     while True:
         scenario = scenario_of(draw)
         plan = plan_of(scenario)
@@ -50,7 +59,8 @@ def legal_edges(draw, plan, version, most):
 
 
 def spoiled_edges(draw, plan, edges, first=0):
-    """Edges of which one is left out, doubled, another one, or two have changed places, none of them before the first."""
+    """Edges of which one is left out, doubled or another one, or two have changed places; those in
+    front of the first stay."""
     edges, way = list(edges), draw.randrange(4)
     if len(edges) < 2:
         return edges
@@ -66,9 +76,14 @@ def spoiled_edges(draw, plan, edges, first=0):
     return edges
 
 
+# Moments
+
+
 def moments_of(draw, edges, most, ordered=0):
-    """The moment at which each edge comes: at most so many in one; the first so many are further apart than any slack."""
-    moment, left = draw.choice([0, 0, 1, draw.randrange(1000), GREATEST - FAR * len(edges)]), 0
+    """The moment at which each edge comes: at most so many edges in one, and the first ones further
+    apart than any slack."""
+    first = [0, 0, 1, draw.randrange(1000), GREATEST - FAR * len(edges)]
+    moment, left = draw.choice(first), 0
     for place, _ in enumerate(edges):
         if place <= ordered:
             moment, left = moment + FAR * (place > 0 and ordered > 0), draw.randint(1, most)
@@ -79,12 +94,13 @@ def moments_of(draw, edges, most, ordered=0):
 
 
 def seen_late(draw, edges, come, slack, ordered=0):
-    """The edges as they are seen: each at most its slack late, those of a part in their order; by moments, each shuffled."""
+    """The edges as they are seen: each late by at most its slack, but for the first ones, those of
+    a part in their order; by moments, each moment shuffled."""
     last, seen = {}, []
     for place, (edge, moment) in enumerate(zip(edges, come)):
-        late = moment + (draw.randint(0, slack[edge.driver]) if place >= ordered else 0)
-        last[part_of(edge)] = max(late, last.get(part_of(edge), 0))
-        seen.append(Seen(edge, min(last[part_of(edge)], GREATEST), 0))
+        part, late = part_of(edge), draw.randint(0, slack[edge.driver]) if place >= ordered else 0
+        last[part] = max(moment + late, last.get(part, 0))
+        seen.append(Seen(edge, min(last[part], GREATEST), 0))
     draw.shuffle(seen)
     return sorted(seen, key=lambda it: it.moment)
 
@@ -93,34 +109,38 @@ def slack_drawn(draw, drivers):
     """A slack for each driver, and the words that say so."""
     way = draw.randrange(5)
     if way == 0:
-        return dict.fromkeys(range(22), 0), draw.choice([[], ["--slack", "0"]])
+        return dict.fromkeys(DRIVERS, 0), draw.choice([[], ["--slack", "0"]])
     if way < 3:
         number = draw.choice([1, 1, 2, 3])
-        return dict.fromkeys(range(22), number), draw.choice([["--slack", str(number)], [f"--slack=+0{number}"]])
-    listed = {driver: draw.randint(0, 3) for driver in draw.sample(drivers, draw.randint(1, min(3, len(drivers))))}
+        words = draw.choice([["--slack", str(number)], [f"--slack=+0{number}"]])
+        return dict.fromkeys(DRIVERS, number), words
+    some_drivers = draw.sample(drivers, draw.randint(1, min(3, len(drivers))))
+    listed = {driver: draw.randint(0, 3) for driver in some_drivers}
     text = ",".join(f"{name_of(driver)}={number}" for driver, number in listed.items())
-    return {driver: listed.get(driver, 0) for driver in range(22)}, ["--slack", text]
+    return {driver: listed.get(driver, 0) for driver in DRIVERS}, ["--slack", text]
 
 
-def lines_with_more(draw, text):
-    """The text of moments in which some are named once more, and some moments have no edge."""
-    lines = []
-    for line in text.splitlines():
+# Texts
+
+
+def with_more_moments(draw, text):
+    """The text of moments in which some are named once more."""
+    lines, named = [], []
+    for line in text.splitlines(True):
         lines.append(line)
-        if some(draw, 0.05):
-            named = [it for it in lines if it.startswith("@")]
-            lines += named[-1:]
-    return "".join(f"{line}\n" for line in lines)
+        named = [line] if line.startswith("@") else named
+        lines += named if some(draw, 0.05) else []
+    return "".join(lines)
 
 
 def faulty(draw, text):
     """A text of moments with a fault, mostly: as that of a trace is spoiled, or by a line."""
     if some(draw, 0.4):
         return spoiled_trace(draw, text)
-    lines = text.splitlines(True)
-    below = [f"@{int(it[1:]) - 1}\n" for it in lines if it.startswith("@")]
+    lines = text.splitlines()
+    below = [f"@{int(it[1:]) - 1}" for it in lines if it.startswith("@")]
     lines.insert(draw.randint(0, len(lines)), draw.choice(below[-2:] + BAD_LINES))
-    return "".join(lines)
+    return "".join(f"{line}\n" for line in lines)
 
 
 class DrawnMoments:
@@ -128,18 +148,20 @@ class DrawnMoments:
 
     def __init__(self, seed):
         draw = random.Random(seed)
-        self.scenario, self.plan = plan_drawn(draw)
-        version, slack_words = draw.choice([1, 1, 2]), []
-        slack, slack_words = slack_drawn(draw, self.plan.drivers)
-        edges = legal_edges(draw, self.plan, version, draw.choice([0, 6, 20, 40, 80, draw.randint(0, 200)]))
+        self.scenario, plan = plan_drawn(draw)
+        version = draw.choice([1, 1, 2])
+        slack, slack_words = slack_drawn(draw, plan.drivers)
+        length = draw.choice([0, 6, 20, 40, 80, draw.randint(0, 200)])
+        edges = legal_edges(draw, plan, version, length)
         if some(draw, 0.5):
-            edges = spoiled_edges(draw, self.plan, edges)
+            edges = spoiled_edges(draw, plan, edges)
         most = draw.choice([1, 2, 3, 4] if any(slack.values()) else [1, 2, 4, 6, 8, 12])
         seen = seen_late(draw, edges, moments_of(draw, edges, most), slack)
-        text = lines_with_more(draw, moments.text_of(version, seen))
+        text = with_more_moments(draw, moments.text_of(version, seen))
         self.moments = faulty(draw, text) if some(draw, 0.1) else text
-        less = draw.choice([slack_words, ["--slack", draw.choice(["0", "1", "2", "c=1", "c=2"])]])
-        self.words = [["order", *FILES, *slack_words], ["order", *FILES, *less, *draw.choice([[], ["--where"]])]]
+        other = draw.choice([slack_words, ["--slack", draw.choice(["0", "1", "2", "c=1", "c=2"])]])
+        where = draw.choice([[], ["--where"]])
+        self.words = [["order", *FILES, *slack_words], ["order", *FILES, *other, *where]]
 
     def lay_out(self, folder):
         """Writes the files."""
@@ -147,22 +169,28 @@ class DrawnMoments:
             Path(folder, name).write_bytes(text.encode())
 
     def faults(self, program, folder):
-        """The words of each run, its status by the model, and what differs in it, None where nothing does."""
+        """The words of each run, the model's status, and what differs, None where nothing does."""
         for words in self.words:
             console = Kept(folder)
             status = main([it.encode() for it in words], console)
+            options = {"input": b"", "capture_output": True, "cwd": folder, "timeout": SECONDS}
             try:
-                ran = subprocess.run([program, *words], input=b"", capture_output=True, cwd=folder, timeout=SECONDS)
+                ran = subprocess.run([program, *words], **options)
                 yield words, status, difference_but_of_many(words, ran, status, console)
             except subprocess.TimeoutExpired:
                 yield words, status, f"it had not ended after {SECONDS} seconds"
 
 
+# A program beside the model
+
+
 def difference_but_of_many(words, ran, status, console):
-    """What differs between a run of the program and the model; where F5 may be told, the program may tell it or an answer."""
+    """What differs between a run of the program and the model; where F5 may be told, so may an
+    answer."""
     if console.told == TOO_MANY and ran.returncode != 1:
         return None
-    if (ran.returncode, ran.stderr, ran.stdout) == (1, TOO_MANY, b"") and may_be_too_many(words, console):
+    tells_too_many = (ran.returncode, ran.stderr, ran.stdout) == (1, TOO_MANY, b"")
+    if tells_too_many and may_be_too_many(words, console):
         return None
     return difference(words, ran, status, console)
 
@@ -170,30 +198,40 @@ def difference_but_of_many(words, ran, status, console):
 def may_be_too_many(words, console):
     """Whether F5 may be told in place of an answer."""
     job = job_of([it.encode() for it in words])
+    scenario, moments_ = job.files
     try:
-        plan = plan_of(bytes_of_scenario(console.open(job.files[0]), job.files[0]).decode())
-        return found(question_of(plan, console.open(job.files[1]), job.options)).may_be_too_many
+        plan = plan_of(bytes_of_scenario(console.open(scenario), scenario).decode())
+        question = question_of(plan, console.open(moments_), job.options)
+        return answer_to(question).may_be_too_many
     except Fault as fault:
         return str(fault).startswith("F5 ")
 
 
 def compare(program, count, seed):
     """Compares a program with the model on so many draws, and returns the status."""
-    passed, failed, statuses, seed = 0, 0, {}, random.randrange(2**32) if seed is None else seed
+    passed, failed, statuses = 0, 0, Counter()
+    seed = random.randrange(2**32) if seed is None else seed
     print(f"seeds {seed} to {seed + count - 1}", flush=True)
     for number in range(seed, seed + count):
         with tempfile.TemporaryDirectory(prefix="moments-") as folder:
             drawn = DrawnMoments(number)
             drawn.lay_out(folder)
             for words, status, fault in drawn.faults(program, folder):
-                statuses[status] = statuses.get(status, 0) + 1
+                statuses[status] += 1
                 passed, failed = passed + (fault is None), failed + (fault is not None)
                 if fault:
-                    print(f"FAILED {' '.join(words)}: {fault}")
-                    print(f"       again: --moments 1 --seed {number} PROGRAM; its files: --moment-files {number} FOLDER", flush=True)
-    print("by the model " + ", ".join(f"{statuses[status]} of status {status}" for status in sorted(statuses)))
+                    tell_fault(words, fault, number)
+    counts = ", ".join(f"{statuses[it]} of status {it}" for it in sorted(statuses))
+    print(f"by the model {counts}")
     print(f"{passed} passed, {failed} failed")
     return 1 if failed or not passed else 0
+
+
+def tell_fault(words, fault, number):
+    """Prints what differs in a run, and how to draw it again."""
+    print(f"FAILED {' '.join(words)}: {fault}")
+    print(f"       again: --moments 1 --seed {number} PROGRAM;", end=" ")
+    print(f"its files: --moment-files {number} FOLDER", flush=True)
 
 
 def write_files(seed, folder):
@@ -210,8 +248,8 @@ def write_files(seed, folder):
 
 
 def small_question(seed):
-    """Edges in their order, and behind them a few that were seen in moments, so that all orders can be tried; and whether an
-    order has to be found, since the edges are legal and nothing was spoiled."""
+    """Edges in their order, and behind them a few that were seen in moments, so that all orders can
+    be tried; and whether the edges are legal as they came, so that an order has to be found."""
     draw = random.Random(seed)
     plan, version, is_spoiled = plan_drawn(draw)[1], draw.choice([1, 2]), some(draw, 0.4)
     edges = legal_edges(draw, plan, version, draw.choice([3, 8, 20, 40, 60]))
@@ -219,11 +257,13 @@ def small_question(seed):
     if is_spoiled:
         edges = spoiled_edges(draw, plan, edges, ordered)
     come = moments_of(draw, edges, draw.choice([1, 2, 3, 6]), ordered)
-    return Question(plan, version, seen_late(draw, edges, come, slack, ordered), slack), not is_spoiled
+    seen = seen_late(draw, edges, come, slack, ordered)
+    return Question(plan, version, seen, slack), not is_spoiled
 
 
 def fault_in_orders(question, is_legal):
-    """What differs between the two ways in which the model finds an order, or is wrong with both, None where nothing is."""
+    """What differs between the two ways in which the model finds an order, or is wrong with both,
+    None where nothing is."""
     tried, by_kind = orders_by_trying(question), orders_by_kind(question)
     if (tried.places, tried.refused) != (by_kind.places, by_kind.refused):
         return f"by all orders {tried}, by kinds {by_kind}"
@@ -231,8 +271,9 @@ def fault_in_orders(question, is_legal):
 
 
 def compare_orders(count, seed):
-    """Compares the two ways in which the model finds orders on so many draws, and returns the status."""
-    passed, failed, seed = 0, 0, random.randrange(2**32) if seed is None else seed
+    """Compares the two ways to find an order on so many draws, and returns the status."""
+    passed, failed = 0, 0
+    seed = random.randrange(2**32) if seed is None else seed
     print(f"seeds {seed} to {seed + count - 1}", flush=True)
     for number in range(seed, seed + count):
         fault = fault_in_orders(*small_question(number))

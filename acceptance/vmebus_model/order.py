@@ -1,8 +1,8 @@
 """`order`: an order of edges seen at moments that the rules allow, or how far one comes.
 
-A beginning is a tuple of places.  `orders_by_trying` follows the definitions word by word, and is used while there are few
-edges; `orders_by_kind` keeps of all legal beginnings that have one future the least.  `found` is the same for both, which
-`acceptance/model --orders` compares.
+A beginning is a tuple of places.  `orders_by_trying` follows the definitions word by word, and is
+used while there are few edges.  `orders_by_kind` keeps the least of all legal beginnings that go on
+in the same way.  `acceptance/model --orders` compares the two.
 """
 
 from typing import NamedTuple, Tuple
@@ -16,21 +16,23 @@ from .verdicts import refusal
 MOST_TRIED = 6
 MOST_KINDS = 65_536
 WINDOW = 128
+DRIVERS = range(22)
 ARBITER = GRANTS + ("bclr",)
 
 
 def part_of(edge):
-    """The part that makes an edge: of the controller the arbiter, the IACK driver or the bus timer; or a board."""
+    """The part that makes an edge: a board, or of the controller the arbiter or another one."""
     if edge.driver != CONTROLLER:
         return edge.driver
     return "arbiter" if edge.wire in ARBITER else edge.wire
 
 
 class Question:
-    """What was seen on a backplane, and how many moments before that the edges of each driver may have come."""
+    """What was seen on a backplane, and by how many moments each driver's edges may be late."""
 
     def __init__(self, plan, version, seen, slack):
         self.plan, self.version, self.seen, self.slack = plan, version, seen, slack
+        self.most_slack = max(slack.values())
         self.parts = [part_of(it.edge) for it in seen]
 
     def before(self, i, j):
@@ -41,13 +43,13 @@ class Question:
         return first.moment < second.moment and self.parts[i] == self.parts[j]
 
     def next_places(self, places):
-        """The places that could come next after a beginning: all that have to stand in front of them are in it."""
+        """The places that could come next after a beginning: no place left stands before them."""
         taken = set(places)
         left = [it for it in range(len(self.seen)) if it not in taken]
         return [j for j in left if not any(self.before(i, j) for i in left)]
 
     def bus_after(self, places):
-        """The bus after the edges of a legal beginning; None where one of them is refused."""
+        """The bus after the edges of these places; None if one of them is refused."""
         bus = Bus(self.plan, self.version)
         for number, place in enumerate(places, 1):
             if refusal(bus, self.seen[place].edge):
@@ -57,7 +59,8 @@ class Question:
 
 
 class Answer(NamedTuple):
-    """The least of the longest legal beginnings, the places behind it, and whether F5 may be told in place of both."""
+    """The least of the longest legal beginnings, the places that could come next after it, all of
+    which are refused, and whether F5 may be told in place of both."""
 
     places: Tuple[int, ...]
     refused: Tuple[int, ...]
@@ -72,7 +75,7 @@ def orders_by_trying(question):
     best, beginnings = (), [()]
     while beginnings:
         best = next((it for it in beginnings if question.bus_after(it)), best)
-        beginnings = [places + (place,) for places in beginnings for place in question.next_places(places)]
+        beginnings = [it + (place,) for it in beginnings for place in question.next_places(it)]
     return Answer(best, tuple(question.next_places(best)), False)
 
 
@@ -80,7 +83,8 @@ def orders_by_trying(question):
 
 
 class Beginning(NamedTuple):
-    """A legal beginning, the least place that is not in it, the places above that which are, and the bus after it."""
+    """A legal beginning, the least place that is not in it, the greater ones that are, and the bus
+    after it."""
 
     places: Tuple[int, ...]
     least: int
@@ -89,10 +93,11 @@ class Beginning(NamedTuple):
 
 
 def next_by_window(question, beginning):
-    """The places that could come next; none comes before the least place that is left, unless its slack lets it."""
-    seen, least, most, left = question.seen, beginning.least, max(question.slack.values()), []
+    """The places that could come next: none of them is later than the least place that is left by
+    more than the greatest slack."""
+    seen, least, left = question.seen, beginning.least, []
     for place in range(least, len(seen)):
-        if seen[place].moment > seen[least].moment + most:
+        if seen[place].moment > seen[least].moment + question.most_slack:
             break
         if place not in beginning.above:
             left.append(place)
@@ -100,7 +105,7 @@ def next_by_window(question, beginning):
 
 
 def with_place(question, beginning, place):
-    """A legal beginning with a place behind it, None if its edge is refused there."""
+    """A legal beginning with one more place, None if its edge is refused there."""
     edge = question.seen[place].edge
     if refusal(beginning.bus, edge):
         return None
@@ -112,11 +117,12 @@ def with_place(question, beginning, place):
 
 
 def kind_of(beginning):
-    """What decides how a beginning goes on: its set of places, and all that a rule can read of the bus after it."""
+    """What decides how a beginning goes on: its set of places, and what a rule can read then."""
     bus = beginning.bus
     plan = bus.plan
     return (
-        beginning.least, beginning.above, tuple(bus.low.values()), bus.shown(), bus.level_last_granted(),
+        beginning.least, beginning.above,
+        tuple(bus.low.values()), bus.shown(), bus.level_last_granted(),
         tuple(bus.served(slot) is None for slot in plan.interrupters),
         tuple(bus.strobe(slot) is None for slot in plan.requesters),
         tuple(None if it.is_ror else bus.cycles(slot) for slot, it in plan.requesters.items()),
@@ -124,7 +130,8 @@ def kind_of(beginning):
 
 
 def longer(question, kinds):
-    """The legal beginnings with a place more than these, of each kind the least; and how far above the least place left one is."""
+    """The legal beginnings with one place more, of each kind the least, since they come in order;
+    and how far a place that could come next is above the least place that is left."""
     first, furthest = {}, 0
     for beginning in kinds:
         for place in next_by_window(question, beginning):
@@ -137,7 +144,8 @@ def longer(question, kinds):
 
 def orders_by_kind(question):
     """The answer by all kinds of legal beginnings, one length after the other."""
-    kinds, may_be_too_many = [Beginning((), 0, frozenset(), Bus(question.plan, question.version))], False
+    kinds = [Beginning((), 0, frozenset(), Bus(question.plan, question.version))]
+    may_be_too_many = False
     while kinds:
         best = kinds[0]
         kinds, furthest = longer(question, kinds)
@@ -150,35 +158,42 @@ def orders_by_kind(question):
 # The command
 
 
-def found(question):
-    """The answer, by the definitions where few edges let them be tried."""
-    return orders_by_trying(question) if len(question.seen) <= MOST_TRIED else orders_by_kind(question)
+def answer_to(question):
+    """The answer, by the definitions if few edges let them be tried."""
+    is_small = len(question.seen) <= MOST_TRIED
+    return orders_by_trying(question) if is_small else orders_by_kind(question)
 
 
 def slack_of(plan, given):
     """The slack of each driver, by a number for all, or by a list of some."""
     if isinstance(given, int):
-        return dict.fromkeys(range(22), given)
+        return dict.fromkeys(DRIVERS, given)
     for driver in given:
         if driver not in plan.drivers:
             raise WrongWords("slack of a slot without a board")
-    return {driver: given.get(driver, 0) for driver in range(22)}
+    return {driver: given.get(driver, 0) for driver in DRIVERS}
 
 
 def question_of(plan, read, options):
-    """What is asked for: the words come before the moments, which are read to their end."""
+    """What is asked for: the list of slacks is tested before the moments are read."""
     slack = slack_of(plan, options.get("--slack", 0))
     moments = Moments(read)
     return Question(plan, moments.version, moments.seen, slack)
 
 
 def order(plan, read, options, console):
-    """Writes the least legal order; where there is none, what comes furthest, and the edges that are refused behind it."""
+    """Writes the least legal order; if there is none, what comes furthest, and the edges that are
+    refused there."""
     question = question_of(plan, read, options)
-    answer = found(question)
+    answer = answer_to(question)
     written = [question.seen[place] for place in answer.places + answer.refused]
     if "--where" in options:
-        console.write("".join(f"{number} {it.edge} line {it.line} moment {it.moment}\n" for number, it in enumerate(written, 1)))
+        lines = (f"{number} {where(it)}\n" for number, it in enumerate(written, 1))
+        console.write("".join(lines))
     else:
         console.write(text_of(question.version, [it.edge for it in written]))
     return 2 if answer.refused else 0
+
+
+def where(seen):
+    return f"{seen.edge} line {seen.line} moment {seen.moment}"

@@ -17,7 +17,8 @@ async def monitor(clk, driver, wires, moments, shows=None):
     was, clock = dict.fromkeys(wires, False), 0
     while True:
         await RisingEdge(clk)
-        low = {name: str(wire.value) == "0" for name, wire in wires.items()}  # X and Z count as high
+        # X and Z count as high.
+        low = {name: str(wire.value) == "0" for name, wire in wires.items()}
         moved = [name for name in wires if low[name] != was[name]]
         if moved:
             print(f"@{clock}", file=moments)
