@@ -267,7 +267,17 @@ def fault_in_orders(question, is_legal):
     tried, by_kind = orders_by_trying(question), orders_by_kind(question)
     if (tried.places, tried.refused) != (by_kind.places, by_kind.refused):
         return f"by all orders {tried}, by kinds {by_kind}"
-    return f"no order of legal edges is found: {tried}" if is_legal and tried.refused else None
+    if is_legal and tried.refused:
+        return f"no order of legal edges is found: {tried}"
+    if not tried.refused and orders_by_kind(with_more_slack(question)).refused:
+        return f"with more slack there is no order: {tried}"
+    return None
+
+
+def with_more_slack(question):
+    """The same with more slack for each driver."""
+    slack = {driver: number + 1 for driver, number in question.slack.items()}
+    return Question(question.plan, question.version, question.seen, slack)
 
 
 def compare_orders(count, seed):
