@@ -82,15 +82,16 @@ def spoiled_edges(draw, plan, edges, first=0):
 def moments_of(draw, edges, most, ordered=0):
     """The moment at which each edge comes: at most so many edges in one, and the first ones further
     apart than any slack."""
-    first = [0, 0, 1, draw.randrange(1000), GREATEST - FAR * len(edges)]
-    moment, left = draw.choice(first), 0
+    moment, left, come = 0, 0, []
     for place, _ in enumerate(edges):
         if place <= ordered:
             moment, left = moment + FAR * (place > 0 and ordered > 0), draw.randint(1, most)
         elif not left:
             moment, left = moment + draw.choice([1, 1, 1, 2, 3]), draw.randint(1, most)
         left -= 1
-        yield moment
+        come.append(moment)
+    first = draw.choice([0, 0, 1, draw.randrange(1000), GREATEST - moment])
+    return [first + it for it in come]
 
 
 def seen_late(draw, edges, come, slack, ordered=0):
