@@ -75,14 +75,15 @@ by_parts kind asked request version noted pins d Berr true v own = refl
 by_parts kind asked request version noted pins d Berr false v own = refl
 by_parts kind asked request version noted pins d w f v own = absurd (cc)
 
--- a state that a list leads to answers as the list says
+-- a state that comes from a list answers as the list says
 pub answers_over : (kind : ArbiterKind) (version : Version) (noted : List Edge) (state : ControllerState) (pins : Pins) (e : Edge) → state ≡ controller_of kind version noted → is_controllers e.wire ≡ true →
     ruling state.version (local state pins) e ≡ ruling version (over kind noted pins) e
 answers_over kind version noted state pins e same own =
     let P : ControllerState → Type 0 = λ c. ruling c.version (local c pins) e ≡ ruling version (over kind noted pins) e in
     subst P (sym same) (by_parts kind kind (has_bus_level pins.requests) version noted pins e.driver e.wire e.fall e.value own)
 
--- the same of a grant, by a policy's pick of the level last granted
+-- a state that comes from a list answers a grant as the list says, by a policy's pick for the level
+-- last granted
 pub grants_over : (kind : ArbiterKind) (version : Version) (noted : List Edge) (state : ControllerState) (pins : Pins) (e : Edge) (picked : ℕ → Option ℕ) → state ≡ controller_of kind version noted → is_controllers e.wire ≡ true →
     ruling state.version (as_asked (local state pins) (alone (picked state.last_level)) Pri) e ≡ ruling version (over_pick (picked (last_level noted)) noted pins) e
 grants_over kind version noted state pins e picked same own =
@@ -126,7 +127,7 @@ picked_level picked e it is grant =
     same_level picked (grant_level e.wire)
     (ap (λ g. g && option_map_or (λ m. m == grant_level e.wire) picked false) (sym grant) ∙ sym is ∙ it)
 
--- whether a grant is of the level that is picked, where that is the only one requested
+-- whether a grant is of the level that is picked, if that is the only one requested
 pub pick_alone : (last : ℕ) (e : Edge) (picked : Option ℕ) {is_picked : Bool} → is_picked ≡ (is_grant e && option_map_or (λ m. m == grant_level e.wire) picked false) → is_grant e ≡ true →
     is_picked ≡ is_pick Pri (alone picked) last (grant_level e.wire)
 pick_alone last e picked is grant =
@@ -153,7 +154,8 @@ guards_over kind version noted state pins e same own =
     let P : ControllerState → Type 0 = λ c. (guard c.version (local c pins) e.wire e.fall e.value).1 ≡ (guard version (over kind noted pins) e.wire e.fall e.value).1 in
     subst P (sym same) (guards_by_parts kind kind (has_bus_level pins.requests) version noted pins e.wire e.fall e.value own)
 
--- the same of a grant, by a policy's pick of the level last granted
+-- the guards of a state that comes from a list are those over the list, for a grant by a policy's
+-- pick for the level last granted
 pub grant_guards_over : (kind : ArbiterKind) (version : Version) (noted : List Edge) (state : ControllerState) (pins : Pins) (e : Edge) (picked : ℕ → Option ℕ) → state ≡ controller_of kind version noted → is_controllers e.wire ≡ true →
     (guard state.version (as_asked (local state pins) (alone (picked state.last_level)) Pri) e.wire e.fall e.value).1 ≡ (guard version (over_pick (picked (last_level noted)) noted pins) e.wire e.fall e.value).1
 grant_guards_over kind version noted state pins e picked same own =

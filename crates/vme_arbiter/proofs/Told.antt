@@ -1,4 +1,4 @@
--- Of all that rules may read, a controller's read what it is told.
+-- Of all that rules may read, a controller's rules read only what is given to it.
 use Rattle.std.proofs.Common.{◌≡◌, refl, sym, ap, ◌∙◌, Bool, true, false, ℕ}
 use Rattle.std.specs.Prelude.{◌&&◌, not, nat_lt, Option, Ok}
 use Rattle.std.specs.List.{list_any}

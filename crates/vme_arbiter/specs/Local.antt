@@ -48,7 +48,7 @@ controller_of kind version noted = record {
 abbrev pub is_controllers : Wire → Bool
 is_controllers w = has_wire Controller w
 
--- the wires by the state
+-- the state of the wires, by the local state
 abbrev pub low : ControllerState → Wire → Bool
 low c (Bg n) =
     if n == 0 then c.bg0
@@ -74,13 +74,13 @@ local c pins = controller_readings c.kind (low c) c.last_level pins
 abbrev pub over : ArbiterKind → List Edge → Pins → Readings
 over kind noted pins = controller_readings kind (drive noted Controller) (last_level noted) pins
 
--- the same with a policy's own pick in the place of its kind's: priority picks it where nothing
--- else is requested
+-- what its rules read, with a policy's own pick in place of its kind's: priority picks it if
+-- nothing else is requested
 abbrev pub over_pick : Option ℕ → List Edge → Pins → Readings
 over_pick picked noted pins =
     record (over Pri noted pins) { request = λ n. option_map_or (λ m. m == n) picked false }
 
--- readings that say what a controller is told, whatever they say of all else
+-- readings that agree with what a controller reads, whatever else they say
 pub record SayWhatIsTold
     (kind : ArbiterKind) (own : Wire → Bool) (last_level : ℕ) (pins : Pins) (r : Readings)
     : Type 0 where

@@ -1,4 +1,4 @@
-//! The controller of slot 1: arbiter, daisy-chain driver and bus timer.
+//! The controller of slot 1: arbiter, IACK daisy-chain driver and bus timer.
 ghost use Rattle.std.specs.Prelude.{◌≡◌, ◌==◌, ◌&&◌, ℕ, Bool, true, false, Some, is_ok, nat_lt, [], ◌∷◌, List};
 ghost use Rattle.std.specs.List.{list_any};
 ghost use Rattle.std.specs.Option.{option_map_or};
@@ -26,7 +26,8 @@ use vme_rules::controllers::{
 use vme_rules::laws::five_have_room;
 use vme_rules::{Outcome, allowed};
 
-/// What a controller's own edges left: which of its wires are low, and the level that it last granted.
+/// What a controller keeps of its own edges: which of its wires are low, and the level that it last
+/// granted.
 #[derive(Clone, Copy, PartialEq, Eq, Debug)]
 pub struct Controller {
     pub kind: ArbiterKind,
@@ -38,7 +39,7 @@ pub struct Controller {
     pub bclr: bool,
     pub iack: bool,
     pub berr: bool,
-    /// 0 to 3; 0 at power-up.
+    /// The level last granted, 0 to 3; 0 at power-up.
     pub last_level: u8,
 }
 
@@ -94,7 +95,7 @@ impl Controller {
         }
     }
 
-    /// Whether it drives the wire low; only the controller's wires are its own.
+    /// Whether the controller drives the wire low. It is false for every wire that is not its own.
     #[inline(always)]
     fn is_low(&self, wire: Wire) -> bool
         ensures { result ≡ low self.now wire }
@@ -111,7 +112,7 @@ impl Controller {
         }
     }
 
-    /// Whether each of its grants is high.
+    /// Whether each of the controller's grants is high.
     fn are_grants_high(&self, pins: Pins) -> bool
         ensures { result ≡ are_grants_high (local self.now pins) }
     {
@@ -129,8 +130,8 @@ impl Controller {
             .any(|level| last < *level && requests.has(*level))
     }
 
-    /// What the guard of a falling bus clear answers (G3), which a rising one reads too (G4): its policy is priority, and a
-    /// higher level waits.
+    /// What the guard of a falling bus clear answers (G3): the policy is priority, and a higher
+    /// level waits. A rising bus clear reads it too (G4).
     #[inline(always)]
     fn clear_guard<A: Outcome>(&self, pins: Pins) -> A
         ensures { A.tells result (clear_guard (local self.now pins)) }
@@ -140,7 +141,7 @@ impl Controller {
         bclr_falls(is_pri, pins.bbsy, self.are_grants_high(pins), is_outranked)
     }
 
-    /// What the guard of a falling acknowledge answers (G5).
+    /// What the guard of a falling `iack` answers (G5).
     #[inline(always)]
     fn acknowledge_guard<A: Outcome>(&self, pins: Pins) -> A
         ensures { A.tells result
@@ -150,8 +151,8 @@ impl Controller {
         iack_falls(pins.address_strobe, pins.data_strobe, is_acknowledged)
     }
 
-    /// The rule that names an edge of its own, and what its guard answers, where the policy picks the level of a grant
-    /// or does not.
+    /// The number of the rule that names an edge of the controller's own wires, and what the rule's
+    /// guard answers. `is_picked` says whether the policy picks the level of a grant.
     #[inline(always)]
     fn rule<A: Outcome>(&self, edge: Edge, pins: Pins, is_picked: bool) -> (u8, A)
         ensures number { (r : Readings) → is_controllers edge.wire ≡ true →
@@ -187,7 +188,8 @@ impl Controller {
         }
     }
 
-    /// The answer to an edge of its own by the fields, where the policy picks the level of a grant or does not.
+    /// The answer to an edge of the controller's own wires, by its fields. `is_picked` says whether
+    /// the policy picks the level of a grant.
     #[inline(always)]
     fn judge(&self, edge: Edge, pins: Pins, is_picked: bool) -> Result<(), Refused>
         ensures picked { is_grant edge ≡ true → is_ok result ≡ true → is_picked ≡ true }
@@ -238,9 +240,10 @@ impl Controller {
     }
 }
 
-/// An arbiter over a policy, with the controller's daisy-chain driver and bus timer.
+/// An arbiter over a policy, with the controller's IACK daisy-chain driver and bus timer. Source:
+/// Std 1014, chapters 2 to 4.
 ///
-/// A clause sees it as its policy and its local state.
+/// A clause sees it as a pair: its policy and its local state.
 #[derive(Clone, Copy, PartialEq, Eq, Debug)]
 pub struct Arbiter<P> {
     policy: P,
@@ -258,8 +261,8 @@ impl<P> Model for Arbiter<P> {
 }
 
 impl<P: Policy> Arbiter<P> {
-    /// The arbiter over a policy before any edge, under that version of the rules. Its kind says whether it drives
-    /// BCLR*, as a priority arbiter alone does.
+    /// The arbiter over a policy before any edge, under that version of the rules. If `kind` is
+    /// priority, it drives BCLR*; with any other kind it never does.
     pub fn new(policy: P, kind: ArbiterKind, version: Version) -> Arbiter<P>
         ensures { result ≡ (policy, controller_of kind version []) }
     {
@@ -269,7 +272,7 @@ impl<P: Policy> Arbiter<P> {
         }
     }
 
-    /// The arbiter over a policy whose controller's edges left that.
+    /// The arbiter over a policy, with what the controller's edges left.
     #[inline(always)]
     pub fn of(policy: P, controller: Controller) -> Arbiter<P>
         ensures { result ≡ (policy, controller) }
@@ -277,7 +280,8 @@ impl<P: Policy> Arbiter<P> {
         Arbiter { policy, controller }
     }
 
-    /// Whether the controller drives the wire low; only `bg0` to `bg3`, `bclr`, `iack` and `berr` are its own.
+    /// Whether the controller drives the wire low. Only `bg0` to `bg3`, `bclr`, `iack` and `berr`
+    /// are its own; for any other wire the answer is false.
     #[inline(always)]
     pub fn is_low(&self, wire: Wire) -> bool
         ensures { result ≡ low self.now.1 wire }
@@ -285,7 +289,8 @@ impl<P: Policy> Arbiter<P> {
         self.controller.is_low(wire)
     }
 
-    /// Whether a grant may fall, were it of the level that the policy picks (G1): the grants are high, and the bus is free.
+    /// Whether a grant may fall now if it is of the level that the policy picks (G1): all grants
+    /// are high, and BBSY* is high. Source: profile.
     #[inline(always)]
     pub fn may_grant(&self, pins: Pins) -> bool
         ensures { result ≡ holds
@@ -294,7 +299,7 @@ impl<P: Policy> Arbiter<P> {
         bg_falls(self.controller.are_grants_high(pins), pins.bbsy, true)
     }
 
-    /// Whether an edge is a grant of the level that the policy picks of those requested.
+    /// Whether an edge is a grant of the level that the policy picks from the requested levels.
     fn picks(&self, edge: Edge, requests: BusLevels) -> bool
         ensures { result ≡ (is_grant edge && option_map_or (λ m. m == grant_level edge.wire)
             (P.picked self.now.0 requests self.now.1.last_level) false) }
@@ -302,7 +307,7 @@ impl<P: Policy> Arbiter<P> {
         edge.is_grant() && self.is_pick(edge.wire.grant_level(), requests)
     }
 
-    /// Whether the policy picks the level of those requested.
+    /// Whether the policy picks this level from the requested levels.
     fn is_pick(&self, level: u8, requests: BusLevels) -> bool
         ensures { result ≡ option_map_or (λ m. m == level)
             (P.picked self.now.0 requests self.now.1.last_level) false }
@@ -312,14 +317,16 @@ impl<P: Policy> Arbiter<P> {
             .is_some_and(|picked| picked == level)
     }
 
-    /// Whether the rules G1 to G8 allow an edge of the controller's wires. The settling rules S2 to S4, which look at
-    /// boards, are not its to see. It is told its pins.
+    /// Whether the rules G1 to G8 allow an edge of the controller's wires, given what the
+    /// controller reads on its pins. The settling rules S2 to S4 are not tested here, since they
+    /// look at boards.
     ///
-    /// Whatever the policy, a grant is of the level that it picks, and the answer to a grant is the table's with the
-    /// policy's pick in the place of its kind's. Where the two picks are the same, each answer is the table's.
+    /// With any policy, an accepted grant is of the level that the policy picks. The answer to a
+    /// grant is the table's answer with the policy's own pick in place of the pick of its kind. If
+    /// the two picks are the same, every answer is the table's. Source: G1 to G8 of docs/RULES.md.
     ///
     /// # Errors
-    /// E2 where the wire is in that state, else E3 where the rule's guard fails.
+    /// E2 if the wire is in that state already; otherwise E3 if the rule's guard fails.
     #[inline(always)]
     pub fn may(&self, edge: Edge, pins: Pins) -> Result<(), Refused>
         ensures picked { is_grant edge ≡ true → is_ok result ≡ true →
@@ -340,8 +347,9 @@ impl<P: Policy> Arbiter<P> {
         self.controller.judge(edge, pins, is_picked)
     }
 
-    /// What the guard answers of the rule that names an edge of the controller's wires: of a grant with the policy's
-    /// pick in the place of its kind's. It is told its pins.
+    /// What the guard of the rule that names an edge of the controller's wires answers, given what
+    /// the controller reads on its pins. For a grant the policy's own pick stands in place of the
+    /// pick of its kind. Source: G1 to G8 of docs/RULES.md.
     pub fn told<A: Outcome>(&self, edge: Edge, pins: Pins) -> A
         ensures rows { (kind : KindValue) (version : VersionValue) (noted : List EdgeValue) →
             self.now.1 ≡ controller_of kind version noted →
@@ -361,8 +369,9 @@ impl<P: Policy> Arbiter<P> {
         self.controller.rule(edge, pins, is_picked).1
     }
 
-    /// The conditions that fail of the rule that names an edge of the controller's wires, in the order of its guard: of
-    /// a grant with the policy's pick in the place of its kind's. It is told its pins.
+    /// The conditions that fail in the rule that names an edge of the controller's wires, in the
+    /// order of its guard, given what the controller reads on its pins. For a grant the policy's
+    /// own pick stands in place of the pick of its kind. Source: G1 to G8 of docs/RULES.md.
     pub fn failing(&self, edge: Edge, pins: Pins) -> ArrayVec<Condition, 5>
         ensures rows { (kind : KindValue) (version : VersionValue) (noted : List EdgeValue) →
             self.now.1 ≡ controller_of kind version noted →
@@ -382,7 +391,8 @@ impl<P: Policy> Arbiter<P> {
         self.told(edge, pins)
     }
 
-    /// Takes in an edge that was made; one of another driver changes no wire of the controller's.
+    /// Takes in an edge that was made. An edge of another driver changes no wire of the
+    /// controller's.
     pub fn note(&mut self, edge: Edge)
         ensures policy { self.new.0 ≡ self.old.0 }
         ensures state { (kind : KindValue) (version : VersionValue) (noted : List EdgeValue)

@@ -1,4 +1,5 @@
-//! What holds of every policy's picks, and what a controller's rules read.
+//! What holds for every policy's picks, and what a controller's rules read. The functions are laws:
+//! a call costs nothing, and gives the fact to the prover.
 ghost use Rattle.std.specs.Prelude.{◌≡◌, ◌==◌, ◌<◌, ℕ, Bool, true, false, Option, Some};
 ghost use Rattle.std.specs.Option.{option_map_or};
 ghost use Rattle.vme_model.specs.declared.boards.ArbiterKind.{ArbiterKind};
@@ -11,15 +12,16 @@ ghost use Rattle.vme_model.specs.Rules.{is_pick, pick};
 ghost use Rattle.vme_model.specs.Verdict.{ruling_on};
 ghost use Rattle.vme_arbiter.specs.Local.{is_controllers, controller_readings, SayWhatIsTold};
 
-/// The level that a rule tests for is the one that is picked: there are never two.
+/// A level passes the rule's test exactly if it is the level that is picked, so two never do.
+/// Source: Std 1014, chapter 3.
 pub fn picks_one()
     ensures { (kind : ArbiterKind) (low : ℕ → Bool) (last n : ℕ) → n < 4 →
         is_pick kind low last n ≡ option_map_or (λ m. m == n) (pick kind low last) false }
 {}
 
-/// Whatever readings say what a controller is told have the same answer: its rules read its own
-/// wires, the request lines, BBSY*, AS*, DS0*, DTACK*, what is shown, its arbiter's kind and the
-/// level last granted, and nothing else.
+/// The rules of a controller read its own wires, the request lines, BBSY*, AS*, DS0*, DTACK*, what
+/// is shown, its arbiter's kind and the level last granted, and nothing else. Any readings that
+/// agree on these have the same answer.
 pub fn reads_what_it_is_told()
     ensures { (version : Version) (kind : ArbiterKind) (own : Wire → Bool) (last_level : ℕ)
         (pins : Pins) (r : Readings) (w : Wire) (fall : Bool) (value : Option Cycle) →

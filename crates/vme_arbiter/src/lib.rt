@@ -1,5 +1,5 @@
 //! The arbiter: which request of BR0* to BR3* is granted next, and when the controller of slot 1
-//! may drive its wires.
+//! may drive its wires. docs/PARTS.md explains the parts.
 #![tactic(auto)]
 
 mod arbiters;

@@ -1,4 +1,5 @@
-//! The three policies of the standard's chapter 3, and one that is any of them.
+//! The three policies of the standard (ANSI/IEEE Std 1014-1987, chapter 3), and one that is any of
+//! them.
 ghost use Rattle.std.specs.Prelude.{◌≡◌, ℕ, Bool, true, false, Option, Some, None, find};
 ghost use Rattle.vme_model.specs.declared.boards.ArbiterKind.TheVariants as kind;
 ghost use Rattle.vme_model.specs.declared.boards.ArbiterKind.{ArbiterKind};
@@ -9,16 +10,16 @@ ghost use Rattle.vme_model.proofs.Picks.{pick_is_low, none_low};
 
 use vme_model::{ArbiterKind, BusLevels};
 
-/// Which of the requested levels is granted.
+/// A policy: which of the requested levels is granted. Source: Std 1014, chapter 3.
 pub trait Policy {
-    /// The answer to a set of low lines and the level last granted.
+    /// The pick for a set of low lines and the level last granted.
     ghost picked: { Self → BusLevels → ℕ → Option ℕ };
 
-    /// Whether it serves a level at all.
+    /// Whether the policy serves a level at all.
     ghost serves: { Self → ℕ → Bool };
 
-    /// The level to grant, of the low lines and the level last granted (0 at power-up); none where
-    /// no line is low that it serves.
+    /// The level to grant, 0 to 3, for the low lines and the level last granted (0 at power-up). It
+    /// is none if no line that the policy serves is low.
     fn pick(&self, low: BusLevels, last: u8) -> Option<u8>
         ensures { result ≡ picked self.now low last };
 
@@ -26,30 +27,31 @@ pub trait Policy {
     ghost is_low: { (policy : Self) (low : BusLevels) (last n : ℕ) →
         picked policy low last ≡ Some n → has_bus_level low n ≡ true };
 
-    /// Where none is picked, no level that is served is low.
+    /// If no level is picked, no level that is served is low.
     ghost is_exhausted: { (policy : Self) (low : BusLevels) (last n : ℕ) →
         picked policy low last ≡ None → serves policy n ≡ true → has_bus_level low n ≡ false };
 }
 
-/// Single level: serves BR3* alone.
+/// Single level (SGL): it serves BR3* alone. Source: Std 1014, chapter 3.
 #[derive(Clone, Copy, PartialEq, Eq, Debug)]
 pub struct Sgl;
 
-/// Priority: the highest level that is low.
+/// Priority (PRI): it picks the highest level that is low. Source: Std 1014, chapter 3.
 #[derive(Clone, Copy, PartialEq, Eq, Debug)]
 pub struct Pri;
 
-/// Round robin: the first low level in the round that begins below the level last granted.
+/// Round robin select (RRS): it picks the first low level in the round that begins one below the
+/// level last granted, goes down, and goes on at 3 after 0. Source: Std 1014, chapter 3.
 #[derive(Clone, Copy, PartialEq, Eq, Debug)]
 pub struct Rrs;
 
-/// The policy of that kind.
+/// The policy of a kind that is known only when the program runs.
 #[derive(Clone, Copy, PartialEq, Eq, Debug)]
 pub struct AnyPolicy {
     kind: ArbiterKind,
 }
 
-/// The first of the levels that is low.
+/// The first level of the list that is low.
 fn first_low(low: BusLevels, levels: &[u8]) -> Option<u8>
     ensures { result ≡ find (has_bus_level low) levels.now }
 {

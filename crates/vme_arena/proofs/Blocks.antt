@@ -22,7 +22,7 @@ use Rattle.vme_arena.specs.contracts.piece.Piece as piece
 use Rattle.vme_arena.proofs.Values.{piece_val, piece_own, piece_told}
 use Rattle.vme_arena.proofs.Units.{serves}
 
--- what `take` answers, and what its contract says of it
+-- what `take` answers, and what its contract says about it
 abbrev pub Answered : RattleType
 Answered = option.the_row piece.the_row
 

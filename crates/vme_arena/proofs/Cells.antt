@@ -1,4 +1,5 @@
--- What a slot holds is one machine value, and is reached through a `&` with the thread's token. Assumes `Logic`.
+-- What a slot holds is one machine value, and is reached through a `&` with the thread's token.
+-- Assumes `Logic`.
 use Rattle.std.proofs.Common.{◌≡◌, ℕ, List, [], ◌∷◌, IfSome, None, Some, T, refl, subst}
 use seplogic.Ra.Ura.{Ura}
 use mir.Syntax.{Ty, Fn, Callee}
@@ -77,7 +78,7 @@ module _ (ρ : NamedLft) where
   content_blank None f = tt
   content_blank (Some h) f = tt
 
-  -- what shuts an open slot again
+  -- what closes an open slot again
   abbrev pub Open : {M : Type 1} {𝓤 : Ura M} (𝓛 : Logic 𝓤) → Stretch → ℕ → ℕ → Lft → Share → Item 𝓤
   Open {𝓤 = 𝓤} 𝓛 s b o κ q =
       ‵ (ftok (less every (b, o))) ⊛ raw (wand 𝓤 (sep 𝓤 (sem 𝓛 (fields_with Fields (fitting s) b o)) (𝓛.A.tok (less every (b, o)))) (𝓛.H.⇛ (sep 𝓤 (𝓛.A.lft κ q) (𝓛.A.tok every))))

@@ -1,4 +1,5 @@
--- Granules are cut and glued, one of them is reached, and their tags are room again. Assumes `Logic`.
+-- Granules are cut and joined, one of them is reached, and their tags are room again. Assumes
+-- `Logic`.
 use Rattle.std.proofs.Common.{◌≡◌, ℕ, zero, suc, ◌+◌, ◌*◌, ◌^◌, ◌<◌, Bool, true, false, T, not, eqb, [], ◌∷◌, refl, sym, arith, lit<, w8}
 use seplogic.Ra.Ura.{Ura}
 use mir.Syntax.{ty_int}

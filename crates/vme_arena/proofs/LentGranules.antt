@@ -1,4 +1,5 @@
--- What all granules own goes out for the rest of a borrow, and the struct stays behind. Assumes `Logic`.
+-- What all granules own is lent for the rest of a borrow, and the struct stays behind. Assumes
+-- `Logic`.
 use Rattle.std.proofs.Common.{ℕ, List, [], ◌∷◌}
 use seplogic.Ra.Ura.{Ura}
 use mir.Val.{Val}

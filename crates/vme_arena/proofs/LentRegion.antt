@@ -1,4 +1,5 @@
--- What a region's granules own goes out for the rest of a borrow, and the region stays behind. Assumes `Logic`.
+-- What a region's granules own is lent for the rest of a borrow, and the region stays behind.
+-- Assumes `Logic`.
 use Rattle.std.proofs.Common.{ℕ, List, [], ◌∷◌, ◌++◌, refl}
 use seplogic.Ra.Ura.{Ura}
 use mir.Syntax.{Ty}

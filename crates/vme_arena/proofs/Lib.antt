@@ -4,11 +4,11 @@ pub mod Blocks
 pub mod CarvedStretches
 -- what a slot holds is one value: `Slot::new`, `replace`
 pub mod Cells
--- granules are cut and glued, and one of them is reached: `Loan::split`, `take`, `put`, `Granules`
+-- granules are cut and joined, and one of them is reached: `Loan::split`, `take`, `put`, `Granules`
 pub mod Homes
--- what all granules own goes out for the rest of a borrow: `Granules::lend`
+-- what all granules own is lent for the rest of a borrow: `Granules::lend`
 pub mod LentGranules
--- the same of a region: `Region::lend`
+-- what a region owns is lent for the rest of a borrow: `Region::lend`
 pub mod LentRegion
 -- the slots of a signature, and what runs after a part of a body: all that is walked by hand
 pub mod Parts
@@ -20,7 +20,7 @@ pub mod Resizes
 pub mod Sent
 -- the names that the walks cite
 pub mod Steps
--- room in units of 16 bytes, and room with no alignment: `Granules`, `Loan`, `Piece::join`
+-- room in units of 16 bytes, and room without alignment: `Granules`, `Loan`, `Piece::join`
 pub mod Units
--- the values of the structs as the machine has them
+-- the values of the structs, as the machine has them
 pub mod Values

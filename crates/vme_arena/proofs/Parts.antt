@@ -1,4 +1,5 @@
--- The slots of a signature, what runs after a part of a body, and what is learned from the head of the context. Assumes `Logic`.
+-- The slots of a signature, what runs after a part of a body, and what is learned from the head of
+-- the context. Assumes `Logic`.
 use Rattle.std.proofs.Common.{ℕ, zero, suc, List, [], ◌∷◌, take, drop, take-append-drop, subst}
 use seplogic.Ra.Ura.{Ura}
 use mir.Syntax.{Body}

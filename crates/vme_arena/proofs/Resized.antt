@@ -22,7 +22,7 @@ module _ (R : RattleType) where
   abbrev Blocks : RattleType
   Blocks = block.the_row R
 
-  -- what `grown` and `shrunk` answer, and what their contracts say of it
+  -- what `grown` and `shrunk` return, and what their contracts say about it
   abbrev pub Resized : RattleType
   Resized = result.the_row Blocks Blocks
 

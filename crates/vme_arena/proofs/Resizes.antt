@@ -19,7 +19,7 @@ use Rattle.vme_arena.specs.Ownership.{units_at, units_of, token_at}
 use Rattle.vme_arena.proofs.Blocks.{slim}
 use Rattle.vme_arena.proofs.Units.{serves, glues}
 
--- the token says where the block lies, and stays
+-- the token says where the block lies, and the token is kept
 module _ {M : Type 1} {𝓤 : Ura M} {𝓛 : Logic 𝓤} {K : Type 0} {Γ : List (Item 𝓤)} {G : Goal 𝓤 𝓛.H} where
   pub token_tells : K → (t : Stretch) (at : ℕ) (τ : Ty) (p : Ptr) → (LiesIn t at (block_size (size τ)) p → Seq K 𝓛 (‵ (token_at t at τ p) ∷ Γ) G) → Seq K 𝓛 (‵ (token_at t at τ p) ∷ Γ) G
   token_tells k t at τ p next =
@@ -36,7 +36,7 @@ module _ (E : El) where
   abbrev R : RattleType
   R = param 0 E.row
 
-  -- room for n values, as a block's
+  -- the type of room for n values, as a block has it
   abbrev pub block_type : ℕ → Ty
   block_type n = bare (ty_array τ n)
 
@@ -110,7 +110,8 @@ module _ (E : El) where
           use2 𝓛 (‵ (units_at here (bytes old))) (apply∗ 𝓤 (sem 𝓛 (froom (block_type old) b at)) (sem 𝓛 (units_at here (bytes old)))) $ rewrite ! 0 (λ (k : ℕ). ‵ (units_at here k)) alike refl $ done !) $
           fpack ! (LiesIn t at (bytes new) here) (λ _. way new) (subst (λ (k : ℕ). LiesIn t at k here) alike lies) $ move ! (2 ∷ 1 ∷ 0 ∷ []) $ fjoin3 ! $ done !)
 
-      -- no bytes lie between the size of the block and its rounding, so the k bytes after it begin where its room ends
+      -- no bytes lie between the size of the block and its rounding, so the k bytes after it begin
+      -- where its room ends
       pub extended : (len old new k : ℕ) (xs : List E.row.Denot) → len ≤ old → old ≤ new → block_size (old * s) ≡ old * s → old * s + k ≡ block_size (new * s) → at + old * s + k < 2 ^ 63 → at + old * s + k ≤ t.end
           → sem 𝓛 (block len old xs) ∗ sem 𝓛 (units_at (block_ptr b (at + old * s)) k) ⊢ sem 𝓛 (block len new xs)
       extended len old new k xs le le' full sized short inside =
@@ -125,7 +126,8 @@ module _ (E : El) where
           let Back : Pr = room more b x -∗ H.room (units_of k) b x in
           qed 𝓛 (‵ (block len old xs) ∷ ‵ (units_at (block_ptr b x) k) ∷ []) ∵ move ! (1 ∷ []) $
           use1 𝓛 (raw (room more b x) ⊛ raw Back) (serves 𝓛 b (ty_array τ more) x k even fits (slim (ty_array τ more))) $ split ! $ move ! (2 ∷ []) $ fsplit3 ! $ move ! (1 ∷ 3 ∷ []) $
-          -- [the room after the values; the new room; the values; the token; the new room's way back]
+          -- [the room after the values; the new room; the values; the token; the new room's way
+          -- back]
           use1 𝓛 (raw (room (old - len) b (at + len * s))) (𝓛.laws.raw-room (ty_array τ (old - len)) b (at + len * s)) $ rewrite ! 1 (λ (d : ℕ). raw (room more b d)) far refl $
           use2 𝓛 (raw (room (new - len) b (at + len * s))) (glued E 𝓛 (old - len) more (new - len) b (at + len * s) (omega (arith, le, le'))) $
           use1 𝓛 (‵ (froom (block_type (new - len)) b (at + len * s))) (𝓛.laws.room-raw (ty_array τ (new - len)) b (at + len * s)) $ move ! (2 ∷ 3 ∷ []) $

@@ -1,4 +1,5 @@
--- Room in units of 16 bytes and room with no alignment: each is cut and glued, and units are lent as room for another type. Assumes `Logic`.
+-- Room in units of 16 bytes and room without alignment: each is cut and joined, and units are lent
+-- as room for another type. Assumes `Logic`.
 use Rattle.std.proofs.Common.{◌≡◌, ℕ, zero, suc, ◌+◌, ◌-◌, ◌*◌, ◌/◌, ◌%◌, ◌≤◌, max, [], ◌∷◌, refl, sym, ap, subst, ◌∙◌, arith}
 use seplogic.Ra.Ura.{Ura}
 use native.Mathlib.Nat.{mod_self, sub-zero}
@@ -50,7 +51,7 @@ module _ {M : Type 1} {𝓤 : Ura M} (𝓛 : Logic 𝓤) (b : ℕ) where
   abbrev Units : ℕ → ℕ → Pr
   Units x n = H.room (units_of n) b x
 
-  -- n bytes at x, with no alignment
+  -- n bytes at x, without alignment
   abbrev Loose : ℕ → ℕ → Pr
   Loose x n = H.room (loose n) b x
 
@@ -81,7 +82,7 @@ module _ {M : Type 1} {𝓤 : Ura M} (𝓛 : Logic 𝓤) (b : ℕ) where
   pub loosens : (x n : ℕ) → n % 16 ≡ 0 → Units x n ⊢ Loose x n ∗ (Loose x n -∗ Units x n)
   loosens x n even = 𝓛.laws.room_as (units_of n) (loose n) b x (omega arith) tt
 
-  -- units as room for a type that they can hold, a struct of it and of the bytes after it, with the way back
+  -- units as room for a type that fits in them, and the bytes after it, with the way back
   pub serves : (τ : Ty) (x n : ℕ) → n % 16 ≡ 0 → size τ ≤ n → Dv (align τ) 16 → Units x n ⊢ H.room τ b x ∗ (H.room τ b x -∗ Units x n)
   serves τ x n even fits dv =
       let rear : Tys = tcons (loose (n - size τ)) tnil in

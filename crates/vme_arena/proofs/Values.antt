@@ -1,4 +1,5 @@
--- The machine values of the crate's structs: what a struct's fields own tells them, and is made of nothing.
+-- The machine values of the crate's structs: what a struct's fields own determines them, and they
+-- are made of nothing.
 use Rattle.std.proofs.Common.{◌≡◌, ℕ, ◌^◌, ◌<◌, List, [], ◌∷◌, ◌++◌, refl, ◌∙◌, w64}
 use seplogic.Ra.Ura.{Ura}
 use mir.Syntax.{Ty, ty_ptr, ty_struct, tcons, tnil}
@@ -12,7 +13,7 @@ use denote.RawPtr.{Ptr, RawPtr, ptr_val}
 use denote.Shadow.{shadow, makes_shadow}
 use denote.Struct.Struct.{Struct}
 
--- a struct of which only the fields count
+-- a struct of which only the fields matter
 abbrev fields_of : List RattleType → RattleType
 fields_of Rs = Struct (record { name = []; args = []; types = []; fields = Rs })
 
@@ -45,7 +46,7 @@ granules_told p t vs s = s.1.0 ∙ (λ i. vstruct (of_list (s.1.1.0 i ++ (s.1.1.
 pub granules_made : {M : Type 1} {𝓤 : Ura M} (𝓛 : Logic 𝓤) (p t : Ptr) → ent 𝓤 (emp 𝓤) (sem 𝓛 (granules_own p t (granules_val p t ∷ [])))
 granules_made 𝓛 p t = makes_shadow 𝓛 (granules_own p t (granules_val p t ∷ [])) (λ _. (tt, (tt, (tt, tt)))) ((ptr_val p ∷ [], (ptr_val t ∷ [], tt)), (refl, (refl, (refl, tt))))
 
--- a loan: the same with a marker
+-- a loan: two pointers and a marker
 abbrev pub loan_val : Ptr → Ptr → Val
 loan_val p t = vstruct (vcons (ptr_val p) (vcons (ptr_val t) (vcons (vstruct vnil) vnil)))
 

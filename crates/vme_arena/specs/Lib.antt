@@ -1,5 +1,5 @@
--- `believe` marks what the arena's theorems rest on, so that who trusts one has to agree with it, and
--- `words` what only says how one function serves another.
+-- `believe` marks what the arena's theorems rest on: whoever trusts one has to agree with it.
+-- `words` marks what only says how one function serves another.
 
 -- words: the stretch of a lease's granules
 pub mod Held

@@ -1,4 +1,4 @@
--- What granules, pieces and blocks own. b is the object that holds the region.
+-- What granules, pieces and blocks own. b is the object in which the region lies.
 use Rattle.std.specs.Prelude.{◌≡◌, ℕ, zero, suc, ◌+◌, ◌-◌, ◌*◌, ◌/◌, ◌^◌, ◌<◌, Bool, true, false, List}
 use mir.Syntax.{Ty, w8, w128, ty_int, ty_array}
 use mir.Val.{Val, vint}
@@ -16,7 +16,7 @@ use Rattle.vme_arena.specs.Stretch.{Stretch, LiesIn, rounded, block_size}
 abbrev pub units_of : ℕ → Ty
 units_of n = ty_array (ty_int w128) (n / 16)
 
--- n bytes with no alignment
+-- n bytes without alignment
 abbrev pub loose : ℕ → Ty
 loose n = ty_array (ty_int w8) n
 
@@ -46,13 +46,13 @@ only_if true P = P
 only_if false P = ftrue
 
 module _ (b : ℕ) where
-  -- a tag at y, and the 16 bytes at x that it speaks of where they are at home
+  -- a tag at y, and the 16 bytes at x to which it belongs if they are at home
   abbrev pub granule : ℕ → ℕ → Fml
   granule x y = fex Bool
       (λ t. fsep (fat full_share (ty_int w8) b y (vint w8 (bit t)))
       (only_if t (units_at (block_ptr b x) 16)))
 
-  -- n of them
+  -- n such granules
   unfoldable pub homes : ℕ → ℕ → ℕ → Fml
   homes x y zero = ftrue
   homes x y (suc n) = fsep (granule x y) (homes (x + 16) (y + 1) n)
@@ -67,28 +67,28 @@ padding_at s k = fsep (room_for (loose (rounded k - k)) (block_ptr s.block (s.ta
     (fwand (room_for (loose (rounded k)) (block_ptr s.block s.tag))
     (units_at (block_ptr s.block s.tag) (rounded k)))
 
--- room for m granules and their tags, after n of them, with the padding of all tags
+-- room for m more granules and their tags after n of them, with the padding of all tags
 abbrev pub blank_at : Spot → ℕ → ℕ → Fml
 blank_at s n m = fsep (units_at (block_ptr s.block (s.at + n * 16)) (m * 16))
     (fsep (room_for (loose m) (block_ptr s.block (s.tag + n))) (padding_at s (n + m)))
 
--- the right to give the block for a τ at p, the place `at`, back to a lease of the stretch s
+-- the right to give the block for a τ at p, at the place `at`, back to a lease of the stretch s
 abbrev pub token_at : Stretch → ℕ → Ty → Ptr → Fml
 token_at s at τ p = fex (LiesIn s at (block_size (size τ)) p)
     (λ _. fwand (room_for τ p) (units_at p (block_size (size τ))))
 
--- the same, wherever it is
+-- the right to give the block for a τ at p back to a lease of the stretch s, at whatever place
 abbrev pub block_token : Stretch → Ty → Ptr → Fml
 block_token s τ p = fex ℕ (λ at. token_at s at τ p)
 
 module _ (F : RattleType) (I : F.Denot → Fml) where
-  -- fields of which I holds, in memory
+  -- fields for which I holds, in memory
   abbrev pub fields_with : ℕ → ℕ → Fml
   fields_with b o = fex (List Val)
       (λ vs. fsep (cell_at full_share F.mir vs b o)
       (fex F.Denot (λ i. fsep (F.own_val i vs) (I i))))
 
-  -- they are reached with the thread's token, and I holds again afterwards
+  -- the fields are reached with the thread's token, and I holds again afterwards
   abbrev pub behind_a_ref : Ptr → Lft → Fml
   behind_a_ref (block_ptr b o) = guarded (b, o) (fields_with b o)
   behind_a_ref null_ptr = said ffalse

@@ -1,4 +1,5 @@
--- Stretches of a region, and the blocks in them. Places are counts of bytes from the start of an object.
+-- Stretches of a region, and the blocks in them. Places are counts of bytes from the start of an
+-- object.
 use Rattle.std.specs.Prelude.{◌≡◌, ℕ, ◌+◌, ◌%◌, ◌^◌, ◌<◌, ◌≤◌, max, List, [], ◌∷◌, All, AllPairs}
 use Rattle.std.specs.Int.{next_multiple_of}
 use denote.RawPtr.{Ptr, block_ptr}
@@ -13,7 +14,7 @@ pub record Stretch : Type 0 where
 abbrev pub rounded : ℕ → ℕ
 rounded n = next_multiple_of n 16
 
--- the bytes of a block for n: one with no bytes takes a place too
+-- the bytes of a block for n bytes; a block without bytes takes a granule too
 abbrev pub block_size : ℕ → ℕ
 block_size n = rounded (max n 1)
 
@@ -21,11 +22,11 @@ block_size n = rounded (max n 1)
 abbrev pub front : ℕ → Stretch → Stretch
 front n s = record { block = s.block; start = s.start; end = s.start + n }
 
--- the bytes after those
+-- the bytes of a stretch after its first n
 abbrev pub behind : ℕ → Stretch → Stretch
 behind n s = record { block = s.block; start = s.start + n; end = s.end }
 
--- a size that a region's block may have
+-- a size that the block of a region may have
 abbrev pub IsBlockSize : ℕ → Type 0
 IsBlockSize n = (n % 16 ≡ 0) × (n < 2 ^ 63)
 
@@ -33,11 +34,11 @@ IsBlockSize n = (n % 16 ≡ 0) × (n < 2 ^ 63)
 abbrev pub LiesAt : ℕ → ℕ → ℕ → Ptr → Type 0
 LiesAt block at n p = (p ≡ block_ptr block at) × (at + n < 2 ^ 63) × (n % 16 ≡ 0)
 
--- the n bytes from p on lie in the stretch, at a multiple of 16
+-- the n bytes from p on lie in the stretch, and begin at a multiple of 16
 abbrev pub LiesIn : Stretch → ℕ → ℕ → Ptr → Type 0
 LiesIn s at n p = LiesAt s.block at n p × (s.start ≤ at) × (at + n ≤ s.end) × (at % 16 ≡ 0)
 
--- s is a part of t, from a multiple of 16 to one
+-- s is a part of t, and begins and ends at multiples of 16
 abbrev pub IsPart : Stretch → Stretch → Type 0
 IsPart t s = (s.block ≡ t.block) × (t.start ≤ s.start) × (s.start ≤ s.end) × (s.end ≤ t.end)
     × (s.start % 16 ≡ 0) × (s.end % 16 ≡ 0)
@@ -46,21 +47,21 @@ IsPart t s = (s.block ≡ t.block) × (t.start ≤ s.start) × (s.start ≤ s.en
 abbrev pub IsBefore : Stretch → Stretch → Type 0
 IsBefore s t = s.end ≤ t.start
 
--- the sum of the sizes, each rounded up
+-- the sum of the sizes, each rounded up to a multiple of 16
 abbrev pub total : List ℕ → ℕ
 total [] = 0
 total (n ∷ ns) = rounded n + total ns
 
--- what is carved from a rest for each of the sizes, one after another
+-- the stretches that are carved from a rest for each of the sizes, one after another
 abbrev pub carved : Stretch → List ℕ → List Stretch
 carved s [] = []
 carved s (n ∷ ns) = front (rounded n) s ∷ carved (behind (rounded n) s) ns
 
--- whatever is carved from a rest is a part of it
+-- whatever is carved from a rest is a part of that rest
 abbrev pub CarvedWithin : Type 0
 CarvedWithin = (s : Stretch) (ns : List ℕ) → s.start % 16 ≡ 0 → s.start + total ns ≤ s.end
     → All (IsPart s) (carved s ns)
 
--- and any two of the stretches are apart
+-- no two of the carved stretches overlap
 abbrev pub CarvedApart : Type 0
 CarvedApart = (s : Stretch) (ns : List ℕ) → AllPairs IsBefore (carved s ns)

@@ -6,15 +6,15 @@ use Rattle.vme_arena.specs.declared.region.Region.{Region}
 use Rattle.vme_arena.specs.declared.region.Rest.{Rest}
 use Rattle.vme_arena.specs.declared.lease.Lease.{Lease}
 
--- the number of bytes that the region was made with
+-- the number of bytes with which the region was made
 abbrev pub region_size : Region → ℕ
 region_size r = r.origin.size
 
--- where the rest begins in the region
+-- the place in the region at which the rest begins
 abbrev pub rest_start : Rest → ℕ
 rest_start r = r.start
 
--- the bytes from there to the end of the region
+-- the number of bytes from there to the end of the region
 abbrev pub rest_left : Rest → ℕ
 rest_left r = r.left
 
@@ -26,6 +26,6 @@ rest_name r = r.loan.name
 abbrev pub rest_stretch : Rest → Stretch
 rest_stretch r = record { block = r.loan.spot.block; start = r.start; end = r.start + r.left }
 
--- the stretch that its blocks are cut from
+-- the stretch from which its blocks are cut
 abbrev pub lease_stretch : Lease → Stretch
 lease_stretch l = l.slot

@@ -10,7 +10,7 @@ use std::marker::{Model, PhantomData};
 use std::mem::size_of;
 use std::ptr::copy_nonoverlapping;
 
-// Room for `cap` values, of which the first `len` are there.
+// Room for `cap` values, the first `len` of which are there.
 pub(crate) struct Block<T> {
     pub(crate) ptr: *mut T,
     pub(crate) marker: PhantomData<T>,
@@ -34,7 +34,8 @@ pub(crate) fn size_of_values<T>(count: usize) -> usize
 }
 
 impl<T> Block<T> {
-    // With the bytes that begin where its own end, it has room for `_cap` values.
+    // The block together with the bytes that begin where its own end. It then has room for `_cap`
+    // values.
     pub(crate) fn extend(self, behind: Piece, _cap: usize) -> Block<T>
         requires beside { (behind.block ≡ self.stretch.block)
             × (behind.at ≡ self.at + self.cap * type_size T.row)
@@ -51,7 +52,7 @@ impl<T> Block<T> {
         Block { ptr, marker }
     }
 
-    // The same bytes, with room for `_cap` values.
+    // The block, with its bytes counted as room for `_cap` values.
     pub(crate) fn narrow(self, _cap: usize) -> Block<T>
         requires { (self.len ≤ _cap) × (_cap ≤ self.cap)
             × (block_size (_cap * type_size T.row) ≡ block_size (self.cap * type_size T.row)) }
@@ -62,7 +63,7 @@ impl<T> Block<T> {
         Block { ptr, marker }
     }
 
-    // The values move to other bytes, and those of the block come back.
+    // Moves the values to other bytes, and returns the new block and the bytes of the old one.
     pub(crate) fn move_to(self, room: Piece, len: usize, _cap: usize) -> (Block<T>, Piece)
         requires room { (room.size ≡ block_size (_cap * type_size T.row))
             × LiesIn self.stretch room.at room.size room.ptr × (_cap * type_size T.row < 2 ^ 63) }

@@ -1,4 +1,4 @@
-//! All bytes of a region, in granules of 16, each with a tag that says whether it is at home.
+//! All bytes of a region, in granules of 16 bytes, each with a tag that says whether it is at home.
 ghost use Rattle.std.specs.Prelude.{◌≡◌, ℕ, ◌+◌, ◌*◌, ◌^◌, ◌<◌};
 ghost use base.Fml.{fsep};
 ghost use denote.RawPtr.{block_ptr};
@@ -15,7 +15,7 @@ use std::marker::{Model, PhantomData};
 pub(crate) struct Granules {
     pub(crate) bytes: *mut u8,
     pub(crate) tags: *mut u8,
-    // Those whose tag is written. The `blank` granules after them have none yet.
+    // How many granules have their tag written. The `blank` granules after them have none yet.
     ghost count: { ℕ },
     ghost blank: { ℕ },
     ghost spot: { Spot },
@@ -50,7 +50,7 @@ impl Granules {
         }
     }
 
-    // The first blank granule is at home from here on. `place` others stand before it.
+    // Marks the first blank granule as at home. `place` other granules stand before it.
     pub(crate) fn mark(self, place: usize) -> Granules
         requires { (self.count ≡ place) × (0 < self.blank) }
         ensures { (result.count ≡ place + 1) × (result.blank + 1 ≡ self.blank)
@@ -64,7 +64,8 @@ impl Granules {
         Granules { bytes, tags }
     }
 
-    // Whatever comes home or stays away, they are the same granules once the loan is over.
+    // Lends the granules. Whatever comes home or stays away, they are the same granules once the
+    // loan is over.
     pub(crate) fn lend<'r>(&'r mut self) -> Loan<'r>
         ensures loan { (result.count ≡ self.entry.now.count) × (result.spot ≡ self.entry.now.spot) }
         ensures* same { sem 𝓛
@@ -77,7 +78,7 @@ impl Granules {
         }
     }
 
-    // The memory that they were made of, where `bytes` is all of their bytes.
+    // The memory of which the granules were made, if `bytes` is all of their bytes.
     pub(crate) fn into_memory(self, bytes: Piece, size: usize) -> Memory
         requires whole { (self.spot.at ≡ 0) × (self.spot.tag ≡ self.count * 16) × (self.blank ≡ 0) }
         requires bytes { (bytes.block ≡ self.spot.block) × (bytes.at ≡ 0)

@@ -5,7 +5,8 @@ use crate::loan::Loan;
 use crate::memory::UNIT;
 use crate::piece::Piece;
 
-// Blocks are laid one after the other: none stands at the granule `next` or after it.
+// The granules of a stretch. Blocks are laid one after the other: none stands at the granule `next`
+// or after it.
 #[derive(Drop)]
 pub(crate) struct Held<'r> {
     loan: Loan<'r>,
@@ -16,7 +17,8 @@ pub(crate) struct Held<'r> {
 }
 
 impl<'r> Loan<'r> {
-    // The `count` granules from `place` on as one piece, or else the place of one that is away.
+    // The `count` granules from `place` on as one piece, or otherwise the place of one of them that
+    // is away.
     pub(crate) fn take_run(self, place: usize, count: usize) -> (Loan<'r>, Result<Piece, usize>)
         requires { (0 < count) × (place + count ≤ self.count) × (self.count < 2 ^ 59) }
         ensures { (result.0 ≡ self.entry)
@@ -42,7 +44,7 @@ impl<'r> Loan<'r> {
         (loan, Ok(run))
     }
 
-    // The piece is the `count` granules from `place` on, which come home.
+    // Brings the `count` granules from `place` on home, given as one piece.
     fn put_run(self, place: usize, count: usize, piece: Piece) -> Loan<'r>
         requires { (place + count ≤ self.count) × (piece.size ≡ count * 16)
             × (piece.at ≡ self.spot.at + place * 16) × (piece.block ≡ self.spot.block) }
@@ -58,7 +60,7 @@ impl<'r> Loan<'r> {
         loan
     }
 
-    // The place of the granule that the piece begins with.
+    // The place of the granule with which the piece begins.
     fn find(self, count: usize, piece: Piece) -> (usize, (Loan<'r>, Piece))
         requires granules { (self.count ≡ count) × (self.spot.at % 16 ≡ 0) }
         requires piece { (piece.block ≡ self.spot.block) × (self.spot.at ≤ piece.at)
@@ -101,7 +103,8 @@ impl<'r> Held<'r> {
         }
     }
 
-    // A block of `size` bytes after the others. Granules that never came home are passed over.
+    // A block of `size` bytes after the other blocks. Granules that never came home are passed
+    // over.
     pub(crate) fn take(self, size: usize) -> (Held<'r>, Option<Piece>)
         requires { (16 ≤ size) × (size % 16 ≡ 0) }
         ensures held { held_stretch result.0 ≡ held_stretch self.entry }
@@ -126,7 +129,7 @@ impl<'r> Held<'r> {
         (Held { loan, count, next }, None)
     }
 
-    // The `more` bytes after the block of `given` bytes at `start`, if it is the last.
+    // The `more` bytes after the block of `given` bytes at `start`, if that is the last block.
     pub(crate) fn take_behind(
         self,
         start: Piece,
@@ -158,7 +161,7 @@ impl<'r> Held<'r> {
         }
     }
 
-    // The block comes home, in any order.
+    // Brings a block home. Blocks may come home in any order.
     pub(crate) fn give(self, block: Piece, size: usize) -> Held<'r>
         requires size { (16 ≤ size) × (block.size ≡ size) }
         requires block { (block.block ≡ (held_stretch self).block)
@@ -173,7 +176,7 @@ impl<'r> Held<'r> {
         Held { loan, count, next }.settle()
     }
 
-    // The last blocks make room once they have come home, whatever their order was.
+    // Makes the room of the last blocks free once they have come home, in whatever order they did.
     fn settle(self) -> Held<'r>
         ensures { held_stretch result ≡ held_stretch self.entry }
     {

@@ -14,13 +14,13 @@ use std::alloc::{AllocError, Allocator};
 use std::fmt;
 use std::marker::PhantomData;
 
-/// A stretch of a region, as the allocator of one thread's collections: pass the lease itself to
-/// a `Vec` that is to own it, or a `&Lease` to several.
+/// A stretch of a region, as the allocator of one thread's collections. Pass the lease itself to a
+/// `Vec` that is to own it, or a `&Lease` to several.
 ///
 /// Blocks are laid one after the other, each as long as its size rounded up to 16 bytes. The room
-/// of a block is used again once it and all blocks after it are given back. The last block grows
-/// in place where its size is a multiple of 16, and others move. An alignment above 16 and a block
-/// for which no room is left are an `AllocError`.
+/// of a block is used again once the block and all blocks after it are given back. The last block
+/// grows in place if its size is a multiple of 16; any other block moves. An alignment above 16,
+/// and a block for which no room is left, are an `AllocError`.
 #[derive(Drop)]
 pub struct Lease<'r> {
     start: usize,
@@ -50,8 +50,8 @@ impl<'r> Lease<'r> {
         }
     }
 
-    // The slot is empty only while one of the two functions below runs, and they call nothing
-    // that could come back here.
+    // The slot is empty only while one of the next two functions runs, and they call nothing that
+    // could come back here.
     fn take(&self, size: usize, align: usize) -> Option<Piece>
         ensures { IfSome result
             (λ p. (p.size ≡ block_size size) × LiesIn self.now.slot p.at (block_size size) p.ptr
@@ -75,8 +75,9 @@ impl<'r> Lease<'r> {
         }
     }
 
-    // What a block of `old` bytes lacks to one of `new`, where it is the last and no bytes lie
-    // between its size and its rounding: those cannot be had while values lie in the block.
+    // The bytes that a block of `old` bytes lacks to be one of `new`, if it is the last block and
+    // no bytes lie between its size and its rounding. Those bytes cannot be had while values lie in
+    // the block.
     fn take_behind(&self, start: Piece, old: usize, new: usize) -> Option<Piece>
         requires sizes { (old ≤ new) × (new < 2 ^ 63) }
         requires block { (start.block ≡ self.now.slot.block) × (self.now.slot.start ≤ start.at)
@@ -94,8 +95,8 @@ impl<'r> Lease<'r> {
         behind
     }
 
-    // The block with room for `new_cap` values, in place or moved, or else as it was. `start` is
-    // where it begins.
+    // The block with room for `new_cap` values, in place or moved, or otherwise as it was. `start`
+    // is where it begins.
     fn grown<T>(
         &self,
         block: Block<T>,
@@ -123,8 +124,9 @@ impl<'r> Lease<'r> {
         self.moved(block, len, old_cap, new_cap)
     }
 
-    // The same with room for fewer. A block that is to have fewer granules moves: its rear is none
-    // while values lie before it.
+    // The block with room for fewer values, in place or moved, or otherwise as it was. A block that
+    // is to have fewer granules moves, because its rear cannot be given back while values lie
+    // before it.
     fn shrunk<T>(
         &self,
         block: Block<T>,
@@ -148,7 +150,7 @@ impl<'r> Lease<'r> {
         self.moved(block, len, old_cap, new_cap)
     }
 
-    // Its values in a block after all others, if there is room for one.
+    // The block's values in a new block after all others, if there is room for one.
     fn moved<T>(
         &self,
         block: Block<T>,

@@ -1,7 +1,8 @@
 //! One region of memory, carved into stretches that serve collections as their allocators.
+//! docs/ARENA.md explains it.
 //!
-//! A stretch lives as long as the borrow of its region, may move to another thread, and is exact:
-//! a carving is refused only where the region's rest is too short, and then nothing changes.
+//! A stretch lives as long as the borrow of its region, and may move to another thread. Carving is
+//! exact: it is refused only if the region's rest is too short, and then nothing changes.
 #![tactic(auto)]
 
 mod block;

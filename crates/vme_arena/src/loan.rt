@@ -15,7 +15,7 @@ pub(crate) struct Loan<'r> {
     ghost count: { ℕ },
     ghost spot: { Spot },
     ghost placed: { IsSpot spot count bytes tags },
-    // Names the borrow in the clause that says what its lender ends as.
+    // The name of the borrow, for the clause that says what its lender ends as.
     ghost name: { GName },
 }
 
@@ -24,7 +24,7 @@ impl<'r> Model for Loan<'r> {
 }
 
 impl<'r> Loan<'r> {
-    // The granules from `front` on, and the first `front`.
+    // The granules from `front` on, and the first `front` granules.
     pub(crate) fn split(self, front: usize) -> (Loan<'r>, Loan<'r>)
         requires { front ≤ self.count }
         ensures front { (result.1.count ≡ front) × (result.1.spot ≡ self.entry.spot) }
@@ -53,7 +53,7 @@ impl<'r> Loan<'r> {
         }
     }
 
-    // The granule at `place`, if it is at home. It is away from here on.
+    // The granule at `place`, if it is at home. It is away from then on.
     pub(crate) fn take(self, place: usize) -> (Loan<'r>, Option<Piece>)
         requires { place < self.count }
         ensures { (result.0 ≡ self.entry)
@@ -86,7 +86,8 @@ impl<'r> Loan<'r> {
         }
     }
 
-    // The front of the piece is the granule at `place`, and comes home. The rest of it stays.
+    // Brings the granule at `place` home, which is the front of the piece. The rest of the piece is
+    // returned.
     pub(crate) fn put(self, place: usize, piece: Piece) -> (Loan<'r>, Piece)
         requires { (place < self.count) × (16 ≤ piece.size) × (piece.at ≡ self.spot.at + place * 16)
             × (piece.block ≡ self.spot.block) }

@@ -7,10 +7,10 @@ ghost use Rattle.vme_arena.specs.Ownership.{units_at, units_of};
 use std::alloc::Allocator;
 use std::marker::{Model, PhantomData};
 
-// Blocks begin at multiples of it and are as long as multiples of it.
+// The unit of blocks, in bytes: they begin at multiples of it, and their sizes are multiples of it.
 pub(crate) const UNIT: usize = 16;
 
-// `size` bytes in which nothing lies.
+// Bytes in which nothing lies, `size` of them.
 pub(crate) struct Memory {
     pub(crate) ptr: *mut u8,
     pub(crate) size: usize,
@@ -21,7 +21,7 @@ impl Model for Memory {
     ghost also_owns = { λ m. units_at m.ptr m.size };
 }
 
-// The right to give them back. Where it is let go, they stay taken.
+// The right to give the bytes back. If it is dropped, they stay taken.
 #[derive(Drop)]
 pub(crate) struct Deed<A: Allocator> {
     pub(crate) marker: PhantomData<A>,

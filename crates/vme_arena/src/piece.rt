@@ -5,7 +5,7 @@ ghost use Rattle.vme_arena.specs.Ownership.{units_at};
 
 use std::marker::Model;
 
-// Where one is let go, its bytes stay away from the region.
+// A piece of a region. If it is dropped, its bytes stay away from the region.
 #[derive(Drop)]
 pub(crate) struct Piece {
     pub(crate) ptr: *mut u8,
@@ -20,7 +20,7 @@ impl Model for Piece {
 }
 
 impl Piece {
-    // One piece, of two where the second begins at the end of the first.
+    // Two pieces as one. The second begins at the end of the first.
     pub(crate) fn join(self, next: Piece) -> Piece
         requires { (self.block ≡ next.block) × (self.at + self.size ≡ next.at) }
         ensures { (result.block ≡ self.block) × (result.at ≡ self.at)

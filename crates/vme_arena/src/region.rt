@@ -1,4 +1,4 @@
-//! A region of memory, and what of it was not carved yet.
+//! A region of memory, and the part of it that has not been carved yet.
 ghost use Rattle.std.specs.Prelude.{◌≡◌, ℕ, ◌+◌, ◌*◌, ◌%◌, ◌^◌, ◌<◌, ◌≤◌, ◌↔◌, IfOk, IfErr, IsErr};
 ghost use denote.RawPtr.{block_ptr};
 ghost use Rattle.vme_arena.specs.Stretch.{rounded};
@@ -12,20 +12,20 @@ use std::alloc::{AllocError, Global};
 use std::marker::PhantomData;
 use thiserror::Error;
 
-/// A stretch was asked for that is longer than what is left.
+/// The error of a carving: a stretch was requested that is longer than what is left.
 #[derive(Clone, Copy, Debug, PartialEq, Eq, Error)]
 #[error("{asked} bytes are asked for, and {left} are left")]
 pub struct Full {
-    /// The bytes that were asked for, before rounding.
+    /// The number of bytes that were requested, before rounding.
     pub asked: usize,
-    /// The bytes that are left.
+    /// The number of bytes that are left.
     pub left: usize,
 }
 
 /// One block of memory, from which stretches are carved.
 ///
-/// The block goes back when the region is dropped. Where a block of a lease was never given back,
-/// as after a `mem::forget`, it stays away for good, and the drop leaks the region's block.
+/// The block is freed when the region is dropped. If a block of a lease was never given back, for
+/// instance after a `mem::forget`, it stays away for good, and the drop leaks the region's block.
 pub struct Region {
     // All bytes, with their tags.
     granules: Granules,
@@ -39,17 +39,18 @@ pub struct Region {
         × (origin.deed.ptr ≡ block_ptr granules.spot.block 0) },
 }
 
-// What a region was made with. It stays while the granules are lent.
+// What a region was made with. It stays here while the granules are lent.
 struct Origin {
     size: usize,
-    // The granules of 16 bytes, and with their tags the block.
+    // The number of granules of 16 bytes, and the size of the block with their tags.
     count: usize,
     room: usize,
     deed: Deed<Global>,
     alloc: Global,
 }
 
-/// What has not been carved yet. It ends where the region does, and begins after what was carved.
+/// The part of a region that has not been carved yet. It begins after what was carved, and ends
+/// where the region does.
 #[derive(Drop)]
 pub struct Rest<'r> {
     start: usize,
@@ -80,8 +81,11 @@ impl Region {
     ghost use Rattle.vme_arena.specs.Lending.{EndsAsItWas};
     ghost use Rattle.vme_arena.specs.Words.{region_size, rest_start, rest_left, rest_name};
 
-    /// A region of `bytes` bytes, in one block that is aligned to 16. Beside the bytes, rounded up
-    /// to 16, the block has one byte for each 16 of them.
+    /// A region of `bytes` bytes, in one block that is aligned to 16. The block has those bytes,
+    /// rounded up to 16, and one byte more for each 16 of them.
+    ///
+    /// # Errors
+    /// `AllocError` if memory runs out.
     pub fn new(alloc: Global, bytes: usize) -> Result<Region, AllocError>
         ensures { IfOk result (λ r. region_size r ≡ bytes) }
     {
@@ -104,7 +108,8 @@ impl Region {
         Ok(Region { granules, origin })
     }
 
-    /// All of the region, to be carved anew. The region is the same once that is gone, whatever came of it.
+    /// All of the region, to be carved anew. The region is unchanged once the rest is gone,
+    /// whatever was carved from it.
     pub fn rest<'r>(&'r mut self) -> Rest<'r>
         ensures rest { (rest_start result ≡ 0) × (rest_left result ≡ region_size self.entry.now) }
         ensures* same { sem 𝓛 (EndsAsItWas self.entry (rest_name result)) }
@@ -118,7 +123,7 @@ impl Region {
         }
     }
 
-    // Its granules, as they lend themselves.
+    // The region's granules, lent for the borrow.
     fn lend<'r>(&'r mut self) -> Loan<'r>
         ensures loan { (result.count ≡ self.entry.now.granules.count)
             × (result.spot ≡ self.entry.now.granules.spot) }
@@ -136,15 +141,17 @@ impl<'r> Rest<'r> {
     ghost use Rattle.vme_arena.specs.Words.{rest_start, rest_left, rest_stretch, lease_stretch};
     ghost use Rattle.vme_arena.specs.Stretch.{front, behind};
 
-    /// The bytes that are left.
+    /// The number of bytes that are left.
     pub fn left(&self) -> usize
         ensures { result ≡ rest_left self.now }
     {
         self.left
     }
 
-    /// The front of the rest, as long as `bytes` rounded up to a multiple of 16. `Full` is answered
-    /// exactly where that is more than what is left, and changes nothing.
+    /// The front of the rest, as long as `bytes` rounded up to a multiple of 16.
+    ///
+    /// # Errors
+    /// `Full` if and only if that is more than what is left; then nothing changes.
     pub fn carve(&mut self, bytes: usize) -> Result<Lease<'r>, Full>
         ensures full { IsErr result ↔ (rest_left self.old < rounded bytes) }
         ensures refused { IfErr result

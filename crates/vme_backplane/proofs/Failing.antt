@@ -1,4 +1,4 @@
--- What an edge fails with the end of the trace, from what it fails without.
+-- What an edge fails with the end of the trace, from what it fails without it.
 use Rattle.std.proofs.Common.{◌≡◌, ◌∙◌, refl, sym, ap, Bool, true, false, [], ◌∷◌, length}
 use Rattle.std.specs.Prelude.{◌==◌, ◌&&◌, not, Ok, Err, is_ok}
 use Rattle.vme_model.specs.declared.conditions.Condition.TheVariants.{HasRoom}
@@ -19,7 +19,7 @@ module _ (b : State) (e : Edge) where
   abbrev is_full : Bool
   is_full = length b.history == b.max
 
-  -- it lacks room where it is accepted without the end, and the end is there
+  -- it lacks room if it is accepted without the end of the trace, and the end is reached
   lacking : (full : Bool) (j : Judgement) → is_full ≡ full → without ≡ j → (full && is_ok j) ≡ true → verdict b e ≡ Err TraceFull
   lacking true (Ok u) end so lacks = passed b.version b.plan b.history e (at_end is_full) so ∙ ap at_end end
   lacking true (Err r) end so lacks = absurd (cc)
@@ -30,7 +30,7 @@ module _ (b : State) (e : Edge) where
   has_end true (Err r) so lacks = absurd (cc)
   has_end false j so lacks = absurd (cc)
 
-  -- and else it is answered as without the end
+  -- otherwise the answer is that without the end of the trace
   answered : (full : Bool) (j : Judgement) → is_full ≡ full → without ≡ j → (full && is_ok j) ≡ false → verdict b e ≡ without
   answered true (Ok u) end so has = absurd (cc)
   answered true (Err r) end so has = refused b.version b.plan b.history e r (at_end is_full) so ∙ sym so

@@ -6,10 +6,11 @@ pub mod Replayed
 pub mod WellFormed
 -- `backplanes_answer_alike`
 pub mod Alike
--- the offers and the open edges, from those but for the end of the trace: `Backplane::offers`, `offer`,
--- `open_edges`
+-- the offers and the open edges, from those without the end of the trace: `Backplane::offers`,
+-- `offer`, `open_edges`
 pub mod OfferChoice
 -- an offer is an edge that would be accepted: `Backplane::make_offer`, `step`
 pub mod AcceptedOffers
--- what an edge fails with the end of the trace, from what it fails without: `Backplane::told`, `failing`
+-- what an edge fails with the end of the trace, from what it fails without it: `Backplane::told`,
+-- `failing`
 pub mod Failing

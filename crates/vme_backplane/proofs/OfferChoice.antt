@@ -1,4 +1,4 @@
--- The offers and the open edges, from those but for the end of the trace.
+-- The offers and the open edges, from those without the end of the trace.
 use Rattle.std.proofs.Common.{◌≡◌, ◌∙◌, refl, sym, ap, subst, Bool, true, false, List, [], ◌∷◌, filter, length}
 use Rattle.std.specs.Prelude.{◌==◌, ◌&&◌, not, Ok, Err, is_ok}
 use Rattle.std.specs.List.{flat_map}
@@ -30,9 +30,9 @@ none_pass : {A : Type 0} (test : A → Bool) (xs : List A) → ((x : A) → test
 none_pass {A} test [] fails = refl
 none_pass {A} test (x ∷ xs) fails = rw (fails x) (none_pass test xs fails)
 
--- what is accepted of some edges
+-- which of some edges are accepted
 module _ (b : State) (es : List Edge) where
-  -- the verdict where the trace is full, or not
+  -- the verdict if the trace is full, or if it is not
   abbrev at_end : Bool → Edge → Judgement
   at_end full e = judged b.version b.plan b.history e (check (not full) TraceFull (Ok tt))
 

@@ -33,7 +33,7 @@ was_allowed_in version p xs i e legal is =
     let front = legal_before version p (reverse (drop (i + 1) xs)) (reverse (take (i + 1) xs)) (subst (IsLegal version p) whole legal) in
     (subst (IsLegal version p) (next_edge xs i e is) front).0
 
--- the rules allowed it
+-- the rules allowed that edge
 pub was_allowed : (version : Version) (p : Plan) (h : List Edge) (i : ℕ) (e : Edge) → IsLegal version p h → slice_get (in_order h) i ≡ Some e → verdict_but_full version p (reverse (take i (in_order h))) e ≡ Ok tt
 was_allowed version p h i e legal is = was_allowed_in version p (in_order h) i e (subst (IsLegal version p) (sym (reverse-reverse h)) legal) is
 

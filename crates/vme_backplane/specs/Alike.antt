@@ -5,8 +5,8 @@ use Rattle.vme_model.specs.Locality.{is_settled_by_others}
 use Rattle.vme_model.specs.Views.{view}
 use Rattle.vme_model.specs.Verdict.{State, verdict}
 
--- where version and plan are one and both have room: the same verdict where the edge's driver saw the
--- same, unless a settling rule looks at other boards
+-- if version and plan are the same and both have room: the verdict is the same if the edge's driver
+-- saw the same, unless a settling rule looks at other boards
 abbrev pub AnswerAlike : State → State → Edge → Type 0
 AnswerAlike a b e =
     a.version ≡ b.version → a.plan ≡ b.plan → length a.history < a.max → length b.history < b.max

@@ -1,4 +1,4 @@
--- believe: two backplanes that answer an edge alike, for `backplanes_answer_alike`
+-- believe, for `backplanes_answer_alike`: two backplanes that answer an edge alike
 pub mod Alike
--- believe, for safety: what holds of the history of every backplane
+-- believe, for safety: what holds for the history of every backplane
 pub mod Sound

@@ -1,4 +1,4 @@
--- What holds of the history of every backplane.
+-- What holds for the history of every backplane.
 use Rattle.vme_model.specs.Safe.{IsSafe, IsOrderly}
 use Rattle.vme_model.specs.Verdict.{State, IsLegal}
 

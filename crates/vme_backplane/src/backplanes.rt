@@ -1,4 +1,4 @@
-//! A backplane, which takes edges one by one.
+//! A backplane, which takes its edges one by one.
 ghost use Rattle.std.specs.Prelude.{◌≡◌, ◌==◌, ◌&&◌, ◌+◌, ◌%◌, ◌<◌, ◌≤◌, ◌↔◌, [], IfOk, IsTrue, Ok, Some, false, true, is_ok, length, slice_get};
 ghost use Rattle.std.specs.Option.{option_map_or};
 ghost use Rattle.vme_model.specs.History.{in_order};
@@ -26,10 +26,11 @@ use vme_slots::Plan;
 use vme_store::{Store, Trace};
 use vme_wiring::Wiring;
 
-/// Does the same with an edge in an arm for each wire. There `$edge` is a copy whose wire is a constant, so that the compiler
-/// leaves out what edges of other wires need. The contracts of the functions that call it refuse a wrong arm.
+/// Evaluates `$done`, an expression over an edge, in an arm for each wire. In an arm, `$edge` is a
+/// copy whose wire is a constant, so the compiler leaves out what edges of other wires need. The
+/// contracts of the functions that `$done` calls refuse a wrong arm.
 ///
-/// `$edge` is a variable of type `Edge`. A crate that calls it imports `vme_model::Wire`.
+/// `$edge` is a variable of type `Edge`. A crate that uses the macro imports `vme_model::Wire`.
 #[macro_export]
 macro_rules! by_wire {
     ($edge:ident => $done:expr) => {
@@ -56,7 +57,8 @@ macro_rules! by_wire {
     }};
 }
 
-/// A backplane: the version of its rules, its plan, and the edges that were made, with the wiring that they lead to.
+/// A backplane: the version of its rules, its plan, and the edges that were made, with the wiring
+/// to which they lead.
 #[derive(Drop)]
 pub struct Backplane<'r> {
     version: Version,
@@ -81,14 +83,15 @@ impl<'r> Model for Backplane<'r> {
     ghost invariant = { λ b. IsWiringOf b.version b.plan b.store.history b.wiring };
 }
 
-/// How many edges a run accepted and refused.
+/// How many edges of a run were accepted, and how many were refused.
 #[derive(Clone, Copy, PartialEq, Eq, Debug)]
 pub struct Counts {
     pub accepted: u64,
     pub refused: u64,
 }
 
-/// The offer that is made in a round: of k offers the one at place `round mod k`, if there is any.
+/// The offer that is made in a round: of k offers the one at place `round mod k`, counted from 0;
+/// none if there is no offer. Source: profile.
 pub fn choice(offers: &[Edge], round: u32) -> Option<Edge>
     ensures { result ≡ slice_get offers.now (round % length offers.now) }
 {
@@ -99,7 +102,7 @@ pub fn choice(offers: &[Edge], round: u32) -> Option<Edge>
 }
 
 impl<'r> Backplane<'r> {
-    /// A backplane at power-up: no edge was made.
+    /// A backplane at power-up: no edge was made. It holds as many edges as the trace has room for.
     pub fn new(plan: Plan, trace: Trace<'r>, version: Version) -> Backplane<'r>
         ensures { result ≡ at_power_up version plan trace.entry }
     {
@@ -112,7 +115,8 @@ impl<'r> Backplane<'r> {
         }
     }
 
-    /// What holds of every backplane.
+    /// A law: what holds for every backplane. The call costs nothing, and gives these facts to the
+    /// prover.
     pub fn laws(&self)
         ensures accepted { IsAccepted self.now.plan }
         ensures legal { IsLegal self.now.version self.now.plan self.now.history }
@@ -122,7 +126,8 @@ impl<'r> Backplane<'r> {
         self.store.laws();
     }
 
-    /// What follows for its history: it is safe and orderly.
+    /// A law: the history of every backplane is safe and orderly. The call costs nothing, and gives
+    /// these facts to the prover. docs/SAFETY.md explains the claims.
     #[tactic(auto, using(vme_model::proofs::Safety::legal_is_safe, vme_model::proofs::Safety::legal_is_orderly))]
     pub fn safety(&self)
         ensures safe { IsSafe self.now.plan self.now.history }
@@ -131,7 +136,7 @@ impl<'r> Backplane<'r> {
         self.laws();
     }
 
-    /// The answer to an edge, but for the end of the trace.
+    /// The answer to an edge, without the end of the trace.
     #[inline(always)]
     fn judge(&self, edge: Edge) -> Result<(), Refused>
         ensures { result ≡ verdict_but_full self.now.version self.now.plan self.now.history edge }
@@ -139,7 +144,10 @@ impl<'r> Backplane<'r> {
         self.wiring.judge(edge)
     }
 
-    /// The answer to an edge, but for what it delivers: the first that applies of E1 to E5, or none.
+    /// Whether the rules allow an edge now. Nothing is made. Source: docs/RULES.md, E1 to E5.
+    ///
+    /// # Errors
+    /// The first of E1 to E5 that applies.
     #[tactic(auto, using(crate::proofs::Judged::refused, crate::proofs::Judged::passed))]
     #[inline(always)]
     pub fn verdict(&self, edge: Edge) -> Result<(), Refused>
@@ -157,7 +165,11 @@ impl<'r> Backplane<'r> {
         }
     }
 
-    /// What `step` would answer to an edge: what it delivers, or the first that applies of E1 to E5. Nothing is made.
+    /// The answer that `step` would give to an edge: what the edge delivers. Nothing is made.
+    /// Source: docs/RULES.md, E1 to E5.
+    ///
+    /// # Errors
+    /// The first of E1 to E5 that applies.
     pub fn answer(&self, edge: Edge) -> Result<Option<Delivery>, Refused>
         ensures { result ≡ answer self.now edge }
     {
@@ -167,7 +179,7 @@ impl<'r> Backplane<'r> {
         }
     }
 
-    /// Whether the edge is refused for the end of the trace alone.
+    /// Whether the edge is refused only because the trace is full.
     fn lacks_room(&self, edge: Edge) -> bool
         ensures { result ≡ ((length self.now.history == self.now.max)
             && is_ok (verdict_but_full self.now.version self.now.plan self.now.history edge)) }
@@ -175,7 +187,7 @@ impl<'r> Backplane<'r> {
         self.is_full() && self.judge(edge).is_ok()
     }
 
-    /// What is tested of an edge, but for the end of the trace.
+    /// What is tested for an edge, without the end of the trace.
     fn told_but_full<A: Outcome>(&self, edge: Edge) -> A
         ensures { A.tells result
             (tested_but_full self.now.version self.now.plan self.now.history edge) }
@@ -183,8 +195,9 @@ impl<'r> Backplane<'r> {
         self.wiring.told(edge)
     }
 
-    /// What is tested of an edge, as far as the answer to it comes: the one condition that fails at E1 and E2, else those
-    /// of its rule, and where they hold, that of its settling rule; behind them, at E5, that of the room.
+    /// What is tested for an edge, as far as its answer needs it. At E1 and E2 it is the one
+    /// condition that fails. Otherwise it is the conditions of the edge's rule; if they hold, the
+    /// condition of its settling rule follows, and at E5 that of the room. Source: profile.
     pub fn told<A: Outcome>(&self, edge: Edge) -> A
         ensures { A.tells result (tested self.now edge) }
     {
@@ -196,7 +209,7 @@ impl<'r> Backplane<'r> {
         }
     }
 
-    /// The conditions that an edge fails, but for the end of the trace.
+    /// The conditions that an edge fails, without the end of the trace.
     fn failing_but_full(&self, edge: Edge) -> ArrayVec<Condition, 5>
         ensures { result.items
             ≡ unmet_but_full self.now.version self.now.plan self.now.history edge }
@@ -204,8 +217,8 @@ impl<'r> Backplane<'r> {
         self.wiring.failing(edge)
     }
 
-    /// The conditions that an edge fails, of the first of E1 to E5 that applies, in the order of its guard: none where
-    /// `step` would accept it.
+    /// The conditions that an edge fails, for the first of E1 to E5 that applies, in the order of
+    /// its guard. There are none if `step` would accept the edge. Source: profile.
     pub fn failing(&self, edge: Edge) -> ArrayVec<Condition, 5>
         ensures { result.items ≡ unmet self.now edge }
     {
@@ -217,9 +230,11 @@ impl<'r> Backplane<'r> {
         self.failing_but_full(edge)
     }
 
-    /// Makes the edge where the rules allow it, and answers what it delivers.
+    /// Makes the edge if the rules allow it, and returns what it delivers. It asks for no memory.
+    /// Source: docs/RULES.md.
     ///
-    /// A refusal is the first that applies of E1 to E5, and leaves everything as it was. No memory is asked for.
+    /// # Errors
+    /// The first of E1 to E5 that applies. A refusal leaves everything as it was.
     pub fn step(&mut self, edge: Edge) -> Result<Option<Delivery>, Refused>
         ensures answer { result ≡ answer self.old edge }
         ensures accepted { is_ok result ≡ is_ok (verdict self.old edge) }
@@ -232,7 +247,8 @@ impl<'r> Backplane<'r> {
         answer
     }
 
-    /// The same, but for what follows of every history, with an arm for each wire.
+    /// Makes the edge if the rules allow it, with an arm for each wire; `step` adds what follows
+    /// for every history.
     #[inline(always)]
     fn step_by_wire(&mut self, edge: Edge) -> Result<Option<Delivery>, Refused>
         ensures answer { result ≡ answer self.old edge }
@@ -244,7 +260,7 @@ impl<'r> Backplane<'r> {
         })
     }
 
-    /// Makes an edge that would be accepted, and answers what it delivers.
+    /// Makes an edge that would be accepted, and returns what it delivers.
     #[inline(always)]
     fn take(&mut self, edge: Edge) -> Option<Delivery>
         requires { verdict self.old edge ≡ Ok tt }
@@ -256,7 +272,7 @@ impl<'r> Backplane<'r> {
         delivery
     }
 
-    /// What holds of an edge that would be accepted.
+    /// A law: what holds for an edge that would be accepted.
     #[inline(always)]
     fn accepted(&self, edge: Edge)
         requires { verdict self.now edge ≡ Ok tt }
@@ -268,7 +284,7 @@ impl<'r> Backplane<'r> {
         let _edge = edge;
     }
 
-    /// Makes an edge that would be accepted, as `verdict` tells.
+    /// Makes an edge for which `verdict` answers `Ok`.
     #[inline(always)]
     pub fn make(&mut self, edge: Edge)
         requires { verdict self.old edge ≡ Ok tt }
@@ -280,7 +296,7 @@ impl<'r> Backplane<'r> {
         self.store.push(edge);
     }
 
-    /// The same, with an arm for each wire.
+    /// Makes an edge that would be accepted, with an arm for each wire.
     #[inline(always)]
     fn make_by_wire(&mut self, edge: Edge)
         requires { verdict self.old edge ≡ Ok tt }
@@ -289,7 +305,7 @@ impl<'r> Backplane<'r> {
         by_wire!(edge => self.make(edge))
     }
 
-    /// Steps through all the edges, past those that are refused.
+    /// Steps through all the edges. A refused edge changes nothing, and the run goes on after it.
     pub fn run(&mut self, edges: &[Edge]) -> Counts
         ensures state { self.new ≡ kept self.old edges.now }
         ensures sound { IsSound self.new }
@@ -311,15 +327,15 @@ impl<'r> Backplane<'r> {
         counts
     }
 
-    /// What a driver reads on its pins.
+    /// What a driver reads on its pins. Source: profile.
     pub fn pins(&self, driver: Driver) -> Pins
         ensures { result ≡ pins self.now.plan self.now.history driver }
     {
         self.wiring.pins(driver)
     }
 
-    /// The driver's edges that would be accepted, in the order of its wires, with one acknowledge and one access at
-    /// most to show.
+    /// The offers of a driver: those of the edges considered for it that would be accepted, in the
+    /// order of its wires. At most one acknowledge and one access are considered. Source: profile.
     pub fn offers(&self, driver: Driver) -> ArrayVec<Edge, 16>
         ensures { result.items ≡ offered self.now driver }
     {
@@ -329,7 +345,7 @@ impl<'r> Backplane<'r> {
         self.offers_but_full(driver)
     }
 
-    /// The same, but for the end of the trace.
+    /// The offers of a driver, without the end of the trace.
     fn offers_but_full(&self, driver: Driver) -> ArrayVec<Edge, 16>
         ensures { result.items
             ≡ offered_but_full self.now.version self.now.plan self.now.history driver }
@@ -337,10 +353,12 @@ impl<'r> Backplane<'r> {
         self.wiring.offers(driver)
     }
 
-    /// All edges that the driver can make: of those that move one of its wires, those that would be accepted, in the
-    /// order of its wires. An address group goes on with each acknowledge, by level, and then with each access, by slot.
+    /// All edges that the driver can make: those of the edges that move one of its wires that would
+    /// be accepted, in the order of its wires. An address group goes on with each acknowledge, by
+    /// level, and then with each access, by slot. Source: profile (the order).
     ///
-    /// Each is tried, whether or not a board would consider it, so that it takes longer than `offers`.
+    /// Each edge is tried, whether or not a board would consider it, so this takes longer than
+    /// `offers`.
     pub fn open_edges(&self, driver: Driver) -> ArrayVec<Edge, 36>
         ensures edges { result.items ≡ open_edges self.now driver }
         ensures all { IsAllThatIsAllowed self.now driver result.items }
@@ -352,7 +370,8 @@ impl<'r> Backplane<'r> {
         }
     }
 
-    /// Whether the driver waits for an edge of another. It then has no offer; where it answers false, there may be none either.
+    /// Whether the driver waits for an edge of another driver. If so, it has no offer. If it
+    /// answers false, there may be no offer either.
     fn is_waiting(&self, driver: Driver) -> bool
         ensures waits { result ≡ is_waiting self.now.version self.now.plan self.now.history driver }
         ensures none { result ≡ true
@@ -361,9 +380,10 @@ impl<'r> Backplane<'r> {
         self.wiring.is_waiting(driver)
     }
 
-    /// The offer that the driver makes in a round, if it has any: of k offers the one at place `round mod k`.
+    /// The offer that the driver makes in a round, if it has any: of k offers the one at place
+    /// `round mod k`, counted from 0. Source: profile.
     ///
-    /// It tries no edge of a driver that waits for another's, as most do.
+    /// If the driver waits for another's edge, as most do, no edge is tried.
     #[inline(always)]
     pub fn offer(&self, driver: Driver, round: u32) -> Option<Edge>
         ensures { result
@@ -375,9 +395,10 @@ impl<'r> Backplane<'r> {
         choice(self.offers(driver).as_slice(), round)
     }
 
-    /// Makes the offer that the driver makes in a round, if it has any, and answers it.
+    /// Makes the offer that the driver makes in a round, if it has any, and returns it. Source:
+    /// profile.
     ///
-    /// It is `offer`, and a step with what that answers: the edge is not judged again.
+    /// It does what `offer` and then `step` would do, without judging the edge again.
     #[inline(always)]
     pub fn make_offer(&mut self, driver: Driver, round: u32) -> Option<Edge>
         ensures offer { result
@@ -395,28 +416,31 @@ impl<'r> Backplane<'r> {
         offer
     }
 
-    /// What was delivered, in the order of time.
+    /// What was delivered, in the order of time. Source: Std 1014, chapter 4.
+    ///
+    /// # Errors
+    /// `AllocError` if memory runs out.
     pub fn deliveries(&self, alloc: Global) -> Result<Vec<Delivery>, AllocError>
         ensures { IfOk result (λ v. v.items ≡ delivered self.now.plan self.now.history) }
     {
         deliveries(alloc, self.version, &self.plan, &self.store)
     }
 
-    /// The version of its rules.
+    /// The version of the backplane's rules.
     pub fn version(&self) -> Version
         ensures { result ≡ self.now.version }
     {
         self.version
     }
 
-    /// Its plan.
+    /// The plan of the backplane.
     pub fn plan(&self) -> &Plan
         ensures { result.now ≡ self.now.plan }
     {
         &self.plan
     }
 
-    /// How many edges were made.
+    /// How many edges were made, 0 to `max`.
     pub fn len(&self) -> u32
         ensures { result ≡ length self.now.history }
     {
@@ -430,21 +454,21 @@ impl<'r> Backplane<'r> {
         self.len() == 0
     }
 
-    /// Whether the trace holds no further edge.
+    /// Whether the trace can hold no further edge.
     fn is_full(&self) -> bool
         ensures { result ≡ (length self.now.history == self.now.max) }
     {
         self.len() == self.max()
     }
 
-    /// How many edges can be made.
+    /// How many edges can be made in all, at most 1,048,576.
     pub fn max(&self) -> u32
         ensures { result ≡ self.now.max }
     {
         self.store.max()
     }
 
-    /// The edge at a place, counted from 0 in the order of time.
+    /// The edge at a place, counted from 0 in the order of time. The place has to be below `len`.
     pub fn edge_at(&self, place: u32) -> Edge
         requires { place < length self.now.history }
         ensures { slice_get (in_order self.now.history) place ≡ Some result }

@@ -9,7 +9,7 @@ use vme_slots::Plan;
 use vme_store::Store;
 use vme_wiring::Wiring;
 
-/// Puts a delivery after the others, if there is one.
+/// Appends a delivery, if there is one.
 fn append(given: &mut Vec<Delivery>, delivery: Option<Delivery>) -> Result<(), AllocError>
     ensures { IfOk result (λ _. given.new.items ≡ followed_by given.old.items delivery) }
 {
@@ -20,6 +20,9 @@ fn append(given: &mut Vec<Delivery>, delivery: Option<Delivery>) -> Result<(), A
 }
 
 /// What the stored edges delivered, in the order of time.
+///
+/// # Errors
+/// `AllocError` if memory runs out.
 #[tactic(auto, using(crate::proofs::Replayed::all_made))]
 pub fn deliveries(
     alloc: Global,

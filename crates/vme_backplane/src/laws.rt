@@ -1,6 +1,7 @@
-//! What holds of every legal list of edges of every accepted plan, and of any two backplanes.
+//! What holds for every legal list of edges on every accepted plan, and for any two backplanes.
 //!
-//! The functions do nothing: each is a theorem, stated by its contract.
+//! The functions do nothing and cost nothing. Each states a theorem by its contract, and a call of
+//! it gives the theorem to the prover. docs/SAFETY.md explains the claims.
 ghost use Rattle.std.specs.Prelude.{◌≡◌, List};
 ghost use Rattle.vme_model.specs.Accepted.{IsAccepted};
 ghost use Rattle.vme_model.specs.Locality.{AreWellFormed, IsLocal};
@@ -15,28 +16,29 @@ ghost use Rattle.vme_backplane.specs.Alike.{AnswerAlike};
 use crate::backplanes::Backplane;
 use vme_model::Edge;
 
-/// Every legal list is safe, as is the history of every backplane.
+/// Every legal list is safe. So the history of every backplane is.
 #[tactic(auto, using(vme_model::proofs::Safety::legal_is_safe))]
 pub fn legal_list_is_safe()
     ensures { (version : Version) (p : Plan) (h : List Edge) → IsAccepted p
         → IsLegal version p h → IsSafe p h }
 {}
 
-/// Every legal list is orderly, as is the history of every backplane.
+/// Every legal list is orderly. So the history of every backplane is.
 #[tactic(auto, using(vme_model::proofs::Safety::legal_is_orderly))]
 pub fn legal_list_is_orderly()
     ensures { (version : Version) (p : Plan) (h : List Edge) → IsAccepted p
         → IsLegal version p h → IsOrderly version p h }
 {}
 
-/// What the first version of the rules allows, the second allows too.
+/// The second version of the rules allows everything that the first one allows.
 #[tactic(auto, using(vme_model::proofs::Versions::legal_in_second))]
 pub fn first_version_is_within_second()
     ensures { (p : Plan) (h : List Edge) → IsAccepted p → IsLegal One p h → IsLegal Two p h }
 {}
 
-/// The verdict on an edge is the same after two histories of which its driver saw the same; but for a full trace, and
-/// for the edges that a settling rule binds to other boards' wires.
+/// The verdict on an edge is the same after any two histories in which its driver saw the same.
+/// This leaves out a full trace, and the edges for which a settling rule looks at other boards'
+/// wires.
 #[tactic(auto, using(vme_model::proofs::Local::local, vme_model::proofs::Local::legal_local))]
 pub fn verdict_is_local()
     ensures well_formed { (version : Version) (p : Plan) (h k : List Edge) (e : Edge) → IsAccepted p
@@ -45,8 +47,9 @@ pub fn verdict_is_local()
         → IsLegal version p h → IsLegal version p k → IsLocal version p h k e }
 {}
 
-/// Two backplanes of one version and one plan, neither of them full, answer an edge alike where its driver saw the same
-/// on both; but for the edges that a settling rule binds to other boards' wires.
+/// Two backplanes of one version and one plan, neither of them full, give an edge the same answer
+/// if its driver saw the same on both. This leaves out the edges for which a settling rule looks at
+/// other boards' wires.
 #[tactic(auto, using(crate::proofs::Alike::alike))]
 pub fn backplanes_answer_alike(one: &Backplane<'_>, other: &Backplane<'_>, edge: Edge)
     ensures { AnswerAlike one.now other.now edge }

@@ -1,7 +1,8 @@
-//! The whole state of one backplane: the version of its rules, its plan, and the edges that were made.
+//! The whole state of one backplane: the version of its rules, its plan, and the edges that were
+//! made.
 //!
-//! Each verdict is found by the counts, chains and parts that the edges lead to. The edges themselves are read only to
-//! hand them out, and to tell what was delivered.
+//! Each verdict is found by the counts, chains and parts to which the edges lead. The edges
+//! themselves are read only to hand them out, and to find what was delivered.
 #![tactic(auto)]
 
 mod backplanes;

@@ -34,8 +34,10 @@ pub mod LongerHistory
 pub mod OneSlot
 -- the slots whose parts do not wait are those of the sets at work: `BusState::requesters_at_work` and its like
 pub mod AtWork
--- where a grant stops, it travels: `BusState::grant_at`
+-- where a grant stops, it travels: `BusState::grant_at`, `Bus::grant_at`
 pub mod Standing
+-- the slots of an accepted plan, who is found among them, and what is shown: `Bus::has_driver`, `holder`, `addressing`, `shown`
+pub mod PlanSlots
 -- whose parts have no edge to make: `BusState::ready_masters`, `ready_interrupters`
 pub mod Ready
 -- where a trace has room, E5 does not come: `Bus::step`, `BusState::step`

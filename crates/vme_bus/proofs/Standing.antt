@@ -1,22 +1,23 @@
--- Where a grant stops, it travels: `BusState::grant_at`.
+-- Where a grant stops, it travels: `BusState::grant_at`, `Bus::grant_at`.
 use Rattle.std.proofs.Common.{◌≡◌, ◌∙◌, refl, sym, ap, ℕ, Bool, true, false, List, [], ◌∷◌, ◌<◌, ◌≤◌, Option, Some, None, arith}
-use Rattle.std.specs.Prelude.{◌&&◌, ◌+◌, ◌==◌, not, option_map, is_some}
-use Rattle.std.specs.Option.{option_map_or}
+use Rattle.std.specs.Prelude.{◌&&◌, ◌+◌, ◌==◌, not, option_map, is_some, IsTrue}
+use Rattle.std.specs.Option.{option_map_or, option_and_then}
 use Rattle.vme_model.specs.declared.boards.Row.{Row}
 use Rattle.vme_model.specs.declared.boards.RequesterRow.{RequesterRow}
 use Rattle.vme_model.specs.declared.signals.Version.{Version}
 use Rattle.vme_model.specs.declared.signals.Driver.TheVariants.{Slot}
 use Rattle.vme_model.specs.declared.signals.Edge.{Edge}
 use Rattle.vme_model.specs.declared.signals.Wire.TheVariants.{BgOut, Bbsy}
+use Rattle.vme_model.specs.Signals.{is_slot}
 use Rattle.vme_model.specs.Plan.{Plan, board, requests_on, grant_chain}
 use Rattle.vme_model.specs.Accepted.{IsAccepted}
 use Rattle.vme_model.specs.History.{drive, input}
 use Rattle.vme_model.specs.Readings.{grant_in}
 use Rattle.vme_model.specs.GrantSafety.{Travels, OneTravels}
-use Rattle.vme_model.specs.Safe.{OnEachPrefix}
+use Rattle.vme_model.specs.Safe.{IsSafe, OnEachPrefix}
 use Rattle.vme_model.specs.Verdict.{IsLegal}
 use Rattle.vme_model.specs.Stands.{grant_at}
-use Rattle.vme_model.proofs.Bools.{and_left, and_right}
+use Rattle.vme_model.proofs.Bools.{and_left, and_right, same_number}
 use Rattle.vme_model.proofs.Members.{member_of, is_member, within, one_chain, level_of}
 use Rattle.vme_model.proofs.Ranges.{in_range}
 use Rattle.vme_model.proofs.Safety.{legal_is_safe}
@@ -27,6 +28,7 @@ use Rattle.vme_bus.specs.declared.states.BusState.{BusState}
 use Rattle.vme_bus.specs.Sets.{has}
 use Rattle.vme_bus.specs.States.{IsStateOf}
 use Rattle.vme_bus.specs.Steps.{is_stop}
+use Rattle.vme_bus.proofs.PlanSlots.{slot_within}
 
 requests_some : (p : Plan) (h : List Edge) (n s : ℕ) (o : Option Row) → option_map_or (requests_on n) o false ≡ true → option_map_or (λ r. is_some r.requester) o false ≡ true
 requests_some p h n s None e = absurd (cc)
@@ -125,3 +127,53 @@ stops_at version p h b s is =
     by_input true e =
         let near = by_board (board p s) refl (grants_some p h (board p s) e) in
         ap (λ y. not y && not (has b.bbsy s)) (is.grants s near) ∙ ap (λ y. not (drive h (Slot s) BgOut) && not y) (is.bbsy s)
+
+-- ---- the grant, with its level
+
+-- the grant level of the slot's requester; 0 where there is none
+abbrev pub level_at : Plan → ℕ → ℕ
+level_at p s = option_map_or (λ q. q.level) (option_and_then (λ r. r.requester) (board p s)) 0
+
+level_in : (n : ℕ) (o : Option Row) → option_map_or (requests_on n) o false ≡ true → option_map_or (λ q. q.level) (option_and_then (λ r. r.requester) o) 0 ≡ n
+level_in n None e = absurd (cc)
+level_in n (Some r) e = by_requester r.requester e
+  where
+    by_requester : (q : Option RequesterRow) → option_map_or (λ x. x.level == n) q false ≡ true → option_map_or (λ x. x.level) q 0 ≡ n
+    by_requester None e = absurd (cc)
+    by_requester (Some x) e = same_number x.level n e
+
+-- a grant travels at the level of the board that it stands at
+level_there : (p : Plan) (h : List Edge) (n s : ℕ) → Travels p h n s → level_at p s ≡ n
+level_there p h n s t = level_in n (board p s) (member_of p n s t.level t.member)
+
+-- where its slot is known, so is it
+pub grant_here : (p : Plan) (h : List Edge) (s n : ℕ) → Some s ≡ option_map (λ at. at.1) (grant_at p h) → n ≡ level_at p s → Some (n, s) ≡ grant_at p h
+grant_here p h s n here level = by_found (grant_at p h) refl here
+  where
+    by_found : (o : Option (ℕ × ℕ)) → grant_at p h ≡ o → Some s ≡ option_map (λ at. at.1) o → Some (n, s) ≡ grant_at p h
+    by_found None is e = absurd (cc)
+    by_found (Some (m, r)) is e =
+        let same : s ≡ r = cc in
+        let high : n ≡ m = level ∙ ap (level_at p) same ∙ level_there p h m r (grant_travels p h m r is) in
+        ap (λ x. Some (x, s)) high ∙ ap (λ x. Some (m, x)) same ∙ sym is
+
+pub grant_nowhere : (p : Plan) (h : List Edge) → None ≡ option_map (λ at. at.1) (grant_at p h) → None ≡ grant_at p h
+grant_nowhere p h here = by_found (grant_at p h) refl here
+  where
+    by_found : (o : Option (ℕ × ℕ)) → grant_at p h ≡ o → None ≡ option_map (λ at. at.1) o → None ≡ grant_at p h
+    by_found None is e = sym is
+    by_found (Some at) is e = absurd (cc)
+
+-- its level and slot are ones that there can be
+pub grant_range : (p : Plan) → IsAccepted p → (h : List Edge) (n s : ℕ) → Some (n, s) ≡ grant_at p h → (n < 4) × IsTrue (is_slot s)
+grant_range p ok h n s is =
+    let t = grant_travels p h n s (sym is) in
+    let place = within p (in_range p ok) n s (member_of p n s t.level t.member) in
+    (t.level, slot_within p ok s place.0 place.1)
+
+-- and no other travels
+pub only_grant : (p : Plan) (h : List Edge) → IsSafe p h → (m r : ℕ) → Some (m, r) ≡ grant_at p h → (n s : ℕ) → Travels p h n s → (m ≡ n) × (r ≡ s)
+only_grant p h safe m r is n s t = one_now p h safe.one_travels m n r s (grant_travels p h m r (sym is)) t
+
+pub no_grant : (p : Plan) (h : List Edge) → None ≡ grant_at p h → (n s : ℕ) → Travels p h n s → ⊥
+no_grant p h is n s t = none_travels p h (sym is) n s t

@@ -17,10 +17,8 @@ ghost use Rattle.vme_model.specs.Report.{at_power_up, trace_limit};
 ghost use Rattle.vme_backplane.specs.Sound.{IsSound};
 ghost use Rattle.vme_bus.specs.States.{IsStateOf};
 
-use crate::answers::{ACCEPTED, AnswerRecord, NO_DRIVER, is_accepted, refusal_number};
-use crate::arms::{level_of, slot_of, wire_number};
+use crate::answers::{ACCEPTED, AnswerRecord, is_accepted, refusal_number};
 use crate::states::BusState;
-use crate::steps::{by_direction, step_by_arm};
 use arrayvec::ArrayVec;
 use std::marker::Model;
 use vme_backplane::{Counts, by_wire, choice};
@@ -249,7 +247,7 @@ impl Bus {
         ensures max { self.new.max ≡ self.old.max }
     {
         self.laws();
-        kept.number = step_by_arm!(self.state, edge, &mut kept.delivery);
+        kept.number = self.state.step_formed(edge, &mut kept.delivery);
         if is_accepted(kept.number) {
             self.made += 1;
             self.past.note(edge);

@@ -24,4 +24,5 @@ pub use answers::AnswerRecord;
 pub use buses::Bus;
 pub use choices::Turns;
 pub use sets::SlotSet;
+pub use stands::Grant;
 pub use states::BusState;

@@ -27,58 +27,6 @@ macro_rules! by_direction {
     };
 }
 
-/// Takes a well-formed edge where the rules allow it, in an arm for each wire and direction. Gives the number of the answer, and
-/// what is delivered.
-///
-/// Comparisons lead to the arm, since a processor foretells most of them, and may not foretell where a jump by a table goes. No more
-/// than three in a row single out one wire, as the compiler makes such a jump of four. None asks who drives the edge: of a well-formed
-/// one the wire tells whether the controller does. A macro, so that the arms stand in the loop over edges itself; who uses it brings
-/// what it names into scope.
-macro_rules! step_by_arm {
-    ($state:expr, $edge:ident, $delivery:expr) => {{
-        let slot = slot_of($edge.driver);
-        let number = wire_number($edge.wire);
-        // No board stands in a slot beyond 21, which the compiler does not know: by this test it drops the later ones.
-        if slot >= 22 {
-            NO_DRIVER
-        } else if number < 4 {
-            if number < 1 {
-                by_direction!(
-                    $state, step_controller, $edge, Wire::Bg(level_of($edge.wire)) => $delivery
-                )
-            } else if number < 2 {
-                by_direction!($state, step_controller, $edge, Wire::Bclr => $delivery)
-            } else if number < 3 {
-                by_direction!($state, step_controller, $edge, Wire::Iack => $delivery)
-            } else {
-                by_direction!($state, step_controller, $edge, Wire::Berr => $delivery)
-            }
-        } else if number < 7 {
-            if number < 5 {
-                by_direction!($state, step_requester, $edge, slot, Wire::Br => $delivery)
-            } else if number < 6 {
-                by_direction!($state, step_requester, $edge, slot, Wire::BgOut => $delivery)
-            } else {
-                by_direction!($state, step_requester, $edge, slot, Wire::Bbsy => $delivery)
-            }
-        } else if number < 10 {
-            if number < 8 {
-                by_direction!($state, step_master, $edge, slot, Wire::Addr => $delivery)
-            } else if number < 9 {
-                by_direction!($state, step_master, $edge, slot, Wire::AddressStrobe => $delivery)
-            } else {
-                by_direction!($state, step_master, $edge, slot, Wire::DataStrobe => $delivery)
-            }
-        } else if number < 11 {
-            by_direction!($state, step_interrupter, $edge, slot, Wire::Irq => $delivery)
-        } else if number < 12 {
-            by_direction!($state, step_interrupter, $edge, slot, Wire::IackOut => $delivery)
-        } else {
-            by_direction!($state, step_interrupter, $edge, slot, Wire::Dtack => $delivery)
-        }
-    }};
-}
-
 impl BusState {
     ghost use Rattle.vme_bus.specs.States.{IsStateOf, OfHistory};
 
@@ -102,7 +50,13 @@ impl BusState {
         answer_in(number, delivery)
     }
 
-    /// Takes a well-formed edge where the rules allow it. Gives the number of the answer, and what is delivered.
+    /// Takes a well-formed edge where the rules allow it, in an arm for each wire and direction.
+    /// Gives the number of the answer, and what is delivered.
+    ///
+    /// Comparisons lead to the arm, since a processor foretells most of them, and may not foretell
+    /// where a jump by a table goes. No more than three in a row single out one wire, as the
+    /// compiler makes such a jump of four. None asks who drives the edge: of a well-formed one the
+    /// wire tells whether the controller does.
     #[inline(always)]
     pub(crate) fn step_formed(&mut self, edge: Edge, delivery: &mut Delivery) -> u8
         requires formed { is_well_formed edge ≡ true }
@@ -112,7 +66,47 @@ impl BusState {
             IsStateOf version p (kept_but_full version p h edge) self.new) }
         ensures refused { is_ok (answer_in result delivery.new) ≡ false → self.new ≡ self.old }
     {
-        step_by_arm!(self, edge, delivery)
+        let slot = slot_of(edge.driver);
+        let number = wire_number(edge.wire);
+        // No board stands in a slot beyond 21, which the compiler does not know: by this test it
+        // drops the later ones.
+        if slot >= 22 {
+            NO_DRIVER
+        } else if number < 4 {
+            if number < 1 {
+                by_direction!(
+                    self, step_controller, edge, Wire::Bg(level_of(edge.wire)) => delivery
+                )
+            } else if number < 2 {
+                by_direction!(self, step_controller, edge, Wire::Bclr => delivery)
+            } else if number < 3 {
+                by_direction!(self, step_controller, edge, Wire::Iack => delivery)
+            } else {
+                by_direction!(self, step_controller, edge, Wire::Berr => delivery)
+            }
+        } else if number < 7 {
+            if number < 5 {
+                by_direction!(self, step_requester, edge, slot, Wire::Br => delivery)
+            } else if number < 6 {
+                by_direction!(self, step_requester, edge, slot, Wire::BgOut => delivery)
+            } else {
+                by_direction!(self, step_requester, edge, slot, Wire::Bbsy => delivery)
+            }
+        } else if number < 10 {
+            if number < 8 {
+                by_direction!(self, step_master, edge, slot, Wire::Addr => delivery)
+            } else if number < 9 {
+                by_direction!(self, step_master, edge, slot, Wire::AddressStrobe => delivery)
+            } else {
+                by_direction!(self, step_master, edge, slot, Wire::DataStrobe => delivery)
+            }
+        } else if number < 11 {
+            by_direction!(self, step_interrupter, edge, slot, Wire::Irq => delivery)
+        } else if number < 12 {
+            by_direction!(self, step_interrupter, edge, slot, Wire::IackOut => delivery)
+        } else {
+            by_direction!(self, step_interrupter, edge, slot, Wire::Dtack => delivery)
+        }
     }
 
     /// The same of an edge of the controller, in an arm where wire and direction are constants, so that the
@@ -291,6 +285,3 @@ impl BusState {
         delivery
     }
 }
-
-pub(crate) use by_direction;
-pub(crate) use step_by_arm;

@@ -64,7 +64,7 @@ impl BusState {
 
     /// Whether the backplane has the driver, with such a wire.
     #[inline(always)]
-    fn has_driver(&self, driver: Driver, wire: Wire) -> bool
+    pub(crate) fn has_driver(&self, driver: Driver, wire: Wire) -> bool
         ensures { OfHistory self.now (λ _ p _. result ≡ has_driver p driver wire) }
     {
         match driver {

@@ -56,7 +56,7 @@ counted_no s xs x beyond =
     let none = ap one_if beyond in
     omega (arith, split, none)
 
--- where all of them are below
+-- all of them are below
 abbrev AreBelow : ℕ → List ℕ → Type 0
 AreBelow s xs = below s xs ≡ length xs
 

@@ -10,17 +10,17 @@ use Rattle.std.specs.Prelude.{Some, None}
 
 -- a chain: segment 0 is the controller's, segment k that of the k-th active slot
 pub record Segments : Type 0 where
-  -- the slots that work it, ascending
+  -- the slots that work the chain, ascending
   pub active : List ℕ
-  -- for each segment whether it is low
+  -- for each segment, whether it is low
   pub low : List Bool
 
 -- a chain that is high everywhere
 abbrev pub all_high : List ℕ → Segments
 all_high active = record { active = active; low = replicate (length active + 1) false }
 
--- the number of the segment that a slot reads: its greatest active slot below drives it, or the
--- controller
+-- the number of the segment that a slot reads: that of the greatest active slot below it, or 0 for
+-- the controller's
 abbrev pub input_number : List ℕ → ℕ → ℕ
 input_number active s = count_by (λ t. nat_lt t s) active
 

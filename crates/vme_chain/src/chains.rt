@@ -5,18 +5,19 @@ ghost use Rattle.vme_chain.specs.Segments.{all_high, output_number, input_number
 
 use std::marker::Model;
 
-/// The most boards that a backplane has.
+/// The most boards that a backplane has. Source: Std 1014, chapter 7 (21 slots).
 const MOST: usize = 21;
 
-/// A daisy chain, as its segments: 0 is what the controller drives at its head, and k what the k-th
-/// of the slots that work it drives, at most 21.
+/// A daisy chain, as its segments: segment 0 is what the controller drives at its head, and segment
+/// k, at most 21, is what the k-th of the slots that work it drives. Source: Std 1014, chapters 3
+/// and 4.
 #[derive(Drop)]
 pub struct Chain {
     slots: [u8; 21],
     length: u8,
     segments: [bool; 22],
     lows: u8,
-    // by slot, the number of the segment that it reads
+    // for each slot, the number of the segment that it reads
     inputs: [u8; 22],
 }
 
@@ -72,8 +73,8 @@ fn padded(active: &[u8]) -> [u8; 21]
 }
 
 impl Chain {
-    /// A chain that these slots work, in their order, and that is high everywhere. A backplane has
-    /// at most 21 boards: of a longer list the first 21 count.
+    /// A chain that these slots work, in ascending order, and that is high everywhere. A backplane
+    /// has at most 21 boards: only the first 21 of a longer list count.
     pub fn new(active: &[u8]) -> Chain
         ensures { result ≡ all_high (take 21 active.now) }
     {
@@ -87,8 +88,8 @@ impl Chain {
         }
     }
 
-    /// Segment k falls: 0 is the controller's, k that of the k-th active slot. There is such a
-    /// segment, and it is high.
+    /// Segment k falls: 0 is the controller's, and k that of the k-th active slot. The segment has
+    /// to exist and to be high.
     #[tactic(auto, using(crate::proofs::Counts::one_more, crate::proofs::Counts::within, crate::proofs::Counts::moved))]
     pub fn fall(&mut self, k: u8)
         requires high { slice_get self.old.low k ≡ Some false }
@@ -98,7 +99,8 @@ impl Chain {
         self.lows += 1;
     }
 
-    /// Segment k rises. There is such a segment, and it is low.
+    /// Segment k rises: 0 is the controller's, and k that of the k-th active slot. The segment has
+    /// to exist and to be low.
     #[tactic(auto, using(crate::proofs::Counts::one_less, crate::proofs::Counts::within, crate::proofs::Counts::moved))]
     pub fn rise(&mut self, k: u8)
         requires low { slice_get self.old.low k ≡ Some true }
@@ -108,14 +110,14 @@ impl Chain {
         self.lows -= 1;
     }
 
-    /// The number of the segment that an active slot drives: 1 for the first of them.
+    /// The number of the segment that an active slot drives: 1 for the first active slot.
     pub fn output_of(&self, slot: u8) -> u8
         ensures { result ≡ output_number self.now.active slot }
     {
         self.input_of(u16::from(slot) + 1)
     }
 
-    /// The slots that work it.
+    /// The slots that work the chain.
     fn slots(&self) -> &[u8]
         ensures { result.now ≡ self.now.active }
     {
@@ -140,8 +142,8 @@ impl Chain {
         self.segments[usize::from(k)]
     }
 
-    /// What a slot reads at its input: the segment of the greatest active slot below it, or the
-    /// controller's.
+    /// Whether a slot's input is low: the segment of the greatest active slot below it, or the
+    /// controller's if there is none. Source: Std 1014, chapters 3 and 4.
     #[tactic(auto, using(crate::proofs::Counts::at_most))]
     #[inline(always)]
     pub fn is_in_low(&self, slot: u8) -> bool
@@ -150,14 +152,14 @@ impl Chain {
         self.is_segment_low(self.input_of(u16::from(slot)))
     }
 
-    /// How many segments are low.
+    /// How many segments are low, 0 to 22.
     pub fn low_count(&self) -> usize
         ensures { result ≡ low_count self.now }
     {
         usize::from(self.lows)
     }
 
-    /// Whether every segment is high.
+    /// Whether every segment is high. S1 asks for it of the acknowledge chain.
     #[tactic(auto, using(crate::proofs::Counts::none_low))]
     pub fn is_clear(&self) -> bool
         ensures { result ≡ is_clear self.now }
@@ -165,7 +167,8 @@ impl Chain {
         self.lows == 0
     }
 
-    /// Whether the last segment is low: every board that works the chain has passed it on.
+    /// Whether the last segment is low: every board that works the chain has passed it on. S2 and
+    /// S3 ask for it.
     pub fn is_past_end(&self) -> bool
         ensures { result ≡ is_past_end self.now }
     {

@@ -8,25 +8,25 @@ ghost use Rattle.vme_model.specs.History.{input as input_after, is_past_end as i
 ghost use Rattle.vme_model.specs.Settling.{is_chain_clear};
 ghost use Rattle.vme_chain.specs.Segments.{segments_of, input, is_clear, is_past_end};
 
-/// A slot's input is that after the history.
+/// A slot's input is what the definitions say after the history.
 pub fn reads_inputs()
     ensures { (p : Plan) (h : List Edge) (c : ChainId) (s : ℕ) →
         input (segments_of p h c) s ≡ input_after p h c s }
 {}
 
-/// The chain is clear where it is clear after the history.
+/// The chain is clear exactly if it is clear after the history.
 pub fn reads_clearness()
     ensures { (p : Plan) (h : List Edge) (c : ChainId) →
         is_clear (segments_of p h c) ≡ is_chain_clear p h c }
 {}
 
-/// The last segment is low where it is low after the history.
+/// The last segment is low exactly if it is low after the history.
 pub fn reads_the_end()
     ensures { (p : Plan) (h : List Edge) (c : ChainId) →
         is_past_end (segments_of p h c) ≡ is_past_end_after p h c }
 {}
 
-/// An accepted plan has at most 21 slots, and so no more that work a chain.
+/// An accepted plan has at most 21 slots, and so at most 21 of them work a chain.
 pub fn holds_every_slot()
     ensures { (p : Plan) (c : ChainId) → IsAccepted p → take 21 (active p c) ≡ active p c }
 {}

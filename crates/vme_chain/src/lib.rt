@@ -1,4 +1,5 @@
-//! A daisy chain of a backplane, by the segments between the boards that work it.
+//! A daisy chain of a backplane, by the segments between the boards that work it. docs/PARTS.md
+//! explains it.
 #![tactic(auto)]
 
 mod chains;

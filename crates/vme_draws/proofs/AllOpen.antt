@@ -66,7 +66,7 @@ module _ (b : State) where
 pub each_is_open : (w : Kind → ℕ) (b : State) (x y : ℕ) (e : Edge) → edge_at w b x y ≡ Some e → verdict b e ≡ Ok tt
 each_is_open w b x y e at = allowed_of b (kind_at w b x) y e at
 
--- the same of a choice that is none, or one
+-- the choice is accepted, whether it is none or one
 pub accepted_if : (w : Kind → ℕ) (b : State) (x y : ℕ) (o : Option Edge) → o ≡ edge_at w b x y → IfSome o (λ e. verdict b e ≡ Ok tt)
 accepted_if w b x y None is = tt
 accepted_if w b x y (Some e) is = each_is_open w b x y e (sym is)
@@ -115,7 +115,7 @@ module _ (p : Plan) (accepted : IsAccepted p) where
   is_driver Controller w has = here Controller _
   is_driver (Slot s) w has = board_drives s w (board p s) refl has
 
--- the place where the chances before one end
+-- the place at which the chances before one end
 falls_there : (cs : List ℕ) (i : ℕ) → 0 < slice_index cs i → (falls_at cs (sum (take i cs)) ≡ i) × (sum (take i cs) < sum cs)
 falls_there [] i some = absurd (omega (arith, some))
 falls_there (c ∷ cs) zero some =

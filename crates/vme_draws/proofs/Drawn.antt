@@ -27,7 +27,7 @@ chances_are w b xs ws ms rs long each weighed made ready =
     ∙ ap (λ r. chance (w k) (count b.plan k b.history) r) (ready k))
 
 module _ (w : Walk) (first second : ℕ) where
-  -- of the open edges of a kind the one that the second word chooses
+  -- the edge among the open edges of a kind that the second word chooses
   abbrev of_that : Option Kind → Option Edge
   of_that o = option_map_or (λ k. slice_get (open_of w.state k) (scaled second (option_map_or (λ j. length (open_of w.state j)) o 0))) o None
 

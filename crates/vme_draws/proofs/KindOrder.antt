@@ -100,7 +100,7 @@ a_kind IackOutRise = (25, omega arith, refl)
 a_kind DtackFall = (26, omega arith, refl)
 a_kind DtackRise = (27, omega arith, refl)
 
--- and what is listed by kind, too
+-- what is listed by kind stands at the kind's number
 pub listed_at : (f : Kind → ℕ) (k : Kind) → slice_index (map f kinds) (number k) ≡ f k
 unfolding kinds
 listed_at f BgFall = refl

@@ -19,7 +19,7 @@ module _ (more : ℕ) (w v : Walk) (is : v ≡ drawn w) where
   pub walk_goes_on : (e : Edge) (u : Walk) → Some e ≡ next_edge w → u ≡ with_edge v e → walked (suc more) w ≡ walked more u
   walk_goes_on e u drew made = sym (ap on_by drew) ∙ sym (ap (walked more) (made ∙ ap (λ (x : Walk). with_edge x e) is))
 
--- the version and the plan stay
+-- the version and the plan stay the same
 pub record IsOn (v : Version) (p : Plan) (w : Walk) : Type 0 where
   pub version : w.state.version ≡ v
   pub plan : w.state.plan ≡ p

@@ -10,7 +10,7 @@ unfolding state_after
 state_after_more w m p zero s = refl
 state_after_more w m p (suc n) s = state_after_more w m p n (next_state w m p s)
 
--- the next word is one more
+-- the next word is one word more
 pub one_word_more : (n : ℕ) (g : Lcg) → next 64 multiplier_64 (after_words n g) ≡ after_words (n + 1) g
 one_word_more n g =
     ap (λ (s : ℕ). (let r : Lcg = record { state = s; increment = g.increment } in r)) (state_after_more 64 multiplier_64 g.increment n g.state)

@@ -11,21 +11,21 @@ use Rattle.rand_pcg.specs.Lcg.{Lcg}
 use Rattle.vme_draws.specs.Kinds.{kinds, number, of_kind, count}
 use Rattle.vme_draws.specs.Numbers.{after_words, word, scaled}
 
--- the weight that a generator gives a kind: 4 to the power of a draw below 4, of the word that is
--- the kind's own
+-- the weight that a generator gives to a kind: 4 to the power of a draw below 4, from the word that
+-- is the kind's own
 abbrev pub weight : Lcg → Kind → ℕ
 weight g k = 4 ^ scaled (word (after_words (number k) g)) 4
 
--- the open edges of all drivers, of the controller first, then by slot
+-- the open edges of all drivers, those of the controller first, then by slot
 abbrev pub all_open : State → List Edge
 all_open b = flat_map (open_edges b) (drivers b.plan)
 
--- those of a kind
+-- the open edges of a kind
 abbrev pub open_of : State → Kind → List Edge
 open_of b k = of_kind b.plan k (all_open b)
 
--- the chance of a kind, by its weight and how many of its edges were made and are open: the fewer
--- were made, the more, and none where none is open
+-- the chance of a kind, by its weight and by how many of its edges were made and are open: the
+-- fewer were made, the greater it is, and it is 0 if none is open
 abbrev pub chance : ℕ → ℕ → ℕ → ℕ
 chance weight made ready = if ready == 0 then 0 else weight * (1 + 256 / (1 + made))
 
@@ -37,20 +37,20 @@ chance_of weight b k = chance (weight k) (count b.plan k b.history) (count b.pla
 abbrev pub chances : (Kind → ℕ) → State → List ℕ
 chances weight b = map (chance_of weight b) kinds
 
--- the place of the first chance that is above what is left of a number when the chances before it
--- are taken from it; past the last, where none is
+-- the place of a number among chances: they are subtracted from it one after another, and the place
+-- is that of the first chance that is above what is left, or past the last if none is
 abbrev pub falls_at : List ℕ → ℕ → ℕ
 falls_at [] x = 0
 falls_at (c ∷ cs) x = if nat_lt x c then 0 else falls_at cs (x - c) + 1
 
--- the kind that x falls on
+-- the kind on which x falls
 abbrev pub kind_at : (Kind → ℕ) → State → ℕ → Option Kind
 kind_at weight b x = slice_get kinds (falls_at (chances weight b) x)
 
--- and of its open edges the one at place y
+-- the edge at place y among the open edges of that kind
 abbrev pub edge_at : (Kind → ℕ) → State → ℕ → ℕ → Option Edge
 edge_at weight b x y = option_map_or (λ k. slice_get (open_of b k) y) (kind_at weight b x) None
 
--- how many these are
+-- how many open edges that kind has
 abbrev pub choices : (Kind → ℕ) → State → ℕ → ℕ
 choices weight b x = option_map_or (λ k. length (open_of b k)) (kind_at weight b x) 0

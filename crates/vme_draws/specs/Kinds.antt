@@ -48,8 +48,9 @@ number IackOutRise = 25
 number DtackFall = 26
 number DtackRise = 27
 
--- the address group going on, by what it shows: an acknowledge, or an access to a slot with a board
--- or without one (chapters 4 and 7); each edge that the rules allow shows one of them
+-- the kind of an address group that goes on, by what it shows: an acknowledge, or an access to a
+-- slot with a board or without one (chapters 4 and 7); each edge that the rules allow shows one of
+-- them
 abbrev pub addressing : Plan → Option Cycle → Kind
 addressing p (Some (cycle.Access s)) = if is_some (board p s) then Access else EmptyAccess
 addressing p _ = Acknowledge
@@ -95,6 +96,6 @@ is_of p k e = number (kind_of p e) == number k
 abbrev pub of_kind : Plan → Kind → List Edge → List Edge
 of_kind p k es = filter (is_of p k) es
 
--- how many they are
+-- how many edges of that kind there are
 abbrev pub count : Plan → Kind → List Edge → ℕ
 count p k es = length (of_kind p k es)

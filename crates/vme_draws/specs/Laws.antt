@@ -1,4 +1,4 @@
--- What holds of every walk: nothing is left out, and every number can be drawn.
+-- What holds for every walk: nothing is left out, and every number can be drawn.
 use Rattle.std.specs.Prelude.{◌≡◌, ◌<◌, ◌≤◌, ◌^◌, ℕ, Some, Ok, sum}
 use Rattle.std.specs.List.{Contains}
 use Rattle.vme_model.specs.declared.signals.Edge.{Edge}
@@ -9,7 +9,7 @@ use Rattle.vme_draws.specs.Kinds.{kinds, kind_of}
 use Rattle.vme_draws.specs.Numbers.{scaled}
 use Rattle.vme_draws.specs.Choices.{weight, chances, choices, edge_at}
 
--- two numbers choose the edge, each below what it is drawn below
+-- two numbers choose the edge, each below the bound below which it is drawn
 pub record IsChosen (g : Lcg) (b : State) (e : Edge) : Type 0 where
   pub x : ℕ
   pub y : ℕ
@@ -27,8 +27,8 @@ abbrev pub EachIsOpen : Type 0
 EachIsOpen = (g : Lcg) (b : State) (x y : ℕ) (e : Edge) → edge_at (weight g) b x y ≡ Some e
     → verdict b e ≡ Ok tt
 
--- as long as a number is below the sum of the chances, it chooses a kind with open edges, and then
--- each number below how many these are chooses one: no walk ends before no edge is open
+-- each number below the sum of the chances chooses a kind with open edges, and then each number
+-- below the number of these edges chooses one of them; so no walk ends while an edge is open
 abbrev pub SomeIsMade : Type 0
 SomeIsMade = (g : Lcg) (b : State) (x : ℕ) → x < sum (chances (weight g) b)
     → (0 < choices (weight g) b x)

@@ -1,5 +1,5 @@
--- `believe` marks what the theorems of a walk rest on, and `words` what only says how one function
--- serves another.
+-- `believe` marks what the theorems of a walk rest on, and `words` marks what only says how one
+-- function serves another.
 
 -- believe: the kinds of edges, and their order
 pub mod Kinds

@@ -11,11 +11,11 @@ generator seed = started 64 multiplier_64 seed (increment_of 64 0)
 abbrev pub after_words : ℕ → Lcg → Lcg
 after_words n g = advance 64 multiplier_64 n g
 
--- its next word
+-- the next word of the generator
 abbrev pub word : Lcg → ℕ
 word g = (pcg32 g).0
 
--- the number below a bound that a word of 32 bits falls on, each with the same share of the words
--- but for one
+-- the number below a bound on which a word of 32 bits falls; the numbers' shares of the words
+-- differ by at most one word
 abbrev pub scaled : ℕ → ℕ → ℕ
 scaled w bound = w * bound / 2 ^ 32

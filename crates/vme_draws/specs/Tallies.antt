@@ -5,7 +5,7 @@ use Rattle.vme_model.specs.Plan.{Plan}
 use Rattle.vme_draws.specs.declared.kinds.Kind.{Kind}
 use Rattle.vme_draws.specs.Kinds.{number, is_of, count}
 
--- each count is that of the edges of its kind
+-- each count is the number of the edges of its kind
 abbrev pub AreCounts : Plan → List Edge → List ℕ → Type 0
 AreCounts p es counts = (k : Kind) → slice_index counts (number k) ≡ count p k es
 

@@ -14,11 +14,11 @@ pub record Walk : Type 0 where
   pub state : State
   pub numbers : Lcg
 
--- the weights that its seed gives the kinds, by the first words
+-- the weights that the walk's seed gives to the kinds, by its first words
 abbrev pub weights : Walk → Kind → ℕ
 weights w k = weight (generator w.seed) k
 
--- a walk before its first edge: a word was taken for the weight of each kind
+-- a walk before its first edge: one word was taken for the weight of each kind
 abbrev pub at_start : State → ℕ → Walk
 at_start b seed = record { seed = seed; state = b; numbers = after_words 28 (generator seed) }
 
@@ -32,7 +32,7 @@ chosen w first second =
     let x = first_draw w first in
     edge_at (weights w) w.state x (scaled second (choices (weights w) w.state x))
 
--- the edge that the next two words choose; none where none is open
+-- the edge that the next two words choose; none if no edge is open
 abbrev pub next_edge : Walk → Option Edge
 next_edge w = chosen w (word w.numbers) (word (after_words 1 w.numbers))
 
@@ -44,7 +44,7 @@ drawn w = record w { numbers = after_words 2 w.numbers }
 abbrev pub with_edge : Walk → Edge → Walk
 with_edge w e = record w { state = made w.state e }
 
--- the walk after n edges, or all until none is open
+-- the walk after n edges, or after as many as there are until none is open
 abbrev pub walked : ℕ → Walk → Walk
 walked zero w = w
 walked (suc more) w =

@@ -1,4 +1,4 @@
-//! The chances of the kinds.
+//! The chances of the kinds of edges.
 ghost use Rattle.std.specs.Prelude.{◌≡◌, ◌<◌, ℕ, length, sum, slice_get, slice_index};
 ghost use Rattle.vme_draws.specs.Kinds.{kinds};
 ghost use Rattle.vme_draws.specs.Choices.{chance, falls_at};
@@ -7,10 +7,11 @@ use crate::kinds::{KIND_COUNT, KINDS, Kind};
 use crate::tallies::Tally;
 use crate::weights::Weights;
 
-/// How many edges of a kind are so many that more of them lower its chance no further.
+/// Once this many edges of a kind were made, further ones no longer lower its chance.
 const MANY: u32 = 256;
 
-/// The chance of a kind, by its weight and by how many of its edges were made and can be made.
+/// The chance of a kind, by its weight, the number of its edges that were made, and the number that
+/// can be made now. Source: profile.
 fn chance(weight: u8, made: u32, ready: u32) -> u16
     ensures { result ≡ chance weight made ready }
 {
@@ -23,8 +24,8 @@ fn chance(weight: u8, made: u32, ready: u32) -> u16
     }
 }
 
-/// The place of the first chance that is above what is left of `x` when the chances before it are
-/// taken from it; their number where none is.
+/// The place of a number `x` among chances. The chances are subtracted from `x` one after another;
+/// the place is that of the first chance that is above what is left, or their number if none is.
 fn falls_at(chances: &[u16], x: u32) -> usize
     ensures { result ≡ falls_at chances.now x }
 {
@@ -39,7 +40,7 @@ fn falls_at(chances: &[u16], x: u32) -> usize
     chances.len()
 }
 
-/// The kind at a place; none past the last.
+/// The kind at a place; none after the last.
 fn kind_in(kinds: &[Kind], place: usize) -> Option<Kind>
     ensures { result ≡ slice_get kinds.now place }
 {
@@ -53,7 +54,8 @@ pub(crate) struct Chances {
 }
 
 impl Chances {
-    /// By the kinds' weights, and how many edges of each were made and can be made.
+    /// The chances by the kinds' weights, and by how many edges of each kind were made and can be
+    /// made now.
     pub(crate) fn new(weights: &Weights, made: &Tally, ready: &Tally) -> Chances
         ensures long { length result.by_kind ≡ 28 }
         ensures each { (n : ℕ) → n < 28 → slice_index result.by_kind n
@@ -68,7 +70,7 @@ impl Chances {
         Chances { by_kind }
     }
 
-    /// Their sum.
+    /// The sum of the chances.
     pub(crate) fn sum(&self) -> u32
         ensures { result ≡ sum self.now.by_kind }
     {
@@ -79,7 +81,7 @@ impl Chances {
         sum
     }
 
-    /// The kind that `x` falls on; none where it is not below their sum.
+    /// The kind on which `x` falls; none if `x` is not below the sum of the chances.
     pub(crate) fn kind_at(&self, x: u32) -> Option<Kind>
         ensures { result ≡ slice_get kinds (falls_at self.now.by_kind x) }
     {

@@ -8,8 +8,8 @@ use vme_slots::Plan;
 /// How many kinds there are.
 pub const KIND_COUNT: usize = 28;
 
-/// What an edge does, whoever makes it: a wire and its direction, all grants being one, and of an
-/// address group that goes on what it shows.
+/// What an edge does, whoever makes it: its wire and its direction, where all grants count as one
+/// wire, and for an address group that goes on, what it shows. Source: profile.
 #[derive(Clone, Copy, PartialEq, Eq, Debug)]
 pub enum Kind {
     BgFall,
@@ -28,9 +28,9 @@ pub enum Kind {
     BbsyRise,
     /// The address group goes on with an interrupt acknowledge.
     Acknowledge,
-    /// It goes on with an access to a slot with a board.
+    /// The address group goes on with an access to a slot with a board.
     Access,
-    /// It goes on with an access to a slot without one.
+    /// The address group goes on with an access to a slot without a board.
     EmptyAccess,
     AddrOff,
     AddressStrobeFall,
@@ -77,7 +77,7 @@ pub(crate) const KINDS: [Kind; KIND_COUNT] = [
     Kind::DtackRise,
 ];
 
-/// What an address group goes on with.
+/// The kind of an address group that goes on, by what it shows.
 fn addressing(plan: &Plan, value: Option<Cycle>) -> Kind
     ensures { result ≡ addressing plan.now value }
 {
@@ -94,7 +94,7 @@ fn addressing(plan: &Plan, value: Option<Cycle>) -> Kind
 }
 
 impl Kind {
-    /// The kind of an edge on a plan.
+    /// The kind of an edge on a plan. Source: profile.
     pub fn of(plan: &Plan, edge: &Edge) -> Kind
         ensures { result ≡ kind_of plan.now edge.now }
     {
@@ -128,7 +128,7 @@ impl Kind {
         }
     }
 
-    /// Its place in the order of kinds, from 0.
+    /// The place of the kind in the order of kinds, 0 to 27.
     pub(crate) fn number(self) -> usize
         ensures number { result ≡ number self }
         ensures within { result < 28 }
@@ -136,7 +136,7 @@ impl Kind {
         self as usize
     }
 
-    /// Whether the two are one kind.
+    /// Whether the two kinds are the same.
     pub(crate) fn is_same(self, other: Kind) -> bool
         ensures { result ≡ (number self == number other) }
     {

@@ -1,9 +1,10 @@
-//! What holds of every walk.
+//! What holds for every walk.
 //!
-//! The functions do nothing: each is a theorem, stated by its contract.
+//! The functions do nothing and cost nothing. Each states a theorem by its contract, and a call of
+//! it gives the theorem to the prover.
 ghost use Rattle.vme_draws.specs.Laws.{EachCanBeMade, EachIsOpen, IsBelow, NumbersAreDrawn, SomeIsMade};
 
-/// Each edge that the rules allow is of one kind, and some two numbers choose it; and whatever two
+/// Each edge that the rules allow is of one kind, and some two numbers choose it. Whatever two
 /// numbers choose, the rules allow. As long as an edge is open, some edge is chosen.
 pub fn nothing_is_left_out()
     ensures made { EachCanBeMade }

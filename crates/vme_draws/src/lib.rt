@@ -1,5 +1,5 @@
-//! A walk of random order: the next edge is drawn among all that the rules allow, by the numbers of
-//! a seed.
+//! A random walk: the next edge is drawn from all that the rules allow, by the numbers of a seed.
+//! docs/COMMANDS.md describes it (`drive` with a seed).
 #![tactic(auto)]
 
 mod chances;

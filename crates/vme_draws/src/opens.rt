@@ -8,10 +8,10 @@ use arrayvec::ArrayVec;
 use vme_bus::Bus;
 use vme_model::{Driver, Edge};
 
-/// The most open edges: 36 of each of 22 drivers.
+/// The most open edges: 36 for each of 22 drivers.
 pub(crate) const OPEN_EDGES: usize = 792;
 
-/// Puts edges after the others.
+/// Appends edges.
 fn append(edges: &mut ArrayVec<Edge, OPEN_EDGES>, others: &[Edge])
     requires { length edges.old.items + length others.now ≤ 792 }
     ensures { edges.new.items ≡ edges.old.items ++ others.now }
@@ -21,7 +21,7 @@ fn append(edges: &mut ArrayVec<Edge, OPEN_EDGES>, others: &[Edge])
     }
 }
 
-/// Puts the open edges of drivers, in their order, where there are none.
+/// Puts the open edges of these drivers, in their order, into an empty list.
 fn append_open(bus: &Bus, drivers: &[Driver], edges: &mut ArrayVec<Edge, OPEN_EDGES>)
     requires empty { edges.old.items ≡ [] }
     requires few { length drivers.now ≤ 22 }
@@ -32,7 +32,8 @@ fn append_open(bus: &Bus, drivers: &[Driver], edges: &mut ArrayVec<Edge, OPEN_ED
     }
 }
 
-/// Lists the open edges of all drivers: the controller's, then each board's by slot.
+/// Lists the open edges of all drivers: those of the controller first, then those of each board by
+/// slot.
 pub(crate) fn all_open(bus: &Bus, edges: &mut ArrayVec<Edge, OPEN_EDGES>)
     ensures { edges.new.items ≡ all_open bus.now }
 {

@@ -15,7 +15,7 @@ pub(crate) struct Tally {
 }
 
 impl Tally {
-    /// That of no edges.
+    /// The counts of no edges.
     pub(crate) fn new() -> Tally
         ensures { (p : PlanOf) → AreCounts p [] result.counts }
     {
@@ -24,14 +24,14 @@ impl Tally {
         }
     }
 
-    /// How many there are of a kind.
+    /// How many edges of a kind there are.
     pub(crate) fn count(&self, kind: Kind) -> u32
         ensures { result ≡ slice_index self.now.counts (number kind) }
     {
         self.counts[kind.number()]
     }
 
-    /// Counts one edge more.
+    /// Counts one more edge.
     pub(crate) fn add(&mut self, plan: &Plan, edge: &Edge)
         requires { slice_index self.old.counts (number (kind_of plan.now edge.now)) < 2 ^ 32 - 1 }
         ensures { CountsIn plan.now edge.now self.old.counts self.new.counts }
@@ -40,7 +40,7 @@ impl Tally {
         self.counts[place] += 1;
     }
 
-    /// That of some edges.
+    /// The counts of these edges.
     pub(crate) fn of(plan: &Plan, edges: &[Edge]) -> Tally
         requires { length edges.now ≤ 792 }
         ensures { AreCounts plan.now edges.now result.counts }

@@ -1,4 +1,4 @@
-//! A walk, whose next edge is drawn.
+//! A random walk, whose next edge is drawn.
 ghost use Rattle.std.specs.Prelude.{◌≡◌, IfSome, Ok, slice_get};
 ghost use Rattle.vme_model.specs.Report.{at_power_up, trace_limit};
 ghost use Rattle.vme_model.specs.Verdict.{verdict};
@@ -19,11 +19,11 @@ use vme_bus::Bus;
 use vme_model::{Edge, Version};
 use vme_slots::Plan;
 
-/// A walk: a bus whose next edge is drawn among all that the rules allow, by the numbers of a
+/// A random walk: a bus whose next edge is drawn from all that the rules allow, by the numbers of a
 /// seed.
 ///
-/// First a kind of edge is drawn, by the kinds' weights and how many of each were made, and then one
-/// of its open edges.
+/// First a kind of edge is drawn, by the kinds' weights and by how many edges of each kind were
+/// made; then one of its open edges is drawn. Source: profile.
 #[derive(Drop)]
 pub struct Walk {
     seed: u64,
@@ -31,7 +31,7 @@ pub struct Walk {
     numbers: Pcg32,
     weights: Weights,
     made: Tally,
-    /// Room for the open edges, of whatever state they are.
+    /// Room for the open edges of any state.
     open: ArrayVec<Edge, OPEN_EDGES>,
 }
 
@@ -53,7 +53,7 @@ impl Model for Walk {
         × AreCounts w.bus.plan w.bus.history w.made.counts };
 }
 
-/// Of the edges of a kind the one at a place.
+/// The edge at a place among the edges of a kind.
 fn edge_of(plan: &Plan, edges: &[Edge], kind: Kind, place: u32) -> Option<Edge>
     ensures { result ≡ slice_get (of_kind plan.now kind edges.now) place }
 {
@@ -70,7 +70,7 @@ fn edge_of(plan: &Plan, edges: &[Edge], kind: Kind, place: u32) -> Option<Edge>
 }
 
 impl Walk {
-    /// A walk before its first edge.
+    /// A walk before its first edge. It can hold 1,048,576 edges.
     pub fn new(plan: Plan, version: Version, seed: u64) -> Walk
         ensures { result ≡ at_start (at_power_up version plan trace_limit) seed }
     {
@@ -99,7 +99,8 @@ impl Walk {
         self.bus.restart();
     }
 
-    /// The edge that two words choose: the first the kind, and the second one of its open edges.
+    /// The edge that two words choose: the first word draws the kind, and the second one of its
+    /// open edges.
     fn choice(&mut self, first: u32, second: u32) -> Option<Edge>
         ensures edge { result ≡ chosen self.old first second }
         ensures kept { self.new ≡ self.old }
@@ -114,7 +115,7 @@ impl Walk {
         edge_of(plan, edges, kind, place)
     }
 
-    /// Draws the next edge; none where none is open. It is not made yet.
+    /// Draws the next edge; none if no edge is open. The edge is not made yet.
     pub fn draw(&mut self) -> Option<Edge>
         ensures edge { result ≡ next_edge self.old }
         ensures state { self.new ≡ drawn self.old }

@@ -10,13 +10,13 @@ use crate::numbers::scaled;
 use rand_core::utils::NextWord;
 use rand_pcg::Pcg32;
 
-/// A weight for each kind: 1, 4, 16 or 64.
+/// A weight for each kind: 1, 4, 16 or 64. Source: profile.
 #[derive(Clone, Copy)]
 pub(crate) struct Weights {
     pub(crate) by_kind: [u8; KIND_COUNT],
 }
 
-/// The weight that a word gives.
+/// The weight that a word gives: 1, 4, 16 or 64.
 fn weight(word: u32) -> u8
     ensures { result ≡ 4 ^ scaled_by word 4 }
 {
@@ -29,7 +29,7 @@ fn weight(word: u32) -> u8
 }
 
 impl Weights {
-    /// Draws one for each kind, in their order.
+    /// Draws a weight for each kind, in the order of the kinds.
     pub(crate) fn draw(numbers: &mut Pcg32) -> Weights
         ensures weights { (k : KindOf) → slice_index result.by_kind (number k)
             ≡ weight numbers.old k }

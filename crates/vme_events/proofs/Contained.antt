@@ -2,12 +2,12 @@
 use Rattle.std.proofs.Common.{◌≡◌, ◌∙◌, Bool, true, false, List, [], ◌∷◌, refl, sym, ap}
 use Rattle.std.specs.Prelude.{◌||◌, filter, if◌then◌else◌}
 use Rattle.std.specs.List.{list_any}
-use denote.Enum.Bare.{same_true}
+use Rattle.std.proofs.lemmas.List.Folds.{list_any_at}
+use denote.Enum.Bare.{same_true, true_same}
 use Rattle.vme_goals.specs.contracts.events.Event.{the_type}
 use Rattle.vme_goals.specs.declared.events.Event.{Event}
-use Rattle.vme_goals.specs.declared.events.Event.TheVariants as event
-use Rattle.vme_goals.specs.Events.{all_events}
-use Rattle.vme_events.specs.Brought.{is_same_event}
+use Rattle.vme_goals.specs.Events.{all_events, event_index, is_same_event}
+use Rattle.vme_goals.proofs.Placed.{index_below, stands}
 
 abbrev is : Event → Event → Bool
 is x y = is_same_event y x
@@ -42,22 +42,7 @@ some f x (y ∷ ys) holds among = one (f y) (is x y) refl refl among (λ n. some
     one false true p q n g = absurd (let e : false ≡ true = sym p ∙ ap f (same x y q) ∙ holds in cc)
 
 named : (x : Event) → list_any (is x) all_events ≡ true
-unfolding all_events
-named event.GrantPassed = refl
-named event.LateRequest = refl
-named event.Overtaken = refl
-named event.EarlyRelease = refl
-named event.Overlap = refl
-named event.FullBurst = refl
-named event.BusClear = refl
-named event.Rivals = refl
-named event.Delivery = refl
-named event.IackPassed = refl
-named event.AnsweredAgain = refl
-named event.Spurious = refl
-named event.BusError = refl
-named event.Withdrawn = refl
-named event.GrantTimeout = refl
+named x = list_any_at (is x) all_events (event_index x) x (index_below x) (true_same the_type _ _ (stands x x))
 
 pub among_all : (f : Event → Bool) (x : Event) → list_any (is x) (filter f all_events) ≡ f x
 among_all f x = one (f x) refl

@@ -1,7 +1,5 @@
 -- The situations that an edge brings about, by its wire.
 use Rattle.std.specs.Prelude.{◌&&◌, ◌++◌, Bool, if◌then◌else◌, not, List, [], ◌∷◌}
-use denote.Enum.Bare.{sameb}
-use Rattle.vme_goals.specs.contracts.events.Event.{the_type}
 use Rattle.vme_model.specs.declared.boards.IrqKind.TheVariants.{Roak}
 use Rattle.vme_model.specs.declared.signals.Driver.{Driver}
 use Rattle.vme_model.specs.declared.signals.Wire.{Wire}
@@ -13,10 +11,6 @@ use Rattle.vme_model.specs.History.{drive, line, shown, served_since_request}
 use Rattle.vme_goals.specs.declared.events.Event.{Event}
 use Rattle.vme_goals.specs.declared.events.Event.TheVariants as event
 use Rattle.vme_events.specs.Events.{fills_burst, has_rival, is_access, overtakes}
-
--- the same situation
-abbrev pub is_same_event : Event → Event → Bool
-is_same_event = sameb the_type
 
 -- the situation where the test holds
 abbrev pub when : Bool → Event → List Event

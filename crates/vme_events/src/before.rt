@@ -14,7 +14,7 @@ ghost use Rattle.vme_events.specs.Ordered.{OfOrdered};
 
 use vme_bus::Bus;
 use vme_model::{Driver, InterrupterRow, IrqKind, Release, RequesterRow, Row, Wire};
-use vme_reasons::{Marks, is_low, since};
+use vme_reasons::{Marks, since};
 
 /// The board that a driver stands on; none for the controller.
 fn board_of(bus: &Bus, driver: Driver) -> Option<Row>
@@ -60,8 +60,7 @@ fn asked_before(bus: &Bus, marks: &Marks, driver: Driver, slot: u8) -> bool
         → result ≡ asked_before bus.now.history driver slot) }
 {
     let other = Driver::Slot(slot);
-    is_low(bus, marks, other, Wire::Br)
-        && asked_at(bus, marks, other) < asked_at(bus, marks, driver)
+    bus.is_low(other, Wire::Br) && asked_at(bus, marks, other) < asked_at(bus, marks, driver)
 }
 
 /// Whether the driver's request is low, and another that is low is older.
@@ -69,7 +68,7 @@ pub(crate) fn overtakes(bus: &Bus, marks: &Marks, driver: Driver) -> bool
     ensures { OfOrdered bus.now marks.now (λ _. result
         ≡ overtakes bus.now.plan bus.now.history driver) }
 {
-    if !is_low(bus, marks, driver, Wire::Br) {
+    if !bus.is_low(driver, Wire::Br) {
         return false;
     }
     for below in 0..bus.plan().slots() {
@@ -110,8 +109,7 @@ fn is_pending(bus: &Bus, marks: &Marks, slot: u8, level: u8) -> bool
     let driver = Driver::Slot(slot);
     match interrupter_of(bus, driver) {
         Some(interrupter) if interrupter.level == level => {
-            is_low(bus, marks, driver, Wire::Irq)
-                && marks.served_since(slot, interrupter.kind).is_none()
+            bus.is_low(driver, Wire::Irq) && marks.served_since(slot, interrupter.kind).is_none()
         }
         _ => false,
     }

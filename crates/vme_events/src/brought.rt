@@ -3,8 +3,9 @@ ghost use Rattle.std.specs.Prelude.{◌≡◌, ◌≤◌, ◌++◌};
 ghost use Rattle.std.specs.List.{list_any};
 ghost use Rattle.arrayvec.specs.ArrayVec.{array_vec_len};
 ghost use Rattle.vme_events.specs.Events.{comes, events_of, is_access};
+ghost use Rattle.vme_goals.specs.Events.{is_same_event};
 ghost use Rattle.vme_model.specs.Signals.{is_acknowledge};
-ghost use Rattle.vme_events.specs.Brought.{at_fall, at_rise, is_same_event, when};
+ghost use Rattle.vme_events.specs.Brought.{at_fall, at_rise, when};
 ghost use Rattle.vme_events.specs.Ordered.{OfOrdered};
 
 use crate::before::{fills_burst, has_acknowledged, has_rival, overtakes};
@@ -12,7 +13,7 @@ use arrayvec::ArrayVec;
 use vme_bus::Bus;
 use vme_goals::Event;
 use vme_model::{Cycle, Driver, Edge, Wire};
-use vme_reasons::{Marks, is_low};
+use vme_reasons::Marks;
 
 /// The situation where the test holds.
 fn alone(holds: bool, event: Event) -> ArrayVec<Event, 2>
@@ -59,7 +60,7 @@ fn at_fall(bus: &Bus, marks: &Marks, driver: Driver, wire: Wire) -> ArrayVec<Eve
     match wire {
         Wire::Bclr => alone(true, Event::BusClear),
         Wire::Berr => {
-            let shown = bus.pins(driver).shown;
+            let shown = bus.shown();
             both(
                 is_acknowledge(shown),
                 Event::Spurious,
@@ -68,7 +69,7 @@ fn at_fall(bus: &Bus, marks: &Marks, driver: Driver, wire: Wire) -> ArrayVec<Eve
             )
         }
         Wire::Br => {
-            let has_passed = is_low(bus, marks, driver, Wire::BgOut);
+            let has_passed = bus.is_low(driver, Wire::BgOut);
             alone(has_passed && !bus.pins(driver).bbsy, Event::LateRequest)
         }
         Wire::BgOut => alone(true, Event::GrantPassed),
@@ -82,7 +83,7 @@ fn at_fall(bus: &Bus, marks: &Marks, driver: Driver, wire: Wire) -> ArrayVec<Eve
         Wire::Irq => alone(has_rival(bus, marks, driver), Event::Rivals),
         Wire::IackOut => alone(true, Event::IackPassed),
         Wire::Dtack => {
-            let is_delivery = is_acknowledge(bus.pins(driver).shown);
+            let is_delivery = is_acknowledge(bus.shown());
             let again = is_delivery && has_acknowledged(bus, marks, driver);
             both(is_delivery, Event::Delivery, again, Event::AnsweredAgain)
         }
@@ -98,11 +99,11 @@ fn at_rise(bus: &Bus, marks: &Marks, driver: Driver, wire: Wire) -> ArrayVec<Eve
     match wire {
         Wire::Bg(_) => alone(!bus.pins(driver).bbsy, Event::GrantTimeout),
         Wire::Br => {
-            let is_owner = is_low(bus, marks, driver, Wire::Bbsy);
+            let is_owner = bus.is_low(driver, Wire::Bbsy);
             alone(!is_owner, Event::Withdrawn)
         }
         Wire::Bbsy => {
-            let in_cycle = is_low(bus, marks, driver, Wire::AddressStrobe);
+            let in_cycle = bus.is_low(driver, Wire::AddressStrobe);
             alone(in_cycle, Event::EarlyRelease)
         }
         _ => ArrayVec::new(),

@@ -1,4 +1,5 @@
--- The first goal that words name is the first situation that they name, or else the first miss.
+-- The first goal that words name is the first event that they name, or the first miss if they name
+-- no event.
 use Rattle.std.proofs.Common.{◌≡◌, ◌∙◌, refl, ap, ℕ, Bool, true, false, List, [], ◌∷◌, map, Option, Some, None}
 use Rattle.std.specs.Prelude.{if◌then◌else◌, find, option_map}
 use Rattle.std.specs.Option.{option_or}

@@ -1,12 +1,15 @@
--- Situations that an accepted edge brings about, and their names. (Which situations have a name is
--- this project's profile.)
+-- Events: situations that an accepted edge brings about, and their names. (Which situations have a
+-- name is this project's profile.)
 use Rattle.std.specs.Prelude.{ℕ, Bool, true, List, [], ◌∷◌, codes}
+use Rattle.std.specs.List.{position_or_len}
+use denote.Enum.Bare.{sameb}
+use Rattle.vme_goals.specs.contracts.events.Event.{the_type}
 use Rattle.vme_model.specs.declared.signals.Version.{Version}
 use Rattle.vme_model.specs.Signals.{is_two}
 use Rattle.vme_goals.specs.declared.events.Event.{Event}
 use Rattle.vme_goals.specs.declared.events.Event.TheVariants as event
 
--- all of them, in the order in which they are told
+-- all events, in the order in which they are reported
 unfoldable pub all_events : List Event
 all_events =
     event.GrantPassed ∷ event.LateRequest ∷ event.Overtaken ∷ event.EarlyRelease ∷ event.Overlap
@@ -14,7 +17,15 @@ all_events =
     ∷ event.AnsweredAgain ∷ event.Spurious ∷ event.BusError ∷ event.Withdrawn
     ∷ event.GrantTimeout ∷ []
 
--- how each is called
+-- the same event
+abbrev pub is_same_event : Event → Event → Bool
+is_same_event = sameb the_type
+
+-- the place of an event among all events, from 0
+unfoldable pub event_index : Event → ℕ
+event_index v = position_or_len (is_same_event v) all_events
+
+-- the name of each event
 abbrev pub event_text : Event → List ℕ
 event_text event.GrantPassed = codes "grant-passed"
 event_text event.LateRequest = codes "late-request"

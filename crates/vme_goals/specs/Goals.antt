@@ -1,4 +1,4 @@
--- What a trace can be drawn to come to, and its words. (Profile.)
+-- What a trace can be drawn to reach, and its words. (Profile.)
 use Rattle.std.specs.Prelude.{◌==◌, ◌&&◌, ◌||◌, ℕ, Bool, true, not, Option, List, [], ◌∷◌, ◌++◌, codes, decimal, nat_le, map, find, unwrap_or}
 use Rattle.std.specs.Str.{bytes_eq}
 use Rattle.vme_model.specs.declared.boards.IrqKind.TheVariants.{Roak, Rora}
@@ -55,7 +55,7 @@ masters_misses =
     ∷ condition.Strobed ∷ [])
     ++ conditions_of 20 (condition.OwnAddressOff ∷ [])
 
--- G21 asks for nothing, and G22's one condition is spelled by the kind of the interrupter
+-- G21 asks for nothing, and the text of G22's one condition depends on the kind of the interrupter
 abbrev pub interrupters_misses : List Miss
 interrupters_misses =
     miss.Unserved Roak ∷ miss.Unserved Rora ∷ []
@@ -73,7 +73,7 @@ all_misses =
     controllers_misses ++ requesters_misses ++ masters_misses ++ interrupters_misses
     ++ miss.Settling 1 ∷ miss.Settling 2 ∷ miss.Settling 3 ∷ miss.Settling 4 ∷ []
 
--- how a condition is spelled, with N for a level
+-- the text of a condition, with N for a level
 abbrev pub pattern : Condition → List ℕ
 pattern condition.Picked = codes "the arbiter picks level N"
 pattern condition.Handled = codes "the board handles level N"
@@ -100,15 +100,15 @@ abbrev pub goal_text : Goal → List ℕ
 goal_text (goal.Event e) = event_text e
 goal_text (goal.Miss m) = miss_text m
 
--- the version can come to it
+-- a trace can reach the goal in that version
 abbrev pub has_goal : Version → Goal → Bool
 has_goal version (goal.Event e) = has_event version e
 has_goal version (goal.Miss m) = has_miss version m
 
--- the words name it, and the version can come to it
+-- the words name the goal, and a trace can reach it in that version
 abbrev pub is_named : List ℕ → Version → Goal → Bool
 is_named words version g = has_goal version g && bytes_eq words (goal_text g)
 
--- the goal that words name, if they name one that the version can come to
+-- the goal that the words name, if they name one that a trace can reach in that version
 abbrev pub goal_of : List ℕ → Version → Option Goal
 goal_of words version = find (is_named words version) all_goals

@@ -1,19 +1,20 @@
-//! Situations of a bus that a trace can come to.
-ghost use Rattle.std.specs.Prelude.{◌≡◌, ◌≤◌, length, Some};
-ghost use Rattle.vme_goals.specs.Events.{event_text, has_event};
+//! Events: situations of a bus that a trace can reach. docs/COMMANDS.md describes them.
+ghost use Rattle.std.specs.Prelude.{◌≡◌, ◌<◌, ◌≤◌, length, Some};
+ghost use Rattle.vme_goals.specs.Events.{event_index, event_text, has_event};
 
 use std::fmt;
 use vme_model::Version;
 
-/// A situation that an accepted edge brings about, in the order in which situations are told.
+/// An event: a situation that an accepted edge brings about. The order is that in which events are
+/// reported. Source: profile.
 #[derive(Clone, Copy, PartialEq, Eq, Debug, Default)]
 pub enum Event {
-    /// A board hands on a grant that it does not want.
+    /// A board passes on a grant that it does not want.
     #[default]
     GrantPassed,
     /// A board requests the bus after its grant has gone by.
     LateRequest,
-    /// A board takes the bus while another waits that requested it before.
+    /// A board takes the bus while another board waits that requested it earlier.
     Overtaken,
     /// A board gives up the bus before its last cycle is over.
     EarlyRelease,
@@ -21,13 +22,13 @@ pub enum Event {
     Overlap,
     /// A board begins the last cycle of a burst above 1.
     FullBurst,
-    /// The arbiter has the bus cleared.
+    /// The arbiter asks for the bus to be cleared.
     BusClear,
     /// A board requests an interrupt while another is pending at its level.
     Rivals,
     /// An acknowledge is answered.
     Delivery,
-    /// A board hands on an acknowledge that it does not answer.
+    /// A board passes on an acknowledge that it does not answer.
     IackPassed,
     /// A board answers a further acknowledge after one request.
     AnsweredAgain,
@@ -42,8 +43,11 @@ pub enum Event {
 }
 
 impl Event {
-    /// All of them, in their order.
-    pub const ALL: [Event; 15] = [
+    /// How many events there are.
+    pub const COUNT: usize = 15;
+
+    /// All events, in their order.
+    pub const ALL: [Event; Event::COUNT] = [
         Event::GrantPassed,
         Event::LateRequest,
         Event::Overtaken,
@@ -61,7 +65,15 @@ impl Event {
         Event::GrantTimeout,
     ];
 
-    /// How it is called.
+    /// The place of the event among all events, from 0.
+    pub fn index(self) -> usize
+        ensures at { result ≡ event_index self }
+        ensures within { result < Event.COUNT }
+    {
+        self as usize
+    }
+
+    /// The name of the event, at most 14 bytes.
     pub fn name(self) -> &'static str
         ensures text { result.now ≡ event_text self }
         ensures short { length result.now ≤ 14 }
@@ -85,7 +97,7 @@ impl Event {
         }
     }
 
-    /// Whether it can come in that version of the rules.
+    /// Whether the event can happen in that version of the rules.
     pub fn is_of(self, version: Version) -> bool
         ensures { result ≡ has_event version self }
     {

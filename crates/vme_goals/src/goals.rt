@@ -1,4 +1,4 @@
-//! What a trace can be drawn to come to.
+//! Goals: what a trace can be drawn to reach.
 ghost use Rattle.std.specs.Prelude.{◌≡◌, find};
 ghost use Rattle.vme_goals.specs.Goals.{goal_of, goal_text, has_goal, is_named};
 
@@ -7,7 +7,8 @@ use crate::misses::{Miss, WORDS, push};
 use arrayvec::ArrayVec;
 use vme_model::Version;
 
-/// A situation that an accepted edge brings about, or an edge that one condition alone refuses.
+/// A goal: an event that an accepted edge brings about, or an edge that one condition alone
+/// refuses. Source: profile.
 #[derive(Clone, Copy, PartialEq, Eq, Debug)]
 pub enum Goal {
     Event(Event),
@@ -15,7 +16,8 @@ pub enum Goal {
 }
 
 impl Goal {
-    /// Whether the version of the rules can come to it.
+    /// Whether a trace can reach the goal in that version of the rules, as far as the version
+    /// decides.
     pub fn is_of(self, version: Version) -> bool
         ensures { result ≡ has_goal version self }
     {
@@ -25,7 +27,7 @@ impl Goal {
         }
     }
 
-    /// Its words.
+    /// The words of the goal, at most 80 bytes.
     pub fn text(self) -> ArrayVec<u8, WORDS>
         ensures { result.items ≡ goal_text self }
     {
@@ -39,7 +41,7 @@ impl Goal {
         }
     }
 
-    /// Whether these are its words, and the version of the rules can come to it.
+    /// Whether these are the words of the goal, and the version of the rules can reach it.
     fn is_named(self, words: &str, version: Version) -> bool
         ensures { result ≡ is_named words.now version self }
     {
@@ -47,7 +49,7 @@ impl Goal {
     }
 }
 
-/// The first of these situations that the words name.
+/// The first of these events that the words name.
 fn event_of(events: &[Event], words: &str, version: Version) -> Option<Event>
     ensures { result ≡ find (λ e. is_named words.now version (Goal.Event e)) events.now }
 {
@@ -67,9 +69,9 @@ fn miss_of(misses: &[Miss], words: &str, version: Version) -> Option<Miss>
         .find(|miss| Goal::Miss(*miss).is_named(words, version))
 }
 
-/// The goal that these words name: a situation by its name, a condition as `G13 own br is low`, with
-/// N for a level, or a settling rule as `S2`. None where no goal has these words, or where the
-/// version of the rules cannot come to it.
+/// The goal that these words name: an event by its name, a condition such as `G13 own br is low`,
+/// with N for a level, or a settling rule such as `S2`. It is none if no goal has these words, or
+/// if the version of the rules cannot reach it.
 pub fn goal_of(words: &str, version: Version) -> Option<Goal>
     ensures { result ≡ goal_of words.now version }
 {

@@ -1,5 +1,5 @@
-//! What a trace can be drawn to come to, and its words: situations that an accepted edge brings
-//! about, and edges that one condition alone refuses.
+//! What a trace can be drawn to reach, and its words: events that an accepted edge brings about,
+//! and misses, which are edges that one condition alone refuses. docs/COMMANDS.md describes both.
 #![tactic(auto)]
 
 mod events;

@@ -1,4 +1,4 @@
-//! Edges that one condition alone refuses.
+//! Misses: edges that one condition alone refuses.
 ghost use Rattle.std.specs.Prelude.{◌≡◌, ◌≤◌, ◌+◌, ◌++◌, decimal, length};
 ghost use Rattle.arrayvec.specs.ArrayVec.{array_vec_len};
 ghost use Rattle.vme_model.specs.Spoken.{kind_text};
@@ -8,10 +8,10 @@ use arrayvec::ArrayVec;
 use itoa::Buffer;
 use vme_model::{Condition, IrqKind, Version};
 
-/// Room for the words of any goal: the longest has 50 bytes.
+/// Room for the words of any goal, in bytes: the longest have 50.
 pub(crate) const WORDS: usize = 80;
 
-/// Appends a text that has room.
+/// Appends a text. The words have to have room for it.
 pub(crate) fn push(words: &mut ArrayVec<u8, WORDS>, text: &str)
     requires { array_vec_len words.old + length text.now ≤ 80 }
     ensures items { words.new.items ≡ words.old.items ++ text.now }
@@ -22,7 +22,7 @@ pub(crate) fn push(words: &mut ArrayVec<u8, WORDS>, text: &str)
     }
 }
 
-/// Appends a rule's number in decimal.
+/// Appends a rule's number in decimal. The words have to have room for 3 digits.
 fn push_number(words: &mut ArrayVec<u8, WORDS>, rule: u8)
     requires { array_vec_len words.old + 3 ≤ 80 }
     ensures items { words.new.items ≡ words.old.items ++ decimal rule }
@@ -32,18 +32,18 @@ fn push_number(words: &mut ArrayVec<u8, WORDS>, rule: u8)
     push(words, digits.format(rule));
 }
 
-/// What alone refuses an edge.
+/// A miss: what alone refuses an edge. Source: profile.
 #[derive(Clone, Copy, PartialEq, Eq, Debug)]
 pub enum Miss {
-    /// Of the guard of this rule, G1 to G26, this condition fails, and no other.
+    /// In the guard of this rule, G1 to G26, this condition fails, and no other does.
     Rule(u8, Condition),
-    /// G22's only condition fails, of an interrupter of this kind.
+    /// The only condition of G22 fails, for an interrupter of this kind.
     Unserved(IrqKind),
     /// The guard of the rule holds, and this settling rule, S1 to S4, does not.
     Settling(u8),
 }
 
-/// How a condition is spelled, with N for a level.
+/// The text of a condition, with N for a level.
 fn pattern(condition: Condition) -> &'static str
     ensures text { result.now ≡ pattern condition }
     ensures short { length result.now ≤ 48 }
@@ -58,7 +58,7 @@ fn pattern(condition: Condition) -> &'static str
     }
 }
 
-/// What serves an interrupter of the kind.
+/// The text for what serves an interrupter of this kind.
 fn kind_text(kind: IrqKind) -> &'static str
     ensures text { result.now ≡ kind_text kind }
     ensures short { length result.now ≤ 48 }
@@ -70,7 +70,8 @@ fn kind_text(kind: IrqKind) -> &'static str
 }
 
 impl Miss {
-    /// All that have words: the conditions of G1 to G26 in the order of their guards, and S1 to S4.
+    /// All misses that have words: the conditions of G1 to G26 in the order of their guards, and
+    /// then S1 to S4.
     pub const ALL: [Miss; 66] = [
         Miss::Rule(1, Condition::GrantsHigh),
         Miss::Rule(1, Condition::BusyHigh),
@@ -151,7 +152,8 @@ impl Miss {
         }
     }
 
-    /// Its words: a rule and the text of its condition, with N for a level, or a settling rule.
+    /// The words of the miss: a rule and the text of its condition, with N for a level, or a
+    /// settling rule.
     pub fn text(self) -> ArrayVec<u8, WORDS>
         ensures { result.items ≡ miss_text self }
     {

@@ -6,7 +6,7 @@ ghost use Rattle.vme_model.specs.Offers.{irq_descending};
 use std::marker::Model;
 use vme_model::Levels;
 
-/// An interrupt handler, as the set of the levels that it handles.
+/// An interrupt handler, as the set of the levels that it handles. Source: Std 1014, chapter 4.
 #[derive(Clone, Copy, PartialEq, Eq, Debug)]
 pub struct Handler {
     levels: Levels,
@@ -23,14 +23,15 @@ impl Model for Handler {
 }
 
 impl Handler {
-    /// A handler of these levels; with none it never wants an acknowledge.
+    /// A handler of these levels. If there are none, it never wants an acknowledge.
     pub fn new(levels: Levels) -> Handler
         ensures { result ≡ levels }
     {
         Handler { levels }
     }
 
-    /// The highest level that it handles of the interrupt lines that are low (IRQ7* is highest).
+    /// The highest level that is handled and whose interrupt line is low, 1 to 7; none if there is
+    /// no such level. IRQ7* is the highest. Source: Std 1014, chapter 4.
     pub fn wants(&self, irq: Levels) -> Option<u8>
         ensures { result ≡ find (λ v. has_level self.now v && has_level irq v) irq_descending }
     {
@@ -38,7 +39,7 @@ impl Handler {
     }
 }
 
-/// The highest level of both sets.
+/// The highest level that is in both sets.
 fn highest(handled: Levels, low: Levels) -> Option<u8>
     ensures { result ≡ find (λ v. has_level handled v && has_level low v) irq_descending }
 {

@@ -1,4 +1,4 @@
-//! A board's interrupt handler: which level it acknowledges next.
+//! A board's interrupt handler: which level it acknowledges next. docs/PARTS.md explains the parts.
 #![tactic(auto)]
 
 mod handlers;

@@ -1,4 +1,4 @@
-//! The interrupt acknowledge daisy chain of a backplane.
+//! The interrupt acknowledge daisy chain of a backplane. docs/PARTS.md explains it.
 #![tactic(auto)]
 
 mod iack_chains;

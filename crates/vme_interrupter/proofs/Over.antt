@@ -23,14 +23,14 @@ use Rattle.vme_interrupter.specs.Local.{Noted, InterrupterState, edges, interrup
 abbrev edge : Driver → Wire → Bool → Option Cycle → Edge
 edge d w f v = record { driver = d; wire = w; fall = f; value = v }
 
--- whatever is shown, it is passed on alike
+-- whatever is shown, it is passed on by the state as over the list
 passed_alike : (s : ℕ) (row : Option InterrupterRow) (noted : List Noted) (pins : Pins) (shown : Option Cycle) →
     is_passed_by (local (interrupter_of s row noted) pins) shown ≡ is_passed_by (over s row noted pins) shown
 passed_alike s row noted pins None = refl
 passed_alike s row noted pins (Some (Acknowledge level)) = refl
 passed_alike s row noted pins (Some (Access t)) = refl
 
--- and answered
+-- whatever is shown, it is answered by the state as over the list
 answered_alike : (s : ℕ) (row : Option InterrupterRow) (noted : List Noted) (pins : Pins) (shown : Option Cycle) →
     may_answer (local (interrupter_of s row noted) pins) shown ≡ may_answer (over s row noted pins) shown
 answered_alike s row noted pins None = refl
@@ -53,14 +53,14 @@ by_parts version s row noted pins d Dtack true v own =
 by_parts version s row noted pins d Dtack false v own = refl
 by_parts version s row noted pins d w f v own = absurd (cc)
 
--- a state that a list leads to answers as the list says
+-- a state that comes from a list answers as the list says
 pub answers_over : (version : Version) (state : InterrupterState) (noted : List Noted) (pins : Pins) (e : Edge) → state ≡ interrupter_of state.slot state.row noted → is_interrupters e.wire ≡ true →
     ruling One (local state pins) e ≡ ruling version (over state.slot state.row noted pins) e
 answers_over version state noted pins e same own =
     let P : InterrupterState → Type 0 = λ i. ruling One (local i pins) e ≡ ruling version (over state.slot state.row noted pins) e in
     subst P (sym same) (by_parts version state.slot state.row noted pins e.driver e.wire e.fall e.value own)
 
--- the same of an edge of the wire x, which is w
+-- a state that comes from a list answers as the list says, for an edge of the wire x, which is w
 pub rules_over : (version : Version) (state : InterrupterState) (noted : List Noted) (pins : Pins) (d : Driver) (w x : Wire) (f : Bool) (v : Option Cycle) → state ≡ interrupter_of state.slot state.row noted → w ≡ x → is_interrupters x ≡ true →
     ruling_on One (local state pins) x f v ≡ ruling_on version (over state.slot state.row noted pins) w f v
 rules_over version state noted pins d w x f v same is own =

@@ -22,12 +22,12 @@ no_answer true dtack rest none = refl
 no_answer false true rest none = none
 no_answer false false rest none = none
 
--- with no interrupter nothing serves it
+-- without an interrupter nothing is served
 none_served : (p : Plan) (h : List Edge) (d : Driver) → served (seen p h) d None ≡ false
 none_served p [] d = refl
 none_served p (e ∷ h) d = no_answer (is_fall_of d Irq e) (is_fall_of d Dtack e) (served (seen p h) d None) (none_served p h d)
 
--- an interrupter
+-- with an interrupter
 some_served : (p : Plan) (h : List Edge) (d : Driver) (i : InterrupterRow) → served (seen p h) d (Some i) ≡ served_since_request p h d i.kind
 some_served p [] d i = refl
 some_served p (e ∷ h) d i =

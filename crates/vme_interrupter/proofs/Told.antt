@@ -1,4 +1,4 @@
--- Of all that rules may read, an interrupter's read what it is told.
+-- Of all that rules may read, an interrupter's rules read only what is given to it.
 use Rattle.std.proofs.Common.{◌≡◌, refl, sym, ap, ◌∙◌, Bool, true, false, ℕ}
 use Rattle.std.specs.Prelude.{◌==◌, not, Option, Some, None, Ok}
 use Rattle.std.specs.Option.{option_map_or}

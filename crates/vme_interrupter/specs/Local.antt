@@ -16,7 +16,7 @@ use Rattle.vme_model.specs.Plan.{Plan}
 use Rattle.vme_model.specs.History.{drive, serves, shown}
 use Rattle.vme_model.specs.Readings.{Readings, readings_of_pins}
 
--- what `note` is handed: an edge, and what was shown just before it
+-- what `note` is given: an edge, and what was shown just before it
 abbrev pub Noted : Type 0
 Noted = Edge × Option Cycle
 
@@ -62,7 +62,7 @@ is_interrupters IackOut = true
 is_interrupters Dtack = true
 is_interrupters _ = false
 
--- the wires by the state
+-- the state of the wires, by the local state
 abbrev pub low : InterrupterState → Wire → Bool
 low i Irq = i.irq
 low i IackOut = i.iackout
@@ -86,7 +86,7 @@ abbrev pub over : ℕ → Option InterrupterRow → List Noted → Pins → Read
 over s row noted pins =
     interrupter_readings s row (drive (edges noted) (Slot s)) (served noted (Slot s) row) pins
 
--- readings that say what an interrupter is told, whatever they say of all else
+-- readings that agree with what an interrupter reads, whatever else they say
 pub record SayWhatIsTold (s : ℕ) (row : Option InterrupterRow) (own : Wire → Bool)
     (is_served : Bool) (pins : Pins) (r : Readings) : Type 0 where
   pub own_wires : (w : Wire) → is_interrupters w ≡ true → r.own w ≡ own w
@@ -98,7 +98,7 @@ pub record SayWhatIsTold (s : ℕ) (row : Option InterrupterRow) (own : Wire →
   pub slot : (t : ℕ) → option_map_or (λ b. b.slot == t) r.board false ≡ (s == t)
   pub interrupter : option_and_then (λ b. b.interrupter) r.board ≡ row
 
--- a history as an interrupter notes it that is handed each edge
+-- a history as an interrupter notes it if it is given each edge
 abbrev pub seen : Plan → List Edge → List Noted
 seen p [] = []
 seen p (e ∷ h) = (e, shown p h) ∷ seen p h

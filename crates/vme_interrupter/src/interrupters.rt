@@ -22,8 +22,8 @@ use vme_rules::interrupters::{
 use vme_rules::laws::five_have_room;
 use vme_rules::{Outcome, allowed};
 
-/// A board's interrupter with its data transfer acknowledge, as what its own edges left: which of its wires are low,
-/// and whether its request was served.
+/// A board's interrupter with its data transfer acknowledge, as what its own edges left: which of
+/// its wires are low, and whether its request was served. Source: Std 1014, chapters 2 and 4.
 #[derive(Clone, Copy, PartialEq, Eq, Debug)]
 pub struct Interrupter {
     slot: u8,
@@ -58,7 +58,8 @@ impl Model for Interrupter {
     } };
 }
 
-/// Whether an answer while this is shown serves an interrupter of the kind: ROAK an acknowledge, RORA an access.
+/// Whether an answer while this is shown serves an interrupter of this kind: an acknowledge serves
+/// ROAK, and an access serves RORA. Source: Std 1014, chapter 4.
 #[inline(always)]
 pub fn serves(kind: IrqKind, shown: Option<Cycle>) -> bool
     ensures { result ≡ serves kind shown }
@@ -71,8 +72,8 @@ pub fn serves(kind: IrqKind, shown: Option<Cycle>) -> bool
 }
 
 impl Interrupter {
-    /// The interrupter of the board in a slot, before any edge; with no row the board has none, and answers accesses
-    /// alone.
+    /// The interrupter of the board in a slot, before any edge. Without a row the board has no
+    /// interrupter, and answers accesses alone.
     pub fn new(slot: u8, row: Option<InterrupterRow>) -> Interrupter
         ensures { result ≡ interrupter_of slot row [] }
     {
@@ -86,7 +87,8 @@ impl Interrupter {
         }
     }
 
-    /// Whether it drives the wire low; only `irq`, `iackout` and `dtack` are its own.
+    /// Whether the interrupter drives the wire low. Only `irq`, `iackout` and `dtack` are its own;
+    /// for any other wire the answer is false.
     #[inline(always)]
     pub fn is_low(&self, wire: Wire) -> bool
         ensures { result ≡ low self.now wire }
@@ -99,8 +101,8 @@ impl Interrupter {
         }
     }
 
-    /// Whether the board asks at the level: its interrupter has that level, its request is low, and it gave no answer
-    /// that serves it since it requested.
+    /// Whether the interrupter is pending at the level: it has that level, its request is low, and
+    /// since then it gave no answer that serves it. Source: profile.
     pub fn is_pending(&self, level: u8) -> bool
         ensures { (noted : List Noted) (pins : PinsValue) →
             self.now ≡ interrupter_of self.now.slot self.now.row noted →
@@ -109,7 +111,7 @@ impl Interrupter {
         self.asks(level)
     }
 
-    /// The same by the fields.
+    /// Whether the interrupter is pending at the level, by its fields.
     fn asks(&self, level: u8) -> bool
         ensures { result ≡ (option_map_or (λ i. i.level == level) self.now.row false
             && self.now.irq && not self.now.is_served) }
@@ -117,7 +119,7 @@ impl Interrupter {
         self.has_level(level) && self.irq && !self.is_served
     }
 
-    /// Whether its interrupter has that level.
+    /// Whether the interrupter has that level.
     fn has_level(&self, level: u8) -> bool
         ensures { result ≡ option_map_or (λ i. i.level == level) self.now.row false }
     {
@@ -125,7 +127,7 @@ impl Interrupter {
             .is_some_and(|interrupter| interrupter.level == level)
     }
 
-    /// Whether it asks at the level of the acknowledge that is shown.
+    /// Whether the interrupter is pending at the level of the acknowledge that is shown.
     #[inline(always)]
     fn asks_at(&self, shown: Option<Cycle>) -> bool
         ensures { result ≡ asks_at self.now shown }
@@ -136,7 +138,7 @@ impl Interrupter {
         }
     }
 
-    /// Whether an access to its slot is shown.
+    /// Whether an access to the board's slot is shown.
     #[inline(always)]
     fn is_accessed(&self, shown: Option<Cycle>) -> bool
         ensures { result ≡ is_accessed self.now shown }
@@ -147,7 +149,8 @@ impl Interrupter {
         }
     }
 
-    /// The rule that names an edge of its interrupt request, and what its guard answers (G21, G22).
+    /// The number of the rule that names an edge of its `irq`, and what the rule's guard answers
+    /// (G21, G22).
     #[inline(always)]
     fn request_rule<A: Outcome>(&self, fall: bool) -> (u8, A)
         ensures number { (pins : PinsValue) (value : OptionValue CycleValue) →
@@ -162,7 +165,8 @@ impl Interrupter {
         }
     }
 
-    /// The rule that names an edge of its acknowledge out, and what its guard answers (G23, G24).
+    /// The number of the rule that names an edge of its `iackout`, and what the rule's guard
+    /// answers (G23, G24).
     #[inline(always)]
     fn pass_rule<A: Outcome>(&self, fall: bool, pins: &Pins, iack_in: bool) -> (u8, A)
         ensures number { (value : OptionValue CycleValue) → result.0
@@ -180,7 +184,8 @@ impl Interrupter {
         (23, guard)
     }
 
-    /// The rule that names an edge of its data transfer acknowledge, and what its guard answers (G25, G26).
+    /// The number of the rule that names an edge of its `dtack`, and what the rule's guard answers
+    /// (G25, G26).
     #[inline(always)]
     fn answer_rule<A: Outcome>(&self, fall: bool, pins: &Pins, iack_in: bool) -> (u8, A)
         ensures number { (value : OptionValue CycleValue) → result.0
@@ -201,10 +206,10 @@ impl Interrupter {
         (25, guard)
     }
 
-    /// Whether the rules G21 and G22 allow an edge of its interrupt request.
+    /// Whether the rules G21 and G22 allow an edge of its `irq`. Source: Std 1014, chapter 4.
     ///
     /// # Errors
-    /// As for `may`.
+    /// E2 if the wire is in that state already; otherwise E3 if the rule's guard fails.
     #[inline(always)]
     pub fn may_request(&self, fall: bool) -> Result<(), Refused>
         ensures { (pins : PinsValue) (value : OptionValue CycleValue) →
@@ -216,11 +221,11 @@ impl Interrupter {
         allowed(self.request_rule(fall))
     }
 
-    /// Whether the rules G23 and G24 allow an edge of its acknowledge out, of its pins and the input of
-    /// the acknowledge chain.
+    /// Whether the rules G23 and G24 allow an edge of its `iackout`, given its pins and the input
+    /// of the acknowledge chain. Source: Std 1014, chapter 4.
     ///
     /// # Errors
-    /// As for `may`.
+    /// E2 if the wire is in that state already; otherwise E3 if the rule's guard fails.
     #[inline(always)]
     pub fn may_pass(&self, fall: bool, pins: &Pins, iack_in: bool) -> Result<(), Refused>
         ensures { (value : OptionValue CycleValue) → result
@@ -233,11 +238,12 @@ impl Interrupter {
         allowed(self.pass_rule(fall, pins, iack_in))
     }
 
-    /// Whether the rules G25 and G26 allow an edge of its data transfer acknowledge, of its pins and the
-    /// input of the acknowledge chain.
+    /// Whether the rules G25 and G26 allow an edge of its `dtack`, given its pins and the input of
+    /// the acknowledge chain. Source: Std 1014, chapters 2 and 4; that every board has a register
+    /// is profile.
     ///
     /// # Errors
-    /// As for `may`.
+    /// E2 if the wire is in that state already; otherwise E3 if the rule's guard fails.
     #[inline(always)]
     pub fn may_answer(&self, fall: bool, pins: &Pins, iack_in: bool) -> Result<(), Refused>
         ensures { (value : OptionValue CycleValue) → result
@@ -250,10 +256,12 @@ impl Interrupter {
         allowed(self.answer_rule(fall, pins, iack_in))
     }
 
-    /// Whether the rules G21 to G26 allow an edge of its own wires. It is told its pins.
+    /// Whether the rules G21 to G26 allow an edge of the interrupter's own wires, given its pins.
+    /// Source: G21 to G26 of docs/RULES.md.
     ///
     /// # Errors
-    /// E1 where the wire is none of its own, E2 where it is in that state, else E3 where the rule's guard fails.
+    /// E1 if the wire is not its own; otherwise E2 if the wire is in that state already; otherwise
+    /// E3 if the rule's guard fails.
     #[inline(always)]
     pub fn may(&self, edge: Edge, pins: Pins) -> Result<(), Refused>
         ensures other { is_interrupters edge.wire ≡ false → result ≡ Err Refused.NoSuchDriver }
@@ -270,7 +278,8 @@ impl Interrupter {
         }
     }
 
-    /// What the guard answers of the rule that names an edge of its own wires. It is told its pins.
+    /// What the guard of the rule that names an edge of the interrupter's own wires answers, given
+    /// its pins. Source: G21 to G26 of docs/RULES.md.
     pub fn told<A: Outcome>(&self, edge: Edge, pins: Pins) -> A
         ensures { (version : Version) (noted : List Noted) →
             self.now ≡ interrupter_of self.now.slot self.now.row noted →
@@ -286,8 +295,8 @@ impl Interrupter {
         }
     }
 
-    /// The conditions that fail of the rule that names an edge of its own wires, in the order of its
-    /// guard. It is told its pins.
+    /// The conditions that fail in the rule that names an edge of the interrupter's own wires, in
+    /// the order of its guard, given its pins. Source: G21 to G26 of docs/RULES.md.
     pub fn failing(&self, edge: Edge, pins: Pins) -> ArrayVec<Condition, 5>
         ensures { (version : Version) (noted : List Noted) →
             self.now ≡ interrupter_of self.now.slot self.now.row noted →
@@ -299,7 +308,7 @@ impl Interrupter {
         self.told(edge, pins)
     }
 
-    /// Whether an answer while this is shown serves its interrupter.
+    /// Whether an answer while this is shown serves the board's interrupter.
     fn is_served_by(&self, shown: Option<Cycle>) -> bool
         ensures { result ≡ serves_board self.now.row shown }
     {
@@ -307,8 +316,8 @@ impl Interrupter {
             .is_some_and(|interrupter| serves(interrupter.kind, shown))
     }
 
-    /// Takes in an edge that was made, with what was shown just before it; one of another driver or wire changes
-    /// nothing.
+    /// Takes in an edge that was made, with what was shown just before it. An edge of another
+    /// driver or wire changes nothing.
     #[inline(always)]
     pub fn note(&mut self, edge: Edge, shown: Option<Cycle>)
         ensures { (s : ℕ) (row : OptionValue RowValue) (noted : List Noted) →

@@ -1,4 +1,5 @@
-//! What an interrupter notes, beside the history of its backplane, and what its rules read.
+//! What an interrupter notes, compared with the history of its backplane, and what its rules read.
+//! The functions are laws: a call costs nothing, and gives the fact to the prover.
 ghost use Rattle.std.specs.Prelude.{◌≡◌, ℕ, Bool, true, false, Option, List, ◌∷◌};
 ghost use Rattle.vme_model.specs.declared.boards.InterrupterRow.{InterrupterRow};
 ghost use Rattle.vme_model.specs.declared.boards.Row.{Row};
@@ -17,19 +18,20 @@ ghost use Rattle.vme_model.specs.Verdict.{ruling_on};
 ghost use Rattle.std.specs.Prelude.{Some};
 ghost use Rattle.vme_interrupter.specs.Local.{Noted, edges, served, interrupter_of, seen, is_interrupters, interrupter_readings, SayWhatIsTold};
 
-/// Noted as they are made, the edges are the history.
+/// If each edge is noted as it is made, the noted edges are the history.
 pub fn notes_history()
     ensures { (p : Plan) (h : List Edge) → edges (seen p h) ≡ h }
 {}
 
-/// Noted as they are made, they say of each board whether it was served what the history says.
+/// If each edge is noted as it is made, the notes say of each board whether it was served, as the
+/// history does.
 pub fn notes_service()
     ensures { (p : Plan) (h : List Edge) (d : Driver) (row : Row) →
         board_of p d ≡ Some row →
         served (seen p h) d row.interrupter ≡ is_served p h d }
 {}
 
-/// What is shown counts at the board's own `dtack-` alone.
+/// What is shown counts only at the board's own `dtack-`.
 pub fn reads_shown_at_answers()
     ensures { (s : ℕ) (row : Option InterrupterRow) (e : Edge) (one other : Option Cycle)
         (noted : List Noted) →
@@ -37,8 +39,9 @@ pub fn reads_shown_at_answers()
         interrupter_of s row ((e, one) ∷ noted) ≡ interrupter_of s row ((e, other) ∷ noted) }
 {}
 
-/// Whatever readings say what an interrupter is told have the same answer: its rules read its own wires, whether it was
-/// served, AS*, DS0*, what is shown, its iackin, its slot and its row, and nothing else.
+/// The rules of an interrupter read its own wires, whether it was served, AS*, DS0*, what is shown,
+/// its iackin, its slot and its row, and nothing else. Any readings that agree on these have the
+/// same answer.
 pub fn reads_what_it_is_told()
     ensures { (version : Version) (s : ℕ) (row : Option InterrupterRow) (own : Wire → Bool)
         (is_served : Bool) (pins : Pins) (r : Readings) (w : Wire) (fall : Bool)

@@ -1,5 +1,5 @@
-//! A board's interrupter: it requests an interrupt, passes an acknowledge on or answers it, and answers accesses to
-//! the board's register.
+//! A board's interrupter: it requests an interrupt, and passes an acknowledge on or answers it. It
+//! also answers accesses to the board's register. docs/PARTS.md explains the parts.
 #![tactic(auto)]
 
 mod interrupters;

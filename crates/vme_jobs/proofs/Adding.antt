@@ -1,4 +1,4 @@
--- Traces that are added up, file by file, and the answer that is handed on.
+-- Traces that are added up, file by file, and the answer that is passed on.
 use Rattle.std.proofs.Common.{◌≡◌, ◌⊎◌, ◌∙◌, inl, inr, ℕ, ◌+◌, List, [], ◌∷◌, length, Option, Some, None, Result, Ok, Err, refl, sym, ap, subst, arith}
 use Rattle.std.specs.Io.KnownBytes.{Keeps}
 use Rattle.std.specs.Borrow.{Bor}
@@ -28,7 +28,7 @@ use Rattle.vme_jobs.specs.Names.{IsFaultOf, IsFileOf, scenario_name, told_answer
 use Rattle.vme_jobs.specs.Together.{StopsAt, SumsUp, WereRead}
 use Rattle.vme_jobs.proofs.Handing.{handed}
 
--- the plan of a text is one
+-- a text has only one plan
 plan_or : {E : Type 0} → Plan → Result Plan E → Plan
 plan_or other (Ok p) = p
 plan_or other (Err e) = other
@@ -50,7 +50,7 @@ file_done text scenario trace old new from to (Err (fault.Trace f)) h = (refl, h
 file_done text scenario trace old new from to (Err (fault.Beyond edges)) h = absurd h.3.2
 file_done text scenario trace old new from to (Err fault.NoMemory) h = tt
 
--- a file that does not open, or no memory for what is handed to the engine
+-- a file that does not open, or no memory for what is passed to the engine
 pub unopened_file : (text : List ℕ) (scenario trace : Bor (List ℕ)) (old new : Added) (f : ProgramFault) → (f ≡ CannotRead trace) ⊎ (f ≡ Engine fault.NoMemory) → AddsFile text scenario trace old new (Err f)
 unopened_file text scenario trace old new f why = elim why [
   | inl is ↦ subst (λ (g : ProgramFault). AddsFile text scenario trace old new (Err g)) (sym is) refl
@@ -59,7 +59,7 @@ unopened_file text scenario trace old new f why = elim why [
 
 -- ---- all files
 
--- what the sums are of, where so many files were read
+-- what has been added up after so many files were read
 abbrev pub SoFar : List ℕ → ℕ → Added → Type 0
 SoFar text before sums = (p : Plan) → read text ≡ Ok p → (ts : Traces) × WereRead p before ts × AreSumsOf ts sums
 
@@ -125,7 +125,7 @@ sums_stopped text scenario traces held (Engine (fault.Beyond edges)) h = absurd 
 sums_stopped text scenario traces held (InTrace name f) h = ((text, h.1, h.2, h.3), Keeps-refl held)
 sums_stopped text scenario traces held (Boards f) h = absurd h
 
--- the files that a fault may tell of
+-- the files that a fault may name
 pub sums_fault : (text : List ℕ) (job : Job) (scenario : Bor (List ℕ)) (traces : List (Bor (List ℕ))) (f : ProgramFault) → scenario_name job ≡ scenario.now → ((name : List ℕ) → Contains (texts_of traces) name → IsFileOf job name)
     → Blames text scenario (Contains (texts_of traces)) (λ p name g. StopsAt (texts_of traces) name g p) f → IsFaultOf job f
 sums_fault text job scenario traces (CannotRead name) is files h = files name.now h

@@ -1,4 +1,4 @@
--- The answer of an engine, as a job hands it on.
+-- The answer of an engine, as a job passes it on.
 use Rattle.std.proofs.Common.{◌≡◌, ◌⊎◌, inl, inr, ℕ, Bool, List, Option, Result, Ok, Err, refl, sym, subst}
 use Rattle.std.specs.Io.KnownBytes.{Keeps}
 use Rattle.std.specs.Borrow.{Bor}

@@ -1,6 +1,6 @@
 -- src/files.rt: a text that was read with a limit is all of its bytes
 pub mod Fronts
--- src/jobs.rt: the answer of an engine, as a job hands it on
+-- src/jobs.rt: the answer of an engine, as a job passes it on
 pub mod Handing
 -- src/jobs.rt: traces that are added up, file by file
 pub mod Adding

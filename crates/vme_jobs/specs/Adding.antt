@@ -1,4 +1,4 @@
--- How the traces of several files are added up, one after the other.
+-- How the traces of several files are added up, one after another.
 use Rattle.std.specs.Prelude.{◌≡◌, ◌∷◌, ◌≤◌, ℕ, List, length, Option, None, Result, Ok, Err}
 use Rattle.std.specs.List.{Contains}
 use Rattle.std.specs.Borrow.{Bor}
@@ -23,8 +23,8 @@ use Rattle.vme_jobs.specs.Together.{StopsAt, WereRead}
 use Rattle.vme_jobs.specs.declared.faults.ProgramFault.{ProgramFault}
 use Rattle.vme_jobs.specs.declared.faults.ProgramFault.TheVariants.{CannotRead, TooLong, Engine, InTrace}
 
--- A fault before the sums are written, on a scenario of this text and name: of which files it may
--- tell, and what stops a trace.
+-- A fault before the sums are written, on a scenario of this text and name: the files that it may
+-- name, and what stops a trace.
 abbrev pub Blames :
     List ℕ → Bor (List ℕ) → (List ℕ → Type 0) → (Plan → List ℕ → Fault → Type 0)
     → ProgramFault → Type 0

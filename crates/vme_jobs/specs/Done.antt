@@ -1,4 +1,4 @@
--- What a job leaves on its output, and answers.
+-- What a job leaves on its output, and returns.
 use Rattle.std.specs.Prelude.{◌≡◌, ◌⊎◌, ℕ, List, length, Option, Result, Ok, Err}
 use Rattle.std.specs.Io.KnownBytes.{Appends, Keeps}
 use Rattle.vme_model.specs.Plan.{Plan}
@@ -41,20 +41,21 @@ Alone Ends (Ok status) = Ends (Ok status)
 Alone Ends (Err (run.Engine f)) = Ends (Err f)
 Alone Ends (Err _) = ⊥
 
--- an engine that does so on a plan, with a trace beside it
+-- an engine that does this on a plan and a trace
 abbrev pub OnTrace : (Streams → Plan → Answer → Type 0) → Known → Known → Answer → Type 0
 OnTrace Ends old new answer = (text : List ℕ) × (from : Known) × (to : Known)
     × (let s = streams from to old new in
     LentAsking text (ReadNothing s × WroteNothing s) (Ends s) answer)
 
--- the line of the program's version is written, at X8 a prefix of it
+-- the line of the program's version is written, or at X8 a prefix of it
 abbrev pub TellsVersion : Known → Known → Answer → Type 0
 TellsVersion old new (Ok status) = Appends old new VERSION.now × (status ≡ ends.Done)
 TellsVersion old new (Err (fault.Trace f)) = (f ≡ Write) × AppendsFront old new VERSION.now
 TellsVersion old new (Err _) = ⊥
 
--- What the engine of a job does, by what the output held and holds, on some text of a scenario, and
--- some input that had these bytes left and has those: no clause can say what a file gives.
+-- What the engine of a job does, by what the output held before and holds now, on some text of a
+-- scenario, and on some input, given the bytes that it had left before and has left now. (No clause
+-- can say what a file gives.)
 abbrev pub Does : Job → Known → Known → Result Status RunFault → Type 0
 Does Joined old new =
     Alone (λ answer. (from : Known) × (to : Known) × Joins (streams from to old new) answer)
@@ -84,8 +85,8 @@ Stops (Sums scenario traces) name f =
     (text : List ℕ) × (p : Plan) × (read text ≡ Ok p) × StopsAt (texts_of traces.items) name f p
 Stops job name f = ⊥
 
--- The answer is an engine's; or a file could not be read, or there was no memory for what the
--- engine is handed, or one of several traces has a fault, and nothing was written.
+-- The answer is an engine's. Or a file could not be read, there was no memory for what is passed to
+-- the engine, or one of several traces has a fault; then nothing was written.
 abbrev pub Hands :
     (Result Status RunFault → Type 0) → (List ℕ → Fault → Type 0) → Type 0
     → Result Status ProgramFault → Type 0
@@ -97,18 +98,19 @@ Hands Ends Stops nothing (Err (Engine f)) =
 Hands Ends Stops nothing (Err (InTrace name f)) = Stops name.now f × nothing
 Hands Ends Stops nothing (Err (Boards f)) = Ends (Err f)
 
--- a job is done so
+-- the job is done in this way
 abbrev pub IsDone : Job → Known → Known → Result Status ProgramFault → Type 0
 IsDone job old new result = Hands (Does job old new) (Stops job) (Keeps old new) result
 
--- What the output is at a fault: nothing was written, or a job that the words ask for ended with
--- it.
+-- The output at a fault: nothing was written, or a job for which the words ask ended with the
+-- fault.
 abbrev pub HasFailed : List (List ℕ) → Known → Known → Type 0
 HasFailed words old new = Keeps old new
     ⊎ ((job : Job) × (f : ProgramFault) × Ask words job × IsDone job old new (Err f))
 
--- What the program comes to, by the words, its output and its exit status: a job that the words ask
--- for is done without a fault, and the status is the engine's; or there was a fault, and it is 1.
+-- What the program does, by its words, its output and its exit status: a job for which the words
+-- ask is done without a fault, and the status is the engine's; or there was a fault, and the status
+-- is 1.
 abbrev pub IsObeyed : List (List ℕ) → Known → Known → ℕ → Type 0
 IsObeyed words old new code =
     ((job : Job) × (status : Status) × Ask words job

@@ -1,4 +1,4 @@
--- Which names a fault may tell.
+-- The names that a fault may print.
 use Rattle.std.specs.Prelude.{◌≡◌, ◌⊎◌, ℕ, List, [], codes, Result, Ok, Err}
 use Rattle.std.specs.List.{Contains}
 use Rattle.std.specs.Borrow.{Bor}
@@ -46,7 +46,7 @@ IsFileOf (Draw scenario edges seed until version) name = name ≡ scenario.now
 IsFileOf (Search scenario edges first last goal version progress) name = name ≡ scenario.now
 IsFileOf (Run scenario edges turns version) name = name ≡ scenario.now
 
--- an engine's fault, where the scenario has this name
+-- an engine's fault, given the name of the scenario
 abbrev pub told_fault : Bor (List ℕ) → EngineFault → ProgramFault
 told_fault name fault.CannotRead = CannotRead name
 told_fault name fault.TooLong = TooLong name
@@ -59,7 +59,7 @@ abbrev pub told_answer : Bor (List ℕ) → Result Status EngineFault → Result
 told_answer name (Ok status) = Ok status
 told_answer name (Err f) = Err (told_fault name f)
 
--- an engine's fault, where the trace of this name is one of several on the scenario of that name
+-- an engine's fault, given the name of the scenario and that of the trace, which is one of several
 abbrev pub told_trace_fault : Bor (List ℕ) → Bor (List ℕ) → EngineFault → ProgramFault
 told_trace_fault scenario trace (fault.Trace f) = InTrace trace f
 told_trace_fault scenario trace f = told_fault scenario f
@@ -81,7 +81,7 @@ told_run_answer name (Err (run.NotReplayed at)) = Err (Boards (run.NotReplayed a
 abbrev pub IsFileFault : Bor (List ℕ) → ProgramFault → Type 0
 IsFileFault name f = (f ≡ CannotRead name) ⊎ (f ≡ Engine fault.NoMemory)
 
--- the same of a scenario, which may be too long
+-- a scenario of this name cannot be read, is too long, or there is no memory for it
 abbrev pub IsScenarioFault : Bor (List ℕ) → ProgramFault → Type 0
 IsScenarioFault name f = (f ≡ CannotRead name) ⊎ (f ≡ TooLong name) ⊎ (f ≡ Engine fault.NoMemory)
 

@@ -1,4 +1,4 @@
--- When a line is due that tells how far a search came.
+-- When a line about the progress of a search is due.
 use Rattle.std.specs.Prelude.{◌≡◌, ◌≤◌, ◌<◌, ◌+◌, Bool, true, false, Option, Some, None, IfSome}
 use Rattle.std.specs.Time.{instant_nanos}
 use Rattle.std.specs.declared.time.Instant.{Instant}

@@ -1,5 +1,6 @@
--- How a fault shows a character: as it is, but that a control character stands as in a string of
--- TOML, so that a fault is one line, and a backslash, too, so that no name looks like that.
+-- How a fault prints a character. A control character is escaped as in a TOML string, so that a
+-- fault is one line. A backslash is escaped too, so that no name looks like an escape. Any other
+-- character is printed as it is.
 use Rattle.std.specs.Prelude.{ℕ, ◌+◌, ◌/◌, ◌%◌, ◌==◌, ◌||◌, nat_lt, if◌then◌else◌, List, [], ◌∷◌, ◌++◌, codes, encode_utf8}
 use Rattle.std.specs.Char.{is_control}
 

@@ -1,4 +1,4 @@
--- The exit status of a run that met no fault.
+-- The exit status of a job that met no fault.
 use Rattle.std.specs.Prelude.{ℕ}
 use Rattle.vme_engines.specs.declared.Status.{Status}
 use Rattle.vme_engines.specs.declared.Status.TheVariants.{Done, SomeRefused, Limit}

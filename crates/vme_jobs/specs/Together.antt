@@ -16,18 +16,18 @@ use Rattle.vme_engines.specs.Summing.{IsWaiting}
 use Rattle.vme_engines.specs.Totals.{IsWhole}
 use Rattle.vme_engines.specs.Waiting.{StopsWaiting}
 
--- texts, each of a whole trace without fault, have these edges with their answers
+-- these texts, each of them a whole trace without fault, have these edges with their answers
 abbrev pub AreWhole : Plan → List (List ℕ) → Traces → Type 0
 AreWhole p [] [] = Unit {0}
 AreWhole p (text ∷ texts) (t ∷ ts) = IsWhole p (read_of text) t × AreWhole p texts ts
 AreWhole p texts ts = ⊥
 
--- so many files were read, and these are the edges of their traces, of which none has a fault: no
+-- so many files were read, and these are the edges of their traces, none of which has a fault; no
 -- clause can say what a file gives
 abbrev pub WereRead : Plan → ℕ → Traces → Type 0
 WereRead p n ts = (texts : List (List ℕ)) × (length texts ≡ n) × AreWhole p texts ts
 
--- What the sums over so many traces leave: their lines, at X8 a prefix of them. The status says
+-- What the sums over so many traces leave: their lines, or at X8 a prefix of them. The status says
 -- whether some edge of some trace was refused.
 abbrev pub SumsUp : ℕ → Option (List ℕ) → Option (List ℕ) → Plan → Answer → Type 0
 SumsUp n old new p (Ok status) =

@@ -7,13 +7,13 @@ use Rattle.vme_jobs.specs.declared.arguments.Outcome.TheVariants.{Word, End, Aga
 use Rattle.vme_jobs.specs.declared.arguments.WordsFault.{WordsFault}
 use Rattle.vme_jobs.specs.declared.arguments.WordsFault.TheVariants.{NotText, NoMemory}
 
--- a word that is no text stands after the program's name, whose place is 0
+-- a word that is not UTF-8 stands after the program's name, whose place is 0
 abbrev pub IsPlaced : WordsFault → Type 0
 IsPlaced (NotText place) = 1 ≤ place
 IsPlaced NoMemory = Unit {0}
 
--- the answer of the system, where there was room for so many bytes: a longer word is asked for again
--- with twice the room, as far as numbers go
+-- the meaning of the system's answer, if the word had room for so many bytes: a longer word is
+-- requested again with twice the room, or with the most that a number can say
 abbrev pub outcome : Result ℕ FillError → ℕ → Outcome
 outcome (Ok count) room = Word count
 outcome (Err NotPresent) room = End

@@ -12,13 +12,13 @@ use std::fmt;
 use std::process::ExitCode;
 use thiserror::Error;
 
-/// How many bytes of a word are asked for at first.
+/// The room that a word gets at first, in bytes.
 const ROOM: usize = 256;
 
-/// Why the words are not read.
+/// Why the words could not be read.
 #[derive(Debug, Drop, Error)]
 pub enum WordsFault {
-    /// The word at this place, counted from 1, is no text.
+    /// F4: the word at this place, counted from 1, is not UTF-8.
     #[error("F4 word {0} is not UTF-8")]
     NotText(usize),
     #[error("F3 no memory")]
@@ -41,18 +41,18 @@ impl<T: Drop> From<AllocFailed<T>> for WordsFault {
     }
 }
 
-/// What comes of asking for the word at some place.
+/// What a request for the word at some place led to.
 enum Outcome {
-    /// It has so many bytes.
+    /// The word has so many bytes.
     Word(usize),
-    /// The last word stands before it.
+    /// The last word stands before this place.
     End,
-    /// It has more bytes than there was room for, and is asked for again with this room.
+    /// The word has more bytes than it had room for. It is requested again with this room.
     Again(usize),
 }
 
-/// What comes of the system's answer, where there was room for so many bytes. A word of any length is
-/// asked for until it has room.
+/// What the system's answer means, if the word had room for `room` bytes. A word of any length is
+/// requested until it has enough room.
 fn outcome_of(answer: Result<usize, FillError>, room: usize) -> Outcome
     ensures { result ≡ outcome answer room }
 {
@@ -64,6 +64,9 @@ fn outcome_of(answer: Result<usize, FillError>, room: usize) -> Outcome
 }
 
 /// The bytes of the word at this place; none after the last word.
+///
+/// # Errors
+/// `AllocError` if memory runs out.
 fn bytes_at(rt: &HostRuntime, place: usize) -> Result<Option<Vec<u8>>, AllocError> {
     let mut room = ROOM;
     for _ in 0..usize::BITS {
@@ -81,7 +84,10 @@ fn bytes_at(rt: &HostRuntime, place: usize) -> Result<Option<Vec<u8>>, AllocErro
     Err(AllocError)
 }
 
-/// The words after the program's name. Errors: F4 at the first that is not UTF-8, and F3.
+/// The words after the program's name.
+///
+/// # Errors
+/// F4 at the first word that is not UTF-8; F3 if memory runs out.
 pub fn given(rt: &HostRuntime) -> Result<Vec<String>, WordsFault>
     ensures { IfErr result IsPlaced }
 {
@@ -98,7 +104,7 @@ pub fn given(rt: &HostRuntime) -> Result<Vec<String>, WordsFault>
     Ok(words)
 }
 
-/// Whether a word goes over several lines.
+/// Whether some word goes over several lines.
 fn has_line_feed(words: &[&str]) -> bool {
     for word in words {
         if word.as_bytes().contains(&b'\n') {
@@ -108,7 +114,8 @@ fn has_line_feed(words: &[&str]) -> bool {
     false
 }
 
-/// Writes what is wrong with the words, or how they are used. It is one line where a word has several.
+/// Prints what is wrong with the words, or how they are used. It is one line if a word goes over
+/// several. The exit status is 1.
 pub(crate) fn tell_words<D: fmt::Display + Drop>(
     rt: &HostRuntime,
     words: &[&str],

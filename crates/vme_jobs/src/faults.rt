@@ -14,18 +14,19 @@ use vme_run::RunFault;
 use vme_trace::Fault;
 
 /// Why the program gave up. Files have the names that the user gave; standard input is `-`.
+/// docs/FAULTS.md lists the texts.
 #[derive(Debug, Drop, Error)]
 pub enum ProgramFault<'a> {
-    /// The file of this name could not be opened or read.
+    /// F1: the file of this name could not be opened or read.
     #[error("F1 cannot read {0}")]
     CannotRead(&'a str),
-    /// The scenario of this name has more than 1,048,576 bytes.
+    /// F2: the scenario of this name has more than 1,048,576 bytes.
     #[error("F2 {0} is too long")]
     TooLong(&'a str),
-    /// An engine's fault, or want of memory for what the program hands to one.
+    /// An engine's fault, or F3 if there is no memory for what the program passes to one.
     #[error("{0}")]
     Engine(EngineFault),
-    /// A fault of the trace of this name, of several.
+    /// A fault of the trace of this name, one of several.
     #[error("{name}: {fault}")]
     InTrace {
         /// The file of the trace.
@@ -33,13 +34,13 @@ pub enum ProgramFault<'a> {
         /// What is wrong with it.
         fault: Fault,
     },
-    /// A fault of boards that run in threads.
+    /// A fault of `run`, whose boards run in threads.
     #[error("{0}")]
     Boards(RunFault),
 }
 
 impl<'a> ProgramFault<'a> {
-    /// A fault of the file of this name: F3 where memory was refused, and else F1.
+    /// A fault of the file of this name: F3 if memory ran out, and otherwise F1.
     pub fn of_file(name: &'a str, error: &io::Error) -> Self
         ensures memory { error_kind error.now ≡ ErrorKind.OutOfMemory
             → result ≡ ProgramFault.Engine EngineFault.NoMemory }
@@ -52,7 +53,7 @@ impl<'a> ProgramFault<'a> {
         }
     }
 
-    /// An engine's fault, where the scenario has this name.
+    /// An engine's fault, given the name of the scenario.
     pub fn of_engine(name: &'a str, fault: EngineFault) -> Self
         ensures { result ≡ told_fault name.entry fault }
     {
@@ -63,7 +64,8 @@ impl<'a> ProgramFault<'a> {
         }
     }
 
-    /// An engine's fault, where the trace of this name is one of several on the scenario.
+    /// An engine's fault, given the name of the scenario and that of the trace, which is one of
+    /// several.
     pub fn of_trace(scenario: &'a str, trace: &'a str, fault: EngineFault) -> Self
         ensures { result ≡ told_trace_fault scenario.entry trace.entry fault }
     {
@@ -74,8 +76,8 @@ impl<'a> ProgramFault<'a> {
     }
 }
 
-/// Writes the one line of a fault: control characters and backslashes in it stand as a string of TOML
-/// has them.
+/// Prints the one line of a fault. Control characters and backslashes are escaped as in a TOML
+/// string. The exit status is 1.
 pub fn tell<D: fmt::Display + Drop>(rt: &HostRuntime, fault: D) -> ExitCode
     ensures { exit_status result ≡ 1 }
 {

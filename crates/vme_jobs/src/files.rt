@@ -1,4 +1,4 @@
-//! What a run reads and writes.
+//! The files that a job reads, and its output.
 ghost use Rattle.std.specs.Prelude.{◌≡◌, ◌<◌, ◌≤◌, Err, IfOk, IfErr, IfSome, [], length};
 ghost use Rattle.std.specs.Io.Buffered.{reader_inner, reader_buffer, reader_capacity, writer_buffer, writer_capacity};
 ghost use Rattle.vme_engines.specs.Outcomes.{scenario_limit};
@@ -11,23 +11,29 @@ use std::io::{BufReader, BufWriter, Read, Stdout};
 use vme_engines::{EngineFault, SCENARIO_LIMIT};
 use vme_trace::Patient;
 
-/// How many bytes are read at once of an input that is read in small pieces.
+/// The size of the buffer for an input that is read in small pieces, in bytes.
 const READ: usize = 65_536;
 
-/// How many bytes are written at once: so many that a write of a long report is no shorter than 262,144, since an engine
-/// puts in up to 8,192 bytes of it, but for those behind a piece that ends with a whole line.
+/// The size of the output buffer, in bytes. With it a write of a long report has at least 262,144
+/// bytes, since an engine puts in up to 8,192 bytes at once; only the bytes behind a piece that
+/// ends with a whole line make a shorter write.
 const WRITTEN: usize = 270_336;
 
-/// Opens a file. Errors: F1 where it does not open.
+/// Opens a file.
+///
+/// # Errors
+/// F1 if it does not open.
 pub fn open<'a>(rt: &HostRuntime, name: &'a str) -> Result<File, ProgramFault<'a>>
     ensures { IfErr result (IsFileFault name.entry) }
 {
     File::open(rt, name).map_err(|error| ProgramFault::of_file(name, &error))
 }
 
-/// The text of a scenario, which is read to its end, or until it is too long.
+/// The text of a scenario. It is read to its end, or until it is too long.
 ///
-/// Errors: F1 where a read fails or is interrupted 65,536 times, F2 where there are more than 1,048,576 bytes, and F3.
+/// # Errors
+/// F1 if a read fails or is interrupted 65,536 times; F2 if there are more than 1,048,576 bytes; F3
+/// if memory runs out.
 fn scenario_text<'a, R: Read + Drop>(
     alloc: Global,
     name: &'a str,
@@ -49,7 +55,10 @@ fn scenario_text<'a, R: Read + Drop>(
     }
 }
 
-/// The text of the scenario in the file of this name. Errors: F1, F2 and F3.
+/// The text of the scenario in the file of this name.
+///
+/// # Errors
+/// F1, F2 and F3.
 pub fn read_scenario<'a>(rt: &HostRuntime, name: &'a str) -> Result<Vec<u8>, ProgramFault<'a>>
     ensures short { IfOk result (λ text. length text.items ≤ scenario_limit) }
     ensures fault { IfErr result (IsScenarioFault name.entry) }
@@ -57,7 +66,10 @@ pub fn read_scenario<'a>(rt: &HostRuntime, name: &'a str) -> Result<Vec<u8>, Pro
     scenario_text(rt.alloc(), name, open(rt, name)?)
 }
 
-/// A reader that reads much at once.
+/// A reader with a large buffer.
+///
+/// # Errors
+/// F3 if memory runs out.
 pub fn buffered<R: Read + Drop>(
     rt: &HostRuntime,
     input: R,
@@ -73,7 +85,10 @@ pub fn buffered<R: Read + Drop>(
     }
 }
 
-/// Standard output, written much at once.
+/// Standard output, with a large buffer.
+///
+/// # Errors
+/// F3 if memory runs out.
 pub fn output(rt: &HostRuntime) -> Result<BufWriter<Patient<Stdout>>, ProgramFault<'static>>
     ensures empty { IfOk result (λ writer. writer_buffer writer ≡ []) }
     ensures room { IfOk result (λ writer. writer_capacity writer ≡ 270336) }

@@ -1,4 +1,4 @@
-//! Each job's engine, on the files that the words name.
+//! The engine of each job, on the files that the words name.
 ghost use Rattle.std.specs.Prelude.{◌≡◌, ◌≤◌, IfErr, OnErr, OnOk};
 ghost use Rattle.std.specs.Io.KnownBytes.{Appends};
 ghost use Rattle.std.specs.Process.{exit_status};
@@ -29,7 +29,7 @@ use vme_tallies::Sums;
 use vme_trace::{Fault, flush, put};
 use vme_words::{Job, VERSION};
 
-/// An engine's answer, where the scenario has this name.
+/// An engine's answer, given the name of the scenario.
 fn told<'a>(name: &'a str, answer: Result<Status, EngineFault>) -> Result<Status, ProgramFault<'a>>
     ensures { result ≡ told_answer name.entry answer }
 {
@@ -39,7 +39,7 @@ fn told<'a>(name: &'a str, answer: Result<Status, EngineFault>) -> Result<Status
     }
 }
 
-/// A search's answer, where the scenario has this name; tells which seed was found.
+/// A search's answer, given the name of the scenario. It prints the seed that was found.
 fn told_seed<'a>(
     rt: &HostRuntime,
     name: &'a str,
@@ -60,7 +60,8 @@ fn told_seed<'a>(
     }
 }
 
-/// An engine's answer, where the trace of this name is one of several on the scenario.
+/// An engine's answer, given the name of the scenario and that of the trace, which is one of
+/// several.
 fn told_trace<'a>(
     scenario: &'a str,
     trace: &'a str,
@@ -74,7 +75,7 @@ fn told_trace<'a>(
     }
 }
 
-/// A run's answer, where the scenario has this name.
+/// The answer of `run`, given the name of the scenario.
 fn told_run<'a>(name: &'a str, answer: Result<Status, RunFault>) -> Result<Status, ProgramFault<'a>>
     ensures { result ≡ told_run_answer name.entry answer }
 {
@@ -85,7 +86,7 @@ fn told_run<'a>(name: &'a str, answer: Result<Status, RunFault>) -> Result<Statu
     }
 }
 
-/// Replays what stands on standard input.
+/// Replays standard input.
 #[inline(never)]
 fn run_joined<W: Write>(rt: &HostRuntime, out: &mut W) -> Result<Status, ProgramFault<'static>>
     ensures fault { IfErr result (IsFaultOf Job.Joined) }
@@ -95,7 +96,10 @@ fn run_joined<W: Write>(rt: &HostRuntime, out: &mut W) -> Result<Status, Program
     told("-", joined(rt.alloc(), &mut input, out))
 }
 
-/// Writes the program's version, and has the writer hand on what it holds back.
+/// Writes the program's version, and makes the writer pass on what it has buffered.
+///
+/// # Errors
+/// X8 if the output cannot be written; then a prefix of the line was written.
 fn tell_version<W: Write>(out: &mut W) -> Result<(), Fault>
     ensures ok { OnOk result (Appends (W.contents out.old) (W.contents out.new) VERSION.now) }
     ensures front { OnErr result
@@ -106,7 +110,7 @@ fn tell_version<W: Write>(out: &mut W) -> Result<(), Fault>
     flush(out)
 }
 
-/// Tells the program's version.
+/// Prints the program's version.
 #[inline(never)]
 fn run_version<W: Write>(out: &mut W) -> Result<Status, ProgramFault<'static>>
     ensures fault { IfErr result (IsFaultOf Job.OwnVersion) }
@@ -152,7 +156,7 @@ fn run_check<'a, W: Write>(
     told(scenario, check(rt.alloc(), &text, &mut input, out))
 }
 
-/// Tells why an edge of a trace has its verdict.
+/// Explains why an edge of a trace has its verdict.
 #[inline(never)]
 fn run_explain<'a, W: Write>(
     rt: &HostRuntime,
@@ -170,7 +174,7 @@ fn run_explain<'a, W: Write>(
     told(scenario, explain(rt.alloc(), &text, &mut input, edge, out))
 }
 
-/// Tells where the bus stands in a trace.
+/// Reports where the bus stands in a trace.
 #[inline(never)]
 fn run_state<'a, W: Write>(
     rt: &HostRuntime,
@@ -229,7 +233,7 @@ fn run_summary<'a, W: Write>(
     told(scenario, summary(rt.alloc(), &text, &mut input, out))
 }
 
-/// Adds what the trace of that name comes to, of several on the scenario, to their sums.
+/// Adds to the sums what the trace of that name exercised. It is one of several on the scenario.
 fn add_file<'a>(
     rt: &HostRuntime,
     text: &[u8],
@@ -247,7 +251,7 @@ fn add_file<'a>(
     )
 }
 
-/// Adds up what the traces of those names come to, on the scenario, up to the first fault.
+/// Adds up what the traces of those names exercised on the scenario, up to the first fault.
 fn add_files<'a>(
     rt: &HostRuntime,
     text: &[u8],
@@ -263,7 +267,7 @@ fn add_files<'a>(
     Ok(sums)
 }
 
-/// Adds up what traces exercised.
+/// Adds up what several traces exercised, and prints the sums.
 #[inline(never)]
 fn run_sums<'a, W: Write>(
     rt: &HostRuntime,
@@ -297,7 +301,7 @@ fn run_drive<'a, W: Write>(
     told(scenario, drive(rt.alloc(), &text, edges, out, version))
 }
 
-/// Draws edges by lot from all that are open to the drivers of a scenario.
+/// Draws edges at random from all that are open to the drivers of a scenario.
 #[inline(never)]
 fn run_draw<'a, W: Write>(
     rt: &HostRuntime,
@@ -319,7 +323,7 @@ fn run_draw<'a, W: Write>(
     )
 }
 
-/// Draws edges by one seed after the other, until the trace of one ends with the goal.
+/// Draws edges by one seed after another, until the trace of one ends with the goal.
 #[inline(never)]
 fn run_search<'a, W: Write>(
     rt: &HostRuntime,
@@ -345,7 +349,7 @@ fn run_search<'a, W: Write>(
     told_seed(rt, scenario, found)
 }
 
-/// Lets each driver of a scenario make edges in a thread of its own. May wait.
+/// Lets each driver of a scenario make edges in a thread of its own. It may wait for other threads.
 #[inline(never)]
 fn run_run<'a, R: Threads + Wait + Sync, W: Write>(
     rt: &HostRuntime,
@@ -368,7 +372,10 @@ fn run_run<'a, R: Threads + Wait + Sync, W: Write>(
     )
 }
 
-/// Does a job, with threads from that handle. Errors: those of its files, and then those of its engine.
+/// Does a job. `threads` starts the threads of `run`.
+///
+/// # Errors
+/// The errors of its files, and then those of its engine.
 pub fn run<'a, R: Threads + Wait + Sync, W: Write>(
     rt: &HostRuntime,
     threads: &R,
@@ -435,7 +442,7 @@ pub fn run<'a, R: Threads + Wait + Sync, W: Write>(
     }
 }
 
-/// The exit status of a run that met no fault.
+/// The exit status of a job that met no fault.
 pub fn code_of(status: Status) -> ExitCode
     ensures { exit_status result ≡ exit_code status }
 {

@@ -1,5 +1,5 @@
-//! What the words after the program's name ask for, done: the files that they name to an engine, its answer to a status,
-//! a fault to a line.
+//! Does what the words after the program's name ask for. It passes the files that they name to an
+//! engine, turns the engine's answer into an exit status, and prints a fault as a line.
 #![tactic(auto)]
 
 ghost use Rattle.std.specs.Prelude.{map};
@@ -24,7 +24,8 @@ use std::sync::Wait;
 use std::thread::Threads;
 use vme_words::words;
 
-/// Does what the words after the program's name ask for.
+/// Does what the words after the program's name ask for, and returns the exit status.
+/// docs/COMMANDS.md describes both.
 pub fn obey<R: Threads + Wait + Sync, W: Write>(
     rt: &HostRuntime,
     threads: &R,

@@ -16,7 +16,7 @@ fn hex_digit(n: u32) -> char
     }
 }
 
-/// A character of a line: a control character and a backslash stand as a string of TOML has them.
+/// A character of a line. A control character or a backslash is escaped as in a TOML string.
 #[derive(Clone, Copy)]
 struct Shown(char);
 
@@ -40,7 +40,7 @@ impl fmt::Display for Shown {
     }
 }
 
-/// Writes what it is given. Where it `breaks` lines, line feeds and backslashes stand as they are.
+/// A writer of what it is given. If it `breaks` lines, line feeds and backslashes stay as they are.
 #[derive(Drop)]
 struct Line<'a, W> {
     out: &'a mut fmt::Formatter<W>,
@@ -60,7 +60,7 @@ impl<W: fmt::Write> fmt::Write for Line<'_, W> {
     }
 }
 
-/// A text on one line.
+/// A text that is printed on one line.
 #[derive(Drop)]
 pub(crate) struct OneLine<D>(pub(crate) D);
 
@@ -74,7 +74,7 @@ impl<D: fmt::Display> fmt::Display for OneLine<D> {
     }
 }
 
-/// A text on its own lines.
+/// A text that is printed on its own lines.
 #[derive(Drop)]
 pub(crate) struct Lines<D>(pub(crate) D);
 

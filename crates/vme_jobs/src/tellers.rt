@@ -1,24 +1,24 @@
-//! How far a search came, told on standard error.
+//! The progress of a search, printed on standard error.
 ghost use Rattle.std.specs.Prelude.{◌≡◌, None};
 ghost use Rattle.vme_jobs.specs.Paced.{IsPaced};
 
 use std::time::Instant;
 use vme_engines::Progress;
 
-/// For how many seconds nothing is told after a line.
+/// For how many seconds nothing is printed after a line.
 const PAUSE: u64 = 1;
 
-/// Tells how far a search came, once a second at most, or nothing.
+/// Prints how far a search has come, at most once a second, or nothing.
 #[derive(Drop)]
 pub(crate) struct Teller<'r> {
     rt: &'r HostRuntime,
     is_wanted: bool,
-    /// When it told one last.
+    /// When it printed its last line.
     told: Option<Instant>,
 }
 
 impl<'r> Teller<'r> {
-    /// One that told nothing yet, and tells something only where it `is_wanted`.
+    /// A teller that has printed nothing yet. It prints lines only if `is_wanted` is true.
     pub(crate) fn new(rt: &'r HostRuntime, is_wanted: bool) -> Teller<'r>
         ensures wanted { result.is_wanted ≡ is_wanted }
         ensures told { result.told ≡ None }
@@ -30,8 +30,8 @@ impl<'r> Teller<'r> {
         }
     }
 
-    /// Whether a line is due at that time, which is then the last one told: the first, and any other
-    /// as soon as a second has passed since the last.
+    /// Whether a line is due at that time: the first one, and any other as soon as a second has passed
+    /// since the last. If so, it counts as the last one printed.
     fn is_due_at(&mut self, now: Instant) -> bool
         ensures { IsPaced self.old.told self.new.told now result }
     {

@@ -1,4 +1,5 @@
-//! An open-collector line of a backplane: low while at least one driver pulls it low.
+//! An open-collector line of a backplane: low while at least one driver pulls it low. docs/PARTS.md
+//! explains it.
 #![tactic(auto)]
 
 mod lines;

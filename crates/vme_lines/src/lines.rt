@@ -6,7 +6,7 @@ use std::marker::Model;
 /// An open-collector line, as the number of its drivers that pull it low, 0 to 22: the controller
 /// and 21 boards.
 ///
-/// The line is low while one of them at least pulls (chapters 2 and 3 of the standard).
+/// The line is low while at least one of them pulls it. Source: Std 1014, chapters 2 and 3.
 #[derive(Clone, Copy, PartialEq, Eq, Debug)]
 pub struct OrLine {
     pulls: u8,
@@ -30,7 +30,7 @@ impl OrLine {
         OrLine { pulls: 0 }
     }
 
-    /// One more driver pulls the line low. A backplane has 22 drivers, so fewer than 22 pull
+    /// One more driver pulls the line low. A backplane has 22 drivers, so fewer than 22 pulled it
     /// before.
     pub fn pull(&mut self)
         requires few { self.old < 22 }
@@ -39,7 +39,7 @@ impl OrLine {
         self.pulls += 1;
     }
 
-    /// One driver lets the line go, of those that pull it.
+    /// One of the drivers that pull the line lets it go.
     pub fn release(&mut self)
         requires pulled { 0 < self.old }
         ensures { self.new + 1 ≡ self.old }
@@ -47,7 +47,7 @@ impl OrLine {
         self.pulls -= 1;
     }
 
-    /// Whether the line is low: some driver pulls it.
+    /// Whether the line is low: at least one driver pulls it.
     pub fn is_low(&self) -> bool
         ensures { result ≡ nat_lt 0 self.now }
     {

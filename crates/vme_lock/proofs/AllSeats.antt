@@ -122,7 +122,7 @@ zeros : (ds : List Driver) → sum_by (λ d. count [] d) ds ≡ 0
 zeros [] = refl
 zeros (d ∷ ds) = sum_by-cons (λ d. count [] d) d ds ∙ omega (arith, zeros ds)
 
--- one edge more, over all drivers
+-- one more edge, over all drivers
 sum-made : (h : List Edge) (e : Edge) (ds : List Driver) → sum_by (λ d. count (e ∷ h) d) ds ≡ count_by (is_same_driver e.driver) ds + sum_by (λ d. count h d) ds
 sum-made h e [] = refl
 sum-made h e (d ∷ ds) =
@@ -150,7 +150,7 @@ pub record AreSeated (b : State) (ds : List Driver) (seats : List Place) (total 
 pub seated_none : (b : State) (seats : List Place) (total parts : ℕ) → seats ≡ [] → total ≡ 0 → parts ≡ 22 → AreSeated b [] seats total parts
 seated_none b seats total parts none nought whole = record { placed = none; summed = nought; left = omega (arith, whole) }
 
--- one driver more
+-- one more driver
 pub seated_more : (b : State) (ds : List Driver) (n : ℕ) (d : Driver) (old new : List Place) (made before total parts all : ℕ) → n < length ds → get_or ds n Controller ≡ d → AreSeated b (take n ds) old before all → new ≡ old ++ record { driver = d; made = made } ∷ [] → made ≡ count b.history d → total ≡ before + made → parts + 1 ≡ all → AreSeated b (take (n + 1) ds) new total parts
 seated_more b ds n d old new made before total parts all within here seated is counted more rest =
     let next : take (n + 1) ds ≡ take n ds ++ d ∷ [] = take_more ds n Controller within ∙ ap (λ (x : Driver). take n ds ++ x ∷ []) here in

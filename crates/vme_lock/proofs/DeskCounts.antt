@@ -53,7 +53,7 @@ at_desk counts i j n false within is read =
     apart_of : (i j : ℕ) → (i == j) ≡ false → i ≡ j → ⊥
     apart_of i j e same = grind (arith, nat_tests)
 
--- one edge more of a driver
+-- one more edge of a driver
 pub AreCounts-more : (counts : List ℕ) (xs ys : List Edge) (d : Driver) → AreCounts counts xs → can_sit d ≡ true → ((b : Driver) → count ys b ≡ one_if (is_same_driver d b) + count xs b) → AreCounts (counted_more counts d) ys
 AreCounts-more counts xs ys d are sits more =
     let within : desk d < length counts = omega (arith, desk_within d sits, are.wide) in
@@ -103,7 +103,7 @@ AreCounts-other counts xs ys d are out more = record {
   counted = λ b is. omega (arith, are.counted b is, more b, ap one_if (apart d b out is));
 }
 
--- no count is more than all edges
+-- no count is greater than the number of all edges
 pub at_most : (counts : List ℕ) (h : List Edge) (d : Driver) → AreCounts counts h → can_sit d ≡ true → slice_index counts (desk d) ≤ length h
 at_most counts h d are is = omega (arith, are.counted d is, count_by-le-length (λ e. is_same_driver e.driver d) h)
 
@@ -117,7 +117,7 @@ counted_next counts xs i at e are is found = go (can_sit e.driver) refl found
         subst (λ n. AreCounts (slice_set counts n (slice_index counts n + 1)) (take (i + 1) xs)) place (AreCounts-more counts (take i xs) (take (i + 1) xs) e.driver are sits (λ b. count-next xs i e b is))
     go false out found = absurd (cc)
 
--- no driver of a plan made it
+-- no driver of a plan made the edge
 pub counted_past : (counts : List ℕ) (xs : List Edge) (i : ℕ) (e : Edge) → AreCounts counts (take i xs) → slice_get xs i ≡ Some e → (if can_sit e.driver then Some (desk e.driver) else None) ≡ None → AreCounts counts (take (i + 1) xs)
 counted_past counts xs i e are is found = go (can_sit e.driver) refl found
   where

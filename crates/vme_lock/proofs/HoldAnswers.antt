@@ -1,4 +1,4 @@
--- What the tests of a hold say of its answer.
+-- What the tests of a hold say about its answer.
 use Rattle.std.proofs.Common.{◌≡◌, ◌≢◌, ℕ, ◌≤◌, Bool, true, false, refl, sym, ap, ◌∙◌, subst, arith, length}
 use Rattle.std.specs.Prelude.{◌==◌, ◌%◌, not, if◌then◌else◌, slice_get, Ok, Err}
 use Rattle.std.proofs.lemmas.Bool.{eq-eqb}
@@ -27,7 +27,7 @@ is_lost-other b s apart = ap not (other (count b.history s.driver) s.made apart)
 is_lost-same : (b : State) (s : Place) → count b.history s.driver ≡ s.made → is_lost b s ≡ false
 is_lost-same b s same = ap not (eq-eqb (count b.history s.driver) s.made same)
 
--- another number than the seat's
+-- the driver's number is not the seat's
 pub look_lost : (b : State) (s : Place) (own : ℕ) → own ≡ count b.history s.driver → own ≢ s.made → Err (record { own = own }) ≡ look_answer b s
 look_lost b s own is apart =
     let read : is_lost b s ≡ true = is_lost-other b s (λ same. apart (is ∙ same)) in
@@ -37,13 +37,13 @@ look_lost b s own is apart =
 pub seen_is : (b : State) (d : Driver) (v : View) → v.pins ≡ pins b.plan b.history d → v.offers.items ≡ offered b d → v.own ≡ count b.history d → v.total ≡ length b.history → v ≡ view_of b d
 seen_is b d v pins offers own total = λ i. record { pins = pins i; offers = record { items = offers i }; own = own i; total = total i }
 
--- the seat's number
+-- the driver's number is the seat's
 pub look_seen : (b : State) (s : Place) (v : View) → v ≡ view_of b s.driver → count b.history s.driver ≡ s.made → Ok v ≡ look_answer b s
 look_seen b s v is same =
     let found : look_answer b s ≡ Ok (view_of b s.driver) = ap (λ (x : Bool). if x then Err (loss_of b s) else Ok (view_of b s.driver)) (is_lost-same b s same) in
     ap (λ (x : View). Ok x) is ∙ sym found
 
--- the same of a turn
+-- a turn is answered by L5 if the numbers differ
 pub turn_lost : (b : State) (s : Place) (t own : ℕ) → own ≡ count b.history s.driver → own ≢ s.made → Err (record { own = own }) ≡ turn_answer b s t
 turn_lost b s t own is apart =
     let read : is_lost b s ≡ true = is_lost-other b s (λ same. apart (is ∙ same)) in
@@ -58,7 +58,7 @@ turn_seen b s t v is same =
     let found : turn_answer b s t ≡ Ok (turn_of b s.driver t) = ap (λ (x : Bool). if x then Err (loss_of b s) else Ok (turn_of b s.driver t)) (is_lost-same b s same) in
     ap (λ (x : Turn). Ok x) is ∙ sym found
 
--- a driver's edges are no more than all
+-- a driver has no more edges than there are
 pub own_within : (b : State) (d : Driver) → count b.history d ≤ length b.history
 own_within b d = count_by-le-length (λ e. is_same_driver e.driver d) b.history
 
@@ -73,7 +73,7 @@ seen b s v is = go (count b.history s.driver == s.made) refl is
         (ap (λ x. x.own) here ∙ number, subst (λ x. x.own ≤ x.total) (sym here) (own_within b s.driver))
     go false apart is = absurd (cc)
 
--- the seat's edges in a turn are no more than all
+-- in a turn too, the seat's driver has no more edges than there are
 pub turn_within : (b : State) (s : Place) (t : ℕ) (v : Turn) → Ok v ≡ turn_answer b s t → s.made ≤ v.total
 turn_within b s t v is = go (count b.history s.driver == s.made) refl is
   where

@@ -1,4 +1,4 @@
--- One driver's edges in a history, beside its log.
+-- One driver's edges in a history, compared with its log.
 use Rattle.std.proofs.Common.{◌≡◌, ◌≢◌, ℕ, ◌+◌, ◌<◌, ◌≤◌, List, [], ◌∷◌, ◌++◌, length, take, drop, get_or, Bool, true, false, Some, None, sym, ap, ◌∙◌, arith, length-append, append_assoc, append-nil, length-take-le}
 use Rattle.std.specs.Prelude.{cond, filter, slice_get, MatchBool}
 use Rattle.std.proofs.Math.Seq.{take-append_seam, get_or-append_seam}
@@ -24,7 +24,7 @@ own-more xs d i e b at by =
     filter_more (λ e. is_same_driver e.driver d) xs i e (slice_get_within xs i e at)
     ∙ (ap (λ (x : Edge). own d (take i xs) ++ cond (is_same_driver x.driver d) (x ∷ []) []) is ∙ ap (λ (v : Bool). own d (take i xs) ++ cond v (e ∷ []) []) by)
 
--- where the log ends with the edges so far, or goes on with another edge
+-- the log ends after the edges so far, or goes on with another edge
 differs : (ys log : List Edge) (at : ℕ) (e : Edge) (rest : List Edge) → ys ≡ take at log ++ e ∷ rest → at ≤ length log → slice_get log at ≢ Some e → DiffersAt ys log at
 differs ys log at e rest is within apart =
     let len : length (take at log) ≡ at = length-take-le at log within in
@@ -40,7 +40,7 @@ nobody = record { driver = Controller; wire = Bclr; fall = false; value = None }
 some_not_none : (e : Edge) → ¬ (Some e ≡ None)
 some_not_none e is = cc
 
--- where the log goes on after all edges
+-- the log goes on after all edges
 pub ends : (ys log : List Edge) (at : ℕ) → ys ≡ take at log → at < length log → DiffersAt ys log at
 ends ys log at is within =
     let len : length (take at log) ≡ at = length-take-le at log (omega arith) in

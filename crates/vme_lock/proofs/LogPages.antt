@@ -11,11 +11,11 @@ pub joined-append : (xs ys : List (List Edge)) → edges_in (xs ++ ys) ≡ edges
 joined-append [] ys = refl
 joined-append (x ∷ xs) ys = ap (λ (l : List Edge). x ++ l) (joined-append xs ys) ∙ sym (append_assoc x (edges_in xs) (edges_in ys))
 
--- an empty page more
+-- one more empty page
 pub joined_page : (pages : List (List Edge)) → edges_in (pages ++ [] ∷ []) ≡ edges_in pages
 joined_page pages = joined-append pages ([] ∷ []) ∙ append-nil (edges_in pages)
 
--- one edge more in the last page
+-- one more edge in the last page
 pub joined-set : (pages : List (List Edge)) (n : ℕ) (page : List Edge) (e : Edge) → n + 1 ≡ length pages → get_or pages n page ≡ page → edges_in (set pages n (page ++ e ∷ [])) ≡ edges_in pages ++ e ∷ []
 joined-set [] n page e last is = absurd (omega arith)
 joined-set (x ∷ []) zero page e last is =
@@ -42,7 +42,7 @@ fits pages n page room count some is =
     let here : room_of pages ≡ 256 - length page = ap (λ x. option_map_or (λ page. 256 - length page) x 0) read in
     omega (arith, here)
 
--- where there is room there is a page
+-- if there is room, there is a page
 pub some_page : (pages : List (List Edge)) → 0 < room_of pages → 0 < length pages
 some_page [] room = absurd (omega arith)
 some_page (x ∷ pages) room = omega arith

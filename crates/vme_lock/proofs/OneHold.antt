@@ -1,4 +1,4 @@
--- What a hold leaves of the locked value.
+-- What a hold changes in the locked value.
 use Rattle.std.proofs.Common.{◌≡◌, ℕ, ◌+◌, ◌∷◌, Bool, true, false, sym, ap, ◌∙◌, arith}
 use Rattle.std.specs.Prelude.{if◌then◌else◌, Option, Result, Ok, Err, is_ok, slice_index, slice_set}
 use Rattle.vme_model.specs.declared.signals.Driver.{Driver}
@@ -18,7 +18,7 @@ stepped b new e r d is accepted state =
     let fine : is_ok (verdict b e) ≡ true = sym accepted ∙ ap is_ok is in
     state ∙ ap (λ (x : Bool). if x then made b e else b) fine
 
--- a refused edge is not
+-- a refused edge is not made
 pub refused : (b new : State) (e : Edge) (r : Result (Option Delivery) Refused) (d : Refused) → r ≡ Err d → is_ok r ≡ is_ok (verdict b e) → new ≡ after b e → new ≡ b
 refused b new e r d is accepted state =
     let none : is_ok (verdict b e) ≡ false = sym accepted ∙ ap is_ok is in
@@ -34,7 +34,7 @@ held_more opened k e d held sits same =
       booked = omega (arith, held.booked);
     }
 
--- with one edge more of a driver, at its desk
+-- one more edge of a driver, at its desk
 pub held_after : (opened : State) (k : Keeping) (e : Edge) (d : Driver) (new : State) (at total : ℕ) → IsHeld opened k → can_sit d ≡ true → is_same_driver e.driver d ≡ true → new ≡ made k.board e → at ≡ desk d → total ≡ k.total + 1
     → IsHeld opened (record { board = new; counts = slice_set k.counts at (slice_index k.counts at + 1); total = total })
 held_after opened k e d new at total held sits same is place more =

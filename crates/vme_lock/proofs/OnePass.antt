@@ -1,4 +1,4 @@
--- All drivers' edges in a history, beside their logs.
+-- All drivers' edges in a history, compared with their logs.
 use Rattle.std.proofs.Common.{◌≡◌, ◌≢◌, ℕ, ◌+◌, ◌<◌, ◌≤◌, List, [], ◌∷◌, length, take, get_or, Bool, true, false, Some, None, refl, sym, ap, ◌∙◌, subst, arith, length-take-le, suc}
 use Rattle.std.specs.Prelude.{◌==◌, slice_get, slice_index, slice_set, if◌then◌else◌}
 use Rattle.std.proofs.lemmas.Bool.Decides.{nat_tests}
@@ -129,7 +129,7 @@ whole_logs h ends (d ∷ ds) (log ∷ logs) fronts whole =
 whole_logs h ends [] (log ∷ logs) fronts whole = absurd whole
 whole_logs h ends (d ∷ ds) [] fronts whole = absurd whole
 
--- with each driver's number
+-- with the number of each driver
 pub all_logs : (h : List Edge) (numbers ends : List ℕ) (ds : List Driver) (logs : List (List Edge)) → AreNumbered numbers ds → AreFronts (in_order h) numbers logs ends → AreWhole ds logs ends → AreLogs h ds logs
 all_logs h numbers ends ds logs numbered fronts whole =
     whole_logs h ends ds logs (λ k d log is reads. let mine = numbered k d is in fronts d log mine.sits (ap (slice_get logs) mine.number ∙ reads)) whole

@@ -1,4 +1,4 @@
--- One worker more.
+-- One more worker.
 use Rattle.std.proofs.Common.{◌≡◌, ◌<◌, ℕ, List, [], ◌∷◌, ◌++◌, length, suc, set, get_or, ap, refl}
 use Rattle.std.proofs.Math.Seq.{map-set_same}
 use Rattle.vme_model.specs.declared.signals.Driver.{Driver}
@@ -13,7 +13,7 @@ AllWorked-push [] (y ∷ after) logs s t log all is = absurd all
 AllWorked-push (x ∷ seats) [] logs s t log all is = absurd all
 AllWorked-push (x ∷ seats) (y ∷ after) [] s t log all is = absurd all
 
--- the seats are the same drivers'
+-- the seats belong to the same drivers
 pub same_drivers : (seats after : List Place) (logs : List (List Edge)) → AllWorked seats after logs → drivers_of after ≡ drivers_of seats
 same_drivers [] [] [] all = refl
 same_drivers (x ∷ seats) (y ∷ after) (z ∷ logs) all =

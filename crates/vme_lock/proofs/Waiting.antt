@@ -1,4 +1,4 @@
--- What a hold tells a worker that waits or ends.
+-- What a hold shows a worker that waits or ends.
 use Rattle.std.proofs.Common.{◌≡◌, ◌≢◌, ℕ, List, [], ◌∷◌, Bool, true, false, refl, sym, ap, ◌∙◌, subst, arith, length}
 use Rattle.std.specs.Prelude.{◌==◌, ◌%◌, not, if◌then◌else◌, slice_get, Option, None, Result, Ok, Err}
 use Rattle.std.proofs.lemmas.Bool.Decides.{nat_tests}
@@ -25,7 +25,7 @@ not_ended : (r : Result Turn Lost) (v : Turn) → Ok v ≡ ending r → Ok v ≡
 not_ended (Ok u) v is = let here : v ≡ u = cc in ap (λ (x : Turn). Ok x) here
 not_ended (Err l) v is = absurd (cc)
 
--- what a turn shows, and of whose edges
+-- what a turn shows, and to which driver its edges belong
 seen : (b : State) (s : Place) (t : ℕ) (v : Turn) → Ok v ≡ turn_answer b s t → (count b.history s.driver ≡ s.made) × (v ≡ turn_of b s.driver t)
 seen b s t v is = go (count b.history s.driver == s.made) refl is
   where
@@ -50,7 +50,7 @@ pub lost_at_edge : (opened : State) (s after : Place) (e : Edge) (r : Result (Op
 lost_at_edge opened s after e r l is same some =
     subst (λ (x : Place). HasLost opened x) (sym same) (some.0, some.1, some.2, apart_at_edge some.0 s e l (sym is ∙ some.3))
 
--- of offers there is one in each turn
+-- if there are offers, each turn has one
 none_there : (es : List Edge) (t : ℕ) → slice_get es (t % length es) ≡ None → es ≡ []
 none_there [] t none = refl
 none_there (e ∷ es) t none =

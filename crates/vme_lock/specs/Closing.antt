@@ -6,7 +6,8 @@ use Rattle.vme_model.specs.Verdict.{State, IsLegal}
 use Rattle.vme_model.specs.Counts.{only}
 use Rattle.vme_lock.specs.Seats.{Place, Follows}
 
--- the backplane began as the one that was opened, its history is legal, and has as many edges as the seats made
+-- the backplane began as the one that was opened, its history is legal, and has as many edges as
+-- the seats made
 pub record IsClosing (opened : State) (seats : List Place) (b : State) : Type 0 where
   pub follows : Follows opened b
   pub legal : IsLegal b.version b.plan b.history
@@ -32,7 +33,8 @@ FirstDiffers h (d ∷ drivers) (log ∷ logs) driver at =
     ⊎ ((only h d ≡ log) × FirstDiffers h drivers logs driver at)
 FirstDiffers h _ _ driver at = ⊥
 
--- what is found of a history beside the logs: that they are its, or the first driver and place
+-- what is found when a history is compared with the logs: either they agree, or the first driver
+-- and place where they do not
 abbrev pub IsFirstDifference : List Edge → List Driver → List (List Edge) → Option (Driver × ℕ)
     → Type 0
 IsFirstDifference h drivers logs None = AreLogs h drivers logs

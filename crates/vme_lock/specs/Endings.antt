@@ -22,8 +22,9 @@ IsFull opened edges s =
 abbrev pub HasLost : State → Place → Type 0
 HasLost opened s = OfSome opened (λ b. count b.history s.driver ≢ s.made)
 
--- Why a worker ended, by what its gate may answer: the gate let it take each of its turns; the gate did not let it take one of
--- them; the history is as long as the bounds allow; or it is not the seat's. Of want of room there is nothing to say.
+-- Why a worker ended, by what its gate may answer: the gate let it take each of its turns; the gate
+-- did not let it take one of them; the history is as long as the bounds allow; or the history is
+-- not the seat's. If room was missing, there is nothing to say.
 abbrev pub IsSpent : State → (ℕ → Bool → Type 0) → ℕ → ℕ → Place → Spent → Type 0
 IsSpent opened answers turns edges s spent.Turns = (t : ℕ) → t < turns → answers t true
 IsSpent opened answers turns edges s spent.Gate = (t : ℕ) × (t < turns) × answers t false
@@ -31,14 +32,14 @@ IsSpent opened answers turns edges s spent.Edges = IsFull opened edges s
 IsSpent opened answers turns edges s spent.NoRoom = ⊤
 IsSpent opened answers turns edges s spent.Lost = HasLost opened s
 
--- of these, what a hold tells of a worker that ended in a turn
+-- what a hold shows about a worker that ended in a turn
 abbrev pub IsEnded : State → ℕ → Place → Spent → Type 0
 IsEnded opened edges s spent.Edges = IsFull opened edges s
 IsEnded opened edges s spent.NoRoom = ⊤
 IsEnded opened edges s spent.Lost = HasLost opened s
 IsEnded opened edges s _ = ⊥
 
--- and what ends it in a turn at all
+-- what ends a worker in a turn, seen in a hold or not
 abbrev pub EndsIn : State → (ℕ → Bool → Type 0) → ℕ → ℕ → Place → Spent → Type 0
 EndsIn opened answers turn edges s spent.Gate = answers turn false
 EndsIn opened answers turn edges s spent = IsEnded opened edges s spent

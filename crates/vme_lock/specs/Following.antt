@@ -1,4 +1,5 @@
--- A history beside all logs at once. A driver's desk holds the number of its log, and how far the log is followed.
+-- One pass over a history that follows all logs at once. A driver's desk holds the number of its
+-- log, and how far the log has been followed.
 use Rattle.std.specs.Prelude.{◌≡◌, ℕ, ◌≤◌, true, Some, List, [], ◌∷◌, length, take, filter, slice_get, slice_index}
 use Rattle.vme_model.specs.declared.signals.Driver.{Driver}
 use Rattle.vme_model.specs.declared.signals.Edge.{Edge}
@@ -15,12 +16,13 @@ abbrev pub AreNumbered : List ℕ → List Driver → Type 0
 AreNumbered numbers drivers =
     (k : ℕ) → (d : Driver) → slice_get drivers k ≡ Some d → HasNumber numbers d k
 
--- these edges are the first so many of the log
+-- these edges are the first ones of the log, and their number is `at`
 pub record IsFront (edges log : List Edge) (at : ℕ) : Type 0 where
   pub within : at ≤ length log
   pub same : edges ≡ take at log
 
--- of these edges, in the order of time, each driver's are the first of the log that has its number
+-- among these edges, in the order of time, those of each driver are the first ones of the log that
+-- has its number
 abbrev pub AreFronts : List Edge → List ℕ → List (List Edge) → List ℕ → Type 0
 AreFronts edges numbers logs ends =
     (d : Driver) → (log : List Edge) → can_sit d ≡ true

@@ -28,7 +28,7 @@ view_of b d = record {
   total = length b.history;
 }
 
--- the history has other edges of the seat's driver than the seat made
+-- the history has another number of the driver's edges than its seat made
 abbrev pub is_lost : State → Place → Bool
 is_lost b s = not (count b.history s.driver == s.made)
 
@@ -47,16 +47,16 @@ turn_of b d t = record {
   total = length b.history;
 }
 
--- the answer to it
+-- the answer to a turn
 abbrev pub turn_answer : State → Place → ℕ → Result Turn Lost
 turn_answer b s t = if is_lost b s then Err (loss_of b s) else Ok (turn_of b s.driver t)
 
--- what a worker makes of the answer to a turn: it ends as lost
+-- what a worker makes of the answer to a turn: if it is L5, the worker ends as lost
 abbrev pub ending : Result Turn Lost → Result Turn Spent
 ending (Ok t) = Ok t
 ending (Err _) = Err spent.Lost
 
--- what the backplane answers, its refusal as one of an edge
+-- what the backplane answers, with its refusal as a refusal of an edge
 abbrev pub by_step : Result (Option Delivery) Refused → Result (Option Delivery) EdgeRefused
 by_step (Ok delivered) = Ok delivered
 by_step (Err r) = Err (refused.Step r)
@@ -73,6 +73,6 @@ edge_answer b s e =
     else if is_lost b s then Err (refused.Lost (loss_of b s))
     else by_step (answer b e)
 
--- it holds of some backplane with a legal history, which began as the one that was opened
+-- it holds for some backplane with a legal history that began as the one that was opened
 abbrev pub OfSome : State → (State → Type 0) → Type 0
 OfSome opened P = (b : State) × Follows opened b × IsLegal b.version b.plan b.history × P b

@@ -1,8 +1,8 @@
--- To be believed by who reads the theorems.
+-- To be believed by whoever reads the theorems.
 pub mod Seats
 pub mod Holds
 pub mod Closing
 pub mod Endings
--- Words between the functions, which no public contract says.
+-- Words that the functions use between them, and that no public contract says.
 pub mod Following
 pub mod Logs

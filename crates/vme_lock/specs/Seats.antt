@@ -15,7 +15,7 @@ pub record Place : Type 0 where
   pub driver : Driver
   pub made : ℕ
 
--- the seat of a driver, with its edges that stand in a backplane
+-- the seat of a driver, with the number of its edges in a backplane
 abbrev pub seat_of : State → Driver → Place
 seat_of b d = record { driver = d; made = count b.history d }
 
@@ -26,7 +26,7 @@ seats_of b = map (seat_of b) (drivers b.plan)
 abbrev pub drivers_of : List Place → List Driver
 drivers_of seats = map (λ s. s.driver) seats
 
--- the seat after one edge more
+-- the seat after one more edge
 abbrev pub one_more : Place → Place
 one_more s = record { driver = s.driver; made = s.made + 1 }
 
@@ -34,13 +34,13 @@ one_more s = record { driver = s.driver; made = s.made + 1 }
 abbrev pub seat_after : Place → List Edge → Place
 seat_after s log = record { driver = s.driver; made = s.made + length log }
 
--- each seat worked its log
+-- each seat made the edges of its log
 abbrev pub AllWorked : List Place → List Place → List (List Edge) → Type 0
 AllWorked [] [] [] = Unit {0}
 AllWorked (s ∷ seats) (t ∷ after) (log ∷ logs) = (t ≡ seat_after s log) × AllWorked seats after logs
 AllWorked _ _ _ = ⊥
 
--- no more edges than turns, nor than the history may have
+-- no more edges than turns, and no more than the history may have
 abbrev pub IsWithin : ℕ → ℕ → List Edge → Type 0
 IsWithin turns edges log = (length log ≤ turns) × (length log ≤ edges)
 
@@ -49,7 +49,7 @@ abbrev pub can_sit : Driver → Bool
 can_sit Controller = true
 can_sit (Slot s) = is_slot s
 
--- where a driver's count stands: the controller's, then each slot's
+-- the place at which a driver's count stands: first the controller's, then each slot's
 abbrev pub desk : Driver → ℕ
 desk Controller = 0
 desk (Slot s) = s
@@ -68,7 +68,7 @@ pub record Keeping : Type 0 where
   pub counts : List ℕ
   pub total : ℕ
 
--- with one edge more, of the driver
+-- the locked value with one more edge, made by the driver
 abbrev pub kept_more : Keeping → Edge → Driver → Keeping
 kept_more k e d = record {
   board = made k.board e;

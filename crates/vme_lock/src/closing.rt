@@ -14,27 +14,30 @@ use std::sync::ledger::{Book, Share};
 use vme_backplane::Backplane;
 use vme_model::Driver;
 
-/// The history that the boards made is their logs.
+/// The result of closing a lock whose boards made the history that their logs have.
 #[derive(Drop)]
 pub struct Closed<'r> {
     pub backplane: Backplane<'r>,
 }
 
-/// The history is not the boards' logs.
+/// The result of closing a lock whose history is not that of its boards' logs (L4).
 #[derive(Drop)]
 pub struct LogMismatch<'r> {
     /// The first driver whose edges in the history are not its log.
     pub driver: Driver,
-    /// The first place where they differ, counted from 0.
+    /// The first place where they differ, counted from 0 in the driver's edges.
     pub at: u32,
     pub backplane: Backplane<'r>,
 }
 
 impl<'r, L: Rig> Shared<'r, L> {
-    /// Takes the backplane from the lock, where each driver's edges in its history are its log.
+    /// Takes the backplane from the lock, if each driver's edges in its history are its log.
     ///
-    /// The seats are all of them, and there is one log for each, both in their order. L4 names the first driver whose edges
-    /// are not its log, and the first place where they differ: where one is longer, the other's length.
+    /// `seats` are all seats of the lock, and there is one log for each, both in their order.
+    ///
+    /// # Errors
+    /// L4: the first driver whose edges are not its log, and the first place where they differ. If
+    /// one only goes on after the other, that place is the length of the shorter one.
     pub fn close(self, seats: Seats<L>, logs: &[Log<'_>]) -> Result<Closed<'r>, LogMismatch<'r>>
         requires parts { L.parts ≡ 22 }
         requires seats { drivers_of seats.items ≡ drivers L.opened.plan }
@@ -67,7 +70,7 @@ impl<'r, L: Rig> Shared<'r, L> {
     }
 }
 
-/// All seats together made what the book has.
+/// Adds up all seats: together they made as many edges as the book has.
 fn count_all<L: Rig>(book: &mut Book<L>, spare: Share<L>, mut seats: Seats<L>)
     requires all { spare.parts + vec_len seats ≡ L.parts }
     requires spare { spare.amount ≡ 0 }
@@ -80,7 +83,8 @@ fn count_all<L: Rig>(book: &mut Book<L>, spare: Share<L>, mut seats: Seats<L>)
     book.audit(&mut all);
 }
 
-/// The first driver whose edges in the history are not its log, and where. Where there is none, one pass mostly says so.
+/// The first driver whose edges in the history are not its log, and the place where they differ. If
+/// there is no such driver, one pass over the history is mostly enough.
 fn find_difference<L: Rig>(
     backplane: &Backplane<'_>,
     seats: &[Seat<L>],
@@ -96,7 +100,8 @@ fn find_difference<L: Rig>(
     }
 }
 
-/// The same, by a pass for each driver.
+/// The first driver whose edges in the history are not its log, and the place where they differ,
+/// found by a pass for each driver.
 fn first_difference<L: Rig>(
     backplane: &Backplane<'_>,
     seats: &[Seat<L>],
@@ -117,7 +122,8 @@ fn first_difference<L: Rig>(
     }
 }
 
-/// Where the driver's edges in the history are not the log.
+/// The first place where the driver's edges in the history are not the log; none if they are the
+/// log.
 fn difference(backplane: &Backplane<'_>, driver: Driver, log: &Log<'_>) -> Option<u32>
     ensures { MatchOption result
         (only backplane.now.history driver ≡ log.now)

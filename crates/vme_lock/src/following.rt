@@ -1,4 +1,4 @@
-//! The history beside all logs at once.
+//! One pass over the history that follows all logs at once.
 ghost use Rattle.std.specs.Prelude.{◌≡◌, ◌≢◌, IfSome, IsTrue, MatchBool, Some, length, slice_get};
 ghost use Rattle.vme_model.specs.History.{in_order};
 ghost use Rattle.vme_lock.specs.Closing.{AreLogs};
@@ -11,8 +11,8 @@ use crate::seats::{Rig, Seat, desk_of};
 use vme_backplane::Backplane;
 use vme_model::{Cycle, Edge};
 
-/// Whether each driver's edges in the history are its log, by one pass over it. False may also mean that this way can not
-/// tell.
+/// Whether each driver's edges in the history are its log, found by one pass over the history. If
+/// it answers false, the pass may only have been unable to decide.
 pub(crate) fn are_logs<L: Rig>(
     backplane: &Backplane<'_>,
     seats: &[Seat<L>],
@@ -30,7 +30,8 @@ pub(crate) fn are_logs<L: Rig>(
     are_whole(seats, logs, &ends)
 }
 
-/// At each driver's desk the number of its seat, and elsewhere no seat's number. None where a driver has two seats.
+/// At each driver's desk the number of its seat, and at any other desk no seat's number. It is none
+/// if a driver has two seats.
 fn numbers_of<L: Rig>(seats: &[Seat<L>]) -> Option<[usize; 22]>
     ensures { IfSome result (λ numbers. AreNumbered numbers (drivers_of seats.now)) }
 {
@@ -46,8 +47,8 @@ fn numbers_of<L: Rig>(seats: &[Seat<L>]) -> Option<[usize; 22]>
     Some(numbers)
 }
 
-/// At each driver's desk how many of its edges the history has, which are the first of its log. None where an edge is no
-/// seat's, or is not the next of its driver's log.
+/// At each driver's desk, how many of its edges the history has; these are the first edges of its
+/// log. It is none if an edge belongs to no seat, or is not the next of its driver's log.
 fn followed(backplane: &Backplane<'_>, numbers: &[usize; 22], logs: &[Log<'_>]) -> Option<[u32; 22]>
     ensures { IfSome result
         (λ ends. AreFronts (in_order backplane.now.history) numbers.now logs.now ends) }
@@ -66,7 +67,7 @@ fn followed(backplane: &Backplane<'_>, numbers: &[usize; 22], logs: &[Log<'_>]) 
     Some(ends)
 }
 
-/// Whether each log ends where its driver's desk says.
+/// Whether each log ends at the place that its driver's desk holds.
 fn are_whole<L: Rig>(seats: &[Seat<L>], logs: &[Log<'_>], ends: &[u32; 22]) -> bool
     requires { length logs.now ≡ length seats.now }
     ensures { IsTrue result → AreWhole (drivers_of seats.now) logs.now ends.now }
@@ -79,7 +80,7 @@ fn are_whole<L: Rig>(seats: &[Seat<L>], logs: &[Log<'_>], ends: &[u32; 22]) -> b
     }
 }
 
-/// Whether the two show the same.
+/// Whether the two values are the same.
 #[inline(always)]
 fn is_same_value(value: Option<Cycle>, other: Option<Cycle>) -> bool
     ensures { result ≡ is_same_value value other }
@@ -87,7 +88,7 @@ fn is_same_value(value: Option<Cycle>, other: Option<Cycle>) -> bool
     value == other
 }
 
-/// Whether the two are one edge.
+/// Whether the two edges are the same.
 #[inline(always)]
 fn is_same(edge: Edge, other: Edge) -> bool
     ensures { result ≡ is_same_edge edge other }

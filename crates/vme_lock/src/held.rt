@@ -4,13 +4,14 @@ use std::marker::Model;
 use std::sync::ledger::{Book, Share};
 use vme_backplane::Backplane;
 
-/// The locked value: the backplane, each driver's number of edges, and the book of all seats' edges.
+/// The locked value: the backplane, each driver's number of edges, and the book with the edges of
+/// all seats.
 #[derive(Drop)]
 pub struct Held<'r, L: Rig> {
     pub(crate) backplane: Backplane<'r>,
     pub(crate) counts: [u32; 22],
     pub(crate) book: Book<L>,
-    /// The parts of the ledger that no seat has.
+    /// The parts of the ledger that belong to no seat.
     pub(crate) spare: Share<L>,
 }
 

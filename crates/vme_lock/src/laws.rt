@@ -1,4 +1,5 @@
-//! The work of each hold of the lock, on the locked value that it is lent, and what holds of that value.
+//! What each hold of the lock does to the locked value that it borrows, and what holds for that
+//! value.
 ghost use Rattle.std.specs.Prelude.{◌≡◌, Err, MatchResult, OnOk, true};
 ghost use Rattle.vme_model.specs.Deliveries.{answer};
 ghost use Rattle.vme_model.specs.Signals.{is_well_formed};
@@ -12,7 +13,8 @@ use crate::seats::{Rig, Seat, desk};
 use crate::views::{EdgeRefused, Lost, Turn, View};
 use vme_model::{Delivery, Edge, Refused};
 
-/// What holds of the locked value whenever the lock is free.
+/// A law: what holds for the locked value whenever the lock is free. The call costs nothing, and
+/// gives these facts to the prover.
 pub fn whenever_free<L: Rig>(held: &Held<'_, L>)
     ensures held { IsHeld L.opened held.now }
     ensures legal { IsLegal held.now.board.version held.now.board.plan held.now.board.history }
@@ -24,6 +26,9 @@ pub fn whenever_free<L: Rig>(held: &Held<'_, L>)
 }
 
 /// A hold that makes no edge: what the seat's driver sees.
+///
+/// # Errors
+/// `Lost` (L5) if the history has another number of the driver's edges than its seat made.
 pub fn look_in<L: Rig>(held: &Held<'_, L>, seat: &Seat<L>) -> Result<View, Lost>
     ensures answer { result ≡ look_answer held.now.board seat.now }
     ensures held { IsHeld L.opened held.now }
@@ -43,7 +48,10 @@ pub fn look_in<L: Rig>(held: &Held<'_, L>, seat: &Seat<L>) -> Result<View, Lost>
     })
 }
 
-/// A hold that makes no edge: what the seat's driver may do in a turn.
+/// A hold that makes no edge: what the seat's driver may do in a turn, counted from 0.
+///
+/// # Errors
+/// `Lost` (L5) if the history has another number of the driver's edges than its seat made.
 pub fn turn_in<L: Rig>(held: &Held<'_, L>, seat: &Seat<L>, turn: u32) -> Result<Turn, Lost>
     ensures answer { result ≡ turn_answer held.now.board seat.now turn }
     ensures held { IsHeld L.opened held.now }
@@ -59,7 +67,7 @@ pub fn turn_in<L: Rig>(held: &Held<'_, L>, seat: &Seat<L>, turn: u32) -> Result<
     Ok(Turn { offer, total })
 }
 
-/// The tests before an edge: that it is the seat's, and that the seat made all edges of its driver.
+/// The tests before an edge: the edge is the seat's, and the seat made all edges of its driver.
 fn is_own<L: Rig>(held: &Held<'_, L>, seat: &Seat<L>, edge: Edge) -> Result<(), EdgeRefused>
     ensures { MatchResult result
         (λ _. IsOwn held.now.board seat.now edge)
@@ -75,7 +83,7 @@ fn is_own<L: Rig>(held: &Held<'_, L>, seat: &Seat<L>, edge: Edge) -> Result<(), 
     Ok(())
 }
 
-/// Makes an edge of the seat's driver, where the rules allow it, and counts it.
+/// Makes an edge of the seat's driver, if the rules allow it, and counts it.
 fn step_in<L: Rig>(
     held: &mut Held<'_, L>,
     seat: &mut Seat<L>,
@@ -114,7 +122,11 @@ fn step_in<L: Rig>(
     }
 }
 
-/// A hold that makes the edge, where it is the seat's and the rules allow it.
+/// A hold that makes the edge, if it is the seat's and the rules allow it. It returns what the edge
+/// delivers.
+///
+/// # Errors
+/// L1, L5, or the backplane's refusal, tested in this order. Then nothing changes.
 pub fn edge_in<L: Rig>(
     held: &mut Held<'_, L>,
     seat: &mut Seat<L>,

@@ -1,6 +1,7 @@
-//! Seats at one locked backplane, and a thread for each board.
+//! Seats at one locked backplane, and a thread for each board. docs/THREADS.md explains them.
 //!
-//! Each hold of the lock makes one edge or none. The module `laws` has the work of a hold, on the value that it is lent.
+//! Each hold of the lock makes one edge or none. The module `laws` has what a hold does to the
+//! value that it borrows.
 #![tactic(auto)]
 
 mod closing;

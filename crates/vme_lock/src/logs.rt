@@ -40,21 +40,21 @@ impl<'r> Log<'r> {
         Log { edges }
     }
 
-    /// How many edges it has.
+    /// How many edges the log has.
     pub fn len(&self) -> u32
         ensures { result ≡ length self.now }
     {
         self.edges.len() as u32
     }
 
-    /// Whether it has no edge.
+    /// Whether the log has no edge.
     pub fn is_empty(&self) -> bool
         ensures { IsTrue result ↔ (self.now ≡ []) }
     {
         self.edges.is_empty()
     }
 
-    /// The edge at a place, counted from 0.
+    /// The edge at a place, counted from 0. The place has to be below `len`.
     pub fn edge_at(&self, place: u32) -> Edge
         requires { place < length self.now }
         ensures { slice_get self.now place ≡ Some result }
@@ -86,7 +86,7 @@ impl<'s, 'r> Model for Page<'s, 'r> {
 }
 
 impl<'s, 'r> Page<'s, 'r> {
-    /// A page without an edge.
+    /// A page without edges, with room for 256.
     fn new(scratch: &'s Lease<'r>) -> Result<Page<'s, 'r>, AllocError>
         ensures { IfOk result (λ p. p ≡ []) }
     {
@@ -94,7 +94,7 @@ impl<'s, 'r> Page<'s, 'r> {
         Ok(Page { edges })
     }
 
-    /// How many edges fit.
+    /// How many more edges fit.
     fn room(&self) -> usize
         ensures { result ≡ 256 - length self.now }
     {
@@ -114,7 +114,7 @@ impl<'s, 'r> Page<'s, 'r> {
 #[derive(Drop)]
 pub(crate) struct Pages<'s, 'r> {
     pages: Vec<Page<'s, 'r>, &'s Lease<'r>>,
-    /// How many pages there may be.
+    /// How many pages there may be at most.
     most: usize,
 }
 
@@ -127,7 +127,7 @@ impl<'s, 'r> Model for Pages<'s, 'r> {
 }
 
 impl<'s, 'r> Pages<'s, 'r> {
-    /// No edge, and room to be made for so many.
+    /// No edges yet, in pages that may become enough for `edges` edges.
     pub(crate) fn new(scratch: &'s Lease<'r>, edges: u32) -> Pages<'s, 'r>
         ensures { result.edges ≡ [] }
     {
@@ -137,7 +137,7 @@ impl<'s, 'r> Pages<'s, 'r> {
         }
     }
 
-    /// How many edges fit in the last page.
+    /// How many more edges fit in the last page.
     fn room(&self) -> usize
         ensures { result ≡ self.now.room }
     {
@@ -148,6 +148,9 @@ impl<'s, 'r> Pages<'s, 'r> {
     }
 
     /// Makes room for one more edge, if there is none.
+    ///
+    /// # Errors
+    /// `AllocError` if no page can be added.
     #[tactic(auto, using(crate::proofs::LogPages::joined_page, crate::proofs::LogPages::room_page))]
     pub(crate) fn make_room(&mut self) -> Result<(), AllocError>
         ensures edges { self.new.edges ≡ self.old.edges }
@@ -197,8 +200,8 @@ fn copy_page(page: &Page<'_, '_>, log: &mut Vec<Code, Lease<'_>>)
     }
 }
 
-/// How many bytes of scratch are enough for the working pages of so many edges: a page for each 256 edges begun, and its
-/// place in the list of pages.
+/// How many bytes of scratch memory are enough for the working pages of `edges` edges: a page for
+/// each 256 edges, the last one perhaps not full, and its place in the list of pages.
 pub fn log_bytes(edges: u32) -> usize
     ensures { result ≡ 1056 * div_ceil edges 256 }
 {

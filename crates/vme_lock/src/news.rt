@@ -1,7 +1,8 @@
-//! What workers tell each other beside the lock, so that one that has nothing to do need not ask for it.
+//! What workers announce to each other outside the lock, so that a worker that has nothing to do
+//! need not take the lock.
 //!
-//! No clause speaks of what is told, since none follows a value through an atomic. What a worker knows where it does not ask
-//! is of its last look.
+//! No clause speaks of what is announced, since no proof follows a value through an atomic. If a
+//! worker does not ask, all that it knows is from its last look.
 ghost use Rattle.std.specs.Prelude.{◌≡◌, ◌<◌, ◌≤◌, ◌+◌, ◌↔◌, ◌==◌, IsTrue, min};
 
 use std::sync::atomic::{AtomicBool, AtomicU32, Ordering};
@@ -9,30 +10,32 @@ use std::sync::{Condvar, Wait};
 use std::thread::yield_now;
 use std::time::Duration;
 
-/// A worker that waits yields in one of so many turns, and not in each: a yield takes longer than such a turn.
+/// A worker that waits yields once in this many turns, not in each: a yield takes longer than such
+/// a turn.
 const TURNS_TO_A_YIELD: u32 = 24;
 
-/// After so many turns, and three yields, a worker that waits sleeps.
+/// After this many turns, in three of which it yields, a worker that waits sleeps.
 const TURNS_TO_A_NAP: u32 = 72;
 
-/// In so many turns it sleeps, and then yields as before: what it waits for may never come.
+/// It sleeps in this many turns, and then yields as before, since what it waits for may never come.
 const NAPS: u32 = 100;
 
-/// How long it sleeps in a turn at most, in milliseconds.
+/// The longest sleep in a turn, in milliseconds.
 const NAP_MILLIS: u64 = 1;
 
-/// What was told.
+/// What was announced.
 #[derive(Drop)]
 pub(crate) struct News {
-    /// How many edges stand in the history. It is written under the lock alone, in the hold that makes an edge.
+    /// How many edges the history has. It is written only under the lock, in the hold that makes an
+    /// edge.
     edges: AtomicU32,
-    /// Told of each edge, and of the end of each worker.
+    /// Notified at each edge, and at the end of each worker.
     told: Condvar,
     has_ended: AtomicBool,
 }
 
 impl News {
-    /// Of a history with so many edges.
+    /// The news of a history with `edges` edges.
     pub(crate) fn new(edges: u32) -> News {
         News {
             edges: AtomicU32::new(edges),
@@ -41,26 +44,28 @@ impl News {
         }
     }
 
-    /// How many edges stood in the history after the last hold that made one.
+    /// How many edges the history had after the last hold that made one.
     #[inline(always)]
     pub(crate) fn edges(&self) -> u32 {
         self.edges.load(Ordering::SeqCst)
     }
 
-    /// Tells how many edges stand in the history. Called in the hold that made the last of them, so that a later hold never
-    /// shows fewer than were told, and who reads the number after a hold reads its edge too.
+    /// Announces how many edges the history has. It is called in the hold that made the last of
+    /// them. So a later hold never shows fewer edges than were announced, and whoever reads the
+    /// number after a hold finds the edge of that hold too.
     #[inline(always)]
     pub(crate) fn tell_edges(&self, edges: u32) {
         self.edges.store(edges, Ordering::SeqCst);
     }
 
-    /// Wakes who sleeps. Called when the lock is free again, so that who wakes need not wait for it.
+    /// Wakes the workers that sleep. It is called when the lock is free again, so that a worker
+    /// that wakes need not wait for it.
     #[inline(always)]
     pub(crate) fn wake(&self) {
         self.told.notify_all();
     }
 
-    /// Tells that a worker has ended.
+    /// Announces that a worker has ended.
     pub(crate) fn tell_end(&self) {
         self.has_ended.store(true, Ordering::SeqCst);
         self.told.notify_all();
@@ -72,19 +77,19 @@ impl News {
 pub(crate) struct Idle {
     /// How many edges its last look found in the history.
     seen: u32,
-    /// How many turns it waits.
+    /// How many turns it has waited.
     turns: u32,
 }
 
 impl Idle {
-    /// Before its first turn, after a look that found so many edges.
+    /// A worker before its first turn of waiting, after a look that found `seen` edges.
     pub(crate) fn since(seen: u32) -> Idle
         ensures { result ≡ record { seen = seen; turns = 0 } }
     {
         Idle { seen, turns: 0 }
     }
 
-    /// Whether there are as many edges as its last look found.
+    /// Whether there are still as many edges as the worker's last look found.
     #[inline(always)]
     pub(crate) fn is_still(&self, edges: u32) -> bool
         ensures { result ≡ (self.now.seen == edges) }
@@ -92,15 +97,16 @@ impl Idle {
         self.seen == edges
     }
 
-    /// Waits for a turn. A long wait sleeps, so that its turns are not spent before the driver that it waits for has a
-    /// processor again; nothing assures that they suffice. Where a worker has ended, that may be the driver, and nobody
-    /// sleeps any more.
+    /// Waits for a turn. In a long wait the worker sleeps, so that its turns are not used up before
+    /// the driver for which it waits has a processor again; nothing ensures that they suffice. If a
+    /// worker has ended, that may be the driver, and nobody sleeps any more.
     pub(crate) fn wait<R: Wait>(&mut self, rt: &R, news: &News)
         ensures { self.new ≡ record { seen = self.old.seen; turns = min (self.old.turns + 1) 4294967295 } }
     {
         self.turns = self.turns.saturating_add(1);
         if self.is_nap() && !news.has_ended.load(Ordering::SeqCst) {
-            // Read before the edges are, so that what is told between the two ends the sleep.
+            // This is read before the edges are, so that what is announced between the two ends the
+            // sleep.
             let told = news.told.notifications();
             if self.is_still(news.edges()) {
                 let nap = Duration::from_millis(NAP_MILLIS);
@@ -111,7 +117,7 @@ impl Idle {
         }
     }
 
-    /// Whether it sleeps in this turn: from the 73rd to the 172nd.
+    /// Whether the worker sleeps in this turn: from the 73rd to the 172nd.
     fn is_nap(&self) -> bool
         ensures { IsTrue result ↔ ((72 < self.now.turns) × (self.now.turns ≤ 172)) }
     {

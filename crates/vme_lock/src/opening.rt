@@ -16,9 +16,10 @@ use vme_model::Driver;
 use vme_slots::DRIVERS;
 
 impl<'r, L: Rig> Shared<'r, L> {
-    /// The backplane under a lock, with the seats at it.
+    /// Puts the backplane under a lock, and returns the lock with the seats at it.
     ///
-    /// L2: where memory was refused, and only then, the backplane is handed back; the blank is spent.
+    /// # Errors
+    /// The backplane, if and only if memory runs out (L2). The blank is used up then.
     pub fn new(
         alloc: Global,
         blank: Blank,
@@ -64,7 +65,7 @@ struct Opening<L: Rig> {
 }
 
 impl<L: Rig> Opening<L> {
-    /// Gives a seat to a driver that made so many edges.
+    /// Gives a seat to a driver that made `made` edges.
     fn seat(&mut self, driver: Driver, made: u32)
         requires driver { can_sit driver ≡ true }
         requires room { vec_len self.old.seats < vec_capacity self.old.seats }
@@ -100,7 +101,7 @@ impl<L: Rig> Opening<L> {
     }
 }
 
-/// Each driver's number of edges.
+/// The number of edges of each driver.
 fn counts_of(backplane: &Backplane<'_>) -> [u32; 22]
     ensures { AreCounts result backplane.now.history }
 {

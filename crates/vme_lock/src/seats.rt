@@ -6,11 +6,12 @@ use std::marker::{Brand, Model};
 use std::sync::ledger::{Ledger, Share};
 use vme_model::Driver;
 
-/// The ledger of one lock, and the backplane that was opened under it. Each call of a program picks them.
+/// The ledger of one lock, and the backplane that was opened under it. Each program that calls this
+/// crate chooses both.
 pub trait Rig: Ledger {
     ghost use Rattle.vme_model.specs.Verdict.{State};
 
-    /// The backplane that was handed in.
+    /// The backplane that was passed in.
     ghost opened: { State };
 }
 
@@ -18,7 +19,7 @@ impl Rig for Brand {
     ghost opened = { nowhere };
 }
 
-/// The right to make the edges of one driver, with the number of those that were made.
+/// The right to make the edges of one driver, with the number of the edges that were made.
 #[derive(Drop)]
 pub struct Seat<L: Rig> {
     pub(crate) driver: Driver,
@@ -42,7 +43,7 @@ impl<L: Rig> Model for Seat<L> {
 }
 
 impl<L: Rig> Seat<L> {
-    /// The seat of a driver with so many edges, which the share counts.
+    /// The seat of a driver with `made` edges, as the share counts them.
     pub(crate) fn new(driver: Driver, made: u32, share: Share<L>) -> Seat<L>
         requires share { (share.amount ≡ made) × (share.parts ≡ 1) }
         requires driver { can_sit driver ≡ true }
@@ -55,21 +56,22 @@ impl<L: Rig> Seat<L> {
         }
     }
 
-    /// The driver whose edges it makes.
+    /// The driver whose edges the seat makes.
     pub fn driver(&self) -> Driver
         ensures { result ≡ self.now.driver }
     {
         self.driver
     }
 
-    /// How many edges its driver made, with those that stood in the backplane handed in.
+    /// How many edges the seat's driver made, including those that the backplane had when it was
+    /// passed in.
     pub fn made(&self) -> u32
         ensures { result ≡ self.now.made }
     {
         self.made
     }
 
-    /// The place of its driver among the counts of all.
+    /// The desk of the seat's driver: its place among the counts of all drivers.
     pub(crate) fn desk(&self) -> usize
         ensures sits { can_sit self.now.driver ≡ true }
         ensures place { result ≡ desk self.now.driver }
@@ -78,7 +80,7 @@ impl<L: Rig> Seat<L> {
         desk(self.driver)
     }
 
-    /// What the ledger has of it.
+    /// The share that the ledger has of the seat.
     pub(crate) fn into_share(self) -> Share<L>
         ensures { (result.amount ≡ self.made) × (result.parts ≡ 1) }
     {
@@ -91,7 +93,7 @@ impl<L: Rig> Seat<L> {
     }
 }
 
-/// The place of a driver among the counts of all.
+/// The desk of a driver: its place among the counts of all drivers.
 pub(crate) fn desk(driver: Driver) -> usize
     requires { can_sit driver ≡ true }
     ensures place { result ≡ desk driver }
@@ -103,7 +105,7 @@ pub(crate) fn desk(driver: Driver) -> usize
     }
 }
 
-/// The place of a driver among the counts of all, if some plan has it.
+/// The desk of a driver, its place among the counts of all drivers, if some plan has that driver.
 pub(crate) fn desk_of(driver: Driver) -> Option<usize>
     ensures { result ≡ (if can_sit driver then Some (desk driver) else None) }
 {

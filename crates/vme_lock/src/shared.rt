@@ -1,4 +1,4 @@
-//! The lock that seats share.
+//! The lock that the seats share.
 ghost use Rattle.std.specs.Prelude.{◌≡◌, ◌≢◌, ◌≤◌, MatchResult, OnOk, true};
 ghost use Rattle.vme_model.specs.Signals.{is_well_formed};
 ghost use Rattle.vme_lock.specs.Seats.{one_more};
@@ -20,9 +20,10 @@ pub struct Shared<'r, L: Rig> {
 }
 
 impl<'r, L: Rig> Shared<'r, L> {
-    /// What the seat's driver sees now. May wait for the lock.
+    /// What the seat's driver sees now. It may wait for the lock.
     ///
-    /// `Lost` where the history has another number of its edges than the seat made.
+    /// # Errors
+    /// `Lost` (L5) if the history has another number of the driver's edges than its seat made.
     pub fn look<R: Wait>(&self, rt: &R, seat: &Seat<L>) -> Result<View, Lost>
         ensures answer { OfSome L.opened (λ b. result ≡ look_answer b seat.now) }
         ensures own { MatchResult result
@@ -33,10 +34,11 @@ impl<'r, L: Rig> Shared<'r, L> {
         look_in(&*held, seat)
     }
 
-    /// What the seat's driver may do in a turn, counted from 0: of k offers the one at place `turn mod k`. May wait for the
-    /// lock.
+    /// What the seat's driver may do in a turn, counted from 0: of k offers the one at place
+    /// `turn mod k`. It may wait for the lock.
     ///
-    /// `Lost` as for a look.
+    /// # Errors
+    /// `Lost` (L5) if the history has another number of the driver's edges than its seat made.
     pub fn turn<R: Wait>(&self, rt: &R, seat: &Seat<L>, turn: u32) -> Result<Turn, Lost>
         ensures answer { OfSome L.opened (λ b. result ≡ turn_answer b seat.now turn) }
         ensures own { MatchResult result
@@ -47,9 +49,11 @@ impl<'r, L: Rig> Shared<'r, L> {
         turn_in(&*held, seat, turn)
     }
 
-    /// Makes the edge where it is the seat's and the rules allow it, and answers what it delivers. May wait for the lock.
+    /// Makes the edge if it is the seat's and the rules allow it, and returns what it delivers. It
+    /// may wait for the lock.
     ///
-    /// Errors: L1, L5, or what the backplane answers, tested in this order. Then nothing changes.
+    /// # Errors
+    /// L1, L5, or the backplane's refusal, tested in this order. Then nothing changes.
     pub fn edge<R: Wait>(
         &self,
         rt: &R,

@@ -12,14 +12,16 @@ use std::sync::Wait;
 use std::thread::{Threads, join};
 use thiserror::Error;
 
-/// The boards were not started: memory was refused.
+/// The boards were not started, since memory ran out (L3).
 #[derive(Clone, Copy, PartialEq, Eq, Debug, Error)]
 #[error("L3 the boards could not be started")]
 pub struct NotStarted;
 
-/// Works each seat in a thread of its own, in its room, and joins them all. May wait for the lock and the gate.
+/// Works each seat in a thread of its own, in its room, and joins all threads. It may wait for the
+/// lock and the gate. It returns the seats and their logs, in their order.
 ///
-/// Hands back the seats and their logs, in their order. L3 where memory was refused, before any board starts.
+/// # Errors
+/// L3 if memory runs out, before any board starts.
 pub fn run_boards<'r, L: Rig + Send + Sync, G: Gate + Sync, R: Threads + Wait + Sync>(
     rt: &R,
     alloc: Global,
@@ -41,7 +43,7 @@ pub fn run_boards<'r, L: Rig + Send + Sync, G: Gate + Sync, R: Threads + Wait + 
     Ok(run_all(rt, shared, seats, gate, bounds, rooms, logs))
 }
 
-/// Works the last seat in a thread, and all before it in this one.
+/// Works the last seat in a new thread, and all seats before it in this one.
 fn run_all<'r, L: Rig + Send + Sync, G: Gate + Sync, R: Threads + Wait + Sync>(
     rt: &R,
     shared: &Shared<'_, L>,

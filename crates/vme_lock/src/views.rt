@@ -1,4 +1,4 @@
-//! What a hold of the lock answers.
+//! What a hold of the lock returns.
 use arrayvec::ArrayVec;
 use thiserror::Error;
 use vme_model::{Edge, Pins, Refused};
@@ -9,33 +9,33 @@ pub struct View {
     pub pins: Pins,
     /// The driver's edges that would be accepted.
     pub offers: ArrayVec<Edge, 16>,
-    /// How many edges of the driver stand in the history.
+    /// How many edges of the driver the history has.
     pub own: u32,
-    /// How many edges stand in the history.
+    /// How many edges the history has.
     pub total: u32,
 }
 
-/// What a driver sees of one turn in one hold.
+/// What a driver sees for one turn in one hold.
 #[derive(Clone, Copy, PartialEq, Eq, Debug)]
 pub struct Turn {
-    /// The edge that the turn is for, if the driver is offered any.
+    /// The edge that the turn offers, if the driver has an offer.
     pub offer: Option<Edge>,
-    /// How many edges stand in the history.
+    /// How many edges the history has.
     pub total: u32,
 }
 
-/// The history has another number of the driver's edges than its seat made.
+/// L5: the history has another number of the driver's edges than its seat made.
 #[derive(Clone, Copy, PartialEq, Eq, Debug, Error)]
 #[error("L5 the history has {own} edges of the seat's driver")]
 pub struct Lost {
-    /// How many edges of the driver stand in the history.
+    /// How many edges of the driver the history has.
     pub own: u32,
 }
 
-/// Why no edge was made, in the order of the tests.
+/// Why no edge was made, L1, L5 or a refusal, in the order of the tests.
 #[derive(Clone, Copy, PartialEq, Eq, Debug, Error)]
 pub enum EdgeRefused {
-    /// The edge is another driver's than the seat's.
+    /// L1: the edge belongs to another driver than the seat does.
     #[error("L1 the edge is not the seat's")]
     NotYours,
     #[error("{0}")]

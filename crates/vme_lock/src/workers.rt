@@ -1,4 +1,5 @@
-//! A worker: one driver's turns, in each of which it asks for one offer and makes one edge at most.
+//! A worker: the turns of one driver. In each turn it asks for one offer and makes at most one
+//! edge.
 ghost use Rattle.std.specs.Prelude.{◌≡◌, ℕ, ◌+◌, ◌<◌, ◌≤◌, [], IfErr, IfOk, IfSome, MatchBool, None, OnOk, length, min, true};
 ghost use Rattle.vme_lock.specs.Seats.{seat_after, IsWithin};
 ghost use Rattle.vme_lock.specs.Holds.{OfSome, ending, turn_answer};
@@ -12,19 +13,19 @@ use crate::views::{EdgeRefused, Turn};
 use std::sync::Wait;
 use vme_model::{Driver, Edge};
 
-/// Who lets a worker begin and end its turns. No lock is held while it is asked.
+/// What lets a worker begin and end its turns. No lock is held while it is asked.
 pub trait Gate {
     ghost use Rattle.std.specs.Prelude.{ℕ, Bool};
     ghost use Rattle.vme_model.specs.declared.signals.Driver.{Driver};
 
-    /// What it may answer a driver before a turn.
+    /// What the gate may answer to a driver before a turn.
     ghost answers: { Self → Driver → ℕ → Bool → Type 0 };
 
     /// Whether the driver takes this turn, counted from 0.
     fn before(&self, driver: Driver, turn: u32) -> bool
         ensures { answers self.now driver turn result };
 
-    /// Told at the end of a turn whether the driver made an edge in it.
+    /// Called at the end of a turn, with whether the driver made an edge in it.
     fn after(&self, driver: Driver, turn: u32, accepted: bool);
 }
 
@@ -71,13 +72,13 @@ pub enum Spent {
     Edges,
     /// The gate let it take no further turn.
     Gate,
-    /// Its log found no room.
+    /// Its log had no room.
     NoRoom,
-    /// The history has another number of its driver's edges than its seat made.
+    /// L5: the history has another number of its driver's edges than its seat made.
     Lost,
 }
 
-/// Makes room for an edge, and then the edge. False where the backplane refuses it.
+/// Makes room for an edge, and then makes the edge. False if the backplane refuses it.
 fn make_edge<L: Rig, R: Wait>(
     rt: &R,
     shared: &Shared<'_, L>,
@@ -106,7 +107,10 @@ fn make_edge<L: Rig, R: Wait>(
     }
 }
 
-/// What a turn shows the seat's driver. `Lost` where the history is not the seat's.
+/// What a turn shows to the seat's driver.
+///
+/// # Errors
+/// `Lost` (L5) if the history has another number of the driver's edges than its seat made.
 fn see_turn<L: Rig, R: Wait>(
     rt: &R,
     shared: &Shared<'_, L>,
@@ -123,16 +127,17 @@ fn see_turn<L: Rig, R: Wait>(
     }
 }
 
-/// What came of a look.
+/// What a look led to.
 #[derive(Clone, Copy)]
 struct Tried {
-    /// Whether an edge was made. Else there was no offer, or it was refused, since another made an edge before it.
+    /// Whether an edge was made. If not, there was no offer, or the offer was refused, since
+    /// another driver made an edge first.
     made: bool,
-    /// Where there was no offer.
+    /// The wait that begins, if there was no offer.
     idle: Option<Idle>,
 }
 
-/// Looks what the seat's driver may do in a turn, and tries it.
+/// Looks up what the seat's driver may do in a turn, and tries it.
 fn try_offer<L: Rig, R: Wait>(
     rt: &R,
     shared: &Shared<'_, L>,
@@ -170,26 +175,30 @@ fn try_offer<L: Rig, R: Wait>(
     }
 }
 
-/// Tells the gate that a turn is over, before which the seat had made so many edges.
+/// Calls the gate at the end of a turn, before which the seat had made `before` edges.
 fn tell_gate<L: Rig, G: Gate>(gate: &G, seat: &Seat<L>, turn: u32, before: u32, accepted: bool)
     requires { MatchBool accepted (seat.now.made ≡ before + 1) (seat.now.made ≡ before) }
 {
     gate.after(seat.driver(), turn, accepted);
 }
 
-/// What a worker did so far.
+/// What a worker has done so far.
 #[derive(Drop)]
 struct Work<'s, 'r> {
     /// How many turns it took to their end.
     turns: u32,
     pages: Pages<'s, 'r>,
-    /// Where its last look found no offer.
+    /// The wait, if its last look found no offer.
     idle: Option<Idle>,
 }
 
-/// Takes the next turn. `Err` where the worker ends.
+/// Takes the next turn.
 ///
-/// The lock is not asked for where the history has as many edges as at a look that found no offer: it would find none.
+/// The worker does not take the lock if the history has as many edges as at a look that found no
+/// offer, since it would find none again.
+///
+/// # Errors
+/// Why the worker ends, if it does.
 fn take_turn<L: Rig, G: Gate, R: Wait>(
     rt: &R,
     shared: &Shared<'_, L>,
@@ -236,7 +245,7 @@ fn take_turn<L: Rig, G: Gate, R: Wait>(
     Ok(())
 }
 
-/// Takes the turns of a worker that took none, and answers why it ended.
+/// Takes the turns of a worker that has taken none, and returns why it ended.
 fn take_turns<L: Rig, G: Gate, R: Wait>(
     rt: &R,
     shared: &Shared<'_, L>,
@@ -262,15 +271,18 @@ fn take_turns<L: Rig, G: Gate, R: Wait>(
     Spent::Turns
 }
 
-/// Works a seat: makes edges of its driver, one a turn at most, each among those that it is offered. May wait for the lock.
+/// Works a seat: makes edges of its driver, at most one a turn, each from the driver's offers. It
+/// may wait for the lock.
 ///
-/// Hands back the seat and the log of the edges made. In turn `t` the offer at place `t` modulo their number is tried. The
-/// worker ends after its turns, or as soon as the gate answers false, the history has as many edges as the bounds allow, no
-/// room is found for an edge, or the history is not the seat's.
+/// It returns the seat and the log of the edges that it made. In turn `t` it tries the offer at
+/// place `t` modulo the number of offers. The worker ends after its turns. It ends earlier if the
+/// gate answers false, the history has as many edges as the bounds allow, there is no room for an
+/// edge, or the history is not the seat's.
 ///
-/// After a turn without an offer it asks for the lock again only once the history is longer. That length stands beside the
-/// lock too, written in the hold that makes an edge. So a turn in which it does not ask is one in which it would find no
-/// offer, as long as no such hold has begun; in a turn after it, it asks.
+/// After a turn without an offer it takes the lock again only once the history is longer. That
+/// length stands outside the lock too, written in the hold that makes an edge. So if it does not
+/// take the lock in a turn, it would have found no offer there, unless a hold that makes an edge
+/// has begun; in a turn after that hold, it takes the lock.
 pub fn work_board<'r, L: Rig, G: Gate, R: Wait>(
     rt: &R,
     shared: &Shared<'_, L>,

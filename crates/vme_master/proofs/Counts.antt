@@ -9,19 +9,19 @@ use Rattle.vme_model.specs.Rules.{is_below_burst}
 use Rattle.vme_model.specs.Rules as rules
 use Rattle.vme_master.specs.Local.{most_cycles}
 
--- one more of them
+-- one more cycle, in such a count
 pub one_more : (c most : ℕ) → (if nat_lt (min c most) most then min c most + 1 else min c most) ≡ min (1 + c) most
 one_more c most = grind arith
 
 none_more : (c most : ℕ) → nat_lt (min c most) most ≡ nat_lt c most
 none_more c most = grind arith
 
--- it says as much of the burst as the whole count
+-- the counted cycles say as much about the burst as all cycles do
 pub below_burst : (c : ℕ) (release : Release) → is_below_burst (min c (most_cycles release)) release ≡ is_below_burst c release
 below_burst c (Done burst) = none_more c burst
 below_burst c Request = refl
 
--- so does the part of a guard that reads it
+-- the part of a guard that reads the counted cycles says as much as with all cycles
 pub burst_guard : (c : ℕ) (release : Release) → rules.below_burst (min c (most_cycles release)) release ≡ rules.below_burst c release
 burst_guard c (Done burst) = ap (λ b. asks WithinBurst b) (none_more c burst)
 burst_guard c Request = refl

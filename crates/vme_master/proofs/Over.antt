@@ -31,14 +31,14 @@ by_parts version s row handler noted pins holds_bus d DataStrobe true v own = re
 by_parts version s row handler noted pins holds_bus d DataStrobe false v own = refl
 by_parts version s row handler noted pins holds_bus d w f v own = absurd (cc)
 
--- a state that a list leads to answers as the list says
+-- a state that comes from a list answers as the list says
 pub answers_over : (version : Version) (state : MasterState) (noted : List Edge) (pins : Pins) (holds_bus : Bool) (e : Edge) → state ≡ master_of state.slot state.row state.handler noted → is_masters e.wire ≡ true →
     ruling One (local state pins holds_bus) e ≡ ruling version (over state.slot state.row state.handler noted pins holds_bus) e
 answers_over version state noted pins holds_bus e same own =
     let P : MasterState → Type 0 = λ m. ruling One (local m pins holds_bus) e ≡ ruling version (over state.slot state.row state.handler noted pins holds_bus) e in
     subst P (sym same) (by_parts version state.slot state.row state.handler noted pins holds_bus e.driver e.wire e.fall e.value own)
 
--- the same of an edge of the wire x, which is w
+-- a state that comes from a list answers as the list says, for an edge of the wire x, which is w
 pub rules_over : (version : Version) (state : MasterState) (noted : List Edge) (pins : Pins) (holds_bus : Bool) (d : Driver) (w x : Wire) (f : Bool) (v : Option Cycle) → state ≡ master_of state.slot state.row state.handler noted → w ≡ x → is_masters x ≡ true →
     ruling_on One (local state pins holds_bus) x f v ≡ ruling_on version (over state.slot state.row state.handler noted pins holds_bus) w f v
 rules_over version state noted pins holds_bus d w x f v same is own =
@@ -55,7 +55,7 @@ guards_by_parts version s row handler noted pins holds_bus DataStrobe true v own
 guards_by_parts version s row handler noted pins holds_bus DataStrobe false v own = refl
 guards_by_parts version s row handler noted pins holds_bus w f v own = absurd (cc)
 
--- so do their guards
+-- the guards of a state that comes from a list are those over the list
 pub guards_over : (version : Version) (state : MasterState) (noted : List Edge) (pins : Pins) (holds_bus : Bool) (w x : Wire) (f : Bool) (v : Option Cycle) → state ≡ master_of state.slot state.row state.handler noted → w ≡ x → is_masters x ≡ true →
     (guard One (local state pins holds_bus) x f v).1 ≡ (guard version (over state.slot state.row state.handler noted pins holds_bus) w f v).1
 guards_over version state noted pins holds_bus w x f v same is own =

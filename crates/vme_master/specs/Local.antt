@@ -23,12 +23,12 @@ pub record MasterState : Type 0 where
   pub addr : Bool
   pub address_strobe : Bool
   pub data_strobe : Bool
-  -- its `as-` since its board's last `bbsy-`, as far as they count
+  -- its `as-` since its board's last `bbsy-`, as far as they are counted
   pub cycles : ℕ
   -- a `ds-` since its last `as-`
   pub has_strobed : Bool
 
--- the cycles of a tenure count up to an RWD requester's burst, and not at all for ROR
+-- the cycles of a tenure are counted up to an RWD requester's burst, and not at all for ROR
 abbrev pub most_cycles : Release → ℕ
 most_cycles (Done burst) = burst
 most_cycles Request = 0
@@ -53,20 +53,20 @@ is_masters AddressStrobe = true
 is_masters DataStrobe = true
 is_masters _ = false
 
--- the wires by the state
+-- the state of the wires, by the local state
 abbrev pub low : MasterState → Wire → Bool
 low m Addr = m.addr
 low m AddressStrobe = m.address_strobe
 low m DataStrobe = m.data_strobe
 low m _ = false
 
--- of its requester's wires a master is told whether BBSY* is held
+-- of its requester's wires a master is given one thing: whether its board drives BBSY* low
 abbrev pub told : (Wire → Bool) → Bool → Wire → Bool
 told own holds_bus Bbsy = holds_bus
 told own holds_bus w = own w
 
 -- what its rules read: its own wires, its pins, its board, its cycles, its data strobe, and what it
--- is told
+-- is given of its requester
 abbrev pub master_readings :
     ℕ → RequesterRow → Levels → (Wire → Bool) → ℕ → Bool → Pins → Bool → Readings
 master_readings s row handler own cycles has_strobed pins holds_bus =
@@ -93,7 +93,7 @@ over s row handler noted pins holds_bus =
     master_readings s row handler (drive noted (Slot s)) (cycles noted (Slot s))
     (has_strobed noted (Slot s)) pins holds_bus
 
--- readings that say what a master is told, whatever they say of all else
+-- readings that agree with what a master reads, whatever else they say
 pub record SayWhatIsTold (row : RequesterRow) (handler : Levels) (own : Wire → Bool)
     (cycles : ℕ) (has_strobed : Bool) (pins : Pins) (holds_bus : Bool) (r : Readings) : Type 0 where
   pub own_wires : (w : Wire) → is_masters w ≡ true → r.own w ≡ own w

@@ -1,4 +1,5 @@
-//! What a master's rules read.
+//! What a master's rules read. The function is a law: a call costs nothing, and gives the fact to
+//! the prover.
 ghost use Rattle.std.specs.Prelude.{◌≡◌, ℕ, Bool, true, Option};
 ghost use Rattle.vme_model.specs.declared.boards.RequesterRow.{RequesterRow};
 ghost use Rattle.vme_model.specs.declared.pins.Pins.{Pins};
@@ -10,8 +11,9 @@ ghost use Rattle.vme_model.specs.Readings.{Readings};
 ghost use Rattle.vme_model.specs.Verdict.{ruling_on};
 ghost use Rattle.vme_master.specs.Local.{is_masters, master_readings, SayWhatIsTold};
 
-/// Whatever readings say what a master is told have the same answer: its rules read its own wires and cycles, the
-/// interrupt lines, AS*, DTACK* and BERR*, its row, its handler and whether its board holds the bus, and nothing else.
+/// The rules of a master read its own wires and cycles, the interrupt lines, AS*, DTACK* and BERR*,
+/// its row, its handler and whether its board holds the bus, and nothing else. Any readings that
+/// agree on these have the same answer.
 pub fn reads_what_it_is_told()
     ensures { (version : Version) (s : ℕ) (row : RequesterRow) (handler : Levels)
         (own : Wire → Bool) (cycles : ℕ) (has_strobed : Bool) (pins : Pins) (holds_bus : Bool)

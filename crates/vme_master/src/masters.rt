@@ -22,7 +22,8 @@ use vme_rules::masters::{
 };
 use vme_rules::{Outcome, allowed};
 
-/// A master, as what its own edges left: which of its wires are low, and how far its cycle and its tenure have come.
+/// A master, as what its own edges left: which of its wires are low, and how far its cycle and its
+/// tenure have come. Source: Std 1014, chapter 2.
 #[derive(Clone, Copy, PartialEq, Eq, Debug)]
 pub struct Master {
     slot: u8,
@@ -63,7 +64,7 @@ impl Model for Master {
     } };
 }
 
-/// The most cycles that count in a tenure.
+/// The most cycles that are counted in a tenure.
 #[inline(always)]
 fn most_cycles(release: Release) -> u8
     ensures { result ≡ most_cycles release }
@@ -74,7 +75,8 @@ fn most_cycles(release: Release) -> u8
     }
 }
 
-/// The cycles of a tenure after one more, as far as they count: up to an RWD requester's burst, and not at all for ROR.
+/// The cycles of a tenure after one more. They are counted up to an RWD requester's burst, 1 to
+/// 255, and not at all for ROR. Source: profile.
 #[inline(always)]
 pub fn one_more(cycles: u8, release: Release) -> u8
     ensures { result
@@ -88,8 +90,8 @@ pub fn one_more(cycles: u8, release: Release) -> u8
 }
 
 impl Master {
-    /// The master of the board in a slot, with its requester's row and the interrupt levels that the board handles,
-    /// before any edge.
+    /// The master of the board in a slot, before any edge. It is given its requester's row and the
+    /// interrupt levels that the board handles.
     pub fn new(slot: u8, row: RequesterRow, handler: Levels) -> Master
         ensures { result ≡ master_of slot row handler [] }
     {
@@ -105,7 +107,8 @@ impl Master {
         }
     }
 
-    /// Whether it drives the wire low, or its address group on; only `addr`, `as` and `ds` are its own.
+    /// Whether the master drives the wire low, or its address group on. Only `addr`, `as` and `ds`
+    /// are its own; for any other wire the answer is false.
     #[inline(always)]
     pub fn is_low(&self, wire: Wire) -> bool
         ensures { result ≡ low self.now wire }
@@ -118,7 +121,8 @@ impl Master {
         }
     }
 
-    /// The rule that names an edge of its address group, and what its guard answers (G15, G19).
+    /// The number of the rule that names an edge of its address group, and what the rule's guard
+    /// answers (G15, G19).
     #[inline(always)]
     fn address_rule<A: Outcome>(
         &self,
@@ -143,7 +147,8 @@ impl Master {
         (15, guard)
     }
 
-    /// The rule that names an edge of its address strobe, and what its guard answers (G16, G20).
+    /// The number of the rule that names an edge of its address strobe, and what the rule's guard
+    /// answers (G16, G20).
     #[inline(always)]
     fn address_strobe_rule<A: Outcome>(&self, fall: bool, pins: &Pins) -> (u8, A)
         ensures number { (holds_bus : Bool) (value : OptionValue CycleValue) →
@@ -160,7 +165,8 @@ impl Master {
         }
     }
 
-    /// The rule that names an edge of its data strobe, and what its guard answers (G17, G18).
+    /// The number of the rule that names an edge of its data strobe, and what the rule's guard
+    /// answers (G17, G18).
     #[inline(always)]
     fn data_strobe_rule<A: Outcome>(&self, fall: bool, pins: &Pins) -> (u8, A)
         ensures number { (holds_bus : Bool) (value : OptionValue CycleValue) →
@@ -184,11 +190,12 @@ impl Master {
         (17, guard)
     }
 
-    /// Whether the rules G15 and G19 allow an edge of its address group, of its pins, and whether its board drives
-    /// BBSY* low.
+    /// Whether the rules G15 and G19 allow an edge of its address group. It is given its pins, and
+    /// whether its board drives BBSY* low. Source: Std 1014, chapters 2 and 4; docs/RULES.md says
+    /// which conditions are profile.
     ///
     /// # Errors
-    /// As for `may`.
+    /// E2 if the group is in that state already; otherwise E3 if the rule's guard fails.
     #[inline(always)]
     pub fn may_address(
         &self,
@@ -205,10 +212,11 @@ impl Master {
         allowed(self.address_rule(fall, value, pins, holds_bus))
     }
 
-    /// Whether the rules G16 and G20 allow an edge of its address strobe, of its pins.
+    /// Whether the rules G16 and G20 allow an edge of its address strobe, given its pins. Source:
+    /// Std 1014, chapter 2, for G16; G20 is profile.
     ///
     /// # Errors
-    /// As for `may`.
+    /// E2 if the wire is in that state already; otherwise E3 if the rule's guard fails.
     #[inline(always)]
     pub fn may_strobe_address(&self, fall: bool, pins: &Pins) -> Result<(), Refused>
         ensures { (holds_bus : Bool) (value : OptionValue CycleValue) →
@@ -221,10 +229,11 @@ impl Master {
         allowed(self.address_strobe_rule(fall, pins))
     }
 
-    /// Whether the rules G17 and G18 allow an edge of its data strobe, of its pins.
+    /// Whether the rules G17 and G18 allow an edge of its data strobe, given its pins. Source: Std
+    /// 1014, chapter 2; one strobe a cycle is profile.
     ///
     /// # Errors
-    /// As for `may`.
+    /// E2 if the wire is in that state already; otherwise E3 if the rule's guard fails.
     #[inline(always)]
     pub fn may_strobe_data(&self, fall: bool, pins: &Pins) -> Result<(), Refused>
         ensures { (holds_bus : Bool) (value : OptionValue CycleValue) →
@@ -236,13 +245,15 @@ impl Master {
         allowed(self.data_strobe_rule(fall, pins))
     }
 
-    /// Whether the rules G15 to G20 allow an edge of its own wires. That the acknowledge chain is clear at an `as-`
-    /// (S1) is not its to see.
+    /// Whether the rules G15 to G20 allow an edge of the master's own wires. S1, that the
+    /// acknowledge chain is clear at an `as-`, is not tested here, since it looks at other boards.
+    /// Source: G15 to G20 of docs/RULES.md.
     ///
-    /// It is told its pins, and whether its board drives BBSY* low.
+    /// It is given its pins, and whether its board drives BBSY* low.
     ///
     /// # Errors
-    /// E1 where the wire is none of its own, E2 where it is in that state, else E3 where the rule's guard fails.
+    /// E1 if the wire is not its own; otherwise E2 if the wire is in that state already; otherwise
+    /// E3 if the rule's guard fails.
     #[inline(always)]
     pub fn may(&self, edge: Edge, pins: Pins, holds_bus: bool) -> Result<(), Refused>
         ensures other { is_masters edge.wire ≡ false → result ≡ Err Refused.NoSuchDriver }
@@ -260,7 +271,8 @@ impl Master {
         }
     }
 
-    /// What the guard answers of the rule that names an edge of its own wires. It is told what `may` is.
+    /// What the guard of the rule that names an edge of the master's own wires answers. It is given
+    /// its pins, and whether its board drives BBSY* low. Source: G15 to G20 of docs/RULES.md.
     pub fn told<A: Outcome>(&self, edge: Edge, pins: Pins, holds_bus: bool) -> A
         ensures { (version : Version) (noted : List EdgeValue) →
             self.now ≡ master_of self.now.slot self.now.row self.now.handler noted →
@@ -277,8 +289,9 @@ impl Master {
         }
     }
 
-    /// The conditions that fail of the rule that names an edge of its own wires, in the order of its
-    /// guard. It is told what `may` is.
+    /// The conditions that fail in the rule that names an edge of the master's own wires, in the
+    /// order of its guard. It is given its pins, and whether its board drives BBSY* low. Source:
+    /// G15 to G20 of docs/RULES.md.
     pub fn failing(&self, edge: Edge, pins: Pins, holds_bus: bool) -> ArrayVec<Condition, 5>
         ensures { (version : Version) (noted : List EdgeValue) →
             self.now ≡ master_of self.now.slot self.now.row self.now.handler noted →
@@ -291,8 +304,8 @@ impl Master {
         self.told(edge, pins, holds_bus)
     }
 
-    /// Takes in an edge that was made: its own, or its board's `bbsy-`, which begins a tenure. Any other changes
-    /// nothing.
+    /// Takes in an edge that was made: its own, or its board's `bbsy-`, which begins a tenure. Any
+    /// other edge changes nothing.
     #[tactic(auto, using(crate::proofs::Counts::one_more))]
     #[inline(always)]
     pub fn note(&mut self, edge: Edge)

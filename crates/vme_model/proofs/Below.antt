@@ -22,7 +22,7 @@ not_less a b l = grind (arith, nat_tests)
 pub same_less : (a s t : ℕ) → (a < s → a < t) → (a < t → a < s) → nat_lt a s ≡ nat_lt a t
 same_less a s t f g = grind (arith, nat_tests, f, g)
 
--- two bounds with the same numbers below them
+-- two bounds that have the same numbers below them
 pub same_part : (test : ℕ → Bool) (a b n : ℕ) → ((t : ℕ) → test t ≡ true → t ≤ n → nat_lt t a ≡ nat_lt t b) → low_part test a n ≡ low_part test b n
 same_part test a b zero h = refl
 same_part test a b (suc n) h = same_head (test (suc n)) refl (same_part test a b n (λ t e l. h t e (omega arith)))
@@ -49,7 +49,7 @@ more_part test hi s (suc n) e from to above gap = ⊎_elim (λ (l : s < suc n). 
         let rest = same_part test (suc s) hi n (λ t f l'. less t (suc s) (omega arith) ∙ sym (less t hi (gap t f (omega arith)))) in
         cc (same, e, rest, less (suc n) (suc s) (omega arith), not_less (suc n) hi (omega arith))
 
--- a prefix of the numbers 1 to n, turned round
+-- the numbers 1 to n below a bound, reversed
 pub part_of : (test : ℕ → Bool) (k n : ℕ) → reverse (filter (λ t. nat_lt t k) (filter test (up_to n))) ≡ low_part test k n
 part_of test k zero = refl
 part_of test k (suc n) =
@@ -73,7 +73,7 @@ abbrev pub IsBelow : (ℕ → Bool) → ℕ → Option ℕ → Type 0
 IsBelow test s None = (t : ℕ) → test t ≡ true → t < s → ⊥
 IsBelow test s (Some p) = IsGreatest test s p
 
--- among the numbers 1 to n
+-- the greatest number below s that passes, among the numbers 1 to n
 pub record IsGreatestTo (test : ℕ → Bool) (n s p : ℕ) : Type 0 where
   pub passes : test p ≡ true
   pub below : p < s
@@ -108,7 +108,7 @@ below_to test (suc n) s = subst (λ xs. IsBelowTo test (suc n) s (find (λ t. na
     first true e false f rest r = subst (λ z. IsBelowTo test (suc n) s (cond z (Some (suc n)) (find (λ t. nat_lt t s) rest))) (sym f) (next (find (λ t. nat_lt t s) rest) (λ e'. not_lt f) r)
     first false e y f rest r = next (find (λ t. nat_lt t s) rest) (λ e'. absurd (cc (e, e'))) r
 
--- where all that passes is from 1 to n
+-- the greatest number below, if all that passes is from 1 to n
 pub is_below : (test : ℕ → Bool) (n s : ℕ) → ((t : ℕ) → test t ≡ true → (1 ≤ t) × (t ≤ n)) → IsBelow test s (find (λ t. nat_lt t s) (reverse (filter test (up_to n))))
 is_below test n s range = whole (find (λ t. nat_lt t s) (reverse (filter test (up_to n)))) (below_to test n s)
   where
@@ -129,7 +129,7 @@ contained test (suc n) s e from to = subst (λ xs. Contains xs s) (sym (filter-a
     single : s ≡ suc n → Contains (filter test (suc n ∷ [])) s
     single f = subst (λ b. Contains (if b then suc n ∷ [] else []) s) (sym (subst (λ x. test x ≡ true) f e)) (0, omega arith, sym f)
 
--- the greatest number that passes is the greatest below the end
+-- the greatest number that passes is the greatest one below the end
 pub last_of : (test : ℕ → Bool) (n m : ℕ) → n ≤ m → find (λ t. nat_lt t (suc m)) (reverse (filter test (up_to n))) ≡ find (λ s. true) (reverse (filter test (up_to n)))
 last_of test zero m l = refl
 last_of test (suc n) m l =

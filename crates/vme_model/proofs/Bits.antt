@@ -1,4 +1,4 @@
--- A sum of bits tells each bit.
+-- A sum of bits determines each bit.
 use Rattle.std.proofs.Common.{◌≡◌, ℕ, ◌+◌, ◌*◌, ◌≤◌, Bool, true, false, refl, arith}
 use Rattle.std.specs.Prelude.{if◌then◌else◌}
 

@@ -1,4 +1,4 @@
--- Tests.
+-- What tests say that hold or fail.
 use Rattle.std.proofs.Common.{◌≡◌, ℕ, Bool, true, false, Option, Some, None, refl, arith}
 use Rattle.std.specs.Prelude.{◌&&◌, not, ◌==◌, if◌then◌else◌}
 use Rattle.std.proofs.lemmas.Bool.Decides.{nat_tests}
@@ -15,7 +15,7 @@ pub not_true : (a : Bool) → not a ≡ true → a ≡ false
 not_true true h = cc
 not_true false h = refl
 
--- what a test that comes out as None passed
+-- what a test that results in None passed
 pub passed : {A : Type 0} (b : Bool) (e : A) (rest : Option A) → (if not b then Some e else rest) ≡ None → (b ≡ true) × (rest ≡ None)
 passed true e rest h = (refl, h)
 passed false e rest h = cc

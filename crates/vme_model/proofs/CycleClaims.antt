@@ -1,4 +1,4 @@
--- What the phase of the cycles says of a history, and of the edge made after it.
+-- What the phase of the cycles says about a history, and about the edge made after it.
 use Rattle.std.proofs.Common.{◌≡◌, ℕ, ◌+◌, ◌≤◌, Bool, true, false, List, [], ◌∷◌, Option, Some, None, refl, sym, ap, ◌∙◌, subst, arith}
 use Rattle.std.specs.Prelude.{◌&&◌, ◌||◌, ◌==◌, if◌then◌else◌}
 use Rattle.std.specs.Option.{option_map_or, option_and_then}
@@ -68,7 +68,7 @@ serves_same None = refl
 serves_same (Some (Acknowledge level)) = refl
 serves_same (Some (Access x)) = refl
 
--- an answer to an acknowledge is the first
+-- an answer to an acknowledge is the first since the request
 first_answer : (version : Version) (p : Plan) (h : List Edge) (s : ℕ) → has_roak p s ≡ true → (d : Driver) (w : Wire) (fall : Bool) (v : Option Cycle) → Passed version p h d w fall v → (is_fall_of (Slot s) Dtack (record { driver = d; wire = w; fall = fall; value = v }) && is_acknowledge (shown p h)) ≡ true → served_since_request p h (Slot s) Roak ≡ false
 first_answer version p h s roak (Slot u) Dtack true v a e =
     let same = same_number u s (and_left _ _ e) in

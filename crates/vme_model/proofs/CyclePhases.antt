@@ -1,5 +1,5 @@
--- The address lines, the strobes and the answers, as four phases: what holds in each, and which
--- phase each edge leads to.
+-- The address lines, the strobes and the answers, as four phases: what holds in each, and the phase
+-- to which each edge leads.
 use Rattle.std.proofs.Common.{◌≡◌, ◌≢◌, ℕ, suc, ◌<◌, ◌≤◌, Bool, true, false, List, [], ◌∷◌, Option, Some, None, refl, sym, ap, ◌∙◌, subst, arith, ⊎_elim}
 use Rattle.std.specs.Prelude.{map}
 use Rattle.std.proofs.lemmas.Bool.{cases_lt}
@@ -34,8 +34,8 @@ pub data Answer : Type 0 where
   Error : Answer
 
 -- No address strobe is low. Or slot s drives it, and no data strobe has fallen; or its data strobe
--- is low, with the segments of the acknowledge chain below slot hi, the controller's where g says
--- so; or its data strobe rose again.
+-- is low, with the segments of the acknowledge chain below slot hi, the controller's included if g
+-- is true; or its data strobe rose again.
 pub data Cyclic : Type 0 where
   Quiet : Cyclic
   Fresh : (s : ℕ) → Cyclic
@@ -57,7 +57,7 @@ module _ (on master brd : ℕ → Bool) (slots : ℕ) where
   CanAnswer (Some (Acknowledge level)) g hi t = (on t ≡ true) × (g ≡ true) × (hi ≤ t) × ((u : ℕ) → on u ≡ true → u < t → u < hi)
   CanAnswer (Some (Access x)) g hi t = t ≡ x
 
-  -- nobody may
+  -- no slot may answer
   abbrev pub NoneCan : Option Cycle → Bool → ℕ → Type 0
   NoneCan None g hi = ⊥
   NoneCan (Some (Acknowledge level)) g hi = (g ≡ true) × ((u : ℕ) → on u ≡ true → u < hi)
@@ -68,7 +68,7 @@ module _ (on master brd : ℕ → Bool) (slots : ℕ) where
   Justified sh g hi (By t) = CanAnswer sh g hi t
   Justified sh g hi Error = NoneCan sh g hi
 
-  -- at most one answers
+  -- at most one driver answers
   pub record IsAnswer (dtack : ℕ → Bool) (berr : Bool) (a : Answer) : Type 0 where
     pub dtack_by : (t : ℕ) → dtack t ≡ true → a ≡ By t
     pub berr_by : berr ≡ true → a ≡ Error
@@ -112,7 +112,7 @@ module _ (on master brd : ℕ → Bool) (slots : ℕ) where
     pub from_start : g ≡ false → hi ≡ 0
     pub iout_below : (t : ℕ) → on t ≡ true → v.iout t ≡ true → t < hi
     pub iout_each : (t : ℕ) → on t ≡ true → t < hi → v.iout t ≡ true
-    -- how the acknowledge came here
+    -- how the acknowledge reached its place
     pub acknowledged : g ≡ true → v.acknowledged ≡ v.shown
     pub passers : g ≡ true → v.passers ≡ unasked v.shown (low_part on hi slots)
     pub unanswered : g ≡ true → answer ≡ Silent → v.answered ≡ false
@@ -143,7 +143,7 @@ module _ (on master brd : ℕ → Bool) (slots : ℕ) where
   abbrev pub OneHolder : (ℕ → Bool) → Type 0
   OneHolder busy = (t u : ℕ) → busy t ≡ true → busy u ≡ true → t ≡ u
 
-  -- while an address strobe is low, it isn't high
+  -- while a cycle goes on, its master's address strobe is not high
   fresh_high : (v : CycleWires) (t : ℕ) → StrobesHigh v → IsOpen v.strobe v.group t → ⊥
   fresh_high v t high i = cc (high t i.is_master, i.strobe_low)
 
@@ -197,7 +197,7 @@ module _ (on master brd : ℕ → Bool) (slots : ℕ) where
   strobe_falls v busy strobe' strobed' s one u k l m high c o (Asking t g hi, i) = absurd (fresh_high v t high i.opened)
   strobe_falls v busy strobe' strobed' s one u k l m high c o (Done t, i) = absurd (fresh_high v t high i.opened)
 
-  -- and ends
+  -- a cycle ends
   pub strobe_rises : (v : CycleWires) (busy : ℕ → Bool) (strobe' : ℕ → Bool) (s : ℕ) → Sets strobe' v.strobe s false → v.strobe s ≡ true → v.group s ≡ false → Cycled v busy → Cycled (record v { strobe = strobe' }) busy
   strobe_rises v busy strobe' s u l e (Quiet, i) = absurd (cc (i.strobe_high s))
   strobe_rises v busy strobe' s u l e (Fresh t, i) = let f = i.opened.strobe_only s l in absurd (cc (i.group_on, f))
@@ -247,7 +247,7 @@ module _ (on master brd : ℕ → Bool) (slots : ℕ) where
         unanswered = λ h. absurd (cc);
       }
 
-  -- and rises
+  -- the data strobe rises
   pub dstrobe_rises : (v : CycleWires) (busy : ℕ → Bool) (dstrobe' : ℕ → Bool) (s : ℕ) → Sets dstrobe' v.dstrobe s false → v.dstrobe s ≡ true → Cycled v busy → Cycled (record v { dstrobe = dstrobe' }) busy
   dstrobe_rises v busy dstrobe' s u l (Quiet, i) = absurd (cc (i.dstrobe_high s))
   dstrobe_rises v busy dstrobe' s u l (Fresh t, i) = absurd (cc (i.dstrobe_high s))
@@ -266,7 +266,7 @@ module _ (on master brd : ℕ → Bool) (slots : ℕ) where
       high : (t : ℕ) (g : Bool) (hi : ℕ) → IsAsking v t g hi → (w : ℕ) → dstrobe' w ≡ false
       high t g hi i w = grind (arith, u w, i.dstrobe_only w, i.dstrobe_only s l)
 
-  -- where a low acknowledge stands
+  -- the place at which a low acknowledge stands
   pub record IsFront (g : Bool) (hi s : ℕ) : Type 0 where
     pub low : g ≡ true
     pub above : hi ≤ s
@@ -308,7 +308,7 @@ module _ (on master brd : ℕ → Bool) (slots : ℕ) where
   not_both (Some (Acknowledge level)) g hi t a b n = omega (arith, a.2, n.1 t a.0)
   not_both (Some (Access x)) g hi t a b n = cc (a, b, n)
 
-  -- nobody has answered yet where a slot that hasn't is asked
+  -- nobody has answered yet if a slot that has not answered is asked
   silent : (v : CycleWires) (m s : ℕ) (g : Bool) (hi : ℕ) (a : Answer) → v.dtack s ≡ false → brd s ≡ true → CanAnswer v.shown g hi s → ((t : ℕ) → a ≡ By t → v.dtack t ≡ true) → Justified v.shown g hi a → a ≡ Silent
   silent v m s g hi Silent d b c low j = refl
   silent v m s g hi (By t) d b c low j = let e = same_place v.shown g hi s t c j in absurd (cc (low t refl, e))
@@ -448,7 +448,7 @@ module _ (on master brd : ℕ → Bool) (slots : ℕ) where
   iack_falls v busy w h a l (Done t, i) = absurd (cc (i.dstrobe_high w))
   iack_falls v busy w h a l (Asking t g hi, i) = (Asking t true 0, iack_falls_strobed v t g hi h a i)
 
-  -- and rises, when no cycle goes on
+  -- the acknowledge chain rises, when no cycle goes on
   pub iack_rises : (v : CycleWires) (busy : ℕ → Bool) → StrobesHigh v → Cycled v busy → Cycled (record v { iack = false }) busy
   iack_rises v busy high (Quiet, i) = (Quiet, record { answer = i.answer; answers = i.answers; strobe_high = i.strobe_high; dstrobe_high = i.dstrobe_high; group_busy = i.group_busy })
   iack_rises v busy high (Fresh t, i) = absurd (fresh_high v t high i.opened)
@@ -521,7 +521,7 @@ module _ (on master brd : ℕ → Bool) (slots : ℕ) where
   given_up v busy busy' s one b off (Asking t g hi, i) = (Asking t g hi, i)
   given_up v busy busy' s one b off (Done t, i) = (Done t, i)
 
-  -- what each phase says
+  -- what each phase says about the address lines and the answers
   pub one_group : (v : CycleWires) (busy : ℕ → Bool) (s t : ℕ) → OneHolder busy → v.group s ≡ true → v.group t ≡ true → Cycled v busy → s ≡ t
   one_group v busy s t one a b (Quiet, i) = one s t (i.group_busy s a) (i.group_busy t b)
   one_group v busy s t one a b (Fresh m, i) = i.opened.group_only s a ∙ sym (i.opened.group_only t b)

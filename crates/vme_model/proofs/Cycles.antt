@@ -119,7 +119,7 @@ one_holder version p h now s t a b = holds_once (on p) p.slots (is_two version) 
 self : (n : ℕ) → (n == n) ≡ true
 self n = grind (arith, nat_tests)
 
--- the strobes of the masters where a line is high
+-- the masters' strobes are high if the line is high
 pub strobes_high : (p : Plan) → IsInRange p → (h : List Edge) → line p h AddressStrobe ≡ false → (t : ℕ) → masters p t ≡ true → drive h (Slot t) AddressStrobe ≡ false
 strobes_high p range h e t m = line_high p range h AddressStrobe e t m
 

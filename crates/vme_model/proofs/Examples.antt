@@ -1,6 +1,6 @@
 -- Why the rules are needed: histories that break a claim, although all of their edges but one are
--- allowed. That one is refused by the rule named; were it allowed too, the list would be legal and
--- not safe.
+-- allowed. That one is refused by the rule named; if it were allowed too, the list would be legal
+-- and not safe.
 use Rattle.std.proofs.Common.{◌≡◌, ◌⊎◌, ℕ, zero, suc, ◌++◌, Bool, true, false, List, [], ◌∷◌, Option, Some, None, Ok, refl, sym, ◌∙◌, subst, arith, inl, inr, map}
 use Rattle.std.specs.List.{Contains}
 use Rattle.vme_model.specs.declared.boards.Row.{Row}
@@ -156,7 +156,7 @@ different e = cc
 access_answered_twice : OneAnswers (fall (Slot 1) Dtack ∷ fall Controller Berr ∷ before_error_of_an_access) → ⊥
 access_answered_twice f = different (f Controller (Slot 1) refl refl)
 
--- S2: the same with an acknowledge
+-- S2 with an acknowledge
 abbrev before_error_of_an_acknowledge : List Edge
 before_error_of_an_acknowledge = fall Controller Iack ∷ fall (Slot 1) DataStrobe ∷ fall (Slot 1) AddressStrobe ∷ shows 1 (Acknowledge 4) ∷ fall (Slot 1) Bbsy ∷ fall Controller (Bg 3) ∷ fall (Slot 1) Br ∷ fall (Slot 2) Irq ∷ []
 
@@ -242,7 +242,7 @@ run_begins_late f = go (f 3 (Some 1) refl (record { part = (omega arith, (0, ome
     go (inl l) = never l.low
     go (inr w) = never w.1
 
--- G2: the same in the first version
+-- G2 in the first version
 time_out : AreOthersAllowed One one_level before_time_out_of_a_travelling_grant (rise Controller (Bg 3)) []
 time_out = record { accepted = refl; before = (refl, (refl, (refl, tt))); after = tt }
 

@@ -18,7 +18,7 @@ use Rattle.vme_model.specs.Verdict.{State, Judgement, check, is_other_state, ver
 use Rattle.vme_model.specs.Failing.{refused_for, unmet, unmet_but_full, all_asked, first_failed, tested_for, tested, tested_but_full}
 use Rattle.vme_model.proofs.Guards.{all_held, none_failed}
 
--- one condition, where it is the one that is asked
+-- the failing condition, if only one condition is asked
 alone_of_one : (c : Condition) (b : Bool) (rest : List Condition) → (if b then rest else c ∷ []) ≡ (if b then rest else (if b then [] else c ∷ []))
 alone_of_one c true rest = refl
 alone_of_one c false rest = refl
@@ -84,7 +84,7 @@ module _ (version : Version) (p : Plan) (h : List Edge) (e : Edge) where
       ∙ ap (λ t. if holds settles then t else failed settles) (
       told x TraceFull (Ok tt) ∙ alone_of_one HasRoom x []))))
 
-  -- of what is tested, the same conditions fail
+  -- among all that is tested, the same conditions fail
   none_before : (c : Bool) (xs : List Condition) → (c ≡ true → failed ruled ≡ []) → c ≡ true → failed ruled ++ xs ≡ xs
   none_before c xs held is = ap (λ t. t ++ xs) (held is)
 

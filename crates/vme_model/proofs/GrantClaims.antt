@@ -1,4 +1,4 @@
--- What the phase of the grants says of a history, and of the edge made after it.
+-- What the phase of the grants says about a history, and about the edge made after it.
 use Rattle.std.proofs.Common.{◌≡◌, ◌⊎◌, ℕ, zero, suc, ◌<◌, Bool, true, false, List, Option, Some, None, sym, ap, ◌∙◌, subst, arith, inl, inr}
 use Rattle.std.specs.Prelude.{nat_lt, reverse, filter}
 use Rattle.vme_model.specs.declared.signals.Version.{Version}

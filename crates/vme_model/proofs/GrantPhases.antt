@@ -1,4 +1,4 @@
--- The grant chains, as four phases: what holds in each, and which phase each edge leads to.
+-- The grant chains, as four phases: what holds in each, and the phase to which each edge leads.
 use Rattle.std.proofs.Common.{◌≡◌, ◌≢◌, ◌⊎◌, ℕ, zero, suc, ◌+◌, ◌-◌, ◌<◌, ◌≤◌, Bool, true, false, List, [], ◌∷◌, Option, Some, None, refl, sym, ap, ◌∙◌, subst, arith, inl, inr, ⊎_elim}
 use Rattle.std.specs.Prelude.{◌&&◌, nat_lt, if◌then◌else◌, map}
 use Rattle.std.proofs.lemmas.Bool.{cases_lt}
@@ -19,14 +19,14 @@ pub record GrantWires : Type 0 where
   -- a slot of the level gave its request up since the last grant, without the bus
   pub withdrawn : ℕ → Bool
 
--- new is old but for v at s
+-- new is old except for v at s
 abbrev pub Sets : (new old : ℕ → Bool) → ℕ → Bool → Type 0
 Sets new old s v = (t : ℕ) → ((t ≡ s) × (new t ≡ v)) ⊎ ((t ≢ s) × (new t ≡ old t))
 
 -- No grant is low, and nobody holds the bus. Or the controller's segment of chain c is low, with
 -- those of its slots below hi. Or slot k of chain c holds the bus, and the segments from lo up to
--- it are low, with the controller's where g says so. Or, in the second version, the controller took
--- the grant of chain c back, and the segments from lo on are low.
+-- it are low, the controller's included if g is true. Or, in the second version, the controller
+-- took the grant of chain c back, and the segments from lo on are low.
 pub data Phase : Type 0 where
   Idle : Phase
   Granting : (c hi : ℕ) → Phase
@@ -68,7 +68,7 @@ module _ (on : ℕ → ℕ → Bool) (slots : ℕ) (two : Bool) where
     pub out_high : (s : ℕ) → v.out s ≡ false
     pub free : (s : ℕ) → v.busy s ≡ false
 
-  -- somebody above the front waits
+  -- a board at or above the front waits
   pub record IsWanted (v : GrantWires) (c hi : ℕ) : Type 0 where
     pub waiter : ℕ
     pub waiter_on : on c waiter ≡ true
@@ -88,7 +88,7 @@ module _ (on : ℕ → ℕ → Bool) (slots : ℕ) (two : Bool) where
     pub out_each : (s : ℕ) → on c s ≡ true → s < hi → v.out s ≡ true
     pub free : (s : ℕ) → v.busy s ≡ false
     pub wanted : IsWanted v c hi ⊎ IsWithdrawn v c
-    -- how the grant came here
+    -- how the grant reached its place
     pub granted : v.granted ≡ Some c
     pub untaken : v.taken ≡ false
     pub passers : v.passers ≡ quiet (low_part (on c) hi slots)
@@ -140,13 +140,13 @@ module _ (on : ℕ → ℕ → Bool) (slots : ℕ) (two : Bool) where
   idle_low v m None i low = cc (i.bg_high m)
   idle_low v m (Some p) i low = cc (i.out_high p)
 
-  -- while a grant goes on, where a low grant-in stands
+  -- while a grant goes on, the place at which a low grant-in stands
   granting_low : OneChain → (v : GrantWires) (c hi m s : ℕ) (found : Option ℕ) → IsBelow (on m) s found → IsGranting v c hi → segment_of v m found ≡ true → (m ≡ c) × ((t : ℕ) → on m t ≡ true → t < s → t < hi)
   granting_low one v c hi m s None b i low = (i.bg_only m low, λ t w l. absurd (b t w l))
   granting_low one v c hi m s (Some p) b i low =
       (one m c p b.passes (i.out_on p low), λ t w l. omega (arith, b.greatest t w l, i.out_below p low))
 
-  -- and where a high one does
+  -- while a grant goes on, the place at which a high grant-in stands
   granting_high : (v : GrantWires) (c hi s : ℕ) (found : Option ℕ) → IsBelow (on c) s found → IsGranting v c hi → segment_of v c found ≡ false → hi < s
   granting_high v c hi s None b i high = absurd (cc i.bg_low)
   granting_high v c hi s (Some p) b i high = past p b i high
@@ -180,7 +180,7 @@ module _ (on : ℕ → ℕ → Bool) (slots : ℕ) (two : Bool) where
       go : (m ≡ c) × (lo ≤ s) × (s ≤ k) → on m s ≡ true → s ≡ k
       go f w = grind (arith, f.0, f.1, f.2, i.out_each s)
 
-  -- and none stands anywhere after that
+  -- once a grant has timed out, none stands anywhere
   expired_some : OneChain → (v : GrantWires) (c lo m s p : ℕ) → IsGreatest (on m) s p → on m s ≡ true → v.out p ≡ true → v.out s ≡ false → IsExpired v c lo → ⊥
   expired_some one v c lo m s p b o low high i =
       let e = one m c p b.passes (i.out_on p low) in
@@ -227,7 +227,7 @@ module _ (on : ℕ → ℕ → Bool) (slots : ℕ) (two : Bool) where
       gone : (s : ℕ) → v.out s ≡ true → ⊥
       gone s h = cc (clear i.version c s (i.out_on s h), h)
 
-  -- and takes the grant back
+  -- the controller takes the grant back
   grant_rises_held : (v : GrantWires) (bg' : ℕ → Bool) (n c k lo : ℕ) (g : Bool) → Sets bg' v.bg n false → v.bg n ≡ true → IsHeld v c k lo g → IsHeld (record v { bg = bg' }) c k lo false
   grant_rises_held v bg' n c k lo g u e i = record {
     member = i.member;
@@ -276,7 +276,7 @@ module _ (on : ℕ → ℕ → Bool) (slots : ℕ) (two : Bool) where
   grant_rises one within v bg' n found u e b (Held c k lo g, i) = (Held c k lo false, grant_rises_held v bg' n c k lo g u e i)
   grant_rises one within v bg' n found u e b (Expired c lo, i) = absurd (cc (i.bg_high n))
 
-  -- slot s asks
+  -- slot s requests the bus
   asks_wanted : (v : GrantWires) (br' : ℕ → Bool) (s c hi : ℕ) → Sets br' v.br s true → IsWanted v c hi ⊎ IsWithdrawn v c → IsWanted (record v { br = br' }) c hi ⊎ IsWithdrawn (record v { br = br' }) c
   asks_wanted v br' s c hi u (inl w) = inl (record { waiter = w.waiter; waiter_on = w.waiter_on; waiter_above = w.waiter_above; waits = grind (arith, u w.waiter, w.waits) })
   asks_wanted v br' s c hi u (inr w) = inr (record { version = w.version; withdrew = w.withdrew })
@@ -316,7 +316,7 @@ module _ (on : ℕ → ℕ → Bool) (slots : ℕ) (two : Bool) where
   )
   asks v br' s u (Expired c lo, i) = (Expired c lo, record { version = i.version; few = i.few; bg_high = i.bg_high; out_on = i.out_on; out_above = i.out_above; out_each = i.out_each; free = i.free })
 
-  -- slot s asks no longer: it holds the bus, or withdraws
+  -- slot s ends its request: it holds the bus, or withdraws
   withdraws : (v : GrantWires) (br' withdrawn' : ℕ → Bool) (s c hi : ℕ) → two ≡ true → Sets br' v.br s false → (on c s ≡ true → withdrawn' c ≡ true) → (v.withdrawn c ≡ true → withdrawn' c ≡ true) → IsWanted v c hi ⊎ IsWithdrawn v c → IsWanted (record v { br = br'; withdrawn = withdrawn' }) c hi ⊎ IsWithdrawn (record v { br = br'; withdrawn = withdrawn' }) c
   withdraws v br' withdrawn' s c hi e u a b (inr w) = inr (record { version = e; withdrew = b w.withdrew })
   withdraws v br' withdrawn' s c hi e u a b (inl w) = ⊎_elim
@@ -396,7 +396,7 @@ module _ (on : ℕ → ℕ → Bool) (slots : ℕ) (two : Bool) where
       let e = held_front one v c k lo m s g found b low high i in absurd (cc (i.holds, e))
   passes_on one within v out' passers' m s found b u tr low high asks free (Expired c lo, i) = absurd (expired_front one v c lo m s found b low high i)
 
-  -- and its segment rises after the grant
+  -- the segment of slot s rises after the grant
   rises_held : OneChain → (v : GrantWires) (out' : ℕ → Bool) (c k lo m s : ℕ) (g : Bool) (found : Option ℕ) → IsAt m s found → Sets out' v.out s false → segment_of v m found ≡ false → v.out s ≡ true → IsHeld v c k lo g → IsHeld (record v { out = out' }) c k (suc s) false
   rises_held one v out' c k lo m s g found b u high low i = go (one m c s b.member (i.out_on s low))
     where
@@ -475,7 +475,7 @@ module _ (on : ℕ → ℕ → Bool) (slots : ℕ) (two : Bool) where
       let e = held_front one v c k lo m s g found b low high i in absurd (cc (i.holds, e))
   takes one v busy' taken' m s found b u low high free (Expired c lo, i) = absurd (expired_front one v c lo m s found b low high i)
 
-  -- and gives it up, when every segment is high
+  -- slot s gives the bus up, when every segment is high
   nothing_low : OneChain → (v : GrantWires) (c k lo m s : ℕ) (g : Bool) (found : Option ℕ) → IsAt m s found → segment_of v m found ≡ false → v.busy s ≡ true → IsHeld v c k lo g → ((n : ℕ) → v.bg n ≡ false) × ((t : ℕ) → v.out t ≡ false)
   nothing_low one v c k lo m s g found b high held i = go (i.only s held)
     where
@@ -497,7 +497,7 @@ module _ (on : ℕ → ℕ → Bool) (slots : ℕ) (two : Bool) where
   leaves_clear one v m s found b high held (Held c k lo g, i) = nothing_low one v c k lo m s g found b high held i
   leaves_clear one v m s found b high held (Expired c lo, i) = absurd (cc (i.free s))
 
-  -- nobody else holds the bus
+  -- no other slot holds the bus
   pub free_after : (v : GrantWires) (busy' : ℕ → Bool) (s : ℕ) → Sets busy' v.busy s false → v.busy s ≡ true → Phased v → (t : ℕ) → busy' t ≡ false
   free_after v busy' s u held (Idle, i) t = absurd (cc (i.free s))
   free_after v busy' s u held (Granting c hi, i) t = absurd (cc (i.free s))
@@ -598,7 +598,7 @@ module _ (on : ℕ → ℕ → Bool) (slots : ℕ) (two : Bool) where
       at_end (Some s) None b w low = absurd (b s w (omega (arith, (within n s w).1)))
       at_end (Some s) (Some p) b w low = i.out_each p (subst (λ y. on y p ≡ true) (one n c s w (i.out_on s low)) b.passes) (omega (arith, b.greatest s w (omega (arith, (within n s w).1)), i.out_above s low))
 
-  -- where a grant stands and who waits for it
+  -- the slot at which a grant stands, and the board that waits for it
   pub record Found (v : GrantWires) (n : ℕ) (before : ℕ → Option ℕ) : Type 0 where
     pub slot : ℕ
     pub waiter : ℕ
@@ -660,7 +660,7 @@ module _ (on : ℕ → ℕ → Bool) (slots : ℕ) (two : Bool) where
       go : (c : ℕ) → n ≡ c → IsGranting v c hi → ((s : ℕ) × Stands v n s (before s)) ⊎ (segment_of v n last ≡ true)
       go c f i = stands_or_ends_granting v n hi before last b e (subst (λ x. IsGranting v x hi) (sym f) i)
 
-  -- what a take tells
+  -- what a take says about the grant before it
   pub record Rightful (v : GrantWires) (m k : ℕ) : Type 0 where
     pub granted : v.granted ≡ Some m
     pub untaken : v.taken ≡ false
@@ -688,7 +688,7 @@ module _ (on : ℕ → ℕ → Bool) (slots : ℕ) (two : Bool) where
       let e = held_front one v c k lo m s g found b low high i in absurd (cc (i.holds, e))
   rightful one v m s found b low high free (Expired c lo, i) = absurd (expired_front one v c lo m s found b low high i)
 
-  -- in the first version every segment is high where a grant may begin
+  -- in the first version every segment is high if a grant may begin
   pub clear_before : two ≡ false → (v : GrantWires) → ((m : ℕ) → m < 4 → v.bg m ≡ false) → ((m s : ℕ) → on m s ≡ true → v.busy s ≡ false) → Phased v → (s : ℕ) → v.out s ≡ false
   clear_before e v high free (Idle, i) s = i.out_high s
   clear_before e v high free (Granting c hi, i) s = absurd (cc (high c i.few, i.bg_low))

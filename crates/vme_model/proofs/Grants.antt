@@ -44,17 +44,17 @@ grant_wires p h = record {
 abbrev pub Now : Version → Plan → List Edge → Type 0
 Now version p h = Phased (on p) p.slots (is_two version) (grant_wires p h)
 
--- the bus is free where BBSY* is high
+-- the bus is free if BBSY* is high
 pub all_free : (p : Plan) → IsInRange p → (h : List Edge) → line p h Bbsy ≡ false → (m s : ℕ) → on p m s ≡ true → drive h (Slot s) Bbsy ≡ false
 all_free p range h e m s o = is_false (drive h (Slot s) Bbsy) (λ b. cc (e, line_low p range h m s o b))
 
--- somebody holds it where BBSY* is low
+-- somebody holds the bus if BBSY* is low
 pub holder : (p : Plan) → IsInRange p → (h : List Edge) → line p h Bbsy ≡ true → (s : ℕ) × (drive h (Slot s) Bbsy ≡ true)
 holder p range h e =
     let r = some_row (pulls_line h Bbsy) (IsRowInRange p) p.rows range.rows e in
     (r.0.slot, and_right _ _ r.1)
 
--- somebody waits where a request line is low
+-- somebody waits if a request line is low
 waiter : (p : Plan) → IsInRange p → (h : List Edge) (n : ℕ) → request_line p h n ≡ true → (s : ℕ) × (on p n s ≡ true) × (drive h (Slot s) Br ≡ true)
 waiter p range h n e =
     let r = some_row (pulls_request h n) (IsRowInRange p) p.rows range.rows e in

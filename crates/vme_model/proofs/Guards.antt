@@ -1,4 +1,4 @@
--- A guard holds exactly where none of its conditions fails.
+-- A guard holds exactly if none of its conditions fails.
 use Rattle.std.proofs.Common.{◌≡◌, ◌∙◌, Bool, true, false, List, [], ◌∷◌, ◌++◌, refl, ap, ap₂}
 use Rattle.std.specs.Prelude.{◌&&◌, ◌||◌, ◌↔◌, not, if◌then◌else◌, map, filter}
 use Rattle.std.specs.List.{list_all}

@@ -6,11 +6,11 @@ pub mod Guards
 pub mod Failing
 -- the slots of a chain below a bound
 pub mod Below
--- what an accepted plan says of its rows
+-- what an accepted plan says about its rows
 pub mod Ranges
 -- the four phases of the grant chains, and which edge leads to which
 pub mod GrantPhases
--- what a plan in range says of its slots
+-- what a plan in range says about its slots
 pub mod Members
 -- what an edge that is allowed has passed
 pub mod AllowedEdges
@@ -28,7 +28,7 @@ pub mod Cycles
 pub mod CycleClaims
 -- `legal_list_is_safe` and `legal_list_is_orderly`
 pub mod Safety
--- a sum of bits tells each bit: sets of levels are equal by their bits
+-- a sum of bits determines each bit: sets of levels are equal by their bits
 pub mod Bits
 -- `verdict_is_local`
 pub mod Local
@@ -46,5 +46,5 @@ pub mod Numbers
 pub mod Reasons
 -- `bus_stands_where_it_is_told` and `accesses_are_open_alike`
 pub mod Standing
--- what is told of edges and of a bus, to the byte: examples, computed
+-- what is reported of edges and of a bus, to the byte: examples, computed
 pub mod TextExamples

@@ -55,7 +55,7 @@ folds p d F G z i (e ∷ h) l = go (is_same_driver e.driver d) refl (folds p d F
     go true f r = i.takes e h ∙ ap (G e (pins p h d)) r
     go false f r = i.skips e h (and_left (is_well_formed e) _ l) f ∙ r
 
--- is the same in histories with the same own edges
+-- the value is the same in histories with the same own edges
 same_own : {A : Type 0} (p : Plan) (d : Driver) (F : List Edge → A) (G : Edge → Pins → A → A) (z : A) → IsOwn p d F G z → (h k : List Edge) → AreWellFormed h → AreWellFormed k → noted p h d ≡ noted p k d → F h ≡ F k
 same_own p d F G z i h k l m e = folds p d F G z i h l ∙ ap (fold_own G z) e ∙ sym (folds p d F G z i k m)
 
@@ -203,7 +203,7 @@ all_drives p h k d l m e = fun_ext (λ w. same_own p d (λ h. drive h d w) _ fal
 same_served : (p : Plan) (h k : List Edge) (d : Driver) → AreWellFormed h → AreWellFormed k → noted p h d ≡ noted p k d → is_served p h d ≡ is_served p k d
 same_served p h k d l m e = ap (λ f. option_map_or (λ r. option_map_or (λ i. f i.kind) r.interrupter false) (board_of p d) false) (fun_ext (λ kind. same_own p d (λ h. served_since_request p h d kind) _ false (own_served p d kind) h k l m e))
 
--- the same but for the level last granted
+-- the rule is the same in both histories, if the level last granted is the same
 same_but_last : (version : Version) (p : Plan) → IsInRange p → (h k : List Edge) (d : Driver) (w : Wire) (fall : Bool) (v : Option Cycle) (last : ℕ) → AreWellFormed h → AreWellFormed k → noted p h d ≡ noted p k d → pins p h d ≡ pins p k d → rule version (record (readings p h d) { last_level = last }) w fall v ≡ rule version (record (readings p k d) { last_level = last }) w fall v
 same_but_last version p range h k d w fall v last l m e t =
     let row = board_of p d in

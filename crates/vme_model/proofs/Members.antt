@@ -1,4 +1,4 @@
--- What a plan in range says of its slots.
+-- What a plan in range says about its slots.
 use Rattle.std.proofs.Common.{◌≡◌, ℕ, zero, suc, ◌<◌, ◌≤◌, Bool, true, false, List, [], ◌∷◌, Option, Some, None, refl, sym, ap, ◌∙◌, subst, arith}
 use Rattle.std.specs.Prelude.{◌&&◌, ◌||◌, ◌==◌, if◌then◌else◌, filter, find, is_some}
 use Rattle.std.specs.List.{list_any, All, Contains}
@@ -22,7 +22,7 @@ use Rattle.vme_model.proofs.GrantPhases.{IsAt}
 abbrev pub on : Plan → ℕ → ℕ → Bool
 on p n s = option_map_or (requests_on n) (board p s) false
 
--- some row passes where the line is low
+-- some row passes if the line is low
 some_row_of : (f : Row → Bool) (P : Row → Type 0) (row : Row) (b rest : Bool) → f row ≡ b → (b || rest) ≡ true → P row → (rest ≡ true → (row : Row) × (f row ≡ true) × P row) → (row : Row) × (f row ≡ true) × P row
 some_row_of f P row true rest e h a next = (row, e, a)
 some_row_of f P row false rest e h a next = next h

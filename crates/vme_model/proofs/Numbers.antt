@@ -1,5 +1,5 @@
--- Numbered edges are those that are kept, each at its number, and what is so has the edge since which
--- it is.
+-- The numbered edges are the accepted ones, each at its number, and what holds has the edge since
+-- which it holds.
 use Rattle.std.proofs.Common.{◌≡◌, ◌∙◌, ℕ, suc, ◌+◌, Bool, true, false, List, [], ◌∷◌, Option, Some, None, refl, sym, ap, subst, arith}
 use Rattle.std.specs.Prelude.{◌&&◌, ◌||◌, if◌then◌else◌, is_ok, is_some, slice_get}
 use Rattle.std.specs.List.{All}

@@ -32,7 +32,7 @@ here x xs = (0, omega arith, refl)
 pub there : {X : Type 0} (y x : X) (xs : List X) → Contains xs x → Contains (y ∷ xs) x
 there y x xs c = Contains-append_right (y ∷ []) xs x c
 
--- what a list has, stands in what is made of it
+-- what stands in a list stands, mapped, in the mapped list
 pub by_map : {X Y : Type 0} (f : X → Y) (xs : List X) (x : X) → Contains xs x → Contains (map f xs) (f x)
 by_map f [] x c = let lt = c.1 in absurd (omega arith)
 by_map f (y ∷ xs) x (zero, lt, is) = subst (λ z. Contains (f y ∷ map f xs) (f z)) is (here (f y) (map f xs))
@@ -167,7 +167,8 @@ no_value Irq fall (Some c) a e = cc
 no_value IackOut fall (Some c) a e = cc
 no_value Dtack fall (Some c) a e = cc
 
--- an edge to its wire's other state, with a value where one belongs, is one of the wire's moves
+-- an edge to its wire's other state, with a value exactly if one belongs there, is one of the
+-- wire's moves
 is_move : (h : List Edge) (d : Driver) (w : Wire) (fall : Bool) (v : Option Cycle) → has_value w fall v ≡ true → drive h d w ≡ not fall → Contains (moves h d w) (edge d w fall v)
 is_move h d (Bg n) fall v e before = is_plain h d (Bg n) fall v (no_value (Bg n) fall v refl e) before
 is_move h d Bclr fall v e before = is_plain h d Bclr fall v (no_value Bclr fall v refl e) before

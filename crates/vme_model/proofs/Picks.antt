@@ -1,5 +1,5 @@
 -- Which level a policy picks, by the four request lines: the laws that each policy gives, and what
--- follows of every one.
+-- follows for every policy.
 use Rattle.std.proofs.Common.{◌≡◌, refl, sym, ap, subst, ℕ, zero, suc, ◌%◌, ◌<◌, ◌==◌, Bool, true, false, List, [], ◌∷◌, arith}
 use Rattle.std.specs.Prelude.{Option, Some, None, find, ◌&&◌, ◌||◌, not, nat_le, nat_lt, if◌then◌else◌}
 use Rattle.std.specs.List.{list_all}
@@ -51,11 +51,11 @@ same (Some m) (Some n) e = ap (λ x. Some x) (same_number m n e)
 same None (Some n) e = cc
 same (Some m) None e = cc
 
--- a level passes the test exactly where it is the one that is found
+-- a level passes the test exactly if it is the one that is found
 abbrev agrees : (ℕ → Bool) → Option ℕ → ℕ → Bool
 agrees test found n = if option_map_or (λ m. m == n) found false then test n else not (test n)
 
--- one level at most passes the test, and where none does, none that is served is low
+-- at most one level passes the test, and if none does, no served level is low
 abbrev pub settles : (ℕ → Bool) → (ℕ → Bool) → (ℕ → Bool) → Bool
 settles test served low =
     list_all (agrees test (find test bus_numbers)) bus_numbers
@@ -210,7 +210,7 @@ pub pick_is_low : (kind : ArbiterKind) (low : ℕ → Bool) (last n : ℕ) →
 pick_is_low kind low last n e =
     (laws_of kind).is_low low last n (found (is_pick kind low last) bus_numbers n e)
 
--- what holds of the four holds of each
+-- what holds for all four levels holds for each of them
 pub at_four : (t : ℕ → Bool) (n : ℕ) → n < 4 → list_all t bus_numbers ≡ true → t n ≡ true
 at_four t zero l e = and_left _ _ e
 at_four t (suc zero) l e = and_left _ _ (and_right (t 0) _ e)
@@ -225,7 +225,7 @@ agreed false false e = refl
 agreed true false e = cc
 agreed false true e = cc
 
--- a level passes the policy's test exactly where it is the pick
+-- a level passes the policy's test exactly if it is the pick
 pub one_pick : (kind : ArbiterKind) (low : ℕ → Bool) (last n : ℕ) → n < 4 →
     is_pick kind low last n ≡ option_map_or (λ m. m == n) (pick kind low last) false
 one_pick kind low last n l =
@@ -233,7 +233,7 @@ one_pick kind low last n l =
     let agree : ℕ → Bool = agrees (is_pick kind low last) (pick kind low last) in
     agreed _ _ (at_four agree n l (and_left _ _ settled))
 
--- the same lines, the same pick
+-- the pick is the same if the lines are the same
 pub pick_by_lines : (kind : ArbiterKind) (low high : ℕ → Bool) (last : ℕ) →
     low 0 ≡ high 0 → low 1 ≡ high 1 → low 2 ≡ high 2 → low 3 ≡ high 3 →
     pick kind low last ≡ pick kind high last
@@ -259,7 +259,7 @@ not_both true true e s = cc
 not_both true false e s = refl
 not_both false c e s = cc
 
--- where none is picked, no level that the policy serves is low
+-- if none is picked, no level that the policy serves is low
 pub none_low : (kind : ArbiterKind) (low : BusLevels) (last n : ℕ) →
     pick kind (has_bus_level low) last ≡ None → serves kind n ≡ true → has_bus_level low n ≡ false
 none_low kind low last n e s =

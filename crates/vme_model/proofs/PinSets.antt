@@ -80,11 +80,11 @@ pick_bus s t n l e = agreed (s n) (t n) (at_four (at_place s t) n l e)
 pub has_bus : (low : ℕ → Bool) (n : ℕ) → n < 4 → has_bus_level (bus_levels low) n ≡ low n
 has_bus low n l = pick_bus (has_bus_level (bus_levels low)) low n l (bus_all (low 0) (low 1) (low 2) (low 3))
 
--- looking through a list goes on alike where the test is the same at its head
+-- the search of a list goes on alike if the test is the same at its head
 find_cons : {A : Type 0} (s t : A → Bool) (x : A) (xs : List A) → s x ≡ t x → find s xs ≡ find t xs → find s (x ∷ xs) ≡ find t (x ∷ xs)
 find_cons {A} s t x xs e f = cc
 
--- what a handler wants of the pins is what it wants of the lines
+-- a handler wants the same level by the pins as by the lines
 pub wanted_of_pins : (handled : Levels) (low : ℕ → Bool) → find (λ v. has_level handled v && has_level (irq_levels low) v) irq_descending ≡ find (λ v. has_level handled v && low v) irq_descending
 wanted_of_pins handled low =
     let s = λ (v : ℕ). has_level handled v && has_level (irq_levels low) v in
@@ -98,7 +98,7 @@ wanted_of_pins handled low =
     (find_cons s t 2 (1 ∷ []) (at 2 (omega arith) (omega arith))
     (find_cons s t 1 [] (at 1 (omega arith) (omega arith)) refl))))))
 
--- what a policy picks by the pins is what it picks by the lines
+-- a policy picks the same level by the pins as by the lines
 pub pick_of_pins : (kind : ArbiterKind) (low : ℕ → Bool) (last : ℕ) → pick kind (has_bus_level (bus_levels low)) last ≡ pick kind low last
 pick_of_pins kind low last =
     pick_by_lines kind (has_bus_level (bus_levels low)) low last (has_bus low 0 (omega arith)) (has_bus low 1 (omega arith)) (has_bus low 2 (omega arith)) (has_bus low 3 (omega arith))

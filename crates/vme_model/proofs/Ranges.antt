@@ -1,4 +1,4 @@
--- What an accepted plan says of its rows.
+-- What an accepted plan says about its rows.
 use Rattle.std.proofs.Common.{◌≡◌, ◌⊎◌, ℕ, zero, suc, ◌<◌, ◌≤◌, Bool, true, false, List, [], ◌∷◌, ◌++◌, Option, Some, None, refl, sym, ap, ◌∙◌, subst, arith, ⊎_elim, length, map}
 use Rattle.std.specs.Prelude.{◌&&◌, not, ◌==◌, nat_lt, nat_le, if◌then◌else◌, filter, find, option_map}
 use Rattle.std.specs.List.{All}
@@ -17,7 +17,7 @@ use Rattle.vme_model.specs.Signals.{is_level}
 use Rattle.vme_model.specs.Sets.{bits_of_levels}
 use Rattle.vme_model.specs.Accepted.{IsAccepted, first_of, when, is_within, has_no_burst, row_range, jumper_range, out_of_range, too_many_slots, no_controller, slot_twice, namings}
 
--- the row is the board of a slot of the backplane, and its levels are ones that there are
+-- the row is the board of a slot of the backplane, and its levels exist
 pub record IsRowInRange (p : Plan) (r : Row) : Type 0 where
   pub from_one : 1 ≤ r.slot
   pub to_last : r.slot ≤ p.slots
@@ -130,7 +130,7 @@ each_named (row ∷ rows) = All-cons (λ r. 1 ≤ times (row.slot ∷ slots_of r
     (omega (arith, times_here row.slot row.slot (slots_of rows) (self row.slot)))
     (All-weaker (λ r. 1 ≤ times (slots_of rows) r.slot) (λ r. 1 ≤ times (row.slot ∷ slots_of rows) r.slot) (λ r n. omega (arith, n, times_tail row.slot r.slot (slots_of rows))) rows (each_named rows))
 
--- a row that no other names the slot of is its slot's board
+-- a row whose slot no other row names is its slot's board
 abbrev IsAlone : List Row → Row → Type 0
 IsAlone rows r = times (slots_of rows) r.slot ≤ 1 → row_in rows r.slot ≡ Some r
 
@@ -182,7 +182,7 @@ rows_named p s =
 few : (n : ℕ) → nat_lt 21 n ≡ false → n ≤ 21
 few n e = grind (arith, nat_tests, e)
 
--- what is left of the tests after that of each field's range
+-- what is left of the tests after the tests of each field's range
 past_ranges : (p : Plan) → IsAccepted p → (slot_twice p ≡ None)
 past_ranges p e =
     let a = first_none (too_many_slots p) _ e in

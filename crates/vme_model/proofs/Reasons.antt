@@ -1,4 +1,4 @@
--- What is told of an edge fails exactly where the edge is refused.
+-- A condition that is reported for an edge fails exactly if the edge is refused.
 use Rattle.std.proofs.Common.{◌≡◌, ◌∙◌, Bool, true, false, Ok, Err, refl, sym, ap}
 use Rattle.std.specs.Prelude.{◌↔◌, is_ok}
 use Rattle.std.specs.List.{list_all}
@@ -18,7 +18,7 @@ accepted_is (Ok tt) c there back = sym (there refl)
 accepted_is (Err r) true there back = absurd (let bad = back refl in cc)
 accepted_is (Err r) false there back = refl
 
--- what is tested of an edge holds exactly where the edge is accepted
+-- what is tested for an edge holds exactly if the edge is accepted
 tested_holds : (b : State) (e : Edge) → is_ok (verdict b e) ≡ holds (tested b e)
 tested_holds b e =
     accepted_is (verdict b e) (holds (tested b e))

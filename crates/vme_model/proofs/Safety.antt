@@ -20,7 +20,7 @@ each_prefix : (version : Version) (p : Plan) (P : List Edge → Type 0) → ((h 
 each_prefix version p P f [] l = f [] l
 each_prefix version p P f (e ∷ h) l = (f (e ∷ h) l, each_prefix version p P f h l.1)
 
--- and each edge passed its tests after the list before it
+-- each edge passed its tests after the list before it
 abbrev IsShown : Version → Plan → (List Edge → Edge → Type 0) → Type 0
 IsShown version p P = (h : List Edge) (e : Edge) → IsLegal version p h → Passed version p h e.driver e.wire e.fall e.value → P h e
 

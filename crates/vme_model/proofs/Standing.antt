@@ -1,4 +1,4 @@
--- Where the bus is told to stand, it does, and accesses are open together.
+-- The bus stands where it is reported to stand, and either all accesses are open or none is.
 use Rattle.std.proofs.Common.{◌≡◌, ◌∙◌, ℕ, zero, suc, ◌<◌, Bool, true, false, List, [], ◌∷◌, ◌++◌, Some, None, Ok, refl, sym, ap, subst, arith}
 use Rattle.std.specs.Prelude.{◌&&◌, not, if◌then◌else◌, find, map}
 use Rattle.std.specs.List.{All, Contains}
@@ -24,7 +24,7 @@ use Rattle.vme_model.specs.Stands.{holder, is_granted_at, grant_places, grant_at
 use Rattle.vme_model.proofs.Bools.{and_left, and_right, never}
 use Rattle.vme_model.proofs.OpenEdges.{here, there, by_map, by_flat_map}
 
--- what a search finds passes and is in the list, and it finds nothing only where nothing passes
+-- what a search finds passes and is in the list, and it finds nothing only if nothing passes
 found_step : {X : Type 0} (test : X → Bool) (y x : X) (ys : List X) (b : Bool) → test y ≡ b → (if b then Some y else find test ys) ≡ Some x → (find test ys ≡ Some x → (test x ≡ true) × Contains ys x) → (test x ≡ true) × Contains (y ∷ ys) x
 found_step test y x ys true e h next =
     let same : y ≡ x = cc in (subst (λ z. test z ≡ true) same e, subst (λ z. Contains (y ∷ ys) z) same (here y ys))
@@ -106,7 +106,7 @@ none_travels p h e n s t =
     never (sym (All-contains (λ m. is_granted_at p h m ≡ false) (grant_places p) (n, s) (none_passes (is_granted_at p h) (grant_places p) e) (stop p h n s t))
     ∙ three (input p h (grant_chain n) s) (drive h (Slot s) BgOut) (drive h (Slot s) Bbsy) t.granted t.unpassed t.untaken)
 
--- the verdict on an access asks of its slot only that there can be such a one
+-- the verdict on an access depends on its slot only in that there can be such a slot
 pub accesses_alike : (b : State) (d : Driver) (s t : ℕ) → is_slot s ≡ true → is_slot t ≡ true → verdict b (showing d (Access s)) ≡ verdict b (showing d (Access t))
 accesses_alike b d s t hs ht =
     ap (λ x. check (holds (asks HasDriver ((has_wire d Addr && x) && has_driver b.plan d Addr))) NoSuchDriver

@@ -1,4 +1,4 @@
--- What is told of edges and of a bus, to the byte: examples, computed.
+-- What is reported of edges and of a bus, to the byte: examples, computed.
 use Rattle.std.proofs.Common.{◌≡◌, ℕ, true, false, List, [], ◌∷◌, ◌++◌, Some, None, refl, codes}
 use Rattle.std.specs.Fmt.{digits}
 use Rattle.vme_model.specs.declared.boards.Row.{Row}
@@ -33,7 +33,7 @@ rise d w = record { driver = d; wire = w; fall = false; value = None }
 abbrev shows : ℕ → Cycle → Edge
 shows s cycle = record { driver = Slot s; wire = Addr; fall = true; value = Some cycle }
 
--- what is told of an edge behind others, and of the bus, in version 1
+-- what is reported of an edge after others, and of the bus, in version 1
 abbrev told : Plan → ℕ → List Edge → Edge → List ℕ
 told p n es e = why_text n (kept (at_power_up One p 100) es) (numbered (at_power_up One p 100) es) e
 
@@ -62,7 +62,7 @@ four_slots = record {
   arbiter = Sgl;
 }
 
--- two processors, memory, and boards that ask for the bus, for service or for both; slot 6 is empty
+-- two processors, memory, and boards that request the bus, an interrupt or both; slot 6 is empty
 abbrev nine_slots : Plan
 nine_slots = record {
   slots = 9;
@@ -177,7 +177,7 @@ grant_stands_at_4 : stand nine_slots 4 before_grant_stands_at_4 ≡
 unfolding digits
 grant_stands_at_4 = refl
 
--- slot 1 holds the bus after three accesses, and slot 5 asks
+-- slot 1 holds the bus after three accesses, and slot 5 requests it
 abbrev before_slot_1_holds : List Edge
 before_slot_1_holds =
     fall (Slot 1) Br ∷ fall Controller (Bg 1) ∷ fall (Slot 1) Bbsy ∷ rise (Slot 1) Br

@@ -1,4 +1,4 @@
--- What the first version of the rules allows, the second allows.
+-- The second version of the rules allows everything that the first one allows.
 use Rattle.std.proofs.Common.{◌≡◌, ℕ, Bool, true, false, List, [], ◌∷◌, Option, Ok, refl, arith}
 use Rattle.std.specs.Prelude.{◌&&◌, ◌||◌, not}
 use Rattle.std.specs.List.{list_all}

@@ -1,6 +1,6 @@
--- Which plans are accepted: the first fault, in the order of the tests. (Profile, but for P1:
--- chapter 3, the arbiter stands in slot 1; P2: chapter 7; P4: chapters 3 and 4; P5: chapter 3, SGL
--- serves level 3 alone; and P6: chapter 4.)
+-- Which plans are accepted: the first fault, in the order of the tests. (Profile, except for these.
+-- P1: chapter 3, the arbiter stands in slot 1. P2: chapter 7. P4: chapters 3 and 4. P5: chapter 3,
+-- SGL serves level 3 alone. P6: chapter 4.)
 use Rattle.std.specs.Prelude.{◌≡◌, ◌==◌, ◌&&◌, not, ℕ, Bool, true, false, Option, Some, None, List, [], ◌∷◌, ◌++◌, length, map, filter, find, nat_lt, nat_le, is_none, option_map}
 use Rattle.std.specs.List.{list_any}
 use Rattle.std.specs.Option.{option_map_or}
@@ -20,18 +20,18 @@ use Rattle.vme_model.specs.Signals.{is_level}
 use Rattle.vme_model.specs.Sets.{has_level, has_chain, bits_of_levels, bits_of_chains}
 use Rattle.vme_model.specs.Plan.{Plan, board, up_to, works}
 
--- the first that there is
+-- the first value that there is
 abbrev pub first_of : {A : Type 0} → List (Option A) → Option A
 first_of [] = None
 first_of (Some a ∷ rest) = Some a
 first_of (None ∷ rest) = first_of rest
 
--- the value where the test holds
+-- the value if the test holds
 abbrev pub when : {A : Type 0} → Bool → A → Option A
 when true a = Some a
 when false a = None
 
--- P2 (chapter 7)
+-- P2: a backplane has at most 21 slots (chapter 7)
 abbrev pub too_many_slots : Plan → Option PlanError
 too_many_slots p = when (nat_lt 21 p.slots) (error.TooManySlots p.slots)
 
@@ -77,7 +77,7 @@ abbrev pub namings : Plan → ℕ → ℕ
 namings p s =
     length (filter (λ t. t == s) (map (λ r. r.slot) p.rows ++ map (λ j. j.slot) p.jumpers))
 
--- P3 (profile)
+-- P3: two rows or jumpers name one slot (profile)
 abbrev pub slot_twice : Plan → Option PlanError
 slot_twice p =
     option_map (λ s. error.SlotTwice s) (find (λ s. nat_lt 1 (namings p s)) (up_to p.slots))
@@ -122,7 +122,7 @@ abbrev pub handler_twice : Plan → Option PlanError
 handler_twice p = option_map (λ v. error.HandlerTwice v)
     (find (λ v. nat_lt 1 (length (filter (λ r. has_level r.handler v) p.rows))) irq_numbers)
 
--- P7 (profile)
+-- P7: a handler needs a requester to get the bus (profile)
 abbrev pub handler_without_requester : Plan → Option PlanError
 handler_without_requester p = option_map (λ r. error.HandlerWithoutRequester r.slot)
     (find (λ r. nat_lt 0 (bits_of_levels r.handler) && is_none r.requester) p.rows)

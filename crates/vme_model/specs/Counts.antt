@@ -5,10 +5,10 @@ use Rattle.vme_model.specs.declared.signals.Edge.{Edge}
 use Rattle.vme_model.specs.Signals.{is_same_driver}
 use Rattle.vme_model.specs.History.{in_order}
 
--- in the order of time
+-- the driver's own edges, in the order of time
 abbrev pub only : List Edge → Driver → List Edge
 only h d = filter (λ e. is_same_driver e.driver d) (in_order h)
 
--- how many they are
+-- how many edges are the driver's own
 abbrev pub count : List Edge → Driver → ℕ
 count h d = count_by (λ e. is_same_driver e.driver d) h

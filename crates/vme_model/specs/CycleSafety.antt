@@ -22,11 +22,11 @@ use Rattle.vme_model.specs.GrantSafety.{is_fall_on, slots_below}
 abbrev pub Addresses : List Edge → ℕ → Type 0
 Addresses h s = drive h (Slot s) Addr ≡ true
 
--- at most one slot does
+-- at most one slot drives the address lines
 abbrev pub OneAddresses : List Edge → Type 0
 OneAddresses h = (s t : ℕ) → Addresses h s → Addresses h t → s ≡ t
 
--- and if it does not hold the bus, its AS* is low
+-- if a slot drives the address lines and does not hold the bus, its AS* is low
 abbrev pub KeepsItsAddress : List Edge → Type 0
 KeepsItsAddress h =
     (s : ℕ) → Addresses h s → drive h (Slot s) Bbsy ≡ false → drive h (Slot s) AddressStrobe ≡ true
@@ -52,29 +52,29 @@ releases_request s e = not e.fall && is_edge_of (Slot s) Irq e
 abbrev pub begins_acknowledge : Edge → Bool
 begins_acknowledge e = is_fall_on Iack e
 
--- a board passes it on (chapter 4)
+-- a board passes the acknowledge on (chapter 4)
 abbrev pub passes_acknowledge : Edge → Bool
 passes_acknowledge e = is_fall_on IackOut e
 
--- what was shown when the acknowledge chain last began, where it did
+-- what was shown when the acknowledge chain last began, if it did
 abbrev pub last_acknowledged : Plan → List Edge → Option Cycle
 last_acknowledged p [] = None
 last_acknowledged p (e ∷ h) = if begins_acknowledge e then shown p h else last_acknowledged p h
 
--- since then a board answered while an acknowledge was shown
+-- since the acknowledge chain last began, a board answered while an acknowledge was shown
 abbrev pub was_acknowledged : Plan → List Edge → Bool
 was_acknowledged p [] = false
 was_acknowledged p (e ∷ h) =
     if begins_acknowledge e then false
     else ((is_fall_on Dtack e && is_acknowledge (shown p h)) || was_acknowledged p h)
 
--- an acknowledge is shown at whose level the driver's board is pending
+-- an acknowledge is shown, and the driver's board is pending at its level
 abbrev pub is_pending_at : Plan → List Edge → Driver → Option Cycle → Bool
 is_pending_at p h d (Some (Acknowledge level)) = is_pending (readings p h d) level
 is_pending_at p h d _ = false
 
--- who passed the acknowledge on since it began, the newest first, each with what was shown just
--- before, and whether it was pending at that
+-- the boards that passed the acknowledge on since it began, the newest first, each with what was
+-- shown just before, and whether it was pending at that level
 abbrev pub acknowledge_passes : Plan → List Edge → List (Driver × Option Cycle × Bool)
 acknowledge_passes p [] = []
 acknowledge_passes p (e ∷ h) =
@@ -84,9 +84,9 @@ acknowledge_passes p (e ∷ h) =
     else acknowledge_passes p h)
 
 -- Slot k may answer an acknowledge of the level after a history: the chain last began with that
--- acknowledge, and none was answered since; those who passed it on are the slots of the chain below
--- k, once each, in ascending order, while it was shown and with no request at its level; and k is
--- pending at it. (That nobody at or above k passed it on is part of it.)
+-- acknowledge, and nobody answered since; the slots of the chain below k passed it on, once each,
+-- in ascending order, while it was shown and with no request at its level, and nobody else did; and
+-- k is pending at it. (It follows that nobody at or above k passed it on.)
 pub record IsRightfulAnswer (p : Plan) (h : List Edge) (k level : ℕ) : Type 0 where
   pub member : Contains (active p chain.Iack) k
   pub began : last_acknowledged p h ≡ Some (Acknowledge level)
@@ -101,12 +101,12 @@ AnswersRightfully p h e =
     (k level : ℕ) → answers k e ≡ true → shown p h ≡ Some (Acknowledge level)
     → IsRightfulAnswer p h k level
 
--- it lets its request go because of the acknowledge (chapter 4)
+-- an acknowledge makes the interrupter let its request go (chapter 4)
 abbrev pub is_roak : IrqKind → Bool
 is_roak Roak = true
 is_roak Rora = false
 
--- the slot's interrupter lets its request go because of the acknowledge
+-- the slot has an interrupter that lets its request go at an acknowledge
 abbrev pub has_roak : Plan → ℕ → Bool
 has_roak p s =
     option_map_or (λ i. is_roak i.kind) (option_and_then (λ r. r.interrupter) (board p s)) false
@@ -122,7 +122,7 @@ answers_since_request p (e ∷ h) s =
 abbrev pub AnswersOnce : Plan → List Edge → Type 0
 AnswersOnce p h = (s : ℕ) → has_roak p s ≡ true → answers_since_request p h s ≤ 1
 
--- and exactly once before it lets go of it
+-- a ROAK slot answers exactly once before it lets its request go
 abbrev pub ReleasesAnswered : Plan → List Edge → Edge → Type 0
 ReleasesAnswered p h e =
     (k : ℕ) → releases_request k e ≡ true → has_roak p k ≡ true → answers_since_request p h k ≡ 1

@@ -26,7 +26,7 @@ delivery p h e =
     then delivered_by (shown p h) (addressing p h) (board_of p e.driver)
     else None
 
--- a list with one more delivery, where there is one
+-- a list with one more delivery, if there is one
 abbrev pub followed_by : List Delivery → Option Delivery → List Delivery
 followed_by ds None = ds
 followed_by ds (Some d) = ds ++ d ∷ []
@@ -36,7 +36,7 @@ abbrev pub delivered : Plan → List Edge → List Delivery
 delivered p [] = []
 delivered p (e ∷ h) = followed_by (delivered p h) (delivery p h e)
 
--- a judgement, with the delivery where it is Ok
+-- a judgement, with the delivery if it is Ok
 abbrev pub with_delivery : Judgement → Option Delivery → Result (Option Delivery) Refused
 with_delivery (Ok _) d = Ok d
 with_delivery (Err refusal) d = Err refusal

@@ -13,8 +13,9 @@ use Rattle.vme_model.specs.Rules.{guard, failing}
 use Rattle.vme_model.specs.Settling.{settling_guard, unsettled}
 use Rattle.vme_model.specs.Verdict.{State, Judgement, verdict, verdict_but_full, driver_guard, state_guard, room_guard}
 
--- the conditions that an answer to an edge refuses it for: at E3 those of the rule that fail, at E4
--- those of the settling rule, at E1, E2 and E5 the one that it asks for; none where it is accepted
+-- the conditions for which an answer refuses an edge: at E3 the failing ones of the rule, at E4
+-- those of the settling rule, at E1, E2 and E5 the one that it asks for; none if the edge is
+-- accepted
 abbrev pub refused_for : Version → Plan → List Edge → Edge → Judgement → List Condition
 refused_for version p h e (Ok u) = []
 refused_for version p h e (Err NoSuchDriver) = HasDriver ∷ []
@@ -28,7 +29,7 @@ refused_for version p h e (Err TraceFull) = HasRoom ∷ []
 abbrev pub unmet : State → Edge → List Condition
 unmet b e = refused_for b.version b.plan b.history e (verdict b e)
 
--- the same but for E5
+-- the conditions that an edge fails, without E5
 abbrev pub unmet_but_full : Version → Plan → List Edge → Edge → List Condition
 unmet_but_full version p h e = refused_for version p h e (verdict_but_full version p h e)
 
@@ -42,14 +43,14 @@ all_asked b e =
     ∷ room_guard b
     ∷ []
 
--- of the first of the guards that does not hold, the conditions that fail
+-- the conditions that fail in the first of the guards that does not hold
 abbrev pub first_failed : List Guard → List Condition
 first_failed [] = []
 first_failed (g ∷ gs) = if holds g then first_failed gs else failed g
 
--- What is tested of an edge, as far as its answer comes: what E1 or E2 asks for where it fails; else
--- all conditions of its rule, behind them, where they hold, that of its settling rule, and at E5 that
--- of the room.
+-- What is tested for an edge, as far as its answer needs it. If E1 or E2 applies, this is the one
+-- condition that it asks for. Otherwise it is all conditions of the edge's rule; if they hold, the
+-- condition of its settling rule as well; and at E5 that of the room.
 abbrev pub tested_for : Version → Plan → List Edge → Edge → Judgement → Guard
 tested_for version p h e (Err NoSuchDriver) = asks HasDriver false
 tested_for version p h e (Err AlreadyThere) = asks OtherState false
@@ -65,6 +66,6 @@ tested_for version p h e answer =
 abbrev pub tested : State → Edge → Guard
 tested b e = tested_for b.version b.plan b.history e (verdict b e)
 
--- the same but for E5
+-- what is tested for an edge, without E5
 abbrev pub tested_but_full : Version → Plan → List Edge → Edge → Guard
 tested_but_full version p h e = tested_for version p h e (verdict_but_full version p h e)

@@ -30,7 +30,7 @@ Holds h s = drive h (Slot s) Bbsy ≡ true
 abbrev pub OneTravels : Plan → List Edge → Type 0
 OneTravels p h = (m n s t : ℕ) → Travels p h m s → Travels p h n t → (m ≡ n) × (s ≡ t)
 
--- and none while BBSY* is low
+-- no grant travels while BBSY* is low
 abbrev pub NoneTravelsWhileBusy : Plan → List Edge → Type 0
 NoneTravelsWhileBusy p h = (n s : ℕ) → line p h Bbsy ≡ true → Travels p h n s → ⊥
 
@@ -54,7 +54,7 @@ releases_bus s e = not e.fall && is_edge_of (Slot s) Bbsy e
 abbrev pub passes_grant : Edge → Bool
 passes_grant e = is_fall_on BgOut e
 
--- the level of the last grant, where there is one
+-- the level of the last grant, if there is one
 abbrev pub last_granted : List Edge → Option ℕ
 last_granted [] = None
 last_granted (e ∷ h) = if is_grant e then Some (grant_level e.wire) else last_granted h
@@ -64,8 +64,8 @@ abbrev pub was_taken : List Edge → Bool
 was_taken [] = false
 was_taken (e ∷ h) = if is_grant e then false else (is_fall_on Bbsy e || was_taken h)
 
--- who passed a grant on since the last one was made, the newest first, each with its own `br` just
--- before
+-- the boards that passed a grant on since the last one was made, the newest first, each with the
+-- state of its own `br` just before
 abbrev pub grant_passes : List Edge → List (Driver × Bool)
 grant_passes [] = []
 grant_passes (e ∷ h) =
@@ -77,9 +77,9 @@ grant_passes (e ∷ h) =
 abbrev pub slots_below : Plan → ChainId → ℕ → List ℕ
 slots_below p c k = reverse (filter (λ t. nat_lt t k) (active p c))
 
--- Slot k may take the bus after a history: the last grant is of its level and nobody took it; those
--- who passed it on are the slots of the chain below k, once each, in ascending order, with no
--- request of their own; and k requests. (That nobody at or above k passed it on is part of it.)
+-- Slot k may take the bus after a history: the last grant is of its level and nobody took it; the
+-- slots of the chain below k passed it on, once each, in ascending order, with no request of their
+-- own, and nobody else did; and k requests. (It follows that nobody at or above k passed it on.)
 pub record IsRightfulTake (p : Plan) (h : List Edge) (k : ℕ) : Type 0 where
   pub level : ℕ
   pub in_range : level < 4
@@ -98,7 +98,7 @@ abbrev pub IsSegment : Plan → ℕ → Option ℕ → Type 0
 IsSegment p n None = n < 4
 IsSegment p n (Some s) = (n < 4) × Contains (active p (grant_chain n)) s
 
--- such a segment is low
+-- that segment is low
 pub record IsLow (p : Plan) (h : List Edge) (n : ℕ) (place : Option ℕ) : Type 0 where
   pub part : IsSegment p n place
   pub low : segment h (grant_chain n) place ≡ true
@@ -114,7 +114,7 @@ IsBefore (Some s) (Some t) = s < t
 abbrev pub OneChainLow : Plan → List Edge → Type 0
 OneChainLow p h = (m n : ℕ) (a b : Option ℕ) → IsLow p h m a → IsLow p h n b → m ≡ n
 
--- and no high one stands between two of them
+-- no high segment stands between two low ones
 abbrev pub NoGap : Plan → List Edge → Type 0
 NoGap p h =
     (n : ℕ) (a b c : Option ℕ) → IsBefore a b → IsBefore b c → IsSegment p n b
@@ -124,14 +124,14 @@ NoGap p h =
 abbrev pub IsEndLow : Plan → List Edge → ℕ → Type 0
 IsEndLow p h n = is_past_end p h (grant_chain n) ≡ true
 
--- while BBSY* is high, they begin with the controller's segment; in the second version they may end
--- with the last one instead
+-- while BBSY* is high, the low segments begin with the controller's; in the second version they may
+-- end with the last one instead
 abbrev pub BeginsAtController : Version → Plan → List Edge → Type 0
 BeginsAtController version p h =
     (n : ℕ) (a : Option ℕ) → line p h Bbsy ≡ false → IsLow p h n a
     → IsLow p h n None ⊎ ((is_two version ≡ true) × IsEndLow p h n)
 
--- the bus is released only where no segment is low
+-- the bus is released only if no segment is low
 abbrev pub ReleasesAfterGrants : Plan → List Edge → Edge → Type 0
 ReleasesAfterGrants p h e = (k n : ℕ) (a : Option ℕ) → releases_bus k e ≡ true → IsLow p h n a → ⊥
 
@@ -142,7 +142,7 @@ withdraws p h n e =
     && not (drive h e.driver Bbsy)
     && option_map_or (requests_on n) (board_of p e.driver) false
 
--- one did since the last grant
+-- a board of level n withdrew its request since the last grant
 abbrev pub was_withdrawn : Plan → List Edge → ℕ → Bool
 was_withdrawn p [] n = false
 was_withdrawn p (e ∷ h) n = if is_grant e then false else (withdraws p h n e || was_withdrawn p h n)
@@ -165,7 +165,7 @@ NoneLost version p h =
     (n : ℕ) → line p h Bbsy ≡ false → IsLow p h n None
     → IsAwaited p h n ⊎ ((is_two version ≡ true) × (was_withdrawn p h n ≡ true))
 
--- in every case it still travels, or has passed the last board of its chain
+-- in every case the grant still travels, or it has passed the last board of its chain
 abbrev pub TravelsOrEnds : Plan → List Edge → Type 0
 TravelsOrEnds p h =
     (n : ℕ) → line p h Bbsy ≡ false → IsLow p h n None

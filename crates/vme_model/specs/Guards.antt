@@ -6,7 +6,7 @@ use Rattle.vme_model.specs.declared.conditions.Tested.{Tested}
 
 infixl 30 ◌⊓◌
 -- a guard: none, a condition by its name and whether it holds, two guards at once, or one that does
--- not bind where a test holds
+-- not bind if a test holds
 pub data Guard : Type 0 where
   free : Guard
   asks : Condition → Bool → Guard
@@ -34,7 +34,7 @@ failed (asks c b) = if b then [] else c ∷ []
 failed (g ⊓ k) = failed g ++ failed k
 failed (unless b g) = if b then [] else failed g
 
--- how a condition on the board's own wires is spelled
+-- the text of a condition on the board's own wires
 abbrev pub own_text : Condition → Option (List ℕ)
 own_text condition.GrantInHigh = Some (codes "own grant-in is high")
 own_text condition.GrantInLow = Some (codes "own grant-in is low")
@@ -55,7 +55,7 @@ own_text condition.Strobed = Some (codes "an own ds- in this cycle")
 own_text condition.NotStrobed = Some (codes "no own ds- in this cycle")
 own_text c = None
 
--- how a condition is spelled, where its edge, its board and what is shown have no part in it
+-- the text of a condition, if it does not depend on its edge, its board and what is shown
 abbrev pub fixed_text : Condition → Option (List ℕ)
 fixed_text condition.GrantsHigh = Some (codes "all four grants are high")
 fixed_text condition.ArbiterIsPri = Some (codes "the arbiter is PRI")

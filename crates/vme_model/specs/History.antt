@@ -1,4 +1,4 @@
--- What a list of edges says of the wires, by looking back through it. (The lines and chains are
+-- What a list of edges says about the wires, by looking back through it. (The lines and chains are
 -- those of chapters 2 to 4; that wires have a state between edges, and no times, is this project's
 -- profile.) A history has its newest edge first, so `e ∷ h` is h with e made after it; `in_order h`
 -- is the order of time.
@@ -19,12 +19,12 @@ use Rattle.vme_model.specs.declared.signals.Edge.{Edge}
 use Rattle.vme_model.specs.Signals.{is_edge_of, is_fall_of, is_grant, grant_level}
 use Rattle.vme_model.specs.Plan.{Plan, upstream, last_active, up_to, requests_on, interrupts_on, drives, head_wire, out_wire}
 
--- whatever speaks of places, logs, texts or deliveries speaks of the edges in the order of time
+-- the edges in the order of time, in which places, logs, texts and deliveries are counted
 abbrev pub in_order : List Edge → List Edge
 in_order h = reverse h
 
 -- low, or for the address group on: the driver's last edge on the wire is a fall; at power-up all
--- are high or off (profile)
+-- wires are high or off (profile)
 abbrev pub drive : List Edge → Driver → Wire → Bool
 drive [] d w = false
 drive (e ∷ h) d w = if is_edge_of d w e then e.fall else drive h d w
@@ -33,7 +33,7 @@ drive (e ∷ h) d w = if is_edge_of d w e then e.fall else drive h d w
 abbrev pub pulls_line : List Edge → Wire → Row → Bool
 pulls_line h w r = drives w r && drive h (Slot r.slot) w
 
--- which is low where some board does (chapters 2 and 3)
+-- an open-collector line is low if some board pulls it low (chapters 2 and 3)
 abbrev pub line : Plan → List Edge → Wire → Bool
 line p h w = list_any (pulls_line h w) p.rows
 
@@ -62,7 +62,7 @@ segment h c (Some s) = drive h (Slot s) (out_wire c)
 abbrev pub input : Plan → List Edge → ChainId → ℕ → Bool
 input p h c s = segment h c (upstream p c s)
 
--- the chain's last segment is low: the last board that works it has passed it on
+-- the chain's last segment is low: the last board that works the chain has passed it on
 abbrev pub is_past_end : Plan → List Edge → ChainId → Bool
 is_past_end p h c = segment h c (last_active p c)
 
@@ -79,14 +79,14 @@ addressing p h = find (λ s. drive h (Slot s) Addr) (up_to p.slots)
 abbrev pub shown : Plan → List Edge → Option Cycle
 shown p h = option_and_then (λ s. last_value h (Slot s)) (addressing p h)
 
--- an answer while this is shown serves an interrupter of the kind: ROAK an acknowledge, RORA an
+-- an answer while this is shown serves an interrupter of this kind: ROAK an acknowledge, RORA an
 -- access (chapter 4). (`serves` of Rules speaks of arbiters instead.)
 abbrev pub serves : IrqKind → Option Cycle → Bool
 serves Roak (Some (Acknowledge level)) = true
 serves Rora (Some (Access s)) = true
 serves _ _ = false
 
--- since its last `irq-` the board gave an answer that serves an interrupter of the kind (profile)
+-- since its last `irq-` the board gave an answer that serves an interrupter of this kind (profile)
 abbrev pub served_since_request : Plan → List Edge → Driver → IrqKind → Bool
 served_since_request p [] d kind = false
 served_since_request p (e ∷ h) d kind =
@@ -98,7 +98,7 @@ abbrev pub last_level : List Edge → ℕ
 last_level [] = 0
 last_level (e ∷ h) = if is_grant e then grant_level e.wire else last_level h
 
--- the cycles that a board began since its last `bbsy-`: its `as-` (profile)
+-- the cycles that a board began since its last `bbsy-`, each by an `as-` (profile)
 abbrev pub cycles : List Edge → Driver → ℕ
 cycles [] d = 0
 cycles (e ∷ h) d =

@@ -1,6 +1,6 @@
--- The definitions, in the order in which they are read. `believe` marks what a theorem rests on, so
--- that who trusts it has to agree with it, and `words` what only says how one function serves
--- another.
+-- The definitions, in the order in which they are read. `believe` marks what a theorem rests on:
+-- whoever trusts the theorem has to agree with it. `words` marks what only says how one function
+-- serves another.
 
 -- believe: which drivers, wires and edges there are
 pub mod Signals
@@ -22,7 +22,7 @@ pub mod Rules
 pub mod Settling
 -- believe: the refusals E1 to E5 in their order, and which lists are legal
 pub mod Verdict
--- believe, for what is told of a refusal: the conditions that an edge fails
+-- believe, for what is reported of a refusal: the conditions that an edge fails
 pub mod Failing
 -- words: what a driver reads on its pins; to be believed for `verdict_is_local` alone
 pub mod Views
@@ -46,13 +46,14 @@ pub mod Open
 pub mod Text
 -- believe, for whole traces: the verdicts as text
 pub mod Report
--- believe, for `explain`: accepted edges by their numbers, and since which of them a wire is as it is
+-- believe, for `explain`: accepted edges by their numbers, and the edge since which a wire is as it
+-- is
 pub mod Numbered
 -- believe, for `explain`: how a condition is spelled
 pub mod Spoken
--- believe, for `explain`: what is told of a condition
+-- believe, for `explain`: the readings of a condition
 pub mod Witnesses
--- believe, for `explain`: what is told of an edge
+-- believe, for `explain`: what is reported of an edge
 pub mod Why
 -- believe, for `state`: where the bus stands
 pub mod Stands

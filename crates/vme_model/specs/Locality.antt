@@ -22,7 +22,7 @@ is_settled_by_others version _ _ = false
 abbrev pub AreWellFormed : List Edge → Type 0
 AreWellFormed h = list_all is_well_formed h ≡ true
 
--- but for those edges and a full trace, the verdict is the same after two histories of which the
+-- except for those edges and a full trace, the verdict is the same after two histories in which the
 -- driver saw the same
 abbrev pub IsLocal : Version → Plan → List Edge → List Edge → Edge → Type 0
 IsLocal version p h k e =

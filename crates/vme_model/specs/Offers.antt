@@ -28,7 +28,7 @@ irq_descending = 7 ∷ 6 ∷ 5 ∷ 4 ∷ 3 ∷ 2 ∷ 1 ∷ []
 abbrev pub wanted : Plan → List Edge → Row → Option ℕ
 wanted p h r = find (λ v. has_level r.handler v && interrupt_line p h v) irq_descending
 
--- the next slot with a board: the least above s, else the least of all
+-- the next slot with a board: the least above s, or the least of all if there is none
 abbrev pub next_board : Plan → ℕ → Option ℕ
 next_board p s =
     option_or (find (λ t. nat_lt s t && is_some (board p t)) (up_to p.slots))
@@ -58,7 +58,7 @@ abbrev pub considered : Plan → List Edge → Driver → Wire → List Edge
 considered p h d Addr = if drive h d Addr then turned h d Addr ∷ [] else going_on p h d
 considered p h d w = turned h d w ∷ []
 
--- what a driver is offered: of the edges that are considered, those that would be accepted
+-- what a driver is offered: those of the considered edges that would be accepted
 abbrev pub offered : State → Driver → List Edge
 offered b d = filter (λ e. is_ok (verdict b e)) (flat_map (considered b.plan b.history d) (wires d))
 
@@ -73,14 +73,14 @@ abbrev pub turns : ℕ → ℕ → State → List Driver → State
 turns r n b [] = b
 turns r n b (d ∷ ds) = turns r n (turn r n b d) ds
 
--- rounds from the r-th on, until one makes no edge; each other one makes at least one, so n of them
--- are enough
+-- rounds from the r-th on, until one makes no edge; every other round makes at least one edge, so n
+-- of them are enough
 abbrev pub rounds_from : ℕ → ℕ → ℕ → State → State
 rounds_from zero r n b = b
 rounds_from (suc more) r n b =
     let next = turns r n b (drivers b.plan) in
     if length next.history == length b.history then b else rounds_from more (r + 1) n next
 
--- n edges, or all until a round makes none
+-- n edges, or as many as there are until a round makes none
 abbrev pub rounds : State → ℕ → State
 rounds b n = rounds_from n 0 n b

@@ -24,13 +24,14 @@ acknowledges = map (λ level. Acknowledge level) (up_to 7)
 abbrev pub accesses : List Cycle
 accesses = map (λ s. Access s) (up_to 21)
 
--- the edges that move a wire to its other state; the address group goes on with each cycle that there is
+-- the edges that move a wire to its other state; the address group goes on with each cycle that
+-- exists
 abbrev pub moves : List Edge → Driver → Wire → List Edge
 moves h d Addr =
     if drive h d Addr then turned h d Addr ∷ [] else map (showing d) (acknowledges ++ accesses)
 moves h d w = turned h d w ∷ []
 
--- of the edges that move a driver's wires, those that would be accepted
+-- those edges of a driver's wires that would be accepted
 abbrev pub open_edges : State → Driver → List Edge
 open_edges b d = filter (λ e. is_ok (verdict b e)) (flat_map (moves b.history d) (wires d))
 

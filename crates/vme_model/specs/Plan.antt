@@ -1,5 +1,5 @@
 -- The boards of a backplane, and the slots that work each daisy chain. (The chains are those of
--- chapters 3 and 4; which parts a board can have, and that joined pins are one wire, is this
+-- chapters 3 and 4. Which parts a board can have, and that joined pins are one wire, is this
 -- project's profile.)
 use Rattle.std.specs.Prelude.{◌==◌, ◌++◌, if◌then◌else◌, ℕ, zero, suc, Bool, true, false, Option, None, List, [], ◌∷◌, nat_lt, is_some, filter, map, reverse, find}
 use Rattle.std.specs.Option.{option_map_or}
@@ -51,7 +51,7 @@ works chain.Bg2 r = requests_on 2 r
 works chain.Bg3 r = requests_on 3 r
 works chain.Iack r = is_some r.interrupter
 
--- 1 to n
+-- the numbers 1 to n
 abbrev pub up_to : ℕ → List ℕ
 up_to zero = []
 up_to (suc n) = up_to n ++ suc n ∷ []
@@ -109,6 +109,6 @@ abbrev pub has_driver : Plan → Driver → Wire → Bool
 has_driver p Controller w = has_wire Controller w
 has_driver p (Slot s) w = option_map_or (drives w) (board p s) false
 
--- the controller, then each board by slot
+-- the drivers of a backplane: the controller, then each board by slot
 abbrev pub drivers : Plan → List Driver
 drivers p = Controller ∷ map (λ s. Slot s) (filter (λ s. is_some (board p s)) (up_to p.slots))

@@ -42,8 +42,8 @@ pub record Readings : Type 0 where
   pub arbiter : ArbiterKind
   pub board : Option Row
 
--- what the pins alone say of it: no wire of the driver's own is low, it made no edge, it has no
--- board, and the arbiter is SGL
+-- what the pins alone give: no wire of the driver's own is low, it made no edge, it has no board,
+-- and the arbiter is SGL
 abbrev pub readings_of_pins : Pins → Readings
 readings_of_pins pins = record {
   own = λ w. false;
@@ -105,8 +105,8 @@ readings p h d = record {
   board = board_of p d;
 }
 
--- the board's interrupter asks at the level: it has that level, its request is low, and it was not
--- served since (chapter 4)
+-- the board's interrupter requests at the level: it has that level, its request is low, and it has
+-- not been served since (chapter 4)
 abbrev pub is_pending : Readings → ℕ → Bool
 is_pending r level =
     option_map_or (λ i. i.level == level) (option_and_then (λ b. b.interrupter) r.board) false

@@ -10,13 +10,13 @@ use Rattle.vme_model.specs.Verdict.{State, after, kept}
 use Rattle.vme_model.specs.Deliveries.{answer}
 use Rattle.vme_model.specs.Text.{Reading, TextFault, read_of}
 
--- what is written of a delivery
+-- the text of a delivery
 abbrev pub delivery_text : Delivery → List ℕ
 delivery_text d =
     ((((((codes "ok irq " ++ decimal d.level) ++ codes " to ") ++ decimal d.handler)
     ++ codes " from ") ++ decimal d.answered_by) ++ codes " status ") ++ decimal d.status
 
--- what is written of an answer
+-- the text of an answer
 abbrev pub verdict_text : Result (Option Delivery) Refused → List ℕ
 verdict_text (Ok None) = codes "ok"
 verdict_text (Ok (Some d)) = delivery_text d
@@ -47,16 +47,16 @@ at_power_up version p max = record { version = version; plan = p; history = []; 
 abbrev pub accepted_count : State → List Edge → ℕ
 accepted_count b es = length (kept b es).history - length b.history
 
--- the closing line, of so many edges that were accepted and refused
+-- the closing line, with the numbers of edges that were accepted and refused
 abbrev pub closing_text : ℕ → ℕ → List ℕ
 closing_text accepted refused =
     ((codes "accepted " ++ decimal accepted) ++ codes " refused ") ++ decimal refused ++ 10 ∷ []
 
--- how many were accepted, and how many refused
+-- the closing line for these edges: how many were accepted, and how many refused
 abbrev pub closing_line : State → List Edge → List ℕ
 closing_line b es = closing_text (accepted_count b es) (length es - accepted_count b es)
 
--- the closing line stands only after a whole trace
+-- the closing line, which stands only after a whole trace
 abbrev pub closing : Option TextFault → State → List Edge → List ℕ
 closing (Some fault) b es = []
 closing None b es = closing_line b es

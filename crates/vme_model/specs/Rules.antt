@@ -32,7 +32,7 @@ is_highest low n = list_all (λ m. not (low m) || nat_le m n) bus_numbers
 abbrev pub round_place : ℕ → ℕ → ℕ
 round_place last n = (last + 3 - n) % 4
 
--- no low line comes before it in the round
+-- no low line comes before this one in the round
 abbrev pub is_next : (ℕ → Bool) → ℕ → ℕ → Bool
 is_next low last n =
     list_all (λ m. not (low m) || nat_le (round_place last n) (round_place last m)) bus_numbers
@@ -64,10 +64,10 @@ is_pri _ = false
 abbrev pub are_grants_high : Readings → Bool
 are_grants_high r = list_all (λ n. not (r.own (Bg n))) bus_numbers
 
--- The guards, each over what it reads; a wire or a line is told by whether it is low, the address
--- group by whether it is on. Above each: whose guard it is, and why. A chapter is the standard's,
--- whose sentence the guard renders; it speaks in times, and the guard does not. What is the
--- profile's is this project's own. G1 to G8 are the controller's.
+-- The guards, each over what it reads. A wire or a line is given by whether it is low, the address
+-- group by whether it is on. Above each stand whose guard it is, and why. A chapter is one of the
+-- standard, whose sentence the guard renders; the standard speaks of times, and the guard does not.
+-- *Profile* is this project's own. G1 to G8 are the controller's.
 
 -- G1, the pick: chapter 3; grants and BBSY* high, one grant at a time and none to a bus that has an
 -- owner: profile
@@ -86,11 +86,11 @@ bclr_falls has_priority bbsy are_high is_outranked =
     asks ArbiterIsPri has_priority ⊓ asks BusyLow bbsy ⊓ asks GrantsHigh are_high
     ⊓ asks HigherAsked is_outranked
 
--- G4, profile: the wish stands as long as its reason
+-- G4, profile: bus clear stays low as long as its reason lasts
 abbrev pub bclr_rises : Bool → Guard
 bclr_rises is_due = asks ClearNotDue (not is_due)
 
--- G5, chapter 4: it starts the daisy chain of the acknowledge that is shown
+-- G5, chapter 4: the controller starts the daisy chain of the acknowledge that is shown
 abbrev pub iack_falls : Bool → Bool → Bool → Guard
 iack_falls address_strobe data_strobe is_acknowledged =
     asks AddressStrobeLow address_strobe ⊓ asks DataStrobeLow data_strobe
@@ -100,7 +100,7 @@ iack_falls address_strobe data_strobe is_acknowledged =
 abbrev pub iack_rises : Bool → Guard
 iack_rises address_strobe = asks AddressStrobeHigh (not address_strobe)
 
--- G7, chapter 2: it ends a cycle that nobody answers
+-- G7, chapter 2: the bus timer ends a cycle that nobody answers
 abbrev pub berr_falls : Bool → Bool → Guard
 berr_falls data_strobe dtack = asks DataStrobeLow data_strobe ⊓ asks DtackHigh (not dtack)
 
@@ -108,7 +108,7 @@ berr_falls data_strobe dtack = asks DataStrobeLow data_strobe ⊓ asks DtackHigh
 abbrev pub berr_rises : Bool → Guard
 berr_rises data_strobe = asks DataStrobeHigh (not data_strobe)
 
--- G9, profile: the owner asks for nothing that it has
+-- G9, profile: the owner does not request what it has
 abbrev pub br_falls : Bool → Guard
 br_falls bbsy = asks OwnBusyHigh (not bbsy)
 
@@ -116,17 +116,17 @@ br_falls bbsy = asks OwnBusyHigh (not bbsy)
 abbrev pub br_rises : Version → Bool → Guard
 br_rises version bbsy = unless (is_two version) (asks OwnBusyLow bbsy)
 
--- G11, chapter 3: a board that does not want the grant hands it on
+-- G11, chapter 3: a board that does not want the grant passes it on
 abbrev pub bgout_falls : Bool → Bool → Bool → Guard
 bgout_falls grant_in br bbsy =
     asks GrantInLow grant_in ⊓ asks OwnRequestHigh (not br) ⊓ asks OwnBusyHigh (not bbsy)
 
--- G12, profile: the chain rises from its beginning on
+-- G12, profile: the chain rises from its beginning onward
 abbrev pub bgout_rises : Bool → Guard
 bgout_rises grant_in = asks GrantInHigh (not grant_in)
 
--- G13, chapter 3: who asks takes the grant that reaches it; own request and own output, since what
--- was passed on is lost: profile
+-- G13, chapter 3: a board that requests the bus takes the grant that reaches it; own request and
+-- own output, since a grant that was passed on is lost: profile
 abbrev pub bbsy_falls : Bool → Bool → Bool → Guard
 bbsy_falls grant_in bgout br =
     asks GrantInLow grant_in ⊓ asks OwnGrantOutHigh (not bgout) ⊓ asks OwnRequestLow br
@@ -136,21 +136,21 @@ abbrev pub released : Bool → Release → Guard
 released is_asked (Done burst) = free
 released is_asked Request = asks Asked is_asked
 
--- G14, chapter 3: given up during the last transfer, and by ROR once another asks; own request and
--- input high, so that no old grant is left: profile
+-- G14, chapter 3: the bus is given up during the last transfer, and with ROR once another board
+-- requests it; own request and input high, so that no old grant is left: profile
 abbrev pub bbsy_rises : Bool → Bool → Bool → Guard → Guard
 bbsy_rises br grant_in is_address_free releasing =
     asks OwnRequestHigh (not br) ⊓ asks GrantInHigh (not grant_in)
     ⊓ asks AddressFree is_address_free ⊓ releasing
 
--- G15's third condition, profile: RWD has fewer cycles than its burst, so that a tenure ends; ROR
--- has as many as it will
+-- G15's third condition, profile: with RWD fewer cycles than the burst, so that a tenure ends; ROR
+-- has no bound
 abbrev pub below_burst : ℕ → Release → Guard
 below_burst cycles (Done burst) = asks WithinBurst (nat_lt cycles burst)
 below_burst cycles Request = free
 
 -- G15's last conditions: an acknowledge is of a level that the board handles (chapter 4) and whose
--- line is low (profile), so that a master acknowledges only what is asked of it
+-- line is low (profile), so that a master acknowledges only what is requested of it
 abbrev pub shows : (ℕ → Bool) → (ℕ → Bool) → Option Cycle → Guard
 shows handles irq (Some (Acknowledge level)) =
     asks Handled (handles level) ⊓ asks InterruptLow (irq level)
@@ -176,14 +176,14 @@ ds_falls own_strobe addr dtack berr has_strobed =
 abbrev pub ds_rises : Bool → Bool → Guard
 ds_rises dtack berr = asks Answered (dtack || berr)
 
--- G19, profile: the address leaves once its one transfer is over
+-- G19, profile: the address goes off once its one transfer is over
 abbrev pub addr_goes_off : Bool → Bool → Bool → Guard
 addr_goes_off own_strobe own_data_strobe has_strobed =
     asks OwnAddressStrobeLow own_strobe ⊓ asks OwnDataStrobeHigh (not own_data_strobe)
     ⊓ asks Strobed has_strobed
 
--- G20, profile: the next owner drives the address as soon as AS* is high, so this one is gone by
--- then
+-- G20, profile: the next owner drives the address as soon as AS* is high, so this board's address
+-- is off by then
 abbrev pub as_rises : Bool → Guard
 as_rises addr = asks OwnAddressOff (not addr)
 
@@ -200,7 +200,7 @@ abbrev pub passes : (ℕ → Bool) → Option Cycle → Guard
 passes pending (Some (Acknowledge level)) = asks NotPending (not (pending level))
 passes pending _ = asks AcknowledgeShown false
 
--- G23, chapter 4: a board with nothing to say at this level hands the acknowledge on
+-- G23, chapter 4: a board with nothing pending at this level passes the acknowledge on
 abbrev pub iackout_falls : Bool → Bool → Bool → Guard → Guard
 iackout_falls iack_in dtack data_strobe passing =
     asks AcknowledgeInLow iack_in ⊓ asks OwnDtackHigh (not dtack) ⊓ asks DataStrobeLow data_strobe
@@ -229,8 +229,7 @@ dtack_falls data_strobe address_strobe answering =
 abbrev pub dtack_rises : Bool → Guard
 dtack_rises data_strobe = asks DataStrobeHigh (not data_strobe)
 
--- What the guards read of a driver's readings: the same conditions, over the record of all that a
--- rule may read.
+-- The guards over the record of all that a rule may read. Their conditions are those above.
 
 -- a PRI arbiter has the bus cleared for a request above the level last granted
 abbrev pub clear_guard : Readings → Guard
@@ -244,7 +243,7 @@ is_bus_clear_due r = holds (clear_guard r)
 abbrev pub is_asked : Readings → Release → Bool
 is_asked r release = holds (released (list_any r.request bus_numbers) release)
 
--- the board's requester may give up the bus: without a requester, nothing is asked
+-- the board's requester may give up the bus; a board without a requester has no condition here
 abbrev pub release_guard : Readings → Guard
 release_guard r =
     option_map_or (λ q. released (list_any r.request bus_numbers) q.release)
@@ -265,7 +264,7 @@ burst_guard r =
 abbrev pub is_within_burst : Readings → Bool
 is_within_burst r = holds (burst_guard r)
 
--- the board may show it
+-- the board may show this cycle
 abbrev pub show_guard : Readings → Option Cycle → Guard
 show_guard r v =
     shows (λ level. option_map_or (λ b. has_level b.handler level) r.board false) r.irq v
@@ -273,14 +272,14 @@ show_guard r v =
 abbrev pub may_show : Readings → Option Cycle → Bool
 may_show r v = holds (show_guard r v)
 
--- the board passes it on
+-- the board passes the acknowledge on
 abbrev pub pass_guard : Readings → Option Cycle → Guard
 pass_guard r v = passes (is_pending r) v
 
 abbrev pub is_passed_by : Readings → Option Cycle → Bool
 is_passed_by r v = holds (pass_guard r v)
 
--- the board answers it
+-- the board answers what is shown
 abbrev pub answer_guard : Readings → Option Cycle → Guard
 answer_guard r v =
     answers r.iack_in (r.own IackOut) (is_pending r)
@@ -290,7 +289,7 @@ abbrev pub may_answer : Readings → Option Cycle → Bool
 may_answer r v = holds (answer_guard r v)
 
 -- The table: the number of the rule that names a wire and a direction, and its guard, whose source
--- and reason stand above it. `true` is a fall, and for the address group going on; `v` is what it
+-- and reason stand above it. `true` is a fall, or the address group going on; `v` is what the group
 -- then shows.
 abbrev pub guard : Version → Readings → Wire → Bool → Option Cycle → ℕ × Guard
 guard version r (Bg n) true v =

@@ -7,19 +7,19 @@ use Rattle.vme_model.specs.Plan.{Plan}
 use Rattle.vme_model.specs.GrantSafety.{OneTravels, NoneTravelsWhileBusy, OneHolds, TakesRightfully, OneChainLow, NoGap, BeginsAtController, ReleasesAfterGrants, NoneLost, TravelsOrEnds}
 use Rattle.vme_model.specs.CycleSafety.{OneAddresses, KeepsItsAddress, OneAnswers, AnswersRightfully, AnswersOnce, ReleasesAnswered}
 
--- it holds before the first edge, and after each one
+-- the claim holds before the first edge, and after each one
 abbrev pub OnEachPrefix : (List Edge → Type 0) → List Edge → Type 0
 OnEachPrefix P [] = P []
 OnEachPrefix P (e ∷ h) = P (e ∷ h) × OnEachPrefix P h
 
--- it holds of each edge and the history before it
+-- the claim holds for each edge and the history before it
 abbrev pub AtEachEdge : (List Edge → Edge → Type 0) → List Edge → Type 0
 AtEachEdge P [] = Unit {0}
 AtEachEdge P (e ∷ h) = P h e × AtEachEdge P h
 
--- at most one grant travels, none while the bus is busy, at most one slot holds it and at most one
--- addresses; each take and each answer is rightful; and each request of a ROAK slot is answered
--- once
+-- at most one grant travels, none while the bus is busy; at most one slot holds the bus, and at
+-- most one drives the address lines; each take and each answer is rightful; and each request of a
+-- ROAK slot is answered once
 pub record IsSafe (p : Plan) (h : List Edge) : Type 0 where
   pub one_travels : OnEachPrefix (OneTravels p) h
   pub none_while_busy : OnEachPrefix (NoneTravelsWhileBusy p) h

@@ -27,7 +27,7 @@ chain_bit chain.Bg2 = 4
 chain_bit chain.Bg3 = 8
 chain_bit chain.Iack = 16
 
--- how a chain is called in texts (profile)
+-- a chain's name in texts (profile)
 abbrev pub chain_name : ChainId → List ℕ
 chain_name chain.Bg0 = codes "bg0"
 chain_name chain.Bg1 = codes "bg1"
@@ -55,7 +55,7 @@ no_chains = record { 0 = 0 }
 abbrev pub bits_of_levels : Levels → ℕ
 bits_of_levels set = set.0
 
--- the same, of chains
+-- a set of chains as a number, by its bits
 abbrev pub bits_of_chains : Chains → ℕ
 bits_of_chains set = set.0
 

@@ -53,8 +53,8 @@ bg_rise_settles version bbsy is_past =
 abbrev pub bg_fall_settles : Version → Bool → Guard
 bg_fall_settles version are_through = unless (not (is_two version)) (asks GrantsThrough are_through)
 
--- The number of the settling rule that names a wire and a direction, and its guard; 0 and a free
--- one where none does.
+-- The number of the settling rule that names a wire and a direction, and its guard; 0 and a guard
+-- that always holds if no settling rule names them.
 abbrev pub settling_guard : Version → Plan → List Edge → Wire → Bool → ℕ × Guard
 settling_guard version p h AddressStrobe true = (1, as_settles (is_chain_clear p h chain.Iack))
 settling_guard version p h Berr true = (2, berr_settles (is_unanswerable p h (shown p h)))

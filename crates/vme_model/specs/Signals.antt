@@ -11,18 +11,18 @@ use Rattle.vme_model.specs.declared.signals.Cycle.{Cycle}
 use Rattle.vme_model.specs.declared.signals.Cycle.TheVariants.{Acknowledge, Access}
 use Rattle.vme_model.specs.declared.signals.Edge.{Edge}
 
--- the second version of the rules (profile)
+-- whether this is the second version of the rules (profile)
 abbrev pub is_two : Version → Bool
 is_two One = false
 is_two Two = true
 
--- the same driver
+-- the two are the same driver
 abbrev pub is_same_driver : Driver → Driver → Bool
 is_same_driver Controller Controller = true
 is_same_driver (Slot s) (Slot t) = s == t
 is_same_driver _ _ = false
 
--- the same wire of a driver; grants of two levels are two wires
+-- the two are the same wire of a driver; grants of two levels are two wires
 abbrev pub is_same_wire : Wire → Wire → Bool
 is_same_wire (Bg m) (Bg n) = m == n
 is_same_wire Bclr Bclr = true
@@ -39,11 +39,11 @@ is_same_wire IackOut IackOut = true
 is_same_wire Dtack Dtack = true
 is_same_wire _ _ = false
 
--- an edge of that driver's wire
+-- an edge of that driver on that wire
 abbrev pub is_edge_of : Driver → Wire → Edge → Bool
 is_edge_of d w e = is_same_wire e.wire w && is_same_driver e.driver d
 
--- an edge of that driver's wire, and a fall
+-- a fall of that driver on that wire
 abbrev pub is_fall_of : Driver → Wire → Edge → Bool
 is_fall_of d w e = e.fall && is_edge_of d w e
 
@@ -69,7 +69,7 @@ is_slot s = nat_le 1 s && nat_le s 21
 abbrev pub is_level : ℕ → Bool
 is_level level = nat_le 1 level && nat_le level 7
 
--- the controller's wires, and a board's
+-- which wires the controller and a board have
 abbrev pub has_wire : Driver → Wire → Bool
 has_wire Controller (Bg level) = nat_lt level 4
 has_wire Controller Bclr = true
@@ -82,17 +82,17 @@ has_wire (Slot s) Iack = false
 has_wire (Slot s) Berr = false
 has_wire (Slot s) _ = is_slot s
 
--- an acknowledge, of whatever level (chapter 4)
+-- an acknowledge, of any level (chapter 4)
 abbrev pub is_acknowledge : Option Cycle → Bool
 is_acknowledge (Some (Acknowledge level)) = true
 is_acknowledge _ = false
 
--- a level of chapter 4, or a slot of chapter 7
+-- a level as in chapter 4, or a slot as in chapter 7
 abbrev pub is_in_range : Cycle → Bool
 is_in_range (Acknowledge level) = is_level level
 is_in_range (Access s) = is_slot s
 
--- a value stands exactly with a fall of the address group (profile)
+-- the edge has a value exactly if it is a fall of the address group (profile)
 abbrev pub has_value : Wire → Bool → Option Cycle → Bool
 has_value Addr true (Some cycle) = is_in_range cycle
 has_value Addr true None = false

@@ -1,4 +1,4 @@
--- How a condition is spelled of an edge. (Profile.)
+-- The text of a condition, for an edge. (Profile.)
 use Rattle.std.specs.Prelude.{ℕ, Bool, true, false, not, Option, Some, List, [], ◌++◌, codes, decimal, unwrap_or}
 use Rattle.std.specs.Option.{option_map_or, option_and_then}
 use Rattle.vme_model.specs.declared.boards.Row.{Row}
@@ -17,7 +17,7 @@ use Rattle.vme_model.specs.Signals.{grant_level}
 use Rattle.vme_model.specs.Guards.{fixed_text}
 use Rattle.vme_model.specs.Text.{wire_text}
 
--- the level of an acknowledge; 0 of what is none
+-- the level of an acknowledge; 0 if it is not one
 abbrev pub level_of : Option Cycle → ℕ
 level_of (Some (Acknowledge level)) = level
 level_of _ = 0
@@ -52,13 +52,13 @@ part_text w = codes "the board has a requester"
 abbrev pub board_text : Wire → Option Row → List ℕ
 board_text w board = option_map_or (λ r. part_text w) board (codes "the slot has a board")
 
--- the state that an edge's wire has to be in: the one that the edge ends
+-- the text for the state that an edge's wire has to be in: the one that the edge ends
 abbrev pub moved_text : Edge → List ℕ
 moved_text e =
     (((driver_name e.driver ++ codes " ") ++ wire_text e.wire) ++ codes " is ")
     ++ state_text e.wire (not e.fall)
 
--- how a condition of an edge is spelled, by the board in the edge's slot and by what is shown
+-- the text of a condition for an edge, by the board in the edge's slot and by what is shown
 abbrev pub condition_text : Condition → Edge → Option Row → Option Cycle → List ℕ
 condition_text condition.Picked e board shown =
     codes "the arbiter picks level " ++ decimal (grant_level e.wire)

@@ -1,5 +1,5 @@
--- Where a bus stands, and the lines that tell it. (The words are those of chapters 2 to 4; what is
--- told, and its order, is this project's profile.)
+-- Where a bus stands, and the lines that report it. (The words are those of chapters 2 to 4; what
+-- is reported, and its order, is this project's profile.)
 use Rattle.std.specs.Prelude.{◌&&◌, ℕ, Bool, false, not, if◌then◌else◌, Option, Some, List, [], ◌∷◌, ◌++◌, length, map, filter, find, nat_lt, decimal, codes}
 use Rattle.std.specs.List.{flat_map}
 use Rattle.std.specs.Option.{option_map_or}
@@ -23,7 +23,7 @@ use Rattle.vme_model.specs.Numbered.{Numbered, since}
 use Rattle.vme_model.specs.Witnesses.{requester_of, interrupter_of, holds_low}
 use Rattle.vme_model.specs.Why.{since_text}
 
--- the slot that holds the bus; the least, where there were several
+-- the slot that holds the bus; the least one, if there were several
 abbrev pub holder : Plan → List Edge → Option ℕ
 holder p h = find (λ s. drive h (Slot s) Bbsy) (up_to p.slots)
 
@@ -37,12 +37,12 @@ is_granted_at p h (n, s) =
 abbrev pub grant_places : Plan → List (ℕ × ℕ)
 grant_places p = flat_map (λ n. map (λ s. (n, s)) (active p (grant_chain n))) bus_numbers
 
--- the level of the grant that travels, and the slot that it stands at; the first, where there were
+-- the level of the grant that travels, and the slot at which it stands; the first, if there were
 -- several
 abbrev pub grant_at : Plan → List Edge → Option (ℕ × ℕ)
 grant_at p h = find (is_granted_at p h) (grant_places p)
 
--- a line for each driver of which there is something to tell, the controller first, then by slot
+-- a line for each driver that has something to report, the controller first, then by slot
 abbrev pub lines_of : State → (Driver → List ℕ) → List ℕ
 lines_of b text =
     flat_map (λ d. text d ++ 10 ∷ []) (filter (λ d. nat_lt 0 (length (text d))) (drivers b.plan))
@@ -52,7 +52,7 @@ abbrev pub with_commas : List (List ℕ) → List ℕ
 with_commas [] = []
 with_commas (w ∷ ws) = w ++ flat_map (λ v. codes ", " ++ v) ws
 
--- behind a first word, where there are any
+-- those words after a first word; nothing if there are none
 abbrev pub listed : List ℕ → Driver → List (List ℕ) → List ℕ
 listed first d [] = []
 listed first d (w ∷ ws) = ((first ++ driver_name d) ++ codes " ") ++ with_commas (w ∷ ws)
@@ -74,7 +74,8 @@ shown_text b k =
     ++ since_text (since k (Slot s) Addr))
     (addressing b.plan b.history) (codes "shown none")
 
--- a board that requests the bus, and one whose interrupter is pending, with the level
+-- the word for a board that requests the bus, and for one whose interrupter is pending, with the
+-- level
 abbrev pub at_level : List ℕ → Driver → ℕ → Option ℕ → List ℕ
 at_level first d level n =
     (((first ++ driver_name d) ++ codes " level ") ++ decimal level) ++ since_text n
@@ -104,7 +105,7 @@ abbrev pub is_later_access : Option Cycle → Bool
 is_later_access (Some (Access s)) = nat_lt 1 s
 is_later_access _ = false
 
--- an edge without its driver; the accesses are all open or none, and told by one word
+-- an edge without its driver; either all accesses are open or none is, and one word reports them
 abbrev pub open_text : Edge → List ℕ
 open_text e = (wire_text e.wire ++ sign e.fall) ++ open_argument e.value
   where
@@ -120,8 +121,7 @@ open_line b d =
 abbrev pub after_text : ℕ → ℕ → List ℕ
 after_text n accepted = ((codes "after " ++ decimal n) ++ codes " accepted ") ++ decimal accepted
 
--- where the bus stands behind the first n edges of a trace, where k numbers those that were
--- accepted
+-- where the bus stands after the first n edges of a trace, where k numbers those that were accepted
 abbrev pub stands_text : ℕ → State → Numbered → List ℕ
 stands_text n b k =
     (after_text n (length b.history) ++ 10 ∷ [])

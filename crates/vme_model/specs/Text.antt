@@ -18,12 +18,12 @@ use Rattle.vme_model.specs.Plan.{up_to}
 abbrev pub number : ℕ → List ℕ
 number n = if nat_lt n 10 then (48 + n) ∷ [] else (48 + n / 10) ∷ (48 + n % 10) ∷ []
 
--- how a driver is spelled
+-- a driver's text
 abbrev pub driver_text : Driver → List ℕ
 driver_text Controller = codes "c"
 driver_text (Slot s) = number s
 
--- how a wire is spelled
+-- a wire's text
 abbrev pub wire_text : Wire → List ℕ
 wire_text (Bg n) = codes "bg" ++ (48 + n) ∷ []
 wire_text Bclr = codes "bclr"
@@ -49,7 +49,7 @@ abbrev pub sign : Bool → List ℕ
 sign true = codes "-"
 sign false = codes "+"
 
--- what an edge shows, after a blank
+-- what an edge shows, after a space
 abbrev pub argument : Option Cycle → List ℕ
 argument None = []
 argument (Some (Acknowledge v)) = codes " i" ++ number v
@@ -91,12 +91,12 @@ all_edges = filter is_well_formed
 unfoldable pub edge_of : List ℕ → Option Edge
 edge_of line = find (λ e. bytes_eq line (spelling e)) all_edges
 
--- the first line
+-- the header line of a version
 abbrev pub header : Version → List ℕ
 header One = codes "vme 1"
 header Two = codes "vme 2"
 
--- the version that a first line names
+-- the version that a header line names
 abbrev pub version_of : List ℕ → Option Version
 version_of line =
     if bytes_eq line (header One) then Some One
@@ -117,8 +117,8 @@ pub data TextFault : Type 0 where
   too_long : ℕ → TextFault
   cut_off : TextFault
 
--- what the bytes of a trace say: its version, once the header line stands, its edges up to the
--- first fault, and that fault
+-- what the bytes of a trace say: its version, if the header line is there; its edges up to the
+-- first fault; and that fault
 pub record Reading : Type 0 where
   pub version : Option Version
   pub edges : List Edge
@@ -129,8 +129,8 @@ abbrev pub begin_line : ℕ → List (List ℕ) × List ℕ → List (List ℕ) 
 begin_line b ([], rest) = ([], b ∷ rest)
 begin_line b (l ∷ ls, rest) = ((b ∷ l) ∷ ls, rest)
 
--- bytes as lines: the complete ones, each without its line feed, and what stands after the last
--- line feed
+-- bytes split into lines: the complete ones, each without its line feed, and what stands after the
+-- last line feed
 unfoldable pub split_lines : List ℕ → List (List ℕ) × List ℕ
 split_lines [] = ([], [])
 split_lines (b ∷ bs) =
@@ -144,8 +144,8 @@ is_too_long line = nat_lt 64 (length line)
 abbrev pub next_number : ℕ → ℕ
 next_number n = min (n + 1) (2 ^ 64 - 1)
 
--- what stands after the last line feed says at the end of the input, where lines were complete
--- before it
+-- the fault in what stands after the last line feed at the end of the input, if complete lines
+-- stand before it
 abbrev pub end_fault : ℕ → List ℕ → Option TextFault
 end_fault n rest =
     if is_too_long rest then Some (too_long n)
@@ -164,7 +164,7 @@ read_lines n (line ∷ lines) rest =
     if is_too_long line then ([], Some (too_long n))
     else before_others n (edge_of line) (read_lines (next_number n) lines rest)
 
--- a trace that is at fault before its first edge
+-- what a trace says if it has a fault before its first edge
 abbrev pub unread : TextFault → Reading
 unread fault = record { version = None; edges = []; fault = Some fault }
 
@@ -174,7 +174,7 @@ behind_header None others = unread no_header
 behind_header (Some version) others =
     record { version = Some version; edges = others.0; fault = others.1 }
 
--- the n-th line is the header
+-- what the lines say, the n-th of which is the header
 abbrev pub read_from_header : ℕ → List (List ℕ) → List ℕ → Reading
 read_from_header n [] rest =
     if is_too_long rest then unread (too_long n)
@@ -183,6 +183,6 @@ read_from_header n (line ∷ lines) rest =
     if is_too_long line then unread (too_long n)
     else behind_header (version_of line) (read_lines (next_number n) lines rest)
 
--- what the whole bytes say
+-- what all the bytes say
 unfoldable pub read_of : List ℕ → Reading
 read_of bytes = read_from_header 1 (split_lines bytes).0 (split_lines bytes).1

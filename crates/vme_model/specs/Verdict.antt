@@ -26,7 +26,7 @@ pub record State : Type 0 where
 abbrev pub Judgement : Type 0
 Judgement = Result (Unit {0}) Refused
 
--- the refusal where the test fails, and else what comes after
+-- the refusal if the test fails, and otherwise what comes after
 abbrev pub check : Bool → Refused → Judgement → Judgement
 check true refusal rest = rest
 check false refusal rest = Err refusal
@@ -35,7 +35,7 @@ check false refusal rest = Err refusal
 abbrev pub is_other_state : Bool → Bool → Bool
 is_other_state low fall = if fall then not low else low
 
--- what E1, E2 and E5 ask for, of an edge
+-- what E1, E2 and E5 ask for, about an edge
 abbrev pub driver_guard : Plan → Edge → Guard
 driver_guard p e = asks HasDriver (is_well_formed e && has_driver p e.driver e.wire)
 
@@ -56,7 +56,7 @@ ruled version r w fall v rest =
 abbrev pub ruling_on : Version → Readings → Wire → Bool → Option Cycle → Judgement
 ruling_on version r w fall v = ruled version r w fall v (Ok tt)
 
--- the same for an edge
+-- the answer of the rules alone to an edge: E2, E3 or Ok
 abbrev pub ruling : Version → Readings → Edge → Judgement
 ruling version r e = ruling_on version r e.wire e.fall e.value
 
@@ -76,11 +76,11 @@ judged version p h e rest =
 abbrev pub verdict : State → Edge → Judgement
 verdict b e = judged b.version b.plan b.history e (check (holds (room_guard b)) TraceFull (Ok tt))
 
--- the same but for E5
+-- the first of E1 to E4 that applies
 abbrev pub verdict_but_full : Version → Plan → List Edge → Edge → Judgement
 verdict_but_full version p h e = judged version p h e (Ok tt)
 
--- each edge was allowed when it was made
+-- each edge of the list was allowed when it was made
 abbrev pub IsLegal : Version → Plan → List Edge → Type 0
 IsLegal version p [] = Unit {0}
 IsLegal version p (e ∷ h) = (verdict_but_full version p h e ≡ Ok tt) × IsLegal version p h
@@ -89,11 +89,11 @@ IsLegal version p (e ∷ h) = (verdict_but_full version p h e ≡ Ok tt) × IsLe
 abbrev pub made : State → Edge → State
 made b e = record b { history = e ∷ b.history }
 
--- the backplane after an edge: with it where the verdict is Ok, and else as it was
+-- the backplane after an edge: with it if the verdict is Ok, and otherwise as it was
 abbrev pub after : State → Edge → State
 after b e = if is_ok (verdict b e) then made b e else b
 
--- the backplane after those of the edges that are accepted, each judged on what was kept before it
+-- the backplane after those edges that are accepted, each judged on what was kept before it
 abbrev pub kept : State → List Edge → State
 kept b [] = b
 kept b (e ∷ es) = kept (after b e) es

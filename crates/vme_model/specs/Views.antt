@@ -32,6 +32,6 @@ abbrev pub noted : Plan → List Edge → Driver → List (Edge × Pins)
 noted p [] d = []
 noted p (e ∷ h) d = if is_same_driver e.driver d then (e, pins p h d) ∷ noted p h d else noted p h d
 
--- all that a driver saw: those, and its pins now
+-- all that a driver saw: its own edges with their pins, and its pins now
 abbrev pub view : Plan → List Edge → Driver → List (Edge × Pins) × Pins
 view p h d = (noted p h d, pins p h d)

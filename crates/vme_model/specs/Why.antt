@@ -1,4 +1,4 @@
--- Why an edge is accepted or refused, and the block that tells it. (Profile.)
+-- Why an edge is accepted or refused, and the block that reports it. (Profile.)
 use Rattle.std.specs.Prelude.{ℕ, Bool, if◌then◌else◌, Option, Some, None, List, [], ◌∷◌, ◌++◌, map, decimal, codes, Ok, Err}
 use Rattle.std.specs.List.{flat_map}
 use Rattle.vme_model.specs.declared.conditions.Tested.{Tested}
@@ -21,7 +21,7 @@ use Rattle.vme_model.specs.Spoken.{driver_name, state_text, condition_text}
 use Rattle.vme_model.specs.Numbered.{Numbered}
 use Rattle.vme_model.specs.Witnesses.{witnesses_of}
 
--- a condition with whether it holds before the edge, and what is told of it
+-- a condition with whether it holds before the edge, and its readings
 pub record Reason : Type 0 where
   pub tested : Tested
   pub witnesses : List Witness
@@ -32,17 +32,17 @@ why b k e =
     map (λ t. record { tested = t; witnesses = witnesses_of b k e t.condition })
     (conditions (tested b e))
 
--- the number of an edge, where there is one
+-- the text for the number of an edge, if there is one
 abbrev pub since_text : Option ℕ → List ℕ
 since_text None = []
 since_text (Some n) = codes " since " ++ decimal n
 
--- a level, where it is told
+-- the text for a level, if it is reported
 abbrev pub level_text : Option ℕ → List ℕ
 level_text None = []
 level_text (Some level) = codes " level " ++ decimal level
 
--- what the policy picks
+-- the text for what the policy picks
 abbrev pub pick_text : Option ℕ → List ℕ
 pick_text None = codes "pick none"
 pick_text (Some level) = codes "pick " ++ decimal level
@@ -59,14 +59,14 @@ witness_text (Cycles d made burst) =
 witness_text (Served d since) = (driver_name d ++ codes " served since ") ++ decimal since
 witness_text (Strobed d at) = (driver_name d ++ codes " ds- at ") ++ decimal at
 
--- a line for each
+-- a line for each reading
 abbrev pub witness_lines : List Witness → List ℕ
 witness_lines ws = flat_map (λ w. (codes "    " ++ witness_text w) ++ 10 ∷ []) ws
 
 abbrev pub outcome_text : Bool → List ℕ
 outcome_text holds = if holds then codes "holds " else codes "fails "
 
--- a line for a condition of an edge, and one for each of its witnesses
+-- a line for a condition of an edge, and one for each of its readings
 abbrev pub reason_lines : State → Edge → Reason → List ℕ
 reason_lines b e r =
     ((outcome_text r.tested.holds

@@ -1,6 +1,6 @@
--- What is told of each condition: the wires that it speaks of, or that hold its line low, and since
--- when. (The lines and chains are those of chapters 2 to 4; what is told, and its order, is this
--- project's profile.)
+-- The readings of each condition: the wires that it speaks of, or that hold its line low, and since
+-- when. (The lines and chains are those of chapters 2 to 4; what is reported, and its order, is
+-- this project's profile.)
 use Rattle.std.specs.Prelude.{◌&&◌, if◌then◌else◌, ℕ, Bool, false, Option, Some, None, List, [], ◌∷◌, ◌++◌, map, filter, option_map}
 use Rattle.std.specs.Option.{option_map_or, option_and_then, option_to_list}
 use Rattle.vme_model.specs.declared.boards.Release.{Release}
@@ -26,27 +26,27 @@ use Rattle.vme_model.specs.Rules.{bus_numbers, pick}
 use Rattle.vme_model.specs.Verdict.{State}
 use Rattle.vme_model.specs.Numbered.{Numbered, since, granted_since, served_since, strobed_at}
 
--- In each of these k numbers the edges of b, and d is the driver of the edge that is asked about.
+-- In each of these, k numbers the edges of b, and d is the driver of the edge that is asked about.
 
--- the board's parts, where it has them
+-- the board's parts, if it has them
 abbrev pub requester_of : State → Driver → Option RequesterRow
 requester_of b d = option_and_then (λ r. r.requester) (board_of b.plan d)
 
 abbrev pub interrupter_of : State → Driver → Option InterrupterRow
 interrupter_of b d = option_and_then (λ r. r.interrupter) (board_of b.plan d)
 
--- a driver's wire, the level told with it
+-- a driver's wire, reported with a level if there is one
 abbrev pub wire_at : State → Numbered → Driver → Wire → Option ℕ → Witness
 wire_at b k d Addr level =
     let on = drive b.history d Addr in
     witness.Wire d Addr on (if on then shown b.plan b.history else None) level (since k d Addr)
 wire_at b k d w level = witness.Wire d w (drive b.history d w) None level (since k d w)
 
--- the same without a level
+-- a driver's wire, reported without a level
 abbrev pub seen : State → Numbered → Driver → Wire → Witness
 seen b k d w = wire_at b k d w None
 
--- the driver's own wire, where it has it
+-- the driver's own wire, if it has it
 abbrev pub own : State → Numbered → Driver → Wire → List Witness
 own b k d w = if has_driver b.plan d w then seen b k d w ∷ [] else []
 
@@ -54,7 +54,7 @@ own b k d w = if has_driver b.plan d w then seen b k d w ∷ [] else []
 abbrev pub holds_low : State → Wire → Driver → Bool
 holds_low b w d = has_driver b.plan d w && drive b.history d w
 
--- who holds the wire low, the controller first, then by slot
+-- each driver that holds the wire low, the controller first, then by slot
 abbrev pub low : State → Numbered → Wire → List Witness
 low b k w = map (λ d. seen b k d w) (filter (holds_low b w) (drivers b.plan))
 
@@ -64,7 +64,7 @@ low_grants b k =
     map (λ n. seen b k Controller (Bg n))
     (filter (λ n. drive b.history Controller (Bg n)) bus_numbers)
 
--- who requests the bus, each with its level (chapter 3)
+-- each board that requests the bus, with its level (chapter 3)
 abbrev pub requests : State → Numbered → List Witness
 requests b k =
     map (λ d. wire_at b k d Br (option_map (λ q. q.level) (requester_of b d)))
@@ -79,7 +79,7 @@ abbrev pub picked : State → Witness
 picked b =
     witness.Picks (pick b.plan.arbiter (request_line b.plan b.history) (last_level b.history))
 
--- who asks for that interrupt level (chapter 4)
+-- each board that requests an interrupt of that level (chapter 4)
 abbrev pub interrupts : State → Numbered → ℕ → List Witness
 interrupts b k level =
     map (λ d. seen b k d Irq)
@@ -116,7 +116,7 @@ abbrev pub addressed : State → Numbered → List Witness
 addressed b k =
     option_to_list (option_map (λ s. seen b k (Slot s) Addr) (addressing b.plan b.history))
 
--- the board's cycles in this tenure, where it gives the bus up after a burst
+-- the board's cycles in this tenure, if it gives the bus up after a burst
 abbrev pub cycles_of : State → Driver → Release → List Witness
 cycles_of b d (Done burst) = witness.Cycles d (cycles b.history d) burst ∷ []
 cycles_of b d Request = []
@@ -124,11 +124,11 @@ cycles_of b d Request = []
 abbrev pub bursts : State → Driver → List Witness
 bursts b d = option_map_or (λ q. cycles_of b d q.release) (requester_of b d) []
 
--- the board's `ds-` of this cycle, where there was one
+-- the board's `ds-` of this cycle, if there was one
 abbrev pub strobe : Numbered → Driver → List Witness
 strobe k d = option_to_list (option_map (λ n. witness.Strobed d n) (strobed_at k d))
 
--- the board's first answer that served its request, while that is low
+-- the board's first answer that served its request, while the request is low
 abbrev pub service : State → Numbered → Driver → List Witness
 service b k d =
     if drive b.history d Irq
@@ -142,7 +142,7 @@ pending_at b k d =
     option_to_list (option_map (λ i. wire_at b k d Irq (Some i.level)) (interrupter_of b d))
     ++ service b k d
 
--- a condition on the board's own wires
+-- the readings of a condition on the board's own wires
 abbrev pub own_witnesses : State → Numbered → Driver → Condition → List Witness
 own_witnesses b k d condition.GrantInHigh = grant_input b k d
 own_witnesses b k d condition.GrantInLow = grant_input b k d
@@ -167,7 +167,7 @@ own_witnesses b k d condition.Pending = pending_at b k d
 own_witnesses b k d condition.NotPending = pending_at b k d
 own_witnesses b k d _ = []
 
--- what is told of a condition of an edge
+-- the readings of a condition of an edge
 abbrev pub witnesses_of : State → Numbered → Edge → Condition → List Witness
 witnesses_of b k e condition.GrantsHigh = low_grants b k
 witnesses_of b k e condition.Picked = requests b k ++ granted b k ∷ picked b ∷ []

@@ -1,23 +1,22 @@
-//! The conditions of which the guards of the rules are made.
+//! The conditions that make up the guards of the rules.
 ghost use Rattle.std.specs.Prelude.{◌≡◌, ◌≤◌, length, IfSome, option_map};
 ghost use Rattle.vme_model.specs.Guards.{fixed_text, own_text};
 
-/// One condition of a guard, by what it asks for just before an edge.
+/// One condition of a guard, named by what it asks for just before an edge.
 ///
-/// A wire or a line is low or high; the address group is on or off.
+/// A wire or a line is low or high; the address group is on or off. Source: profile (the names).
 #[derive(Clone, Copy, PartialEq, Eq, Debug, Default)]
 pub enum Condition {
     /// All four grants of the controller are high.
     #[default]
     GrantsHigh,
-    /// The arbiter's policy picks the level of the grant, of those requested.
+    /// The arbiter's policy picks the level of the grant from the requested levels.
     Picked,
     /// The arbiter's policy is priority.
     ArbiterIsPri,
     /// A bus request above the level last granted is low.
     HigherAsked,
-    /// The arbiter has no reason to ask for the bus: one of the conditions of a falling bus clear
-    /// fails.
+    /// Bus clear is not due: one of the conditions of a falling bus clear fails.
     ClearNotDue,
     /// BBSY* is high.
     BusyHigh,
@@ -37,7 +36,7 @@ pub enum Condition {
     BerrHigh,
     /// DTACK* or BERR* is low.
     Answered,
-    /// The address lines show an acknowledge, of whatever level.
+    /// The address lines show an acknowledge, of any level.
     AcknowledgeShown,
     /// The address lines show an acknowledge or an access.
     CycleShown,
@@ -77,16 +76,16 @@ pub enum Condition {
     Asked,
     /// The board has begun fewer cycles in this tenure than its burst.
     WithinBurst,
-    /// The board handles the level of the acknowledge that it is to show.
+    /// The board handles the level of the acknowledge that it is about to show.
     Handled,
-    /// The interrupt request line of that level is low.
+    /// The interrupt request line of the acknowledge's level is low.
     InterruptLow,
     /// The board's data strobe has fallen in this cycle.
     Strobed,
     /// The board's data strobe has not fallen in this cycle.
     NotStrobed,
-    /// The board's interrupt request was served in its own way: ROAK by an acknowledge, RORA by an
-    /// access.
+    /// The board's interrupt request was served in its own way: ROAK by an acknowledge, RORA by a
+    /// register access.
     Served,
     /// The board's interrupter is pending at the level that is shown.
     Pending,
@@ -94,22 +93,22 @@ pub enum Condition {
     NotPending,
     /// Every segment of the acknowledge chain is high.
     ChainHigh,
-    /// No board can answer what is shown: the acknowledge has passed the last one, or the slot is
-    /// empty.
+    /// No board can answer what is shown: the acknowledge has passed the last board, or the
+    /// accessed slot is empty.
     NobodyCanAnswer,
     /// Every board that works the grant's chain has passed the grant on.
     PassedTheLastBoard,
     /// Every board's bus grant out is high.
     GrantsThrough,
-    /// The edge is well formed, and the plan has the board and the part that drive its wire.
+    /// The edge is well formed, and the plan has the board and the part that drives its wire.
     HasDriver,
-    /// The wire is in the state that the edge ends.
+    /// The wire is in the state that the edge ends: high before a fall, low before a rise.
     OtherState,
     /// The trace can hold one more edge.
     HasRoom,
 }
 
-/// A condition of a guard, and whether it holds just before an edge.
+/// A condition of a guard, and whether it holds just before an edge. Source: profile.
 #[derive(Clone, Copy, PartialEq, Eq, Debug, Default)]
 pub struct Tested {
     /// The condition.
@@ -119,7 +118,8 @@ pub struct Tested {
 }
 
 impl Condition {
-    /// How it is spelled, where its edge, its board and what is shown have no part in it.
+    /// The condition's text, or none if the text depends on the edge, its board or what is shown.
+    /// docs/COMMANDS.md lists the texts.
     pub fn fixed_text(self) -> Option<&'static str>
         ensures text { option_map (λ text. text.now) result ≡ fixed_text self }
         ensures short { IfSome result (λ text. length text.now ≤ 48) }
@@ -153,7 +153,7 @@ impl Condition {
         Some(text)
     }
 
-    /// The same for a condition on the board's own wires.
+    /// The text of a condition on the board's own wires; none for any other condition.
     fn own_text(self) -> Option<&'static str>
         ensures text { option_map (λ text. text.now) result ≡ own_text self }
         ensures short { IfSome result (λ text. length text.now ≤ 48) }

@@ -1,6 +1,8 @@
-//! What holds of every legal list of edges of every accepted plan, and of every guard.
+//! What holds for every legal list of edges on every accepted plan, and for every guard.
 //!
-//! The functions do nothing: each is a theorem over the definitions, stated by its contract.
+//! These functions do nothing and cost nothing. Each states a theorem over the definitions by its
+//! contract, and a call of it gives the theorem to the prover. The claims are profile;
+//! docs/SAFETY.md explains them.
 ghost use Rattle.std.specs.Prelude.{◌≡◌, ◌↔◌, ℕ, Some, None, true, not, Bool, List, [], Ok, Option, map, filter, is_ok, is_some};
 ghost use Rattle.std.specs.List.{All, list_all};
 ghost use Rattle.vme_model.specs.Accepted.{IsAccepted};
@@ -29,31 +31,32 @@ ghost use Rattle.vme_model.specs.declared.signals.Version.TheVariants.{One, Two}
 ghost use Rattle.vme_model.specs.declared.signals.Version.{Version};
 ghost use Rattle.vme_model.specs.declared.signals.Wire.{Wire};
 
-/// Every legal list is safe: after each edge at most one grant travels, none while BBSY* is low, at
-/// most one board holds the bus and at most one drives the address lines; each board took the bus
-/// and answered an acknowledge by right; and each ROAK request was answered at most once, and
-/// exactly once before it was let go.
+/// Every legal list is safe. After each edge at most one grant travels, none while BBSY* is low; at
+/// most one board holds the bus; and at most one drives the address lines. Each board took the bus,
+/// and answered an acknowledge, by right. Each ROAK request was answered at most once, and exactly
+/// once before it was let go.
 pub fn legal_list_is_safe()
     ensures { (version : Version) (p : Plan) (h : List Edge) →
         IsAccepted p → IsLegal version p h → IsSafe p h }
 {}
 
-/// Every legal list is orderly: after each edge the low grant segments are one run of one chain,
-/// that begins with the controller's while BBSY* is high; the bus is released only where none is
-/// low; no grant is lost; a board drives the address lines without the bus only while its AS* is
-/// low; and no cycle has two answers.
+/// Every legal list is orderly. After each edge the low grant segments are one run of one chain,
+/// which begins with the controller's segment while BBSY* is high. The bus is released only if no
+/// segment is low. No grant is lost. A board drives the address lines without the bus only while
+/// its AS* is low. No cycle has two answers.
 pub fn legal_list_is_orderly()
     ensures { (version : Version) (p : Plan) (h : List Edge) →
         IsAccepted p → IsLegal version p h → IsOrderly version p h }
 {}
 
-/// What the first version of the rules allows, the second allows too.
+/// The second version of the rules allows everything that the first one allows.
 pub fn first_version_is_within_second()
     ensures { (p : Plan) (h : List Edge) → IsAccepted p → IsLegal One p h → IsLegal Two p h }
 {}
 
-/// The verdict on an edge is the same after two histories of which its driver saw the same; but for
-/// a full trace, and for the edges that a settling rule binds to other boards' wires.
+/// The verdict on an edge is the same after any two histories in which its driver saw the same.
+/// This leaves out a full trace, and the edges for which a settling rule looks at other boards'
+/// wires.
 pub fn verdict_is_local()
     ensures well_formed { (version : Version) (p : Plan) (h k : List Edge) (e : Edge) →
         IsAccepted p → AreWellFormed h → AreWellFormed k → IsLocal version p h k e }
@@ -61,8 +64,8 @@ pub fn verdict_is_local()
         IsAccepted p → IsLegal version p h → IsLegal version p k → IsLocal version p h k e }
 {}
 
-/// A guard holds exactly where all its conditions do, and exactly where none fails; those that fail
-/// are, in the guard's order, those of its conditions that do not hold.
+/// A guard holds exactly if all its conditions hold, and exactly if none of them fails. The
+/// conditions that fail are, in the guard's order, those that do not hold.
 pub fn guard_fails_by_its_conditions()
     ensures all { (g : Guard) → holds g ≡ list_all (λ c. c.holds) (conditions g) }
     ensures none { (g : Guard) → (failed g ≡ []) ↔ (holds g ≡ true) }
@@ -70,8 +73,8 @@ pub fn guard_fails_by_its_conditions()
         ≡ map (λ c. c.condition) (filter (λ c. not c.holds) (conditions g)) }
 {}
 
-/// No condition of the rule that names an edge fails exactly where the rule's guard holds; and so
-/// of the settling rule.
+/// The guard of the rule that names an edge holds exactly if none of the rule's conditions fails,
+/// and the guard of the settling rule exactly if none of that rule's conditions fails.
 pub fn rule_fails_by_its_conditions()
     ensures rule { (version : Version) (r : Readings) (w : Wire) (fall : Bool) (v : Option Cycle) →
         (failing version r w fall v ≡ []) ↔ ((rule version r w fall v).1 ≡ true) }
@@ -79,9 +82,10 @@ pub fn rule_fails_by_its_conditions()
         (unsettled version p h w fall ≡ []) ↔ ((settling version p h w fall).1 ≡ true) }
 {}
 
-/// An edge fails no condition exactly where it is accepted, and so but for E5. Those that it fails are
-/// the conditions that fail of the first guard that does not hold: what E1 asks for, E2, its rule, its
-/// settling rule, E5. Of all that is tested of it, the same ones fail.
+/// An edge fails no condition exactly if it is accepted; this holds with E5 and without it. An edge
+/// that is refused fails those conditions that fail in the first guard that does not hold: what E1
+/// asks for, then E2, its rule, its settling rule, E5. Of all conditions that are tested for the
+/// edge, the same ones fail.
 pub fn edge_fails_where_it_is_refused()
     ensures none { (b : State) (e : Edge) → (unmet b e ≡ []) ↔ (verdict b e ≡ Ok tt) }
     ensures none_but_full { (version : Version) (p : Plan) (h : List Edge) (e : Edge) →
@@ -92,21 +96,22 @@ pub fn edge_fails_where_it_is_refused()
         failed (tested_but_full version p h e) ≡ unmet_but_full version p h e }
 {}
 
-/// The open edges of a driver are all edges of it that would be accepted after the history, and no others.
+/// The open edges of a driver are all its edges that would be accepted after the history, and no
+/// others.
 pub fn open_edges_are_all_that_is_allowed()
     ensures { (b : State) (d : Driver) → IsAllThatIsAllowed b d (open_edges b d) }
 {}
 
-/// The numbered edges of a trace are those that are kept of it, and each is the edge of the trace
-/// that has its number.
+/// The numbered edges of a trace are the accepted ones, and each is the edge of the trace that has
+/// its number.
 pub fn numbered_edges_are_kept()
     ensures kept { (b : State) (es : List Edge) → b.history ≡ [] →
         edges_in (numbered b es) ≡ (kept b es).history }
     ensures numbers { (b : State) (es : List Edge) → All (λ m. IsNth es m.0 m.1) (numbered b es) }
 {}
 
-/// A wire that is low has an edge since which it is; an interrupt request was served, and a data
-/// strobe fell in this cycle, exactly where an edge is told.
+/// A wire that is low has an edge since which it is low. An interrupt request was served, and a
+/// data strobe fell in this cycle, exactly if an edge is reported for it.
 pub fn what_is_so_has_its_edge()
     ensures low { (k : Numbered) (d : Driver) (w : Wire) →
         drive (edges_in k) d w ≡ true → is_some (since k d w) ≡ true }
@@ -116,14 +121,15 @@ pub fn what_is_so_has_its_edge()
         is_some (strobed_at k d) ≡ has_strobed (edges_in k) d }
 {}
 
-/// An edge is accepted exactly where every condition that is told of it holds.
+/// An edge is accepted exactly if every condition that is reported for it holds.
 pub fn why_tells_the_verdict()
     ensures { (b : State) (k : Numbered) (e : Edge) →
         is_ok (verdict b e) ≡ list_all (λ r. r.tested.holds) (why b k e) }
 {}
 
-/// The slot that is told as the holder holds the bus. The grant that is told stands at its slot,
-/// which has neither passed it on nor taken it, and where none is told none stands anywhere.
+/// The slot that is reported as the holder holds the bus. The grant that is reported stands at its
+/// slot, which has neither passed it on nor taken it. If no grant is reported, none stands
+/// anywhere.
 pub fn bus_stands_where_it_is_told()
     ensures holder { (p : Plan) (h : List Edge) (s : ℕ) → holder p h ≡ Some s → Holds h s }
     ensures grant { (p : Plan) (h : List Edge) (n s : ℕ) →
@@ -132,7 +138,7 @@ pub fn bus_stands_where_it_is_told()
         grant_at p h ≡ None → (n s : ℕ) → Travels p h n s → ⊥ }
 {}
 
-/// Of a driver's accesses all are open or none, so that one word tells them.
+/// Either all accesses of a driver are open or none is, so one word reports them.
 pub fn accesses_are_open_alike()
     ensures { (b : State) (d : Driver) (s t : ℕ) → is_slot s ≡ true → is_slot t ≡ true →
         verdict b (showing d (Access s)) ≡ verdict b (showing d (Access t)) }

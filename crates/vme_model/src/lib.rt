@@ -1,8 +1,11 @@
 //! What an edge, a board, a pin and a refusal are, and every definition that a theorem of this
 //! workspace cites.
 //!
-//! The definitions stand in `specs/`, one file a subject, in the order in which `specs/Lib.antt`
-//! names them.
+//! The definitions stand in `specs/`, one file for each subject, in the order in which
+//! `specs/Lib.antt` names them.
+//!
+//! A comment names its source where a rule stands behind it: *Std 1014* is ANSI/IEEE Std 1014-1987,
+//! and *profile* is what this project adds to the standard. docs/RULES.md has the rules.
 #![tactic(auto)]
 
 mod boards;
@@ -25,5 +28,5 @@ pub use sets::{BusLevels, ChainId, Chains, Levels};
 pub use signals::{Cycle, Driver, Edge, Version, Wire};
 pub use witnesses::Witness;
 
-/// The most edges that a trace can hold.
+/// The most edges that a trace can hold; the next one is refused as E5. Source: profile.
 pub const TRACE_LIMIT: u32 = 1_048_576;

@@ -2,7 +2,8 @@
 use crate::sets::{BusLevels, Levels};
 use crate::signals::Cycle;
 
-/// The lines and inputs that a driver sees. True means low, and a set holds the low lines.
+/// The lines and inputs that a driver sees. True means low, and a set holds the low lines. Source:
+/// profile.
 #[derive(Clone, Copy, PartialEq, Eq, Debug)]
 pub struct Pins {
     /// BR0* to BR3*.
@@ -17,8 +18,8 @@ pub struct Pins {
     pub irq: Levels,
     /// The value of the address group that is on.
     pub shown: Option<Cycle>,
-    /// The input of the board's own grant chain; false without a requester.
+    /// The input of the board's own grant chain; false if the board has no requester.
     pub grant_in: bool,
-    /// The input of the acknowledge chain; false without an interrupter.
+    /// The input of the acknowledge chain; false if the board has no interrupter.
     pub iack_in: bool,
 }

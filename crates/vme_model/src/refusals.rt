@@ -6,18 +6,18 @@ use crate::sets::ChainId;
 use std::error::Error;
 use std::fmt;
 
-/// Why a backplane refuses an edge, in the order of the tests.
+/// Why a backplane refuses an edge, E1 to E5, in the order of the tests. Source: profile.
 #[derive(Clone, Copy, PartialEq, Eq, Debug)]
 pub enum Refused {
-    /// The edge is not well formed, or the plan has no such board or part.
+    /// E1: the edge is not well formed, or the plan has no such board or part.
     NoSuchDriver,
-    /// The driver is in that state.
+    /// E2: the driver is in that state already.
     AlreadyThere,
-    /// The guard of this rule, G1 to G26, fails.
+    /// E3: the guard of this rule, G1 to G26, fails.
     Rule(u8),
-    /// This settling rule, S1 to S4, fails.
+    /// E4: this settling rule, S1 to S4, fails.
     NotSettled(u8),
-    /// The trace holds no further edge.
+    /// E5: the trace can hold no further edge.
     TraceFull,
 }
 
@@ -37,7 +37,7 @@ impl fmt::Display for Refused {
 
 impl Error for Refused {}
 
-/// What is out of range in a plan.
+/// The field of a plan that is out of range (P8). Source: profile.
 #[derive(Clone, Copy, PartialEq, Eq, Debug)]
 pub enum Field {
     Slots,
@@ -67,7 +67,7 @@ impl fmt::Display for Field {
 
 impl Error for Field {}
 
-/// Why a plan is refused, by the numbers that users see.
+/// Why a plan is refused, P1 to P9. Its text begins with the number that users see.
 #[derive(Clone, Copy, PartialEq, Eq, Debug, thiserror::Error)]
 pub enum PlanError {
     /// Slot 1 has no board, so there is no controller.

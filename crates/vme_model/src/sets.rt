@@ -6,7 +6,7 @@ ghost use Rattle.vme_model.specs.Sets.{has_level, has_bus_level, has_chain, with
 use bitflags::{Flag, Flags};
 use std::fmt;
 
-/// A daisy chain.
+/// A daisy chain. Source: Std 1014, chapters 3 and 4.
 #[derive(Clone, Copy, PartialEq, Eq, Debug)]
 pub enum ChainId {
     Bg0,
@@ -46,15 +46,15 @@ impl ChainId {
 
 /// The table of a set's flags, each under the name of its constant.
 ///
-/// `bitflag_items!` would write it, and with it operators and number formats that have no contract
-/// and that nobody calls.
+/// `bitflag_items!` would write this table too, but with it operators and number formats that have
+/// no contract and that nobody calls.
 macro_rules! flag_table {
     ($set:ident: $($flag:ident),*) => {
         &[$(Flag { name: stringify!($flag), value: $set::$flag }),*]
     };
 }
 
-/// What a line adds to a set: its bit's value while it is low.
+/// What a line adds to a set: the value of its bit if it is low, and 0 otherwise.
 #[inline(always)]
 fn bit(low: bool, value: u8) -> u8
     ensures value { result ≡ (if low then value else 0) }
@@ -63,7 +63,8 @@ fn bit(low: bool, value: u8) -> u8
     if low { value } else { 0 }
 }
 
-/// A set of interrupt levels: level n, 1 to 7, is bit n - 1.
+/// A set of interrupt levels: level n, 1 to 7, is bit n - 1. Source: profile (the numbering of
+/// bits).
 #[derive(Clone, Copy, PartialEq, Eq, Debug)]
 pub struct Levels(u8);
 
@@ -110,7 +111,7 @@ impl Flags for Levels {
 }
 
 impl Levels {
-    /// The set of one level, 1 to 7, alone.
+    /// The set that has one level alone, 1 to 7.
     pub fn of(level: u8) -> Levels
         requires low { 1 ≤ level }
         requires high { level ≤ 7 }
@@ -119,7 +120,8 @@ impl Levels {
         Levels(1 << (level - 1))
     }
 
-    /// The set of the levels whose lines are low: at place n - 1 whether level n is.
+    /// The set of the levels whose lines are low. `low[n - 1]` says whether the line of level n is
+    /// low.
     pub fn of_lines(low: [bool; 7]) -> Levels
         ensures { result ≡ irq_levels (λ n. slice_index_or low (n - 1) false) }
     {
@@ -135,14 +137,14 @@ impl Levels {
         )
     }
 
-    /// Whether the level is in the set; no level beyond 1 to 7 is.
+    /// Whether the level is in the set. It is false for any level outside 1 to 7.
     pub fn has(self, level: u8) -> bool
         ensures { result ≡ has_level self level }
     {
         (1..=7).contains(&level) && self.contains(Levels(1 << (level - 1)))
     }
 
-    /// The set with that level, 1 to 7, in it too.
+    /// The set with that level, 1 to 7, added.
     pub fn with(self, level: u8) -> Levels
         requires low { 1 ≤ level }
         requires high { level ≤ 7 }
@@ -154,7 +156,7 @@ impl Levels {
     }
 }
 
-/// A set of bus request levels: level n, 0 to 3, is bit n.
+/// A set of bus request levels: level n, 0 to 3, is bit n. Source: profile (the numbering of bits).
 #[derive(Clone, Copy, PartialEq, Eq, Debug)]
 pub struct BusLevels(u8);
 
@@ -194,7 +196,7 @@ impl Flags for BusLevels {
 }
 
 impl BusLevels {
-    /// The set of the levels whose lines are low: at place n whether level n is.
+    /// The set of the levels whose lines are low. `low[n]` says whether the line of level n is low.
     pub fn of_lines(low: [bool; 4]) -> BusLevels
         ensures { result ≡ bus_levels (λ n. slice_index_or low n false) }
     {
@@ -202,7 +204,7 @@ impl BusLevels {
         BusLevels(bit(zero, 1) + bit(one, 2) + bit(two, 4) + bit(three, 8))
     }
 
-    /// Whether the level is in the set; no level beyond 0 to 3 is.
+    /// Whether the level is in the set. It is false for any level above 3.
     pub fn has(self, level: u8) -> bool
         ensures { result ≡ has_bus_level self level }
     {
@@ -210,7 +212,8 @@ impl BusLevels {
     }
 }
 
-/// A set of daisy chains, one bit each, in the order of `ChainId`.
+/// A set of daisy chains, one bit each, in the order of `ChainId`. Source: profile (the numbering
+/// of bits).
 #[derive(Clone, Copy, PartialEq, Eq, Debug)]
 pub struct Chains(u8);
 
@@ -252,7 +255,7 @@ impl Flags for Chains {
 }
 
 impl Chains {
-    /// The set of one chain alone.
+    /// The set that has one chain alone.
     pub fn of(chain: ChainId) -> Chains
         ensures { result ≡ record { 0 = chain_bit chain } }
     {
@@ -272,7 +275,7 @@ impl Chains {
         self.contains(Chains::of(chain))
     }
 
-    /// The set with that chain in it too.
+    /// The set with that chain added.
     pub fn with(self, chain: ChainId) -> Chains
         ensures { result ≡ with_chain self chain }
     {

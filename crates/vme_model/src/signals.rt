@@ -4,16 +4,16 @@ ghost use Rattle.vme_model.specs.Signals.{is_two, is_same_driver, is_same_wire, 
 ghost use Rattle.vme_model.specs.Spoken.{state_text};
 ghost use Rattle.vme_model.specs.Text.{HasWord, wire_text};
 
-/// Which version of the rules a backplane keeps.
+/// The version of the rules that a backplane keeps. Source: profile.
 ///
-/// In the second a request may be withdrawn, and a grant that nobody took may be timed out.
+/// In the second version a request may be withdrawn, and a grant that nobody took may time out.
 #[derive(Clone, Copy, PartialEq, Eq, Debug)]
 pub enum Version {
     One,
     Two,
 }
 
-/// Who drives a wire: the controller in slot 1, or the board of a slot.
+/// Who drives a wire: the controller in slot 1, or the board of a slot. Source: profile.
 #[derive(Clone, Copy, PartialEq, Eq, Debug, Default)]
 pub enum Driver {
     #[default]
@@ -22,7 +22,8 @@ pub enum Driver {
     Slot(u8),
 }
 
-/// A wire, named by what drives it there.
+/// A wire, named by what drives it at that place. Source: Std 1014, chapters 2 to 4; that an
+/// address group is one wire is profile.
 #[derive(Clone, Copy, PartialEq, Eq, Debug, Default)]
 pub enum Wire {
     /// The controller's bus grant of a level, 0 to 3.
@@ -54,7 +55,7 @@ pub enum Wire {
     Dtack,
 }
 
-/// What an address group that is on shows.
+/// What an address group that is on shows. Source: Std 1014, chapters 2 and 4.
 #[derive(Clone, Copy, PartialEq, Eq, Debug)]
 pub enum Cycle {
     /// An interrupt acknowledge of a level, 1 to 7.
@@ -63,27 +64,27 @@ pub enum Cycle {
     Access(u8),
 }
 
-/// One edge of one driver: the atomic step of a backplane.
+/// One edge of one driver: the atomic step of a backplane. Source: profile.
 ///
-/// A fall is a wire going low, or the address group going on; else it is a rise, or the group going
-/// off.
+/// A fall is a wire going low, or the address group going on. A rise is a wire going high, or the
+/// group going off.
 #[derive(Clone, Copy, PartialEq, Eq, Debug, Default)]
 pub struct Edge {
     pub driver: Driver,
     pub wire: Wire,
     pub fall: bool,
-    /// What the address group shows, at a fall of it; none at every other edge.
+    /// What the address group shows if this is its fall; none for every other edge.
     pub value: Option<Cycle>,
 }
 
-/// Whether a backplane can have such a slot.
+/// Whether a backplane can have such a slot, 1 to 21. Source: Std 1014, chapter 7.
 fn is_slot(slot: u8) -> bool
     ensures { result ≡ is_slot slot }
 {
     (1..=21).contains(&slot)
 }
 
-/// Whether there is such an interrupt level.
+/// Whether there is such an interrupt level, 1 to 7. Source: Std 1014, chapter 4.
 fn is_level(level: u8) -> bool
     ensures { result ≡ is_level level }
 {
@@ -91,7 +92,7 @@ fn is_level(level: u8) -> bool
 }
 
 impl Version {
-    /// Whether these are the rules of the second version.
+    /// Whether this is the second version of the rules. Source: profile.
     #[inline(always)]
     pub fn is_two(self) -> bool
         ensures { result ≡ is_two self }
@@ -101,14 +102,15 @@ impl Version {
 }
 
 impl Driver {
-    /// Whether the two are one driver.
+    /// Whether this is the same driver as the other.
     pub fn is_same(self, other: Driver) -> bool
         ensures { result ≡ is_same_driver self other }
     {
         self == other
     }
 
-    /// Whether such a driver has such a wire, on some backplane.
+    /// Whether such a driver has such a wire on some backplane. The slot's number and a grant's
+    /// level are tested too.
     #[inline(always)]
     pub fn has_wire(self, wire: Wire) -> bool
         ensures { result ≡ has_wire self wire }
@@ -122,7 +124,7 @@ impl Driver {
 }
 
 impl Wire {
-    /// Whether the two are one wire.
+    /// Whether this is the same wire as the other. The grants of two levels are two wires.
     pub fn is_same(self, wire: Wire) -> bool
         ensures { result ≡ is_same_wire self wire }
     {
@@ -147,7 +149,7 @@ impl Wire {
         }
     }
 
-    /// The level of a grant, else 0.
+    /// The level of a grant, or 0 for any other wire.
     pub fn grant_level(self) -> u8
         ensures { result ≡ grant_level self }
     {
@@ -157,7 +159,7 @@ impl Wire {
         }
     }
 
-    /// How traces spell it; a grant's level is 0 to 3.
+    /// The word that traces use for the wire. If it is a grant, its level has to be 0 to 3.
     pub fn word(self) -> &'static str
         requires { HasWord self }
         ensures text { result.now ≡ wire_text self }
@@ -183,7 +185,7 @@ impl Wire {
         }
     }
 
-    /// How its state is spelled: a wire is low or high, an address group on or off.
+    /// The word for the wire's state: low or high, or for an address group on or off.
     pub fn state(self, low: bool) -> &'static str
         ensures text { result.now ≡ state_text self low }
         ensures short { length result.now ≤ 4 }
@@ -198,14 +200,14 @@ impl Wire {
 }
 
 impl Cycle {
-    /// Whether this is an acknowledge, of whatever level.
+    /// Whether this is an acknowledge, of any level.
     pub fn is_acknowledge(self) -> bool
         ensures { result ≡ is_acknowledge (Some self) }
     {
         matches!(self, Cycle::Acknowledge(_))
     }
 
-    /// Whether the level or the slot is one that there can be.
+    /// Whether the acknowledge's level is 1 to 7, or the accessed slot 1 to 21.
     fn is_in_range(self) -> bool
         ensures { result ≡ is_in_range self }
     {
@@ -224,8 +226,9 @@ impl Edge {
         self.fall && self.wire.is_grant()
     }
 
-    /// Whether the driver can have such a wire, slots and levels are in range, and a value stands
-    /// exactly with a fall of the address group.
+    /// Whether the edge is well formed: the driver can have such a wire, slots and levels are in
+    /// range, and the edge has a value exactly if it is a fall of the address group. Source:
+    /// profile.
     #[inline(always)]
     pub fn is_well_formed(&self) -> bool
         ensures { result ≡ is_well_formed self.now }

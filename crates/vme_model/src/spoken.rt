@@ -1,4 +1,4 @@
-//! How a condition is spelled of an edge.
+//! The text of a condition, for an edge.
 ghost use Rattle.std.specs.Prelude.{◌≡◌, ◌+◌, ◌≤◌, ◌++◌, length, decimal, IsTrue};
 ghost use Rattle.arrayvec.specs.ArrayVec.{array_vec_len};
 ghost use Rattle.vme_model.specs.Signals.{is_well_formed};
@@ -10,10 +10,10 @@ use crate::signals::{Cycle, Driver, Edge, Wire};
 use arrayvec::ArrayVec;
 use itoa::Buffer;
 
-/// Room for the text of any condition: the longest has 45 bytes.
+/// Room for the text of any condition, in bytes: the longest has 45.
 const TEXT: usize = 48;
 
-/// Appends a text that has room.
+/// Appends a text. The line has to have room for it.
 fn push(line: &mut ArrayVec<u8, TEXT>, text: &str)
     requires { array_vec_len line.old + length text.now ≤ 48 }
     ensures items { line.new.items ≡ line.old.items ++ text.now }
@@ -24,7 +24,7 @@ fn push(line: &mut ArrayVec<u8, TEXT>, text: &str)
     }
 }
 
-/// Appends a number in decimal.
+/// Appends a number in decimal. The line has to have room for 3 digits.
 fn push_number(line: &mut ArrayVec<u8, TEXT>, n: u8)
     requires { array_vec_len line.old + 3 ≤ 48 }
     ensures items { line.new.items ≡ line.old.items ++ decimal n }
@@ -34,7 +34,7 @@ fn push_number(line: &mut ArrayVec<u8, TEXT>, n: u8)
     push(line, digits.format(n));
 }
 
-/// The text alone.
+/// The text alone, as a line.
 fn text_of(text: &str) -> ArrayVec<u8, TEXT>
     requires { length text.now ≤ 48 }
     ensures { result.items ≡ text.now }
@@ -44,7 +44,7 @@ fn text_of(text: &str) -> ArrayVec<u8, TEXT>
     line
 }
 
-/// A text, and a number behind it.
+/// A text, and a number after it.
 fn with_number(text: &str, n: u8) -> ArrayVec<u8, TEXT>
     requires { length text.now ≤ 40 }
     ensures items { result.items ≡ text.now ++ decimal n }
@@ -56,7 +56,7 @@ fn with_number(text: &str, n: u8) -> ArrayVec<u8, TEXT>
     line
 }
 
-/// The level of an acknowledge, else 0.
+/// The level of an acknowledge, or 0 for anything else.
 fn level_of(value: Option<Cycle>) -> u8
     ensures { result ≡ level_of value }
 {
@@ -66,7 +66,7 @@ fn level_of(value: Option<Cycle>) -> u8
     }
 }
 
-/// What serves the board's interrupter; nothing without one.
+/// The text that says what serves the board's interrupter; empty if it has none.
 fn service_text(board: Option<Row>) -> &'static str
     ensures text { result.now ≡ service_text board }
     ensures short { length result.now ≤ 48 }
@@ -85,7 +85,7 @@ fn service_text(board: Option<Row>) -> &'static str
     }
 }
 
-/// What the wire asks of its slot: a board, or a part of it.
+/// The text that says what the wire needs in its slot: a board, or one of its parts.
 fn board_text(wire: Wire, board: Option<Row>) -> &'static str
     ensures text { result.now ≡ board_text wire board }
     ensures short { length result.now ≤ 48 }
@@ -97,7 +97,7 @@ fn board_text(wire: Wire, board: Option<Row>) -> &'static str
     }
 }
 
-/// The state that the edge's wire has to be in.
+/// The text that says which state the edge's wire has to be in.
 fn moved_text(edge: &Edge) -> ArrayVec<u8, TEXT>
     requires { IsTrue (is_well_formed edge.now) }
     ensures { result.items ≡ moved_text edge.now }
@@ -115,8 +115,8 @@ fn moved_text(edge: &Edge) -> ArrayVec<u8, TEXT>
 }
 
 impl Condition {
-    /// How it is spelled of a well-formed edge, by the board in the edge's slot and by what is shown
-    /// before the edge.
+    /// The condition's text for a well-formed edge. The text depends on the board in the edge's
+    /// slot and on what is shown before the edge. docs/COMMANDS.md lists the texts.
     pub fn text(self, edge: &Edge, board: Option<Row>, shown: Option<Cycle>) -> ArrayVec<u8, TEXT>
         requires { IsTrue (is_well_formed edge.now) }
         ensures { result.items ≡ condition_text self edge.now board shown }

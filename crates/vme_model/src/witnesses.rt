@@ -1,31 +1,33 @@
-//! What is told of a condition.
+//! The readings of a condition.
 
 use crate::signals::{Cycle, Driver, Wire};
 
-/// A reading of a condition: a wire as it is before the edge, or what the condition counts.
+/// A reading of a condition: a wire as it is before the edge, or what the condition counts. Source:
+/// profile.
 ///
-/// An edge is told by its number in the trace, from 1.
+/// An edge is given by its number in the trace, from 1.
 #[derive(Clone, Copy, PartialEq, Eq, Debug)]
 pub enum Witness {
     /// A driver's wire.
     Wire {
         driver: Driver,
         wire: Wire,
-        /// Low, or for the address group on.
+        /// Whether the wire is low, or the address group on.
         low: bool,
-        /// What an address group that is on shows.
+        /// What the address group shows, if it is on.
         value: Option<Cycle>,
-        /// The level of the board's requester or interrupter, where the condition asks for levels.
+        /// The level of the board's requester or interrupter, if the condition asks for levels.
         level: Option<u8>,
-        /// The wire's last edge; none where it never moved.
+        /// The number of the wire's last edge; none if it never moved.
         since: Option<u64>,
     },
-    /// The level last granted, 0 to 3, and its grant; level 0 where there was none.
+    /// The level last granted, 0 to 3, and the number of its grant. The level is 0 if there was no
+    /// grant.
     Granted {
         level: u8,
         since: Option<u64>,
     },
-    /// The level that the arbiter's policy picks, of those requested.
+    /// The level that the arbiter's policy picks from the requested levels.
     Picks {
         level: Option<u8>,
     },

@@ -1,4 +1,4 @@
-//! The edges that were made, for clauses alone: nothing of them is stored.
+//! The edges that were made, for use in clauses alone: none of them is stored.
 #![tactic(auto)]
 
 mod past;

@@ -6,13 +6,14 @@ ghost use Rattle.vme_model.specs.declared.signals.Edge.{Edge as EdgeValue};
 use std::marker::Model;
 use vme_model::Edge;
 
-/// The edges that were made, the latest first.
+/// The edges that were made, the newest first.
 ///
 /// It is for a struct that keeps numbers of a history and not the history itself. Such a struct has
 /// a `Past` as a field, and its invariant ties the numbers to the edges.
 ///
-/// No edge is stored, so no code can read one. The list is what `new` and `with` were proved to
-/// make of it by hand: their clauses hold by that choice. All else is proved from these clauses.
+/// No edge is stored, so no code can read one. That `new` and `with` make the list which their
+/// clauses name is proved by hand, by the choice of the ghost value. Everything else is proved from
+/// these clauses.
 #[derive(Drop)]
 pub struct Past {
     // Only this module makes one.
@@ -30,7 +31,7 @@ impl Model for Past {
 }
 
 impl Past {
-    /// No edge was made.
+    /// The past in which no edge was made.
     #[inline(always)]
     pub fn new() -> Past
         ensures { result ≡ [] }
@@ -38,7 +39,7 @@ impl Past {
         Past { seal: () }
     }
 
-    /// The past after one edge more.
+    /// The past after one more edge.
     #[inline(always)]
     fn with(_past: &Past, _edge: &Edge) -> Past
         ensures { result ≡ _edge.now ∷ _past.now }
@@ -46,7 +47,7 @@ impl Past {
         Self { seal: () }
     }
 
-    /// An edge was made.
+    /// Notes that an edge was made.
     #[inline(always)]
     pub fn note(&mut self, edge: Edge)
         ensures { self.new ≡ edge ∷ self.old }
@@ -55,7 +56,7 @@ impl Past {
     }
 }
 
-// A struct with `also_owns` has neither by itself. This one owns nothing.
+// A struct with `also_owns` has neither `Send` nor `Sync` by itself. This one owns nothing.
 unsafe impl Send for Past {}
 
 unsafe impl Sync for Past {}

@@ -13,7 +13,7 @@ use Rattle.vme_model.specs.Plan.{Plan, board, drives, has_driver}
 use Rattle.vme_model.specs.History.{drive}
 use Rattle.vme_model.specs.Accepted.{IsAccepted}
 use Rattle.vme_model.specs.GrantSafety.{Travels, Holds, OneTravels, OneHolds}
-use Rattle.vme_model.specs.Safe.{IsSafe, OnEachPrefix}
+use Rattle.vme_model.specs.Safe.{OnEachPrefix}
 use Rattle.vme_model.specs.Stands.{holder, grant_at}
 use Rattle.vme_model.specs.declared.refusals.Refused.{Refused}
 use Rattle.vme_model.specs.declared.refusals.Refused.TheVariants.{NoSuchDriver, AlreadyThere, Rule, NotSettled, TraceFull}
@@ -29,13 +29,16 @@ use Rattle.vme_model.proofs.Safety.{legal_is_safe}
 use Rattle.vme_model.proofs.Standing.{holder_holds, grant_travels, none_travels}
 use Rattle.vme_slots.proofs.Slots.{find_up_to_first}
 use Rattle.vme_wiring.proofs.FieldReads.{never_drove}
-use Rattle.vme_reasons.proofs.Found.{absent}
 use Rattle.vme_pictures.specs.Picture.{Column, columns, slot_mark}
 use Rattle.vme_pictures.specs.Letters.{TellsEveryGrant, TellsEveryHolder}
 
 whole : (P : List Edge → Type 0) (h : List Edge) → OnEachPrefix P h → P h
 whole P [] each = each
 whole P (e ∷ h) each = each.0
+
+absent : {X : Type 0} (o : Option X) → ((x : X) → o ≡ Some x → ⊥) → o ≡ None
+absent None other = refl
+absent (Some x) other = absurd (other x refl)
 
 -- ---- the only grant
 
@@ -45,10 +48,6 @@ the_grant p h one n s t = by_found (grant_at p h) refl
     by_found : (o : Option (ℕ × ℕ)) → grant_at p h ≡ o → grant_at p h ≡ Some (n, s)
     by_found None is = absurd (none_travels p h is n s t)
     by_found (Some (m, r)) is = let same = one m n r s (grant_travels p h m r is) t in is ∙ ap (λ x. Some (x, r)) same.0 ∙ ap (λ x. Some (n, x)) same.1
-
--- the grant that is told
-pub only_grant : (p : Plan) (h : List Edge) → IsSafe p h → (m r : ℕ) → Some (m, r) ≡ grant_at p h → (n s : ℕ) → Travels p h n s → (m ≡ n) × (r ≡ s)
-only_grant p h safe m r is n s t = whole (OneTravels p) h safe.one_travels m n r s (grant_travels p h m r (sym is)) t
 
 no_grant : (p : Plan) (h : List Edge) → ((n s : ℕ) → Travels p h n s → ⊥) → grant_at p h ≡ None
 no_grant p h none = absent (grant_at p h) (λ at is. none at.0 at.1 (grant_travels p h at.0 at.1 is))

@@ -1,7 +1,3 @@
--- which wires of a plan are low: `wires::state`, `is_low`
-pub mod Rises
--- what is shown is in range: `grants::shown`
-pub mod Ranges
 -- the marks of a row, one after another: src/lines.rt
 pub mod Rows
 -- texts that are written one after another, and the whole picture: src/windows.rt

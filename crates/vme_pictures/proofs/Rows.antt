@@ -1,6 +1,6 @@
 -- The marks of a row, one after another, and what they are of the edges of a stretch.
 use Rattle.std.proofs.Common.{◌≡◌, ◌∙◌, ℕ, ◌+◌, ◌<◌, Bool, true, false, List, [], ◌∷◌, ◌++◌, length, drop, map, get_or, Option, Some, None, Result, Ok, Err, is_ok, refl, sym, ap}
-use Rattle.std.specs.Prelude.{◌&&◌, if◌then◌else◌, find}
+use Rattle.std.specs.Prelude.{◌&&◌, if◌then◌else◌}
 use Rattle.std.specs.List.{flat_map}
 use Rattle.std.proofs.lemmas.List.{drop_more}
 use Rattle.vme_model.specs.declared.deliveries.Delivery.{Delivery}
@@ -18,11 +18,6 @@ use Rattle.vme_pictures.specs.declared.columns.Topic.TheVariants as topic
 use Rattle.vme_pictures.specs.Picture.{columns, mark, edge_mark, state_mark, grant_mark, holder_mark, shown_mark, verdict_mark, answer_mark, ink}
 use Rattle.vme_pictures.specs.Picture as picture
 use Rattle.vme_pictures.specs.Columns.{cell, column_of, is_accepted, low_after, verdict_cell, verdict_of, wire_cell, wire_cells}
-
--- ---- a search
-
-pub find_past : (test : ℕ → Bool) (xs : List ℕ) (i d : ℕ) → i < length xs → test (get_or xs i d) ≡ false → find test (drop i xs) ≡ find test (drop (i + 1) xs)
-find_past test xs i d h fails = ap (find test) (drop_more xs i d h) ∙ ap (λ (b : Bool). if b then Some (get_or xs i d) else find test (drop (i + 1) xs)) fails
 
 -- ---- what is still to be drawn of a wire
 

@@ -3,7 +3,6 @@ use Rattle.std.specs.Prelude.{◌≡◌, ◌&&◌, ◌++◌, if◌then◌else◌
 use Rattle.std.specs.List.{flat_map, list_any, All}
 use Rattle.vme_model.specs.declared.deliveries.Delivery.{Delivery}
 use Rattle.vme_model.specs.declared.refusals.Refused.{Refused}
-use Rattle.vme_model.specs.declared.refusals.Refused.TheVariants as refusal
 use Rattle.vme_model.specs.declared.signals.Driver.{Driver}
 use Rattle.vme_model.specs.declared.signals.Wire.{Wire}
 use Rattle.vme_model.specs.declared.signals.Edge.{Edge}
@@ -24,14 +23,6 @@ use Rattle.vme_pictures.specs.declared.lines.Digit.TheVariants.{Tens, Ones}
 use Rattle.vme_pictures.specs.declared.wires.PlanWire.{PlanWire}
 use Rattle.vme_pictures.specs.Picture as picture
 use Rattle.vme_pictures.specs.Picture.{columns, edge_mark, state_mark, grant_mark, holder_mark, shown_mark, tens, ones, numbers_line, tens_line, title, row, wire_name}
-
--- ---- a wire
-
--- whether it is low, by the answer to a rise of it; none where there is no such wire
-abbrev pub low_by : Result (Option Delivery) Refused → Option Bool
-low_by (Err refusal.NoSuchDriver) = None
-low_by (Err refusal.AlreadyThere) = Some false
-low_by _ = Some true
 
 -- ---- a column
 

@@ -1,11 +1,11 @@
 //! A column of a picture: an edge, what became of it, and the marks of what is so after it.
-ghost use Rattle.std.specs.Prelude.{◌≡◌, ◌<◌, IfSome, IsTrue};
-ghost use Rattle.vme_model.specs.Signals.{is_edge_of, is_in_range};
+ghost use Rattle.std.specs.Prelude.{◌≡◌, option_map, IfSome, IsTrue};
+ghost use Rattle.vme_model.specs.Signals.{is_edge_of, is_in_range, is_slot};
+ghost use Rattle.vme_model.specs.Stands.{grant_at};
 ghost use Rattle.vme_model.specs.Verdict.{after};
 ghost use Rattle.vme_pictures.specs.Picture.{cycle_mark, edge_mark, slot_mark, state_mark};
 ghost use Rattle.vme_pictures.specs.Columns.{cell, column_of, is_accepted, low_after, verdict_cell, verdict_of, wire_cell};
 
-use crate::grants::{granted, holder, shown};
 use vme_bus::Bus;
 use vme_model::{Cycle, Delivery, Driver, Edge, Refused, Wire};
 
@@ -74,7 +74,7 @@ impl Verdict {
 
 /// The mark of a slot: its letter, `a` for slot 1.
 fn slot_mark(slot: Option<u8>) -> u8
-    requires { IfSome slot (λ s. s < 22) }
+    requires { IfSome slot (λ s. IsTrue (is_slot s)) }
     ensures { result ≡ slot_mark slot }
 {
     match slot {
@@ -113,6 +113,18 @@ fn state_mark(low: bool) -> u8
     if low { b'_' } else { b'-' }
 }
 
+/// The slot at which a grant travels.
+fn granted(bus: &Bus) -> Option<u8>
+    ensures slot { result
+        ≡ option_map (λ at. at.1) (grant_at bus.now.plan bus.now.history) }
+    ensures range { IfSome result (λ s. IsTrue (is_slot s)) }
+{
+    match bus.grant_at() {
+        Some(grant) => Some(grant.slot),
+        None => None,
+    }
+}
+
 impl Column {
     /// Steps a bus by an edge, and tells of it and of what is so after it.
     pub(crate) fn step(bus: &mut Bus, edge: Edge) -> Column
@@ -124,8 +136,8 @@ impl Column {
             edge,
             verdict,
             grant_at: slot_mark(granted(bus)),
-            holder: slot_mark(holder(bus)),
-            shown: cycle_mark(shown(bus)),
+            holder: slot_mark(bus.holder()),
+            shown: cycle_mark(bus.shown()),
         }
     }
 

@@ -2,11 +2,9 @@
 #![tactic(auto)]
 
 mod columns;
-mod grants;
 pub mod laws;
 mod lines;
 mod windows;
 mod wires;
 
-pub use grants::{Grant, grant_at};
 pub use windows::{COLUMNS, Window};

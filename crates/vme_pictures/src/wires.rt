@@ -1,14 +1,12 @@
 //! The wires of a plan, and which of them are low.
-ghost use Rattle.std.specs.Prelude.{◌≡◌, ◌+◌, ◌≤◌, ◌++◌, if◌then◌else◌, Some, None};
+ghost use Rattle.std.specs.Prelude.{◌≡◌, ◌+◌, ◌≤◌, ◌++◌};
 ghost use Rattle.arrayvec.specs.ArrayVec.{array_vec_len};
-ghost use Rattle.vme_model.specs.Plan.{has_driver};
-ghost use Rattle.vme_model.specs.History.{drive};
 ghost use Rattle.vme_model.specs.Offers.{wires};
-ghost use Rattle.vme_pictures.specs.Columns.{low_by, plan_wires_in, wires_of};
+ghost use Rattle.vme_pictures.specs.Columns.{plan_wires_in, wires_of};
 
 use arrayvec::ArrayVec;
 use vme_bus::Bus;
-use vme_model::{Delivery, Driver, Edge, Refused, Wire};
+use vme_model::{Driver, Wire};
 
 /// The most wires of a plan: at most nine of each of 22 drivers.
 pub(crate) const WIRES: usize = 198;
@@ -45,42 +43,6 @@ pub(crate) struct PlanWire {
     pub(crate) low: bool,
 }
 
-/// Whether a wire is low, by the answer to a rise of it; none where there is no such wire.
-///
-/// A rise of a wire that is high is refused by E2, and E2 is tested before all rules.
-fn low_by(answer: Result<Option<Delivery>, Refused>) -> Option<bool>
-    ensures { result ≡ low_by answer }
-{
-    match answer {
-        Err(Refused::NoSuchDriver) => None,
-        Err(Refused::AlreadyThere) => Some(false),
-        _ => Some(true),
-    }
-}
-
-/// Whether a driver's wire is low, or its address group on; none where the plan has no such wire.
-fn state(bus: &Bus, driver: Driver, wire: Wire) -> Option<bool>
-    ensures { result ≡ (if has_driver bus.now.plan driver wire
-        then Some (drive bus.now.history driver wire) else None) }
-{
-    bus.laws();
-    let rise = Edge {
-        driver,
-        wire,
-        fall: false,
-        value: None,
-    };
-    low_by(bus.answer(rise))
-}
-
-/// Whether a driver's wire is low, or its address group on; not where the plan has no such wire.
-pub(crate) fn is_low(bus: &Bus, driver: Driver, wire: Wire) -> bool
-    ensures { result ≡ drive bus.now.history driver wire }
-{
-    bus.laws();
-    state(bus, driver, wire).unwrap_or(false)
-}
-
 /// A driver's wires, in the order of its offers.
 fn wires(driver: Driver) -> &'static [Wire]
     ensures { result.now ≡ wires driver }
@@ -98,11 +60,11 @@ fn push_wires(found: &mut ArrayVec<PlanWire, WIRES>, bus: &Bus, driver: Driver)
     ensures len { array_vec_len found.new ≤ array_vec_len found.old + 9 }
 {
     for wire in wires(driver) {
-        if let Some(low) = state(bus, driver, *wire) {
+        if bus.has_driver(driver, *wire) {
             found.push(PlanWire {
                 driver,
                 wire: *wire,
-                low,
+                low: bus.is_low(driver, *wire),
             });
         }
     }

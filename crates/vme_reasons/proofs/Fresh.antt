@@ -8,8 +8,7 @@ use Rattle.vme_model.specs.declared.signals.Wire.TheVariants.{Bg, Bclr, Iack, Be
 use Rattle.vme_model.specs.Signals.{has_wire, is_slot}
 use Rattle.std.proofs.lemmas.List.{get_or-replicate, length-replicate}
 use Rattle.vme_model.specs.Plan.{Plan}
-use Rattle.vme_reasons.specs.Marked.{IsMovesOf, IsServicesOf, never}
-use Rattle.vme_reasons.specs.declared.moves.Moved.{Moved}
+use Rattle.vme_reasons.specs.Marked.{IsMovesOf, IsServicesOf}
 use Rattle.vme_reasons.specs.declared.moves.Moves.{Moves}
 use Rattle.vme_reasons.specs.declared.services.Services.{Services}
 use Rattle.vme_reasons.specs.Marks.{driver_place, wire_place, place}
@@ -61,12 +60,11 @@ pub place_below : (d : Driver) (w : Wire) → has_wire d w ≡ true → place d 
 place_below d w h = let a = driver_below d w h in let b = below_nine d w h in omega (arith, a, b)
 
 -- before the first edge no wire has moved
-pub nothing_moved : (m : Moves) → m.wires ≡ replicate 198 never → m.grant ≡ None → m.level ≡ 0 → IsMovesOf [] m
-nothing_moved m wires grant level = record {
-  places = ap length wires ∙ length-replicate {A = Moved} 198 never;
-  wires = λ d w h. ap (λ xs. get_or xs (place d w) never) wires ∙ get_or-replicate {A = Moved} 198 (place d w) never never (place_below d w h);
+pub nothing_moved : (m : Moves) → m.wires ≡ replicate 198 None → m.grant ≡ None → IsMovesOf [] m
+nothing_moved m wires grant = record {
+  places = ap length wires ∙ length-replicate {A = Option ℕ} 198 None;
+  wires = λ d w h. ap (λ xs. get_or xs (place d w) None) wires ∙ get_or-replicate {A = Option ℕ} 198 (place d w) None None (place_below d w h);
   grant = grant;
-  level = level;
 }
 
 -- nor is any request served

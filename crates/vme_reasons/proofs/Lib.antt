@@ -20,8 +20,6 @@ pub mod WrittenReasons
 pub mod SixTested
 -- `drivers`: no edge is of a wire that no driver has
 pub mod NoSuchWire
--- `drivers`, `grants`: a search, as far as it has come
-pub mod Found
 -- `drivers`: an interrupter is pending while its request is low and was not served
 pub mod Pending
 -- `stands`: the words of a line, as far as they were told

@@ -9,7 +9,6 @@ use Rattle.vme_model.specs.declared.signals.Wire.TheVariants.{Bg, Bclr, Iack, Be
 use Rattle.vme_model.specs.declared.signals.Edge.{Edge}
 use Rattle.vme_model.specs.Signals.{is_same_driver, is_same_wire, is_edge_of, has_wire}
 use Rattle.vme_model.specs.Plan.{Plan}
-use Rattle.vme_model.specs.History.{drive}
 use Rattle.vme_model.specs.Verdict.{IsLegal}
 use Rattle.vme_model.specs.Numbered.{Numbered, edges_in, since}
 use Rattle.vme_model.proofs.AllowedEdges.{all_passed}
@@ -47,11 +46,6 @@ other_wire e f v w true true p q has lacks =
 not_of : (version : Version) (p : Plan) (h : List Edge) (e : Edge) (d : Driver) (w : Wire) → IsLegal version p (e ∷ h) → has_wire d w ≡ false → is_edge_of d w e ≡ false
 not_of version p h e d w l lacks =
     other_wire e.driver d e.wire w (is_same_wire e.wire w) (is_same_driver e.driver d) refl refl (all_passed version p h e.driver e.wire e.fall e.value l.0).wire lacks
-
-pub never_low : (version : Version) (p : Plan) (h : List Edge) (d : Driver) (w : Wire) → IsLegal version p h → has_wire d w ≡ false → drive h d w ≡ false
-never_low version p [] d w l lacks = refl
-never_low version p (e ∷ h) d w l lacks =
-    ap (λ (b : Bool). if b then e.fall else drive h d w) (not_of version p h e d w l lacks) ∙ never_low version p h d w l.1 lacks
 
 pub never_moved : (version : Version) (p : Plan) (k : Numbered) (d : Driver) (w : Wire) → IsLegal version p (edges_in k) → has_wire d w ≡ false → since k d w ≡ None
 never_moved version p [] d w l lacks = refl

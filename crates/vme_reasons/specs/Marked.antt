@@ -1,32 +1,25 @@
 -- Which marks numbered edges lead to.
-use Rattle.std.specs.Prelude.{◌≡◌, ◌<◌, ◌^◌, ℕ, true, false, None, length, slice_index_or}
+use Rattle.std.specs.Prelude.{◌≡◌, ◌<◌, ◌^◌, ℕ, true, None, length, slice_index_or}
 use Rattle.vme_model.specs.declared.boards.IrqKind.TheVariants.{Roak, Rora}
 use Rattle.vme_model.specs.declared.signals.Driver.{Driver}
 use Rattle.vme_model.specs.declared.signals.Driver.TheVariants.{Slot}
 use Rattle.vme_model.specs.declared.signals.Wire.{Wire}
 use Rattle.vme_model.specs.Signals.{has_wire}
 use Rattle.vme_model.specs.Plan.{Plan}
-use Rattle.vme_model.specs.History.{drive, last_level, cycles}
+use Rattle.vme_model.specs.History.{cycles}
 use Rattle.vme_model.specs.Numbered.{Numbered, edges_in, since, granted_since, served_since, strobed_at}
 use Rattle.vme_reasons.specs.declared.marks.Marks.{Marks}
-use Rattle.vme_reasons.specs.declared.moves.Moved.{Moved}
 use Rattle.vme_reasons.specs.declared.moves.Moves.{Moves}
 use Rattle.vme_reasons.specs.declared.services.Services.{Services}
 use Rattle.vme_reasons.specs.Marks.{place}
-
--- a wire that never moved
-abbrev pub never : Moved
-never = record { at = None; low = false }
 
 -- each field is that look back through the edges
 pub record IsMovesOf (k : Numbered) (m : Moves) : Type 0 where
   pub places : length m.wires ≡ 198
   pub wires :
       (d : Driver) (w : Wire) → has_wire d w ≡ true
-      → slice_index_or m.wires (place d w) never
-      ≡ record { at = since k d w; low = drive (edges_in k) d w }
+      → slice_index_or m.wires (place d w) None ≡ since k d w
   pub grant : m.grant ≡ granted_since k
-  pub level : m.level ≡ last_level (edges_in k)
 
 pub record IsServicesOf (p : Plan) (k : Numbered) (m : Services) : Type 0 where
   pub boards :

@@ -58,7 +58,7 @@ fn tell_picked(bus: &Bus, marks: &Marks, told: &mut ArrayVec<Witness, ROOM>)
 {
     tell_requests(bus, marks, told);
     told.push(granted(bus, marks));
-    told.push(picked(bus, marks));
+    told.push(picked(bus));
 }
 
 /// What is told of a condition of those that ask.

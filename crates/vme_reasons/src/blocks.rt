@@ -2,7 +2,6 @@
 ghost use Rattle.std.specs.Prelude.{◌≡◌, ◌++◌, IsTrue, IfErr, OnOk, OnErr, All};
 ghost use Rattle.std.specs.Io.KnownBytes.{Appends};
 ghost use Rattle.vme_model.specs.Deliveries.{answer as answer_to};
-ghost use Rattle.vme_model.specs.History.{shown};
 ghost use Rattle.vme_model.specs.Signals.{is_well_formed};
 ghost use Rattle.vme_model.specs.Verdict.{State};
 ghost use Rattle.vme_model.specs.Why.{edge_verdict, reason_lines, witness_lines, why_text};
@@ -18,7 +17,7 @@ use crate::texts::{LINE, push, push_number, push_verdict, witness_line};
 use arrayvec::ArrayVec;
 use std::io::Write;
 use vme_bus::Bus;
-use vme_model::{Cycle, Delivery, Driver, Edge, Refused, Tested, Witness};
+use vme_model::{Delivery, Edge, Refused, Tested, Witness};
 use vme_trace::{Fault, put, spelling_of};
 
 /// The first line: the number of the edge, the edge, and its verdict.
@@ -41,13 +40,6 @@ fn verdict_line(
     line
 }
 
-/// What is shown.
-fn shown(bus: &Bus) -> Option<Cycle>
-    ensures { result ≡ shown bus.now.plan bus.now.history }
-{
-    bus.pins(Driver::Controller).shown
-}
-
 /// The line of a condition.
 fn condition_line(bus: &Bus, edge: &Edge, tested: Tested) -> ArrayVec<u8, LINE>
     requires { IsTrue (is_well_formed edge.now) }
@@ -55,7 +47,7 @@ fn condition_line(bus: &Bus, edge: &Edge, tested: Tested) -> ArrayVec<u8, LINE>
 {
     let text = tested
         .condition
-        .text(edge, board_of(bus, edge.driver), shown(bus));
+        .text(edge, board_of(bus, edge.driver), bus.shown());
     let mut line = ArrayVec::new();
     push(&mut line, if tested.holds { b"holds " } else { b"fails " });
     push(&mut line, text.as_slice());

@@ -15,7 +15,7 @@ use crate::parts::addressed;
 use crate::wires::seen;
 use arrayvec::ArrayVec;
 use vme_bus::Bus;
-use vme_model::{ChainId, Condition, Driver, Edge, Wire, Witness};
+use vme_model::{ChainId, Condition, Edge, Wire, Witness};
 
 /// Puts one more behind the others, where there is one.
 fn tell(witness: Option<Witness>, told: &mut ArrayVec<Witness, ROOM>)
@@ -73,7 +73,7 @@ fn last_acknowledge(bus: &Bus, marks: &Marks) -> Option<Witness>
     ensures { OfTrace bus.now marks.now (λ k.
         option_to_list result ≡ last_told bus.now k) }
 {
-    let cycle = bus.pins(Driver::Controller).shown?;
+    let cycle = bus.shown()?;
     if cycle.is_acknowledge() {
         Some(last_segment(bus, marks, ChainId::Iack))
     } else {

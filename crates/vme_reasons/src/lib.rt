@@ -8,7 +8,6 @@ mod boards;
 mod chains;
 mod conditions;
 mod drivers;
-mod grants;
 mod lines;
 mod marks;
 mod moves;
@@ -23,6 +22,6 @@ mod wires;
 
 pub use blocks::write_why;
 pub use conditions::witnesses;
-pub use drivers::{is_low, since};
+pub use drivers::since;
 pub use marks::Marks;
 pub use stands::write_stands;

@@ -35,7 +35,7 @@ fn tell_holder(
         (filter (holds_low bus.now wire) (driver ∷ []))) }
     ensures few { length told.new.items ≤ length told.old.items + 1 }
 {
-    if holds_low(bus, marks, wire, driver) {
+    if holds_low(bus, wire, driver) {
         told.push(seen(bus, marks, driver, wire));
     }
 }
@@ -61,7 +61,7 @@ fn tell_grant(bus: &Bus, marks: &Marks, level: u8, told: &mut ArrayVec<Witness, 
         (filter (λ n. drive bus.now.history Controller (Bg n)) (level ∷ []))) }
     ensures few { length told.new.items ≤ length told.old.items + 1 }
 {
-    if marks.is_low(Driver::Controller, Wire::Bg(level)) {
+    if bus.is_low(Driver::Controller, Wire::Bg(level)) {
         told.push(seen(bus, marks, Driver::Controller, Wire::Bg(level)));
     }
 }
@@ -88,7 +88,7 @@ fn tell_request(bus: &Bus, marks: &Marks, driver: Driver, told: &mut ArrayVec<Wi
         (filter (holds_low bus.now Br) (driver ∷ []))) }
     ensures few { length told.new.items ≤ length told.old.items + 1 }
 {
-    if holds_low(bus, marks, Wire::Br, driver) {
+    if holds_low(bus, Wire::Br, driver) {
         let level = requester_of(bus, driver).map(|requester| requester.level);
         told.push(wire_at(bus, marks, driver, Wire::Br, level));
     }
@@ -111,30 +111,29 @@ pub(crate) fn granted(bus: &Bus, marks: &Marks) -> Witness
     ensures { OfTrace bus.now marks.now (λ k. result ≡ granted bus.now k) }
 {
     Witness::Granted {
-        level: marks.last_level(),
+        level: bus.last_level(),
         since: marks.granted_since(),
     }
 }
 
 /// The level that the policy picks.
-pub(crate) fn picked(bus: &Bus, marks: &Marks) -> Witness
-    ensures { OfTrace bus.now marks.now (λ _. result ≡ picked bus.now) }
+pub(crate) fn picked(bus: &Bus) -> Witness
+    ensures { result ≡ picked bus.now }
 {
     let requests = bus.pins(Driver::Controller).requests;
     let policy = AnyPolicy::from(bus.plan().arbiter());
     Witness::Picks {
-        level: policy.pick(requests, marks.last_level()),
+        level: policy.pick(requests, bus.last_level()),
     }
 }
 
 /// Whether the driver's interrupter asks for that level.
-fn asks_at(bus: &Bus, marks: &Marks, level: u8, driver: Driver) -> bool
-    ensures asks { OfTrace bus.now marks.now (λ _.
-        result ≡ asks_at bus.now level driver) }
+fn asks_at(bus: &Bus, level: u8, driver: Driver) -> bool
+    ensures asks { result ≡ asks_at bus.now level driver }
     ensures wire { result ≡ true → has_wire driver Irq ≡ true }
 {
     match board_of(bus, driver) {
-        Some(row) => interrupts_on(&row, level) && marks.is_low(driver, Wire::Irq),
+        Some(row) => interrupts_on(&row, level) && bus.is_low(driver, Wire::Irq),
         None => false,
     }
 }
@@ -153,7 +152,7 @@ fn tell_interrupt(
         (filter (asks_at bus.now level) (driver ∷ []))) }
     ensures few { length told.new.items ≤ length told.old.items + 1 }
 {
-    if asks_at(bus, marks, level, driver) {
+    if asks_at(bus, level, driver) {
         told.push(seen(bus, marks, driver, Wire::Irq));
     }
 }

@@ -4,7 +4,7 @@ ghost use Rattle.vme_model.specs.declared.signals.Driver.TheVariants.{Slot};
 ghost use Rattle.vme_model.specs.declared.signals.Wire.TheVariants.{Dtack};
 ghost use Rattle.vme_model.specs.Signals.{has_wire, is_well_formed};
 ghost use Rattle.vme_model.specs.Plan.{Plan};
-ghost use Rattle.vme_model.specs.History.{cycles, drive, last_level, shown};
+ghost use Rattle.vme_model.specs.History.{cycles, shown};
 ghost use Rattle.vme_model.specs.Numbered.{Numbered, edges_in, since, granted_since, served_since, strobed_at};
 
 use crate::moves::Moves;
@@ -12,10 +12,11 @@ use crate::services::Services;
 use vme_model::{Cycle, Driver, Edge, IrqKind, Wire};
 
 /// Of the accepted edges of a trace the last of each wire, the last grant, and for each board the
-/// edges that served its request and that strobed data, each by its number in the trace; how each
-/// wire is since then, the level last granted, and how many cycles a board has begun in its tenure.
+/// edges that served its request and that strobed data, each by its number in the trace; and how
+/// many cycles a board has begun in its tenure.
 ///
-/// They stand in places of fixed number, and an edge moves a few of them.
+/// They stand in places of fixed number, and an edge moves a few of them. What is so since then,
+/// the bus itself answers.
 #[derive(Drop)]
 pub struct Marks {
     pub(crate) moves: Moves,
@@ -54,21 +55,6 @@ impl Marks {
         ensures { OfNumbered self.now (λ _ k. result ≡ since k driver wire) }
     {
         self.moves.since(driver, wire)
-    }
-
-    /// Whether a driver's wire is low, or its address group on.
-    pub fn is_low(&self, driver: Driver, wire: Wire) -> bool
-        requires { IsTrue (has_wire driver wire) }
-        ensures { OfNumbered self.now (λ _ k. result ≡ drive (edges_in k) driver wire) }
-    {
-        self.moves.is_low(driver, wire)
-    }
-
-    /// The level last granted, 0 where there was no grant.
-    pub fn last_level(&self) -> u8
-        ensures { OfNumbered self.now (λ _ k. result ≡ last_level (edges_in k)) }
-    {
-        self.moves.last_level()
     }
 
     /// The last grant.

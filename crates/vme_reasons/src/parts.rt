@@ -1,9 +1,9 @@
 //! What a board's requester, master and interrupter have come to.
-ghost use Rattle.std.specs.Prelude.{◌≡◌, ℕ, Some, true};
+ghost use Rattle.std.specs.Prelude.{◌≡◌, true};
 ghost use Rattle.std.specs.Option.{option_to_list};
 ghost use Rattle.vme_model.specs.Signals.{is_slot};
 ghost use Rattle.vme_model.specs.declared.signals.Driver.TheVariants.{Slot};
-ghost use Rattle.vme_model.specs.History.{addressing, cycles};
+ghost use Rattle.vme_model.specs.History.{cycles};
 ghost use Rattle.vme_model.specs.Witnesses.{addressed, bursts, strobe, service};
 ghost use Rattle.vme_reasons.specs.Traced.{OfTrace};
 ghost use Rattle.vme_reasons.specs.Told.{is_driver, request_told};
@@ -14,27 +14,12 @@ use crate::wires::{seen, wire_at};
 use vme_bus::Bus;
 use vme_model::{Driver, Release, Wire, Witness};
 
-/// The slot whose address group is on; the least, where there were several.
-fn addressing(bus: &Bus, marks: &Marks) -> Option<u8>
-    ensures least { OfTrace bus.now marks.now (λ _.
-        result ≡ addressing bus.now.plan bus.now.history) }
-    ensures slot { (s : ℕ) → result ≡ Some s → is_slot s ≡ true }
-{
-    bus.plan().accepted();
-    for slot in 1..=bus.plan().slots() {
-        if marks.is_low(Driver::Slot(slot), Wire::Addr) {
-            return Some(slot);
-        }
-    }
-    None
-}
-
 /// The address group that is on.
 pub(crate) fn addressed(bus: &Bus, marks: &Marks) -> Option<Witness>
     ensures { OfTrace bus.now marks.now (λ k.
         option_to_list result ≡ addressed bus.now k) }
 {
-    let slot = addressing(bus, marks)?;
+    let slot = bus.addressing()?;
     Some(seen(bus, marks, Driver::Slot(slot), Wire::Addr))
 }
 
@@ -88,7 +73,7 @@ pub(crate) fn service(bus: &Bus, marks: &Marks, driver: Driver) -> Option<Witnes
 {
     let interrupter = interrupter_of(bus, driver)?;
     match driver {
-        Driver::Slot(slot) if marks.is_low(driver, Wire::Irq) => {
+        Driver::Slot(slot) if bus.is_low(driver, Wire::Irq) => {
             let since = marks.served_since(slot, interrupter.kind)?;
             Some(Witness::Served { driver, since })
         }

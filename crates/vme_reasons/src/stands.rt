@@ -13,8 +13,7 @@ ghost use Rattle.vme_reasons.specs.Standing.{bus_text, drivers_text, topic_text}
 
 use crate::Marks;
 use crate::boards::{interrupter_of, requester_of};
-use crate::drivers::{addressing, holder, is_low, is_pending, since};
-use crate::grants::grant_at;
+use crate::drivers::{is_pending, since};
 use crate::texts::{push, push_argument, push_driver, push_number, push_since};
 use crate::wires::holds_low;
 use arrayvec::ArrayVec;
@@ -87,7 +86,7 @@ fn holder_line(bus: &Bus, marks: &Marks) -> Line
     ensures { OfTrace bus.now marks.now (λ k. result.items ≡ holder_text bus.now k) }
 {
     let mut line = ArrayVec::new();
-    match holder(bus, marks) {
+    match bus.holder() {
         None => push(&mut line, b"holder none"),
         Some(slot) => {
             push(&mut line, b"holder ");
@@ -99,11 +98,11 @@ fn holder_line(bus: &Bus, marks: &Marks) -> Line
 }
 
 /// Where the grant travels.
-fn grant_line(bus: &Bus, marks: &Marks) -> Line
-    ensures { OfTrace bus.now marks.now (λ _. result.items ≡ grant_text bus.now) }
+fn grant_line(bus: &Bus) -> Line
+    ensures { result.items ≡ grant_text bus.now }
 {
     let mut line = ArrayVec::new();
-    match grant_at(bus, marks) {
+    match bus.grant_at() {
         None => push(&mut line, b"grant none"),
         Some(grant) => {
             push(&mut line, b"grant bg");
@@ -120,11 +119,11 @@ fn shown_line(bus: &Bus, marks: &Marks) -> Line
     ensures { OfTrace bus.now marks.now (λ k. result.items ≡ shown_text bus.now k) }
 {
     let mut line = ArrayVec::new();
-    match addressing(bus, marks) {
+    match bus.addressing() {
         None => push(&mut line, b"shown none"),
         Some(slot) => {
             push(&mut line, b"shown");
-            push_argument(&mut line, bus.pins(Driver::Controller).shown);
+            push_argument(&mut line, bus.shown());
             push(&mut line, b" by ");
             push_number(&mut line, u64::from(slot));
             push_since(&mut line, since(bus, marks, Driver::Slot(slot), Wire::Addr));
@@ -153,7 +152,7 @@ fn asks_line(bus: &Bus, marks: &Marks, driver: Driver) -> Line
         ≡ asks_text bus.now k driver) }
 {
     match requester_of(bus, driver) {
-        Some(requester) if is_low(bus, marks, driver, Wire::Br) => level_line(
+        Some(requester) if bus.is_low(driver, Wire::Br) => level_line(
             "asks ",
             driver,
             requester.level,
@@ -235,12 +234,12 @@ fn wires(driver: Driver) -> &'static [Wire]
 }
 
 /// The wires that the driver holds low; of its address group `shown` tells.
-fn low_line(bus: &Bus, marks: &Marks, driver: Driver) -> Line
-    ensures { OfTrace bus.now marks.now (λ _. result.items ≡ low_text bus.now driver) }
+fn low_line(bus: &Bus, driver: Driver) -> Line
+    ensures { result.items ≡ low_text bus.now driver }
 {
     let mut line = ArrayVec::new();
     for wire in wires(driver) {
-        if !wire.is_same(Wire::Addr) && holds_low(bus, marks, *wire, driver) {
+        if !wire.is_same(Wire::Addr) && holds_low(bus, *wire, driver) {
             push_word(&mut line, "low ", driver, wire.word().as_bytes());
         }
     }
@@ -275,7 +274,7 @@ fn topic_line(bus: &Bus, marks: &Marks, topic: Topic, driver: Driver) -> Line
     match topic {
         Topic::Asks => asks_line(bus, marks, driver),
         Topic::Pending => pending_line(bus, marks, driver),
-        Topic::Low => low_line(bus, marks, driver),
+        Topic::Low => low_line(bus, driver),
         Topic::Open => open_line(bus, driver),
     }
 }
@@ -302,7 +301,7 @@ fn write_bus<W: Write>(n: u64, bus: &Bus, marks: &Marks, out: &mut W) -> Result<
 {
     write_line(&after_line(n, bus.len()), out)?;
     write_line(&holder_line(bus, marks), out)?;
-    write_line(&grant_line(bus, marks), out)?;
+    write_line(&grant_line(bus), out)?;
     write_line(&shown_line(bus, marks), out)
 }
 

@@ -2,7 +2,6 @@
 ghost use Rattle.std.specs.Prelude.{◌≡◌, IsTrue, true};
 ghost use Rattle.std.specs.Option.{option_to_list};
 ghost use Rattle.vme_model.specs.Signals.{has_wire};
-ghost use Rattle.vme_model.specs.Plan.{has_driver};
 ghost use Rattle.vme_model.specs.History.{shown};
 ghost use Rattle.vme_model.specs.Witnesses.{wire_at, seen, own, holds_low};
 ghost use Rattle.vme_reasons.specs.Traced.{OfTrace};
@@ -11,22 +10,6 @@ ghost use Rattle.vme_reasons.specs.Told.{value_told};
 use crate::marks::Marks;
 use vme_bus::Bus;
 use vme_model::{Cycle, Driver, Wire, Witness};
-use vme_slots::Plan;
-
-/// Whether the plan has the driver, with such a wire.
-pub(crate) fn has_driver(plan: &Plan, driver: Driver, wire: Wire) -> bool
-    ensures has { result ≡ has_driver plan.now driver wire }
-    ensures wire { result ≡ true → has_wire driver wire ≡ true }
-{
-    plan.accepted();
-    match driver {
-        Driver::Controller => driver.has_wire(wire),
-        Driver::Slot(slot) => match plan.row(slot) {
-            Some(row) => row.drives(wire),
-            None => false,
-        },
-    }
-}
 
 /// What an address group that is on shows.
 fn value_told(bus: &Bus, wire: Wire, low: bool) -> Option<Cycle>
@@ -34,7 +17,7 @@ fn value_told(bus: &Bus, wire: Wire, low: bool) -> Option<Cycle>
         ≡ value_told wire low (shown bus.now.plan bus.now.history) }
 {
     match wire {
-        Wire::Addr if low => bus.pins(Driver::Controller).shown,
+        Wire::Addr if low => bus.shown(),
         _ => None,
     }
 }
@@ -51,7 +34,7 @@ pub(crate) fn wire_at(
     ensures { OfTrace bus.now marks.now (λ k.
         result ≡ wire_at bus.now k driver wire level) }
 {
-    let low = marks.is_low(driver, wire);
+    let low = bus.is_low(driver, wire);
     Witness::Wire {
         driver,
         wire,
@@ -75,7 +58,7 @@ pub(crate) fn own(bus: &Bus, marks: &Marks, driver: Driver, wire: Wire) -> Optio
     ensures { OfTrace bus.now marks.now (λ k.
         option_to_list result ≡ own bus.now k driver wire) }
 {
-    if has_driver(bus.plan(), driver, wire) {
+    if bus.has_driver(driver, wire) {
         Some(seen(bus, marks, driver, wire))
     } else {
         None
@@ -83,10 +66,9 @@ pub(crate) fn own(bus: &Bus, marks: &Marks, driver: Driver, wire: Wire) -> Optio
 }
 
 /// Whether the driver holds the wire low.
-pub(crate) fn holds_low(bus: &Bus, marks: &Marks, wire: Wire, driver: Driver) -> bool
-    ensures low { OfTrace bus.now marks.now (λ _.
-        result ≡ holds_low bus.now wire driver) }
+pub(crate) fn holds_low(bus: &Bus, wire: Wire, driver: Driver) -> bool
+    ensures low { result ≡ holds_low bus.now wire driver }
     ensures wire { result ≡ true → has_wire driver wire ≡ true }
 {
-    has_driver(bus.plan(), driver, wire) && marks.is_low(driver, wire)
+    bus.has_driver(driver, wire) && bus.is_low(driver, wire)
 }

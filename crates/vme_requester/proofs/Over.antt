@@ -24,7 +24,7 @@ by_parts s row version noted pins free Bbsy true v own = refl
 by_parts s row version noted pins free Bbsy false v own = refl
 by_parts s row version noted pins free w f v own = absurd (cc)
 
--- a state that a list leads to answers as the list says, to an edge of the wire x, which is w
+-- a state that comes from a list answers as the list says, for an edge of the wire x, which is w
 pub answers_over : (state : RequesterState) (noted : List Edge) (pins : Pins) (free : Bool) (w x : Wire) (f : Bool) (v : Option Cycle) → state ≡ requester_of state.slot state.row state.version noted → w ≡ x → is_requesters x ≡ true →
     ruling_on state.version (requester_readings state.slot state.row (low state) pins free) x f v ≡ ruling_on state.version (requester_readings state.slot state.row (drive noted (Slot state.slot)) pins free) w f v
 answers_over state noted pins free w x f v same is own =
@@ -42,7 +42,7 @@ guards_by_parts s row version noted pins free Bbsy true v own = refl
 guards_by_parts s row version noted pins free Bbsy false v own = refl
 guards_by_parts s row version noted pins free w f v own = absurd (cc)
 
--- so do their guards
+-- the guards of a state that comes from a list are those over the list
 pub guards_over : (state : RequesterState) (noted : List Edge) (pins : Pins) (free : Bool) (w x : Wire) (f : Bool) (v : Option Cycle) → state ≡ requester_of state.slot state.row state.version noted → w ≡ x → is_requesters x ≡ true →
     (guard state.version (requester_readings state.slot state.row (low state) pins free) x f v).1 ≡ (guard state.version (requester_readings state.slot state.row (drive noted (Slot state.slot)) pins free) w f v).1
 guards_over state noted pins free w x f v same is own =

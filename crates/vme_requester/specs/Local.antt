@@ -1,4 +1,5 @@
--- A requester's local state, and what its rules read. A list of noted edges has its newest edge first.
+-- A requester's local state, and what its rules read. A list of noted edges has its newest edge
+-- first.
 use Rattle.std.specs.Prelude.{◌≡◌, ◌||◌, ℕ, Bool, true, false, not, Some, None, List}
 use Rattle.vme_model.specs.declared.boards.RequesterRow.{RequesterRow}
 use Rattle.std.specs.Option.{option_and_then}
@@ -43,20 +44,21 @@ is_requesters BgOut = true
 is_requesters Bbsy = true
 is_requesters _ = false
 
--- the wires by the state
+-- the state of the wires, by the local state
 abbrev pub low : RequesterState → Wire → Bool
 low r Br = r.br
 low r BgOut = r.bgout
 low r Bbsy = r.bbsy
 low r _ = false
 
--- of its master's wires a requester is told one thing: the address group is off, or its address strobe low
+-- of its master's wires a requester is given one thing: whether the address group is off or its
+-- address strobe low
 abbrev pub told : (Wire → Bool) → Bool → Wire → Bool
 told own is_address_free Addr = not is_address_free
 told own is_address_free AddressStrobe = is_address_free
 told own is_address_free w = own w
 
--- what its rules read: its own wires, its pins, its row, and what it is told
+-- what its rules read: its own wires, its pins, its row, and what it is given of its master
 abbrev pub requester_readings : ℕ → RequesterRow → (Wire → Bool) → Pins → Bool → Readings
 requester_readings s row own pins is_address_free = record (readings_of_pins pins) {
   own = told own is_address_free;
@@ -67,7 +69,7 @@ requester_readings s row own pins is_address_free = record (readings_of_pins pin
 abbrev pub local : RequesterState → Pins → Bool → Readings
 local r pins is_address_free = requester_readings r.slot r.row (low r) pins is_address_free
 
--- readings that say what a requester is told, whatever they say of all else
+-- readings that agree with what a requester reads, whatever else they say
 pub record SayWhatIsTold (row : RequesterRow) (own : Wire → Bool) (pins : Pins)
     (is_address_free : Bool) (r : Readings) : Type 0 where
   pub own_wires : (w : Wire) → is_requesters w ≡ true → r.own w ≡ own w
@@ -81,13 +83,13 @@ abbrev pub answer_over : ℕ → RequesterRow → Version → List Edge → Pins
 answer_over s row version noted pins is_address_free e =
     ruling version (requester_readings s row (drive noted (Slot s)) pins is_address_free) e
 
--- the guard of the rule that names an edge of its own, read so
+-- the guard of the rule that names an edge of its own, read over the edges that were noted
 abbrev pub guard_over : ℕ → RequesterRow → Version → List Edge → Pins → Bool → Edge → Guard
 guard_over s row version noted pins is_address_free e =
     (guard version (requester_readings s row (drive noted (Slot s)) pins is_address_free)
     e.wire e.fall e.value).1
 
--- its conditions that fail
+-- the conditions of that guard that fail
 abbrev pub failing_over : ℕ → RequesterRow → Version → List Edge → Pins → Bool → Edge →
     List Condition
 failing_over s row version noted pins is_address_free e =

@@ -1,4 +1,5 @@
-//! What a requester's rules read.
+//! What a requester's rules read. The function is a law: a call costs nothing, and gives the fact
+//! to the prover.
 ghost use Rattle.std.specs.Prelude.{◌≡◌, ℕ, Bool, true, Option};
 ghost use Rattle.vme_model.specs.declared.boards.RequesterRow.{RequesterRow};
 ghost use Rattle.vme_model.specs.declared.pins.Pins.{Pins};
@@ -9,8 +10,9 @@ ghost use Rattle.vme_model.specs.Readings.{Readings};
 ghost use Rattle.vme_model.specs.Verdict.{ruling_on};
 ghost use Rattle.vme_requester.specs.Local.{is_requesters, requester_readings, SayWhatIsTold};
 
-/// Whatever readings say what a requester is told have the same answer: its rules read its own wires, the request
-/// lines, its grant-in, its row and whether its address is free, and nothing else.
+/// The rules of a requester read its own wires, the request lines, its grant-in, its row and
+/// whether its address is free, and nothing else. Any readings that agree on these have the same
+/// answer.
 pub fn reads_what_it_is_told()
     ensures { (version : Version) (s : ℕ) (row : RequesterRow) (own : Wire → Bool) (pins : Pins)
         (is_address_free : Bool) (r : Readings) (w : Wire) (fall : Bool) (value : Option Cycle) →

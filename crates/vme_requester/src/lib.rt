@@ -1,4 +1,5 @@
-//! A board's bus requester: it asks for the bus, takes a grant or passes it on, and gives the bus up.
+//! A board's bus requester: it requests the bus, takes a grant or passes it on, and gives the bus
+//! up. docs/PARTS.md explains the parts.
 #![tactic(auto)]
 
 pub mod laws;

@@ -21,7 +21,8 @@ use vme_rules::requesters::{
 };
 use vme_rules::{Outcome, allowed};
 
-/// A requester, as what its own edges left: which of its wires are low.
+/// A requester, as what its own edges left: which of its wires are low. Source: Std 1014, chapter
+/// 3.
 #[derive(Clone, Copy, PartialEq, Eq, Debug)]
 pub struct Requester {
     slot: u8,
@@ -79,7 +80,8 @@ impl Requester {
         }
     }
 
-    /// Whether it drives the wire low; only `br`, `bgout` and `bbsy` are its own.
+    /// Whether the requester drives the wire low. Only `br`, `bgout` and `bbsy` are its own; for
+    /// any other wire the answer is false.
     #[inline(always)]
     pub fn is_low(&self, wire: Wire) -> bool
         ensures { result ≡ low self.now wire }
@@ -92,7 +94,8 @@ impl Requester {
         }
     }
 
-    /// The rule that names an edge of its bus request, and what its guard answers (G9, G10).
+    /// The number of the rule that names an edge of its `br`, and what the rule's guard answers
+    /// (G9, G10).
     #[inline(always)]
     fn request_rule<A: Outcome>(&self, fall: bool) -> (u8, A)
         ensures number { (pins : PinsValue) (is_address_free : Bool)
@@ -111,7 +114,8 @@ impl Requester {
         }
     }
 
-    /// The rule that names an edge of its bus grant out, and what its guard answers (G11, G12).
+    /// The number of the rule that names an edge of its `bgout`, and what the rule's guard answers
+    /// (G11, G12).
     #[inline(always)]
     fn pass_rule<A: Outcome>(&self, fall: bool, grant_in: bool) -> (u8, A)
         ensures number { (pins : PinsValue) (is_address_free : Bool)
@@ -131,7 +135,8 @@ impl Requester {
         }
     }
 
-    /// The rule that names an edge of its bus busy, and what its guard answers (G13, G14).
+    /// The number of the rule that names an edge of its `bbsy`, and what the rule's guard answers
+    /// (G13, G14).
     #[inline(always)]
     fn hold_rule<A: Outcome>(
         &self,
@@ -159,10 +164,10 @@ impl Requester {
         )
     }
 
-    /// Whether the rules G9 and G10 allow an edge of its bus request.
+    /// Whether the rules G9 and G10 allow an edge of its `br`. Source: profile.
     ///
     /// # Errors
-    /// As for `may`.
+    /// E2 if the wire is in that state already; otherwise E3 if the rule's guard fails.
     #[inline(always)]
     pub fn may_request(&self, fall: bool) -> Result<(), Refused>
         ensures { (pins : PinsValue) (is_address_free : Bool) (value : OptionValue CycleValue) →
@@ -175,10 +180,11 @@ impl Requester {
         allowed(self.request_rule(fall))
     }
 
-    /// Whether the rules G11 and G12 allow an edge of its bus grant out, of the input of its grant chain.
+    /// Whether the rules G11 and G12 allow an edge of its `bgout`, given the input of its grant
+    /// chain. Source: Std 1014, chapter 3, for G11; G12 is profile.
     ///
     /// # Errors
-    /// As for `may`.
+    /// E2 if the wire is in that state already; otherwise E3 if the rule's guard fails.
     #[inline(always)]
     pub fn may_pass(&self, fall: bool, grant_in: bool) -> Result<(), Refused>
         ensures { (pins : PinsValue) (is_address_free : Bool) (value : OptionValue CycleValue) →
@@ -192,11 +198,12 @@ impl Requester {
         allowed(self.pass_rule(fall, grant_in))
     }
 
-    /// Whether the rules G13 and G14 allow an edge of its bus busy, of its pins, the input of its grant chain, and
-    /// whether its master's address group is off or the master's address strobe low.
+    /// Whether the rules G13 and G14 allow an edge of its `bbsy`. It is given its pins, the input
+    /// of its grant chain, and whether its master's address group is off or the master's address
+    /// strobe low. Source: Std 1014, chapter 3; docs/RULES.md says which conditions are profile.
     ///
     /// # Errors
-    /// As for `may`.
+    /// E2 if the wire is in that state already; otherwise E3 if the rule's guard fails.
     #[inline(always)]
     pub fn may_hold(
         &self,
@@ -216,12 +223,15 @@ impl Requester {
         allowed(self.hold_rule(fall, pins, grant_in, is_address_free))
     }
 
-    /// Whether the rules G9 to G14 allow an edge of its own wires.
+    /// Whether the rules G9 to G14 allow an edge of the requester's own wires. Source: G9 to G14 of
+    /// docs/RULES.md.
     ///
-    /// It is told its pins, and whether its master's address group is off or the master's address strobe low.
+    /// It is given its pins, and whether its master's address group is off or the master's address
+    /// strobe low.
     ///
     /// # Errors
-    /// E1 where the wire is none of its own, E2 where it is in that state, else E3 where the rule's guard fails.
+    /// E1 if the wire is not its own; otherwise E2 if the wire is in that state already; otherwise
+    /// E3 if the rule's guard fails.
     #[inline(always)]
     pub fn may(&self, edge: Edge, pins: Pins, is_address_free: bool) -> Result<(), Refused>
         ensures other { is_requesters edge.wire ≡ false → result ≡ Err Refused.NoSuchDriver }
@@ -239,9 +249,11 @@ impl Requester {
         }
     }
 
-    /// What the guard answers of the rule that names an edge of its own wires.
+    /// What the guard of the rule that names an edge of the requester's own wires answers. Source:
+    /// G9 to G14 of docs/RULES.md.
     ///
-    /// It is told what `may` is.
+    /// It is given its pins, and whether its master's address group is off or the master's address
+    /// strobe low.
     pub fn told<A: Outcome>(&self, edge: Edge, pins: Pins, is_address_free: bool) -> A
         ensures { (noted : List EdgeValue) →
             self.now ≡ requester_of self.now.slot self.now.row self.now.version noted →
@@ -259,9 +271,11 @@ impl Requester {
         }
     }
 
-    /// The conditions that fail of the rule that names an edge of its own wires, in the order of its guard.
+    /// The conditions that fail in the rule that names an edge of the requester's own wires, in the
+    /// order of its guard. Source: G9 to G14 of docs/RULES.md.
     ///
-    /// It is told what `may` is.
+    /// It is given its pins, and whether its master's address group is off or the master's address
+    /// strobe low.
     pub fn failing(&self, edge: Edge, pins: Pins, is_address_free: bool) -> ArrayVec<Condition, 5>
         ensures { (noted : List EdgeValue) →
             self.now ≡ requester_of self.now.slot self.now.row self.now.version noted →
@@ -273,7 +287,7 @@ impl Requester {
         self.told(edge, pins, is_address_free)
     }
 
-    /// Takes in an edge that was made; one of another driver or wire changes nothing.
+    /// Takes in an edge that was made. An edge of another driver or wire changes nothing.
     #[inline(always)]
     pub fn note(&mut self, edge: Edge)
         ensures { (s : ℕ) (row : RowValue) (version : VersionValue) (noted : List EdgeValue) →

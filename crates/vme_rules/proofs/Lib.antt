@@ -1,4 +1,4 @@
 pub mod Moves
 pub mod Room
--- `five_have_room`, of all that is tested of an edge
+-- `five_have_room`, for all that is tested for an edge
 pub mod TestedRoom

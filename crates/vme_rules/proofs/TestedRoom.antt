@@ -1,4 +1,4 @@
--- The conditions of a rule, with those of its settling rule behind them.
+-- The conditions of a rule, followed by those of its settling rule.
 use Rattle.std.proofs.Common.{◌≤◌, ◌+◌, ℕ, Bool, true, false, List, arith}
 use Rattle.std.specs.Prelude.{◌==◌, ◌&&◌, Option, Some, None, Ok}
 use Rattle.std.specs.List.{list_any}

@@ -1,8 +1,8 @@
--- How many conditions of a guard may fail, and so how much room their list takes.
+-- How many conditions of a guard may fail, and so how much room their list needs.
 use Rattle.std.specs.Prelude.{◌+◌, ℕ}
 use Rattle.vme_model.specs.Guards.{Guard, free, asks, ◌⊓◌, unless}
 
--- no more of a guard's conditions fail than this
+-- an upper bound on how many conditions of a guard fail
 abbrev pub most : Guard → ℕ
 most free = 0
 most (asks c b) = 1

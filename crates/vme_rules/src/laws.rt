@@ -1,4 +1,4 @@
-//! What holds of every guard of the table.
+//! What holds for every guard of the table.
 ghost use Rattle.std.specs.Prelude.{◌≤◌, Bool, List, Option};
 ghost use Rattle.vme_model.specs.Failing.{tested_but_full};
 ghost use Rattle.vme_model.specs.Plan.{Plan};
@@ -11,8 +11,10 @@ ghost use Rattle.vme_model.specs.declared.signals.Version.{Version};
 ghost use Rattle.vme_model.specs.declared.signals.Wire.{Wire};
 ghost use Rattle.vme_rules.specs.Room.{most};
 
-/// A list of five has room for the conditions of each: of a rule's guard, of a settling rule's, and for all that is
-/// tested of an edge before the end of the trace.
+/// A list of five has room for the conditions of a rule's guard, for those of a settling rule's
+/// guard, and for all that is tested for an edge before the end of the trace.
+///
+/// This is a law: the call costs nothing, and gives the fact to the prover.
 pub fn five_have_room()
     ensures rule { (version : Version) (r : Readings) (w : Wire) (fall : Bool) (v : Option Cycle) →
         most (guard version r w fall v).1 ≤ 5 }

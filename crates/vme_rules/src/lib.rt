@@ -1,5 +1,9 @@
-//! Each rule's guard once, over the few truth values that it reads: it answers whether it holds, or which of its
-//! conditions fail.
+//! The guard of each rule, written once, over the few truth values that it reads. It answers
+//! whether it holds, which of its conditions fail, or what each of them is.
+//!
+//! A parameter that has the name of a wire or a line is true while that is low, or while the
+//! address group is on. Each function names its rule as docs/RULES.md does, and its source: *Std
+//! 1014* is ANSI/IEEE Std 1014-1987, and *profile* is what this project adds.
 #![tactic(auto)]
 
 pub mod controllers;

@@ -7,30 +7,31 @@ ghost use Rattle.vme_rules.specs.Room.{most};
 use arrayvec::ArrayVec;
 use vme_model::{Condition, Refused, Tested};
 
-/// What is asked of a guard: whether it holds, which of its conditions fail, or what each of them is.
+/// The answer of a guard: whether it holds, which of its conditions fail, or what each of them is.
 ///
-/// A rule is written once, for each of them: by a function for each way to make a guard.
+/// Each rule is written once for all three. It uses a function of this trait for each way to make a
+/// guard.
 pub trait Outcome {
-    /// It is the answer of that guard.
+    /// The value is the answer of that guard.
     ghost tells: { Self → Guard → Type 0 };
 
-    /// Of the guard without a condition.
+    /// The answer of the guard without a condition, which always holds.
     fn free() -> Self
         ensures { tells result free };
 
-    /// Of one condition, and whether it holds.
+    /// The answer of a guard that is one condition, given whether the condition holds.
     fn asks(condition: Condition, holds: bool) -> Self
         ensures { tells result (asks condition holds) };
 
-    /// Whether the guard is known to fail, so that it makes no difference what else is asked.
+    /// Whether the guard is known to fail, so that the conditions after it make no difference.
     fn is_final(&self) -> bool
         ensures { result ≡ true → (g k : Guard) → tells self.now g → tells self.now (g ⊓ k) };
 
-    /// Of two guards at once, this one's conditions first.
+    /// The answer of two guards together, with the conditions of this one first.
     fn and(self, other: Self) -> Self
         ensures { (g k : Guard) → tells self g → tells other k → tells result (g ⊓ k) };
 
-    /// Of a guard that does not bind where that holds.
+    /// The answer of a guard that does not bind if `is_free` is true.
     fn unless(self, is_free: bool) -> Self
         ensures { (g : Guard) → tells self g → tells result (unless is_free g) };
 }
@@ -61,7 +62,7 @@ impl Outcome for bool {
     }
 }
 
-/// Two lists of conditions, the second after the first, where five have room for both.
+/// The first list of conditions and then the second, if five have room for both.
 fn joined<T: Copy + Default>(mut first: ArrayVec<T, 5>, second: ArrayVec<T, 5>) -> ArrayVec<T, 5>
     ensures { length first.items + length second.items ≤ 5
         → result.items ≡ first.items ++ second.items }
@@ -70,14 +71,14 @@ fn joined<T: Copy + Default>(mut first: ArrayVec<T, 5>, second: ArrayVec<T, 5>) 
     first
 }
 
-/// A list of conditions where they bind, and else none.
+/// A list of conditions if they bind, and otherwise the empty list.
 fn bound<T: Copy + Default>(list: ArrayVec<T, 5>, is_free: bool) -> ArrayVec<T, 5>
     ensures { result.items ≡ if is_free then [] else list.items }
 {
     if is_free { ArrayVec::new() } else { list }
 }
 
-/// Which of the guard's conditions fail, in the guard's order, where it has at most five.
+/// Which of the guard's conditions fail, in the guard's order, if it has at most five.
 impl Outcome for ArrayVec<Condition, 5> {
     ghost tells = { λ result g. most g ≤ 5 → result.items ≡ failed g };
 
@@ -106,8 +107,8 @@ impl Outcome for ArrayVec<Condition, 5> {
     }
 }
 
-/// All conditions of the guard, each with whether it holds, in the guard's order, where it has at
-/// most five.
+/// All conditions of the guard, each with whether it holds, in the guard's order, if it has at most
+/// five.
 impl Outcome for ArrayVec<Tested, 5> {
     ghost tells = { λ result g. most g ≤ 5 → result.items ≡ conditions g };
 
@@ -134,10 +135,11 @@ impl Outcome for ArrayVec<Tested, 5> {
     }
 }
 
-/// The answer to an edge that moves its wire, by the rule that names it and whether its guard holds.
+/// The answer to an edge that moves its wire, given the number of the rule that names it, and
+/// whether the rule's guard holds. Source: profile (E3).
 ///
 /// # Errors
-/// E3 where it does not.
+/// E3 with that number if the guard does not hold.
 pub fn allowed(rule: (u8, bool)) -> Result<(), Refused>
     ensures { result ≡ check rule.1 (Refused.Rule rule.0) (Ok tt) }
 {

@@ -1,4 +1,4 @@
--- What the drivers made in their turns, by the logs of their workers.
+-- What the drivers made in their turns, by their workers' logs.
 use Rattle.std.proofs.Common.{◌≡◌, ℕ, ◌+◌, ◌*◌, ◌≤◌, List, [], ◌∷◌, length, map, suc, refl, sym, ap, ◌∙◌, arith, All, mul-suc}
 use Rattle.std.specs.Prelude.{sum_by, Result, Ok, Err, MatchResult}
 use Rattle.std.proofs.lemmas.List.{length-map}

@@ -12,7 +12,7 @@ use Rattle.vme_model.specs.Verdict.{State, IsLegal, check, verdict, made, after}
 use Rattle.vme_backplane.proofs.Judged.{passed}
 use Rattle.vme_backplane.proofs.Replayed.{next_edge, was_allowed, all_made}
 
--- a backplane with the first i edges of its history alone
+-- a backplane with only the first i edges of its history
 abbrev pub front : State → ℕ → State
 front b i = record b { history = reverse (take i (in_order b.history)) }
 
@@ -31,7 +31,7 @@ accepted b i e legal fits within is =
     passed b.version b.plan (front b i).history e (check (not (length (front b i).history == b.max)) TraceFull (Ok tt)) (was_allowed b.version b.plan b.history i e legal is)
     ∙ ap (λ (full : Bool). check (not full) TraceFull (Ok tt)) room
 
--- and then it stands there
+-- after that the edge stands in the history
 pub goes_on : (b again new : State) (i : ℕ) (e : Edge) → IsLegal b.version b.plan b.history → length b.history ≤ b.max → i < length b.history → slice_get (in_order b.history) i ≡ Some e
     → again ≡ front b i → new ≡ after again e → new ≡ front b (i + 1)
 goes_on b again new i e legal fits within is so_far state =
@@ -39,7 +39,7 @@ goes_on b again new i e legal fits within is so_far state =
     ∙ ap (λ j. if is_ok j then made (front b i) e else front b i) (accepted b i e legal fits within is)
     ∙ ap (λ (h : List Edge). record b { history = h }) (sym (next_edge (in_order b.history) i e is))
 
--- so it is not refused
+-- so the edge is not refused
 pub never_refused : (b again : State) (i : ℕ) (e : Edge) (r : Result (Option Delivery) Refused) → IsLegal b.version b.plan b.history → length b.history ≤ b.max → i < length b.history → slice_get (in_order b.history) i ≡ Some e
     → again ≡ front b i → is_ok r ≡ is_ok (verdict again e) → is_err r ≡ true → ⊥
 never_refused b again i e (Ok d) legal fits within is so_far same refused = cc

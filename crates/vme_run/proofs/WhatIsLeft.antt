@@ -21,7 +21,7 @@ use Rattle.vme_run.specs.declared.RunFault.TheVariants.{Engine, NotStarted, LogD
 use Rattle.vme_run.specs.Running.{IsMade, IsRun, AreHandedBack, HasOtherLogs, RunsOn, Runs}
 use Rattle.vme_run.specs.Between.{IsRead, IsUnread, IsGrown, IsPlayed, HasGrownApart, IsNotPlayed, IsWritten}
 
--- what can be made is no more than what is asked for
+-- what can be made is no more than what is requested
 pub fits : (n others m : ℕ) → m ≡ min n others → m ≤ n
 fits n others m is = subst (λ x. x ≤ n) (sym is) (min-le_left n others)
 
@@ -41,7 +41,7 @@ made_of version p m n turns b fits grown =
 pub run_of : (version : Version) (p : Plan) (m n turns : ℕ) (b : State) → m ≤ n → IsPlayed turns (at_power_up version p m) b → IsRun version n turns p b.history
 run_of version p m n turns b fits played = (made_of version p m n turns b fits played.0, played.1)
 
--- and other logs than its drivers' edges, where they are
+-- some logs are not the drivers' edges
 other_logs : (version : Version) (p : Plan) (m n turns : ℕ) (b : State) (driver : Driver) (at : ℕ) → m ≤ n → IsGrown turns (at_power_up version p m) b → HasGrownApart turns (at_power_up version p m) b driver at
     → HasOtherLogs version n turns p driver at
 other_logs version p m n turns b driver at fits grown apart =
@@ -49,7 +49,7 @@ other_logs version p m n turns b driver at fits grown apart =
     let back : AreHandedBack turns (length (drivers p)) (length b.history) apart.0 = record { each = apart.2.each; short = apart.2.short; all = apart.2.all ∙ sym many } in
     (b.history, apart.0, made_of version p m n turns b fits grown, back, apart.4)
 
--- in the version handed in
+-- the version that was passed in
 version_of : (version : Version) (p : Plan) (n turns : ℕ) (b : State) → IsPlayed turns (at_power_up version p n) b → b.version ≡ version
 version_of version p n turns b played = ap (λ x. x.version) played.0.0.1
 
@@ -68,19 +68,19 @@ played_again version p n turns opened closed b first played made =
     let same : closed ≡ b = cc in
     subst (λ (o : State). IsPlayed turns o b) first (subst (λ (c : State). IsPlayed turns opened c) same played)
 
--- nothing, where there is no plan
+-- nothing is left if there is no plan
 pub not_read : (lent : List ℕ) (version : Version) (n turns : ℕ) (old : Option (List ℕ)) (f : RunFault) → IsUnread lent f → Runs lent version n turns old old (Err f)
 not_read lent version n turns old (Engine f) none = no_plan_asking lent (Keeps old old) (RunsOn version n turns old old) f none (Keeps-refl _)
 not_read lent version n turns old NotStarted none = absurd none
 not_read lent version n turns old (LogDiffers driver at) none = absurd none
 not_read lent version n turns old (NotReplayed at) none = absurd none
 
--- nothing, for want of memory
+-- nothing is left if memory runs out
 pub runs_out : (lent : List ℕ) (version : Version) (n turns : ℕ) (p : Plan) (old : Option (List ℕ)) → IsRead lent p → Runs lent version n turns old old (Err (Engine fault.NoMemory))
 runs_out lent version n turns p old is = (p, is.short, is.read, Keeps-refl _)
 
 module _ (lent : List ℕ) (version : Version) (m n turns : ℕ) (fits : m ≤ n) (p : Plan) (old : Option (List ℕ)) (is : IsRead lent p) where
-  -- nothing, where the boards were not played
+  -- nothing is left if the boards were not played
   pub not_played_from : (f : RunFault) → IsNotPlayed turns (at_power_up version p m) f → Runs lent version n turns old old (Err f)
   not_played_from (Engine fault.NoMemory) none = (p, is.short, is.read, Keeps-refl _)
   not_played_from (Engine fault.TooLong) none = absurd none
@@ -92,7 +92,7 @@ module _ (lent : List ℕ) (version : Version) (m n turns : ℕ) (fits : m ≤ n
   not_played_from (LogDiffers driver at) none = (p, is.short, is.read, (other_logs version p m n turns none.0 driver at fits none.1 none.2, Keeps-refl _))
   not_played_from (NotReplayed at) none = absurd none
 
-  -- its trace was written, or a prefix of it
+  -- the trace was written, or a prefix of it
   pub written : (new : Option (List ℕ)) (b : State) (r : Result Status RunFault) → IsPlayed turns (at_power_up version p m) b → IsWritten b n old new r → Runs lent version n turns old new r
   written new b (Ok status) played done =
       (p, is.short, is.read, (b.history, run_of version p m n turns b fits played, subst (λ v. Appends old new (text v (in_order b.history))) (version_of version p m turns b played) done.0, done.1))

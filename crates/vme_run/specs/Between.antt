@@ -1,4 +1,4 @@
--- What the functions of a run tell one another.
+-- What the functions of a run promise one another.
 use Rattle.std.specs.Prelude.{◌≡◌, ◌==◌, ◌≤◌, ◌+◌, ◌*◌, ℕ, List, length, Option, Ok, Err, if◌then◌else◌}
 use Rattle.std.specs.Io.KnownBytes.{Appends}
 use Rattle.vme_model.specs.declared.signals.Driver.{Driver}
@@ -26,41 +26,42 @@ pub record IsRead (lent : List ℕ) (p : Plan) : Type 0 where
   pub short : length lent ≤ scenario_limit
   pub read : scenario lent ≡ Ok p
 
--- why there is no plan
+-- the fault for which there is no plan
 abbrev pub IsUnread : List ℕ → RunFault → Type 0
 IsUnread lent (Engine f) = IsNoPlan lent f
 IsUnread lent _ = ⊥
 
--- the lock of a backplane gave it back, with the seats as they were handed to it
+-- closing the lock of a backplane returned the backplane, with the seats as they were passed in
 pub record IsClosed (opened : State) (seats : List Place) (b : State) : Type 0 where
   pub closing : IsClosing opened seats b
   pub safe : IsSafe b.plan b.history
   pub fits : length b.history ≤ b.max
 
--- each driver's edges are the log that was handed in
+-- each driver's edges are the log that was passed in
 abbrev pub IsClosedWith : State → List Place → List (List Edge) → State → Type 0
 IsClosedWith opened seats logs b =
     IsClosed opened seats b × AreLogs b.history (drivers opened.plan) logs
 
--- L4, of the logs that were handed in
+-- L4, for the logs that were passed in
 abbrev pub IsClosedApart : State → List Place → List (List Edge) → RunFault → Type 0
 IsClosedApart opened seats logs (LogDiffers driver at) =
     (b : State) × IsClosed opened seats b
     × FirstDiffers b.history (drivers opened.plan) logs driver at
 IsClosedApart opened seats logs _ = ⊥
 
--- the drivers of a backplane made edges of its rules, in all at most one for each turn of each, and nothing else changed
+-- the drivers of a backplane made edges that its rules allow, in all at most one for each turn of
+-- each driver, and nothing else changed
 abbrev pub IsGrown : ℕ → State → State → Type 0
 IsGrown turns opened b =
     Follows opened b × IsLegal b.version b.plan b.history × IsSafe b.plan b.history
     × (length b.history ≤ b.max)
     × (length b.history ≤ length opened.history + turns * length (drivers opened.plan))
 
--- and no driver has more of them than turns
+-- the backplane grew so, and no driver has more edges than turns
 abbrev pub IsPlayed : ℕ → State → State → Type 0
 IsPlayed turns opened b = IsGrown turns opened b × AreInTurns turns (drivers opened.plan) b.history
 
--- the logs of the workers of a backplane that grew are not its drivers' edges
+-- the backplane grew, and the logs of its workers are not its drivers' edges
 abbrev pub HasGrownApart : ℕ → State → State → Driver → ℕ → Type 0
 HasGrownApart turns opened b driver at =
     (logs : List (List Edge)) × (made : ℕ)
@@ -77,7 +78,7 @@ IsNotPlayed turns opened (LogDiffers driver at) =
     (b : State) × IsGrown turns opened b × HasGrownApart turns opened b driver at
 IsNotPlayed turns opened (NotReplayed at) = ⊥
 
--- what is left of the trace of a backplane, and the answer
+-- what is left of the trace of a backplane, and the status or fault of the run
 abbrev pub IsWritten : State → ℕ → Option (List ℕ) → Option (List ℕ) → RunAnswer → Type 0
 IsWritten b n old new (Ok status) =
     Appends old new (text b.version (in_order b.history))

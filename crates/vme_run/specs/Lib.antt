@@ -1,6 +1,6 @@
--- To be believed by who reads the theorems.
+-- To be believed by whoever reads the theorems.
 pub mod Names
 pub mod Running
--- Words between the functions, which no public contract says.
+-- Words that the functions use between them, and that no public contract says.
 pub mod Rooms
 pub mod Between

@@ -1,4 +1,4 @@
-//! Running the boards of a backplane, each in a thread of its own.
+//! Runs the boards of a backplane, each in a thread of its own.
 ghost use Rattle.std.specs.Prelude.{◌≡◌, ◌≤◌, All, IfOk, MatchResult, length, min, vec_len};
 ghost use Rattle.vme_arena.specs.Words.{region_size};
 ghost use Rattle.vme_lock.specs.Seats.{drivers_of, seats_of};
@@ -23,7 +23,10 @@ use vme_lock::{
 };
 use vme_slots::DRIVERS;
 
-/// Memory for so many boards, each of which makes so many edges at most.
+/// Memory for `boards` boards, each of which makes at most `edges` edges.
+///
+/// # Errors
+/// `AllocError` if memory runs out.
 fn region_for(alloc: Global, boards: usize, edges: u32) -> Result<Region, AllocError>
     requires edges { edges ≤ trace_limit }
     requires boards { boards ≤ 22 }
@@ -33,7 +36,10 @@ fn region_for(alloc: Global, boards: usize, edges: u32) -> Result<Region, AllocE
     Region::new(alloc, room * boards)
 }
 
-/// A room for so many edges.
+/// A room for `edges` edges.
+///
+/// # Errors
+/// `AllocError` if the rest is too short.
 fn room<'r>(rest: &mut Rest<'r>, edges: u32) -> Result<Room<'r>, AllocError>
     requires { edges ≤ trace_limit }
     ensures { IfOk result (IsRoomFor edges) }
@@ -48,6 +54,9 @@ fn room<'r>(rest: &mut Rest<'r>, edges: u32) -> Result<Room<'r>, AllocError>
 }
 
 /// A room for each board.
+///
+/// # Errors
+/// `AllocError` if memory runs out or the rest is too short.
 fn rooms_for<'r>(
     alloc: Global,
     rest: &mut Rest<'r>,
@@ -65,7 +74,10 @@ fn rooms_for<'r>(
     Ok(rooms)
 }
 
-/// Runs all boards of a backplane, and gives it back with the history that they made.
+/// Runs all boards of a backplane, and returns it with the history that they made.
+///
+/// # Errors
+/// F3 or L3 if memory runs out; L4 if a driver's edges in the history are not its log.
 pub(crate) fn play<'r, R: Threads + Wait + Sync>(
     rt: &R,
     alloc: Global,
@@ -108,7 +120,7 @@ fn play_on<'r, L: Rig + Send + Sync, R: Threads + Wait + Sync>(
     play_in(rt, alloc, shared, seats, bounds, rooms)
 }
 
-/// Runs the boards of a lock, each in its room, and closes it.
+/// Runs the boards of a lock, each in its room, and closes the lock.
 fn play_in<'r, L: Rig + Send + Sync, R: Threads + Wait + Sync>(
     rt: &R,
     alloc: Global,
@@ -134,7 +146,7 @@ fn play_in<'r, L: Rig + Send + Sync, R: Threads + Wait + Sync>(
     close_boards(shared, seats, logs.as_slice())
 }
 
-/// Closes a lock, with the logs that its workers handed back.
+/// Closes a lock, given the logs that its workers returned.
 fn close_boards<'r, L: Rig>(
     shared: Shared<'r, L>,
     seats: Seats<L>,

@@ -1,4 +1,5 @@
-//! The engine `run`: a scenario's boards, each in a thread of its own, make edges, and their trace is written.
+//! The engine of `run`: a scenario's boards make edges, each in a thread of its own, and the trace
+//! of these edges is written. docs/THREADS.md explains it.
 #![tactic(auto)]
 
 ghost use Rattle.std.specs.Prelude.{Some};
@@ -13,24 +14,25 @@ use thiserror::Error;
 use vme_engines::EngineFault;
 use vme_model::Driver;
 
-/// Why a run gave up, by the numbers that users see.
+/// Why a run gave up, by the numbers that users see. docs/FAULTS.md lists them.
 #[derive(PartialEq, Eq, Debug, Drop, Error)]
 pub enum RunFault {
-    /// The scenario is refused, no memory was found, or the trace could not be written.
+    /// The scenario is refused, memory ran out, or the trace could not be written.
     #[error("{0}")]
     Engine(EngineFault),
-    /// The boards were not started.
+    /// L3: the boards were not started.
     #[error("L3 the boards could not be started")]
     NotStarted,
-    /// The edges of a driver in the history are not its log.
+    /// L4: the edges of a driver in the history are not its log. `at` is the first place where they
+    /// differ, counted from 0.
     #[error("L4 the log of {} differs at {at}", Name(*driver))]
     LogDiffers { driver: Driver, at: u32 },
-    /// A second backplane refuses the edge at this place, counted from 0.
+    /// L6: a second backplane refuses the edge at this place, counted from 0.
     #[error("L6 the history is refused at {at}")]
     NotReplayed { at: u32 },
 }
 
-/// A driver, as faults name it: `c`, or the slot.
+/// A driver, as faults name it: `c` for the controller, or the slot of the board.
 #[derive(Clone, Copy)]
 struct Name(Driver);
 

@@ -1,4 +1,4 @@
-//! A run from a scenario to a trace.
+//! A run, from a scenario to a trace.
 ghost use Rattle.std.specs.Prelude.{◌≡◌, ◌≤◌, ◌+◌, ◌*◌, [], Ok, IfOk, IfErr, length, min};
 ghost use Rattle.vme_model.specs.Report.{at_power_up, trace_limit};
 ghost use Rattle.vme_run.specs.Between.{IsNotPlayed, IsPlayed, IsRead, IsUnread, IsWritten};
@@ -17,7 +17,10 @@ use vme_lock::Bounds;
 use vme_model::Version;
 use vme_slots::Plan;
 
-/// The plan of a scenario's text. Errors: F2, else the first fault of the scenario.
+/// The plan of a scenario's text.
+///
+/// # Errors
+/// F2 if the text is too long; otherwise the first fault of the scenario.
 fn plan_for(alloc: Global, text: &[u8]) -> Result<Plan, RunFault>
     ensures ok { IfOk result (IsRead text.now) }
     ensures fault { IfErr result (IsUnread text.now) }
@@ -40,7 +43,7 @@ fn plan_again(alloc: Global, plan: &Plan) -> Result<Plan, RunFault>
     }
 }
 
-/// A backplane at power-up, with room for so many edges.
+/// A backplane at power-up, with room for `edges` edges.
 fn backplane_on<'r>(
     alloc: Global,
     rest: &mut Rest<'r>,
@@ -54,14 +57,15 @@ fn backplane_on<'r>(
     Ok(Backplane::new(plan, trace, version))
 }
 
-/// How many edges can be made: one in each turn of each driver, and no more than are asked for.
+/// The most edges that can be made: one in each turn of the controller and of each slot, and no
+/// more than are requested.
 fn most_edges(plan: &Plan, edges: u32, turns: u32) -> u32
     ensures { result ≡ min edges (turns * (plan.now.slots + 1)) }
 {
     edges.min(turns.saturating_mul(u32::from(plan.slots()) + 1))
 }
 
-/// Makes the edges of a closed history once more. None of them is refused.
+/// Makes the edges of a closed history once more, on a second backplane. None of them is refused.
 fn replay<'r>(closed: &Backplane<'_>, mut second: Backplane<'r>) -> Result<Backplane<'r>, RunFault>
     requires { second ≡ record closed.now { history = [] } }
     ensures { result ≡ Ok closed.now }
@@ -97,7 +101,7 @@ fn backplanes_on<'r>(
     Ok((first, second))
 }
 
-/// What the boards of a plan made, made once more.
+/// What the boards of a plan made, after it was made once more on a second backplane.
 fn made_twice<'r, R: Threads + Wait + Sync>(
     rt: &R,
     alloc: Global,
@@ -120,7 +124,7 @@ fn made_twice<'r, R: Threads + Wait + Sync>(
     }
 }
 
-/// Writes what was made.
+/// Writes the trace of what was made.
 fn write_made<W: Write>(made: &Backplane<'_>, edges: u32, out: &mut W) -> Result<Status, RunFault>
     ensures { IsWritten made.now edges (W.contents out.old) (W.contents out.new) result }
 {
@@ -130,14 +134,16 @@ fn write_made<W: Write>(made: &Backplane<'_>, edges: u32, out: &mut W) -> Result
     }
 }
 
-/// Runs the boards of a scenario, each in a thread of its own for so many turns, and writes the trace of their edges, at
-/// most `edges`. May wait.
+/// Runs the boards of a scenario, each in a thread of its own for `turns` turns, and writes the
+/// trace of their edges, at most `edges`. It may wait for other threads.
 ///
-/// `edges` is 1 to 1,048,576 and `turns` 1 to 1,000,000. The status is `Limit` where `edges` of them were made, and else
-/// `Done`. What the boards made is made once more on a second backplane before it is written.
+/// `edges` is 1 to 1,048,576, and `turns` is 1 to 1,000,000. The status is `Limit` if `edges` edges
+/// were made, and otherwise `Done`. Before anything is written, what the boards made is made once
+/// more on a second backplane.
 ///
-/// Errors: F2, the faults of the scenario, F3, L3 and L4, before anything is written; X8 where the output cannot be
-/// written. L6 never comes.
+/// # Errors
+/// F2, the faults of the scenario, F3, L3 and L4: then nothing is written. X8 if the output cannot
+/// be written: then a prefix of the trace is written. L6 never comes.
 #[tactic(auto, using(crate::proofs::WhatIsLeft::runs_out))]
 pub fn run<R: Threads + Wait + Sync, W: Write>(
     rt: &R,

@@ -1,4 +1,4 @@
--- Texts that are UTF-8, and others.
+-- Texts that are UTF-8, and those that are not.
 use Rattle.std.proofs.Common.{◌≡◌, ℕ, true, false, List, None, refl, inl, inr}
 use Rattle.std.specs.Str.{IsUtf8, is_utf8}
 use Rattle.std.proofs.lemmas.Bool.{cases_Bool}

@@ -2,5 +2,5 @@
 pub mod ArrayTables
 -- paths of keys, and the faults at them: `errors::part_path`, `errors::error_of`
 pub mod Paths
--- texts that are too deep or no UTF-8, and the others: `scenario::document`
+-- texts that are too deep or not UTF-8, and the others: `scenario::document`
 pub mod Documents

@@ -10,7 +10,7 @@ pub path-path : (a b c : List ℕ) → path (path (codes "board") a) (path b c) 
 path-path a b c =
     ap (λ t. codes "board." ++ t) (append_assoc a (codes ".") (path b c) ∙ ap (λ t. a ++ (codes "." ++ t)) (append_assoc b (codes ".") c))
 
--- a fault of the top table, where the printed path is its key
+-- a fault of the top table, whose printed path is its key
 pub at_key-moved : (f : KeyFault) (k s : List ℕ) → k ≡ key_of f → s ≡ k → at_key f ≡ moved_to s f
 at_key-moved (Unknown key) k s e p = rw (p, e) refl
 at_key-moved (Missing key) k s e p = rw (p, e) refl

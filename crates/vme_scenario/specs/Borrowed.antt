@@ -24,7 +24,7 @@ at_key (key_fault.Unknown key) = unknown key.now
 at_key (key_fault.Missing key) = missing key.now
 at_key (key_fault.Bad key) = bad key.now
 
--- its key, and the fault at another path
+-- the key of a fault, and the fault at another path
 abbrev pub key_of : KeyFault → List ℕ
 key_of (key_fault.Unknown key) = key.now
 key_of (key_fault.Missing key) = key.now
@@ -35,23 +35,23 @@ moved_to p (key_fault.Unknown key) = unknown p
 moved_to p (key_fault.Missing key) = missing p
 moved_to p (key_fault.Bad key) = bad p
 
--- the fault in a board's table, or in a table of it
+-- the fault in a board's table, or in a table inside it
 abbrev pub in_board : BoardFault → Fault
 in_board (board_fault.Board f) = at_key f
 in_board (board_fault.Requester f) = below (codes "requester") (at_key f)
 in_board (board_fault.Interrupter f) = below (codes "interrupter") (at_key f)
 
--- a result, its fault as the format has it
+-- a result, with its fault as the format has it
 abbrev pub keyed : {A : Type 0} → Result A KeyFault → Result A Fault
 keyed (Ok a) = Ok a
 keyed (Err f) = Err (at_key f)
 
--- the same, of a board's
+-- the result for a board, with its fault as the format has it
 abbrev pub boarded : {A : Type 0} → Result A BoardFault → Result A Fault
 boarded (Ok a) = Ok a
 boarded (Err f) = Err (in_board f)
 
--- the fault is that of a part of a scenario; want of memory says nothing of it
+-- the fault is that of a part of a scenario; if memory ran out, it says nothing about the part
 abbrev pub IsFaultOf : {A : Type 0} → Result A Fault → TextFault → Type 0
 IsFaultOf r (text_fault.Top f) = r ≡ Err (at_key f)
 IsFaultOf r (text_fault.Board n f) = r ≡ Err (below (path (codes "board") (decimal n)) (in_board f))

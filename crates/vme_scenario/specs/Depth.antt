@@ -1,6 +1,6 @@
--- How deep the tables and arrays of a text go, told byte by byte: each bracket or brace that is
--- open is one deeper, and so is each dot of a key, also of the keys of the tables around it, up to
--- the last header's.
+-- How deep the tables and arrays of a text are nested, counted byte by byte. Each bracket or brace
+-- that is open is one level deeper. So is each dot of a key; the dots count for the keys of the
+-- tables around it too, up to the last header's.
 use Rattle.std.specs.Prelude.{ℕ, ◌+◌, Bool, true, false, ◌&&◌, ◌||◌, ◌==◌, nat_le, if◌then◌else◌, List, [], ◌∷◌, length}
 use Rattle.vme_scenario.specs.declared.depth.Mode.{Mode}
 use Rattle.vme_scenario.specs.declared.depth.Mode.TheVariants.{Plain, Comment, Opened, Doubled, Short, ShortEscape, Long, LongEscape}
@@ -9,13 +9,13 @@ use Rattle.vme_scenario.specs.declared.depth.Mode.TheVariants.{Plain, Comment, O
 abbrev pub mode_behind : ℕ → Mode
 mode_behind c = if c == 34 || c == 39 then Opened c else if c == 35 then Comment else Plain
 
--- after a byte of a string on one line with the delimiter d; a backslash, 92, escapes between
--- quotes alone
+-- the mode after a byte of a string on one line with the delimiter d; a backslash, 92, escapes only
+-- between double quotes
 abbrev pub in_short : ℕ → ℕ → Mode
 in_short d c = if c == d then Plain else if c == 92 && d == 34 then ShortEscape else Short d
 
--- of one over several lines, after n delimiters: three end it, and after them up to two more belong
--- to it
+-- the mode after a byte of a string over several lines, after n delimiters: three end it, and up to
+-- two more after them belong to it
 abbrev pub in_long : ℕ → ℕ → ℕ → Mode
 in_long d n c =
     if c == d then Long d (if nat_le 3 n then 3 else n + 1)
@@ -33,8 +33,8 @@ mode_after ShortEscape c = Short 34
 mode_after (Long d n) c = in_long d n c
 mode_after LongEscape c = Long 34 0
 
--- Where the next byte stands: whether its line has a `=` yet; how deep it is, and how deep the
--- table or array that it stands in; and how deep are those around that one, from the inside out.
+-- The place of the next byte: whether its line has a `=` yet; how deep it is; how deep the table or
+-- array is in which it stands; and how deep those around that one are, from the inside out.
 pub record Place : Type 0 where
   pub mode : Mode
   pub keyed : Bool
@@ -49,23 +49,23 @@ front = record { mode = Plain; keyed = false; here = 0; held = 0; outer = [] }
 abbrev pub opened : Place → Place
 opened p = record p { here = p.here + 1; held = p.here + 1; outer = p.held ∷ p.outer }
 
--- the innermost one ends, if there is one
+-- the innermost table or array ends, if there is one
 abbrev pub closed_to : Place → List ℕ → Place
 closed_to p [] = p
 closed_to p (depth ∷ outer) = record p { here = depth; held = depth; outer = outer }
 
--- after a bracket: before the `=` a header begins anew
+-- the place after a bracket: before the `=`, a header begins
 abbrev pub bracketed : Place → Place
 bracketed p = if p.keyed then opened p else record p { here = 0; held = 0 }
 
--- after a line feed: a pair has ended, or else a header, whose key stays; within a table or array
--- it is as a comma
+-- the place after a line feed: a pair has ended, or a header, whose key stays; within a table or
+-- array a line feed acts as a comma
 abbrev pub broken_in : Place → List ℕ → Place
 broken_in p [] =
     if p.keyed then record p { keyed = false; here = p.held } else record p { held = p.here }
 broken_in p (_ ∷ _) = record p { here = p.held }
 
--- after a byte outside of strings and comments
+-- the place after a byte outside of strings and comments
 abbrev pub structured : Place → ℕ → Place
 structured p c =
     if c == 46 then record p { here = p.here + 1 }  -- `.`
@@ -77,7 +77,8 @@ structured p c =
     else if c == 10 then broken_in p p.outer  -- the line feed
     else p
 
--- after any byte; one that is in a string or a comment, or begins one, changes the mode alone
+-- the place after any byte; a byte in a string or a comment, or one that begins one, changes only
+-- the mode
 abbrev pub entered : Place → ℕ → Mode → Place
 entered p c Plain = structured (record p { mode = Plain }) c
 entered p c mode = record p { mode = mode }

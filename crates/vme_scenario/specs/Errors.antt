@@ -1,4 +1,4 @@
--- What each error says of a scenario.
+-- What each error says about a scenario.
 use Rattle.std.specs.Prelude.{◌≡◌, ◌≢◌, ⊤, Result, Err, IsOk, string_bytes}
 use Rattle.vme_model.specs.declared.refusals.PlanError.TheVariants as refusal
 use Rattle.vme_model.specs.Plan.{Plan}
@@ -6,7 +6,7 @@ use Rattle.vme_scenario.specs.declared.errors.ScenarioError.{ScenarioError}
 use Rattle.vme_scenario.specs.declared.errors.ScenarioError.TheVariants as error
 use Rattle.vme_scenario.specs.Faults.{Fault, not_toml, unknown, missing, bad, plan}
 
--- the error is what is wrong; want of memory says nothing, but where the plan found none the
+-- the error is what is wrong; an error for want of memory says nothing, but P9 comes only if the
 -- scenario is right
 abbrev pub IsErrorOf : Result Plan Fault → ScenarioError → Type 0
 IsErrorOf r error.NotToml = r ≡ Err not_toml

@@ -14,14 +14,14 @@ pub data Fault : Type 0 where
 abbrev pub path : List ℕ → List ℕ → List ℕ
 path table key = table ++ codes "." ++ key
 
--- a fault of a table, seen from the one that the table stands in
+-- a fault of a table, seen from the table in which it stands
 abbrev pub below : List ℕ → Fault → Fault
 below table (unknown key) = unknown (path table key)
 below table (missing key) = missing (path table key)
 below table (bad key) = bad (path table key)
 below table f = f
 
--- a result, its fault seen from there
+-- a result, with its fault seen from there
 abbrev pub within : {A : Type 0} → List ℕ → Result A Fault → Result A Fault
 within table (Ok a) = Ok a
 within table (Err f) = Err (below table f)

@@ -16,7 +16,8 @@ use Rattle.vme_model.specs.Accepted.{plan_fault}
 use Rattle.vme_scenario.specs.Faults.{Fault, not_toml, unknown, missing, bad, plan, path, within, ◌>>=◌}
 use Rattle.vme_scenario.specs.Values.{document, byte, arbiter, interrupter_kind, releases_when_done, tables, levels, chains}
 
--- no key but these: members ascend, so an unknown one that is named is the least by bytes
+-- the table has only these keys; members ascend, so the unknown key that is named is the least by
+-- bytes
 abbrev pub only : List (List ℕ) → Members → Result (Unit {0}) Fault
 only keys no_members = Ok tt
 only keys (member key d ms) =
@@ -27,12 +28,12 @@ abbrev pub valued : {A : Type 0} → List ℕ → Option A → Result A Fault
 valued key (Some a) = Ok a
 valued key None = Err (bad key)
 
--- a key that has to stand
+-- a key that is required
 abbrev pub given : {A : Type 0} → List ℕ → (Data → Option A) → Option Data → Result A Fault
 given key read (Some d) = valued key (read d)
 given key read None = Err (missing key)
 
--- the same, looked up in a table
+-- what a required key of a table says
 abbrev pub needed : {A : Type 0} → List ℕ → (Data → Option A) → Members → Result A Fault
 needed key read ms = given key read (get_member key ms)
 
@@ -41,11 +42,11 @@ abbrev pub given_or : {A : Type 0} → A → List ℕ → (Data → Option A) �
 given_or absent key read (Some d) = valued key (read d)
 given_or absent key read None = Ok absent
 
--- the same, looked up in a table
+-- what a key of a table says, if it is there
 abbrev pub optional : {A : Type 0} → A → List ℕ → (Data → Option A) → Members → Result A Fault
 optional absent key read ms = given_or absent key read (get_member key ms)
 
--- what a table at a key says; another value is bad
+-- what a table at a key says; any other value is bad
 abbrev pub inside :
     {A : Type 0} → List ℕ → (Members → Result A Fault) → Option Members
     → Result (Option A) Fault
@@ -59,7 +60,7 @@ abbrev pub given_part :
 given_part key read (Some d) = inside key read (as_table d)
 given_part key read None = Ok None
 
--- the same, looked up in a table
+-- what a table inside a table says, if it is there
 abbrev pub part :
     {A : Type 0} → List ℕ → (Members → Result A Fault) → Members
     → Result (Option A) Fault
@@ -70,7 +71,7 @@ abbrev pub requester_keys : Bool → List (List ℕ)
 requester_keys true = codes "level" ∷ codes "release" ∷ codes "burst" ∷ []
 requester_keys false = codes "level" ∷ codes "release" ∷ []
 
--- a burst is given with the first
+-- a burst is given only with the former
 abbrev pub release : Bool → Members → Result Release Fault
 release true ms = needed (codes "burst") byte ms >>= λ burst. Ok (Done burst)
 release false ms = Ok Request
@@ -120,7 +121,7 @@ each key read n (ms ∷ rest) =
     within (path key (decimal n)) (read ms) >>= λ first.
     (each key read (suc n) rest >>= λ others. Ok (first ∷ others))
 
--- a plan with no fault, or its first fault
+-- a plan without fault, or its first fault
 abbrev pub accepted_or : Plan → Option PlanError → Result Plan Fault
 accepted_or p None = Ok p
 accepted_or p (Some e) = Err (plan e)
@@ -137,11 +138,11 @@ contents ms = do
   jumpers ← each (codes "jumper") jumper 1 jumpers
   Ok (record { slots = slots; rows = rows; jumpers = jumpers; arbiter = arbiter })
 
--- the plan, where it is accepted
+-- the plan, if it is accepted
 abbrev pub accepted : Plan → Result Plan Fault
 accepted p = accepted_or p (plan_fault p)
 
--- what the top table says; a text without one is no TOML
+-- what the top table says; a text without one is not TOML
 abbrev pub read_as : Option Members → Result Plan Fault
 read_as None = Err not_toml
 read_as (Some ms) = contents ms >>= accepted

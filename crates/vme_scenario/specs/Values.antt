@@ -15,7 +15,7 @@ use Rattle.vme_model.specs.declared.sets.Chains.{Chains}
 use Rattle.vme_scenario.specs.Depth.{is_shallow}
 use Rattle.vme_model.specs.Sets.{no_levels, no_chains, with_level, with_chain}
 
--- the top table of a text, where no table or array in it is too deep, and it is UTF-8 and TOML
+-- the top table of a text, if no table or array in it is too deep, and it is UTF-8 and TOML
 abbrev pub document : List ℕ → Option Members
 document text = if is_shallow text && is_utf8 text then parse_document text else None
 
@@ -28,13 +28,13 @@ between low high (negsuc n) = None
 abbrev pub byte : Data → Option ℕ
 byte d = option_and_then (between 0 255) (as_integer d)
 
--- what a word means, of those that there are
+-- the meaning of a word, if the list has it
 abbrev pub meaning : {A : Type 0} → List (List ℕ × A) → List ℕ → Option A
 meaning [] word = None
 meaning (entry ∷ entries) word =
     if bytes_eq word entry.0 then Some entry.1 else meaning entries word
 
--- the same, of a value
+-- the meaning of a value, if it is a word in the list
 abbrev pub word_of : {A : Type 0} → List (List ℕ × A) → Data → Option A
 word_of entries d = option_and_then (meaning entries) (as_str d)
 
@@ -45,21 +45,21 @@ arbiter = word_of ((codes "sgl", Sgl) ∷ (codes "pri", Pri) ∷ (codes "rrs", R
 abbrev pub interrupter_kind : Data → Option IrqKind
 interrupter_kind = word_of ((codes "roak", Roak) ∷ (codes "rora", Rora) ∷ [])
 
--- whether the requester releases the bus when done; else on request
+-- whether the requester releases the bus when done; otherwise it does so on request
 abbrev pub releases_when_done : Data → Option Bool
 releases_when_done = word_of ((codes "rwd", true) ∷ (codes "ror", false) ∷ [])
 
--- one value more, where there are values
+-- one more value, if there are values
 abbrev pub and_more : {A : Type 0} → Option A → Option (List A) → Option (List A)
 and_more (Some a) (Some rest) = Some (a ∷ rest)
 and_more _ _ = None
 
--- what the items say, where each says something
+-- what the items say, if each of them says something
 abbrev pub each_item : {A : Type 0} → (Data → Option A) → Items → Option (List A)
 each_item read no_items = Some []
 each_item read (item d ds) = and_more (read d) (each_item read ds)
 
--- the same, of an array's items
+-- what an array's items say, if each of them says something
 abbrev pub array_of : {A : Type 0} → (Data → Option A) → Data → Option (List A)
 array_of read d = option_and_then (each_item read) (as_array d)
 

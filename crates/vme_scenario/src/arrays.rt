@@ -1,4 +1,4 @@
-//! Arrays of tables.
+//! Arrays of tables, for boards and jumpers.
 ghost use Rattle.std.specs.Prelude.{◌≡◌, Some, Ok, IfOk, IfErr, [], option_map, codes};
 ghost use Rattle.toml.specs.View.{view, table_view};
 ghost use Rattle.vme_scenario.specs.Borrowed.{IsFaultOf, table_views};
@@ -13,7 +13,7 @@ use std::alloc::{AllocError, Global};
 use toml::{Table, Value};
 use vme_model::{Jumper, Row};
 
-/// The tables of an array; none where the value is no array of tables.
+/// The tables of an array; none if the value is not an array of tables.
 fn tables<'a>(alloc: Global, value: &'a Value) -> Result<Option<Vec<&'a Table>>, AllocError>
     ensures { IfOk result
         (λ ts. option_map (λ v. table_views v.items) ts ≡ values.tables (view value.now)) }
@@ -31,7 +31,7 @@ fn tables<'a>(alloc: Global, value: &'a Value) -> Result<Option<Vec<&'a Table>>,
     Ok(Some(tables))
 }
 
-/// The boards' tables.
+/// The tables of the boards. The key has to be there.
 pub(crate) fn board_tables<'a>(
     alloc: Global,
     table: &'a Table,
@@ -46,7 +46,7 @@ pub(crate) fn board_tables<'a>(
     tables(alloc, value)?.ok_or(TextFault::Top(KeyFault::Bad("board")))
 }
 
-/// The jumpers' tables, which may be absent.
+/// The tables of the jumpers. The key may be absent.
 pub(crate) fn jumper_tables<'a>(
     alloc: Global,
     table: &'a Table,
@@ -63,7 +63,7 @@ pub(crate) fn jumper_tables<'a>(
     }
 }
 
-/// The boards of the tables, in order.
+/// The boards that the tables describe, in their order.
 pub(crate) fn boards<'a>(alloc: Global, tables: &[&'a Table]) -> Result<Vec<Row>, TextFault<'a>>
     ensures ok { IfOk result
         (λ rows. format.each (codes "board") format.board 1 (table_views tables.now)
@@ -81,7 +81,7 @@ pub(crate) fn boards<'a>(alloc: Global, tables: &[&'a Table]) -> Result<Vec<Row>
     Ok(rows)
 }
 
-/// The jumpers of the tables, in order.
+/// The jumpers that the tables describe, in their order.
 pub(crate) fn jumpers<'a>(alloc: Global, tables: &[&'a Table]) -> Result<Vec<Jumper>, TextFault<'a>>
     ensures ok { IfOk result
         (λ jumpers. format.each (codes "jumper") format.jumper 1 (table_views tables.now)

@@ -1,4 +1,4 @@
-//! A board.
+//! Reads a board.
 ghost use Rattle.std.specs.Prelude.{◌≡◌, codes};
 ghost use Rattle.toml.specs.View.{table_view};
 ghost use Rattle.vme_model.specs.Sets.{no_levels};
@@ -51,7 +51,7 @@ fn handler(table: &Table) -> Result<Levels, KeyFault<'_>>
     }
 }
 
-/// What the table says of a board.
+/// The board that a table describes.
 #[tactic(auto, unfolding(crate::specs::Format::board))]
 pub(crate) fn board(table: &Table) -> Result<Row, BoardFault<'_>>
     ensures { boarded result ≡ format.board (table_view table.now) }

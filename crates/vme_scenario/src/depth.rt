@@ -1,4 +1,5 @@
-//! How deep the tables and arrays of a text go, told before it is parsed: what the parser makes is dropped by recursion.
+//! How deep the tables and arrays of a text are nested. It is tested before the text is parsed,
+//! because what the parser makes is dropped by recursion.
 ghost use Rattle.std.specs.Prelude.{◌≡◌, ◌<◌, ◌≤◌, Bool, true, false, if◌then◌else◌};
 ghost use Rattle.arrayvec.specs.ArrayVec.{array_vec_len};
 ghost use Rattle.vme_scenario.specs.Depth as spec;
@@ -6,7 +7,8 @@ ghost use Rattle.vme_scenario.specs.Borrowed.{placed};
 
 use arrayvec::ArrayVec;
 
-/// The most tables and arrays in one another, with the dots of keys.
+/// The deepest nesting of tables and arrays, counting the dots of keys. docs/FAULTS.md has the
+/// limits.
 const MOST_DEEP: usize = 80;
 
 /// Whether a byte stands in a string or a comment, and how its string ends.
@@ -14,28 +16,28 @@ const MOST_DEEP: usize = 80;
 enum Mode {
     Plain,
     Comment,
-    /// Behind the first delimiter of a string.
+    /// After the first delimiter of a string.
     Opened(u8),
-    /// Behind the second: the string is empty, or goes over several lines.
+    /// After the second delimiter: the string is empty, or goes over several lines.
     Doubled(u8),
     /// In a string on one line, with its delimiter.
     Short(u8),
     ShortEscape,
-    /// In a string over several lines, with its delimiter, after so many of them.
+    /// In a string over several lines, with its delimiter, and after how many delimiters in a row.
     Long(u8, u8),
     LongEscape,
 }
 
-/// Where the next byte stands.
+/// The place of the next byte.
 #[derive(Drop)]
 struct Place {
     mode: Mode,
-    /// Whether its line has a `=` yet: else a bracket begins a header.
+    /// Whether its line has a `=` yet. If not, a bracket begins a header.
     keyed: bool,
     here: usize,
-    /// The depth of the table or array that it stands in.
+    /// The depth of the table or array in which it stands.
     held: usize,
-    /// The depths of those around that one, from the inside out.
+    /// The depths of the tables and arrays around that one, from the inside out.
     outer: ArrayVec<usize, 81>,
 }
 
@@ -63,7 +65,8 @@ fn in_short(delimiter: u8, byte: u8) -> Mode
     }
 }
 
-/// The mode after a byte in a string over several lines, after so many of its delimiters.
+/// The mode after a byte in a string over several lines, given how many delimiters stand before the
+/// byte.
 fn in_long(delimiter: u8, run: u8, byte: u8) -> Mode
     ensures { result ≡ spec.in_long delimiter run byte }
 {
@@ -98,7 +101,7 @@ fn mode_after(mode: Mode, byte: u8) -> Mode
 }
 
 impl Place {
-    /// Before the first byte.
+    /// The place of the first byte.
     fn front() -> Place
         ensures { placed result ≡ spec.front }
     {
@@ -161,7 +164,7 @@ impl Place {
         }
     }
 
-    /// Takes a byte outside of strings and comments.
+    /// Takes the next byte, which stands outside of strings and comments.
     fn take_outside(&mut self, byte: u8)
         requires { (self.old.here ≤ 80) × (array_vec_len self.old.outer ≤ 80) }
         ensures { placed self.new ≡ spec.structured (placed self.old) byte }

@@ -11,10 +11,10 @@ use std::fmt;
 use thiserror::Error;
 use vme_model::PlanError;
 
-/// The most characters of a key that are told.
+/// The most characters of a key that are printed.
 const MOST_TOLD: usize = 200;
 
-/// A key as users see it: a longer one ends after 200 characters, with `..`.
+/// A key as users see it: after 200 characters a longer one ends with `..`.
 #[derive(Clone, Copy)]
 struct Told<'a>(&'a str);
 
@@ -30,24 +30,25 @@ impl fmt::Display for Told<'_> {
     }
 }
 
-/// Why a text is no scenario, by the numbers that users see.
+/// Why a text is not a scenario, by the numbers that users see. docs/FAULTS.md lists them.
 ///
-/// A key is its path from the top table, with the number of a board or jumper from 1, as `board.2.requester.level`.
-/// Its text has at most 200 characters of it, and then `..`.
+/// A key is its path from the top table, with the number of a board or jumper from 1, such as
+/// `board.2.requester.level`. The text of the error has at most 200 characters of it, and then
+/// `..`.
 #[derive(PartialEq, Eq, Debug, Drop, Error)]
 pub enum ScenarioError {
-    /// The text is not UTF-8, or not TOML.
+    /// Q1: the text is not UTF-8, or not TOML.
     #[error("Q1 the scenario is not TOML")]
     NotToml,
-    /// The format has no such key; of several in one table it is the least by bytes.
+    /// Q2: the format has no such key. If a table has several, it is the least one by bytes.
     #[error("Q2 unknown key {}", Told(.key.as_str()))]
     UnknownKey { key: String },
     #[error("Q3 missing key {}", Told(.key.as_str()))]
     Missing { key: String },
-    /// The value is of another kind, a word that is not in the list, or out of range.
+    /// Q4: the value is of another kind, is a word that is not in the list, or is out of range.
     #[error("Q4 bad value of {}", Told(.key.as_str()))]
     BadValue { key: String },
-    /// The scenario can be read, and its plan is refused.
+    /// P1 to P9: the scenario can be read, but its plan is refused.
     #[error("{0}")]
     Plan(PlanError),
     #[error("Q6 no memory")]
@@ -65,7 +66,7 @@ fn key_of<'a>(fault: KeyFault<'a>) -> &'a str
     }
 }
 
-/// The error of a fault whose key has this path.
+/// The error of a fault, given the path of its key.
 fn at_path(fault: KeyFault<'_>, key: String) -> ScenarioError
     ensures { (r : Result Plan Fault) → r ≡ Err (moved_to (string_bytes key) fault.entry)
         → IsErrorOf r result }
@@ -118,7 +119,7 @@ fn board_path<'a>(
     }
 }
 
-/// The error of a fault, its key as a path from the top table.
+/// The error of a fault, with its key as a path from the top table.
 pub(crate) fn error_of(alloc: Global, fault: TextFault<'_>) -> Result<ScenarioError, AllocError>
     ensures { IfOk result (λ e. (r : Result Plan Fault) → IsFaultOf r fault.entry → IsErrorOf r e) }
 {

@@ -1,4 +1,4 @@
-//! Faults that borrow the text, so that none needs memory before it is answered.
+//! Faults that borrow the text, so that none needs memory before it is returned.
 ghost use Rattle.std.specs.Prelude.{◌≡◌};
 ghost use Rattle.vme_scenario.specs.declared.faults.TextFault.TheVariants.{Memory};
 
@@ -12,7 +12,7 @@ pub(crate) enum KeyFault<'a> {
     Bad(&'static str),
 }
 
-/// What is wrong in a board's table, or in a table of it.
+/// What is wrong in a board's table, or in a table inside it.
 #[derive(Clone, Copy, Debug)]
 pub(crate) enum BoardFault<'a> {
     Board(KeyFault<'a>),

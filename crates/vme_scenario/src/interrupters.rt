@@ -1,4 +1,4 @@
-//! A board's interrupter.
+//! Reads a board's interrupter.
 ghost use Rattle.std.specs.Prelude.{◌≡◌, codes};
 ghost use Rattle.toml.specs.View.{table_view};
 ghost use Rattle.vme_scenario.specs.Borrowed.{keyed};
@@ -18,7 +18,7 @@ fn kind(table: &Table) -> Result<IrqKind, KeyFault<'_>>
     interrupter_kind(needed_value(table, "kind")?).ok_or(KeyFault::Bad("kind"))
 }
 
-/// What the table says of an interrupter.
+/// The interrupter that a table describes.
 #[tactic(auto, unfolding(crate::specs::Format::interrupter))]
 pub(crate) fn interrupter(table: &Table) -> Result<InterrupterRow, KeyFault<'_>>
     ensures { keyed result ≡ format.interrupter (table_view table.now) }

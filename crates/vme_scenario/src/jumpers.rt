@@ -1,4 +1,4 @@
-//! The jumpers of an empty slot.
+//! Reads the jumpers of an empty slot.
 ghost use Rattle.std.specs.Prelude.{◌≡◌, codes};
 ghost use Rattle.toml.specs.View.{table_view};
 ghost use Rattle.vme_scenario.specs.Borrowed.{keyed};
@@ -17,7 +17,7 @@ fn chains(table: &Table) -> Result<Chains, KeyFault<'_>>
     chain_set(needed_value(table, "chains")?).ok_or(KeyFault::Bad("chains"))
 }
 
-/// What the table says of a jumper.
+/// The jumpers that a table describes.
 #[tactic(auto, unfolding(crate::specs::Format::jumper))]
 pub(crate) fn jumper(table: &Table) -> Result<Jumper, KeyFault<'_>>
     ensures { keyed result ≡ format.jumper (table_view table.now) }

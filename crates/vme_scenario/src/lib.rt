@@ -1,6 +1,7 @@
-//! Reads a scenario, a backplane's plan in TOML.
+//! Reads a scenario: a backplane's plan in TOML. docs/TRACES.md describes it.
 //!
-//! `specs/Format.antt` says which keys there are, what they hold, and in which order faults are looked for.
+//! `specs/Format.antt` says which keys there are, what they hold, and in which order faults are
+//! looked for.
 #![tactic(auto)]
 
 mod arrays;

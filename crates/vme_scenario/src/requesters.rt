@@ -1,4 +1,4 @@
-//! A board's requester.
+//! Reads a board's requester.
 ghost use Rattle.std.specs.Prelude.{◌≡◌, map, codes};
 ghost use Rattle.toml.specs.View.{table_view};
 ghost use Rattle.vme_scenario.specs.Borrowed.{keyed};
@@ -38,7 +38,7 @@ fn release(when_done: bool, table: &Table) -> Result<Release, KeyFault<'_>>
     Ok(Release::Done { burst })
 }
 
-/// What the table says of a requester.
+/// The requester that a table describes.
 #[tactic(auto, unfolding(crate::specs::Format::requester))]
 pub(crate) fn requester(table: &Table) -> Result<RequesterRow, KeyFault<'_>>
     ensures { keyed result ≡ format.requester (table_view table.now) }

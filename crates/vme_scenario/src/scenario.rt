@@ -17,7 +17,7 @@ use toml::Table;
 use vme_model::{ArbiterKind, Jumper, Row};
 use vme_slots::Plan;
 
-/// What a scenario's text says.
+/// What a scenario's text says: its plan.
 #[derive(Drop)]
 pub struct Scenario {
     pub plan: Plan,
@@ -56,7 +56,7 @@ fn arbiter(table: &Table) -> Result<ArbiterKind, KeyFault<'_>>
     arbiter_kind(needed_value(table, "arbiter")?).ok_or(KeyFault::Bad("arbiter"))
 }
 
-/// What the top table and those in it say.
+/// What the top table and the tables inside it say.
 #[tactic(auto, unfolding(crate::specs::Format::contents))]
 fn contents(alloc: Global, table: &Table) -> Result<Draft, TextFault<'_>>
     ensures ok { IfOk result (λ d. format.contents (table_view table.now) ≡ Ok (drafted d)) }
@@ -77,7 +77,7 @@ fn contents(alloc: Global, table: &Table) -> Result<Draft, TextFault<'_>>
     })
 }
 
-/// The scenario of a draft, where its plan is accepted.
+/// The scenario of a draft, if its plan is accepted.
 fn judged(alloc: Global, draft: Draft) -> Result<Scenario, ScenarioError>
     ensures ok { IfOk result (λ s. format.accepted (drafted draft) ≡ Ok s.plan) }
     ensures fault { IfErr result (IsErrorOf (format.accepted (drafted draft))) }
@@ -93,12 +93,13 @@ fn judged(alloc: Global, draft: Draft) -> Result<Scenario, ScenarioError>
     Ok(Scenario { plan })
 }
 
-/// Reads a scenario: TOML with the keys `slots`, `arbiter`, `board` and `jumper`.
+/// Reads a scenario: TOML with the keys `slots`, `arbiter`, `board` and `jumper`. docs/TRACES.md
+/// describes it.
 ///
 /// # Errors
-///
-/// The first thing that is wrong: the text as a whole, then the keys of the top table, then board by
-/// board, then jumper by jumper, then the plan. Want of memory may be answered in place of any of them.
+/// The first thing that is wrong: the text as a whole (Q1), then the keys of the top table, then
+/// board by board, then jumper by jumper (Q2 to Q4), then the plan (P1 to P8). If memory runs out,
+/// Q6 or P9 may be returned in place of any of them.
 pub fn read(alloc: Global, text: &[u8]) -> Result<Scenario, ScenarioError>
     ensures ok { IfOk result (λ s. format.scenario text.now ≡ Ok s.plan) }
     ensures fault { IfErr result (IsErrorOf (format.scenario text.now)) }

@@ -14,14 +14,14 @@ use crate::faults::KeyFault;
 use crate::values::byte;
 use toml::{Table, Value};
 
-/// The value at a key.
+/// The value at a key, if there is one.
 pub(crate) fn value_at<'a>(table: &'a Table, key: &str) -> Option<&'a Value>
     ensures { option_map (λ v. view v.now) result ≡ get_member key.now (table_view table.now) }
 {
     table.get(key)
 }
 
-/// The value at a key that has to stand.
+/// The value at a key that is required.
 pub(crate) fn needed_value<'a>(
     table: &'a Table,
     key: &'static str,
@@ -34,7 +34,7 @@ pub(crate) fn needed_value<'a>(
     value_at(table, key).ok_or(KeyFault::Missing(key))
 }
 
-/// The whole number at a key that has to stand.
+/// The whole number, 0 to 255, at a key that is required.
 pub(crate) fn needed_byte<'a>(table: &'a Table, key: &'static str) -> Result<u8, KeyFault<'a>>
     ensures { keyed result ≡ needed key.now values.byte (table_view table.now) }
 {
@@ -52,7 +52,7 @@ fn is_among(key: &str, keys: &[&str]) -> bool
     false
 }
 
-/// Nothing, or the least key by bytes that is none of these.
+/// An error with the least unknown key by bytes, if the table has a key that is not in the list.
 pub(crate) fn only<'a>(table: &'a Table, keys: &[&str]) -> Result<(), KeyFault<'a>>
     ensures { keyed result ≡ only (map (λ k. k.now) keys.now) (table_view table.now) }
 {

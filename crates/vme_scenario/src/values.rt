@@ -1,4 +1,4 @@
-//! What the values of a scenario's keys say.
+//! What the values at a scenario's keys say.
 ghost use Rattle.std.specs.Prelude.{◌≡◌};
 ghost use Rattle.toml.specs.View.{view};
 ghost use Rattle.vme_scenario.specs.Values as spec;
@@ -7,7 +7,7 @@ use bitflags::Flags;
 use toml::Value;
 use vme_model::{ArbiterKind, ChainId, Chains, IrqKind, Levels};
 
-/// A whole number, 0 to 255.
+/// A whole number, 0 to 255; none for any other value.
 pub(crate) fn byte(value: &Value) -> Option<u8>
     ensures { result ≡ spec.byte (view value.now) }
 {
@@ -17,7 +17,7 @@ pub(crate) fn byte(value: &Value) -> Option<u8>
     }
 }
 
-/// An interrupt level, 1 to 7.
+/// An interrupt level, 1 to 7; none for any other value.
 fn level(value: &Value) -> Option<u8>
     ensures { result ≡ spec.level (view value.now) }
 {
@@ -27,7 +27,7 @@ fn level(value: &Value) -> Option<u8>
     }
 }
 
-/// The arbiter's kind, by its word.
+/// The arbiter's kind, by its word; none for any other value.
 pub(crate) fn arbiter(value: &Value) -> Option<ArbiterKind>
     ensures { result ≡ spec.arbiter (view value.now) }
 {
@@ -43,7 +43,7 @@ pub(crate) fn arbiter(value: &Value) -> Option<ArbiterKind>
     }
 }
 
-/// The interrupter's kind, by its word.
+/// The interrupter's kind, by its word; none for any other value.
 pub(crate) fn interrupter_kind(value: &Value) -> Option<IrqKind>
     ensures { result ≡ spec.interrupter_kind (view value.now) }
 {
@@ -57,7 +57,8 @@ pub(crate) fn interrupter_kind(value: &Value) -> Option<IrqKind>
     }
 }
 
-/// Whether the word says that the requester releases the bus when done (RWD), and not on request (ROR).
+/// True if the word says that the requester releases the bus when done (RWD), and false if it says
+/// on request (ROR); none for any other value.
 pub(crate) fn releases_when_done(value: &Value) -> Option<bool>
     ensures { result ≡ spec.releases_when_done (view value.now) }
 {
@@ -71,7 +72,7 @@ pub(crate) fn releases_when_done(value: &Value) -> Option<bool>
     }
 }
 
-/// The daisy chain, by its word.
+/// The daisy chain, by its word; none for any other value.
 fn chain(value: &Value) -> Option<ChainId>
     ensures { result ≡ spec.chain (view value.now) }
 {
@@ -91,7 +92,7 @@ fn chain(value: &Value) -> Option<ChainId>
     }
 }
 
-/// The set of the interrupt levels in an array.
+/// The set of the interrupt levels in an array; none for any other value.
 pub(crate) fn levels(value: &Value) -> Option<Levels>
     ensures { result ≡ spec.levels (view value.now) }
 {
@@ -102,7 +103,7 @@ pub(crate) fn levels(value: &Value) -> Option<Levels>
     Some(levels)
 }
 
-/// The set of the daisy chains in an array.
+/// The set of the daisy chains in an array; none for any other value.
 pub(crate) fn chains(value: &Value) -> Option<Chains>
     ensures { result ≡ spec.chains (view value.now) }
 {

@@ -18,7 +18,7 @@ is_memory _ = false
 record IsPlain (o : Option PlanError) : Type 0 where
   plain : option_map_or is_memory o false ≡ false
 
--- of the first, and of those after it
+-- no first value is P9, if neither the first one nor those after it are
 plain_first : (a : Option PlanError) (rest : List (Option PlanError)) → IsPlain a → IsPlain (first_of rest) → IsPlain (first_of (a ∷ rest))
 plain_first None rest here later = later
 plain_first (Some e) rest here later = here
@@ -35,7 +35,7 @@ plain_each : {A : Type 0} (f : A → Option PlanError) (xs : List A) → ((x : A
 plain_each f [] plain = record { plain = refl }
 plain_each f (x ∷ xs) plain = plain_first (f x) (map f xs) (plain x) (plain_each f xs plain)
 
--- each of the faults names something else
+-- none of the faults is P9
 plain_fault : (p : Plan) → IsPlain (plan_fault p)
 plain_fault p =
     plain_first (too_many_slots p) _ (plain_when (nat_lt 21 p.slots) _ refl) (

@@ -56,7 +56,7 @@ find_up_to_first test (suc n) s low high holds h =
           rw (find-append, before)
     ]
 
--- what the first list gives, and else the second
+-- what the first list gives, or what the second gives if the first gives nothing
 pub first_of-append : {A : Type 0} (xs ys : List (Option A)) → first_of (xs ++ ys) ≡ option_or (first_of xs) (first_of ys)
 first_of-append [] ys = refl
 first_of-append (Some a ∷ xs) ys = refl

@@ -12,7 +12,7 @@ use bitflags::Flags;
 use std::marker::Model;
 use vme_model::{ArbiterKind, ChainId, Field, Jumper, PlanError, Row};
 
-/// The greatest number of slots of a backplane (chapter 7).
+/// The greatest number of slots of a backplane. Source: Std 1014, chapter 7.
 const MOST_SLOTS: u8 = 21;
 
 const LEVELS: [u8; 7] = [1, 2, 3, 4, 5, 6, 7];
@@ -25,7 +25,7 @@ const CHAINS: [ChainId; 5] = [
     ChainId::Iack,
 ];
 
-/// A plan that is still to be tested.
+/// A plan that has not been tested yet.
 #[derive(Drop)]
 pub struct Draft<'a> {
     slots: u8,
@@ -48,7 +48,7 @@ impl<'a> Model for Draft<'a> {
 }
 
 impl<'a> Draft<'a> {
-    /// The plan of these boards and jumpers.
+    /// The untested plan of these boards and jumpers.
     pub fn new(slots: u8, rows: &'a [Row], jumpers: &'a [Jumper], arbiter: ArbiterKind) -> Self
         ensures { result ≡
             record { slots = slots; rows = rows.now; jumpers = jumpers.now; arbiter = arbiter } }
@@ -61,7 +61,8 @@ impl<'a> Draft<'a> {
         }
     }
 
-    /// The first fault, in the order of the tests.
+    /// The first fault, in the order of the tests: P2, P8, P1, P3, P4, P5, P6, P7. Source: profile
+    /// (the order).
     pub fn fault(&self) -> Option<PlanError>
         ensures { result ≡ plan_fault self.now }
     {
@@ -89,14 +90,15 @@ impl<'a> Draft<'a> {
         self.handler_without_requester()
     }
 
-    /// P2: more slots than a backplane has.
+    /// P2: the plan has more slots than a backplane can have. Source: Std 1014, chapter 7.
     fn too_many_slots(&self) -> Option<PlanError>
         ensures { result ≡ too_many_slots self.now }
     {
         (self.slots > MOST_SLOTS).then_some(PlanError::TooManySlots { slots: self.slots })
     }
 
-    /// P8: the number of slots, then row by row, then jumper by jumper.
+    /// P8: the first field that is out of range: the number of slots, then row by row, then jumper
+    /// by jumper. Source: profile.
     fn out_of_range(&self) -> Option<PlanError>
         ensures { result ≡ out_of_range self.now }
     {
@@ -111,7 +113,7 @@ impl<'a> Draft<'a> {
         jumpers_range(self.slots, self.jumpers).map(|field| PlanError::OutOfRange { field })
     }
 
-    /// P1: no board stands in slot 1.
+    /// P1: no board stands in slot 1. Source: Std 1014, chapter 3 (the arbiter stands in slot 1).
     fn no_controller(&self) -> Option<PlanError>
         ensures { result ≡ no_controller self.now }
     {
@@ -121,14 +123,14 @@ impl<'a> Draft<'a> {
         }
     }
 
-    /// The board in a slot.
+    /// The board in a slot, if there is one.
     fn board(&self, slot: u8) -> Option<&Row>
         ensures { option_copied result ≡ board self.now slot }
     {
         row_in(self.rows, slot)
     }
 
-    /// P3: the least slot that is named more than once.
+    /// P3: the least slot that is named more than once. Source: profile.
     fn slot_twice(&self) -> Option<PlanError>
         ensures { result ≡ slot_twice self.now }
     {
@@ -148,7 +150,8 @@ impl<'a> Draft<'a> {
         rows_of(self.rows, slot) + jumpers_of(self.jumpers, slot) > 1
     }
 
-    /// P4: the least slot that breaks a chain, with the least chain that it breaks.
+    /// P4: the least slot that breaks a chain, with the least chain that it breaks. Source: Std
+    /// 1014, chapters 3 and 4.
     fn chain_broken(&self) -> Option<PlanError>
         ensures { result ≡ chain_broken self.now }
     {
@@ -197,7 +200,8 @@ impl<'a> Draft<'a> {
             .any(|row| slot < row.slot && row.works(chain))
     }
 
-    /// P5: the first row whose requester SGL does not serve.
+    /// P5: the first row whose requester SGL does not serve. Source: Std 1014, chapter 3 (SGL
+    /// serves level 3 alone).
     fn level_not_served(&self) -> Option<PlanError>
         ensures { result ≡ level_not_served self.now }
     {
@@ -208,7 +212,7 @@ impl<'a> Draft<'a> {
             .map(|row| PlanError::LevelNotServed { slot: row.slot })
     }
 
-    /// P6: the least level that two rows handle.
+    /// P6: the least level that two rows handle. Source: Std 1014, chapter 4.
     fn handler_twice(&self) -> Option<PlanError>
         ensures { result ≡ handler_twice self.now }
     {
@@ -228,7 +232,7 @@ impl<'a> Draft<'a> {
             .find(|level| handlers_of(self.rows, *level) > 1)
     }
 
-    /// P7: the first row that has a handler and no requester.
+    /// P7: the first row that has a handler and no requester. Source: profile.
     fn handler_without_requester(&self) -> Option<PlanError>
         ensures { result ≡ handler_without_requester self.now }
     {

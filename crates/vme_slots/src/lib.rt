@@ -1,5 +1,5 @@
-//! The plan of one backplane: which boards stand in which slots, tested once and known from then on
-//! to be accepted.
+//! The plan of one backplane: which boards stand in which slots. It is tested once, and is known to
+//! be accepted from then on.
 #![tactic(auto)]
 
 mod boards;

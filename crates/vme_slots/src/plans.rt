@@ -10,7 +10,8 @@ use std::alloc::{AllocError, Global};
 use std::marker::Model;
 use vme_model::{ArbiterKind, ChainId, Driver, Jumper, PlanError, Row};
 
-/// The most drivers of a plan: the controller, and a board in each of 21 slots.
+/// The most drivers of a plan: the controller, and a board in each of 21 slots. Source: Std 1014,
+/// chapter 7.
 pub const DRIVERS: usize = 22;
 
 /// An accepted plan: its slots, boards, jumpers and arbiter, and which slots work each daisy chain.
@@ -67,11 +68,14 @@ impl Plan {
     ghost use Rattle.vme_model.specs.Plan.{active, upstream, last_active, board, drivers};
     ghost use Rattle.vme_model.specs.Accepted.{IsAccepted, plan_fault};
 
-    /// The plan of these boards and jumpers, or the first fault, in the order P2, P8, P1, P3, P4,
-    /// P5, P6, P7.
+    /// The plan of these boards and jumpers.
     ///
-    /// The boards stand in slots 1 to `slots`, in any order. P9 is answered only where the plan has
-    /// no fault and a growth was refused.
+    /// The boards stand in slots 1 to `slots`, at most 21, in any order. Source: P1 to P9 of the
+    /// rules for plans; the order of the tests is profile.
+    ///
+    /// # Errors
+    /// The first fault, in the order P2, P8, P1, P3, P4, P5, P6, P7. P9 only if the plan has no
+    /// fault and memory runs out.
     pub fn new(
         alloc: Global,
         slots: u8,
@@ -97,7 +101,7 @@ impl Plan {
         accepted_plan(alloc, slots, rows, jumpers, arbiter).map_err(|_| PlanError::Memory)
     }
 
-    /// A law: no fault holds for the plan.
+    /// A law: the plan has no fault. The call costs nothing, and gives that fact to the prover.
     pub fn accepted(&self)
         ensures { IsAccepted self.now }
     {
@@ -132,14 +136,16 @@ impl Plan {
         &self.jumpers
     }
 
-    /// The board in a slot, if there is one.
+    /// The board in a slot, if there is one. It is none for slot 0 and for slots beyond the
+    /// backplane.
     pub fn row(&self, slot: u8) -> Option<&Row>
         ensures { option_copied result ≡ board self.now slot }
     {
         row_in(self.rows(), slot)
     }
 
-    /// Whether there is a board in the slot.
+    /// Whether there is a board in the slot. It is false for slot 0 and for slots beyond the
+    /// backplane.
     pub fn has_board(&self, slot: u8) -> bool
         ensures { result ≡ is_some (board self.now slot) }
     {
@@ -162,7 +168,7 @@ impl Plan {
         drivers
     }
 
-    /// The slots whose board works the chain, ascending.
+    /// The slots whose board works the chain, ascending. Source: Std 1014, chapters 3 and 4.
     pub fn active(&self, chain: ChainId) -> &[u8]
         ensures { result.now ≡ active self.now chain }
     {
@@ -175,8 +181,8 @@ impl Plan {
         }
     }
 
-    /// The greatest slot below this one that works the chain; none: the controller drives its
-    /// input.
+    /// The greatest slot below this one that works the chain. If there is none, the controller
+    /// drives the slot's input. Source: Std 1014, chapters 3 and 4.
     pub fn upstream(&self, chain: ChainId, slot: u8) -> Option<u8>
         ensures { result ≡ upstream self.now chain slot }
     {
@@ -187,7 +193,7 @@ impl Plan {
             .find(|other| *other < slot)
     }
 
-    /// The greatest slot that works the chain.
+    /// The greatest slot that works the chain; none if no board works it.
     pub fn last_active(&self, chain: ChainId) -> Option<u8>
         ensures { result ≡ last_active self.now chain }
     {

@@ -1,4 +1,4 @@
-//! What is out of range in a row and in a jumper.
+//! Which field of a row or a jumper is out of range (P8).
 ghost use Rattle.std.specs.Prelude.{◌≡◌, map};
 ghost use Rattle.vme_model.specs.Signals.{is_level};
 ghost use Rattle.vme_model.specs.Accepted.{first_of, row_range, jumper_range, is_within, has_no_burst};
@@ -6,7 +6,7 @@ ghost use Rattle.vme_model.specs.Accepted.{first_of, row_range, jumper_range, is
 use bitflags::Flags;
 use vme_model::{Field, Jumper, Release, Row};
 
-/// The first field out of range, row by row.
+/// The first field that is out of range, row by row (P8). Source: profile.
 pub fn rows_range(slots: u8, rows: &[Row]) -> Option<Field>
     ensures { result ≡ first_of (map (row_range slots) rows.now) }
 {
@@ -18,7 +18,7 @@ pub fn rows_range(slots: u8, rows: &[Row]) -> Option<Field>
     None
 }
 
-/// The first field out of range, jumper by jumper.
+/// The first field that is out of range, jumper by jumper (P8). Source: profile.
 pub fn jumpers_range(slots: u8, jumpers: &[Jumper]) -> Option<Field>
     ensures { result ≡ first_of (map (jumper_range slots) jumpers.now) }
 {

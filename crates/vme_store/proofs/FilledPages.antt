@@ -4,7 +4,7 @@ use Rattle.std.proofs.lemmas.List.{append_assoc, append-nil, length-append, leng
 use Rattle.vme_model.specs.declared.signals.Edge.{Edge}
 use Rattle.vme_store.specs.Pages.{Page, Store, ArePages, stored}
 
--- the page at k, of those that hold n of max edges
+-- the page at k, if the pages hold n of max edges
 pub page_room : (max n k : ℕ) (ps : List Page) (d : Page) → ArePages max n ps → k < length ps → (get_or ps k d).room ≡ min (max - k * 65536) 65536
 page_room max n k [] d a l = absurd (omega arith)
 page_room max n zero (p ∷ ps) d a l =
@@ -79,7 +79,7 @@ one_more max r (suc k) (p ∷ ps) d e a l m =
     let j = one_more (max - 65536) r k ps d e b l (omega arith) in
     rw j (sym (append_assoc p.edges (stored ps) (e ∷ [])))
 
--- where an edge stands
+-- the page and the place at which an edge stands
 pub stands_at : (max n k r : ℕ) (ps : List Page) (d : Page) (x : Edge) → ArePages max n ps → r < 65536 → k * 65536 + r < n → n ≤ max → get_or (stored ps) (k * 65536 + r) x ≡ get_or (get_or ps k d).edges r x
 stands_at max n k r [] d x a l m o = absurd (omega arith)
 stands_at max n zero r (p ∷ ps) d x a l m o =
@@ -101,7 +101,7 @@ another_page r (p ∷ ps) a l =
     let b : ArePages (length ps * 65536) 0 ps = rw i at a.2 in
     (omega (arith, a.0), a.1, rw j (another_page r ps b l))
 
--- the same where an edge is kept at n, on the page d, which is q then
+-- the pages after one more edge is kept at n, on the page d, which is then q
 pub pages_after : (max n : ℕ) (ps : List Page) (d q : Page) (e : Edge) → ArePages max n ps → n < max → d ≡ get_or ps (n / 65536) d → q ≡ longer d e → ArePages max (n + 1) (set ps (n / 65536) q)
 pages_after max n ps d q e a l at is =
     let i : n ≡ n / 65536 * 65536 + n % 65536 = omega arith in

@@ -31,7 +31,7 @@ abbrev pub fall_code : Bool → ℕ
 fall_code true = 1
 fall_code false = 0
 
--- levels are 1 to 7, and slots begin at 1
+-- the code of what an address group shows, if anything; levels are 1 to 7, and slots begin at 1
 abbrev pub value_code : Option Cycle → ℕ
 value_code None = 0
 value_code (Some (Acknowledge level)) = level
@@ -59,7 +59,7 @@ value_of n =
     if n == 0 then None
     else if nat_lt n 8 then Some (Acknowledge n) else Some (Access (n - 7))
 
--- the edge that a code stands for
+-- the edge for which a code stands
 unfoldable pub edge_of : ℕ → Edge
 edge_of c = record {
   driver = driver_of (c / 1024 % 32);

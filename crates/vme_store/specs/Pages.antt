@@ -7,16 +7,16 @@ pub record Page : Type 0 where
   pub edges : List Edge
   pub room : ℕ
 
--- the edges that were kept, newest first, and how many can be
+-- the edges that are kept, the newest first, and how many can be kept
 pub record Store : Type 0 where
   pub history : List Edge
   pub max : ℕ
 
--- how many pages max edges take
+-- how many pages are needed for max edges
 abbrev pub pages_for : ℕ → ℕ
 pages_for max = (max + 65535) / 65536
 
--- room for max edges, of which n are kept: page after page is full before the next is begun
+-- room for max edges, n of which are kept: each page is full before the next one is begun
 abbrev pub ArePages : ℕ → ℕ → List Page → Type 0
 ArePages max n [] = max ≡ 0
 ArePages max n (p ∷ ps) =

@@ -5,7 +5,7 @@ use Rattle.vme_store.specs.Pages.{pages_for}
 use Rattle.vme_store.specs.declared.traces.TraceError.{TraceError}
 use Rattle.vme_store.specs.declared.traces.TraceError.TheVariants.{TooMany, WrongLeases}
 
--- what a trace of max edges on so many leases is refused for, memory aside
+-- the reason for which a trace of max edges on so many leases is refused, memory aside
 abbrev pub refusal : ℕ → ℕ → Option TraceError
 refusal max leases =
     if nat_lt trace_limit max then Some TooMany

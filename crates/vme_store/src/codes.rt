@@ -6,8 +6,8 @@ ghost use Rattle.vme_store.specs.Codes.{driver_code, wire_code, fall_code, value
 use std::marker::Model;
 use vme_model::{Cycle, Driver, Edge, Wire};
 
-/// A well-formed edge as the one number of four bytes that a trace keeps of it. A contract sees it
-/// as the edge.
+/// A well-formed edge as the number of four bytes that a trace keeps for it. A contract sees it as
+/// the edge.
 #[derive(Clone, Copy)]
 pub struct Code {
     code: u32,
@@ -27,7 +27,7 @@ impl Model for Code {
     ghost inverse = { λ e. record { code = code_of e } };
 }
 
-/// The code 0: the controller's `bg0+`.
+/// The default is the code 0, the controller's `bg0+`.
 impl Default for Code {
     #[tactic(auto, unfolding(crate::specs::Codes::edge_of))]
     fn default() -> Code {
@@ -47,7 +47,7 @@ impl Code {
         }
     }
 
-    /// The edge that it stands for.
+    /// The edge for which the code stands.
     pub fn edge(self) -> Edge
         ensures { result ≡ self }
     {
@@ -108,7 +108,7 @@ fn fall_code(fall: bool) -> u32
     u32::from(fall)
 }
 
-/// The code of an edge.
+/// The number of an edge, below 2^15 if the edge is well formed.
 #[inline(always)]
 pub(crate) fn code_of(edge: Edge) -> u32
     ensures { result ≡ code_of edge }
@@ -159,7 +159,7 @@ fn value_of(code: u32) -> Option<Cycle>
     }
 }
 
-/// The edge that a code stands for.
+/// The edge for which a number stands.
 #[tactic(auto, unfolding(crate::specs::Codes::edge_of))]
 pub(crate) fn edge_of(code: u32) -> Edge
     ensures { result ≡ edge_of code }

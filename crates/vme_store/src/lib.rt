@@ -1,5 +1,5 @@
 //! Room for the edges that are made on a backplane, in pages that stand on leases of the arena, and
-//! the edges kept in it.
+//! the edges that are kept in it.
 //!
 //! All room is reserved when a trace is made, so an edge is kept without asking for memory.
 #![tactic(auto)]

@@ -8,7 +8,7 @@ use std::marker::Model;
 use vme_arena::Lease;
 use vme_model::Edge;
 
-/// Edges, oldest first, one number each, within the room that was reserved.
+/// The edges of a page, the oldest first, one number each, within the room that was reserved.
 #[derive(Drop)]
 pub(crate) struct Page<'r> {
     codes: Vec<u32, Lease<'r>>,
@@ -25,7 +25,10 @@ impl<'r> Model for Page<'r> {
 }
 
 impl<'r> Page<'r> {
-    /// An empty page with room for so many edges.
+    /// An empty page with room for `room` edges.
+    ///
+    /// # Errors
+    /// `AllocError` if the lease is too short.
     pub(crate) fn new(lease: Lease<'r>, room: u32) -> Result<Page<'r>, AllocError>
         ensures { IfOk result (λ p. p ≡ record { edges = []; room = room }) }
     {
@@ -33,7 +36,7 @@ impl<'r> Page<'r> {
         Ok(Page { codes })
     }
 
-    /// Keeps one more edge.
+    /// Keeps one more edge, after the others.
     #[tactic(auto, using(crate::proofs::RoundTrip::round_trip))]
     #[inline(always)]
     pub(crate) fn push(&mut self, edge: Edge)

@@ -31,7 +31,7 @@ impl<'r> Model for Store<'r> {
 }
 
 impl<'r> Store<'r> {
-    /// No edge, in the room of a trace.
+    /// A store without edges, in the room of a trace.
     #[tactic(auto, using(crate::proofs::FilledPages::none_stored))]
     pub fn new(trace: Trace<'r>) -> Store<'r>
         ensures { result ≡ record { history = []; max = trace.entry } }
@@ -44,7 +44,8 @@ impl<'r> Store<'r> {
         }
     }
 
-    /// What holds of every store: it holds no more than it has room for.
+    /// A law: a store holds no more edges than it has room for. The call costs nothing, and gives
+    /// that fact to the prover.
     #[tactic(auto, using(crate::proofs::FilledPages::length_of))]
     pub fn laws(&self)
         ensures fits { length self.now.history ≤ self.now.max }
@@ -53,21 +54,22 @@ impl<'r> Store<'r> {
         let _ = &self.pages;
     }
 
-    /// How many edges can be kept, 0 to 1,048,576.
+    /// How many edges can be kept in all, 0 to 1,048,576.
     pub fn max(&self) -> u32
         ensures { result ≡ self.now.max }
     {
         self.max
     }
 
-    /// How many edges are kept.
+    /// How many edges are kept, 0 to `max`.
     pub fn len(&self) -> u32
         ensures { result ≡ length self.now.history }
     {
         self.len
     }
 
-    /// Keeps one more edge. No memory is asked for.
+    /// Keeps one more edge. The edge has to be well formed, and the store may not be full. It asks
+    /// for no memory.
     #[inline(always)]
     pub fn push(&mut self, edge: Edge)
         requires well_formed { is_well_formed edge ≡ true }
@@ -79,7 +81,7 @@ impl<'r> Store<'r> {
         self.len += 1;
     }
 
-    /// The edge at a place, counted from 0 in the order of time.
+    /// The edge at a place, counted from 0 in the order of time. The place has to be below `len`.
     pub fn edge_at(&self, place: u32) -> Edge
         requires { place < length self.now.history }
         ensures { slice_get (in_order self.now.history) place ≡ Some result }

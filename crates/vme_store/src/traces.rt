@@ -19,21 +19,21 @@ pub(crate) const PAGE: u32 = 65_536;
 /// Why a trace could not be made.
 #[derive(Clone, Copy, PartialEq, Eq, Debug, Error)]
 pub enum TraceError {
-    /// More edges than a trace can hold.
+    /// K1: there are more edges than a trace can hold, 1,048,576.
     #[error("K1 too many edges")]
     TooMany,
-    /// The list of pages found no memory, or a lease was too short for its page.
+    /// K2: there was no memory for the list of pages, or a lease was too short for its page.
     #[error("K2 no room")]
     NoRoom,
-    /// A trace needs one lease for each of its pages.
+    /// K3: a trace needs exactly one lease for each of its pages.
     #[error("K3 {need} leases needed, {given} given")]
     WrongLeases { need: u32, given: usize },
 }
 
-/// Room for a number of edges, which a contract sees as that number.
+/// Room for a number of edges. A contract sees it as that number.
 ///
-/// It stands in pages, each on a lease of its own: as many pages as are needed at 65,536 edges a
-/// page, all of them full but the last.
+/// It stands in pages, each on a lease of its own, with 65,536 edges a page. There are as many
+/// pages as are needed, and all of them are full except the last.
 #[derive(Drop)]
 pub struct Trace<'r> {
     pages: Vec<Page<'r>>,
@@ -53,7 +53,8 @@ impl<'r> Model for Trace<'r> {
 }
 
 impl<'r> Trace<'r> {
-    /// How many pages, and so leases, a trace of `max` edges needs: 0 to 16.
+    /// How many pages, and so leases, a trace of `max` edges needs: 0 to 16. `max` is at most
+    /// 1,048,576.
     pub fn pages(max: u32) -> u32
         requires { max ≤ trace_limit }
         ensures { result ≡ pages_for max }
@@ -61,8 +62,8 @@ impl<'r> Trace<'r> {
         max.div_ceil(PAGE)
     }
 
-    /// How many edges a page of a trace of `max` edges holds, pages counted from 0: the lesser of
-    /// 65,536 and what is left.
+    /// How many edges a page of a trace of `max` edges holds: the lesser of 65,536 and what is
+    /// left. Pages are counted from 0.
     pub fn page_max(max: u32, page: u32) -> u32
         requires limit { max ≤ trace_limit }
         requires page { page < pages_for max }
@@ -71,8 +72,8 @@ impl<'r> Trace<'r> {
         PAGE.min(max - PAGE * page)
     }
 
-    /// How many bytes the lease of a page for `max` edges needs: four for each, rounded up to a
-    /// multiple of 16.
+    /// How many bytes the lease of a page for `max` edges needs: four for each edge, rounded up to
+    /// a multiple of 16.
     pub fn bytes(max: u32) -> usize
         requires { max ≤ trace_limit }
         ensures { result ≡ rounded (4 * max) }
@@ -80,12 +81,13 @@ impl<'r> Trace<'r> {
         (max as usize * 4).next_multiple_of(16)
     }
 
-    /// Reserves room for `max` edges, 0 to 1,048,576: a page on each lease in turn. No later step
-    /// asks for memory.
+    /// Reserves room for `max` edges, 0 to 1,048,576, with a page on each lease in turn. No later
+    /// step asks for memory. Page `p`, counted from 0, holds the lesser of 65,536 and
+    /// `max - 65,536 * p` edges.
     ///
-    /// Page `p`, counted from 0, holds the lesser of 65,536 and `max - 65,536 * p` edges. `TooMany`
-    /// where `max` is greater than that, else `WrongLeases` where there are more or fewer leases
-    /// than pages, else `NoRoom` where memory was refused.
+    /// # Errors
+    /// `TooMany` if `max` is greater than 1,048,576; otherwise `WrongLeases` if there are more or
+    /// fewer leases than pages; otherwise `NoRoom` if memory runs out or a lease is too short.
     pub fn new(alloc: Global, leases: Vec<Lease<'r>>, max: u32) -> Result<Trace<'r>, TraceError>
         ensures made { IfOk result (λ t. t ≡ max) }
         ensures fits { IfOk result (λ t. refusal max (vec_len leases.entry) ≡ None) }
@@ -105,11 +107,12 @@ impl<'r> Trace<'r> {
         Ok(Trace { pages, max })
     }
 
-    /// The same on leases that are carved from the front of a rest, `Trace::bytes(max)` bytes of
-    /// it.
+    /// Reserves room for `max` edges, 0 to 1,048,576, on leases that it carves from the front of a
+    /// rest. They take `Trace::bytes(max)` bytes of the rest.
     ///
-    /// `TooMany` where `max` is over 1,048,576, else `NoRoom` where memory was refused or the rest
-    /// is shorter.
+    /// # Errors
+    /// `TooMany` if `max` is greater than 1,048,576; otherwise `NoRoom` if memory runs out or the
+    /// rest is too short.
     pub fn on(alloc: Global, rest: &mut Rest<'r>, max: u32) -> Result<Trace<'r>, TraceError>
         ensures made { IfOk result (λ t. t ≡ max) }
         ensures fits { IfOk result (λ t. max ≤ trace_limit) }
@@ -127,14 +130,14 @@ impl<'r> Trace<'r> {
         }
     }
 
-    /// How many edges fit.
+    /// How many edges fit, 0 to 1,048,576.
     pub fn max(&self) -> u32
         ensures { result ≡ self.now }
     {
         self.max
     }
 
-    /// Its pages, all empty.
+    /// The pages of the trace, all empty.
     pub(crate) fn into_pages(self) -> Vec<Page<'r>>
         ensures pages { ArePages self.entry 0 result.items }
         ensures bounded { self.entry ≤ trace_limit }
@@ -143,7 +146,10 @@ impl<'r> Trace<'r> {
     }
 }
 
-/// A lease for each page, in their order.
+/// A lease for each page, in the order of the pages.
+///
+/// # Errors
+/// `AllocError` if memory runs out or the rest is too short.
 fn carved<'r>(alloc: Global, rest: &mut Rest<'r>, max: u32) -> Result<Vec<Lease<'r>>, AllocError>
     requires { max ≤ trace_limit }
     ensures leases { IfOk result (λ v. vec_len v ≡ pages_for max) }
@@ -162,7 +168,10 @@ fn carved<'r>(alloc: Global, rest: &mut Rest<'r>, max: u32) -> Result<Vec<Lease<
     Ok(leases)
 }
 
-/// A page on each lease, in their order.
+/// A page on each lease, in the order of the leases.
+///
+/// # Errors
+/// `AllocError` if memory runs out or a lease is too short.
 fn reserved<'r>(
     alloc: Global,
     leases: Vec<Lease<'r>>,

@@ -5,15 +5,16 @@ use Rattle.std.proofs.Math.Nat.{max_comm}
 use Rattle.std.proofs.lemmas.List.{get_or-replicate, length-replicate}
 use Rattle.std.proofs.lemmas.List.Sums.{sum_by-cons}
 use Rattle.vme_model.specs.declared.refusals.Refused.TheVariants.{NoSuchDriver, AlreadyThere, Rule, NotSettled, TraceFull}
+use Rattle.vme_goals.specs.Events.{all_events, event_index}
+use Rattle.vme_goals.proofs.Placed.{index_below}
 use Rattle.vme_tallies.specs.declared.boards.BoardTally.{BoardTally}
 use Rattle.vme_tallies.specs.declared.refusals.Refusals.{Refusals}
 use Rattle.vme_tallies.specs.declared.sums.Sums.{Sums as Added}
 use Rattle.vme_tallies.specs.declared.tallies.Tally.{Tally}
 use Rattle.vme_tallies.specs.Tally.{Answers, accepted, refused, passed_by, refused_for, times_met, board_tally, greatest}
-use Rattle.vme_tallies.specs.Tallied.{event_place, idle, more, IsRefusalsOf, IsTallyOf}
+use Rattle.vme_tallies.specs.Tallied.{idle, more, IsRefusalsOf, IsTallyOf}
 use Rattle.vme_tallies.specs.Sums.{Traces, board_sums, most, total}
 use Rattle.vme_tallies.specs.Summed.{board_with, AreRefusalsOf, AreSumsOf}
-use Rattle.vme_tallies.proofs.Situations.{below}
 
 -- a sum that goes on by the number of one more trace
 pub one_more : (number : Answers → ℕ) (t : Answers) (ts : Traces) (n m : ℕ) → n ≡ total number ts → m ≡ number t → more n m ≡ total number (t ∷ ts)
@@ -65,7 +66,7 @@ trace_added ts t old new tally are is edges accepted_ refused_ all_passed passed
   places = (all_passed ∙ are.places.0, all_met ∙ are.places.1, all_boards ∙ are.places.2);
   passed = λ k within. passed k (rw are.places.0 within) ∙ one_more (passed_by k) t ts _ _ (are.passed k within) (is.passed k within);
   refusals = refusals;
-  met = λ v. met (event_place v) (rw are.places.1 (below v)) ∙ one_more (times_met v) t ts _ _ (are.met v) (is.met.times v);
+  met = λ v. met (event_index v) (rw are.places.1 (index_below v)) ∙ one_more (times_met v) t ts _ _ (are.met v) (is.met.times v);
   boards = λ s within. boards s (rw are.places.2 within) ∙ one_board s t ts _ _ (are.boards s within) (is.boards s within);
 }
 
@@ -80,14 +81,14 @@ none_refused r is = record {
   trace_full = is.trace_full;
 }
 
-pub no_trace : (x : Added) → x.edges ≡ 0 → x.accepted ≡ 0 → x.refused ≡ 0 → x.passed ≡ replicate 27 0 → IsRefusalsOf [] x.refusals → x.met ≡ replicate 15 0 → x.boards ≡ replicate 22 idle → AreSumsOf [] x
+pub no_trace : (x : Added) → x.edges ≡ 0 → x.accepted ≡ 0 → x.refused ≡ 0 → x.passed ≡ replicate 27 0 → IsRefusalsOf [] x.refusals → x.met ≡ replicate (length all_events) 0 → x.boards ≡ replicate 22 idle → AreSumsOf [] x
 no_trace x edges accepted_ refused_ passed refusals met boards = record {
   edges = edges;
   accepted = accepted_;
   refused = refused_;
-  places = (ap length passed ∙ length-replicate {A = ℕ} 27 0, ap length met ∙ length-replicate {A = ℕ} 15 0, ap length boards ∙ length-replicate {A = BoardTally} 22 idle);
+  places = (ap length passed ∙ length-replicate {A = ℕ} 27 0, ap length met ∙ length-replicate {A = ℕ} (length all_events) 0, ap length boards ∙ length-replicate {A = BoardTally} 22 idle);
   passed = λ k within. ap (λ xs. get_or xs k 0) passed ∙ get_or-replicate {A = ℕ} 27 k 0 0 within;
   refusals = none_refused x.refusals refusals;
-  met = λ v. ap (λ xs. get_or xs (event_place v) 0) met ∙ get_or-replicate {A = ℕ} 15 (event_place v) 0 0 (below v);
+  met = λ v. ap (λ xs. get_or xs (event_index v) 0) met ∙ get_or-replicate {A = ℕ} (length all_events) (event_index v) 0 0 (index_below v);
   boards = λ s within. ap (λ xs. get_or xs s idle) boards ∙ get_or-replicate {A = BoardTally} 22 s idle idle within;
 }

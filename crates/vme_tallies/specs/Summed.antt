@@ -2,11 +2,12 @@
 use Rattle.std.specs.Prelude.{◌≡◌, ◌<◌, ℕ, max, None, length, slice_index_or}
 use Rattle.vme_model.specs.declared.refusals.Refused.TheVariants.{NoSuchDriver, AlreadyThere, Rule, NotSettled, TraceFull}
 use Rattle.vme_goals.specs.declared.events.Event.{Event}
+use Rattle.vme_goals.specs.Events.{all_events, event_index}
 use Rattle.vme_tallies.specs.declared.boards.BoardTally.{BoardTally}
 use Rattle.vme_tallies.specs.declared.refusals.Refusals.{Refusals}
 use Rattle.vme_tallies.specs.declared.sums.Sums.{Sums as Added}
 use Rattle.vme_tallies.specs.Tally.{accepted, refused, passed_by, refused_for, times_met}
-use Rattle.vme_tallies.specs.Tallied.{event_place, idle, more}
+use Rattle.vme_tallies.specs.Tallied.{idle, more}
 use Rattle.vme_tallies.specs.Sums.{Traces, board_sums, total}
 
 -- a board with the numbers of another
@@ -40,10 +41,11 @@ pub record AreSumsOf (ts : Traces) (sums : Added) : Type 0 where
   pub edges : sums.edges ≡ total length ts
   pub accepted : sums.accepted ≡ total accepted ts
   pub refused : sums.refused ≡ total refused ts
-  pub places : (length sums.passed ≡ 27) × (length sums.met ≡ 15) × (length sums.boards ≡ 22)
+  pub places : (length sums.passed ≡ 27) × (length sums.met ≡ length all_events)
+      × (length sums.boards ≡ 22)
   pub passed : (k : ℕ) → k < 27 → slice_index_or sums.passed k 0 ≡ total (passed_by k) ts
   pub refusals : AreRefusalsOf ts sums.refusals
-  pub met : (v : Event) → slice_index_or sums.met (event_place v) 0 ≡ total (times_met v) ts
+  pub met : (v : Event) → slice_index_or sums.met (event_index v) 0 ≡ total (times_met v) ts
   pub boards : (s : ℕ) → s < 22 → slice_index_or sums.boards s idle ≡ board_sums s ts
 
 -- what holds of all traces that the sums are of

@@ -9,7 +9,7 @@ use Rattle.vme_model.specs.declared.signals.Edge.{Edge}
 use Rattle.vme_model.specs.declared.signals.Wire.{Wire}
 use Rattle.vme_model.specs.declared.signals.Wire.TheVariants.{Bg, Bclr, Iack, Berr, Br, BgOut, Bbsy, Addr, AddressStrobe, DataStrobe, Irq, IackOut, Dtack}
 use Rattle.vme_goals.specs.declared.events.Event.{Event}
-use Rattle.vme_goals.specs.declared.events.Event.TheVariants as event
+use Rattle.vme_goals.specs.Events.{all_events, event_index}
 use Rattle.vme_tallies.specs.declared.boards.BoardTally.{BoardTally}
 use Rattle.vme_tallies.specs.declared.met.Met.{Met}
 use Rattle.vme_tallies.specs.declared.refusals.Refusals.{Refusals}
@@ -111,30 +111,12 @@ pub record IsRefusalsOf (t : Answers) (r : Refusals) : Type 0 where
   pub already_there : r.already_there ≡ refused_for AlreadyThere t
   pub trace_full : r.trace_full ≡ refused_for TraceFull t
 
--- where the numbers of a situation stand
-abbrev pub event_place : Event → ℕ
-event_place event.GrantPassed = 0
-event_place event.LateRequest = 1
-event_place event.Overtaken = 2
-event_place event.EarlyRelease = 3
-event_place event.Overlap = 4
-event_place event.FullBurst = 5
-event_place event.BusClear = 6
-event_place event.Rivals = 7
-event_place event.Delivery = 8
-event_place event.IackPassed = 9
-event_place event.AnsweredAgain = 10
-event_place event.Spurious = 11
-event_place event.BusError = 12
-event_place event.Withdrawn = 13
-event_place event.GrantTimeout = 14
-
 -- a situation came about by the n-th edge
 abbrev pub met_once : ℕ → Met → Event → Met
 met_once n m v = record m {
-  times = set m.times (event_place v) (more (slice_index_or m.times (event_place v) 0) 1);
-  first = set m.first (event_place v)
-      (option_or (slice_index_or m.first (event_place v) None) (Some n));
+  times = set m.times (event_index v) (more (slice_index_or m.times (event_index v) 0) 1);
+  first = set m.first (event_index v)
+      (option_or (slice_index_or m.first (event_index v) None) (Some n));
 }
 
 -- and so did some
@@ -143,9 +125,9 @@ met_after n m vs = fold (met_once n) m vs
 
 -- each count and each first is that of its situation
 pub record IsMetOf (t : Answers) (m : Met) : Type 0 where
-  pub places : (length m.times ≡ 15) × (length m.first ≡ 15)
-  pub times : (v : Event) → slice_index_or m.times (event_place v) 0 ≡ times_met v t
-  pub first : (v : Event) → slice_index_or m.first (event_place v) None ≡ first_met v t
+  pub places : (length m.times ≡ length all_events) × (length m.first ≡ length all_events)
+  pub times : (v : Event) → slice_index_or m.times (event_index v) 0 ≡ times_met v t
+  pub first : (v : Event) → slice_index_or m.first (event_index v) None ≡ first_met v t
 
 -- each number is that look back through the edges
 pub record IsTallyOf (t : Answers) (tally : Tally) : Type 0 where

@@ -1,14 +1,14 @@
 //! The lines of a summary, each put together in a buffer.
-ghost use Rattle.std.specs.Prelude.{◌≡◌, ◌+◌, ◌<◌, ◌≤◌, ◌++◌, length, codes, slice_index_or};
+ghost use Rattle.std.specs.Prelude.{◌≡◌, ◌+◌, ◌*◌, ◌<◌, ◌≤◌, ◌++◌, length, codes, slice_index_or};
 ghost use Rattle.arrayvec.specs.ArrayVec.{array_vec_len};
+ghost use Rattle.vme_goals.specs.Events.{event_index};
 ghost use Rattle.vme_tallies.specs.Tally.{Answers};
-ghost use Rattle.vme_tallies.specs.Tallied.{IsNamed, IsTopic, OfTally, event_place};
+ghost use Rattle.vme_tallies.specs.Tallied.{IsNamed, IsTopic, OfTally};
 ghost use Rattle.vme_tallies.specs.Summed.{OfSums};
 ghost use Rattle.vme_tallies.specs.Sums.{sums_line, times_text};
 ghost use Rattle.vme_tallies.specs.Summary.{edges_text, rule_text, refusal_name, refusal_text, never_text, rules_without, events_without, met_text, since_text, turns_text, board_text, answers_text, requests, line_text};
 
 use crate::boards::BoardTally;
-use crate::met::{EVENTS, place};
 use crate::rules::RULES;
 use crate::sums::Sums;
 use crate::tallies::Tally;
@@ -122,14 +122,14 @@ fn rule_words(passed: &[u64; RULES]) -> Line
 }
 
 /// The situations that never came, by how often each came, a blank before each.
-fn event_words(times: &[u64; EVENTS]) -> Line
+fn event_words(times: &[u64; Event::COUNT]) -> Line
     ensures words { result.items
-        ≡ events_without (λ v. slice_index_or times.now (event_place v) 0) }
-    ensures short { array_vec_len result ≤ 225 }
+        ≡ events_without (λ v. slice_index_or times.now (event_index v) 0) }
+    ensures short { array_vec_len result ≤ 15 * Event.COUNT }
 {
     let mut words = ArrayVec::new();
     for event in &Event::ALL {
-        if times[place(*event)] == 0 {
+        if times[event.index()] == 0 {
             push(&mut words, b" ");
             push(&mut words, event.name().as_bytes());
         }

@@ -1,42 +1,15 @@
 //! Which situations a trace came to.
-ghost use Rattle.std.specs.Prelude.{◌≡◌, ◌<◌, []};
+ghost use Rattle.std.specs.Prelude.{◌≡◌, []};
 ghost use Rattle.vme_tallies.specs.Tally.{Answers, times_met, first_met};
-ghost use Rattle.vme_tallies.specs.Tallied.{event_place, met_once, met_after};
+ghost use Rattle.vme_tallies.specs.Tallied.{met_once, met_after};
 
 use vme_goals::Event;
-
-/// How many situations have a name.
-pub(crate) const EVENTS: usize = 15;
 
 /// How often a trace came to each situation, and by which edge first.
 #[derive(Drop)]
 pub(crate) struct Met {
-    pub(crate) times: [u64; EVENTS],
-    pub(crate) first: [Option<u64>; EVENTS],
-}
-
-/// Where the numbers of a situation stand.
-pub(crate) fn place(event: Event) -> usize
-    ensures at { result ≡ event_place event }
-    ensures within { result < 15 }
-{
-    match event {
-        Event::GrantPassed => 0,
-        Event::LateRequest => 1,
-        Event::Overtaken => 2,
-        Event::EarlyRelease => 3,
-        Event::Overlap => 4,
-        Event::FullBurst => 5,
-        Event::BusClear => 6,
-        Event::Rivals => 7,
-        Event::Delivery => 8,
-        Event::IackPassed => 9,
-        Event::AnsweredAgain => 10,
-        Event::Spurious => 11,
-        Event::BusError => 12,
-        Event::Withdrawn => 13,
-        Event::GrantTimeout => 14,
-    }
+    pub(crate) times: [u64; Event::COUNT],
+    pub(crate) first: [Option<u64>; Event::COUNT],
 }
 
 impl Met {
@@ -47,8 +20,8 @@ impl Met {
         ensures { IsMetOf [] result }
     {
         Met {
-            times: [0; EVENTS],
-            first: [None; EVENTS],
+            times: [0; Event::COUNT],
+            first: [None; Event::COUNT],
         }
     }
 
@@ -56,7 +29,7 @@ impl Met {
     fn note_one(&mut self, event: Event, n: u64)
         ensures { self.new ≡ met_once n self.old event }
     {
-        let place = place(event);
+        let place = event.index();
         self.times[place] = self.times[place].saturating_add(1);
         self.first[place] = self.first[place].or(Some(n));
     }
@@ -74,13 +47,13 @@ impl Met {
     pub(crate) fn times(&self, event: Event) -> u64
         ensures { (t : Answers) → IsMetOf t self.now → result ≡ times_met event t }
     {
-        self.times[place(event)]
+        self.times[event.index()]
     }
 
     /// The first of them.
     pub(crate) fn first(&self, event: Event) -> Option<u64>
         ensures { (t : Answers) → IsMetOf t self.now → result ≡ first_met event t }
     {
-        self.first[place(event)]
+        self.first[event.index()]
     }
 }

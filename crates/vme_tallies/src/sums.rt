@@ -7,7 +7,6 @@ ghost use Rattle.vme_tallies.specs.Sums.{board_sums, total};
 
 use crate::boards::{BoardTally, SLOTS};
 use crate::counts::add_counts;
-use crate::met::{EVENTS, place};
 use crate::refusals::Refusals;
 use crate::rules::RULES;
 use crate::tallies::Tally;
@@ -23,7 +22,7 @@ pub struct Sums {
     pub(crate) refused: u64,
     pub(crate) passed: [u64; RULES],
     pub(crate) refusals: Refusals,
-    pub(crate) met: [u64; EVENTS],
+    pub(crate) met: [u64; Event::COUNT],
     pub(crate) boards: [BoardTally; SLOTS],
 }
 
@@ -52,7 +51,7 @@ impl Sums {
             refused: 0,
             passed: [0; RULES],
             refusals: Refusals::new(),
-            met: [0; EVENTS],
+            met: [0; Event::COUNT],
             boards: [BoardTally::idle(); SLOTS],
         }
     }
@@ -97,7 +96,7 @@ impl Sums {
     pub(crate) fn times_met(&self, event: Event) -> u64
         ensures { OfSums self.now (λ ts. result ≡ total (times_met event) ts) }
     {
-        self.met[place(event)]
+        self.met[event.index()]
     }
 
     /// What the board of a slot below 22 did.

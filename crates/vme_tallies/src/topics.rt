@@ -2,6 +2,7 @@
 ghost use Rattle.std.specs.Prelude.{◌≡◌, ◌+◌, ◌≤◌, ◌++◌, length, map};
 ghost use Rattle.arrayvec.specs.ArrayVec.{array_vec_len};
 ghost use Rattle.vme_model.specs.Plan.{up_to};
+ghost use Rattle.vme_goals.specs.Events.{all_events};
 ghost use Rattle.vme_tallies.specs.Summary.{topics};
 
 use arrayvec::ArrayVec;
@@ -30,10 +31,11 @@ pub enum Topic {
     Answered(u8),
 }
 
-use Topic::{Met, Refusal};
+use Topic::Refusal;
 
-/// How many topics there are.
-const TOPICS: usize = 93;
+/// How many topics there are: the edges, the rules and other refusals, the situations, the boards
+/// twice, and what was never accepted and never came.
+const TOPICS: usize = 1 + 26 + REFUSALS.len() + Event::COUNT + 2 * 21 + 2;
 
 /// Topics, in the order in which they are told.
 pub(crate) type Topics = ArrayVec<Topic, TOPICS>;
@@ -49,28 +51,9 @@ const REFUSALS: [Topic; 7] = [
     Refusal(Refused::TraceFull),
 ];
 
-/// The situations, in their order.
-const SITUATIONS: [Topic; 15] = [
-    Met(Event::GrantPassed),
-    Met(Event::LateRequest),
-    Met(Event::Overtaken),
-    Met(Event::EarlyRelease),
-    Met(Event::Overlap),
-    Met(Event::FullBurst),
-    Met(Event::BusClear),
-    Met(Event::Rivals),
-    Met(Event::Delivery),
-    Met(Event::IackPassed),
-    Met(Event::AnsweredAgain),
-    Met(Event::Spurious),
-    Met(Event::BusError),
-    Met(Event::Withdrawn),
-    Met(Event::GrantTimeout),
-];
-
 /// Appends topics to others that leave room for them.
 fn add(topics: &mut Topics, more: &[Topic])
-    requires { array_vec_len topics.old + length more.now ≤ 93 }
+    requires { array_vec_len topics.old + length more.now ≤ TOPICS }
     ensures items { topics.new.items ≡ topics.old.items ++ more.now }
     ensures len { array_vec_len topics.new ≡ array_vec_len topics.old + length more.now }
 {
@@ -81,7 +64,7 @@ fn add(topics: &mut Topics, more: &[Topic])
 
 /// Appends the rules, by number.
 fn add_rules(topics: &mut Topics)
-    requires { array_vec_len topics.old + 26 ≤ 93 }
+    requires { array_vec_len topics.old + 26 ≤ TOPICS }
     ensures items { topics.new.items ≡ topics.old.items ++ map (λ k. Topic.Rule k) (up_to 26) }
     ensures len { array_vec_len topics.new ≡ array_vec_len topics.old + 26 }
 {
@@ -90,9 +73,20 @@ fn add_rules(topics: &mut Topics)
     }
 }
 
+/// Appends the situations, in their order.
+fn add_situations(topics: &mut Topics)
+    requires { array_vec_len topics.old + Event.COUNT ≤ TOPICS }
+    ensures items { topics.new.items ≡ topics.old.items ++ map (λ v. Topic.Met v) all_events }
+    ensures len { array_vec_len topics.new ≡ array_vec_len topics.old + Event.COUNT }
+{
+    for event in &Event::ALL {
+        add(topics, &[Topic::Met(*event)]);
+    }
+}
+
 /// Appends what the boards did at the bus, by slot.
 fn add_boards(topics: &mut Topics)
-    requires { array_vec_len topics.old + 21 ≤ 93 }
+    requires { array_vec_len topics.old + 21 ≤ TOPICS }
     ensures items { topics.new.items ≡ topics.old.items ++ map (λ k. Topic.Board k) (up_to 21) }
     ensures len { array_vec_len topics.new ≡ array_vec_len topics.old + 21 }
 {
@@ -103,7 +97,7 @@ fn add_boards(topics: &mut Topics)
 
 /// Appends what the boards answered, by slot.
 fn add_answers(topics: &mut Topics)
-    requires { array_vec_len topics.old + 21 ≤ 93 }
+    requires { array_vec_len topics.old + 21 ≤ TOPICS }
     ensures items { topics.new.items ≡ topics.old.items ++ map (λ k. Topic.Answered k) (up_to 21) }
     ensures len { array_vec_len topics.new ≡ array_vec_len topics.old + 21 }
 {
@@ -121,7 +115,7 @@ pub(crate) fn topics() -> Topics
     add_rules(&mut topics);
     add(&mut topics, &REFUSALS);
     add(&mut topics, &[Topic::NeverAccepted]);
-    add(&mut topics, &SITUATIONS);
+    add_situations(&mut topics);
     add(&mut topics, &[Topic::NeverMet]);
     add_boards(&mut topics);
     add_answers(&mut topics);

@@ -47,7 +47,8 @@ const TENURE: [Edge; 6] = [
     rise!(FIRST, Wire::Bbsy),
 ];
 
-/// On a trace that the tenure fills: the other refusals come before that of a full trace.
+/// The refusals on a trace that the tenure fills: the other refusals come before that of a full
+/// trace.
 const REFUSED_BEHIND_THE_TENURE: [(Edge, Refused); 4] = [
     (fall!(SECOND, Wire::Br), Refused::NoSuchDriver),
     (rise!(FIRST, Wire::Br), Refused::AlreadyThere),
@@ -65,14 +66,15 @@ const ACCESS: [Edge; 6] = [
     fall!(FIRST, Wire::DataStrobe),
 ];
 
-/// On a trace that the access fills: the bus timer may not end a cycle that a board can answer.
+/// The refusals on a trace that the access fills: the bus timer may not end a cycle that a board
+/// can answer.
 const REFUSED_BEHIND_THE_ACCESS: [(Edge, Refused); 2] = [
     (fall!(CONTROLLER, Wire::Berr), Refused::NotSettled(2)),
     (fall!(FIRST, Wire::Dtack), Refused::TraceFull),
 ];
 
-/// A request on level 4 is acknowledged and answered at place 10. It stays, and is acknowledged again; now nobody answers,
-/// and the bus timer ends the cycle.
+/// A request on level 4 is acknowledged, and is answered at place 10. It stays, and is acknowledged
+/// again. Now nobody answers, and the bus timer ends the cycle.
 const ANSWERED_ONCE: [Edge; 26] = [
     fall!(SECOND, Wire::Irq),
     fall!(FIRST, Wire::Br),
@@ -102,7 +104,7 @@ const ANSWERED_ONCE: [Edge; 26] = [
     rise!(CONTROLLER, Wire::Berr),
 ];
 
-/// Two boards request on one level: the nearer answers first, and then the other.
+/// Two boards request on one level: the nearer one answers first, and then the other.
 const ANSWERED_IN_TURN: [Edge; 26] = [
     fall!(SECOND, Wire::Irq),
     fall!(THIRD, Wire::Irq),
@@ -146,9 +148,9 @@ const FROM_THE_THIRD: Delivery = Delivery {
     status: 66,
 };
 
-/// Three edges of the rounds of 21 boards: from place 24 on the same 22 edges come again and again.
+/// Three edges of the rounds of 21 boards. From place 24 on, the same 22 edges repeat.
 ///
-/// They stand at places 63 to 65, and so, 2,976 times 22 further on, at 65,535 to 65,537.
+/// The three stand at places 63 to 65, and again, 2,976 times 22 places later, at 65,535 to 65,537.
 const IN_ROUNDS: [Edge; 3] = [
     rise!(THIRD, Wire::Addr),
     fall!(Driver::Slot(7), Wire::Br),
@@ -157,8 +159,8 @@ const IN_ROUNDS: [Edge; 3] = [
 
 const FOURTH: Driver = Driver::Slot(4);
 
-/// A grant reaches slot 3, while slot 2 asks too late and slot 4 waits: each edge, with the conditions that it fails. The
-/// twelve that fail none fill the trace.
+/// A grant reaches slot 3, while slot 2 requests too late and slot 4 waits. Each edge stands with
+/// the conditions that it fails. The twelve edges that fail none fill the trace.
 const A_LATE_REQUEST: [(Edge, &[Condition]); 23] = [
     (fall!(FOURTH, Wire::Br), &[]),
     (fall!(CONTROLLER, Wire::Bg(3)), &[]),
@@ -198,7 +200,8 @@ const A_LATE_REQUEST: [(Edge, &[Condition]); 23] = [
     (fall!(THIRD, Wire::Br), &[Condition::HasRoom]),
 ];
 
-/// A cycle that a board can answer is not timed out, nor has an answer to wait for.
+/// The bus timer may not end a cycle that a board can answer, and the data strobe may not rise
+/// before it is answered.
 const AN_ACCESS: [(Edge, &[Condition]); 8] = [
     (fall!(FIRST, Wire::Br), &[]),
     (fall!(CONTROLLER, Wire::Bg(3)), &[]),
@@ -210,7 +213,8 @@ const AN_ACCESS: [(Edge, &[Condition]); 8] = [
     (rise!(FIRST, Wire::DataStrobe), &[Condition::Answered]),
 ];
 
-/// A withdrawn request, whose grant is timed out when it has passed both boards; the next waits until it has risen through.
+/// A withdrawn request, whose grant times out once it has passed both boards. The next grant waits
+/// until that grant has risen on every board.
 const WITHDRAWN: [(Edge, &[Condition]); 10] = [
     (fall!(SECOND, Wire::Br), &[]),
     (fall!(CONTROLLER, Wire::Bg(3)), &[]),
@@ -260,7 +264,7 @@ fn backplane<'r>(
     Ok(opened(alloc, region, plan, max)?)
 }
 
-/// Makes the edges, and tells how many were accepted and refused.
+/// Makes the edges, and returns how many were accepted and how many were refused.
 fn run(backplane: &mut Backplane<'_>, edges: &[Edge]) -> (u64, u64) {
     let counts = backplane.run(edges);
     (counts.accepted, counts.refused)
@@ -278,12 +282,12 @@ fn delivered_by(backplane: &mut Backplane<'_>, edge: Edge) -> Option<Delivery> {
     }
 }
 
-/// Whether it is at power-up, under the first version, with three slots.
+/// Whether the backplane is at power-up, under the first version of the rules, with three slots.
 fn is_new(backplane: &Backplane<'_>) -> bool {
     backplane.is_empty() && backplane.version() == Version::One && backplane.plan().slots() == 3
 }
 
-/// The edge at a place, if so many were made.
+/// The edge at a place, if that many edges were made.
 fn made_at(backplane: &Backplane<'_>, place: u32) -> Option<Edge> {
     if place < backplane.len() {
         Some(backplane.edge_at(place))
@@ -292,14 +296,15 @@ fn made_at(backplane: &Backplane<'_>, place: u32) -> Option<Edge> {
     }
 }
 
-/// Each edge is refused, for the reason beside it.
+/// Asserts that each edge is refused for the reason that stands with it.
 fn assert_refused(rt: &impl Abort, backplane: &mut Backplane<'_>, cases: &[(Edge, Refused)]) {
     for (edge, refused) in cases {
         assert!(rt; backplane.step(*edge) == Err(*refused));
     }
 }
 
-/// Each edge fails the conditions beside it, and is accepted where there are none.
+/// Asserts that each edge fails the conditions that stand with it, and is accepted if there are
+/// none.
 fn assert_fails(rt: &impl Abort, backplane: &mut Backplane<'_>, cases: &[(Edge, &[Condition])]) {
     for (edge, conditions) in cases {
         let is_accepted: bool = backplane.told(*edge);
@@ -309,7 +314,8 @@ fn assert_fails(rt: &impl Abort, backplane: &mut Backplane<'_>, cases: &[(Edge, 
     }
 }
 
-/// The same on a backplane with these boards and room for so many edges.
+/// Asserts, on a backplane with these boards and room for `max` edges, that each edge fails the
+/// conditions that stand with it, and is accepted if there are none.
 fn assert_told<R: AllocGlobal + Abort>(
     rt: &R,
     rows: &[Row],
@@ -365,7 +371,7 @@ fn assert_full(
     assert!(rt; offers_nothing(backplane));
 }
 
-/// The edges fill a trace, and then each of the others is refused.
+/// Asserts that the edges fill a trace, and that each of the others is refused then.
 fn assert_filled<R: AllocGlobal + Abort>(
     rt: &R,
     edges: &[Edge],
@@ -393,7 +399,8 @@ fn a_trace_of_no_edge_is_full(rt: HostRuntime) -> Result<(), Fail> {
     assert_filled(&rt, &[], 0, &[(TENURE[0], Refused::TraceFull)])
 }
 
-/// The edges before the answer are accepted. The answer is then offered, delivers a status and stands in the history.
+/// Asserts that the edges before the answer are accepted, and that the answer is then offered,
+/// delivers a status byte and stands in the history.
 fn assert_answered(rt: &impl Abort, backplane: &mut Backplane<'_>, edges: &[Edge; 26]) {
     let answer = edges[10];
     assert!(rt; is_new(backplane));
@@ -413,7 +420,7 @@ fn an_acknowledge_is_answered(rt: HostRuntime) -> Result<(), Fail> {
     Ok(())
 }
 
-/// All but two of the edges are accepted, and deliver this.
+/// Asserts that all but two of the edges are accepted, and that they deliver this.
 fn assert_delivers<R: AllocGlobal + Abort>(
     rt: &R,
     backplane: &mut Backplane<'_>,
@@ -425,7 +432,8 @@ fn assert_delivers<R: AllocGlobal + Abort>(
     Ok(())
 }
 
-/// The same on a backplane with these boards.
+/// Asserts, on a backplane with these boards, that all but two of the edges are accepted, and that
+/// they deliver this.
 fn assert_delivered<R: AllocGlobal + Abort>(
     rt: &R,
     rows: &[Row],
@@ -450,7 +458,7 @@ fn two_statuses_are_delivered_in_turn(rt: HostRuntime) -> Result<(), Fail> {
     assert_delivered(&rt, &rows, &ANSWERED_IN_TURN, &deliveries)
 }
 
-/// A plan of 21 boards that request on four levels.
+/// A plan of 21 boards that request on all four levels.
 fn full_plan(alloc: Global) -> Result<Plan, Fail> {
     let mut rows = Vec::new(alloc);
     for slot in 1..22 {
@@ -459,7 +467,7 @@ fn full_plan(alloc: Global) -> Result<Plan, Fail> {
     Ok(Plan::new(alloc, 21, &rows, &[], ArbiterKind::Pri)?)
 }
 
-/// Of k offers the one at place `round mod k`.
+/// The offer at place `round mod k`, if there are k offers.
 fn choice(offers: &[Edge], round: u32) -> Option<Edge> {
     if offers.is_empty() {
         return None;
@@ -473,7 +481,7 @@ fn take_turn(backplane: &mut Backplane<'_>, round: u32, driver: Driver) {
     }
 }
 
-/// The controller's turn, and then each board's.
+/// Takes the controller's turn, and then that of each board.
 fn take_turns(backplane: &mut Backplane<'_>, round: u32) {
     take_turn(backplane, round, CONTROLLER);
     for slot in 1..22 {
@@ -481,7 +489,7 @@ fn take_turns(backplane: &mut Backplane<'_>, round: u32) {
     }
 }
 
-/// Rounds, until the trace is full.
+/// Takes rounds until the trace is full.
 fn take_rounds(backplane: &mut Backplane<'_>) {
     for round in 0..backplane.max() {
         if backplane.len() == backplane.max() {
@@ -491,7 +499,7 @@ fn take_rounds(backplane: &mut Backplane<'_>) {
     }
 }
 
-/// Rounds make these edges at their places; the next is refused.
+/// Asserts that rounds make these edges at their places, and that the next edge is refused.
 fn assert_made(rt: &impl Abort, backplane: &mut Backplane<'_>, made: &[(u32, Edge)], next: Edge) {
     take_rounds(backplane);
     for (place, edge) in made {
@@ -500,7 +508,8 @@ fn assert_made(rt: &impl Abort, backplane: &mut Backplane<'_>, made: &[(u32, Edg
     assert_refused(rt, backplane, &[(next, Refused::TraceFull)]);
 }
 
-/// The same for rounds of 21 boards on a trace of so many edges, on so many bytes.
+/// Asserts that rounds of 21 boards, on a trace of `max` edges and on `bytes` bytes, make these
+/// edges at their places, and that the next edge is refused.
 fn assert_rounds<R: AllocGlobal + Abort>(
     rt: &R,
     bytes: usize,

@@ -56,7 +56,7 @@ pub fn board(slot: u8) -> Row {
     }
 }
 
-/// A board that gives the bus up when it has done so many cycles.
+/// A board that gives the bus up after `burst` cycles.
 pub fn requester(slot: u8, level: u8, burst: u8) -> Row {
     let release = Release::Done { burst };
     Row {
@@ -65,7 +65,7 @@ pub fn requester(slot: u8, level: u8, burst: u8) -> Row {
     }
 }
 
-/// A board whose interrupt request an acknowledge takes away.
+/// A board whose interrupt request ends at its acknowledge (ROAK).
 pub fn interrupter(slot: u8, level: u8, status: u8) -> Row {
     let kind = IrqKind::Roak;
     Row {

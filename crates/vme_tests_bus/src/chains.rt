@@ -1,4 +1,4 @@
-//! A grant and an acknowledge that ripple along their chains, and a line that two drivers pull.
+//! A grant and an acknowledge that travel along their chains, and a line that two drivers pull.
 use vme_chain::Chain;
 use vme_iack::IackChain;
 use vme_lines::OrLine;

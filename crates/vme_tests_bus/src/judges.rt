@@ -1,7 +1,9 @@
-//! The two judges side by side: a backplane, which keeps its edges, and a bus, which keeps numbers alone.
+//! The two judges compared: a backplane, which keeps its edges, and a bus, which keeps only
+//! numbers.
 //!
-//! Both are proved to answer what the rules define. Here they answer each edge that a line of a trace can spell, as built,
-//! at each state of drawn histories. A step by the numbers alone, which C calls, is the third.
+//! Both are proved to answer as the rules define. Here the built code answers each edge that a line
+//! of a trace can spell, at each state of random histories. The third judge is a step by the
+//! numbers alone, which C calls.
 use crate::asserts::assert_same;
 use crate::boards::{board, fall, interrupter, requester, rise};
 use bitflags::Flags;
@@ -45,7 +47,7 @@ const PLAIN: [Wire; 8] = [
 /// How many edges each history gets.
 const EDGES: u32 = 60;
 
-/// The histories: the rules, the arbiter, and the first number of the draws.
+/// The histories: the version of the rules, the arbiter, and the first number of the draws.
 const HISTORIES: [(Version, ArbiterKind, u32); 4] = [
     (Version::One, ArbiterKind::Pri, 1),
     (Version::One, ArbiterKind::Rrs, 2),
@@ -53,7 +55,7 @@ const HISTORIES: [(Version, ArbiterKind, u32); 4] = [
     (Version::Two, ArbiterKind::Rrs, 4),
 ];
 
-/// Both edges of each of these wires.
+/// Appends both edges of each of these wires.
 fn put_wires(edges: &mut Vec<Edge>, driver: Driver, wires: &[Wire]) -> Result<(), AllocError> {
     for wire in wires {
         edges.push(fall(driver, *wire))?;
@@ -62,7 +64,7 @@ fn put_wires(edges: &mut Vec<Edge>, driver: Driver, wires: &[Wire]) -> Result<()
     Ok(())
 }
 
-/// The slot's address group goes on with the cycle.
+/// The edge by which the slot's address group goes on with the cycle.
 fn shows(slot: u8, cycle: Cycle) -> Edge {
     Edge {
         value: Some(cycle),
@@ -70,7 +72,7 @@ fn shows(slot: u8, cycle: Cycle) -> Edge {
     }
 }
 
-/// The edges of the slot's address group.
+/// Appends the edges of the slot's address group.
 fn put_cycles(edges: &mut Vec<Edge>, slot: u8) -> Result<(), AllocError> {
     edges.push(rise(Driver::Slot(slot), Wire::Addr))?;
     for level in 1..8_u8 {
@@ -93,7 +95,7 @@ fn spellings(alloc: Global) -> Result<Vec<Edge>, AllocError> {
     Ok(edges)
 }
 
-/// A board of the first slot that handles all levels, and gives the bus up when another requests it.
+/// A board in slot 1 that handles all levels, and gives the bus up when another board requests it.
 fn first() -> Row {
     let release = Release::Request;
     Row {
@@ -103,7 +105,7 @@ fn first() -> Row {
     }
 }
 
-/// The same board, with an interrupter that an access serves.
+/// The row with an interrupter on that level, which an access serves (RORA).
 fn interrupting(row: Row, level: u8) -> Row {
     Row {
         interrupter: Some(InterrupterRow {
@@ -136,7 +138,7 @@ fn next(number: u32) -> u32 {
     number.wrapping_mul(1_664_525).wrapping_add(1_013_904_223)
 }
 
-/// Whether the edge may be drawn: of accesses only some, since they are many.
+/// Whether the edge may be drawn. Only some of the accesses may, since there are many.
 fn may_be_drawn(edge: Edge, number: u32) -> bool {
     match edge.value {
         Some(Cycle::Access(target)) => u32::from(target) % 16 == number >> 28,
@@ -144,7 +146,8 @@ fn may_be_drawn(edge: Edge, number: u32) -> bool {
     }
 }
 
-/// All three answer the edge alike, and where they refuse it a step leaves them as they are. Whether they accept it.
+/// Asserts that all three answer the edge alike, and that a refused step leaves them unchanged. It
+/// returns whether they accept the edge.
 fn accept(
     rt: &impl Abort,
     backplane: &mut Backplane<'_>,
@@ -163,7 +166,8 @@ fn accept(
     answer.is_ok()
 }
 
-/// All three answer each of the edges alike. Of those that they accept one is drawn.
+/// Asserts that all three answer each of the edges alike. It draws one of the edges that they
+/// accept.
 fn draw(
     rt: &impl Abort,
     backplane: &mut Backplane<'_>,
@@ -187,7 +191,7 @@ fn draw(
     drawn
 }
 
-/// All three take the edge, and tell the same of it.
+/// Makes the edge on all three, and asserts that they answer it alike.
 fn take(
     rt: &impl Abort,
     backplane: &mut Backplane<'_>,
@@ -201,7 +205,7 @@ fn take(
     assert_same(rt, numbers.step(edge), answer);
 }
 
-/// All three answer all edges alike at each state of a drawn history.
+/// Asserts that all three answer all edges alike at each state of a random history.
 fn assert_alike(
     rt: &impl Abort,
     backplane: &mut Backplane<'_>,

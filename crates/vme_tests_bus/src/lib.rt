@@ -1,8 +1,8 @@
-//! The tests of a plan, of the parts of a board and the controller, of chains and lines, of the backplane, and of both
-//! judges beside one another, over their public calls alone.
+//! The tests of a plan, of the parts of a board and the controller, of chains and lines, of the
+//! backplane, and of both judges compared, over their public calls alone.
 //!
-//! The proof of a body grows with the square of what lives in it. So cases stand in tables, and what is asserted of a case
-//! stands in a small function.
+//! The proof of a body grows with the square of the number of its live variables. So cases stand in
+//! tables, and what is asserted for a case stands in a small function.
 #![tactic(auto)]
 
 #[cfg(test)]

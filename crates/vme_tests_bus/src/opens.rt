@@ -15,7 +15,7 @@ use vme_slots::Plan;
 /// A driver, a wire of it, and whether it falls.
 type Move = (Driver, Wire, bool);
 
-/// A grant travels from slot 3, where a request comes behind it, to slot 8.
+/// A grant travels from slot 3, which requests after it has passed the grant on, to slot 8.
 const GRANT_UNDER_WAY: [Move; 4] = [
     (Driver::Slot(8), Wire::Br, true),
     (Driver::Controller, Wire::Bg(3), true),
@@ -23,7 +23,8 @@ const GRANT_UNDER_WAY: [Move; 4] = [
     (Driver::Slot(3), Wire::Br, true),
 ];
 
-/// What can fall then; nothing can rise. The grant stands at slot 4, which can pass it on, or request and take it.
+/// The wires that can fall then; none can rise. The grant stands at slot 4, which can pass it on,
+/// or request the bus and take it.
 const CAN_FALL: [(Driver, &[Wire]); 10] = [
     (Driver::Controller, &[]),
     (Driver::Slot(1), &[Wire::Br]),
@@ -37,7 +38,8 @@ const CAN_FALL: [(Driver, &[Wire]); 10] = [
     (Driver::Slot(9), &[Wire::Irq]),
 ];
 
-/// The first board holds the bus while another requests it, and two levels that it handles are pending.
+/// The first board holds the bus while another board requests it, and interrupts are pending at two
+/// levels that it handles.
 const HELD: [Move; 8] = [
     (Driver::Slot(1), Wire::Br, true),
     (Driver::Controller, Wire::Bg(1), true),
@@ -49,7 +51,7 @@ const HELD: [Move; 8] = [
     (Driver::Slot(8), Wire::Irq, true),
 ];
 
-/// A board that gives the bus up when another requests it.
+/// A board that gives the bus up when another board requests it.
 fn on_request(slot: u8, level: u8) -> Row {
     let release = Release::Request;
     Row {
@@ -58,7 +60,7 @@ fn on_request(slot: u8, level: u8) -> Row {
     }
 }
 
-/// The same board, with an interrupter.
+/// The row with an interrupter.
 fn interrupting(row: Row, level: u8, kind: IrqKind, status: u8) -> Row {
     Row {
         interrupter: Some(InterrupterRow {
@@ -70,7 +72,7 @@ fn interrupting(row: Row, level: u8, kind: IrqKind, status: u8) -> Row {
     }
 }
 
-/// The same board, with a handler of these levels.
+/// The row with a handler of these levels.
 fn handling(row: Row, levels: u8) -> Row {
     Row {
         handler: Levels::from_bits_retain(levels),
@@ -97,14 +99,14 @@ fn nine_slots(alloc: Global) -> Result<Plan, Fail> {
     Ok(Plan::new(alloc, 9, &rows, &[jumper], ArbiterKind::Pri)?)
 }
 
-/// The edges are accepted.
+/// Asserts that the edges are accepted.
 fn assert_accepted(rt: &impl Abort, backplane: &mut Backplane<'_>, moves: &[Move]) {
     for (driver, wire, falls) in moves {
         assert!(rt; backplane.step(edge(*driver, *wire, *falls)).is_ok());
     }
 }
 
-/// These wires of the driver can fall, and it can make no other edge.
+/// Asserts that these wires of the driver can fall, and that it can make no other edge.
 fn assert_falls(rt: &impl Abort, backplane: &Backplane<'_>, driver: Driver, wires: &[Wire]) {
     let open = backplane.open_edges(driver);
     assert!(rt; open.len() == wires.len());
@@ -145,7 +147,7 @@ fn nothing_is_open_on_a_full_trace(rt: HostRuntime) -> Result<(), Fail> {
     Ok(())
 }
 
-/// The first board's address group going on with the cycle.
+/// The edge by which the first board's address group goes on with the cycle.
 fn shows(cycle: Cycle) -> Option<Edge> {
     Some(Edge {
         value: Some(cycle),
@@ -153,7 +155,8 @@ fn shows(cycle: Cycle) -> Option<Edge> {
     })
 }
 
-/// It can let the bus go, or show each pending level that it handles, and then each slot.
+/// Asserts that the first board can let the bus go, or show each pending level that it handles, and
+/// then each slot.
 fn assert_shows_all(rt: &impl Abort, open: &[Edge]) {
     assert!(rt; open.len() == 24);
     assert!(rt; open.first().copied() == Some(rise(FIRST, Wire::Bbsy)));

@@ -1,4 +1,4 @@
-//! The parts of a board and the controller: their runs, and what their rules refuse.
+//! The parts of a board and the controller: what they do in turn, and what their rules refuse.
 use crate::boards::{FIRST, SECOND, edge, fall, quiet, rise};
 use bitflags::Flags;
 use std::process::Abort;
@@ -15,7 +15,7 @@ use vme_requester::Requester;
 
 const CONTROLLER: Driver = Driver::Controller;
 
-/// What the arbiter sees of requests and of the bus busy line.
+/// What the arbiter sees of the requests and of BBSY*.
 fn asked(requests: [bool; 4], bbsy: bool) -> Pins {
     Pins {
         requests: BusLevels::of_lines(requests),
@@ -46,7 +46,7 @@ fn any_policy_is_its_kind(rt: HostRuntime) {
     }
 }
 
-/// What falls or rises, what the arbiter sees of requests and of the bus busy line, and its answer.
+/// The edge, what the arbiter sees of the requests and of BBSY*, and its answer.
 const GRANTED: [(Wire, bool, [bool; 4], bool, Result<(), Refused>); 7] = [
     (
         Wire::Bg(1),
@@ -122,7 +122,7 @@ fn a_grant_is_timed_out_in_the_second_version_alone(rt: HostRuntime) {
     }
 }
 
-/// What a requester sees of its grant input.
+/// What a requester sees of its grant-in.
 fn granted(grant_in: bool) -> Pins {
     Pins {
         grant_in,
@@ -135,7 +135,8 @@ fn requester(release: Release, version: Version) -> Requester {
     Requester::new(2, RequesterRow { level: 3, release }, version)
 }
 
-/// What falls or rises, whether the grant input is low, and a requester's answer. What it may do it does.
+/// The edge, whether the grant-in is low, and a requester's answer. If the edge is allowed, the
+/// requester makes it.
 type Asked = (Wire, bool, bool, Result<(), Refused>);
 
 fn assert_requests(rt: &impl Abort, cases: &[Asked]) {
@@ -212,7 +213,7 @@ fn refusals_are_printed(rt: HostRuntime) -> Result<(), Fail> {
     Ok(())
 }
 
-/// What a master sees that has the bus, where level 4 is requested.
+/// What a master that has the bus sees, while level 4 is requested.
 fn owned() -> Pins {
     Pins {
         bbsy: true,
@@ -221,7 +222,7 @@ fn owned() -> Pins {
     }
 }
 
-/// The master in slot 1 puts a cycle on its address group.
+/// The edge by which the master in slot 1 puts a cycle on its address group.
 fn shows(cycle: Cycle) -> Edge {
     Edge {
         value: Some(cycle),
@@ -234,7 +235,7 @@ fn master(release: Release) -> Master {
     Master::new(1, RequesterRow { level: 3, release }, Levels::of(4))
 }
 
-/// A master makes an edge, and may not make it again.
+/// Asserts that a master makes an edge, and may not make it again.
 fn assert_made_once(rt: &impl Abort, master: &mut Master, made: Edge, dtack: bool) {
     let seen = Pins { dtack, ..owned() };
     assert!(rt; master.may(made, seen, true).is_ok());
@@ -243,7 +244,7 @@ fn assert_made_once(rt: &impl Abort, master: &mut Master, made: Edge, dtack: boo
     assert!(rt; master.may(made, seen, true) == Err(Refused::AlreadyThere));
 }
 
-/// A cycle, but for its first edge: what falls or rises, and whether it is answered by then.
+/// A cycle without its first edge: each edge, and whether the cycle has been answered by then.
 const CYCLE: [(Wire, bool, bool); 5] = [
     (Wire::AddressStrobe, true, false),
     (Wire::DataStrobe, true, false),
@@ -279,7 +280,7 @@ fn it_acknowledges_what_it_handles_and_what_is_requested(rt: HostRuntime) {
     assert!(rt; master.may(fourth, none, true) == Err(Refused::Rule(15)));
 }
 
-/// What a board sees of a cycle that reached it.
+/// What a board sees of a cycle that has reached it.
 fn strobed(shown: Option<Cycle>) -> Pins {
     Pins {
         bbsy: true,
@@ -301,7 +302,7 @@ fn interrupter(kind: IrqKind) -> Interrupter {
     Interrupter::new(2, Some(row))
 }
 
-/// An interrupter answers the cycle that is shown, which serves it or does not.
+/// Asserts that an interrupter answers the cycle that is shown, and whether that serves it.
 fn assert_answers(rt: &impl Abort, kind: IrqKind, shown: Option<Cycle>, is_served: bool) {
     let mut interrupter = interrupter(kind);
     interrupter.note(fall(SECOND, Wire::Irq), None);

@@ -1,4 +1,5 @@
-//! A plan's calls, memory that is refused, and the printed refusals. Which plan is refused, and for what, the clauses say.
+//! A plan's calls, memory that runs out, and the printed refusals. Which plan is refused, and for
+//! what, is in the clauses.
 use crate::asserts::assert_same;
 use crate::boards::{board, interrupter, requester};
 use bitflags::Flags;
@@ -14,7 +15,7 @@ fn jumper(slot: u8, chains: u8) -> Jumper {
     }
 }
 
-/// The boards that work a chain.
+/// The slots of the boards that work a chain.
 const ACTIVE: [(ChainId, &[u8]); 4] = [
     (ChainId::Bg0, &[]),
     (ChainId::Bg1, &[4]),
@@ -22,7 +23,7 @@ const ACTIVE: [(ChainId, &[u8]); 4] = [
     (ChainId::Iack, &[5]),
 ];
 
-/// The board before a slot on the chain of level 3.
+/// The slot of the board before a slot on the chain of level 3.
 const UPSTREAM: [(u8, Option<u8>); 3] = [(1, None), (3, Some(1)), (6, Some(3))];
 
 fn assert_active(rt: &impl Abort, plan: &Plan) {
@@ -63,7 +64,7 @@ fn a_plan_tells_its_boards_and_chains(rt: HostRuntime) -> Result<(), Fail> {
     Ok(())
 }
 
-/// Asserts what a plan under SGL is refused for.
+/// Asserts for what a plan under SGL is refused.
 fn assert_refused(
     rt: &(impl Abort + AllocGlobal),
     slots: u8,
@@ -94,7 +95,7 @@ fn the_first_fault_of_slots_is_told(rt: HostRuntime) {
     assert_refused(&rt, 2, &joined, &jumpers, PlanError::SlotTwice { slot: 2 });
 }
 
-/// The same row, with a handler of level 4.
+/// The row with a handler of level 4.
 fn handling(row: Row) -> Row {
     Row {
         handler: Levels::IRQ4,
@@ -102,7 +103,7 @@ fn handling(row: Row) -> Row {
     }
 }
 
-/// Each of these plans has two faults, of which a second handler of level 4 is one.
+/// Each of these plans has two faults. One of them is a second handler of level 4.
 #[test]
 fn the_first_fault_of_levels_is_told(rt: HostRuntime) {
     let second = handling(requester(2, 3, 1));
@@ -118,7 +119,8 @@ fn the_first_fault_of_levels_is_told(rt: HostRuntime) {
     assert_refused(&rt, 2, &bare, &[], PlanError::HandlerTwice { level: 4 });
 }
 
-/// Holds where an allocation fails too: want of memory is then answered, and no fault of the plan.
+/// It holds even if an allocation fails: then the answer is want of memory, and not a fault of the
+/// plan.
 #[test]
 fn answers_the_plan_or_want_of_memory(rt: HostRuntime) {
     let rows = [requester(1, 3, 1), interrupter(3, 7, 65)];

@@ -24,7 +24,7 @@ pub fn rise(driver: Driver, wire: Wire) -> Edge {
     edge(driver, wire, false)
 }
 
-/// A board that requests a level, and gives the bus up when it has done a cycle.
+/// A board that requests on a level, and gives the bus up after one cycle.
 pub fn requester(slot: u8, level: u8) -> Row {
     let release = Release::Done { burst: 1 };
     Row {

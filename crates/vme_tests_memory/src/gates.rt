@@ -9,10 +9,10 @@ use std::time::Duration;
 use vme_lock::{Gate, Rig, Seat, Shared};
 use vme_model::{Driver, Wire};
 
-/// How often a gate looks for a flag before it gives up.
+/// How often a gate looks at a flag before it gives up.
 const LOOKS: u32 = 200_000_000;
 
-/// Waits for a flag, and says whether it came up.
+/// Waits for a flag, and returns whether it was raised.
 fn comes_up(flag: &AtomicBool) -> bool {
     for _look in 0..LOOKS {
         if flag.load(Ordering::SeqCst) {
@@ -23,8 +23,8 @@ fn comes_up(flag: &AtomicBool) -> bool {
     false
 }
 
-/// A gate at which each driver waits once before a turn: slot 1 for an edge of slot 2, the others for both others. After that
-/// edge slot 2 waits for one of slot 1.
+/// A gate at which each driver waits once before a turn: slot 1 for an edge of slot 2, and each
+/// other driver for both other drivers. After that edge slot 2 waits for one of slot 1.
 #[derive(Drop)]
 pub struct Together {
     controller: AtomicBool,
@@ -95,7 +95,7 @@ impl Gate for Together {
     }
 }
 
-/// A gate that lets slot 1 take no further turn after so many accepted edges.
+/// A gate that lets slot 1 take no further turn after a given number of accepted edges.
 #[derive(Drop)]
 pub struct Stops {
     after: u32,
@@ -153,7 +153,7 @@ impl Gate for Asked {
     }
 }
 
-/// A gate that counts the calls after it.
+/// A gate that counts the calls after a turn.
 #[derive(Drop)]
 pub struct Counts {
     open: bool,
@@ -175,7 +175,7 @@ impl Counts {
         self.after.load(Ordering::SeqCst)
     }
 
-    /// How often it was told of an accepted edge.
+    /// How often it was called for an accepted edge.
     pub fn accepted(&self) -> u32 {
         self.accepted.load(Ordering::SeqCst)
     }
@@ -196,7 +196,8 @@ impl Gate for Counts {
     }
 }
 
-/// A gate that tries the lock after each turn, by a look of slot 1, and makes its request after one of them.
+/// A gate that tries the lock after each turn, by a look of slot 1, and makes slot 1's request
+/// after one of them.
 #[derive(Drop)]
 pub struct Requests<'s, 'r, L: Rig, R: Wait> {
     pub rt: &'s R,
@@ -224,8 +225,8 @@ impl<'s, 'r, L: Rig, R: Wait> Gate for Requests<'s, 'r, L, R> {
     }
 }
 
-/// A gate at which slot 1 naps before its first turn, a millisecond each time, until the controller's last turn is over, and
-/// then takes none.
+/// A gate at which slot 1 naps before its first turn, one millisecond each time, until the
+/// controller's last turn is over. Then slot 1 takes no turn.
 #[derive(Drop)]
 pub struct Naps<'s, R: Wait> {
     rt: &'s R,

@@ -1,4 +1,5 @@
-//! The lock: that threads run at once, what a worker does in its turns, and how it fares without room.
+//! The lock: that threads run at the same time, what a worker does in its turns, and what it does
+//! without room.
 ghost use Rattle.std.specs.Prelude.{◌≡◌, IfOk, length, vec_len};
 ghost use Rattle.vme_model.specs.Plan.{drivers};
 ghost use Rattle.vme_lock.specs.Seats.{drivers_of};
@@ -115,7 +116,7 @@ impl Ran {
     }
 }
 
-/// L2, where the backplane that was handed back takes an edge as before.
+/// L2, if the backplane that was returned still takes an edge as before.
 fn refused_lock(mut backplane: Backplane<'_>) -> Fail {
     match backplane.step(fall(FIRST, Wire::Br)) {
         Ok(_) => "L2".into(),
@@ -156,7 +157,7 @@ fn copies_of(alloc: Global, logs: &[Log<'_>]) -> Result<Vec<Vec<Edge>>, AllocErr
     Ok(copies)
 }
 
-/// What the boards did, but for their history.
+/// What the boards did, without their history.
 fn work_of<L: Rig>(alloc: Global, seats: &Seats<L>, logs: &[Log<'_>]) -> Result<Ran, AllocError> {
     let made = made_by(alloc, seats)?;
     Ok(Ran {
@@ -166,7 +167,7 @@ fn work_of<L: Rig>(alloc: Global, seats: &Seats<L>, logs: &[Log<'_>]) -> Result<
     })
 }
 
-/// Copies the history of what was closed.
+/// A copy of the history of what was closed.
 fn history_in(
     alloc: Global,
     closed: &Result<Closed<'_>, LogMismatch<'_>>,
@@ -177,7 +178,7 @@ fn history_in(
     }
 }
 
-/// Closes, and copies the history.
+/// Closes the lock, and copies the history.
 fn closed<L: Rig>(
     alloc: Global,
     shared: Shared<'_, L>,
@@ -192,7 +193,7 @@ fn closed<L: Rig>(
     history_in(alloc, &closed)
 }
 
-/// Runs all boards and closes.
+/// Runs all boards, and closes the lock.
 fn run_opened<L: Rig + Send + Sync, G: Gate + Sync, R: Threads + Wait + Sync>(
     rt: &R,
     alloc: Global,
@@ -216,7 +217,7 @@ fn run_opened<L: Rig + Send + Sync, G: Gate + Sync, R: Threads + Wait + Sync>(
     Ok(ran)
 }
 
-/// Opens a backplane, runs all its boards and closes.
+/// Opens a backplane, runs all its boards, and closes the lock.
 fn run_and_close<L: Rig + Send + Sync, G: Gate + Sync, R: Threads + Wait + Sync>(
     rt: &R,
     alloc: Global,
@@ -233,7 +234,7 @@ fn run_and_close<L: Rig + Send + Sync, G: Gate + Sync, R: Threads + Wait + Sync>
     run_opened(rt, alloc, shared, seats, gate, bounds, rooms)
 }
 
-/// A backplane with boards in so many slots, and rooms of these sizes.
+/// A backplane with boards in that many slots, and rooms of these sizes.
 fn benches<'r>(
     alloc: Global,
     rest: &mut Rest<'r>,
@@ -257,7 +258,7 @@ pub fn run_in_rooms<G: Gate + Sync, R: Threads + Wait + Sync>(
     run_under(rt, alloc, slots, Version::One, gate, turns, sizes)
 }
 
-/// The same under the rules of a version.
+/// Runs boards under the rules of a version, in rooms of these sizes, one for each driver.
 fn run_under<G: Gate + Sync, R: Threads + Wait + Sync>(
     rt: &R,
     alloc: Global,
@@ -274,8 +275,9 @@ fn run_under<G: Gate + Sync, R: Threads + Wait + Sync>(
     run_and_close::<Brand, G, R>(rt, alloc, blank, backplane, gate, bounds, rooms)
 }
 
-/// One board asks. `acceptance/failing-calls` refuses each of this test's calls for memory in turn: it ends by the name of
-/// what was refused, L2 and L3 among them, or as it does else.
+/// One board requests the bus. `acceptance/failing-calls` refuses each of this test's calls for
+/// memory in turn. The test then fails with the name of what was refused, L2 and L3 among them, or
+/// it ends as it does otherwise.
 #[test]
 fn refused_memory(rt: HostRuntime) -> Result<(), Fail> {
     let ran = run_in_rooms(&rt, rt.alloc(), 1, &OpenGate, 1, &[(AMPLE, AMPLE); 2])?;
@@ -284,8 +286,8 @@ fn refused_memory(rt: HostRuntime) -> Result<(), Fail> {
     Ok(())
 }
 
-/// Neither threads one after the other nor a lock that is held while the gate is called, before a turn or after it, gets
-/// through this.
+/// This test fails if the threads run one after another, or if a lock is held while the gate is
+/// called, before a turn or after it.
 #[test]
 fn all_run_at_once(rt: HostRuntime) -> Result<(), Fail> {
     let gate = Together::new();
@@ -295,13 +297,13 @@ fn all_run_at_once(rt: HostRuntime) -> Result<(), Fail> {
     Ok(())
 }
 
-/// The sizes of the rooms of three drivers, where that of slot 1 is short.
+/// The sizes of the rooms of three drivers; that of slot 1 is too short.
 const SHORT: [[(usize, usize); 3]; 2] = [
     [(AMPLE, AMPLE), (16, AMPLE), (AMPLE, AMPLE)],
     [(AMPLE, AMPLE), (AMPLE, 0), (AMPLE, AMPLE)],
 ];
 
-/// Without room a board makes no edge, and the others go on.
+/// A board without room makes no edge, and the others go on.
 #[test]
 fn a_short_room(rt: HostRuntime) -> Result<(), Fail> {
     for sizes in &SHORT {
@@ -337,14 +339,14 @@ fn a_board_that_stops_as_owner(rt: HostRuntime) -> Result<(), Fail> {
     Ok(())
 }
 
-/// Whether a backplane of its own takes the whole history of 21 boards.
+/// Whether a backplane of its own accepts the whole history of 21 boards.
 fn is_legal(alloc: Global, version: Version, history: &[Edge]) -> Result<bool, Fail> {
     let mut region = Region::new(alloc, MEMORY)?;
     let mut again = boards(alloc, &mut region.rest(), 21, version)?;
     Ok(again.run(history).refused == 0)
 }
 
-/// How many edges stand in the logs.
+/// How many edges the logs have.
 fn logged(ran: &Ran) -> usize {
     let mut logged = 0;
     for log in &ran.logs {
@@ -353,8 +355,9 @@ fn logged(ran: &Ran) -> usize {
     logged
 }
 
-/// 21 boards, a hundred times over in both versions: each closed history is legal, and as long as the logs, and their gate is
-/// told of as many edges. In its first turn each board asks. Where it may withdraw, a grant often comes before it does.
+/// 21 boards, a hundred times in each version. Each closed history is legal and has as many edges
+/// as the logs, and the gate is called for as many edges. In its first turn each board requests the
+/// bus. If it may withdraw, a grant often comes before it does.
 #[test]
 fn many_boards_many_times(rt: HostRuntime) -> Result<(), Fail> {
     for run in 0..100u8 {
@@ -376,7 +379,7 @@ fn many_boards_many_times(rt: HostRuntime) -> Result<(), Fail> {
     Ok(())
 }
 
-/// Makes an edge of slot 1, which then stands in no log.
+/// Makes an edge of slot 1, which no log has.
 #[tactic(auto, using(vme_lock::proofs::SeatsAndLogs::drivers_set))]
 fn make_otherwise<L: Rig, R: Wait>(
     rt: &R,
@@ -400,7 +403,7 @@ enum Made {
     Behind(Edge),
 }
 
-/// Closes, and answers which driver's log differs, and where.
+/// Closes the lock, and returns the driver whose log differs, and the place.
 fn differing<L: Rig>(
     shared: Shared<'_, L>,
     seats: Seats<L>,
@@ -417,7 +420,8 @@ fn differing<L: Rig>(
     }
 }
 
-/// Makes an edge after the last turn, and then the same.
+/// Makes an edge after the last turn, closes the lock, and returns the driver whose log differs,
+/// and the place.
 fn differing_behind<L: Rig, R: Wait>(
     rt: &R,
     shared: Shared<'_, L>,
@@ -440,7 +444,8 @@ fn differing_behind<L: Rig, R: Wait>(
     }
 }
 
-/// Makes an edge before the boards run or after, and answers which driver's log differs, and where.
+/// Makes an edge before the boards run or after, and returns the driver whose log differs, and the
+/// place.
 fn mismatch_of<L: Rig + Send + Sync, G: Gate + Sync, R: Threads + Wait + Sync>(
     rt: &R,
     alloc: Global,
@@ -464,7 +469,7 @@ fn mismatch_of<L: Rig + Send + Sync, G: Gate + Sync, R: Threads + Wait + Sync>(
     differing_behind(rt, shared, seats, logs.as_slice(), made)
 }
 
-/// Opens a backplane, and makes an edge on it that stands in no log.
+/// Opens a backplane, and makes an edge on it that no log has.
 fn mismatch<L: Rig + Send + Sync, G: Gate + Sync, R: Threads + Wait + Sync>(
     rt: &R,
     alloc: Global,
@@ -482,7 +487,8 @@ fn mismatch<L: Rig + Send + Sync, G: Gate + Sync, R: Threads + Wait + Sync>(
     mismatch_of(rt, alloc, shared, seats, gate, bounds, rooms, made)
 }
 
-/// The same in rooms of these sizes, one for each driver.
+/// Opens a backplane with rooms of these sizes, one for each driver, and makes an edge on it that
+/// no log has.
 fn mismatch_in_rooms<G: Gate + Sync, R: Threads + Wait + Sync>(
     rt: &R,
     alloc: Global,
@@ -508,7 +514,8 @@ fn an_edge_before_the_boards_run(rt: HostRuntime) -> Result<(), Fail> {
     Ok(())
 }
 
-/// The request stands in the log of slot 1 and the grant in the controller's, and that the bus was taken in none.
+/// The log of slot 1 has the request, the controller's log has the grant, and no log has the edge
+/// that takes the bus.
 #[test]
 fn an_edge_behind_the_last_turn(rt: HostRuntime) -> Result<(), Fail> {
     let made = Made::Behind(fall(FIRST, Wire::Bbsy));
@@ -518,17 +525,17 @@ fn an_edge_behind_the_last_turn(rt: HostRuntime) -> Result<(), Fail> {
     Ok(())
 }
 
-/// What a worker is given, and what it does with it.
+/// What is given to a worker, and what it does with it.
 #[derive(Clone, Copy)]
 struct Task<'e> {
     /// Whether the gate is open.
     open: bool,
     bounds: Bounds,
-    /// The bytes for scratch and for the log.
+    /// The bytes for scratch memory and for the log.
     sizes: (usize, usize),
-    /// Why it ends.
+    /// Why the worker ends.
     spent: Spent,
-    /// The edges in its log.
+    /// The edges of its log.
     edges: &'e [Edge],
 }
 
@@ -554,7 +561,7 @@ fn idles(open: bool, sizes: (usize, usize), spent: Spent) -> Task<'static> {
     }
 }
 
-/// Whether these edges stand in a log, and no others.
+/// Whether a log has these edges, and no others.
 pub fn is_log_of(log: &Log<'_>, edges: &[Edge]) -> bool {
     for place in 0..log.len() {
         if edges.get(place as usize).copied() != Some(log.edge_at(place)) {
@@ -564,7 +571,7 @@ pub fn is_log_of(log: &Log<'_>, edges: &[Edge]) -> bool {
     log.len() as usize == edges.len()
 }
 
-/// What a worker did, and what its gate was told.
+/// Asserts what a worker did, and how its gate was called.
 fn assert_worked(rt: &impl Abort, task: Task<'_>, log: &Log<'_>, spent: Spent, gate: &Counts) {
     assert!(rt; spent == task.spent);
     assert!(rt; spent != Spent::Turns || gate.calls() == task.bounds.turns);
@@ -586,7 +593,7 @@ fn work<L: Rig, R: Wait + Abort>(
     Ok(seat)
 }
 
-/// What slot 1 sees after its request.
+/// Asserts what slot 1 sees after its request.
 fn assert_seen<L: Rig, R: Wait + Abort>(
     rt: &R,
     shared: &Shared<'_, L>,
@@ -598,7 +605,7 @@ fn assert_seen<L: Rig, R: Wait + Abort>(
     Ok(())
 }
 
-/// The edges that slot 1 is refused after its request.
+/// Asserts which edges of slot 1 are refused after its request.
 fn assert_refused<L: Rig, R: Wait + Abort>(rt: &R, shared: &Shared<'_, L>, first: &mut Seat<L>) {
     for other in [SECOND, Driver::Slot(0), Driver::Controller] {
         let refused = shared.edge(rt, first, fall(other, Wire::Br));
@@ -609,7 +616,8 @@ fn assert_refused<L: Rig, R: Wait + Abort>(rt: &R, shared: &Shared<'_, L>, first
     assert!(rt; first.made() == 1);
 }
 
-/// Without room for an edge or for its log a worker makes none, and then it requests.
+/// Asserts that a worker without room for an edge or for its log makes no edge, and that slot 1
+/// then requests the bus.
 fn request<L: Rig, R: Wait + Abort>(
     rt: &R,
     shared: &Shared<'_, L>,
@@ -623,7 +631,7 @@ fn request<L: Rig, R: Wait + Abort>(
     work(rt, shared, first, makes(&[fall(FIRST, Wire::Br)], 1), rest)
 }
 
-/// The turns of the bus's owner.
+/// Asserts the turns of the bus's owner.
 fn tenure<L: Rig, R: Wait + Abort>(
     rt: &R,
     shared: &Shared<'_, L>,
@@ -643,7 +651,7 @@ fn tenure<L: Rig, R: Wait + Abort>(
     Ok(())
 }
 
-/// A worker ends at 8 edges in the history, and at a gate that is shut.
+/// Asserts that a worker ends at 8 edges in the history, and at a gate that is shut.
 fn no_turn<L: Rig, R: Wait + Abort>(
     rt: &R,
     shared: &Shared<'_, L>,
@@ -657,7 +665,7 @@ fn no_turn<L: Rig, R: Wait + Abort>(
     Ok(())
 }
 
-/// The turns of two workers, one after the other on one thread.
+/// Asserts the turns of two workers, one after another on one thread.
 fn one_thread<L: Rig, R: Wait + Abort>(
     rt: &R,
     shared: &Shared<'_, L>,
@@ -712,8 +720,8 @@ fn turns_of_a_worker(rt: HostRuntime) -> Result<(), Fail> {
     one_board::<Brand, _>(&rt, rt.alloc(), Blank::new(22), backplane, &mut rest)
 }
 
-/// A worker makes an edge in each turn, and answers the length of its log: alone, and under the second version, a board
-/// requests and withdraws in turn.
+/// Works a seat that makes an edge in each turn, and returns the length of its log. Alone, and
+/// under the second version, a board requests and withdraws in turn.
 fn filled<L: Rig, R: Wait + Abort>(
     rt: &R,
     alloc: Global,
@@ -735,7 +743,7 @@ fn filled<L: Rig, R: Wait + Abort>(
     Ok(log.len())
 }
 
-/// Fills a room of these sizes with so many edges, and answers the length of the log.
+/// Fills a room of these sizes with that many edges, and returns the length of the log.
 fn filled_in<R: Wait + Abort>(
     rt: &R,
     alloc: Global,

@@ -8,7 +8,7 @@ use vme_arena::{Region, Rest};
 use vme_model::{Cycle, Driver, Edge, Wire};
 use vme_store::{Store, Trace, TraceError};
 
-/// A trace of so many edges on leases of these sizes, at the front of a rest.
+/// A trace of `max` edges on leases of these sizes, at the front of a rest.
 fn trace_on<'r>(
     alloc: Global,
     rest: &mut Rest<'r>,
@@ -22,7 +22,7 @@ fn trace_on<'r>(
     Ok(Trace::new(alloc, leases, max))
 }
 
-/// How many edges a trace on leases of these sizes has room for, or what it is refused for.
+/// How many edges a trace on leases of these sizes has room for, or for what it is refused.
 fn max_on(
     alloc: Global,
     region: &mut Region,
@@ -35,14 +35,14 @@ fn max_on(
     }
 }
 
-/// What a trace on a region of so many bytes is refused for.
+/// For what a trace on a region of `bytes` bytes is refused, if it is.
 fn refusal_on(alloc: Global, bytes: usize, max: u32) -> Result<Option<TraceError>, Fail> {
     let mut region = Region::new(alloc, bytes)?;
     let mut rest = region.rest();
     Ok(Trace::on(alloc, &mut rest, max).err())
 }
 
-/// An edge that tells its place from those beside it.
+/// An edge of a bus request, different from the edges of the places beside it.
 fn request(place: u32) -> Edge {
     Edge {
         driver: Driver::Slot((1 + place % 21) as u8),
@@ -80,7 +80,7 @@ fn keeps(store: &Store<'_>, places: &[u32]) -> bool {
     true
 }
 
-/// Fills a trace of so many edges, and looks at these places, and at the one after the last.
+/// Fills a trace of `max` edges, and asserts the edges at these places and the one after the last.
 fn assert_filled<R: Abort>(rt: &R, trace: Trace<'_>, max: u32, places: &[u32]) {
     let mut store = Store::new(trace);
     assert!(rt; store.len() == 0 && store.max() == max);
@@ -111,7 +111,7 @@ fn pages_and_their_bytes(rt: HostRuntime) {
     assert!(rt; bytes == [0, 16, 256, 262_144]);
 }
 
-/// Whether a region of so many bytes refuses a stretch of one more.
+/// Whether a region of `bytes` bytes refuses a stretch of one byte more.
 fn is_short(alloc: Global, bytes: usize) -> Result<bool, Fail> {
     let mut short = Region::new(alloc, bytes)?;
     Ok(short.rest().carve(bytes.saturating_add(1)).is_err())
@@ -157,14 +157,15 @@ fn a_rest_is_too_short_or_a_trace_too_long(rt: HostRuntime) -> Result<(), Fail> 
 /// One lease for two pages.
 const ONE_FOR_TWO: TraceError = TraceError::WrongLeases { need: 2, given: 1 };
 
-/// The sizes of leases, the edges that a trace is to hold on them, and how many it has room for or what it is refused for.
+/// The sizes of leases, the edges that a trace is to hold on them, and how many it has room for or
+/// for what it is refused.
 type Case = (&'static [usize], u32, Result<u32, TraceError>);
 
 const IN_THEIR_ORDER: [Case; 8] = [
     (&[], 1_048_577, Err(TraceError::TooMany)),
     (&[262_144], 65_537, Err(ONE_FOR_TWO)),
     (&[16], 0, Err(TraceError::WrongLeases { need: 0, given: 1 })),
-    // A wrong number of leases comes before one that is too short.
+    // A wrong number of leases is reported before a lease that is too short.
     (&[0], 65_537, Err(ONE_FOR_TWO)),
     (&[262_144, 0], 65_537, Err(TraceError::NoRoom)),
     (&[0, 262_144], 65_537, Err(TraceError::NoRoom)),
@@ -172,7 +173,8 @@ const IN_THEIR_ORDER: [Case; 8] = [
     (&[], 0, Ok(0)),
 ];
 
-/// On a region of so many bytes each case has its answer: the region is whole again after each.
+/// Asserts that on a region of `bytes` bytes each case has its answer. The region is whole again
+/// after each case.
 fn assert_answers<R: AllocGlobal + Abort>(
     rt: &R,
     bytes: usize,
@@ -190,7 +192,7 @@ fn refusals_in_their_order(rt: HostRuntime) -> Result<(), Fail> {
     assert_answers(&rt, 600_000, &IN_THEIR_ORDER)
 }
 
-/// What is refused leaves the region whole for what is made.
+/// After a refusal the region is whole for what is made.
 const REFUSED_AND_MADE: [Case; 4] = [
     (&[256, 0], 65_537, Err(TraceError::NoRoom)),
     (&[256, 0], 65_537, Err(TraceError::NoRoom)),
@@ -267,7 +269,7 @@ fn an_acknowledge_and_an_access_come_back(rt: HostRuntime) -> Result<(), Fail> {
     Ok(())
 }
 
-/// Fills a store on another thread, which hands it back, and tells its length.
+/// Fills a store on another thread, which returns it, and returns its length.
 fn filled_elsewhere<R: Threads + Wait + Sync>(rt: &R, store: Store<'_>) -> Option<u32> {
     thread::scope(thread::scope_env(), rt, |scope| {
         let worker = scope.spawn(move || {

@@ -15,8 +15,8 @@ use vme_backplane::Backplane;
 use vme_lock::{Bounds, Rig, Room, Spent, work_board};
 use vme_model::{Driver, Version, Wire};
 
-/// The controller looks once and finds no offer, and waits for two turns. Then its gate has slot 1 request the bus, and the
-/// next turn grants it. The gate takes the lock after each turn.
+/// The controller looks once and finds no offer, and waits for two turns. Then its gate makes slot
+/// 1 request the bus, and the next turn grants it. The gate takes the lock after each turn.
 fn grants_at_once<L: Rig, R: Wait + Abort>(
     rt: &R,
     alloc: Global,
@@ -53,7 +53,8 @@ fn an_edge_ends_the_waiting(rt: HostRuntime) -> Result<(), Fail> {
     grants_at_once::<Brand, _>(&rt, rt.alloc(), Blank::new(22), backplane, room)
 }
 
-/// 2,000 turns without an offer take less than 1,000 naps of another thread, since a worker sleeps in 100 of them alone.
+/// 2,000 turns without an offer take less than 1,000 naps of another thread, since a worker sleeps
+/// in only 100 of them.
 #[test]
 fn naps_end(rt: HostRuntime) -> Result<(), Fail> {
     let gate = Naps::new(&rt, 2000, 1000);

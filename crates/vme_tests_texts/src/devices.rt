@@ -1,8 +1,8 @@
-//! Readers and writers that give and take little, and fail.
+//! Readers and writers that give and take little at a time, and that fail.
 use std::alloc::Global;
 use std::io::{self, ErrorKind, Read, Write};
 
-/// A reader that gives at most so many bytes a read. Two of its reads may fail.
+/// A reader that gives at most a given number of bytes at each read. Two of its reads may fail.
 #[derive(Drop)]
 pub struct Pieces<'a> {
     left: &'a [u8],
@@ -23,12 +23,12 @@ impl<'a> Pieces<'a> {
         }
     }
 
-    /// The same, where the read of this number, counted from 1, fails.
+    /// The reader, whose read of this number, counted from 1, fails.
     pub fn failing_at(self, failing: u32) -> Pieces<'a> {
         Pieces { failing, ..self }
     }
 
-    /// The same, where the read of this number is interrupted.
+    /// The reader, whose read of this number is interrupted.
     pub fn interrupted_at(self, interrupted: u32) -> Pieces<'a> {
         Pieces {
             interrupted,
@@ -59,7 +59,7 @@ impl<'a> Read for Pieces<'a> {
     }
 }
 
-/// A writer that takes `room` bytes, at most so many a write, and then fails.
+/// A writer that takes `room` bytes, a given number at most at each write, and then fails.
 #[derive(Drop)]
 pub struct Narrow {
     taken: Vec<u8>,
@@ -76,7 +76,7 @@ impl Narrow {
         }
     }
 
-    /// What it took.
+    /// The bytes that it took.
     pub fn taken(&self) -> &[u8] {
         self.taken.as_slice()
     }

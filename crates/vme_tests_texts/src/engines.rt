@@ -1,5 +1,5 @@
-//! What no clause says of the engines: the texts of their faults, and that each seed is told before
-//! it is tried, and its edges while it is.
+//! What no clause says of the engines: the texts of their faults, and that each seed is reported
+//! before it is tried, and its edges while it is.
 use std::process::Abort;
 use vme_engines::{EngineFault, Progress, drive_found};
 use vme_goals::{Event, Goal};
@@ -66,7 +66,7 @@ impl Progress for Heard {
     }
 }
 
-/// Which of the seeds from 0 to `last` comes to an event, and what was heard of.
+/// Which of the seeds from 0 to `last` reaches an event, and what was reported.
 fn sought(rt: &impl AllocGlobal, edges: u32, last: u64, event: Event) -> (Option<u64>, Heard) {
     let mut heard = Heard {
         seeds: 0,
@@ -88,7 +88,7 @@ fn sought(rt: &impl AllocGlobal, edges: u32, last: u64, event: Event) -> (Option
     (answer.unwrap_or(None), heard)
 }
 
-// What the trace of seed 10 is, the cases of `drive --until` show.
+// The trace of seed 10 is shown by the cases of `drive --until`.
 #[test]
 fn seeds_are_told_in_order(rt: HostRuntime) {
     for (last, seed, seeds) in [(9, None, 10), (20, Some(10), 11)] {

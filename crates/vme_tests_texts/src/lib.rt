@@ -1,8 +1,8 @@
-//! The tests of what is read and written, over public calls alone: traces, scenarios, the words of the command line and the
-//! texts of faults, with devices that fail.
+//! The tests of what is read and written, over public calls alone: traces, scenarios, the words of
+//! the command line and the texts of faults, with devices that fail.
 //!
-//! The proof of a body grows with the square of what lives in it. So cases stand in tables, and what is asserted of a case
-//! stands in a small function.
+//! The proof of a body grows with the square of the number of its live variables. So cases stand in
+//! tables, and what is asserted for a case stands in a small function.
 #![tactic(auto)]
 
 #[cfg(test)]

@@ -13,12 +13,13 @@ const MOST: u32 = 16_777_216;
 /// The most tries of a call that is interrupted.
 const TRIES: u32 = 65_536;
 
-/// A reader that gives a byte a read: a head, and after it some lines again and again, so many bytes in all.
+/// A reader that gives one byte at each read: a head, and after it some lines again and again, up
+/// to `most` bytes in all.
 #[derive(Drop)]
 struct Drops<'a> {
-    /// What comes again and again.
+    /// What is given again and again.
     lines: &'a [u8],
-    /// What comes before.
+    /// What is given before that.
     next: &'a [u8],
     most: u32,
     reads: u32,
@@ -81,7 +82,7 @@ slot = 1
 requester = { level = 3, release = \"rwd\", burst = 1 }
 ";
 
-/// The same board, and the header line after it: 106 bytes.
+/// The scenario of one board, and the header line after it: 106 bytes.
 const BOARD_AND_HEADER: &[u8] = b"slots = 1
 arbiter = \"sgl\"
 
@@ -97,7 +98,7 @@ const NO_BOARD: &[u8] = b"21 addr- r21\n";
 /// The lines of one tenure of the bus: 42 bytes.
 const TENURE: &[u8] = b"1 br-\nc bg3-\n1 bbsy-\n1 br+\nc bg3+\n1 bbsy+\n";
 
-/// What `joined` answers. Its contract ends here, so that it is not proved again at each device.
+/// What `joined` returns. It has no contract, so that it is not proved again for each device.
 fn joined_from<R: Read, W: Write>(
     rt: &impl AllocGlobal,
     input: &mut R,
@@ -106,7 +107,7 @@ fn joined_from<R: Read, W: Write>(
     joined(rt.alloc(), input, out)
 }
 
-/// What `replay` answers for a trace on the backplane of one board.
+/// What `replay` returns for a trace on the backplane of one board.
 fn replayed_from<R: Read, W: Write>(
     rt: &impl AllocGlobal,
     trace: &mut R,
@@ -115,7 +116,7 @@ fn replayed_from<R: Read, W: Write>(
     replay(rt.alloc(), ONE_BOARD, trace, out)
 }
 
-/// What `check` answers for a trace on the backplane of one board.
+/// What `check` returns for a trace on the backplane of one board.
 fn checked_from<R: Read, W: Write>(
     rt: &impl AllocGlobal,
     trace: &mut R,
@@ -138,7 +139,7 @@ fn a_scenario_without_end_is_read_so_often(rt: HostRuntime) {
     assert_same(&rt, (input.reads, out.bytes), (MOST, 0));
 }
 
-// After the header line stand 1,290,554 whole lines of 13 bytes, and a part of a further one.
+// After the header line there are 1,290,554 whole lines of 13 bytes, and a part of another one.
 #[test]
 fn a_trace_without_end_is_read_so_often(rt: HostRuntime) {
     let mut trace = Drops::new(b"vme 1\n", NO_BOARD, u32::MAX);
@@ -148,7 +149,7 @@ fn a_trace_without_end_is_read_so_often(rt: HostRuntime) {
     assert_same(&rt, (trace.reads, out.bytes), (MOST, 13_084_990));
 }
 
-// The reads of the scenario count too, so that 1,290,546 whole lines stand after it.
+// The reads of the scenario count too, so there are 1,290,546 whole lines after it.
 #[test]
 fn a_trace_without_end_after_its_scenario_is_read_so_often(rt: HostRuntime) {
     let mut input = Drops::new(BOARD_AND_HEADER, NO_BOARD, u32::MAX);
@@ -168,7 +169,7 @@ fn a_long_trace_is_read_to_its_end(rt: HostRuntime) {
     assert_same(&rt, out.as_slice(), b"legal 60000\n".as_slice());
 }
 
-/// A writer that counts how often it is to hand on what it holds back.
+/// A writer that counts how often it is flushed.
 #[derive(Drop)]
 struct Flushes {
     count: u32,
@@ -185,7 +186,8 @@ impl Write for Flushes {
     }
 }
 
-// Behind the byte that ends the header line, each of the 42 others, and the closing line.
+// A flush after the byte that ends the header line, after each of the 42 other bytes, and after the
+// closing line.
 #[test]
 fn each_short_piece_is_handed_on(rt: HostRuntime) {
     let mut out = Flushes { count: 0 };
@@ -210,7 +212,8 @@ fn a_check_is_handed_on_once(rt: HostRuntime) {
     assert_same(&rt, out.count, 1);
 }
 
-// 147,006 bytes are two pieces of 69,632 and a short one: behind the first, the last, and the closing line.
+// 147,006 bytes are two pieces of 69,632 bytes and a short one. There is a flush after the first
+// piece, after the last one, and after the closing line.
 #[test]
 fn a_whole_piece_is_held_back(rt: HostRuntime) -> Result<(), AllocError> {
     let mut text = Vec::new(rt.alloc());
@@ -225,11 +228,11 @@ fn a_whole_piece_is_held_back(rt: HostRuntime) -> Result<(), AllocError> {
     Ok(())
 }
 
-/// A text behind a reader or a writer whose first calls are interrupted, so many of them.
+/// A text behind a reader or a writer, whose first calls are interrupted.
 #[derive(Drop)]
 struct Interrupted<'a> {
     left: u32,
-    /// What is to be read.
+    /// What is left to read.
     text: &'a [u8],
     /// How many bytes were written.
     bytes: usize,
@@ -273,7 +276,7 @@ impl<'a> Write for Interrupted<'a> {
     }
 }
 
-/// How often a read is interrupted, what it answers, and how many interruptions are left.
+/// How often a read is interrupted, what it returns, and how many interruptions are left.
 const INTERRUPTED: [(u32, Result<usize, Fault>, u32); 4] = [
     (0, Ok(0), 0),
     (TRIES - 1, Ok(0), 0),
@@ -290,7 +293,8 @@ fn an_interrupted_read_is_tried_so_often(rt: HostRuntime) {
     }
 }
 
-/// How often a write is interrupted, what it answers, how many interruptions are left, and how many bytes were taken.
+/// How often a write is interrupted, what it returns, how many interruptions are left, and how many
+/// bytes were taken.
 const INTERRUPTED_WRITES: [(u32, Result<(), Fault>, u32, usize); 4] = [
     (0, Ok(()), 0, 5),
     (TRIES - 1, Ok(()), 0, 5),
@@ -307,7 +311,7 @@ fn an_interrupted_write_is_tried_so_often(rt: HostRuntime) {
     }
 }
 
-// A flush takes no byte. It is tried so often whether the writer is patient or not.
+// A flush takes no byte. It is tried equally often whether the writer is patient or not.
 #[test]
 fn an_interrupted_flush_is_tried_so_often(rt: HostRuntime) {
     for (times, want, left, _) in INTERRUPTED_WRITES {
@@ -320,7 +324,8 @@ fn an_interrupted_flush_is_tried_so_often(rt: HostRuntime) {
     }
 }
 
-/// The report of one tenure on a writer that is interrupted so often: the answer, the interruptions left, the bytes taken.
+/// The report of one tenure on a writer that is interrupted `times` times: the answer, the
+/// interruptions left, and the bytes taken.
 fn reported(rt: &impl AllocGlobal, times: u32) -> (Result<Status, EngineFault>, u32, usize) {
     let mut trace = Drops::new(b"vme 1\n", TENURE, 48);
     let mut out = Patient(Interrupted::new(times, b""));
@@ -354,7 +359,8 @@ fn an_interrupted_scenario_is_tried_so_often(rt: HostRuntime) {
     assert_same(&rt, (input.0.left, text.len()), (u32::MAX - TRIES, 0));
 }
 
-/// What an input of a scenario and a header line answers that is interrupted so often, and how many bytes are written.
+/// What an input of a scenario and a header line returns if it is interrupted `times` times, and
+/// how many bytes are written.
 fn joined_so(rt: &impl AllocGlobal, times: u32) -> (Result<Status, EngineFault>, u64) {
     let mut input = Interrupted::new(times, BOARD_AND_HEADER);
     let mut out = Counting { bytes: 0 };
@@ -373,7 +379,7 @@ fn an_interrupted_input_is_tried_so_often(rt: HostRuntime) {
     assert_same(&rt, bytes, 0);
 }
 
-/// What a read of a trace answers that is interrupted so often: it has no header line.
+/// What a read of a trace returns if it is interrupted `times` times. The trace has no header line.
 fn pumped(rt: &impl AllocGlobal, times: u32) -> Result<bool, Fault> {
     let mut edges: Vec<Edge> = Vec::new(rt.alloc());
     pump(

@@ -1,5 +1,5 @@
-//! A scenario with every key that there is, and the plan that it makes. What is refused, and with which text, has cases in
-//! `acceptance/cases/scenario-faults`.
+//! A scenario with every key that there is, and the plan that it describes. What is refused, and
+//! with which text, has cases in `acceptance/cases/scenario-faults`.
 use crate::asserts::assert_same;
 use std::process::Abort;
 use vme_model::{ArbiterKind, ChainId, IrqKind, Release};
@@ -52,7 +52,7 @@ fn assert_second_board(rt: &impl Abort, plan: &Plan) {
     assert_same(rt, found, (7, IrqKind::Roak, 66));
 }
 
-/// Asserts that the board in slot 4 gives the bus up where another requests it.
+/// Asserts that the board in slot 4 gives the bus up when another board requests it.
 fn assert_fourth_board(rt: &impl Abort, plan: &Plan) {
     let fourth = plan.row(4).expect(rt, "slot 4");
     let requester = fourth.requester.expect(rt, "requester");

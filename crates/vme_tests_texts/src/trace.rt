@@ -7,7 +7,7 @@ use std::test::Fail;
 use vme_model::{Cycle, Driver, Edge, Version, Wire};
 use vme_trace::{Fault, Reader, parse, pump, put, write};
 
-/// Two boards ask for an interrupt at one level; the handler serves both.
+/// Two boards request an interrupt at one level; the handler serves both.
 const TWO_SERVED: &[u8] =
     b"vme 1\n2 irq-\n3 irq-\n1 br-\nc bg3-\n1 bbsy-\n1 br+\nc bg3+\n1 addr- i4\n1 as-\n1 ds-\nc iack-\n3 dtack-\n2 dtack-\n1 ds+\n2 dtack+\n2 irq+\n1 addr+\n1 as+\n1 addr- i4\n1 as-\nc iack+\n1 as-\n1 ds-\nc iack-\n2 iackout-\n3 dtack-\n";
 
@@ -20,7 +20,7 @@ fn board_edge(slot: u8, wire: Wire, fall: bool, value: Option<Cycle>) -> Edge {
     }
 }
 
-/// Asserts what the reader answers to a piece.
+/// Asserts what the reader returns for a piece.
 fn assert_fed(
     rt: &impl Abort,
     reader: &mut Reader,
@@ -31,7 +31,7 @@ fn assert_fed(
     assert_same(rt, reader.feed(piece, edges), want);
 }
 
-/// Asserts what the reader answers to one read of the input.
+/// Asserts what the reader returns for one read of the input.
 fn assert_pumped(
     rt: &impl Abort,
     reader: &mut Reader,
@@ -42,7 +42,7 @@ fn assert_pumped(
     assert_same(rt, pump(reader, input, edges), want);
 }
 
-/// Asserts what the reader answers to the end of the trace.
+/// Asserts what the reader returns at the end of the trace.
 fn assert_finished(rt: &impl Abort, reader: &mut Reader, want: Result<(), Fault>) {
     assert_same(rt, reader.finish(), want);
 }
@@ -51,7 +51,7 @@ fn assert_edges(rt: &impl Abort, edges: &[Edge], want: &[Edge]) {
     assert_same(rt, edges, want);
 }
 
-/// Asserts which version the reader has read of.
+/// Asserts which version the reader has read.
 fn assert_version(rt: &impl Abort, reader: &Reader, want: Option<Version>) {
     assert_same(rt, reader.version(), want);
 }
@@ -91,7 +91,7 @@ fn assert_two_pieces(rt: &(impl Abort + AllocGlobal), front: &[u8], rest: &[u8],
     assert_same(rt, (place, edges.as_slice()), (place, whole));
 }
 
-/// Asserts that `TWO_SERVED` has these edges where each read gives a byte.
+/// Asserts that `TWO_SERVED` has these edges if each read gives one byte.
 fn assert_byte_by_byte(rt: &(impl Abort + AllocGlobal), whole: &[Edge]) {
     let mut edges = Vec::new(rt.alloc());
     let mut input = Pieces::new(TWO_SERVED, 1);
@@ -104,7 +104,7 @@ fn assert_byte_by_byte(rt: &(impl Abort + AllocGlobal), whole: &[Edge]) {
     assert_edges(rt, &edges, whole);
 }
 
-/// Asserts what `parse` answers, and gives the edges that it read.
+/// Asserts what `parse` returns, and returns the edges that it read.
 fn assert_parsed(
     rt: &(impl Abort + AllocGlobal),
     text: &[u8],
@@ -158,7 +158,7 @@ fn written(rt: &(impl Abort + AllocGlobal), version: Version, edges: &[Edge]) ->
     text
 }
 
-/// Asserts that this text is what is written of these edges.
+/// Asserts that this text is written for these edges.
 fn assert_written(rt: &(impl Abort + AllocGlobal), version: Version, edges: &[Edge], want: &[u8]) {
     let text = written(rt, version, edges);
     assert_same(rt, text.as_slice(), want);
@@ -193,7 +193,7 @@ const WIRES: [Wire; 16] = [
     Wire::Dtack,
 ];
 
-/// Appends the fall and the rise of a wire with a value, where they are well formed.
+/// Appends the fall and the rise of a wire with a value, if they are well formed.
 fn push_both(
     edges: &mut Vec<Edge>,
     driver: Driver,
@@ -242,7 +242,8 @@ fn every_edge(alloc: Global) -> Result<Vec<Edge>, AllocError> {
     Ok(edges)
 }
 
-// The controller has 7 wires, and a board 8 without a value. Each falls and rises. An address rises, and falls with 28 values.
+// The controller has 7 wires, and a board has 8 without a value. Each of them falls and rises. An
+// address rises, and falls with 28 values.
 #[test]
 fn every_edge_is_read_as_it_was_written(rt: HostRuntime) -> Result<(), AllocError> {
     let edges = every_edge(rt.alloc())?;
@@ -253,7 +254,7 @@ fn every_edge_is_read_as_it_was_written(rt: HostRuntime) -> Result<(), AllocErro
     Ok(())
 }
 
-/// What is no trace, and its fault.
+/// Texts that are not a trace, and their faults.
 const NO_TRACES: [(&[u8], Fault); 8] = [
     (b"", Fault::Header),
     (b"vme 1", Fault::CutOff),
@@ -277,7 +278,7 @@ const LINE: Result<(), Fault> = Err(Fault::Line { n: 2 });
 
 const LONG: Result<(), Fault> = Err(Fault::TooLong { n: 2 });
 
-/// What stands after the header line, and what the reader answers.
+/// Texts after the header line, and what the reader returns for them.
 const SECOND_LINES: [(&[u8], Result<(), Fault>); 26] = [
     (b"\n", LINE),
     (b"01 br-\n", LINE),
@@ -316,7 +317,7 @@ const SECOND_LINES: [(&[u8], Result<(), Fault>); 26] = [
     (b"c bclr+\n", Ok(())),
 ];
 
-/// Asserts what the reader answers where this stands after the header line.
+/// Asserts what the reader returns if this text stands after the header line.
 fn assert_second_line(rt: &(impl Abort + AllocGlobal), text: &[u8], want: Result<(), Fault>) {
     let mut edges = Vec::new(rt.alloc());
     let mut reader = Reader::new();
@@ -373,7 +374,7 @@ fn a_read_that_fails_is_the_last(rt: HostRuntime) {
     assert_same(&rt, edges.len(), 1);
 }
 
-/// Asserts that an edge that can be written cannot be put out.
+/// Asserts that an edge that can be spelled cannot be written to this writer.
 fn assert_not_written(rt: &impl Abort, edge: Edge, out: &mut Narrow) {
     if edge.is_well_formed() {
         assert_same(rt, write(Version::One, &[edge], out), Err(Fault::Write));
@@ -388,7 +389,8 @@ fn a_write_that_fails_leaves_a_front(rt: HostRuntime) {
     assert_same(&rt, put(&mut out, b"r-"), Err(Fault::Write));
 }
 
-/// Each way to read asks for memory for a list of edges, which `acceptance/failing-calls` refuses in turn.
+/// Each way to read needs memory for a list of edges. `acceptance/failing-calls` refuses each
+/// request in turn.
 #[test]
 fn each_reading_finds_memory(rt: HostRuntime) -> Result<(), Fail> {
     let text: &[u8] = b"vme 1\n1 br-\n";

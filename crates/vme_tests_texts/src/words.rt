@@ -1,10 +1,11 @@
-//! What the command line means. What is told of words that mean nothing, and of help, `acceptance/words` has.
+//! What the words of the command line mean. What is printed for usage errors and for help is in
+//! `acceptance/words`.
 use std::process::Abort;
 use vme_goals::{Event, Goal, Miss};
 use vme_model::{Condition, IrqKind, Version};
 use vme_words::{Job, words};
 
-/// Asserts which job words mean.
+/// Asserts for which job words ask.
 fn assert_job(rt: &(impl Abort + AllocGlobal), given: &[&str], wanted: Job) {
     match words(rt.alloc(), given) {
         Ok(job) => assert!(rt; job == wanted),
@@ -99,7 +100,7 @@ fn reads_where_the_state_is_asked(rt: HostRuntime) {
     }
 }
 
-/// What to show of trace `T`: the words, the first edge, the last one, and whether it is painted.
+/// What to show of trace `T`: the words, the first edge, the last one, and whether it is coloured.
 const SHOWS: [(&[&str], u64, u64, bool); 17] = [
     (&["show", "S", "T"], 1, 60, false),
     (&["show", "S", "T", "--color"], 1, 60, true),
@@ -241,7 +242,7 @@ fn reads_what_to_draw(rt: HostRuntime) {
     }
 }
 
-/// What a trace is to end with: the word, the goal and the version.
+/// With what a trace is to end: the word, the goal and the version.
 const GOALS: [(&str, Goal, &str, Version); 7] = [
     (
         "iack-passed",

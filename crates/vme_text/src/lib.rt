@@ -1,4 +1,4 @@
-//! A text that is put together in memory before it is written.
+//! A buffer in which a text is put together before it is written.
 #![tactic(auto)]
 
 mod texts;

@@ -3,19 +3,20 @@ ghost use Rattle.std.specs.Prelude.{◌≡◌, ◌+◌, ◌<◌, ◌≤◌, ◌�
 
 use std::marker::Model;
 
-/// How many bytes of the row of a line are copied.
+/// How many bytes of a line's row are copied.
 const ROW: usize = 24;
 
-/// How many bytes of the tail of a line are copied.
+/// How many bytes of a line's tail are copied.
 const TAIL: usize = 8;
 
-/// How many bytes a text holds at most.
+/// The most bytes that a text holds.
 pub const ROOM: usize = 8_192;
 
-/// For how many more bytes a text has room that is not nearly full: more than any ten lines have.
+/// If a text is not nearly full, it has room for at least this many bytes: more than any ten lines
+/// have.
 pub const LINE_ROOM: usize = 640;
 
-/// A text that is put together before it is written: at most 8,192 bytes.
+/// A buffer in which a text is put together before it is written. It holds at most 8,192 bytes.
 #[derive(Drop)]
 pub struct Text {
     bytes: [u8; ROOM],
@@ -33,7 +34,7 @@ impl Model for Text {
 }
 
 impl Text {
-    /// No bytes.
+    /// An empty text.
     pub fn new() -> Text
         ensures { result ≡ [] }
     {
@@ -43,7 +44,7 @@ impl Text {
         }
     }
 
-    /// The bytes.
+    /// The bytes of the text.
     #[inline(always)]
     pub fn as_slice(&self) -> &[u8]
         ensures { result.now ≡ self.now }
@@ -51,7 +52,7 @@ impl Text {
         &self.bytes[..self.len]
     }
 
-    /// Forgets the bytes.
+    /// Empties the text.
     #[inline(always)]
     pub fn clear(&mut self)
         ensures { self.new ≡ [] }
@@ -59,7 +60,7 @@ impl Text {
         self.len = 0;
     }
 
-    /// Whether there is room for fewer than [`LINE_ROOM`] bytes more.
+    /// Whether there is room for fewer than [`LINE_ROOM`] more bytes.
     #[inline(always)]
     pub fn is_nearly_full(&self) -> bool
         ensures { IsTrue result ↔ ROOM < length self.now + LINE_ROOM }
@@ -67,8 +68,8 @@ impl Text {
         self.len > ROOM - LINE_ROOM
     }
 
-    /// Appends the first `many` bytes of a row, of which the first `N` are copied: what then stands
-    /// after the text does not matter, and a copy of a fixed length is the quickest.
+    /// Appends the first `many` bytes of a row, at most `N`. It copies `N` bytes, since a copy of a
+    /// fixed length is the fastest; the bytes beyond the text's new end do not matter.
     #[inline(always)]
     pub fn append<const N: usize>(&mut self, row: &[u8], many: usize)
         requires row { N ≤ length row.now }
@@ -81,8 +82,9 @@ impl Text {
         self.len = len + many;
     }
 
-    /// Appends a line: the first `many` bytes of a row, a digit, and the first `size` bytes of a tail. The tail is handed
-    /// over as a value, since bytes behind a reference could be the text's own for all that the compiler knows.
+    /// Appends a line: the first `many` bytes of a row, a digit, and the first `size` bytes of a
+    /// tail. The tail is passed by value: behind a reference, the compiler could not know that its
+    /// bytes are not those of the text itself.
     #[inline(always)]
     pub fn append_line(&mut self, row: &[u8], many: usize, digit: u8, tail: [u8; TAIL], size: usize)
         requires row { ROW ≤ length row.now }
@@ -96,11 +98,11 @@ impl Text {
         self.bytes[len..len + ROW].copy_from_slice(&row[..ROW]);
         self.bytes[end] = digit;
         self.bytes[end + 1..end + 1 + TAIL].copy_from_slice(&tail);
-        // In one sum of what is known before, so that the next line waits for no more than that.
+        // One sum of what is known beforehand, so that the next line waits for nothing else.
         self.len = len + (many + 1 + size);
     }
 
-    /// Appends bytes, however many.
+    /// Appends bytes. The text has to have room for them.
     pub fn push(&mut self, bytes: &[u8])
         requires { length self.old + length bytes.now ≤ ROOM }
         ensures { self.new ≡ self.old ++ bytes.now }

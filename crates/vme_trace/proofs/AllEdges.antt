@@ -112,7 +112,7 @@ in_levels s h =
     let b : leb s 7 ≡ true = both_right (leb 1 s) (leb s 7) h in
     in_up_to 7 s (grind (arith, nat_tests)) (grind (arith, nat_tests))
 
--- a driver with some wire
+-- the driver is in the list of all drivers if it has some wire
 in_drivers : (d : Driver) (w : Wire) → has_wire d w ≡ true → In d all_drivers
 in_drivers Controller w h = inl refl
 in_drivers (Slot s) (Bg n) h = absurd (true_false (sym h))

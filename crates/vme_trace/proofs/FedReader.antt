@@ -128,7 +128,7 @@ pub on_any : (r : Result Version Fault) (P : Type 0) → P → OnOk r P
 on_any (Ok x) P h = h
 on_any (Err f) P h = tt
 
--- the fault that the end of the input answers
+-- the fault that the reader returns at the end of the input
 same_fault : (t : TextFault) (f : Fault) → ◌≡◌ {A = Result (Unit {0}) Fault} (Err f) (Err (fault_of t)) → Some (fault_of t) ≡ Some f
 same_fault t f h = let e : f ≡ fault_of t = cc in ap (λ x. Some x) (sym e)
 

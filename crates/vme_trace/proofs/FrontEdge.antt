@@ -17,7 +17,7 @@ use Rattle.vme_trace.specs.Fronts.{First, IsFrontLine, first_driver, first_contr
 use Rattle.vme_trace.proofs.AllEdges.{In, in_slots, in_levels, edge}
 use Rattle.vme_trace.proofs.Lines.{true_false}
 
--- P holds of each
+-- P holds for each
 abbrev AllOf : (ℕ → Type 0) → List ℕ → Type 0
 AllOf P [] = Unit {0}
 AllOf P (x ∷ xs) = P x × AllOf P xs
@@ -78,7 +78,7 @@ slots_found = (
   ),
 )
 
--- a board with some wire is that of a slot
+-- a board that has some wire is the board of a slot
 is_slot_of : (s : ℕ) (w : Wire) → has_wire (Slot s) w ≡ true → is_slot s ≡ true
 is_slot_of s (Bg n) h = absurd (true_false (sym h))
 is_slot_of s Bclr h = absurd (true_false (sym h))
@@ -189,7 +189,7 @@ value_found Addr true (Some (Acknowledge v)) h rest = ap as_value (all_in FindsL
 value_found Addr true (Some (Access s)) h rest = ap as_value (all_in FindsAccess s (up_to 21) accesses_found (in_slots s h) rest)
 value_found w fall (Some c) h rest = absurd (true_false (sym h))
 
--- ---- the parts of a line, one after the other
+-- ---- the parts of a line, one after another
 
 infixl 10 ◌>>=◌
 abbrev ◌>>=◌ : {A B : Type 0} → Option A → (A → Option B) → Option B
@@ -221,7 +221,7 @@ front_found e text rest front =
     ap first_edge (front.is ∙ laid_out (driver_text e.driver) (wire_text e.wire) (sign e.fall) (argument e.value) rest)
     ∙ chained e.driver e.wire e.fall e.value rest k.0 k.1
 
--- ---- where a part is missing there is no edge
+-- ---- if a part is missing, there is no edge
 
 pub no_driver : (text : List ℕ) → first_driver text ≡ None → first_edge text ≡ None
 unfolding first_edge

@@ -1,4 +1,4 @@
--- Bytes as numbers: of two lines with one number, each is the other.
+-- Bytes as numbers: two lines with the same number are the same.
 use Rattle.std.proofs.Common.{◌≡◌, ◌<◌, ◌≤◌, ◌+◌, ◌-◌, ◌*◌, ◌^◌, ◌%◌, ℕ, zero, suc, List, [], ◌∷◌, ◌++◌, get_or, take, drop, bit_and, arith, refl, sym, ◌∙◌, ap}
 use Rattle.std.proofs.lemmas.List.{drop-take}
 use Rattle.std.proofs.lemmas.Nat.{and_mask, mod-mul-add, pow-add}
@@ -65,7 +65,7 @@ take-take (suc j) zero xs h = absurd (omega arith)
 take-take (suc j) (suc k) [] h = refl
 take-take (suc j) (suc k) (x ∷ xs) h = ap (λ l. x ∷ l) (take-take j k xs (omega arith))
 
--- two words of a text, of which so many bytes are kept
+-- two words of a text, of which only some bytes are kept
 module _ (xs : List ℕ) (bytes : AreBytes xs) (low high : ℕ) (low_is : low ≡ number_of (take 8 xs)) (high_is : high ≡ number_of (take 8 (drop 8 xs))) where
   pub in_low : (k : ℕ) → k ≤ 8 → bit_and low (worth k - 1) + 2 ^ 64 * bit_and high 0 ≡ number_of (take k xs)
   in_low k h =

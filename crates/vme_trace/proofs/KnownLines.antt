@@ -42,7 +42,7 @@ join_lines bytes rest rest' old mid new h k = record {
   appended = k.appended ∙ ap (λ l. l ++ k.es) h.appended ∙ append_assoc old h.es k.es;
 }
 
--- ---- a line that is kept
+-- ---- a line that is remembered
 
 module _ (text : List ℕ) (start line : ℕ) where
   abbrev here : List ℕ
@@ -70,7 +70,7 @@ module _ (text : List ℕ) (start line : ℕ) where
     pub kept_line : IsFrontLine e here (drop (start + line + 1) text)
     kept_line = let P : List ℕ → Type 0 = λ l. IsFrontLine e here l in subst P (sym others ∙ behind) front
 
-  -- ---- a line that was kept
+  -- ---- a line that was remembered
 
   module _ (key : ℕ) (small : (k : ℕ) → get_or text k 0 < 256) (key_is : key ≡ number_of (take (line + 1) here)) (within : start + line < length text)
       (feed : get_or text (start + line) 0 ≡ 10) where

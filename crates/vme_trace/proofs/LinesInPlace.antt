@@ -1,4 +1,4 @@
--- The lines of a piece that are read where they lie.
+-- The lines of a piece that are read in place.
 use Rattle.std.proofs.Common.{◌≡◌, ◌<◌, ◌≤◌, ◌+◌, ◌-◌, ◌^◌, min, zero, suc, append_assoc, append-nil, All, sym, ◌∙◌, ℕ, Bool, true, cond, List, [], ◌∷◌, ◌++◌, length, Option, Some, None, is_some, subst, refl, ap, arith, length-append}
 use Rattle.vme_model.specs.declared.signals.Version.{Version}
 use Rattle.vme_model.specs.declared.signals.Edge.{Edge}
@@ -81,7 +81,7 @@ fails_at : (w : Option Version) (v : Version) (n : ℕ) (part rest : List ℕ) (
     → Fails (Some v) (place n []) rest old new (Some v) f → Fails w (place n part) rest old new w f
 fails_at w v n part rest old new f is none h = rw (is, none) h
 
--- Where the version is known and no line is begun, lines at the front of the rest were read.
+-- If the version is known and no line has begun, lines at the front of the rest were read.
 module _ (v w : Option Version) (p : Place) (n : ℕ) (part piece rest : List ℕ) (old mid new : List Edge) (so_far : Taken v p piece rest old mid w (place n part))
     (known : is_some w ≡ true) (none : part ≡ []) where
   pub lines_taken : (m : ℕ) (rest' : List ℕ) → ((version : Version) → (taken : List ℕ) × (rest ≡ taken ++ rest')

@@ -1,4 +1,4 @@
--- A line spells at most one edge, and it is found in it.
+-- A line spells at most one edge, and that edge is found in it.
 use Rattle.std.proofs.Common.{◌≡◌, ◌≢◌, ◌<◌, ◌≤◌, ◌⊎◌, ◌&&◌, not, leb, ℕ, Bool, true, false, eqb, List, [], ◌∷◌, ◌++◌, length, get_or, drop, Option, Some, None, option_map, refl, sym, ◌∙◌, ap, arith, inl, inr, append-nil, length-append}
 use Rattle.std.proofs.lemmas.Bool.{and_parts}
 use Rattle.std.proofs.lemmas.Bool.Decides.{nat_tests}
@@ -61,7 +61,7 @@ spelled line e h =
           absurd (true_false (sym (ap (λ l. bytes_eq l (spelling e)) h.1 ∙ bytes_same (spelling e)) ∙ f))
     ]
 
--- what no edge is spelled as
+-- a line that spells no edge is read as none
 no_edge : (line : List ℕ) → ((e : Edge) → Spells line e → ⊥) → edge_of line ≡ None
 no_edge line not =
     elim (some_or_none (edge_of line)) [
@@ -78,7 +78,7 @@ is_one_line (b ∷ bs) = not (eqb b 10) && is_one_line bs
 abbrev fits : Edge → Bool
 fits e = is_one_line (spelling e) && leb (length (spelling e)) 15
 
--- so does the spelling of every well-formed edge: computed for each of them
+-- the spelling of every well-formed edge has that property: computed for each edge
 all_fit : list_all fits all_edges ≡ true
 unfolding all_edges
 all_fit = refl

@@ -1,4 +1,4 @@
--- What is written of edges is read as those edges.
+-- What is written for edges is read as those edges.
 use Rattle.std.proofs.Common.{◌≡◌, ◌≤◌, ℕ, true, List, [], ◌∷◌, length, Some, None, All, IsTrue, refl, ◌∙◌, ap, arith}
 use Rattle.std.proofs.lemmas.List.Elements.{All-head, All-tail}
 use Rattle.vme_model.specs.declared.signals.Version.{Version}

@@ -1,4 +1,4 @@
--- Steps of a reader, one after the other.
+-- Steps of a reader, one after another.
 use Rattle.std.proofs.Common.{◌≡◌, ℕ, ◌<◌, ◌≤◌, List, [], ◌∷◌, ◌++◌, length, Option, Some, None, Result, Ok, Err, OnOk, IfErr, refl, sym, ◌∙◌, ap, append_assoc, append-nil}
 use Rattle.vme_model.specs.declared.signals.Version.{Version}
 use Rattle.vme_model.specs.declared.signals.Edge.{Edge}
@@ -21,7 +21,7 @@ if_err_map (Err e) P Q f h = f e h
 pub has_fault : (r : Reading) (v : Option Version) (t : TextFault) → r ≡ faulty v t → HasFaultAfter r v [] (fault_of t)
 has_fault r v t h = rw h (record { version_is = refl; front = ([], refl); edges_are = λ _. refl; fault_is = λ _. refl })
 
--- the same after other edges
+-- a fault after these edges is a fault after other edges and these
 pub behind_fault : (r : Reading) (v : Option Version) (es fs : List Edge) (f : Fault) → HasFaultAfter r v fs f → HasFaultAfter (with_edges es r) v (es ++ fs) f
 behind_fault r v es fs f h = record {
   version_is = h.version_is;

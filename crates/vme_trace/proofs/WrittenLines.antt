@@ -7,7 +7,7 @@ use Rattle.vme_model.specs.declared.signals.Edge.{Edge}
 use Rattle.vme_model.specs.Text.{edge_lines}
 use Rattle.vme_trace.specs.Writing.{AppendsFront, edge_line}
 
--- these bytes, but for the rest, went to a writer
+-- these bytes without the rest went to a writer
 abbrev pub Wrote : Option (List ℕ) → Option (List ℕ) → List ℕ → List ℕ → Type 0
 Wrote old new bytes rest = (front : List ℕ) × (bytes ≡ front ++ rest) × Appends old new front
 
@@ -58,7 +58,7 @@ pub line_front : (a b c : Option (List ℕ)) (es : List Edge) (i : ℕ) (d : Edg
 line_front a b c es i d x h is w more =
     wrote_front a b c (edge_lines es) x (edge_lines (drop (i + 1) es)) (rw is (rw (lines_drop es i d h) at w)) more
 
--- two texts, one after the other
+-- two texts, one after another
 pub first_front : (a b : Option (List ℕ)) (x y : List ℕ) → AppendsFront a b x → AppendsFront a b (x ++ y)
 first_front a b x y more = wrote_front a a b (x ++ y) x y ([], refl, Appends-nil a) more
 

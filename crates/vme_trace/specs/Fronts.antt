@@ -26,7 +26,7 @@ pub record IsFrontLine (e : Edge) (text rest : List ℕ) : Type 0 where
 abbrev pub First : Type 0 → Type 0
 First A = Option (A × List ℕ)
 
--- the same of what a function found
+-- what stands at the front of a text, as a function found it
 abbrev pub front_of : {A : Type 0} → Option (A × Bor (List ℕ)) → First A
 front_of found = option_map (λ p. (p.0, p.1.now)) found
 
@@ -36,7 +36,7 @@ stands [] k text = true
 stands (b ∷ []) k text = slice_index text k == b
 stands (b ∷ bs) k text = slice_index text k == b && stands bs (k + 1) text
 
--- a driver's name, and a blank
+-- a driver's name, and a space
 unfoldable pub first_driver : List ℕ → First Driver
 first_driver text =
     if slice_index text 0 == 99 && slice_index text 1 == 32 then Some (Controller, drop 2 text)
@@ -61,7 +61,7 @@ first_control_wire text =
     else if stands (codes "berr") 0 text then Some (Berr, drop 4 text)
     else None
 
--- a wire of a board: for its hold of the bus, for a transfer, and for an interrupt
+-- a wire of a board: for its request and hold of the bus, for a transfer, and for an interrupt
 unfoldable pub first_bus_wire : List ℕ → First Wire
 first_bus_wire text =
     if stands (codes "br") 0 text then Some (Br, drop 2 text)
@@ -121,7 +121,7 @@ first_slot text =
     then Some (20 + (slice_index text 1 - 48), drop 3 text)
     else None
 
--- what is shown, after a blank, and a line feed
+-- what is shown, after a space, and a line feed
 unfoldable pub first_cycle : List ℕ → First Cycle
 first_cycle text =
     if stands (codes " i") 0 text

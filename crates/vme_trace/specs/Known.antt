@@ -1,11 +1,11 @@
--- Lines that were read before, and how they are found.
+-- Lines that were read before, and how they are looked up.
 use Rattle.std.specs.Prelude.{◌≡◌, ◌<◌, ℕ, ◌+◌, ◌*◌, ◌^◌, List, [], ◌∷◌, ◌++◌, IsTrue, slice_index}
 use Rattle.vme_model.specs.declared.signals.Edge.{Edge}
 use Rattle.vme_model.specs.Signals.{is_well_formed}
 use Rattle.vme_model.specs.Text.{spelling}
 use Rattle.vme_trace.specs.declared.keys.Key.{Key}
 
--- the number that bytes are in base 256, the first one lowest
+-- the number that bytes spell in base 256, with the first byte lowest
 abbrev pub number_of : List ℕ → ℕ
 number_of [] = 0
 number_of (b ∷ bs) = b + 256 * number_of bs

@@ -1,9 +1,9 @@
 -- The definitions of a trace that is read and written in pieces. `believe` marks what a theorem
--- rests on, and `words` what only says how one function serves another.
+-- rests on, and `words` marks what only says how one function serves another.
 
--- believe: what a reader has read, and what it answers to a piece, to the end and to a whole trace
+-- believe: what a reader has read, and its answer to a piece, to the end and to a whole trace
 pub mod Reading
--- believe: what a reader answers to a piece of up to a size
+-- believe: a reader's answer to a piece of up to a given size
 pub mod Pieces
 -- believe: the line of an edge, and that a prefix of some bytes was written
 pub mod Writing

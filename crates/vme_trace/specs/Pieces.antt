@@ -1,4 +1,4 @@
--- Reading a trace in pieces of up to a size.
+-- Reading a trace in pieces of up to a given size.
 use Rattle.std.specs.Prelude.{◌≡◌, ◌⊎◌, ◌<◌, ◌≤◌, ℕ, Bool, true, false, List, [], ◌++◌, length, take, Option, None, unwrap_or, Result, Ok, Err}
 use Rattle.std.specs.Io.KnownBytes.{Consumes, IsAtEnd, Keeps}
 use Rattle.vme_model.specs.declared.signals.Edge.{Edge}
@@ -15,8 +15,8 @@ StopsUpTo size from to bytes es old new reader fault =
     × (length piece ≤ size) × Consumes from to piece × (new ≡ old ++ fs)
     × Stops reader (read_of ((bytes ++ piece) ++ unwrap_or to [])) (es ++ fs) fault
 
--- A reader took in one read of the input of up to a size, after these bytes and edges: a piece, or
--- the end. `Reading.Pumped` is this at 512 bytes.
+-- A reader took in one read of the input of up to a given size, after these bytes and edges: a
+-- piece, or the end. `Reading.Pumped` is this for 512 bytes.
 abbrev pub PumpedUpTo :
     ℕ → Option (List ℕ) → Option (List ℕ) → List ℕ → List Edge
     → List Edge → List Edge → ReaderState → Result Bool Fault → Type 0

@@ -28,8 +28,8 @@ pub record Place : Type 0 where
   pub line : ℕ
   pub part : List ℕ
 
--- a reader: the version, once the header line was read, and where it stands; nowhere once it is
--- used up
+-- a reader: the version, once the header line was read, and the place at which it stands; it has no
+-- place once it is used up
 pub record ReaderState : Type 0 where
   pub version : Option Version
   pub place : Option Place
@@ -46,9 +46,9 @@ rest_of (Some version) p bytes =
 abbrev pub with_edges : List Edge → Reading → Reading
 with_edges es r = record { version = r.version; edges = es ++ r.edges; fault = r.fault }
 
--- The reader has read these bytes, and its version and these edges are theirs: whatever bytes
--- follow, from where it stands they say what is left of the whole. It keeps no more than a part of
--- one line, so that no fault stands in the bytes.
+-- The reader has read these bytes, and its version and these edges are those of the bytes: whatever
+-- bytes follow, what they say from the reader's place on is what is left of the whole. It keeps no
+-- more than a part of one line, so no fault stands in the bytes.
 pub record HasRead (reader : ReaderState) (bytes : List ℕ) (es : List Edge) : Type 0 where
   pub place : Place
   pub stands : reader.place ≡ Some place
@@ -58,8 +58,8 @@ pub record HasRead (reader : ReaderState) (bytes : List ℕ) (es : List Edge) : 
   pub others : (more : List ℕ)
       → read_of (bytes ++ more) ≡ with_edges es (rest_of reader.version place more)
 
--- A trace of this version has a fault after these edges. Where memory was refused they are the
--- first ones, else all up to the fault.
+-- A trace of this version has a fault after these edges. They are all edges up to the fault; if
+-- memory ran out, they are only the first of them.
 pub record HasFaultAfter
     (trace : Reading) (version : Option Version) (es : List Edge) (fault : Fault)
     : Type 0 where
@@ -72,8 +72,8 @@ pub record HasFaultAfter
 abbrev pub Stops : ReaderState → Reading → List Edge → Fault → Type 0
 Stops reader trace es fault = (reader.place ≡ None) × HasFaultAfter trace reader.version es fault
 
--- A reader took in the last piece of these bytes, after these edges: the list grew by those of its
--- lines.
+-- A reader took in the last piece of these bytes, after these edges: the list grew by the edges of
+-- its lines.
 abbrev pub Fed :
     List ℕ → List Edge → List Edge → List Edge → ReaderState → Result (Unit {0}) Fault → Type 0
 Fed bytes es old new reader (Ok _) =
@@ -82,7 +82,7 @@ Fed bytes es old new reader (Err fault) =
     (fs : List Edge) × (new ≡ old ++ fs)
     × ((more : List ℕ) → Stops reader (read_of (bytes ++ more)) (es ++ fs) fault)
 
--- what the end of the input answers
+-- the answer at the end of the input
 abbrev pub answer_of : Option TextFault → Result (Unit {0}) Fault
 answer_of None = Ok tt
 answer_of (Some fault) = Err (fault_of fault)

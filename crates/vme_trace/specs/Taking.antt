@@ -32,7 +32,7 @@ pub record HasLines (bytes rest : List ℕ) (old new : List Edge) : Type 0 where
   pub is : bytes ≡ edge_lines es ++ rest
   pub appended : new ≡ old ++ es
 
--- the number of the line so many lines after another
+-- the number of the line that comes so many lines after another
 abbrev pub number_after : ℕ → ℕ → ℕ
 number_after n zero = n
 number_after n (suc k) = number_after (next_number n) k

@@ -1,13 +1,14 @@
-//! The line feeds of 64 bytes, as the bits of a number.
+//! The line feeds in 64 bytes, as the bits of a number.
 ghost use Rattle.std.specs.Prelude.{◌≡◌, ◌+◌, ◌<◌, ◌≤◌, ℕ, length, slice_index};
 ghost use Rattle.std.specs.Int.{bit_at};
 
 use std::simd::prelude::*;
 
-/// How many bytes a block has: as many as a word has bits.
+/// How many bytes a block has: as many as a word of 64 bits has bits.
 pub(crate) const BLOCK: usize = 64;
 
-/// The line feeds in the block at a place of a text: bit k is set for one k bytes after it.
+/// The line feeds in the block at a place of a text. Bit k is set only if a line feed stands k
+/// bytes after that place.
 #[inline(always)]
 pub(crate) fn feeds_at(text: &[u8], at: usize) -> u64
     requires { at + 64 ≤ length text.now }
@@ -17,7 +18,7 @@ pub(crate) fn feeds_at(text: &[u8], at: usize) -> u64
     block.simd_eq(u8x64::splat(b'\n')).to_bitmask()
 }
 
-/// The lowest bit that is set.
+/// The place of the lowest bit that is set, from 0. One has to be set.
 #[inline(always)]
 pub(crate) fn lowest(bits: u64) -> usize
     requires { 0 < bits }
@@ -26,7 +27,7 @@ pub(crate) fn lowest(bits: u64) -> usize
     bits.trailing_zeros() as usize
 }
 
-/// All bits that are set, but for the lowest.
+/// The bits that are set, without the lowest one. One has to be set.
 #[inline(always)]
 pub(crate) fn without_lowest(bits: u64) -> u64
     requires { 0 < bits }

@@ -1,4 +1,4 @@
-//! Which edge the line at the front of a text spells, read part by part where it lies.
+//! The edge that the line at the front of a text spells, read part by part in place.
 ghost use Rattle.std.specs.Prelude.{◌≡◌, ◌≢◌, ℕ, List, [], ◌++◌, ◌∷◌, IsTrue, IfSome, IfNone, Some, None};
 ghost use Rattle.vme_model.specs.declared.signals.Edge.{Edge};
 ghost use Rattle.vme_model.specs.Signals.{is_slot, is_level, has_wire, has_value, is_in_range, is_well_formed};
@@ -9,7 +9,7 @@ use crate::writer::{LINE, push_text};
 use arrayvec::ArrayVec;
 use vme_model::{Cycle, Driver, Edge, Wire};
 
-/// The driver whose name and blank stand at the front of a text, and the rest of the text.
+/// The driver whose name and space stand at the front of a text, and the rest of the text.
 #[inline(always)]
 #[tactic(auto, unfolding(crate::specs::Fronts::first_driver))]
 fn driver_at(text: &[u8]) -> Option<(Driver, &[u8])>
@@ -47,7 +47,8 @@ fn control_wire_at(text: &[u8]) -> Option<(Wire, &[u8])>
     }
 }
 
-/// The word of a wire by which a board asks for the bus, passes it on or holds it, at the front of a text, and the rest of the text.
+/// The wire by which a board requests the bus, passes it on or holds it, whose word stands at the
+/// front of a text, and the rest of the text.
 #[inline(always)]
 #[tactic(auto, unfolding(crate::specs::Fronts::first_bus_wire))]
 fn bus_wire_at(text: &[u8]) -> Option<(Wire, &[u8])>
@@ -63,7 +64,7 @@ fn bus_wire_at(text: &[u8]) -> Option<(Wire, &[u8])>
     }
 }
 
-/// The word of a wire of a transfer, at the front of a text, and the rest of the text.
+/// The wire of a transfer whose word stands at the front of a text, and the rest of the text.
 #[inline(always)]
 #[tactic(auto, unfolding(crate::specs::Fronts::first_transfer_wire))]
 fn transfer_wire_at(text: &[u8]) -> Option<(Wire, &[u8])>
@@ -80,7 +81,8 @@ fn transfer_wire_at(text: &[u8]) -> Option<(Wire, &[u8])>
     }
 }
 
-/// The word of a wire of a board's interrupts at the front of a text, and the rest of the text.
+/// The wire of a board's interrupter whose word stands at the front of a text, and the rest of the
+/// text.
 #[inline(always)]
 #[tactic(auto, unfolding(crate::specs::Fronts::first_interrupt_wire))]
 fn interrupt_wire_at(text: &[u8]) -> Option<(Wire, &[u8])>
@@ -169,7 +171,7 @@ fn slot_at(text: &[u8]) -> Option<(u8, &[u8])>
     }
 }
 
-/// What is shown at the front of a text, after a blank, and the rest of the text after a line feed.
+/// What is shown, at the front of a text after a space, and the rest of the text after a line feed.
 #[inline(always)]
 #[tactic(auto, unfolding(crate::specs::Fronts::first_cycle))]
 fn cycle_at(text: &[u8]) -> Option<(Cycle, &[u8])>
@@ -191,7 +193,7 @@ fn cycle_at(text: &[u8]) -> Option<(Cycle, &[u8])>
     }
 }
 
-/// No value and a line feed at the front of a text, and the rest of the text.
+/// No value, if a line feed stands at the front of a text, and the rest of the text after it.
 #[inline(always)]
 #[tactic(auto, unfolding(crate::specs::Fronts::first_end))]
 fn end_at(text: &[u8]) -> Option<(Option<Cycle>, &[u8])>
@@ -205,7 +207,8 @@ fn end_at(text: &[u8]) -> Option<(Option<Cycle>, &[u8])>
     }
 }
 
-/// What an edge of a wire shows, at the front of a text, and the rest of the text after a line feed.
+/// What an edge of a wire shows, at the front of a text, and the rest of the text after a line
+/// feed.
 #[inline(always)]
 #[tactic(auto, unfolding(crate::specs::Fronts::first_value))]
 fn value_at(wire: Wire, fall: bool, text: &[u8]) -> Option<(Option<Cycle>, &[u8])>
@@ -222,7 +225,8 @@ fn value_at(wire: Wire, fall: bool, text: &[u8]) -> Option<(Option<Cycle>, &[u8]
     }
 }
 
-/// The edge whose line, with its line feed, stands at the front of a text, and the rest of the text.
+/// The edge whose line, with its line feed, stands at the front of a text, and the rest of the
+/// text.
 #[inline(always)]
 pub(crate) fn edge_at(text: &[u8]) -> Option<(Edge, &[u8])>
     ensures found { IfSome result (λ found. IsFrontLine found.0 text.now found.1.now) }
@@ -243,7 +247,8 @@ pub(crate) fn edge_at(text: &[u8]) -> Option<(Edge, &[u8])>
     Some((edge, rest))
 }
 
-/// The edge that a line spells, without its line feed, if there is one.
+/// The edge that a line spells, given without its line feed; none if it spells no edge.
+/// docs/TRACES.md has the spellings.
 pub fn edge_of(line: &[u8]) -> Option<Edge>
     ensures { result ≡ edge_of line.now }
 {

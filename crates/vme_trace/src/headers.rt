@@ -4,7 +4,8 @@ ghost use Rattle.vme_model.specs.Text.{version_of, header};
 
 use vme_model::Version;
 
-/// The version that a header line names, without its line feed; none where the line is no header line.
+/// The version that a header line names, given without its line feed; none if the line is not a
+/// header line. docs/TRACES.md describes it.
 pub fn header_of(line: &[u8]) -> Option<Version>
     ensures { result ≡ version_of line.now }
 {
@@ -17,7 +18,7 @@ pub fn header_of(line: &[u8]) -> Option<Version>
     }
 }
 
-/// The header line of a version, with its line feed.
+/// The header line of a version, with its line feed. docs/TRACES.md describes it.
 pub fn header_line(version: Version) -> &'static [u8]
     ensures { result.now ≡ header version ++ 10 ∷ [] }
 {

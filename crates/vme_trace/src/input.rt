@@ -12,10 +12,12 @@ use std::alloc::Allocator;
 use std::io::Read;
 use vme_model::Edge;
 
-/// One read of up to 512 bytes, fed to the reader: false at the end of the input, where the reader is finished.
+/// Reads the input once, up to 512 bytes, and feeds them to the reader. The result is false at the
+/// end of the input; the reader is finished then.
 ///
-/// Errors: those of `Reader::feed` and `Reader::finish`; X5 where the read failed. A read that was interrupted is tried
-/// again, at most 65,535 times. On a reader that is used up nothing is read.
+/// # Errors
+/// The errors of `Reader::feed` and `Reader::finish`; X5 if the read failed. A read that was
+/// interrupted is tried again, at most 65,535 times. If the reader is used up, nothing is read.
 pub fn pump<R: Read, A: Allocator>(
     reader: &mut Reader,
     input: &mut R,
@@ -33,10 +35,12 @@ pub fn pump<R: Read, A: Allocator>(
     pump_with(reader, input, edges, &mut buffer)
 }
 
-/// One read of up to as many bytes as a buffer has room for, fed to the reader: false at the end of the input, where the
-/// reader is finished. A line costs less in a large buffer.
+/// Reads the input once, up to as many bytes as a buffer has room for, and feeds them to the
+/// reader. The result is false at the end of the input; the reader is finished then. A line costs
+/// less in a large buffer.
 ///
-/// Errors: those of [`pump`]. On a reader that is used up nothing is read.
+/// # Errors
+/// The errors of [`pump`]. If the reader is used up, nothing is read.
 pub fn pump_with<R: Read, A: Allocator>(
     reader: &mut Reader,
     input: &mut R,
@@ -55,10 +59,11 @@ pub fn pump_with<R: Read, A: Allocator>(
     pump_counted(reader, input, edges, buffer).0
 }
 
-/// What [`pump_with`] does and answers, and how many bytes the read gave, which are the first of the buffer.
+/// Does what [`pump_with`] does and returns its result, and how many bytes the read gave. They are
+/// the first bytes of the buffer.
 ///
-/// Where they are fewer than it has room for, nothing else was waiting: whoever writes the input pauses, or it ends.
-/// They are none where the read failed, or there was no read.
+/// If they are fewer than the buffer has room for, no more input was waiting: its writer pauses, or
+/// the input ends. The number is 0 if the read failed, or if there was no read.
 pub fn pump_counted<R: Read, A: Allocator>(
     reader: &mut Reader,
     input: &mut R,
@@ -97,9 +102,11 @@ pub fn pump_counted<R: Read, A: Allocator>(
     }
 }
 
-/// One read of up to 512 bytes, which was not interrupted: how many bytes it gave, none only at the end of the input.
+/// Reads the input once, up to 512 bytes, and returns how many bytes the read gave. The number is 0
+/// only at the end of the input. A read that was interrupted is tried again.
 ///
-/// Errors: X5 where the read failed, or was interrupted 65,536 times.
+/// # Errors
+/// X5 if the read failed, or was interrupted 65,536 times.
 pub fn read_piece<R: Read>(input: &mut R, buffer: &mut [u8; 512]) -> Result<usize, Fault>
     ensures ok { IfOk result
         (ReadsPiece (R.remaining input.old) (R.remaining input.new) buffer.new) }

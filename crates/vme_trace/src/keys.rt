@@ -1,16 +1,18 @@
-//! A line and its line feed as two words, by which it is found.
+//! A line and its line feed as two words, by which it is looked up.
 ghost use Rattle.std.specs.Prelude.{◌≡◌, ◌+◌, ◌<◌, ◌≤◌, IsTrue, ◌↔◌, length, take, drop};
 ghost use Rattle.vme_trace.specs.Known.{number_of, key_number};
 
-/// How many places there are for lines that were read before, some more than the 959 lines that spell an edge.
+/// How many places there are for lines that were read before: a few more than the 959 lines that
+/// spell an edge.
 pub(crate) const PLACES: usize = 1024;
 
-/// Turns the bits of two words into those of a place.
+/// Mixes the bits of two words into those of a place.
 const MIXER: u64 = 0x8ba1_dacd_5350_09f3;
 
-/// How far the lines of each group stand from where the mixer alone would have them. The mixer and these distances were
-/// searched for until no two lines that spell an edge stood at one place; a line may be looked for at any place, so
-/// that what is read never depends on them.
+/// For each group of lines, the number that is combined, by exclusive or, with the place that the
+/// mixer alone would give them. A search found the mixer and these numbers such that no two lines
+/// that spell an edge have the same place. What is read never depends on them, since a line may be
+/// looked up at any place.
 static DISTANCES: [u8; 256] = [
     1, 54, 0, 5, 2, 0, 4, 69, 0, 10, 17, 8, 8, 2, 11, 3, 20, 14, 8, 5, 128, 4, 7, 79, 1, 27, 14,
     17, 1, 0, 85, 62, 46, 34, 11, 61, 5, 8, 244, 4, 11, 68, 2, 0, 12, 3, 19, 74, 14, 34, 12, 2, 4,
@@ -24,7 +26,7 @@ static DISTANCES: [u8; 256] = [
     30, 27, 0, 86, 0, 113, 30, 143, 90, 19, 9, 0, 4, 5, 0, 0, 0, 166, 156, 38, 35, 100, 62, 63,
 ];
 
-/// The bytes of a line that stand in its first word, by how many bytes it has before the line feed.
+/// The bytes of a line that stand in its first word, by the number of bytes before the line feed.
 static LOW: [u64; 16] = [
     0xff,
     0xffff,
@@ -44,7 +46,7 @@ static LOW: [u64; 16] = [
     0xffff_ffff_ffff_ffff,
 ];
 
-/// The bytes of a line that stand in its second word.
+/// The bytes of a line that stand in its second word, by the number of bytes before the line feed.
 static HIGH: [u64; 16] = [
     0,
     0,
@@ -64,16 +66,17 @@ static HIGH: [u64; 16] = [
     0xffff_ffff_ffff_ffff,
 ];
 
-/// A line and its line feed, at most 16 bytes: the first eight as a number, and the others.
+/// A line and its line feed, at most 16 bytes: the first eight as one number, and the others as
+/// another.
 ///
-/// They are packed so that two comparisons tell whether a line is one that was read before.
+/// Packed so, two comparisons find whether a line was read before.
 #[derive(Clone, Copy)]
 pub(crate) struct Key {
     pub(crate) low: u64,
     pub(crate) high: u64,
 }
 
-/// The first eight bytes of a text as a number, the first one lowest.
+/// The first eight bytes of a text as a number, with the first byte lowest.
 #[inline(always)]
 fn word(text: &[u8]) -> u64
     requires { 8 ≤ length text.now }
@@ -84,7 +87,7 @@ fn word(text: &[u8]) -> u64
     ])
 }
 
-/// The key of the line at a place of a text, which has so many bytes before its line feed.
+/// The key of the line at a place of a text, which has `line` bytes before its line feed.
 #[inline(always)]
 pub(crate) fn key_at(text: &[u8], at: usize, line: usize) -> Key
     requires room { at + 16 ≤ length text.now }
@@ -98,7 +101,7 @@ pub(crate) fn key_at(text: &[u8], at: usize, line: usize) -> Key
 }
 
 impl Key {
-    /// Whether the two are the key of one line.
+    /// Whether the two are the key of the same line.
     #[inline(always)]
     pub(crate) fn is_same(self, other: Key) -> bool
         ensures { IsTrue result ↔ (self ≡ other) }
@@ -106,7 +109,7 @@ impl Key {
         (self.low == other.low) & (self.high == other.high)
     }
 
-    /// Where a line of this key is looked for.
+    /// The place at which a line of this key is looked up.
     #[inline(always)]
     pub(crate) fn place(self) -> usize
         ensures { result < 1024 }

@@ -1,4 +1,4 @@
-//! Lines that were read before, found by their bytes.
+//! Lines that were read before, looked up by their bytes.
 ghost use Rattle.std.specs.Prelude.{◌≡◌, ◌≢◌, ◌+◌, ◌<◌, ◌≤◌, ℕ, List, length, slice_index, take, drop, IfOk, IfErr, IfSome};
 ghost use Rattle.vme_model.specs.declared.signals.Edge.{Edge};
 ghost use Rattle.vme_trace.specs.Fronts.{IsFrontLine};
@@ -15,7 +15,7 @@ use vme_model::{Driver, Edge, Wire};
 /// The most bytes that a line of an edge has before its line feed.
 const LONGEST: usize = 12;
 
-/// A line that was read before, and its edge; none where the key is zero.
+/// A line that was read before, and its edge; none if the key is zero.
 #[derive(Clone, Copy)]
 struct Place {
     key: Key,
@@ -23,14 +23,15 @@ struct Place {
     ghost spells: { key_number key ≢ 0 → IsKeyOf edge (key_number key) },
 }
 
-/// The lines that were read before, each at the place of its key; a later one of the same place takes it.
+/// The lines that were read before, each at the place of its key. A later line with the same place
+/// replaces an earlier one.
 #[derive(Drop)]
 pub(crate) struct Known {
     places: [Place; PLACES],
 }
 
 impl Known {
-    /// No line was read.
+    /// No line was read yet.
     #[inline(always)]
     pub(crate) fn new() -> Known {
         let none = Place {
@@ -47,9 +48,8 @@ impl Known {
         }
     }
 
-    /// The edge of the line between two places of a text, the second of which is a line feed.
-    ///
-    /// None where the line spells no edge, or the second place stands before the first.
+    /// The edge of the line between two places of a text. A line feed stands at the second place.
+    /// It is none if the line spells no edge, or the second place stands before the first.
     #[inline(always)]
     fn edge_between(&mut self, text: &[u8], start: usize, end: usize) -> Option<Edge>
         requires room { start + 16 ≤ length text.now }
@@ -58,7 +58,7 @@ impl Known {
         ensures { IfSome result
             (λ edge. IsFrontLine edge (drop start text.now) (drop (end + 1) text.now)) }
     {
-        // A place before the start wraps to more than a line may have.
+        // If `end` stands before `start`, this wraps to more than a line may have.
         let line = end.wrapping_sub(start);
         if line > LONGEST {
             return None;
@@ -71,7 +71,7 @@ impl Known {
         self.learn(text, start, line, key)
     }
 
-    /// Reads the line at a place of a text, and keeps it.
+    /// Reads the line at a place of a text, and remembers it.
     #[inline(never)]
     fn learn(&mut self, text: &[u8], start: usize, line: usize, key: Key) -> Option<Edge>
         requires within { start + line < length text.now }
@@ -88,9 +88,11 @@ impl Known {
         Some(edge)
     }
 
-    /// Reads the lines of a piece whose line feeds stand in the block at a place, as long as each spells an edge.
+    /// Reads the lines of a piece whose line feeds stand in the block at a place, as long as each
+    /// spells an edge. The first line begins at `from`. It returns where the next one begins.
     ///
-    /// The first begins at `from`. Gives where the next one begins. Errors: X6.
+    /// # Errors
+    /// X6 if memory runs out.
     #[inline(always)]
     fn take_block<A: Allocator>(
         &mut self,
@@ -124,8 +126,11 @@ impl Known {
         Ok(start)
     }
 
-    /// Reads the lines at the head of a piece, but for its last bytes, as long as each spells an edge, and gives the
-    /// rest. Errors: X6.
+    /// Reads the lines at the head of a piece, except for its last bytes, as long as each spells an
+    /// edge. It returns the rest.
+    ///
+    /// # Errors
+    /// X6 if memory runs out.
     #[inline(never)]
     pub(crate) fn take_blocks<'a, A: Allocator>(
         &mut self,

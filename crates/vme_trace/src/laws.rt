@@ -1,4 +1,5 @@
-//! What the definitions of a trace's text say together.
+//! What the definitions of a trace's text say together. The functions are laws: a call costs
+//! nothing, and gives the fact to the prover.
 ghost use Rattle.std.specs.Prelude.{◌≡◌, ◌↔◌, ℕ, List, Some, All, IsTrue};
 ghost use Rattle.vme_model.specs.declared.signals.Version.{Version};
 ghost use Rattle.vme_model.specs.declared.signals.Edge.{Edge};
@@ -6,7 +7,7 @@ ghost use Rattle.vme_model.specs.Signals.{is_well_formed};
 ghost use Rattle.vme_model.specs.Text.{edge_of, Spells, text, read_of};
 ghost use Rattle.vme_trace.specs.Texts.{whole};
 
-/// A line is read as an edge exactly where it spells that edge.
+/// A line is read as an edge exactly if it spells that edge.
 pub fn line_reads_as_spelled()
     ensures { (line : List ℕ) (e : Edge) → (edge_of line ≡ Some e) ↔ Spells line e }
 {}
@@ -21,7 +22,8 @@ pub fn edge_has_one_spelling()
     ensures { (a b : List ℕ) (e : Edge) → Spells a e → Spells b e → a ≡ b }
 {}
 
-/// The text of edges, as `write` writes it, reads as those edges in that version, without a fault.
+/// The text of edges, as `write` writes it, is read as those edges in that version, without a
+/// fault.
 pub fn text_reads_as_written()
     ensures { (version : Version) (es : List Edge) → All (λ e. IsTrue (is_well_formed e)) es
         → read_of (text version es) ≡ whole version es }

@@ -6,12 +6,13 @@ ghost use Rattle.std.specs.IoError.{error_kind};
 
 use std::io::{Error, ErrorKind, Read, Result, Write};
 
-/// How often a call is tried while it is interrupted, so that it ends where signals come without end.
+/// How often a call is tried while it is interrupted, so that it ends even if signals never stop.
 const TRIES: u32 = 65_536;
 
-/// A read; one that was interrupted is tried again, at most 65,535 times.
+/// Reads. A read that was interrupted is tried again, at most 65,535 times.
 ///
-/// Errors: those of the reader, but for an interruption; a timeout where the last try was interrupted.
+/// # Errors
+/// The errors of the reader, except for an interruption; a timeout if the last try was interrupted.
 pub(crate) fn read_patiently<R: Read>(input: &mut R, buffer: &mut [u8]) -> Result<usize>
     ensures bound { ReadsAtMost result buffer.new }
     ensures bytes { ReadConsumes (R.remaining input.old) (R.remaining input.new) result buffer.new }
@@ -27,9 +28,10 @@ pub(crate) fn read_patiently<R: Read>(input: &mut R, buffer: &mut [u8]) -> Resul
     Err(Error::from(ErrorKind::TimedOut))
 }
 
-/// A write; one that was interrupted is tried again, at most 65,535 times.
+/// Writes. A write that was interrupted is tried again, at most 65,535 times.
 ///
-/// Errors: those of the writer, but for an interruption; a timeout where the last try was interrupted.
+/// # Errors
+/// The errors of the writer, except for an interruption; a timeout if the last try was interrupted.
 pub(crate) fn write_patiently<W: Write>(out: &mut W, bytes: &[u8]) -> Result<usize>
     ensures bound { WritesAtMost result bytes.now }
     ensures bytes { WriteAppends (W.contents out.old) (W.contents out.new) result bytes.now }
@@ -45,9 +47,10 @@ pub(crate) fn write_patiently<W: Write>(out: &mut W, bytes: &[u8]) -> Result<usi
     Err(Error::from(ErrorKind::TimedOut))
 }
 
-/// A flush; one that was interrupted is tried again, at most 65,535 times.
+/// Flushes. A flush that was interrupted is tried again, at most 65,535 times.
 ///
-/// Errors: those of the writer, but for an interruption; a timeout where the last try was interrupted.
+/// # Errors
+/// The errors of the writer, except for an interruption; a timeout if the last try was interrupted.
 pub(crate) fn flush_patiently<W: Write>(out: &mut W) -> Result<()>
     ensures bytes { Keeps (W.contents out.old) (W.contents out.new) }
     ensures retried { IfErr result (λ e. error_kind e ≢ ErrorKind.Interrupted) }
@@ -62,8 +65,9 @@ pub(crate) fn flush_patiently<W: Write>(out: &mut W) -> Result<()>
     Err(Error::from(ErrorKind::TimedOut))
 }
 
-/// A reader or writer whose calls are tried again while they are interrupted, each at most 65,535 times. So what is built
-/// on it, as a buffer or a read to the end, meets no interruption, and ends.
+/// A reader or writer whose calls are tried again while they are interrupted, each at most 65,535
+/// times. So what is built on it, such as a buffer or a read to the end, meets no interruption, and
+/// ends.
 #[derive(Drop)]
 pub struct Patient<T>(pub T);
 

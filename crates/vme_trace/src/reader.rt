@@ -1,4 +1,4 @@
-//! A reader that is fed a trace in pieces.
+//! A reader to which a trace is fed in pieces.
 ghost use Rattle.std.specs.Prelude.{◌≡◌, ◌≢◌, ◌↔◌, IsTrue, ◌+◌, ◌<◌, ◌≤◌, ◌++◌, ◌∷◌, [], ℕ, List, length, drop, slice_index, None, Some, Err, Ok, OnOk, OnErr, IfOk, IfErr, IsSome, option_map};
 ghost use Rattle.vme_model.specs.declared.signals.Edge.{Edge};
 ghost use Rattle.vme_model.specs.declared.signals.Version.{Version};
@@ -16,12 +16,13 @@ use std::alloc::Allocator;
 use std::marker::Model;
 use vme_model::{Edge, Version};
 
-/// Room for a part of a line: as many bytes as a line may have.
+/// Room for a part of a line, in bytes: as many as a line may have.
 const PART: usize = 64;
 
-/// Reads a trace that comes in pieces, cut anywhere.
+/// Reads a trace that comes in pieces, cut anywhere. docs/TRACES.md describes the text.
 ///
-/// It keeps at most one unfinished line. After a fault or the end it is used up: each call answers `Fault::Failed`.
+/// It keeps at most one unfinished line. After a fault or the end it is used up, and each call
+/// returns `Fault::Failed` (X7).
 #[derive(Drop)]
 pub struct Reader {
     version: Option<Version>,
@@ -61,7 +62,8 @@ impl Reader {
         }
     }
 
-    /// The version that the header line names, once that line was read; a fault or the end leaves it as it is.
+    /// The version that the header line names; none before that line was read. A fault or the end
+    /// leaves it unchanged.
     pub fn version(&self) -> Option<Version>
         ensures { result ≡ self.now.version }
     {
@@ -70,8 +72,10 @@ impl Reader {
 
     /// Reads the next piece of the trace, and appends the edges of the lines that it completes.
     ///
-    /// Errors: the first fault of the trace (X1 to X3) as soon as it stands in the bytes read, after the edges of the
-    /// lines before it; X6 where the list could not grow; X7 after a fault or the end.
+    /// # Errors
+    /// X1 to X3, the first fault of the trace, as soon as it stands in the bytes read; the edges of
+    /// the lines before it are appended. X6 if memory runs out for the list. X7 after a fault or
+    /// the end.
     pub fn feed<A: Allocator>(
         &mut self,
         piece: &[u8],
@@ -102,7 +106,8 @@ impl Reader {
 
     /// Takes the bytes read so far as the whole trace.
     ///
-    /// Errors: X4 where the last line has no line feed; X1 where there is no line; X7 after a fault or the end.
+    /// # Errors
+    /// X4 if the last line has no line feed; X1 if there is no line; X7 after a fault or the end.
     pub fn finish(&mut self) -> Result<(), Fault>
         ensures ends { (bytes : List ℕ) (es : List Edge) → HasRead self.old bytes es
             → result ≡ answer_of (read_of bytes).fault }
@@ -131,7 +136,7 @@ impl Reader {
         self.used_up
     }
 
-    /// Ends the trace where it stands, without a look at it.
+    /// Ends the trace where it stands, without testing it.
     pub(crate) fn give_up(&mut self)
         ensures { self.new ≡ record { version = self.old.version; place = None } }
     {
@@ -141,7 +146,8 @@ impl Reader {
 
 /// Reads a whole trace, and appends its edges up to its first fault.
 ///
-/// Errors: X1 to X4, the first fault of the trace; X6 where the list could not grow.
+/// # Errors
+/// X1 to X4, the first fault of the trace; X6 if memory runs out for the list.
 pub fn parse<A: Allocator>(bytes: &[u8], edges: &mut Vec<Edge, A>) -> Result<Version, Fault>
     ensures version { IfOk result (λ version. (read_of bytes.now).version ≡ Some version) }
     ensures whole { OnOk result ((read_of bytes.now).fault ≡ None) }
@@ -159,7 +165,7 @@ pub fn parse<A: Allocator>(bytes: &[u8], edges: &mut Vec<Edge, A>) -> Result<Ver
     reader.version().ok_or(Fault::Header)
 }
 
-/// Where the first line of the text ends: at its line feed, or at the text's end.
+/// The place at which the first line of the text ends: its line feed, or the text's end.
 fn line_end(text: &[u8]) -> usize
     ensures bound { result ≤ length text.now }
     ensures clean { (k : ℕ) → k < result → slice_index text.now k ≢ 10 }
@@ -213,7 +219,7 @@ fn take_line<A: Allocator>(
     Ok(())
 }
 
-/// Reads the n-th line, which begins with the part and ends with the tail.
+/// Reads the n-th line, which begins with `part` and ends with `tail`.
 fn take_joined<A: Allocator>(
     version: &mut Option<Version>,
     n: &mut u64,
@@ -242,7 +248,7 @@ fn take_joined<A: Allocator>(
     result
 }
 
-/// Reads the beginning of the piece, a line or all of it, and gives the rest.
+/// Reads the beginning of the piece, one line or all of it, and returns the rest.
 fn take_front<'a, A: Allocator>(
     version: &mut Option<Version>,
     n: &mut u64,
@@ -272,9 +278,11 @@ fn take_front<'a, A: Allocator>(
     Ok(&piece[end..])
 }
 
-/// Reads the lines at the front of a piece where they lie, as long as each spells an edge, and gives the rest.
+/// Reads the lines at the front of a piece in place, as long as each spells an edge, and returns
+/// the rest. A line that is cut off or faulty is left for `take_front`.
 ///
-/// A line that is not read here, as it is cut off or faulty, is one for `take_front`. Errors: X6.
+/// # Errors
+/// X6 if memory runs out.
 fn take_edges<'a, A: Allocator>(
     known: &mut Known,
     n: &mut u64,

@@ -16,10 +16,11 @@ use vme_model::{Cycle, Driver, Edge, Version};
 /// Room for any line of a trace: the longest has 12 bytes and a line feed.
 pub(crate) const LINE: usize = 16;
 
-/// Writes all the bytes; with none there is no write, and no fault.
+/// Writes all the bytes. If there are none, there is no write and no fault.
 ///
-/// Errors: X8 where a write failed or took no byte; a prefix of the bytes was then written. A write that was interrupted
-/// has failed; a [`Patient`](crate::Patient) writer tries it again.
+/// # Errors
+/// X8 if a write failed or took no byte; a prefix of the bytes was written then. A write that was
+/// interrupted has failed; a [`Patient`](crate::Patient) writer tries it again.
 pub fn put<W: Write>(out: &mut W, bytes: &[u8]) -> Result<(), Fault>
     ensures ok { OnOk result (Appends (W.contents out.old) (W.contents out.new) bytes.now) }
     ensures front { OnErr result
@@ -37,9 +38,10 @@ pub fn put<W: Write>(out: &mut W, bytes: &[u8]) -> Result<(), Fault>
     Ok(())
 }
 
-/// Has the writer hand on what it holds back.
+/// Makes the writer pass on what it has buffered.
 ///
-/// Errors: X8 where that failed.
+/// # Errors
+/// X8 if that failed.
 pub fn flush<W: Write>(out: &mut W) -> Result<(), Fault>
     ensures kept { Keeps (W.contents out.old) (W.contents out.new) }
     ensures fault { IfErr result (λ fault. fault ≡ Fault.Write) }
@@ -50,7 +52,7 @@ pub fn flush<W: Write>(out: &mut W) -> Result<(), Fault>
     }
 }
 
-/// Appends a number in decimal.
+/// Appends a number below 100 in decimal. The line has to have room for 2 digits.
 fn push_number(line: &mut ArrayVec<u8, LINE>, n: u8)
     requires small { n < 100 }
     requires room { array_vec_len line.old + 2 ≤ 16 }
@@ -62,7 +64,7 @@ fn push_number(line: &mut ArrayVec<u8, LINE>, n: u8)
     line.push(b'0' + n % 10);
 }
 
-/// Appends a text.
+/// Appends a text. The line has to have room for it.
 pub(crate) fn push_text(line: &mut ArrayVec<u8, LINE>, text: &[u8])
     requires { array_vec_len line.old + length text.now ≤ 16 }
     ensures { line.new.items ≡ line.old.items ++ text.now }
@@ -72,7 +74,8 @@ pub(crate) fn push_text(line: &mut ArrayVec<u8, LINE>, text: &[u8])
     }
 }
 
-/// The spelling of an edge: its line without the line feed.
+/// The spelling of an edge: its line without the line feed, at most 12 bytes. The edge has to be
+/// well formed. docs/TRACES.md has the spellings.
 pub fn spelling_of(edge: &Edge) -> ArrayVec<u8, LINE>
     requires { IsTrue (is_well_formed edge.now) }
     ensures text { result.items ≡ spelling edge.now }
@@ -100,7 +103,7 @@ pub fn spelling_of(edge: &Edge) -> ArrayVec<u8, LINE>
     line
 }
 
-/// The line of an edge: its spelling and a line feed.
+/// The line of an edge: its spelling and a line feed. The edge has to be well formed.
 pub fn line_of(edge: &Edge) -> ArrayVec<u8, LINE>
     requires { IsTrue (is_well_formed edge.now) }
     ensures { result.items ≡ edge_line edge.now }
@@ -110,9 +113,10 @@ pub fn line_of(edge: &Edge) -> ArrayVec<u8, LINE>
     line
 }
 
-/// Writes the line of an edge.
+/// Writes the line of an edge. The edge has to be well formed.
 ///
-/// Errors: X8 where a write failed or took no byte; a prefix of the line was then written.
+/// # Errors
+/// X8 if a write failed or took no byte; a prefix of the line was written then.
 pub fn write_line<W: Write>(edge: &Edge, out: &mut W) -> Result<(), Fault>
     requires { IsTrue (is_well_formed edge.now) }
     ensures ok { OnOk result
@@ -125,6 +129,9 @@ pub fn write_line<W: Write>(edge: &Edge, out: &mut W) -> Result<(), Fault>
 }
 
 /// Writes the lines of the edges.
+///
+/// # Errors
+/// X8 if a write failed or took no byte; a prefix of the lines was written then.
 fn write_lines<W: Write>(edges: &[Edge], out: &mut W) -> Result<(), Fault>
     requires { All (λ e. IsTrue (is_well_formed e)) edges.now }
     ensures ok { OnOk result
@@ -139,9 +146,11 @@ fn write_lines<W: Write>(edges: &[Edge], out: &mut W) -> Result<(), Fault>
     Ok(())
 }
 
-/// Writes the trace of the edges: the header line and a line for each.
+/// Writes the trace of the edges: the header line, and a line for each edge. The edges have to be
+/// well formed. docs/TRACES.md describes the text.
 ///
-/// Errors: X8 where a write failed or took no byte; a prefix of the trace was then written.
+/// # Errors
+/// X8 if a write failed or took no byte; a prefix of the trace was written then.
 pub fn write<W: Write>(version: Version, edges: &[Edge], out: &mut W) -> Result<(), Fault>
     requires { All (λ e. IsTrue (is_well_formed e)) edges.now }
     ensures ok { OnOk result

@@ -38,7 +38,7 @@ apart s t differ = first (s == t) refl
     first true e = absurd (differ (grind (arith, nat_tests)))
     first false e = refl
 
--- an address group goes on: no other is
+-- if an address group goes on, no other one is on
 going_on : (p : Plan) (h : List Edge) (s : ℕ) (r : Row) (v : Option Cycle) → Stands p s r → OneAddresses (at s Addr true v ∷ h) → addressing p (at s Addr true v ∷ h) ≡ Some s
 going_on p h s r v k one =
     let e = at s Addr true v in
@@ -47,7 +47,7 @@ going_on p h s r v k one =
     find_up_to_first test p.slots s k.from_one k.to_last own
     (λ t low less. is_false (test t) (λ on. let same : t ≡ s = one t s on own in absurd (omega arith)))
 
--- or off: none is left
+-- if an address group goes off, none is left on
 gone_off : (p : Plan) (h : List Edge) (s : ℕ) (v : Option Cycle) → drive h (Slot s) Addr ≡ true → OneAddresses h → addressing p (at s Addr false v ∷ h) ≡ None
 gone_off p h s v was one =
     let e = at s Addr false v in
@@ -86,7 +86,7 @@ showing version p h s r false v ok legal allowed k d =
       shown = ap (option_and_then (λ t. last_value (at s Addr false v ∷ h) (Slot t))) off ∙ no_value v d.value;
     }
 
--- the same where the wire is known to be the address group
+-- what is shown at an edge of the wire that is known to be the address group
 pub record IsShownAt (p : Plan) (h : List Edge) (s : ℕ) (w : Wire) (fall : Bool) (v : Option Cycle) : Type 0 where
   pub addressing : addressing p (at s w fall v ∷ h) ≡ addressing_after (addressing p h) s w fall
   pub shown : shown p (at s w fall v ∷ h) ≡ v

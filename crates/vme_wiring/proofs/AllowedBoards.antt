@@ -1,4 +1,4 @@
--- A board of an accepted plan, and an edge that is allowed it.
+-- A board of an accepted plan, and an edge that the rules allow it.
 use Rattle.std.proofs.Common.{◌≡◌, refl, sym, ap, subst, ℕ, Bool, true, false, List, ◌∷◌, ◌<◌, ◌≤◌, arith}
 use Rattle.std.specs.Prelude.{◌==◌, ◌&&◌, if◌then◌else◌, not, Option, Some, None, Ok}
 use Rattle.std.specs.Option.{option_map_or, IfSome}
@@ -66,7 +66,7 @@ at s w fall v = record { driver = Slot s; wire = w; fall = fall; value = v }
 abbrev pub at_head : Wire → Bool → Option Cycle → Edge
 at_head w fall v = record { driver = Controller; wire = w; fall = fall; value = v }
 
--- what an allowed edge of a board says
+-- what an allowed edge of a board says about it
 pub record IsDriven (p : Plan) (h : List Edge) (s : ℕ) (r : Row) (w : Wire) (fall : Bool) (v : Option Cycle) : Type 0 where
   pub wire : has_wire (Slot s) w ≡ true
   pub drives : drives w r ≡ true

@@ -76,7 +76,7 @@ module _ (p : Plan) (h : List Edge) (c : ChainId) (s : ℕ) (w : Wire) (fall : B
       let number : output_number (active p c) s ≡ suc k.place = let b = k.is_at.is_below in omega (arith, b) in
       ap (slice_get (head ∷ map (outputs h w) (active p c))) number ∙ k.is_at.before
 
-  -- and one that does not work it moves none
+  -- a slot that does not work the chain moves no segment
   pub other_segments : on_chain p c s ≡ false → map (outputs after w) (active p c) ≡ map (outputs h w) (active p c)
   other_segments idle =
       map_others (on_chain p c) (outputs h w) (outputs after w) p.slots
@@ -196,7 +196,7 @@ can_move p h s r IackOut fall v k d =
     ∙ ap (λ b. Some b) d.before
 can_move p h s r w fall v k d = tt
 
--- and after one of the controller
+-- the chains after an edge of the controller
 pub chained_head : (p : Plan) (h : List Edge) (w : Wire) (fall : Bool) (v : Option Cycle) → has_wire Controller w ≡ true → chains_of p (at_head w fall v ∷ h) ≡ after_controller w fall (chains_of p h)
 chained_head p h (Bg zero) fall v has = refl
 chained_head p h (Bg (suc zero)) fall v has = refl

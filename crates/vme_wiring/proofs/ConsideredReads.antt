@@ -1,4 +1,4 @@
--- What the stored fields say of what is considered after the history.
+-- What the stored fields say about what is considered after the history.
 use Rattle.std.proofs.Common.{◌≡◌, ◌∙◌, refl, sym, ap, subst, arith, Bool, true, false, List, [], ◌∷◌, ◌++◌, ◌+◌, ◌<◌, ◌≤◌, ℕ, zero, suc, map}
 use Rattle.std.specs.Prelude.{◌&&◌, ◌==◌, if◌then◌else◌, Option, Some, None, find, nat_lt, is_some, option_map}
 use Rattle.std.specs.Option.{option_map_or, option_or, option_to_list}
@@ -32,7 +32,7 @@ find_above_zero test (suc n) =
     let last : find (λ t. nat_lt 0 t && test t) (suc n ∷ []) ≡ find test (suc n ∷ []) = rw above in
     rw (find-append, find-append, find_above_zero test n, last)
 
--- one number more fails the test
+-- one more number that fails the test
 pub none_up_to : (test : ℕ → Bool) (n : ℕ) → ((k : ℕ) → 1 ≤ k → k < n → test k ≡ false) → test n ≡ false → (k : ℕ) → 1 ≤ k → k < n + 1 → test k ≡ false
 none_up_to test n below last k from to = by_place (k == n) refl
   where
@@ -62,7 +62,7 @@ two_shown f None (Some t) = refl
 two_shown f (Some v) None = refl
 two_shown f (Some v) (Some t) = refl
 
--- so it does where a board handles these levels
+-- with what the address group may go on, if the board handles these levels
 pub record GoesOn (p : Plan) (h : List Edge) (s : ℕ) (handled : Levels) : Type 0 where
   pub row : Row
   pub handles : row.handler ≡ handled
@@ -82,7 +82,7 @@ goes_on p h s handled is = by_row (board p s) refl is
           ∙ sym (ap (λ (o : Option Row). option_map_or (λ x. map (showing (Slot s)) (cycles_of p h x)) o []) found);
     }
 
--- it does not without a board
+-- without a board the address group does not go on
 pub goes_on_none : (p : Plan) (h : List Edge) (s : ℕ) → option_map (λ r. r.handler) (board p s) ≡ None → going_on p h (Slot s) ≡ []
 goes_on_none p h s none = by_row (board p s) none
   where

@@ -9,7 +9,7 @@ up_to_next : (n : ℕ) → 1 ≤ n → up_to n ≡ up_to (n - 1) ++ n ∷ []
 up_to_next zero from = absurd (omega arith)
 up_to_next (suc n) from = let same : n ≡ suc n - 1 = omega arith in ap (λ k. up_to k ++ suc n ∷ []) same
 
--- what is made of the next number stands behind what is made of those below it
+-- what is made of the next number stands after what is made of the numbers below it
 pub next_more : {A B : Type 0} (test : A → Bool) (f : B → A) (g : ℕ → B) (n : ℕ) (o before after : List A) → 1 ≤ n →
     before ≡ o ++ filter test (map f (map g (up_to (n - 1)))) → after ≡ before ++ filter test (f (g n) ∷ []) →
     after ≡ o ++ filter test (map f (map g (up_to (n + 1 - 1))))

@@ -1,4 +1,4 @@
--- What the stored fields say of the history.
+-- What the stored fields say about the history.
 use Rattle.std.proofs.Common.{◌≡◌, ◌∙◌, refl, sym, ap, subst, ℕ, zero, suc, Bool, true, false, List, [], ◌∷◌, ◌≤◌, arith}
 use Rattle.std.specs.Prelude.{◌==◌, ◌&&◌, if◌then◌else◌, not, Option, Some, None, is_some, option_map, nat_lt}
 use Rattle.std.specs.Option.{option_map_or}
@@ -71,7 +71,7 @@ pins_of_board version p h w b r is same found =
     ∙ ap (λ b. with_inputs (pins p h Controller) (option_map_or (λ q. input_after p h (grant_chain q.level) r.slot) r.requester false) (is_some r.interrupter && b)) (reads_inputs p h chain.Iack r.slot)
     ∙ sym (ap (λ (o : Option Row). with_inputs (pins p h Controller) (option_map_or (λ x. option_map_or (λ q. input_after p h (grant_chain q.level) x.slot) x.requester false) o false) (option_map_or (λ x. is_some x.interrupter && input_after p h chain.Iack x.slot) o false)) found)
 
--- and of a slot without one
+-- the pins of a slot without a board
 pub pins_of_none : (version : Version) (p : Plan) (h : List Edge) (w : Wiring) (s : ℕ) → IsWiringOf version p h w → board p s ≡ None → w.shared ≡ pins p h (Slot s)
 pins_of_none version p h w s is none =
     is.shared

@@ -43,11 +43,11 @@ not_full true true false d n m e = cc
 not_full true true true false n m e = cc
 not_full true true true true n m e = cc
 
--- E1 asks of a well-formed edge whether there is its driver
+-- E1 asks whether a well-formed edge has a driver in the plan
 pub exists_as : (p : Plan) (e : Edge) (b : Bool) → is_well_formed e ≡ true → has_driver p e.driver e.wire ≡ b → (is_well_formed e && has_driver p e.driver e.wire) ≡ b
 exists_as p e b formed has = ap (λ f. f && has_driver p e.driver e.wire) formed ∙ has
 
--- a well-formed edge of a driver that there is
+-- a well-formed edge whose driver is in the plan
 pub exists_by : (p : Plan) (e : Edge) → is_well_formed e ≡ true → has_driver p e.driver e.wire ≡ true → (is_well_formed e && has_driver p e.driver e.wire) ≡ true
 exists_by p e formed has = exists_as p e true formed has
 
@@ -80,7 +80,7 @@ module _ (version : Version) (p : Plan) (h : List Edge) (e : Edge) where
       sym (passed_before (is_other_state (drive h e.driver e.wire) e.fall) holds AlreadyThere named last is)
       ∙ sym (ap (λ b. check b NoSuchDriver between) some)
 
-  -- the same where E1 is asked for with what a part answers
+  -- the refusal is that of the verdict, if E1 is asked for together with what a part answers
   pub refused_asked : (r : Refused) → check exists NoSuchDriver (asked version p h e) ≡ Err r → Err r ≡ verdict_but_full version p h e
   refused_asked r is = by_driver exists refl
     where
@@ -88,7 +88,7 @@ module _ (version : Version) (p : Plan) (h : List Edge) (e : Edge) where
       by_driver true some = refused r some (sym (ap (λ b. check b NoSuchDriver (asked version p h e)) some) ∙ is)
       by_driver false none = sym is ∙ ap (λ b. check b NoSuchDriver (asked version p h e)) none ∙ no_such none
 
-  -- what a board answers, which has the part that drives the wire or has not
+  -- what a board answers if it has the part that drives the wire, and if it does not
   pub board_asked : (b : Bool) → exists ≡ b → (answer : Judgement) → (b ≡ false → answer ≡ Err NoSuchDriver) → (b ≡ true → answer ≡ asked version p h e)
       → answer ≡ check exists NoSuchDriver (asked version p h e)
   board_asked b is answer lacks told = by_part b refl ∙ sym (ap (λ x. check x NoSuchDriver (asked version p h e)) is)
@@ -102,7 +102,7 @@ module _ (version : Version) (p : Plan) (h : List Edge) (e : Edge) where
       let some = driven_where_accepted exists (asked version p h e) is in
       passed some (sym (ap (λ b. check b NoSuchDriver (asked version p h e)) some) ∙ is)
 
-  -- an answer but E1 is of an edge that there is
+  -- an edge that is answered by anything but E1 has a driver in the plan
   pub exists_ruled : (n : ℕ) → verdict_but_full version p h e ≡ Err (Rule n) → exists ≡ true
   exists_ruled n is = driven_where_ruled exists n between is
 

@@ -29,7 +29,7 @@ use Rattle.vme_wiring.proofs.PullCounts.{any_pulls, IsSameElsewhere, IsMoved, pu
 use Rattle.vme_wiring.proofs.Others.{drive_same}
 use Rattle.vme_wiring.proofs.AllowedBoards.{Stands, IsDriven, at, at_head, own_after, flipped}
 
--- which boards pull, of those that pass a gate
+-- which of the boards that pass a test pull the line
 abbrev gated : (Row → Bool) → List Edge → Wire → Row → Bool
 gated gate h w q = gate q && drive h (Slot q.slot) w
 
@@ -57,7 +57,7 @@ stays p h s r w fall v gate ok k shut =
     pulls_stay p (gated gate h w) (gated gate (at s w fall v ∷ h) w) s r ok k.from_one k.to_last k.found (elsewhere gate h s w fall v)
     (gate_shut (gate r) (drive (at s w fall v ∷ h) (Slot r.slot) w) (drive h (Slot r.slot) w) shut)
 
--- of the counts by level one moves
+-- one of the counts by level moves
 by_level : (xs : List ℕ) (k l n : ℕ) (count after : ℕ → ℕ) (fall b : Bool) → (l == n) ≡ b → length xs ≡ k → l < k → n < k → ((m : ℕ) → m < k → get_or xs m 0 ≡ count m) → after l ≡ moved (count l) fall → (b ≡ false → after n ≡ count n) →
     get_or (set xs l (moved (get_or xs l 0) fall)) n 0 ≡ after n
 by_level xs k l n count after fall true is room low there old moves stays =
@@ -80,7 +80,7 @@ on_irq (Some q) n some = refl
 self : (n : ℕ) → (n == n) ≡ true
 self n = grind (arith, nat_tests)
 
--- the counts after an edge, and that the one that moves can
+-- the counts after an edge, and that the count which moves can move
 pub record IsCounted (p : Plan) (h : List Edge) (s : ℕ) (r : Row) (w : Wire) (fall : Bool) (v : Option Cycle) (l : Lines) : Type 0 where
   pub lines : IsLines p (at s w fall v ∷ h) (lines_after l r w fall)
   pub can : is_movable (count_of l r w) fall ≡ true
@@ -105,7 +105,7 @@ lines_by {p} {h} {l} br_room irq_room br irq bgout bbsy address_strobe data_stro
   dtack = dtack;
 }
 
--- a line with one count: what it is then, and that it can be so
+-- a line with one count: its count afterwards, and that it can move so
 one_count : (rows : List Row) (f g : Row → Bool) (fall : Bool) (n : ℕ) → n ≡ pulls f rows → IsMoved f g rows fall → (moved n fall ≡ pulls g rows) × (is_movable n fall ≡ true)
 one_count rows f g fall n old one = (ap (λ m. moved m fall) old ∙ sym one.count, ap (λ m. is_movable m fall) old ∙ one.can)
 
@@ -153,7 +153,7 @@ counted p h s r Addr fall v l ok k d old = record { lines = lines_by old.br_room
 counted p h s r IackOut fall v l ok k d old = record { lines = lines_by old.br_room old.irq_room old.br old.irq old.bgout old.bbsy old.address_strobe old.data_strobe old.dtack; can = one_is_movable fall }
 counted p h s r w fall v l ok k d old = let none = d.drives in absurd (cc)
 
--- the controller pulls none of them
+-- the controller pulls none of these lines
 pub uncounted : (p : Plan) (h : List Edge) (w : Wire) (fall : Bool) (v : Option Cycle) (l : Lines) → has_wire Controller w ≡ true → IsLines p h l → IsLines p (at_head w fall v ∷ h) l
 uncounted p h (Bg n) fall v l has old = lines_by old.br_room old.irq_room old.br old.irq old.bgout old.bbsy old.address_strobe old.data_strobe old.dtack
 uncounted p h Bclr fall v l has old = lines_by old.br_room old.irq_room old.br old.irq old.bgout old.bbsy old.address_strobe old.data_strobe old.dtack

@@ -77,7 +77,7 @@ boards_after version p h s r w fall v boards ok k room old t = by_slot (t == s) 
 boards_kept : (version : Version) (p : Plan) (h : List Edge) (w : Wire) (fall : Bool) (v : Option Cycle) (boards : List (Option Board)) → IsBoards version p h boards → IsBoards version p (at_head w fall v ∷ h) boards
 boards_kept version p h w fall v boards old t = old t ∙ other_board version p h (at_head w fall v) (board p t) (λ r found. refl)
 
--- a board's edge leaves the controller
+-- a board's edge leaves the controller's part unchanged
 pub controller_kept : (kind : ArbiterKind) (version : Version) (h : List Edge) (s : ℕ) (w : Wire) (fall : Bool) (v : Option Cycle) → has_wire (Slot s) w ≡ true → controller_of kind version h ≡ controller_of kind version (at s w fall v ∷ h)
 controller_kept kind version h s Br true v has = refl
 controller_kept kind version h s Br false v has = refl
@@ -99,7 +99,7 @@ controller_kept kind version h s Dtack true v has = refl
 controller_kept kind version h s Dtack false v has = refl
 controller_kept kind version h s w fall v has = absurd (cc)
 
--- the slot that is on
+-- the slot whose address group is on
 pub addressing_by : (p : Plan) (h : List Edge) (s : ℕ) (w : Wire) (fall : Bool) (v : Option Cycle) → has_wire (Slot s) w ≡ true → (w ≡ Addr → addressing p (at s w fall v ∷ h) ≡ addressing_after (addressing p h) s w fall) → addressing_after (addressing p h) s w fall ≡ addressing p (at s w fall v ∷ h)
 addressing_by p h s Addr fall v has on = sym (on refl)
 addressing_by p h s Br fall v has on = refl
@@ -119,7 +119,7 @@ addressing_kept p h Iack fall v has = refl
 addressing_kept p h Berr fall v has = refl
 addressing_kept p h w fall v has = absurd (cc)
 
--- what an edge of a board leaves
+-- what an edge of a board leaves unchanged
 pub record IsNotedByBoard (version : Version) (p : Plan) (h : List Edge) (s : ℕ) (r : Row) (e : Edge) (old new : Wiring) : Type 0 where
   pub rules : new.version ≡ old.version
   pub slots : new.slots ≡ old.slots
@@ -162,7 +162,7 @@ noted_by_board version p h s r e old new is allowed driver found n =
     let all : P (Slot s) = λ a m. board_noted version p h s r e.wire e.fall e.value old new is a found m in
     subst P (sym driver) all allowed n
 
--- what an edge of the controller leaves
+-- what an edge of the controller leaves unchanged
 pub record IsNotedByController (version : Version) (p : Plan) (h : List Edge) (e : Edge) (old new : Wiring) : Type 0 where
   pub rules : new.version ≡ old.version
   pub slots : new.slots ≡ old.slots
@@ -203,7 +203,7 @@ noted_by_controller version p h e old new is allowed driver n =
     let all : P Controller = λ a m. controller_noted version p h e.wire e.fall e.value old new is a m in
     subst P (sym driver) all allowed n
 
--- no edge of a slot without a board is allowed
+-- the rules allow no edge of a slot without a board
 pub no_board : (version : Version) (p : Plan) (h : List Edge) (s : ℕ) (e : Edge) → verdict_but_full version p h e ≡ Ok tt → e.driver ≡ Slot s → board p s ≡ None → ⊥
 no_board version p h s e allowed driver none =
     let passed = all_passed version p h e.driver e.wire e.fall e.value allowed in
@@ -247,7 +247,7 @@ placed_board version p h s b w is here =
       stands = stands p s k.of is.accepted k.is_row;
     }
 
--- the board that an allowed edge of a slot is of
+-- the board to which an allowed edge of a slot belongs
 pub record IsStanding (p : Plan) (s : ℕ) : Type 0 where
   pub row : Row
   pub found : board p s ≡ Some row

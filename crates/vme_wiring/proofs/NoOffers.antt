@@ -57,7 +57,7 @@ no_wire : (a b : Bool) → b ≡ false → (a && b) ≡ false
 no_wire true b denied = denied
 no_wire false b denied = refl
 
--- of edges that are not allowed none is offered
+-- none of the edges that are not allowed is offered
 none_open : {A : Type 0} (f : Cycle → A) (test : A → Bool) (cs : List Cycle) → ((c : Cycle) → test (f c) ≡ false) → filter test (map f cs) ≡ []
 none_open {A} f test [] denied = refl
 none_open {A} f test (c ∷ cs) denied = rw (denied c) (none_open f test cs denied)
@@ -106,7 +106,7 @@ same_four f a b c d k l m n ak bl cm dn = ap (λ x. f x b c d) ak ∙ ap (λ x. 
 same_five : (f : Bool → Bool → Bool → Bool → Bool → Bool) (a b c d e k l m n o : Bool) → a ≡ k → b ≡ l → c ≡ m → d ≡ n → e ≡ o → f a b c d e ≡ f k l m n o
 same_five f a b c d e k l m n o ak bl cm dn eo = ap (λ x. f x b c d e) ak ∙ same_four (f k) b c d e l m n o bl cm dn eo
 
--- three parts, one after the other
+-- three parts, one after another
 pub all_wait : (a b c : Bool) → a ≡ true → b ≡ true → c ≡ (a && b && c)
 all_wait true true c ea eb = refl
 all_wait a b c ea eb = absurd (cc)
@@ -330,7 +330,7 @@ module _ (version : Version) (p : Plan) (h : List Edge) (s : ℕ) (legal : IsLeg
           let t = both_hold (waits_for_cycle (readings p h (Slot s)) r) (is_unserved (readings p h (Slot s)) r) waits in
           interrupter_none version p h s r found t.0 t.1
 
--- who waits has no offer
+-- a driver that waits has no offer
 pub waiting_none : (version : Version) (p : Plan) (h : List Edge) (d : Driver) → IsLegal version p h → is_waiting version p h d ≡ true → offered_but_full version p h d ≡ []
 waiting_none version p h Controller legal waits = absurd (cc)
 waiting_none version p h (Slot s) legal waits = by_board (board p s) refl waits

@@ -1,4 +1,4 @@
--- What an edge of another driver leaves as it was.
+-- What an edge of another driver leaves unchanged.
 use Rattle.std.proofs.Common.{◌≡◌, ◌∙◌, refl, sym, ap, ℕ, Bool, true, false, List, ◌∷◌, arith}
 use Rattle.std.specs.Prelude.{◌&&◌, ◌||◌, ◌+◌, if◌then◌else◌, Option, Some, None, option_map}
 use Rattle.vme_model.specs.declared.boards.Row.{Row}
@@ -110,7 +110,7 @@ parts_same version p h e r other =
     of_parts : (board : Option RequesterState → Option MasterState → InterrupterState → Board) {x x' : Option RequesterState} {y y' : Option MasterState} {z z' : InterrupterState} → x ≡ x' → y ≡ y' → z ≡ z' → board x y z ≡ board x' y' z'
     of_parts board {x} {x'} {y} {y'} {z} {z'} a b c = ap (λ t. board t y z) a ∙ ap (λ t. board x' t z) b ∙ ap (λ t. board x' y' t) c
 
--- an edge of a wire that does not concern a part leaves the part
+-- an edge of a wire that does not concern a part leaves the part unchanged
 abbrev pub concerns_master : Wire → Bool
 concerns_master Bbsy = true
 concerns_master Addr = true

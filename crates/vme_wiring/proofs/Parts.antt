@@ -18,7 +18,7 @@ use Rattle.vme_interrupter.proofs.Seen.{edges_seen}
 use Rattle.vme_wiring.specs.Boards.{parts_of, low_of, place}
 use Rattle.vme_wiring.specs.declared.boards.Board.{Board}
 
--- what holds of each part, holds of the part that there is
+-- what holds for each part holds for the part that there is
 pub mapped : {X A : Type 0} (f g : X → A) (row : Option X) (a b : A) → Some a ≡ option_map f row → ((q : X) → a ≡ f q → b ≡ g q) → Some b ≡ option_map g row
 mapped {X} {A} f g None a b e next = absurd (cc)
 mapped {X} {A} f g (Some q) a b e next = ap (λ (x : A). Some x) (next q (cc))

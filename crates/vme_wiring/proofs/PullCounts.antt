@@ -10,7 +10,7 @@ use Rattle.vme_model.specs.Accepted.{IsAccepted}
 use Rattle.vme_model.proofs.Ranges.{IsRowInRange, in_range, named_once, slots_of, times}
 use Rattle.vme_wiring.specs.Counts.{pulls, moved, is_movable}
 
--- a line is low exactly where its count is not 0
+-- a line is low exactly if its count is not 0
 low_step : (b rest : Bool) (n : ℕ) → rest ≡ nat_lt 0 n → (b || rest) ≡ nat_lt 0 (if b then n + 1 else n)
 low_step true rest n e = grind (arith, nat_tests)
 low_step false rest n e = e

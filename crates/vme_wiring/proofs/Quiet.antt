@@ -1,4 +1,4 @@
--- A board that is quiet, and to which nothing has come, waits; while the bus is busy no grant falls.
+-- A quiet board that nothing has reached waits. While the bus is busy, no grant falls.
 use Rattle.std.proofs.Common.{◌≡◌, ◌∙◌, refl, ap, Bool, true, false, ℕ, List}
 use Rattle.std.specs.Prelude.{◌&&◌, not, Some, filter, [], ◌∷◌}
 use Rattle.std.specs.List.{list_all}
@@ -26,7 +26,7 @@ use Rattle.vme_wiring.specs.declared.wirings.Wiring.{Wiring}
 use Rattle.vme_wiring.proofs.FieldReads.{own_of_controller}
 use Rattle.vme_wiring.proofs.NoOffers.{closed, reads_grant, reads_bus, reads_cycle}
 
--- part by part, or what its wires say and then what has come to it
+-- the same truth part by part, or by its wires and then by what reaches it
 by_parts : (r m i u a : Bool) → ((r && m && i) && (u && a)) ≡ ((r && u) && m && (i && a))
 by_parts true true true true a = refl
 by_parts true true true false a = refl
@@ -44,7 +44,7 @@ quiet_waits w b =
     by_parts (is_requester_quiet (low_of b) b.row) (is_master_quiet (low_of b)) (is_interrupter_quiet (low_of b) b.row)
     (is_ungranted w.version seen.grant_in b.row) (is_unaddressed seen.shown seen.iack_in b.row)
 
--- with a fourth part
+-- the truth of three parts, with a fourth
 pub all_but_last : (a b c d : Bool) → (a && b && c) ≡ true → d ≡ (a && b && (c && d))
 all_but_last true true true d waits = refl
 all_but_last a b c d waits = absurd (cc)

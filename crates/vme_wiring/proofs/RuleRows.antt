@@ -1,4 +1,5 @@
--- A part's own rows of the table are those of the whole backplane, guard by guard; so it answers the same.
+-- A part's own rows of the table are those of the whole backplane, guard by guard. So the part
+-- answers as the backplane does.
 use Rattle.std.proofs.Common.{◌≡◌, ◌∙◌, refl, sym, ap, subst, ℕ, Bool, true, false, List, ◌<◌, ◌≤◌, arith}
 use Rattle.std.specs.Prelude.{◌&&◌, ◌||◌, ◌==◌, not, Option, Some, None, Ok, nat_lt}
 use Rattle.std.specs.List.{list_any}
@@ -77,7 +78,7 @@ by_same low fall a b e = ap (λ g. by_row low fall (answered g)) e
 asked_of : (version : Version) (p : Plan) (h : List Edge) (d : Driver) (e : Edge) → e.driver ≡ d → by_row (drive h d e.wire) e.fall (rule version (readings p h d) e.wire e.fall e.value) ≡ asked version p h e
 asked_of version p h d e same = ap (λ x. by_row (drive h x e.wire) e.fall (rule version (readings p h x) e.wire e.fall e.value)) (sym same)
 
--- and its guard
+-- the guard for an edge of that driver
 guard_of : (version : Version) (p : Plan) (h : List Edge) (d : Driver) (e : Edge) → e.driver ≡ d → (guard version (readings p h d) e.wire e.fall e.value).1 ≡ asked_guard version p h e
 guard_of version p h d e same = ap (λ x. (guard version (readings p h x) e.wire e.fall e.value).1) (sym same)
 

@@ -30,7 +30,7 @@ one_more false xs s = append-nil xs
 worked_more : (f : ℕ → Bool) (n : ℕ) → worked f (suc n) ≡ with_slot (f (suc n)) (worked f n) (suc n)
 worked_more f n = filter-append f (up_to n) (suc n ∷ []) ∙ one_more (f (suc n)) (worked f n) (suc n)
 
--- two states of the outputs: alike but for one slot
+-- two states of the outputs: alike except for one slot
 pub record IsOne (f g k : ℕ → Bool) (s : ℕ) (fall : Bool) : Type 0 where
   pub others : (t : ℕ) → f t ≡ true → t ≢ s → k t ≡ g t
   pub one : k s ≡ fall

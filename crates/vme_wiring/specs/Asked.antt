@@ -18,7 +18,7 @@ use Rattle.vme_wiring.specs.declared.boards.Board.{Board}
 use Rattle.vme_wiring.specs.declared.chains.Chains.{Chains}
 use Rattle.vme_wiring.specs.declared.wirings.Wiring.{Wiring}
 
--- E1 does not apply: the edge is well formed, and there is such a driver
+-- E1 does not apply: the edge is well formed, and the plan has such a driver
 abbrev pub exists : Plan → Edge → Bool
 exists p e = is_well_formed e && has_driver p e.driver e.wire
 
@@ -29,11 +29,11 @@ asked version p h e = ruling version (readings p h e.driver) e
 abbrev pub asked_guard : Version → Plan → List Edge → Edge → Guard
 asked_guard version p h e = (guard version (readings p h e.driver) e.wire e.fall e.value).1
 
--- a board's pins, by the chains and the lines that all drivers see alike
+-- a board's pins, by the chains and by what all drivers see alike of the lines
 abbrev pub seen_by : Chains → Pins → Row → Pins
 seen_by chains shared r = record shared { grant_in = grant_in chains r; iack_in = iack_in chains r }
 
--- what a board's rules read, as far as its stored fields say it
+-- what a board's rules read, as far as its stored fields give it
 abbrev pub read_by : Wiring → Board → Readings
 read_by w b = record (readings_of_pins (seen_by w.chains w.shared b.row)) {
   own = low_of b;

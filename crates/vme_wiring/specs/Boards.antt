@@ -21,7 +21,7 @@ parts_of version p h r = record {
   interrupter = interrupter_of r.slot r.interrupter (seen p h);
 }
 
--- what holds of each history and row by which a board has its parts
+-- what holds for each history and row by which a board has its parts
 abbrev pub OfParts : Board → (Version → Plan → List Edge → Row → Type 0) → Type 0
 OfParts b P =
     (version : Version) (p : Plan) (h : List Edge) (r : Row)
@@ -31,11 +31,11 @@ OfParts b P =
 abbrev pub place : List (Option Board) → ℕ → Option Board
 place boards s = option_and_then (λ b. b) (slice_get boards s)
 
--- what holds of the board in a place
+-- what holds for the board in a place
 abbrev pub OfPlace : List (Option Board) → ℕ → (Board → Type 0) → Type 0
 OfPlace boards s P = (b : Board) → place boards s ≡ Some b → P b
 
--- the wires by the parts
+-- the state of the wires, by the parts
 abbrev pub low_of : Board → Wire → Bool
 low_of b Br = option_map_or (λ q. q.br) b.requester false
 low_of b BgOut = option_map_or (λ q. q.bgout) b.requester false

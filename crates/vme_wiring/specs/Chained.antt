@@ -29,7 +29,7 @@ chain_at chain.Bg2 c = c.bg2
 chain_at chain.Bg3 c = c.bg3
 chain_at chain.Iack c = c.iack
 
--- a board's inputs on its grant chain and on the acknowledge chain, where it has the part for it
+-- a board's inputs on its grant chain and on the acknowledge chain, if it has the part for it
 abbrev pub grant_in : Chains → Row → Bool
 grant_in c r =
     option_map_or (λ q. input (chain_at (grant_chain q.level) c) r.slot) r.requester false
@@ -48,7 +48,7 @@ with_segment chain.Bg2 k fall c = record c { bg2 = moved c.bg2 k fall }
 with_segment chain.Bg3 k fall c = record c { bg3 = moved c.bg3 k fall }
 with_segment chain.Iack k fall c = record c { iack = moved c.iack k fall }
 
--- the chains after an edge of the board's wire, and of the controller's
+-- the chains after an edge of one of the board's wires, and of the controller's
 abbrev pub with_output : ChainId → ℕ → Bool → Chains → Chains
 with_output id s fall c = with_segment id (output_number (chain_at id c).active s) fall c
 

@@ -13,7 +13,7 @@ use Rattle.vme_model.specs.Plan.{Plan}
 use Rattle.vme_model.specs.History.{drive, pulls_line, pulls_request, pulls_interrupt}
 use Rattle.vme_wiring.specs.declared.lines.Lines.{Lines}
 
--- how many boards pull
+-- how many boards pull a line
 abbrev pub pulls : (Row → Bool) → List Row → ℕ
 pulls f [] = 0
 pulls f (r ∷ rows) = if f r then pulls f rows + 1 else pulls f rows
@@ -22,7 +22,7 @@ pulls f (r ∷ rows) = if f r then pulls f rows + 1 else pulls f rows
 abbrev pub passes_grant : List Edge → Row → Bool
 passes_grant h r = drive h (Slot r.slot) BgOut
 
--- each count is the number of the boards that pull
+-- each count is the number of the boards that pull its line
 pub record IsLines (p : Plan) (h : List Edge) (l : Lines) : Type 0 where
   pub br_room : length l.br ≡ 4
   pub irq_room : length l.irq ≡ 8
@@ -34,7 +34,7 @@ pub record IsLines (p : Plan) (h : List Edge) (l : Lines) : Type 0 where
   pub data_strobe : l.data_strobe ≡ pulls (pulls_line h DataStrobe) p.rows
   pub dtack : l.dtack ≡ pulls (pulls_line h Dtack) p.rows
 
--- nobody pulls
+-- nobody pulls a line
 abbrev pub no_pulls : Lines
 no_pulls = record {
   br = 0 ∷ 0 ∷ 0 ∷ 0 ∷ [];
@@ -46,7 +46,7 @@ no_pulls = record {
   dtack = 0;
 }
 
--- a count after one driver more pulls, or one fewer, and whether it can be so
+-- a count after one more driver pulls, or one fewer, and whether that can be
 abbrev pub moved : ℕ → Bool → ℕ
 moved n true = n + 1
 moved n false = n - 1
@@ -65,7 +65,7 @@ request_level r = option_map_or (λ q. q.level) r.requester 0
 abbrev pub interrupt_level : Row → ℕ
 interrupt_level r = option_map_or (λ i. i.level) r.interrupter 0
 
--- the count of the line that a board's wire is on
+-- the count of the line on which a board's wire is
 abbrev pub count_of : Lines → Row → Wire → ℕ
 count_of l r Br = get_or l.br (request_level r) 0
 count_of l r Irq = get_or l.irq (interrupt_level r) 0
@@ -76,7 +76,7 @@ count_of l r DataStrobe = l.data_strobe
 count_of l r Dtack = l.dtack
 count_of l r _ = 1
 
--- the lines after an edge of the board's wire
+-- the lines after an edge of one of the board's wires
 abbrev pub lines_after : Lines → Row → Wire → Bool → Lines
 lines_after l r Br fall = record l { br = moved_at l.br (request_level r) fall }
 lines_after l r Irq fall = record l { irq = moved_at l.irq (interrupt_level r) fall }
@@ -87,7 +87,7 @@ lines_after l r DataStrobe fall = record l { data_strobe = moved l.data_strobe f
 lines_after l r Dtack fall = record l { dtack = moved l.dtack fall }
 lines_after l r _ fall = l
 
--- what all drivers see where every line is high
+-- what all drivers see if every line is high
 abbrev pub high_pins : Pins
 high_pins = record {
   requests = bus_levels (λ n. false);
@@ -103,7 +103,7 @@ high_pins = record {
   iack_in = false;
 }
 
--- what all drivers see of the lines after an edge of a board's wire
+-- what all drivers see of the lines after an edge of one of a board's wires
 abbrev pub shared_after : Pins → Lines → Wire → Option Cycle → Pins
 shared_after s l Br value = record s { requests = bus_levels (λ n. nat_lt 0 (get_or l.br n 0)) }
 shared_after s l Irq value = record s { irq = irq_levels (λ n. nat_lt 0 (get_or l.irq n 0)) }
@@ -114,13 +114,13 @@ shared_after s l DataStrobe value = record s { data_strobe = nat_lt 0 l.data_str
 shared_after s l Dtack value = record s { dtack = nat_lt 0 l.dtack }
 shared_after s l _ value = s
 
--- and after one of the controller's
+-- what all drivers see of the lines after an edge of one of the controller's wires
 abbrev pub shared_after_controller : Pins → Wire → Bool → Pins
 shared_after_controller s Bclr fall = record s { bclr = fall }
 shared_after_controller s Berr fall = record s { berr = fall }
 shared_after_controller s _ fall = s
 
--- the slot whose address group is on, after an edge of the slot's
+-- the slot whose address group is on, after an edge of the slot's board
 abbrev pub addressing_after : Option ℕ → ℕ → Wire → Bool → Option ℕ
 addressing_after on s Addr fall = if fall then Some s else None
 addressing_after on s _ fall = on

@@ -1,4 +1,4 @@
--- What is asked of a state of the bus, whatever it is kept as.
+-- What a state of the bus is asked, in whatever form it is kept.
 use Rattle.std.specs.Prelude.{◌&&◌, not, ℕ, Bool, true, List}
 use Rattle.std.specs.List.{list_all}
 use Rattle.std.specs.Option.{option_map_or}
@@ -12,7 +12,7 @@ use Rattle.vme_model.specs.Readings.{readings}
 use Rattle.vme_model.specs.Rules.{bus_numbers}
 use Rattle.vme_wiring.specs.Waits.{waits_for_grant, waits_for_bus, waits_for_cycle, is_unserved}
 
--- what holds of each history that a state is of
+-- what holds for each history that leads to a state
 abbrev pub OfState : {S : Type 0} → (Version → Plan → List Edge → S → Type 0) → S
     → (Version → Plan → List Edge → Type 0) → Type 0
 OfState {S} is_of state P =

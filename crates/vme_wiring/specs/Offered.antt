@@ -1,4 +1,4 @@
--- What a driver is offered, but for the end of the trace.
+-- What a driver is offered, without the end of the trace.
 use Rattle.std.specs.Prelude.{Bool, List, [], ◌∷◌, filter, is_ok}
 use Rattle.std.specs.List.{flat_map}
 use Rattle.vme_model.specs.declared.signals.Version.{Version}
@@ -14,7 +14,7 @@ use Rattle.vme_model.specs.Offers.{considered, wires}
 abbrev pub is_open : Version → Plan → List Edge → Edge → Bool
 is_open version p h e = is_ok (verdict_but_full version p h e)
 
--- of the edges of these wires that are considered, those that the rules allow
+-- those of the edges considered for these wires that the rules allow
 abbrev pub offered_on : Version → Plan → List Edge → Driver → List Wire → List Edge
 offered_on version p h d ws = filter (is_open version p h) (flat_map (considered p h d) ws)
 

@@ -1,4 +1,4 @@
--- Which drivers wait for an edge of another, by what their rules read.
+-- Which drivers wait for an edge of another driver, by what their rules read.
 use Rattle.std.specs.Prelude.{◌&&◌, ◌==◌, not, ℕ, Bool, true, false, Option, Some, List}
 use Rattle.std.specs.Option.{option_map_or}
 use Rattle.vme_model.specs.declared.boards.Row.{Row}
@@ -15,7 +15,7 @@ use Rattle.vme_model.specs.Signals.{is_two}
 use Rattle.vme_model.specs.Plan.{Plan, board}
 use Rattle.vme_model.specs.Readings.{Readings, readings}
 
--- Of its own wires: a requester, if there is one, requests the bus, passes no grant on and does not
+-- By its own wires: a requester, if there is one, requests the bus, passes no grant on and does not
 -- hold the bus (chapter 3)
 abbrev pub is_requester_quiet : (Wire → Bool) → Row → Bool
 is_requester_quiet own b =
@@ -36,7 +36,7 @@ is_interrupter_quiet own b =
 abbrev pub is_quiet : (Wire → Bool) → Row → Bool
 is_quiet own b = is_requester_quiet own b && is_master_quiet own && is_interrupter_quiet own b
 
--- Of what comes to it: a requester, if there is one, may not withdraw, and no grant has reached it
+-- By what reaches it: a requester, if there is one, may not withdraw, and no grant has reached it
 -- (chapter 3)
 abbrev pub is_ungranted : Version → Bool → Row → Bool
 is_ungranted version grant_in b =
@@ -53,12 +53,12 @@ abbrev pub is_unaddressed : Option Cycle → Bool → Row → Bool
 is_unaddressed cycle iack_in b =
     not (is_access_to b.slot cycle) && option_map_or (λ i. not iack_in) b.interrupter true
 
--- nothing has come to a board that sees these pins
+-- nothing has reached a board that sees these pins
 abbrev pub is_left_alone : Version → Pins → Row → Bool
 is_left_alone version seen b =
     is_ungranted version seen.grant_in b && is_unaddressed seen.shown seen.iack_in b
 
--- Both: a requester, if there is one, waits for its grant
+-- By both: a requester, if there is one, waits for its grant
 abbrev pub waits_for_grant : Version → Readings → Row → Bool
 waits_for_grant version r b = is_requester_quiet r.own b && is_ungranted version r.grant_in b
 
@@ -70,16 +70,16 @@ waits_for_bus r = is_master_quiet r.own
 abbrev pub waits_for_cycle : Readings → Row → Bool
 waits_for_cycle r b = is_interrupter_quiet r.own b && is_unaddressed r.shown r.iack_in b
 
--- an interrupter, if there is one, requests and was not served since (chapter 4)
+-- an interrupter, if there is one, requests and has not been served since (chapter 4)
 abbrev pub is_unserved : Readings → Row → Bool
 is_unserved r b = option_map_or (λ i. r.own Irq && not r.served_since_request) b.interrupter true
 
--- a board waits where each of its parts does
+-- a board waits if each of its parts does
 abbrev pub board_waits : Version → Readings → Row → Bool
 board_waits version r b =
     waits_for_grant version r b && waits_for_bus r && (waits_for_cycle r b && is_unserved r b)
 
--- a driver waits: the controller never, and a slot without a board always
+-- a driver waits; the controller never does, and a slot without a board always does
 abbrev pub is_waiting : Version → Plan → List Edge → Driver → Bool
 is_waiting version p h Controller = false
 is_waiting version p h (Slot s) =

@@ -1,4 +1,4 @@
--- Which wiring a history leads to.
+-- The wiring to which a history leads.
 use Rattle.std.specs.Prelude.{◌≡◌, ◌<◌, ℕ, true, List, Some, Ok, length, option_map}
 use Rattle.vme_model.specs.declared.boards.Row.{Row}
 use Rattle.vme_model.specs.declared.signals.Driver.TheVariants.{Controller}
@@ -16,7 +16,7 @@ use Rattle.vme_wiring.specs.Chained.{chains_of, CanMove}
 use Rattle.vme_wiring.specs.declared.boards.Board.{Board}
 use Rattle.vme_wiring.specs.declared.wirings.Wiring.{Wiring}
 
--- each stored field is that reading of a legal history of an accepted plan
+-- each stored field is its reading of a legal history of an accepted plan
 pub record IsWiringOf (version : Version) (p : Plan) (h : List Edge) (w : Wiring) : Type 0 where
   pub accepted : IsAccepted p
   pub legal : IsLegal version p h
@@ -31,18 +31,18 @@ pub record IsWiringOf (version : Version) (p : Plan) (h : List Edge) (w : Wiring
   pub shared : w.shared ≡ pins p h Controller
   pub addressing : w.addressing ≡ addressing p h
 
--- what holds of each history that a wiring is of
+-- what holds for each history that leads to a wiring
 abbrev pub OfHistory : Wiring → (Version → Plan → List Edge → Type 0) → Type 0
 OfHistory w P =
     (version : Version) (p : Plan) (h : List Edge) → IsWiringOf version p h w → P version p h
 
--- the same, and of each slot whose place has the board
+-- what holds for each history that leads to a wiring, and for each slot whose place has the board
 abbrev pub OfPlaced : Wiring → Board → (Version → Plan → List Edge → ℕ → Type 0) → Type 0
 OfPlaced w b P =
     (version : Version) (p : Plan) (h : List Edge) (s : ℕ)
     → IsWiringOf version p h w → Some b ≡ place w.boards s → P version p h s
 
--- some history leads to it after which the rules allow the edge
+-- some history leads to the wiring, and after it the rules allow the edge
 pub record CanTake (w : Wiring) (e : Edge) : Type 0 where
   pub version : Version
   pub plan : Plan

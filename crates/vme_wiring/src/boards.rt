@@ -27,7 +27,7 @@ pub struct Board {
     pub interrupter: Interrupter,
 }
 
-/// The requester takes in an edge, if there is one.
+/// The requester, if there is one, takes in an edge.
 #[inline(always)]
 fn note_requester(requester: &mut Option<Requester>, edge: Edge)
     ensures { (s : ℕ) (row : OptionValue RequesterValue)
@@ -41,7 +41,7 @@ fn note_requester(requester: &mut Option<Requester>, edge: Edge)
     }
 }
 
-/// The master takes in an edge, if there is one.
+/// The master, if there is one, takes in an edge.
 #[inline(always)]
 fn note_master(master: &mut Option<Master>, edge: Edge)
     ensures { (s : ℕ) (row : OptionValue RequesterValue)
@@ -74,7 +74,7 @@ impl Board {
         }
     }
 
-    /// Takes in an edge of the board that was made while that was shown.
+    /// Takes in an edge of the board, given what was shown just before it.
     #[inline(always)]
     pub fn note(&mut self, edge: Edge, shown: Option<Cycle>)
         ensures { OfParts self.old (λ version p h r. shown ≡ shown_after p h
@@ -112,7 +112,7 @@ impl Board {
         }
     }
 
-    /// Whether the master's address group is off or its address strobe low.
+    /// Whether the master's address group is off or its address strobe is low.
     #[inline(always)]
     fn is_address_free(&self) -> bool
         ensures { result ≡ (not (low_of self.now Wire.Addr) || low_of self.now Wire.AddressStrobe) }
@@ -120,7 +120,11 @@ impl Board {
         !self.is_low(Wire::Addr) || self.is_low(Wire::AddressStrobe)
     }
 
-    /// E1 where the board has no part that drives the wire, else E2 and E3 by that part.
+    /// Whether the rules allow an edge of one of the board's wires, given what all drivers see
+    /// alike and the daisy chains. Source: G9 to G26 of docs/RULES.md.
+    ///
+    /// # Errors
+    /// E1 if the board has no part that drives the wire; otherwise E2 or E3 by that part.
     #[inline(always)]
     pub fn may(&self, edge: Edge, pins: &Pins, chains: &Chains) -> Result<(), Refused>
         ensures lacks { OfParts self.now (λ _ _ _ r.
@@ -162,7 +166,7 @@ impl Board {
         }
     }
 
-    /// What the guard answers of the rule that names an edge of its requester's.
+    /// What the guard of the rule that names an edge of the requester's wires answers.
     fn told_by_requester<A: Outcome>(&self, edge: Edge, pins: Pins) -> A
         ensures { OfParts self.now (λ version p h r. IsAsked p h r pins edge
             → is_requesters edge.wire ≡ true → A.tells result (asked_guard version p h edge)) }
@@ -173,7 +177,7 @@ impl Board {
         }
     }
 
-    /// What the guard answers of the rule that names an edge of its master's.
+    /// What the guard of the rule that names an edge of the master's wires answers.
     fn told_by_master<A: Outcome>(&self, edge: Edge, pins: Pins) -> A
         ensures { OfParts self.now (λ version p h r. IsAsked p h r pins edge
             → is_masters edge.wire ≡ true → A.tells result (asked_guard version p h edge)) }
@@ -184,7 +188,7 @@ impl Board {
         }
     }
 
-    /// What the guard answers of the rule that names an edge of its interrupter's.
+    /// What the guard of the rule that names an edge of the interrupter's wires answers.
     fn told_by_interrupter<A: Outcome>(&self, edge: Edge, pins: Pins) -> A
         ensures { OfParts self.now (λ version p h r. IsAsked p h r pins edge
             → is_interrupters edge.wire ≡ true → A.tells result (asked_guard version p h edge)) }
@@ -192,8 +196,8 @@ impl Board {
         self.interrupter.told(edge, pins)
     }
 
-    /// What the guard answers of the rule that names an edge of one of its wires, by the part that drives it, with the
-    /// board's pins.
+    /// What the guard of the rule that names an edge of one of the board's wires answers, by the
+    /// part that drives the wire. It is given the board's pins. Source: G9 to G26 of docs/RULES.md.
     pub fn told<A: Outcome>(&self, edge: Edge, pins: Pins) -> A
         ensures { OfParts self.now (λ version p h r. IsAsked p h r pins edge
             → A.tells result (asked_guard version p h edge)) }

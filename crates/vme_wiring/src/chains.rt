@@ -10,7 +10,7 @@ use vme_iack::IackChain;
 use vme_model::{ChainId, Edge, Row, Wire};
 use vme_slots::Plan;
 
-/// The chains of the four grants, and that of the acknowledge.
+/// The chains of the four grants, and the acknowledge chain. Source: Std 1014, chapters 3 and 4.
 #[derive(Drop)]
 pub struct Chains {
     pub bg0: Chain,
@@ -38,7 +38,7 @@ impl Chains {
         }
     }
 
-    /// What a slot reads at its input on a chain.
+    /// Whether a slot's input on a chain is low. Source: Std 1014, chapters 3 and 4.
     #[inline(always)]
     pub fn input(&self, chain: ChainId, slot: u8) -> bool
         ensures { result ≡ input (chain_at chain self.now) slot }
@@ -52,7 +52,8 @@ impl Chains {
         }
     }
 
-    /// The input of the board's own grant chain, for a board with a requester.
+    /// Whether the input of the board's own grant chain is low; false if the board has no
+    /// requester.
     #[inline(always)]
     pub fn grant_in(&self, row: &Row) -> bool
         ensures { result ≡ grant_in self.now row.now }
@@ -63,7 +64,8 @@ impl Chains {
         }
     }
 
-    /// The input of the acknowledge chain, for a board with an interrupter.
+    /// Whether the input of the acknowledge chain is low at the board; false if it has no
+    /// interrupter.
     #[inline(always)]
     pub fn iack_in(&self, row: &Row) -> bool
         ensures { result ≡ iack_in self.now row.now }
@@ -71,7 +73,7 @@ impl Chains {
         row.interrupter.is_some() && self.iack.is_in_low(row.slot)
     }
 
-    /// The number of the segment that an active slot drives.
+    /// The number of the segment that an active slot drives on a chain.
     fn output_of(&self, chain: ChainId, slot: u8) -> u8
         ensures { result ≡ output_number (chain_at chain self.now).active slot }
     {
@@ -84,7 +86,7 @@ impl Chains {
         }
     }
 
-    /// Whether the last segment of a chain is low.
+    /// Whether the last segment of a chain is low. S2 and S3 ask for it.
     pub fn is_past_end(&self, chain: ChainId) -> bool
         ensures { result ≡ is_past_end (chain_at chain self.now) }
     {
@@ -97,14 +99,14 @@ impl Chains {
         }
     }
 
-    /// Whether the acknowledge chain is high everywhere.
+    /// Whether every segment of the acknowledge chain is high. S1 asks for it.
     pub fn is_acknowledge_clear(&self) -> bool
         ensures { result ≡ is_clear self.now.iack }
     {
         self.iack.is_clear()
     }
 
-    /// A segment falls.
+    /// A segment of a chain falls.
     fn fall(&mut self, chain: ChainId, segment: u8)
         requires high { slice_get (chain_at chain self.old).low segment ≡ Some false }
         ensures { self.new ≡ with_segment chain segment true self.old }
@@ -118,7 +120,7 @@ impl Chains {
         }
     }
 
-    /// A segment rises.
+    /// A segment of a chain rises.
     fn rise(&mut self, chain: ChainId, segment: u8)
         requires low { slice_get (chain_at chain self.old).low segment ≡ Some true }
         ensures { self.new ≡ with_segment chain segment false self.old }
@@ -132,7 +134,7 @@ impl Chains {
         }
     }
 
-    /// A segment moves.
+    /// A segment of a chain falls or rises.
     #[inline(always)]
     fn drive(&mut self, chain: ChainId, segment: u8, fall: bool)
         requires other { slice_get (chain_at chain self.old).low segment ≡ Some (not fall) }
@@ -145,7 +147,8 @@ impl Chains {
         }
     }
 
-    /// The board passes its grant on, or takes it back.
+    /// The board passes its grant on (`bgout` falls), or its `bgout` rises again. Source: Std 1014,
+    /// chapter 3.
     #[inline(always)]
     pub fn pass_grant(&mut self, row: &Row, fall: bool)
         requires other { CanMove row.now Wire.BgOut fall self.old }
@@ -156,7 +159,8 @@ impl Chains {
         self.drive(chain, segment, fall);
     }
 
-    /// The board passes the acknowledge on, or takes it back.
+    /// The board passes the acknowledge on (`iackout` falls), or its `iackout` rises again. Source:
+    /// Std 1014, chapter 4.
     pub fn pass_acknowledge(&mut self, row: &Row, fall: bool)
         requires other { CanMove row.now Wire.IackOut fall self.old }
         ensures { self.new ≡ after_board row.now Wire.IackOut fall self.old }
@@ -165,7 +169,7 @@ impl Chains {
         self.drive(ChainId::Iack, segment, fall);
     }
 
-    /// Takes in an edge of the controller's wire.
+    /// Takes in an edge of one of the controller's wires.
     #[inline(always)]
     pub fn note_head(&mut self, edge: Edge)
         requires other { CanMoveHead edge.wire edge.fall self.old }
@@ -179,7 +183,7 @@ impl Chains {
     }
 }
 
-/// The chains take in an edge of the board's wire.
+/// The chains take in an edge of one of the board's wires.
 #[inline(always)]
 pub fn note_segment(chains: &mut Chains, row: &Row, edge: Edge)
     requires other { CanMove row.now edge.wire edge.fall chains.old }

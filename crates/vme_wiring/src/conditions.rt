@@ -1,4 +1,4 @@
-//! Which conditions an edge fails, by what a state of the bus answers.
+//! The conditions that an edge fails, by what a state of the bus answers.
 ghost use Rattle.std.specs.Prelude.{◌≡◌, true, Err};
 ghost use Rattle.vme_model.specs.Guards.{◌⊓◌};
 ghost use Rattle.vme_model.specs.Settling.{settling_guard};
@@ -12,8 +12,8 @@ use arrayvec::ArrayVec;
 use vme_model::{Condition, Edge, Refused};
 use vme_rules::Outcome;
 
-/// What the guard answers of the rule that names an edge, and behind it what that of the settling
-/// rule answers.
+/// What the guard of the rule that names an edge answers, followed by what the guard of its
+/// settling rule answers.
 fn told_by_both<J: Judges, A: Outcome>(state: &J, edge: Edge) -> A
     ensures { OfState J.is_of state.now (λ version p h. exists p edge ≡ true
         → A.tells result
@@ -24,7 +24,7 @@ fn told_by_both<J: Judges, A: Outcome>(state: &J, edge: Edge) -> A
     rules.and(settles)
 }
 
-/// What is tested of an edge that is refused, up to the condition that refuses it.
+/// What is tested for an edge that is refused, up to the condition that refuses it.
 fn told_refused<J: Judges, A: Outcome>(state: &J, edge: Edge, refused: Refused) -> A
     ensures { OfState J.is_of state.now (λ version p h.
         verdict_but_full version p h edge ≡ Err refused
@@ -39,8 +39,9 @@ fn told_refused<J: Judges, A: Outcome>(state: &J, edge: Edge, refused: Refused) 
     }
 }
 
-/// What is tested of an edge, but for the end of the trace: the one condition that fails at E1 and
-/// E2, else those of its rule, and where they hold, that of its settling rule.
+/// What is tested for an edge, without the end of the trace. At E1 and E2 it is the one condition
+/// that fails. Otherwise it is the conditions of the edge's rule; if they hold, the condition of
+/// its settling rule follows. Source: profile.
 pub fn told_by<J: Judges, A: Outcome>(state: &J, edge: Edge) -> A
     ensures { OfState J.is_of state.now (λ version p h.
         A.tells result (tested_but_full version p h edge)) }
@@ -51,8 +52,8 @@ pub fn told_by<J: Judges, A: Outcome>(state: &J, edge: Edge) -> A
     }
 }
 
-/// The conditions that an edge fails, of the first of E1 to E4 that applies: none where the state
-/// judges it `Ok`.
+/// The conditions that an edge fails, for the first of E1 to E4 that applies. There are none if the
+/// state judges the edge `Ok`. Source: profile.
 pub fn failing_by<J: Judges>(state: &J, edge: Edge) -> ArrayVec<Condition, 5>
     ensures { OfState J.is_of state.now (λ version p h.
         result.items ≡ unmet_but_full version p h edge) }

@@ -1,4 +1,4 @@
-//! What is asked of a state of the bus, whatever it is kept as.
+//! What a state of the bus has to answer, in whatever form it is kept.
 ghost use Rattle.std.specs.Prelude.{◌≡◌, List, true, option_map};
 ghost use Rattle.vme_model.specs.declared.signals.Edge.{Edge as EdgeValue};
 ghost use Rattle.vme_model.specs.declared.signals.Version.{Version as VersionValue};
@@ -20,35 +20,40 @@ ghost use Rattle.vme_wiring.specs.Judged.{OfState, may_grant, requester_waits, m
 use vme_model::{Cycle, Driver, Edge, Levels, Refused, Wire};
 use vme_rules::Outcome;
 
-/// Which parts of a board wait for an edge of another: the rules then allow none of the edges that
-/// are considered for their wires.
+/// Which parts of a board wait for an edge of another driver. The rules then allow none of the
+/// edges that are considered for their wires. Source: profile.
 #[derive(Clone, Copy)]
 pub struct Waiting {
     pub requester: bool,
     pub master: bool,
-    /// The interrupter, and what answers cycles.
+    /// The interrupter, and the wire by which the board answers cycles.
     pub interrupter: bool,
 }
 
-/// A state of the bus, as its edges so far lead to it.
+/// A state of the bus, to which its edges so far lead.
 ///
-/// Which conditions an edge fails and what a driver is offered is made of these answers, once for
-/// all states: `told_by`, `failing_by`, `offers_of` and `open_edges_of`.
+/// The conditions that an edge fails and the offers of a driver are made of these answers, once for
+/// all kinds of state: by `told_by`, `failing_by`, `offers_of` and `open_edges_of`.
 pub trait Judges {
-    /// It is the state that the history leads to.
+    /// It is the state to which the history leads.
     ghost is_of: { VersionValue → PlanValue → List EdgeValue → Self → Type 0 };
 
-    /// The first of E1 to E4 that applies to an edge.
+    /// Whether the rules allow an edge, without the end of the trace. Source: docs/RULES.md, E1 to
+    /// E4.
+    ///
+    /// # Errors
+    /// The first of E1 to E4 that applies.
     fn judge(&self, edge: Edge) -> Result<(), Refused>
         ensures { OfState is_of self.now (λ version p h.
             result ≡ verdict_but_full version p h edge) };
 
-    /// What the guard answers of the rule that names an edge, where there is such a driver.
+    /// What the guard of the rule that names an edge answers, if there is such a driver.
     fn told_by_rule<A: Outcome>(&self, edge: Edge) -> A
         ensures { OfState is_of self.now (λ version p h. exists p edge ≡ true
             → A.tells result (asked_guard version p h edge)) };
 
-    /// What the guard answers of the settling rule that names the edge; a free one where none does.
+    /// What the guard of the settling rule that names the edge answers. If no settling rule names
+    /// it, the guard has no condition.
     fn told_by_settling<A: Outcome>(&self, edge: Edge) -> A
         ensures { OfState is_of self.now (λ version p h.
             A.tells result (settling_guard version p h edge.wire edge.fall).1) };
@@ -57,31 +62,34 @@ pub trait Judges {
     fn is_low(&self, driver: Driver, wire: Wire) -> bool
         ensures { OfState is_of self.now (λ _ _ h. result ≡ drive h driver wire) };
 
-    /// Whether the rules allow the controller's edge without a value that moves the wire to its other
-    /// state.
+    /// Whether the rules allow the controller's edge that has no value and moves the wire to its
+    /// other state.
     fn may_control(&self, wire: Wire) -> bool
         ensures { OfState is_of self.now (λ version p h.
             result ≡ is_open version p h (turned h Controller wire)) };
 
-    /// The same of the slot's requester.
+    /// Whether the rules allow the edge of the slot's requester that has no value and moves the
+    /// wire to its other state.
     fn may_request(&self, slot: u8, wire: Wire) -> bool
         requires { is_requesters wire ≡ true }
         ensures { OfState is_of self.now (λ version p h.
             result ≡ is_open version p h (turned h (Slot slot) wire)) };
 
-    /// The same of the slot's master.
+    /// Whether the rules allow the edge of the slot's master that has no value and moves the wire
+    /// to its other state.
     fn may_transfer(&self, slot: u8, wire: Wire) -> bool
         requires { is_masters wire ≡ true }
         ensures { OfState is_of self.now (λ version p h.
             result ≡ is_open version p h (turned h (Slot slot) wire)) };
 
-    /// The same of the slot's interrupter, or of its board's answer.
+    /// Whether the rules allow the edge of the slot's interrupter, or of its board's `dtack`, that
+    /// has no value and moves the wire to its other state.
     fn may_interrupt(&self, slot: u8, wire: Wire) -> bool
         requires { is_interrupters wire ≡ true }
         ensures { OfState is_of self.now (λ version p h.
             result ≡ is_open version p h (turned h (Slot slot) wire)) };
 
-    /// Whether the rules allow the slot's address group to go on with the cycle.
+    /// Whether the rules allow the slot's address group to go on with this cycle.
     fn may_show(&self, slot: u8, cycle: Cycle) -> bool
         ensures { OfState is_of self.now (λ version p h.
             result ≡ is_open version p h (showing (Slot slot) cycle)) };
@@ -94,16 +102,16 @@ pub trait Judges {
     fn low_interrupts(&self) -> Levels
         ensures { OfState is_of self.now (λ _ p h. result ≡ irq_levels (interrupt_line p h)) };
 
-    /// The next slot with a board, from the least again after the greatest.
+    /// The next slot above this one with a board. After the greatest slot the least follows.
     fn next_board(&self, slot: u8) -> Option<u8>
         ensures { OfState is_of self.now (λ _ p _. result ≡ next_board p slot) };
 
-    /// The levels that the slot's board handles; none where there is no board.
+    /// The levels that the slot's board handles; none if there is no board.
     fn handled(&self, slot: u8) -> Option<Levels>
         ensures { OfState is_of self.now (λ _ p _. result
             ≡ option_map (λ r. r.handler) (board p slot)) };
 
-    /// Which parts of a slot's board wait; all where there is no board.
+    /// Which parts of a slot's board wait. All of them do if there is no board.
     fn waiting(&self, slot: u8) -> Waiting
         ensures requester { OfState is_of self.now (λ version p h.
             result.requester ≡ requester_waits version p h slot) }

@@ -1,4 +1,4 @@
-//! What a wiring answers as a state of the bus, and what is made of the answers.
+//! What a wiring answers as a state of the bus, and what follows from these answers.
 ghost use Rattle.std.specs.Prelude.{◌≡◌, ◌&&◌, find, nat_lt, is_some};
 ghost use Rattle.vme_model.specs.Failing.{tested_but_full, unmet_but_full};
 ghost use Rattle.vme_model.specs.Plan.{board, up_to};
@@ -110,7 +110,7 @@ impl Judges for Wiring {
 impl Wiring {
     ghost use Rattle.vme_wiring.specs.Wired.{OfHistory};
 
-    /// Whether the rules allow the edge without a value that moves the wire to its other state.
+    /// Whether the rules allow the edge that has no value and moves the wire to its other state.
     #[inline(always)]
     fn may_turn(&self, driver: Driver, wire: Wire) -> bool
         ensures { OfHistory self.now (λ version p h.
@@ -120,7 +120,7 @@ impl Wiring {
         self.judge(turned).is_ok()
     }
 
-    /// Whether the slot has a board and stands above that one.
+    /// Whether the other slot has a board and stands above this slot.
     #[inline(always)]
     fn is_board_above(&self, other: u8, slot: u8) -> bool
         ensures { OfHistory self.now (λ _ p _. result
@@ -129,7 +129,7 @@ impl Wiring {
         slot < other && self.board(other).is_some()
     }
 
-    /// The least slot with a board above that one.
+    /// The least slot with a board above this slot.
     fn board_above(&self, slot: u8) -> Option<u8>
         ensures { OfHistory self.now (λ _ p _. result
             ≡ find (λ t. nat_lt slot t && is_some (board p t)) (up_to p.slots)) }
@@ -142,8 +142,9 @@ impl Wiring {
         None
     }
 
-    /// What is tested of an edge, but for the end of the trace: the one condition that fails at E1
-    /// and E2, else those of its rule, and where they hold, that of its settling rule.
+    /// What is tested for an edge, without the end of the trace. At E1 and E2 it is the one
+    /// condition that fails. Otherwise it is the conditions of the edge's rule; if they hold, the
+    /// condition of its settling rule follows. Source: profile.
     pub fn told<A: Outcome>(&self, edge: Edge) -> A
         ensures { OfHistory self.now (λ version p h.
             A.tells result (tested_but_full version p h edge)) }
@@ -151,8 +152,8 @@ impl Wiring {
         told_by(self, edge)
     }
 
-    /// The conditions that an edge fails, of the first of E1 to E4 that applies: none where `judge`
-    /// answers `Ok`.
+    /// The conditions that an edge fails, for the first of E1 to E4 that applies. There are none if
+    /// `judge` answers `Ok`. Source: profile.
     pub fn failing(&self, edge: Edge) -> ArrayVec<Condition, 5>
         ensures { OfHistory self.now (λ version p h.
             result.items ≡ unmet_but_full version p h edge) }
@@ -160,8 +161,8 @@ impl Wiring {
         failing_by(self, edge)
     }
 
-    /// What a driver is offered, but for the end of the trace: of the edges that are considered for
-    /// it those that the rules allow, in the order of its wires.
+    /// What a driver is offered, without the end of the trace: those of the edges considered for it
+    /// that the rules allow, in the order of its wires. Source: profile.
     pub fn offers(&self, driver: Driver) -> ArrayVec<Edge, 16>
         ensures { OfHistory self.now (λ version p h. result.items
             ≡ offered_but_full version p h driver) }
@@ -169,11 +170,12 @@ impl Wiring {
         offers_of(self, driver)
     }
 
-    /// All edges that a driver can make, but for the end of the trace: of those that move one of
-    /// its wires those that the rules allow, in the order of its wires. An address group goes on
-    /// with each acknowledge, by level, and then with each access, by slot.
+    /// All edges that a driver can make, without the end of the trace: those of the edges that move
+    /// one of its wires that the rules allow, in the order of its wires. An address group goes on
+    /// with each acknowledge, by level, and then with each access, by slot. Source: profile (the
+    /// order).
     ///
-    /// `offers` has one acknowledge and one access of them at most.
+    /// `offers` has at most one of the acknowledges and one of the accesses.
     pub fn open_edges(&self, driver: Driver) -> ArrayVec<Edge, 36>
         ensures { OfHistory self.now (λ version p h. result.items
             ≡ open_but_full version p h driver) }

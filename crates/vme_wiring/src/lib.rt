@@ -1,4 +1,5 @@
-//! A backplane's wires as a few counts, chains and parts of boards, so that a verdict is constant work.
+//! A backplane's wires as a few counts, chains and parts of boards, so that a verdict takes
+//! constant work.
 #![tactic(auto)]
 
 mod boards;

@@ -1,4 +1,4 @@
-//! The open-collector lines that boards pull, as counts.
+//! The open-collector lines that boards pull, as counts of the boards that pull them.
 ghost use Rattle.std.specs.Prelude.{◌≡◌, ◌<◌, [], ◌∷◌, true, get_or, nat_lt};
 ghost use Rattle.vme_model.specs.Sets.{bus_levels, irq_levels};
 ghost use Rattle.vme_wiring.specs.Counts.{moved, is_movable, request_level, interrupt_level, no_pulls, count_of, lines_after, shared_after, shared_after_controller, addressing_after};
@@ -6,11 +6,12 @@ ghost use Rattle.vme_wiring.specs.Counts.{moved, is_movable, request_level, inte
 use vme_lines::OrLine;
 use vme_model::{BusLevels, Edge, Levels, Pins, Row, Wire};
 
-/// The lines, each as the number of the boards that pull it; and how many boards pass a grant on.
+/// The lines, each as the number of the boards that pull it, and how many boards pass a grant on.
+/// Source: Std 1014, chapters 2 to 4.
 #[derive(Clone, Copy)]
 pub struct Lines {
     pub br: [OrLine; 4],
-    // by level: the first is of none
+    // by level, 1 to 7; no board pulls the first one
     pub irq: [OrLine; 8],
     pub bgout: OrLine,
     pub bbsy: OrLine,
@@ -19,7 +20,7 @@ pub struct Lines {
     pub dtack: OrLine,
 }
 
-/// The line after one driver more pulls it, or one fewer.
+/// The line after one more driver pulls it, or one fewer.
 fn moved(line: OrLine, fall: bool) -> OrLine
     requires { is_movable line fall ≡ true }
     ensures { result ≡ moved line fall }
@@ -33,7 +34,7 @@ fn moved(line: OrLine, fall: bool) -> OrLine
     line
 }
 
-/// The level of a board's requester.
+/// The level of a board's requester, 0 to 3; 0 if it has none.
 pub fn request_level(row: &Row) -> u8
     ensures { result ≡ request_level row.now }
 {
@@ -43,7 +44,7 @@ pub fn request_level(row: &Row) -> u8
     }
 }
 
-/// The level of a board's interrupter.
+/// The level of a board's interrupter, 1 to 7; 0 if it has none.
 pub fn interrupt_level(row: &Row) -> u8
     ensures { result ≡ interrupt_level row.now }
 {
@@ -54,7 +55,7 @@ pub fn interrupt_level(row: &Row) -> u8
 }
 
 impl Lines {
-    /// The lines when nobody pulls.
+    /// The lines if nobody pulls one.
     pub fn new() -> Lines
         ensures { result ≡ no_pulls }
     {
@@ -69,7 +70,7 @@ impl Lines {
         }
     }
 
-    /// One board more pulls the bus request line of its level, or one fewer.
+    /// One more board pulls the bus request line of its level, or one fewer.
     fn request(&mut self, row: &Row, fall: bool)
         requires level { request_level row.now < 4 }
         requires movable { is_movable (count_of self.old row.now Wire.Br) fall ≡ true }
@@ -79,7 +80,7 @@ impl Lines {
         self.br[level] = moved(self.br[level], fall);
     }
 
-    /// One board more pulls the interrupt request line of its level, or one fewer.
+    /// One more board pulls the interrupt request line of its level, or one fewer.
     fn interrupt(&mut self, row: &Row, fall: bool)
         requires level { interrupt_level row.now < 8 }
         requires movable { is_movable (count_of self.old row.now Wire.Irq) fall ≡ true }
@@ -89,7 +90,7 @@ impl Lines {
         self.irq[level] = moved(self.irq[level], fall);
     }
 
-    /// The bus request lines that are low.
+    /// The bus request lines that are low. Source: Std 1014, chapter 3.
     pub fn requests(&self) -> BusLevels
         ensures { result ≡ bus_levels (λ n. nat_lt 0 (get_or self.now.br n 0)) }
     {
@@ -97,7 +98,7 @@ impl Lines {
         BusLevels::of_lines([zero.is_low(), one.is_low(), two.is_low(), three.is_low()])
     }
 
-    /// The interrupt request lines that are low.
+    /// The interrupt request lines that are low. Source: Std 1014, chapter 4.
     pub fn irqs(&self) -> Levels
         ensures { result ≡ irq_levels (λ n. nat_lt 0 (get_or self.now.irq n 0)) }
     {
@@ -114,7 +115,8 @@ impl Lines {
     }
 }
 
-/// Takes in an edge of the board's wire: the lines, and what all drivers see alike of them.
+/// Takes in an edge of one of the board's wires: into the lines, and into what all drivers see
+/// alike.
 #[inline(always)]
 pub fn note_line(lines: &mut Lines, shared: &mut Pins, row: &Row, edge: Edge)
     requires request_level { request_level row.now < 4 }
@@ -154,7 +156,7 @@ pub fn note_line(lines: &mut Lines, shared: &mut Pins, row: &Row, edge: Edge)
     }
 }
 
-/// What all drivers see alike takes in an edge of the controller's wire.
+/// Takes in an edge of one of the controller's wires, into what all drivers see alike.
 #[inline(always)]
 pub fn note_controllers(shared: &mut Pins, edge: Edge)
     ensures { shared.new ≡ shared_after_controller shared.old edge.wire edge.fall }
@@ -166,7 +168,7 @@ pub fn note_controllers(shared: &mut Pins, edge: Edge)
     }
 }
 
-/// The slot whose address group is on takes in an edge of the slot's.
+/// Takes in an edge of the slot's board, into which slot's address group is on.
 #[inline(always)]
 pub fn note_address(addressing: &mut Option<u8>, slot: u8, edge: Edge)
     ensures { addressing.new ≡ addressing_after addressing.old slot edge.wire edge.fall }

@@ -1,4 +1,4 @@
-//! What a driver is offered, by what a state of the bus answers.
+//! The offers of a driver, by what a state of the bus answers.
 ghost use Rattle.std.specs.Prelude.{◌≡◌, ◌≤◌, ◌<◌, ◌+◌, ◌++◌, ◌∷◌, [], true, Some, filter, length, map};
 ghost use Rattle.std.specs.Option.{option_to_list};
 ghost use Rattle.vme_model.specs.declared.boards.Row.{Row as RowValue};
@@ -14,7 +14,7 @@ use arrayvec::ArrayVec;
 use vme_handler::Handler;
 use vme_model::{Cycle, Driver, Edge, Levels, Wire};
 
-/// The slot's address group going on.
+/// The edge by which the slot's address group goes on with the cycle.
 pub(crate) fn showing(slot: u8, cycle: Cycle) -> Edge
     ensures { result
         ≡ record { driver = Driver.Slot slot; wire = Wire.Addr; fall = true; value = Some cycle } }
@@ -27,7 +27,7 @@ pub(crate) fn showing(slot: u8, cycle: Cycle) -> Edge
     }
 }
 
-/// The highest low level of those that a board handles.
+/// The highest level that is low and that a board handles.
 fn wanted<J: Judges>(state: &J, handled: Levels) -> Option<u8>
     ensures { OfState J.is_of state.now (λ _ p h. (r : RowValue) → r.handler ≡ handled
         → result ≡ wanted p h r) }
@@ -35,7 +35,7 @@ fn wanted<J: Judges>(state: &J, handled: Levels) -> Option<u8>
     Handler::new(handled).wants(state.low_interrupts())
 }
 
-/// The edge without a value that moves the wire to its other state.
+/// The edge that has no value and moves the wire to its other state.
 #[inline(always)]
 fn turned<J: Judges>(state: &J, driver: Driver, wire: Wire) -> Edge
     ensures { OfState J.is_of state.now (λ _ _ h. result ≡ turned h driver wire) }
@@ -48,7 +48,8 @@ fn turned<J: Judges>(state: &J, driver: Driver, wire: Wire) -> Edge
     }
 }
 
-/// Puts the slot's address group going on with a cycle after the others where the rules allow it.
+/// Appends the edge by which the slot's address group goes on with the cycle, if the rules allow
+/// it.
 #[inline(always)]
 pub(crate) fn offer_shown<J: Judges, const N: usize>(
     state: &J,
@@ -66,8 +67,7 @@ pub(crate) fn offer_shown<J: Judges, const N: usize>(
     }
 }
 
-/// Puts the edge without a value that moves the wire to its other state after the others, where the
-/// rules allow it.
+/// Appends the edge that has no value and moves the wire to its other state, if the rules allow it.
 #[inline(always)]
 pub(crate) fn offer_turned<J: Judges, const N: usize>(
     state: &J,
@@ -88,7 +88,7 @@ pub(crate) fn offer_turned<J: Judges, const N: usize>(
     }
 }
 
-/// Puts the slot's address group going on with an acknowledge after the others, where its board
+/// Appends the edge by which the slot's address group goes on with an acknowledge, if its board
 /// wants a level and the rules allow it.
 #[inline(always)]
 fn offer_acknowledge<J: Judges, const N: usize>(
@@ -110,8 +110,8 @@ fn offer_acknowledge<J: Judges, const N: usize>(
     }
 }
 
-/// Puts the slot's address group going on with an access after the others, where there is a board
-/// and the rules allow it.
+/// Appends the edge by which the slot's address group goes on with an access, if there is a board
+/// to access and the rules allow it.
 #[inline(always)]
 fn offer_access<J: Judges, const N: usize>(state: &J, slot: u8, offers: &mut ArrayVec<Edge, N>)
     requires { length offers.old.items < N }
@@ -125,7 +125,7 @@ fn offer_access<J: Judges, const N: usize>(state: &J, slot: u8, offers: &mut Arr
     }
 }
 
-/// Puts the edges of the slot's address group after the others that the rules allow.
+/// Appends the edges of the slot's address group that the rules allow.
 #[inline(always)]
 fn offer_address<J: Judges, const N: usize>(state: &J, slot: u8, offers: &mut ArrayVec<Edge, N>)
     requires { length offers.old.items + 2 ≤ N }
@@ -143,7 +143,7 @@ fn offer_address<J: Judges, const N: usize>(state: &J, slot: u8, offers: &mut Ar
     }
 }
 
-/// Puts what a slot's requester may do after the others: nothing where it waits.
+/// Appends the edges that a slot's requester may make; none if it waits.
 fn offer_requester<J: Judges, const N: usize>(
     state: &J,
     slot: u8,
@@ -168,7 +168,7 @@ fn offer_requester<J: Judges, const N: usize>(
     offer_turned(state, Driver::Slot(slot), Wire::Bbsy, may, offers);
 }
 
-/// Puts what a slot's master may do after the others: nothing where it waits.
+/// Appends the edges that a slot's master may make; none if it waits.
 fn offer_master<J: Judges, const N: usize>(
     state: &J,
     slot: u8,
@@ -192,7 +192,7 @@ fn offer_master<J: Judges, const N: usize>(
     offer_turned(state, Driver::Slot(slot), Wire::DataStrobe, may, offers);
 }
 
-/// Puts what a slot's interrupter may do, and its answer, after the others: nothing where it waits.
+/// Appends the edges that a slot's interrupter may make, and its board's answer; none if it waits.
 fn offer_interrupter<J: Judges, const N: usize>(
     state: &J,
     slot: u8,
@@ -217,8 +217,8 @@ fn offer_interrupter<J: Judges, const N: usize>(
     offer_turned(state, Driver::Slot(slot), Wire::Dtack, may, offers);
 }
 
-/// Puts what the slot's board is offered into an empty list, where the parts that wait are offered nothing: those are not
-/// asked.
+/// Puts the offers of the slot's board into an empty list. Parts that wait have no offer, so they
+/// are not asked. Source: profile.
 pub fn put_parts<J: Judges, const N: usize>(
     state: &J,
     slot: u8,
@@ -239,7 +239,7 @@ pub fn put_parts<J: Judges, const N: usize>(
     offer_interrupter(state, slot, waiting.interrupter, offers);
 }
 
-/// Puts what the slot's board is offered into an empty list; nothing where there is no board.
+/// Puts the offers of the slot's board into an empty list; none if there is no board.
 fn put_slot<J: Judges, const N: usize>(state: &J, slot: u8, offers: &mut ArrayVec<Edge, N>)
     requires room { 11 ≤ N }
     requires empty { offers.old.items ≡ [] }
@@ -249,8 +249,8 @@ fn put_slot<J: Judges, const N: usize>(state: &J, slot: u8, offers: &mut ArrayVe
     put_parts(state, slot, state.waiting(slot), offers);
 }
 
-/// Puts the edge of a level's grant after the others where the rules allow it: none falls but where
-/// it may.
+/// Appends the edge of a level's grant if the rules allow it. A grant falls only if `is_free` is
+/// true.
 #[inline(always)]
 fn offer_grant<J: Judges, const N: usize>(
     state: &J,
@@ -272,7 +272,7 @@ fn offer_grant<J: Judges, const N: usize>(
     offer_turned(state, Driver::Controller, Wire::Bg(level), may, offers);
 }
 
-/// Puts what the controller is offered into an empty list.
+/// Puts the offers of the controller into an empty list.
 pub(crate) fn put_controller<J: Judges, const N: usize>(state: &J, offers: &mut ArrayVec<Edge, N>)
     requires room { 7 ≤ N }
     requires empty { offers.old.items ≡ [] }
@@ -292,8 +292,8 @@ pub(crate) fn put_controller<J: Judges, const N: usize>(state: &J, offers: &mut 
     offer_turned(state, Driver::Controller, Wire::Berr, may, offers);
 }
 
-/// Puts what a driver is offered, but for the end of the trace, into an empty list: of the edges that are considered for
-/// it those that the rules allow, in the order of its wires.
+/// Puts the offers of a driver, without the end of the trace, into an empty list: those of the
+/// edges considered for it that the rules allow, in the order of its wires. Source: profile.
 pub fn put_offers<J: Judges, const N: usize>(
     state: &J,
     driver: Driver,
@@ -310,8 +310,8 @@ pub fn put_offers<J: Judges, const N: usize>(
     }
 }
 
-/// What a driver is offered, but for the end of the trace: of the edges that are considered for it
-/// those that the rules allow, in the order of its wires.
+/// The offers of a driver, without the end of the trace: those of the edges considered for it that
+/// the rules allow, in the order of its wires. There are at most 11. Source: profile.
 pub fn offers_of<J: Judges>(state: &J, driver: Driver) -> ArrayVec<Edge, 16>
     ensures { OfState J.is_of state.now (λ version p h. result.items
         ≡ offered_but_full version p h driver) }

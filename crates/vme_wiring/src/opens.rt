@@ -11,7 +11,7 @@ use crate::offers::{offer_shown, offer_turned, put_controller};
 use arrayvec::ArrayVec;
 use vme_model::{Cycle, Driver, Edge, Wire};
 
-/// Puts after the others the acknowledges that the slot can show, by level.
+/// Appends the acknowledges that the slot can show, by level.
 fn open_acknowledges<J: Judges>(state: &J, slot: u8, edges: &mut ArrayVec<Edge, 36>)
     requires { length edges.old.items ≤ 29 }
     ensures opened { OfState J.is_of state.now (λ version p h. edges.new.items ≡ edges.old.items
@@ -23,7 +23,7 @@ fn open_acknowledges<J: Judges>(state: &J, slot: u8, edges: &mut ArrayVec<Edge, 
     }
 }
 
-/// Puts after the others the accesses that it can show, by their slots.
+/// Appends the accesses that the slot can show, by the slot that is accessed.
 fn open_accesses<J: Judges>(state: &J, slot: u8, edges: &mut ArrayVec<Edge, 36>)
     requires { length edges.old.items ≤ 15 }
     ensures opened { OfState J.is_of state.now (λ version p h. edges.new.items ≡ edges.old.items
@@ -35,7 +35,7 @@ fn open_accesses<J: Judges>(state: &J, slot: u8, edges: &mut ArrayVec<Edge, 36>)
     }
 }
 
-/// Puts after the others the edges of its address group: going off, or going on with each cycle.
+/// Appends the edges of the slot's address group: going off, or going on with each cycle.
 fn open_address<J: Judges>(state: &J, slot: u8, edges: &mut ArrayVec<Edge, 36>)
     requires { length edges.old.items ≤ 8 }
     ensures opened { OfState J.is_of state.now (λ version p h. edges.new.items ≡ edges.old.items
@@ -51,7 +51,7 @@ fn open_address<J: Judges>(state: &J, slot: u8, edges: &mut ArrayVec<Edge, 36>)
     }
 }
 
-/// All edges that the slot's board can make; none where there is no board.
+/// All edges that the slot's board can make; none if there is no board.
 fn slot_open_edges<J: Judges>(state: &J, slot: u8) -> ArrayVec<Edge, 36>
     ensures { OfState J.is_of state.now (λ version p h. result.items
         ≡ open_but_full version p h (Slot slot)) }
@@ -83,17 +83,17 @@ fn slot_open_edges<J: Judges>(state: &J, slot: u8) -> ArrayVec<Edge, 36>
     edges
 }
 
-/// All edges that a driver can make, but for the end of the trace: of those that move one of its
-/// wires those that the rules allow, in the order of its wires. An address group goes on with each
-/// acknowledge, by level, and then with each access, by slot.
+/// All edges that a driver can make, without the end of the trace: those of the edges that move one
+/// of its wires that the rules allow, in the order of its wires. An address group goes on with each
+/// acknowledge, by level, and then with each access, by slot. Source: profile (the order).
 ///
-/// `offers_of` has one acknowledge and one access of them at most.
+/// `offers_of` has at most one of the acknowledges and one of the accesses.
 pub fn open_edges_of<J: Judges>(state: &J, driver: Driver) -> ArrayVec<Edge, 36>
     ensures { OfState J.is_of state.now (λ version p h. result.items
         ≡ open_but_full version p h driver) }
 {
     match driver {
-        // its wires show nothing, so that it is offered all that it can make
+        // its wires show nothing, so it is offered all that it can make
         Driver::Controller => {
             let mut edges = ArrayVec::new();
             put_controller(state, &mut edges);

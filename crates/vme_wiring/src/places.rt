@@ -1,4 +1,4 @@
-//! A board in its place, with what each of its edges moves and every turn asks.
+//! A board in its place, with what each of its edges changes and every turn asks for.
 ghost use Rattle.std.specs.Prelude.{◌≡◌, ◌&&◌, ◌∷◌, [], true, not};
 ghost use Rattle.vme_model.specs.Plan.{Plan};
 ghost use Rattle.vme_model.specs.History.{shown as shown_after};
@@ -9,7 +9,8 @@ use crate::boards::Board;
 use std::marker::Model;
 use vme_model::{Cycle, Edge, Row, Version, Wire};
 
-/// Whether the board's requester, if it has one, requests the bus, passes no grant on and does not hold the bus.
+/// Whether the board's requester, if it has one, requests the bus, passes no grant on and does not
+/// hold the bus. Source: Std 1014, chapter 3.
 #[inline(always)]
 pub fn is_requester_quiet(board: &Board) -> bool
     ensures { result ≡ is_requester_quiet (low_of board.now) board.now.row }
@@ -22,7 +23,8 @@ pub fn is_requester_quiet(board: &Board) -> bool
     }
 }
 
-/// Whether the board does not hold the bus, and its address group and strobes are off.
+/// Whether the board does not hold the bus, its address group is off and its strobes are high.
+/// Source: Std 1014, chapters 2 and 3.
 #[inline(always)]
 pub fn is_master_quiet(board: &Board) -> bool
     ensures { result ≡ is_master_quiet (low_of board.now) }
@@ -34,6 +36,7 @@ pub fn is_master_quiet(board: &Board) -> bool
 }
 
 /// Whether the board answers nothing, and its interrupter, if it has one, passes no acknowledge on.
+/// Source: Std 1014, chapters 2 and 4.
 #[inline(always)]
 pub fn is_interrupter_quiet(board: &Board) -> bool
     ensures { result ≡ is_interrupter_quiet (low_of board.now) board.now.row }
@@ -53,7 +56,7 @@ fn is_quiet(board: &Board) -> bool
     is_requester_quiet(board) && is_master_quiet(board) && is_interrupter_quiet(board)
 }
 
-/// A board, and whether it is quiet.
+/// A board, and whether it is quiet: none of its own wires keeps it from waiting.
 ///
 /// A clause sees it as its board.
 #[derive(Clone, Copy)]
@@ -90,7 +93,7 @@ impl Placed {
         Placed { board, quiet }
     }
 
-    /// The board.
+    /// The board that stands there.
     #[inline(always)]
     pub fn board(&self) -> &Board
         ensures { result.now ≡ self.now }
@@ -106,7 +109,7 @@ impl Placed {
         self.quiet
     }
 
-    /// Takes in an edge of the board that was made while that was shown.
+    /// Takes in an edge of the board, given what was shown just before it.
     #[inline(always)]
     pub fn note(&mut self, edge: Edge, shown: Option<Cycle>)
         ensures { OfParts self.old (λ version p h r. shown ≡ shown_after p h

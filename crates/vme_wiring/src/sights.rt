@@ -10,7 +10,8 @@ use crate::boards::Board;
 use crate::wirings::Wiring;
 use vme_model::{Cycle, Delivery, Driver, Edge, Pins, Row, Wire};
 
-/// What an answer delivers, by what is shown, the slot that shows it, and the board that answers.
+/// The delivery of an answer, if it delivers: given what is shown, the slot that shows it, and the
+/// board that answers. Source: Std 1014, chapter 4.
 pub fn delivered_by(
     shown: Option<Cycle>,
     addressing: Option<u8>,
@@ -53,7 +54,7 @@ impl Wiring {
         pins
     }
 
-    /// What a driver reads on its pins.
+    /// What a driver reads on its pins. Source: profile.
     pub fn pins(&self, driver: Driver) -> Pins
         ensures { OfHistory self.now (λ _ p h. result ≡ pins p h driver) }
     {
@@ -66,7 +67,7 @@ impl Wiring {
         }
     }
 
-    /// The row of the driver's board.
+    /// The row of the driver's board; none for the controller, and for a slot without a board.
     fn row(&self, driver: Driver) -> Option<&Row>
         ensures { OfHistory self.now (λ _ p _. option_copied result ≡ board_of p driver) }
     {
@@ -79,7 +80,7 @@ impl Wiring {
         }
     }
 
-    /// What an edge delivers.
+    /// What an edge delivers, if it delivers. Source: Std 1014, chapter 4.
     #[inline(always)]
     pub fn delivery(&self, edge: Edge) -> Option<Delivery>
         ensures { OfHistory self.now (λ _ p h. result ≡ delivery p h edge) }

@@ -1,4 +1,4 @@
-//! The verdict on an edge, but for the end of the trace.
+//! The verdict on an edge, without the end of the trace.
 ghost use Rattle.std.specs.Prelude.{◌≡◌, Some, Ok};
 ghost use Rattle.vme_model.specs.Offers.{turned};
 ghost use Rattle.vme_model.specs.History.{drive, shown};
@@ -14,7 +14,8 @@ use vme_rules::settlings::{as_settles, berr_settles, bg_fall_settles, bg_rise_se
 impl Wiring {
     ghost use Rattle.vme_wiring.specs.Wired.{OfHistory};
 
-    /// E1 to E3: whether an edge that is well formed is of a driver that there is, and then by the part that drives the wire.
+    /// E1 to E3: whether an edge that is well formed has a driver in the plan, and then the answer
+    /// of the part that drives the wire.
     #[inline(always)]
     fn ask(&self, edge: Edge) -> Result<(), Refused>
         ensures { OfHistory self.now (λ version p h. result
@@ -32,7 +33,7 @@ impl Wiring {
         }
     }
 
-    /// Whether nobody can answer the cycle.
+    /// Whether no board can answer the cycle.
     fn is_beyond_boards(&self, cycle: Cycle) -> bool
         ensures { OfHistory self.now (λ _ p h. result ≡ is_unanswerable p h (Some cycle)) }
     {
@@ -42,7 +43,7 @@ impl Wiring {
         }
     }
 
-    /// Whether nobody can answer what is shown.
+    /// Whether no board can answer what is shown.
     fn is_unanswerable(&self) -> bool
         ensures { OfHistory self.now (λ _ p h. result ≡ is_unanswerable p h (shown p h)) }
     {
@@ -52,7 +53,8 @@ impl Wiring {
         }
     }
 
-    /// The settling rule that names the edge, and what its guard answers; 0 and a free one where none does.
+    /// The number of the settling rule that names the edge, and what its guard answers. The number
+    /// is 0, and the guard has no condition, if no settling rule names the edge.
     #[inline(always)]
     pub(crate) fn settling<A: Outcome>(&self, edge: Edge) -> (u8, A)
         ensures number { OfHistory self.now (λ version p h. result.0
@@ -75,7 +77,7 @@ impl Wiring {
         }
     }
 
-    /// E4: the settling rules.
+    /// E4: whether the settling rule that names the edge holds.
     #[inline(always)]
     fn settle(&self, edge: Edge) -> Result<(), Refused>
         ensures { OfHistory self.now (λ version p h. result
@@ -90,7 +92,11 @@ impl Wiring {
         }
     }
 
-    /// The first of E1 to E4 that applies to an edge.
+    /// Whether the rules allow an edge, without the end of the trace. Source: docs/RULES.md, E1 to
+    /// E4.
+    ///
+    /// # Errors
+    /// The first of E1 to E4 that applies.
     #[inline(always)]
     pub fn judge(&self, edge: Edge) -> Result<(), Refused>
         ensures { OfHistory self.now (λ version p h. result ≡ verdict_but_full version p h edge) }
@@ -115,7 +121,7 @@ impl Wiring {
         }
     }
 
-    /// The edge without a value that moves the wire to its other state.
+    /// The edge that has no value and moves the wire to its other state.
     #[inline(always)]
     pub(crate) fn turned(&self, driver: Driver, wire: Wire) -> Edge
         ensures { OfHistory self.now (λ _ _ h. result ≡ turned h driver wire) }

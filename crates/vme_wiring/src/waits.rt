@@ -1,4 +1,4 @@
-//! Which drivers wait for an edge of another.
+//! Which drivers wait for an edge of another driver.
 ghost use Rattle.std.specs.Prelude.{◌≡◌, ◌&&◌, true, [], Some};
 ghost use Rattle.vme_model.specs.declared.signals.Driver.TheVariants.{Slot};
 ghost use Rattle.vme_model.specs.Readings.{readings};
@@ -23,7 +23,7 @@ fn is_access_to(slot: u8, shown: Option<Cycle>) -> bool
     }
 }
 
-/// Whether the board's interrupter, if it has one, requests and was not served.
+/// Whether the board's interrupter, if it has one, requests and has not been served.
 fn is_unserved(board: &Board) -> bool
     ensures { OfParts board.now (λ _ _ _ _. (w : WiringValue)
         → result ≡ is_unserved (read_by w board.now) board.now.row) }
@@ -53,7 +53,8 @@ impl Wiring {
         }
     }
 
-    /// Whether no access to the board is shown, and no acknowledge has reached its interrupter, if it has one.
+    /// Whether no access to the board is shown, and no acknowledge has reached its interrupter, if
+    /// it has one.
     #[inline(always)]
     fn is_unaddressed(&self, board: &Board) -> bool
         ensures { result ≡ is_unaddressed self.now.shared.shown
@@ -81,7 +82,8 @@ impl Wiring {
         is_interrupter_quiet(board) && self.is_unaddressed(board)
     }
 
-    /// Whether the board has nothing to answer or to pass on, and its interrupter, if it has one, waits to be served.
+    /// Whether the board has nothing to answer or to pass on, and its interrupter, if it has one,
+    /// waits to be served.
     #[inline(always)]
     fn is_interrupter_waiting(&self, board: &Board) -> bool
         ensures { OfPlaced self.now board.now (λ _ p h s. result
@@ -91,7 +93,7 @@ impl Wiring {
         self.waits_for_cycle(board) && is_unserved(board)
     }
 
-    /// Which parts of a slot's board wait.
+    /// Which parts of a board wait.
     #[inline(always)]
     pub(crate) fn waiting_parts(&self, board: &Board) -> Waiting
         ensures requester { OfPlaced self.now board.now (λ version p h s. result.requester
@@ -109,7 +111,7 @@ impl Wiring {
         }
     }
 
-    /// Whether nothing has come to the board.
+    /// Whether nothing has reached the board that it could answer or pass on.
     #[inline(always)]
     fn is_left_alone(&self, board: &Board) -> bool
         ensures { result ≡ is_left_alone self.now.version
@@ -118,8 +120,8 @@ impl Wiring {
         self.is_ungranted(board) && self.is_unaddressed(board)
     }
 
-    /// Whether the board is quiet and left alone. Then its requester and its master wait, and it has nothing to answer;
-    /// that is so of most boards in most turns.
+    /// Whether the board is quiet and left alone. If so, its requester and its master wait, and it
+    /// has nothing to answer. This holds for most boards in most turns.
     #[inline(always)]
     fn is_board_waiting(&self, placed: &Placed) -> bool
         ensures { result ≡ (is_quiet (low_of placed.now) placed.now.row
@@ -129,10 +131,11 @@ impl Wiring {
         placed.is_quiet() && self.is_left_alone(placed.board())
     }
 
-    /// Whether the driver waits for an edge of another: each part of its board waits, the requester for a grant, the
-    /// master for the bus, and the rest for a cycle. The rules then allow none of the edges that are considered for it.
+    /// Whether the driver waits for an edge of another driver. It does if each part of its board
+    /// waits: the requester for a grant, the master for the bus, and the rest for a cycle. The
+    /// rules then allow none of the edges that are considered for it. Source: profile.
     ///
-    /// It looks at a few fields alone. Where it answers false, `offers` may still be empty.
+    /// The call reads only a few fields. If it answers false, `offers` may still be empty.
     pub fn is_waiting(&self, driver: Driver) -> bool
         ensures waits { OfHistory self.now (λ version p h. result ≡ is_waiting version p h driver) }
         ensures none { OfHistory self.now (λ version p h. result ≡ true

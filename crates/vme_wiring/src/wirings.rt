@@ -1,4 +1,4 @@
-//! The state that a backplane's edges lead to.
+//! The state to which a backplane's edges lead.
 ghost use Rattle.std.specs.Prelude.{◌≡◌, ◌<◌, ◌∷◌, [], ℕ, List, Some, Ok, length, option_map, set};
 ghost use Rattle.std.specs.List.{slice_get};
 ghost use Rattle.std.specs.Option.{option_copied};
@@ -22,8 +22,9 @@ use vme_arbiter::{AnyPolicy, Arbiter};
 use vme_model::{BusLevels, Driver, Edge, Levels, Pins, Version};
 use vme_slots::Plan;
 
-/// What the edges so far lead to, in places of fixed number: the parts of each board by its slot, the controller's, the
-/// counts of the lines, and the segments of the chains.
+/// The state to which the edges so far lead, kept in a fixed number of places: the parts of each
+/// board by its slot, the controller's part, the counts of the lines, and the segments of the
+/// chains.
 #[derive(Drop)]
 pub struct Wiring {
     pub(crate) version: Version,
@@ -61,7 +62,7 @@ fn boards_of(plan: &Plan, version: Version) -> [Option<Placed>; 22]
     boards
 }
 
-/// What all drivers see alike where every line is high.
+/// What all drivers see alike if every line is high.
 fn all_high() -> Pins
     ensures { result ≡ high_pins }
 {
@@ -100,7 +101,7 @@ impl Wiring {
         }
     }
 
-    /// The board of a slot in its place.
+    /// The board of a slot, in its place.
     #[inline(always)]
     pub(crate) fn placed(&self, slot: u8) -> Option<&Placed>
         ensures { option_copied result ≡ place self.now.boards slot }
@@ -122,7 +123,7 @@ impl Wiring {
         }
     }
 
-    /// Takes in an edge that the rules allow after a history that the wiring is of.
+    /// Takes in an edge that the rules allow after the history of this wiring.
     #[inline(always)]
     pub fn note(&mut self, edge: Edge)
         requires allowed { CanTake self.old edge }

@@ -1,4 +1,4 @@
--- A text that names seeds is parted by two dots in one way alone.
+-- A text that names seeds can be split at two dots in only one way.
 use Rattle.std.proofs.Common.{◌≡◌, ◌∙◌, ℕ, ◌<◌, ◌≤◌, ◌+◌, ◌-◌, ◌++◌, ◌==◌, [], ◌∷◌, Bool, true, false, None, codes, cond, length, take, drop, slice_index, sym, ap, subst, arith}
 use Rattle.std.proofs.lemmas.List.{append_assoc, drop-append-le, length-append, length-drop, take-append-drop}
 use Rattle.std.proofs.Math.Seq.{drop-append-add, drop-append_seam, take-append_seam}
@@ -10,11 +10,11 @@ use Rattle.vme_words.specs.Asked.{AreSeeds, IsSeed, NamesNoSeeds}
 abbrev dots : Text
 dots = codes ".."
 
--- the text is parted at its first two dots
+-- the text is split at its first two dots
 abbrev pub IsParted : Text → Text → Text → Type 0
 IsParted named begins ends = SplitsAroundMatch (FindsText dots) named begins ends
 
--- a dot is no digit
+-- a dot is not a digit
 digits_only : (x y : Text) → AllDigits 10 (x ++ 46 ∷ y) → ⊥
 digits_only [] y digits = let dot : 36 < 10 = digits.0 in omega arith
 digits_only (c ∷ x) y digits = digits_only x y digits.1
@@ -52,7 +52,7 @@ same_length a b i j digits lacks is =
     let short : ¬ (length a < i) = λ less. lacks (length a) less b (drop-append_seam a (dots ++ b)) in
     omega arith
 
--- where a numeral stands before two dots, they are the first
+-- if a numeral stands before two dots, these are the first two dots
 apart : (begins ends a b : Text) → AllDigits 10 (without_leading_plus a) → IsParted (a ++ (dots ++ b)) begins ends → (begins ≡ a) × (ends ≡ b)
 apart begins ends a b digits s =
     let at : length a ≡ s.0 = same_length a b s.0 s.1 digits s.2.0 s.2.1.split in (

@@ -1,4 +1,4 @@
--- Which job the words after the program's name ask for.
+-- The job for which the words after the program's name ask.
 use Rattle.std.specs.Prelude.{◌≡◌, ◌≢◌, ◌↔◌, ◌⊎◌, ◌+◌, ◌-◌, ◌^◌, ◌<◌, ◌≤◌, ◌++◌, ℕ, Bool, true, false, IsTrue, List, [], ◌∷◌, Option, Some, None, codes, length, map, max, min, option_map, IsSomeAnd}
 use Rattle.std.specs.Borrow.{Bor}
 use Rattle.std.specs.Str.Parse.{IsNumeral, digits_value, without_leading_plus}
@@ -25,7 +25,8 @@ IsFile name rows file = first_of name rows ≡ Some file
 abbrev pub AreFiles : Text → List Row → List Text → Type 0
 AreFiles name rows files = all_of name rows ≡ Some files
 
--- the number that the option of this name spells, in decimal digits; none where it is not given
+-- the number that the option of this name spells, in decimal digits; none if the option is not
+-- given
 abbrev pub spelled : Text → List Row → Option ℕ
 spelled name rows =
     option_map (λ text. digits_value 10 (without_leading_plus text)) (one_of name rows)
@@ -34,7 +35,7 @@ abbrev pub version_number : Version → ℕ
 version_number One = 1
 version_number Two = 2
 
--- the options `--edges` and `--version`; the latter's default stands in the command line
+-- the options `--edges` and `--version`; the default of the latter stands in the command line
 abbrev pub AreOptions : List Row → ℕ → Version → Type 0
 AreOptions rows edges version =
     (spelled (codes "edges") rows ≡ Some edges)
@@ -50,7 +51,8 @@ first_shown (Some from) to = from
 first_shown None (Some to) = max 1 (to - 59)
 first_shown None None = 1
 
--- the last one, by `--to` and the first: without `--to` it is the 60th, as far as numbers go
+-- the last edge of a picture, by `--to` and the first edge: without `--to` it is the 60th edge of
+-- the picture, or the greatest number if that is less
 abbrev pub last_shown : Option ℕ → ℕ → ℕ
 last_shown (Some to) first = to
 last_shown None first = min (first + 59) (2 ^ 64 - 1)
@@ -61,7 +63,7 @@ first_of_window rows = first_shown (spelled (codes "from") rows) (spelled (codes
 abbrev pub last_of_window : List Row → ℕ
 last_of_window rows = last_shown (spelled (codes "to") rows) (first_of_window rows)
 
--- what `--until` names, of all that a trace of the version can come to
+-- the goal that `--until` names, among all that a trace can reach in that version
 abbrev pub IsAim : List Row → Version → Option Goal → Type 0
 IsAim rows version None = first_of (codes "until") rows ≡ None
 IsAim rows version (Some goal) = (named : Text) × (first_of (codes "until") rows ≡ Some named)
@@ -81,7 +83,7 @@ AreSeeds named first last = (begins : Text) × (ends : Text) × (named ≡ begin
 abbrev pub NamesNoSeeds : Text → Type 0
 NamesNoSeeds named = (first last : ℕ) → ¬ (AreSeeds named first last)
 
--- the option `--seeds`
+-- the option `--seeds`, with the first and the last seed
 abbrev pub AreTried : List Row → ℕ → ℕ → Type 0
 AreTried rows first last = (named : Text) × (first_of (codes "seeds") rows ≡ Some named)
     × AreSeeds named first last
@@ -130,25 +132,25 @@ AsksFor name rows (Run scenario edges turns version) = (name ≡ codes "run")
     × IsFile (codes "SCENARIO") rows scenario.now × AreOptions rows edges version
     × (spelled (codes "turns") rows ≡ Some turns)
 
--- the command line comes to the option that asks for the program's own version
+-- the command line reaches the option that asks for the program's own version
 abbrev pub AskForVersion : List Text → Type 0
 AskForVersion words = IsAmong DisplayVersion (fault_of commands words)
 
--- no words ask for standard input; others for the version, or for what their command says, with the
--- operands that the command line gives it
+-- without words the job is to replay standard input; other words ask for the version, or for what
+-- their command says, with the operands that the command line gives it
 abbrev pub Ask : List Text → Job → Type 0
 Ask [] job = job ≡ Joined
 Ask (word ∷ words) job = (AskForVersion (word ∷ words) × (job ≡ OwnVersion))
     ⊎ IsSomeAnd (subcommand_of commands (word ∷ words)) (λ met. AsksFor met.0 met.1 job)
 
--- `--until` is given without seeds, or names nothing that a trace of the version can come to
+-- `--until` is given without seeds, or names nothing that a trace can reach in that version
 abbrev pub IsNoAim : List Row → Type 0
 IsNoAim rows = (named : Text) × (first_of (codes "until") rows ≡ Some named)
     × (((spelled (codes "seed") rows ≡ None) × (first_of (codes "seeds") rows ≡ None))
     ⊎ ((version : Version) × (spelled (codes "version") rows ≡ Some (version_number version))
     × (aim_of named version ≡ None)))
 
--- `--seeds` is given beside `--seed` or without `--until`, or names no seeds
+-- `--seeds` is given together with `--seed` or without `--until`, or does not name seeds
 abbrev pub AreNotTried : List Row → Type 0
 AreNotTried rows = (named : Text) × (first_of (codes "seeds") rows ≡ Some named)
     × ((spelled (codes "seed") rows ≢ None) ⊎ (first_of (codes "until") rows ≡ None)

@@ -1,5 +1,5 @@
--- The command line of the program: which commands it has, which files and options each takes, and
--- which are required; the program alone tells its version.
+-- The command line of the program: which commands it has, which files and options each command
+-- takes, and which of them are required. Only the program itself prints its version.
 use Rattle.std.specs.Prelude.{◌^◌, ◌-◌, ℕ, List, [], ◌∷◌, Some, true, false, codes, pos}
 use Rattle.vme_model.specs.Report.{trace_limit}
 use Rattle.vme_words.specs.Limits.{most_turns}
@@ -10,11 +10,11 @@ use Rattle.clap.specs.declared.builder.action.ArgAction.TheVariants.{Append, Set
 use Rattle.clap.specs.declared.builder.value_parser.ValueParser.{ValueParser}
 use Rattle.clap.specs.declared.builder.value_parser.ValueParser.TheVariants.{Signed, Unsigned}
 
--- a word that must be given
+-- a required word
 abbrev pub file : Text → Rule
 file name = record (new_rule name) { action = Some Set; required = true }
 
--- words of which one must be given at least
+-- words, of which at least one is required
 abbrev pub files : Text → Rule
 files name = record (file name) {
   action = Some Append;
@@ -34,11 +34,11 @@ valued name parser = record (new_rule name) {
 abbrev pub option : Text → ℕ → Rule
 option name most = valued name (Signed (pos 1) (pos most))
 
--- such a number that must be given
+-- `--NAME` with a number from 1 to `most`, required
 abbrev pub number : Text → ℕ → Rule
 number name most = record (option name most) { required = true }
 
--- 1 where it is not given
+-- `--version` of the rules, which is 1 if it is not given
 abbrev pub version : Rule
 version = record (option (codes "version") 2) { defaults = codes "1" ∷ [] }
 
@@ -87,7 +87,7 @@ color = flag (codes "color")
 abbrev pub progress : Rule
 progress = flag (codes "progress")
 
--- a command of this name that takes a scenario, and then these
+-- a command of this name that takes a scenario, and then these arguments
 abbrev pub leaf : Text → List Rule → App
 leaf name operands = record {
   top = record (new_shape name) { rules = file (codes "SCENARIO") ∷ operands };

@@ -7,7 +7,7 @@ use Rattle.vme_words.specs.declared.Job.TheVariants.{Joined, OwnVersion, Replay,
 abbrev pub most_turns : ℕ
 most_turns = 1000000
 
--- a picture shows one edge at least, and 200 at most
+-- a picture shows at least one edge, and at most 200
 abbrev pub IsWindow : ℕ → ℕ → Type 0
 IsWindow from to = (from ≤ to) × (to ≤ from + 199)
 

@@ -5,7 +5,8 @@ use Rattle.vme_words.specs.Asked.{IsNoJob}
 use Rattle.vme_words.specs.declared.Unfit.{Unfit}
 use Rattle.vme_words.specs.declared.Unfit.TheVariants.{Missing, NoMemory}
 
--- what is missing is not judged: the command line takes no such words; nor is want of memory
+-- a missing operand is not judged, since the command line accepts no such words; nor is want of
+-- memory
 abbrev pub IsUnfit : Text → List Row → Unfit → Type 0
 IsUnfit name rows Missing = Unit {0}
 IsUnfit name rows NoMemory = Unit {0}

@@ -1,11 +1,11 @@
-//! Conditions that refuse an edge alone, and those that never do.
+//! The conditions that can refuse an edge alone, and those that never do.
 ghost use Rattle.std.specs.Prelude.{◌≡◌};
 ghost use Rattle.vme_words.specs.Alone as spec;
 
 use vme_goals::{Goal, Miss, goal_of};
 use vme_model::{Condition, Version};
 
-/// Whether another condition of that rule fails, too, wherever this one does.
+/// Whether another condition of that rule always fails together with this one.
 fn is_never_alone(rule: u8, condition: Condition) -> bool
     ensures { result ≡ spec.is_never_alone rule condition }
 {
@@ -19,7 +19,8 @@ fn is_never_alone(rule: u8, condition: Condition) -> bool
     }
 }
 
-/// Whether some trace can come to it: a condition that never fails alone is none.
+/// Whether some trace can reach the goal. None can if the goal is a condition that never fails
+/// alone.
 fn can_come(goal: Goal) -> bool
     ensures { result ≡ spec.can_come goal }
 {
@@ -29,7 +30,7 @@ fn can_come(goal: Goal) -> bool
     }
 }
 
-/// What words name, of all that a trace of the version of the rules can come to.
+/// The goal that words name, among all that a trace can reach in that version of the rules.
 pub(crate) fn aim_named(named: &str, version: Version) -> Option<Goal>
     ensures { result ≡ spec.aim_of named.now version }
 {

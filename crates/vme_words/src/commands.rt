@@ -173,7 +173,7 @@ Two runs may differ; what each writes is legal.
 Example:
   vmebus run board.toml --edges 1000 --turns 100000 > tenure.vme";
 
-/// A file's name, which must be given.
+/// An argument that is a file's name, and is required.
 fn file<'a>(alloc: Global, name: &'a str, help: &'a str) -> Arg<'a>
     ensures { rule_of result ≡ said.file name.entry.now }
 {
@@ -195,21 +195,21 @@ fn trace_file<'a>(alloc: Global) -> Arg<'a>
     file(alloc, "TRACE", "The edges, one a line")
 }
 
-/// The files of traces, one at least.
+/// The argument for the files of traces, of which at least one is required.
 fn trace_files<'a>(alloc: Global) -> Arg<'a>
     ensures { rule_of result ≡ said.files (codes "TRACE") }
 {
     trace_file(alloc).action(ArgAction::Append).num_args(1..)
 }
 
-/// What reads a number from 1 to `most`.
+/// A parser of a number from 1 to `most`.
 fn number<'a>(most: u32) -> ValueParser<'a>
     ensures { result ≡ ValueParser.Signed (pos 1) (pos most) }
 {
     value_parser!(u32).range(1..=i64::from(most))
 }
 
-/// An option with such a number.
+/// An option whose value is a number from 1 to `most`.
 fn option<'a>(alloc: Global, name: &'a str, value: &'a str, most: u32, help: &'a str) -> Arg<'a>
     ensures { rule_of result ≡ said.option name.entry.now most }
 {
@@ -242,14 +242,14 @@ fn version_option<'a>(alloc: Global) -> Arg<'a>
     option(alloc, "version", "V", 2, help).default_value("1")
 }
 
-/// What reads a whole number of 64 bits, `least` or more.
+/// A parser of a whole number of 64 bits, `least` or more.
 fn whole_number<'a>(least: u64) -> ValueParser<'a>
     ensures { result ≡ ValueParser.Unsigned least (2 ^ 64 - 1) }
 {
     ValueParser::unsigned(least, u64::MAX)
 }
 
-/// An option with such a number.
+/// An option whose value is a whole number of 64 bits, `least` or more.
 fn whole_option<'a>(
     alloc: Global,
     name: &'a str,
@@ -363,7 +363,7 @@ fn command<'a>(
         .arg(scenario_file(alloc))
 }
 
-/// The command with one more word, or its error.
+/// The command with one more argument, or the error of the command.
 fn taking<'a>(
     command: Result<Command<'a>, AllocError>,
     word: Arg<'a>,
@@ -471,7 +471,7 @@ fn program<'a>(alloc: Global) -> Result<Command<'a>, AllocError>
         .bin_name("vmebus")
 }
 
-/// The program with one more command, or the first error.
+/// The program with one more command, or the first error of the two.
 fn offering<'a>(
     program: Result<Command<'a>, AllocError>,
     command: Result<Command<'a>, AllocError>,

@@ -1,4 +1,5 @@
-//! The words after the name of the program `vmebus`, and what they ask for.
+//! The words after the name of the program `vmebus`, and the job for which they ask.
+//! docs/COMMANDS.md describes the command line.
 #![tactic(auto)]
 
 ghost use Rattle.std.specs.Prelude.{◌≡◌, ◌≢◌, ◌≤◌, ◌↔◌, ◌⊎◌, ℕ, [], ◌∷◌, IfErr, IfOk, IfSome, IsSomeAnd, MatchOption, Err, Ok, Some, codes, false, length, option_map, true};
@@ -19,129 +20,132 @@ use std::alloc::{AllocError, Global};
 use vme_goals::{Goal, goal_of};
 use vme_model::{TRACE_LIMIT, Version};
 
-/// The program's name and its version, as the line that `--version` writes. They stand here alone.
+/// The program's name and its version, as the line that `--version` prints. The version stands only
+/// here.
 pub const VERSION: &str = "vmebus 1.0.0\n";
 
-/// The most edges that a run makes.
+/// The most edges that `drive` and `run` make. Source: profile (E5).
 pub const MOST_EDGES: u32 = TRACE_LIMIT;
 
-/// The most turns that each driver of a run gets.
+/// The most turns of each driver of a run.
 pub const MOST_TURNS: u32 = 1_000_000;
 
 /// The most edges that a picture shows.
 pub const MOST_SHOWN: u64 = 200;
 
-/// How many edges a picture shows where one of its ends is left out.
+/// How many edges a picture shows if its first and last edge are not both given.
 const SHOWN: u64 = 60;
 
-/// What the program is to do. Files have the names that the user gave.
+/// What the program is to do. Files have the names that the user gave. docs/COMMANDS.md describes
+/// each command.
 #[derive(PartialEq, Eq, Debug, Drop)]
 pub enum Job<'a> {
-    /// Replay what stands on standard input: a scenario, and a trace after it.
+    /// Replay standard input: a scenario, and a trace after it.
     Joined,
-    /// Tell the program's own version, [`VERSION`].
+    /// Print the program's own version, [`VERSION`].
     OwnVersion,
     /// Replay a trace.
     Replay {
-        /// The file of the boards.
+        /// The file of the scenario.
         scenario: &'a str,
-        /// The file of the edges.
+        /// The file of the trace.
         trace: &'a str,
     },
     /// Check a trace.
     Check {
-        /// The file of the boards.
+        /// The file of the scenario.
         scenario: &'a str,
-        /// The file of the edges.
+        /// The file of the trace.
         trace: &'a str,
     },
-    /// Tell why an edge of a trace has its verdict.
+    /// Explain why an edge of a trace has its verdict.
     Explain {
-        /// The file of the boards.
+        /// The file of the scenario.
         scenario: &'a str,
-        /// The file of the edges.
+        /// The file of the trace.
         trace: &'a str,
-        /// Which edge, counted from 1; the first that is refused where it is not given.
+        /// The edge, counted from 1. If it is not given, it is the first edge that is refused.
         edge: Option<u64>,
     },
-    /// Tell where the bus stands in a trace.
+    /// Report where the bus stands in a trace.
     State {
-        /// The file of the boards.
+        /// The file of the scenario.
         scenario: &'a str,
-        /// The file of the edges.
+        /// The file of the trace.
         trace: &'a str,
-        /// After how many edges; after all where it is not given.
+        /// After how many edges; after all of them if it is not given.
         after: Option<u64>,
     },
     /// Draw a picture of some edges of a trace.
     Show {
-        /// The file of the boards.
+        /// The file of the scenario.
         scenario: &'a str,
-        /// The file of the edges.
+        /// The file of the trace.
         trace: &'a str,
         /// The first edge of the picture, counted from 1.
         from: u64,
-        /// The last one, not before the first, and fewer than [`MOST_SHOWN`] after it.
+        /// The last edge of the picture: not before the first one, and less than [`MOST_SHOWN`]
+        /// after it.
         to: u64,
-        /// Whether refused edges and deliveries are painted.
+        /// Whether refused edges and deliveries are coloured.
         color: bool,
     },
     /// Count what a trace exercised.
     Summary {
-        /// The file of the boards.
+        /// The file of the scenario.
         scenario: &'a str,
-        /// The file of the edges.
+        /// The file of the trace.
         trace: &'a str,
     },
     /// Add up what several traces exercised.
     Sums {
-        /// The file of the boards.
+        /// The file of the scenario.
         scenario: &'a str,
-        /// The files of the edges, two or more.
+        /// The files of the traces, two or more.
         traces: Vec<&'a str>,
     },
     /// Let the drivers make edges in turn.
     Drive {
-        /// The file of the boards.
+        /// The file of the scenario.
         scenario: &'a str,
         /// The most edges to make, 1 to [`MOST_EDGES`].
         edges: u32,
         /// The version of the rules.
         version: Version,
     },
-    /// Draw edges by lot from all that are open to the drivers.
+    /// Draw edges at random from all that are open to the drivers.
     Draw {
-        /// The file of the boards.
+        /// The file of the scenario.
         scenario: &'a str,
         /// The most edges to make, 1 to [`MOST_EDGES`].
         edges: u32,
-        /// What the lots are drawn by.
+        /// The seed by which the edges are drawn.
         seed: u64,
-        /// What the trace is to end with, if with anything.
+        /// The goal with which the trace is to end, if there is one.
         until: Option<Goal>,
         /// The version of the rules.
         version: Version,
     },
-    /// Draw edges by one seed after the other, until the trace of one ends with the goal.
+    /// Draw edges by one seed after another, until the trace of one ends with the goal.
     Search {
-        /// The file of the boards.
+        /// The file of the scenario.
         scenario: &'a str,
         /// The most edges of a trace, 1 to [`MOST_EDGES`].
         edges: u32,
         /// The seed that is tried first.
         first: u64,
-        /// The one that is tried last, not below the first.
+        /// The seed that is tried last, not below the first.
         last: u64,
-        /// What the trace is to end with.
+        /// The goal with which the trace is to end.
         goal: Goal,
         /// The version of the rules.
         version: Version,
-        /// Whether the seeds are told as they are tried.
+        /// Whether the seeds are reported while they are tried.
         progress: bool,
     },
     /// Let each driver make edges in a thread of its own.
     Run {
-        /// The file of the boards.
+        /// The file of the scenario.
         scenario: &'a str,
         /// The most edges to make, 1 to [`MOST_EDGES`].
         edges: u32,
@@ -152,32 +156,33 @@ pub enum Job<'a> {
     },
 }
 
-/// Why words that the command line takes ask for no job.
+/// Why words that the command line accepts ask for no job.
 #[derive(Clone, Copy, PartialEq, Eq, Debug)]
 enum Unfit<'a> {
-    /// They name no command, or one without an operand that it must have.
+    /// They name no command, or a command without one of its required operands.
     Missing,
-    /// There is no memory for the names of its files.
+    /// There is no memory for the names of the files.
     NoMemory,
-    /// No picture goes from this edge to that one.
+    /// No picture goes from the one edge to the other.
     Window { from: u64, to: u64 },
-    /// No trace comes to what has this name: another condition always fails beside it.
+    /// No trace can end with the goal of this name: another condition always fails together with
+    /// it.
     Beside { named: &'a str },
-    /// The version of the rules comes to nothing of this name.
+    /// The version of the rules has no goal of this name.
     Event { named: &'a str, version: Version },
-    /// The trace is to end with something, and there is no seed.
+    /// There is a goal, but no seed.
     Seedless,
-    /// There are seeds to try, and nothing that a trace is to end with.
+    /// There are seeds to try, but no goal.
     Aimless,
     /// There are both a seed and seeds to try.
     Seeded,
-    /// A text that names no seeds to try.
+    /// The text does not name seeds to try.
     Seeds { named: &'a str },
-    /// Progress is to be told, and there are no seeds to try.
+    /// Progress is to be reported, but there are no seeds to try.
     Idle,
 }
 
-/// The word of the operand of that name.
+/// The text of the operand of that name, if it is given.
 fn text_of<'a>(operands: &ArgMatches<'a>, name: &str) -> Option<&'a str>
     ensures { option_map (λ text. text.now) result
         ≡ first_text name.now (rows_of (found_of operands.now)) }
@@ -197,7 +202,7 @@ fn file_of<'a>(operands: &ArgMatches<'a>, name: &str) -> Result<&'a str, Unfit<'
     }
 }
 
-/// The files that the operands of that name name; none where there is no such operand.
+/// The files that are given for the operand of that name; none if it is not given.
 fn files_of<'m, 'a>(operands: &'m ArgMatches<'a>, name: &str) -> Option<&'m [&'a str]>
     ensures { option_map (λ files. texts_of files.now) result
         ≡ all_of name.now (rows_of (found_of operands.now)) }
@@ -205,7 +210,7 @@ fn files_of<'m, 'a>(operands: &'m ArgMatches<'a>, name: &str) -> Option<&'m [&'a
     operands.get_strs(name)
 }
 
-/// The number that the option of that name spells, where it is 1 to `most`.
+/// The number that the option of that name spells, if it is 1 to `most`.
 fn number_of<'a>(operands: &ArgMatches<'a>, name: &str, most: u32) -> Result<u32, Unfit<'a>>
     ensures within { IfOk result (λ n. (1 ≤ n) × (n ≤ most)) }
     ensures spelled { IfOk result (λ n.
@@ -218,8 +223,8 @@ fn number_of<'a>(operands: &ArgMatches<'a>, name: &str, most: u32) -> Result<u32
     }
 }
 
-/// The whole number of 64 bits that the option of that name spells, where it is `least` or more;
-/// none where it is not given.
+/// The whole number of 64 bits that the option of that name spells, if it is `least` or more; none
+/// if the option is not given.
 fn whole_of<'a>(operands: &ArgMatches<'a>, name: &str, least: u64) -> Result<Option<u64>, Unfit<'a>>
     ensures within { IfOk result (λ whole. IfSome whole (λ n. least ≤ n)) }
     ensures spelled { IfOk result (λ whole.
@@ -233,7 +238,7 @@ fn whole_of<'a>(operands: &ArgMatches<'a>, name: &str, least: u64) -> Result<Opt
     }
 }
 
-/// The version of the rules, where there is one of the number that `--version` spells.
+/// The version of the rules that `--version` spells, if there is one of that number.
 fn version_of<'a>(operands: &ArgMatches<'a>) -> Result<Version, Unfit<'a>>
     ensures spelled { IfOk result (λ version.
         spelled (codes "version") (rows_of (found_of operands.now))
@@ -246,8 +251,8 @@ fn version_of<'a>(operands: &ArgMatches<'a>) -> Result<Version, Unfit<'a>>
     }
 }
 
-/// What `--until` names, of all that a trace of the version of the rules can come to; none where it
-/// is not given.
+/// The goal that `--until` names, among all that a trace can reach in that version of the rules;
+/// none if the option is not given.
 fn aim_of<'a>(operands: &ArgMatches<'a>, version: Version) -> Result<Option<Goal>, Unfit<'a>>
     ensures aim { IfOk result (IsAim (rows_of (found_of operands.now)) version) }
     ensures unfit { spelled (codes "version") (rows_of (found_of operands.now))
@@ -264,7 +269,7 @@ fn aim_of<'a>(operands: &ArgMatches<'a>, version: Version) -> Result<Option<Goal
     }
 }
 
-/// A summary of one trace of the scenario, or the sums over several.
+/// A summary of one trace of the scenario, or the sums over several traces.
 fn summary_of<'a>(
     alloc: Global,
     scenario: &'a str,
@@ -320,7 +325,7 @@ fn is_flagged(operands: &ArgMatches<'_>, name: &str) -> bool
     operands.get_one(name).unwrap_or(false)
 }
 
-/// The first edge of a picture.
+/// The first edge of a picture, given `--from` and `--to`.
 fn first_of(from: Option<u64>, to: Option<u64>) -> u64
     requires { IfSome from (λ n. 1 ≤ n) }
     ensures counted { 1 ≤ result }
@@ -333,7 +338,7 @@ fn first_of(from: Option<u64>, to: Option<u64>) -> u64
     }
 }
 
-/// The last edge of a picture that begins with that edge.
+/// The last edge of a picture, given `--to` and the first edge.
 fn last_of(to: Option<u64>, first: u64) -> u64
     ensures { result ≡ last_shown to first }
 {
@@ -370,7 +375,7 @@ fn seed_in(text: &str) -> Option<u64>
     text.parse().ok()
 }
 
-/// The first and the last of the seeds that a text names, as `0..9`.
+/// The first and the last of the seeds that a text such as `0..9` names.
 fn seeds_in(text: &str) -> Option<(u64, u64)>
     ensures { MatchOption result (NamesNoSeeds text.now)
         (λ seeds. AreSeeds text.now seeds.0 seeds.1) }
@@ -384,7 +389,8 @@ fn seeds_in(text: &str) -> Option<(u64, u64)>
     }
 }
 
-/// The job, unless its progress is to be told: that is told of several seeds alone.
+/// The job, unless its progress is to be reported: that is possible only if several seeds are
+/// tried.
 fn untold(progress: bool, job: Job<'_>) -> Result<Job<'_>, Unfit<'_>>
     ensures untold { progress ≡ false → result ≡ Ok job.entry }
     ensures told { progress ≡ true → result ≡ Err Unfit.Idle }
@@ -392,7 +398,8 @@ fn untold(progress: bool, job: Job<'_>) -> Result<Job<'_>, Unfit<'_>>
     if progress { Err(Unfit::Idle) } else { Ok(job) }
 }
 
-/// A drive of the scenario, with its other operands: drawn where there are seeds, and else in turn.
+/// A drive of the scenario, with its other operands: at random if there is a seed, and otherwise in
+/// turn.
 fn drive_of<'a>(scenario: &'a str, operands: &ArgMatches<'a>) -> Result<Job<'a>, Unfit<'a>>
     ensures within { IfOk result IsWithin }
     ensures asked { IsFile (codes "SCENARIO") (rows_of (found_of operands.now)) scenario.now
@@ -456,7 +463,7 @@ fn run_of<'a>(scenario: &'a str, operands: &ArgMatches<'a>) -> Result<Job<'a>, U
     })
 }
 
-/// The job of a command's name, with its operands.
+/// The job for a command's name, with its operands.
 fn job_of<'a>(alloc: Global, name: &str, operands: &ArgMatches<'a>) -> Result<Job<'a>, Unfit<'a>>
     ensures within { IfOk result IsWithin }
     ensures asked { IfOk result (AsksFor name.now (rows_of (found_of operands.now))) }
@@ -482,7 +489,7 @@ fn job_of<'a>(alloc: Global, name: &str, operands: &ArgMatches<'a>) -> Result<Jo
     }
 }
 
-/// The job that the command of a parse asks for.
+/// The job for which the command of a parse asks.
 fn job_in<'a>(alloc: Global, matches: &ArgMatches<'a>) -> Result<Job<'a>, Unfit<'a>>
     ensures within { IfOk result IsWithin }
     ensures asked { IfOk result (λ job.
@@ -496,7 +503,7 @@ fn job_in<'a>(alloc: Global, matches: &ArgMatches<'a>) -> Result<Job<'a>, Unfit<
     }
 }
 
-/// What the command line makes of words.
+/// What the command line's parser makes of words.
 fn parsed<'a>(alloc: Global, words: &'a [&'a str]) -> Result<ArgMatches<'a>, Error>
     ensures fault { FailsBy (fault_of commands_said (texts_of words.entry.now)) result }
     ensures found { IfOk result (λ m.
@@ -505,7 +512,7 @@ fn parsed<'a>(alloc: Global, words: &'a [&'a str]) -> Result<ArgMatches<'a>, Err
     commands(alloc)?.try_get_matches_from(words)
 }
 
-/// The job that words ask for, or why they ask for none.
+/// The job for which words ask, or why they ask for none.
 fn asked<'a>(alloc: Global, words: &'a [&'a str]) -> Result<Result<Job<'a>, Unfit<'a>>, Error>
     ensures within { IfOk result (λ job. IfOk job IsWithin) }
     ensures asked { IfOk result (λ job. IfOk job (λ found.
@@ -519,14 +526,14 @@ fn asked<'a>(alloc: Global, words: &'a [&'a str]) -> Result<Result<Job<'a>, Unfi
     Ok(job_in(alloc, &parsed(alloc, words)?))
 }
 
-/// The error where no command is given.
+/// The usage error if no command is given.
 fn missing(alloc: Global) -> Result<Error, AllocError>
     ensures { IfOk result (λ error. kind_of error ≡ ErrorKind.MissingSubcommand) }
 {
     commands(alloc)?.error(ErrorKind::MissingSubcommand, "a command is missing")
 }
 
-/// The error where a picture does not end with one of the edges that it may end with.
+/// The usage error if a picture cannot end with the edge that is given.
 fn no_window(alloc: Global, from: u64, to: u64) -> Result<Error, AllocError>
     ensures { IfOk result (λ error. kind_of error ≡ ErrorKind.ValueValidation) }
 {
@@ -537,7 +544,7 @@ fn no_window(alloc: Global, from: u64, to: u64) -> Result<Error, AllocError>
     show(alloc)?.error(ErrorKind::ValueValidation, &text)
 }
 
-/// The error where the version of the rules comes to nothing of that name.
+/// The usage error if the version of the rules has no goal of that name.
 fn no_event(alloc: Global, named: &str, version: Version) -> Result<Error, AllocError>
     ensures { IfOk result (λ error. kind_of error ≡ ErrorKind.ValueValidation) }
 {
@@ -548,7 +555,7 @@ fn no_event(alloc: Global, named: &str, version: Version) -> Result<Error, Alloc
     drive(alloc)?.error(ErrorKind::ValueValidation, &text)
 }
 
-/// The error where what has that name fails, and another condition always fails beside it.
+/// The usage error if the condition of that name never fails alone.
 fn no_miss(alloc: Global, named: &str) -> Result<Error, AllocError>
     ensures { IfOk result (λ error. kind_of error ≡ ErrorKind.ValueValidation) }
 {
@@ -559,7 +566,7 @@ fn no_miss(alloc: Global, named: &str) -> Result<Error, AllocError>
     drive(alloc)?.error(ErrorKind::ValueValidation, &text)
 }
 
-/// The error where there is no seed.
+/// The usage error if there is no seed.
 fn no_seed(alloc: Global) -> Result<Error, AllocError>
     ensures { IfOk result (λ error. kind_of error ≡ ErrorKind.ValueValidation) }
 {
@@ -567,7 +574,7 @@ fn no_seed(alloc: Global) -> Result<Error, AllocError>
     drive(alloc)?.error(ErrorKind::ValueValidation, text)
 }
 
-/// The error where there is nothing that a trace is to end with.
+/// The usage error if there is no goal.
 fn no_aim(alloc: Global) -> Result<Error, AllocError>
     ensures { IfOk result (λ error. kind_of error ≡ ErrorKind.ValueValidation) }
 {
@@ -575,7 +582,7 @@ fn no_aim(alloc: Global) -> Result<Error, AllocError>
     drive(alloc)?.error(ErrorKind::ValueValidation, text)
 }
 
-/// The error where there are both a seed and seeds to try.
+/// The usage error if there are both a seed and seeds to try.
 fn seeded(alloc: Global) -> Result<Error, AllocError>
     ensures { IfOk result (λ error. kind_of error ≡ ErrorKind.ValueValidation) }
 {
@@ -583,7 +590,7 @@ fn seeded(alloc: Global) -> Result<Error, AllocError>
     drive(alloc)?.error(ErrorKind::ValueValidation, text)
 }
 
-/// The error where a text names no seeds to try.
+/// The usage error if a text does not name seeds to try.
 fn no_seeds(alloc: Global, named: &str) -> Result<Error, AllocError>
     ensures { IfOk result (λ error. kind_of error ≡ ErrorKind.ValueValidation) }
 {
@@ -594,7 +601,7 @@ fn no_seeds(alloc: Global, named: &str) -> Result<Error, AllocError>
     drive(alloc)?.error(ErrorKind::ValueValidation, &text)
 }
 
-/// The error where progress is to be told, and there are no seeds to try.
+/// The usage error if progress is to be reported and there are no seeds to try.
 fn no_progress(alloc: Global) -> Result<Error, AllocError>
     ensures { IfOk result (λ error. kind_of error ≡ ErrorKind.ValueValidation) }
 {
@@ -602,7 +609,7 @@ fn no_progress(alloc: Global) -> Result<Error, AllocError>
     drive(alloc)?.error(ErrorKind::ValueValidation, text)
 }
 
-/// The error that tells why words ask for no job.
+/// The usage error that says why words ask for no job.
 fn error_of(alloc: Global, unfit: Unfit<'_>) -> Result<Error, AllocError>
     ensures { IfOk result (λ error. (kind_of error ≡ ErrorKind.MissingSubcommand)
         ⊎ ((kind_of error ≡ ErrorKind.ValueValidation)
@@ -622,7 +629,7 @@ fn error_of(alloc: Global, unfit: Unfit<'_>) -> Result<Error, AllocError>
     }
 }
 
-/// The job where the command line ended with this error: to ask for the version is none.
+/// The job if the command line ended with this error. A request for the version is not an error.
 fn job_at<'a>(error: Error) -> Result<Job<'a>, Error>
     ensures version { IfOk result (λ job.
         (kind_of error ≡ ErrorKind.DisplayVersion) × (job ≡ Job.OwnVersion)) }
@@ -635,10 +642,12 @@ fn job_at<'a>(error: Error) -> Result<Job<'a>, Error>
     }
 }
 
-/// The job that the words after the program's name ask for.
+/// The job for which the words after the program's name ask. docs/COMMANDS.md describes them.
 ///
-/// No words ask for [`Job::Joined`]. An error's `Display` is the text for the user; a call for help
-/// is one too, but one for the version is [`Job::OwnVersion`].
+/// If there are no words, it is [`Job::Joined`]. A request for the version is [`Job::OwnVersion`].
+///
+/// # Errors
+/// A usage error, or a request for help. Its `Display` is the text for the user.
 pub fn words<'a>(alloc: Global, words: &'a [&'a str]) -> Result<Job<'a>, Error>
     ensures within { IfOk result IsWithin }
     ensures asked { IfOk result (Ask (texts_of words.entry.now)) }

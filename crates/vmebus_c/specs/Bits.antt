@@ -1,4 +1,4 @@
--- The bits by which C is told what a driver reads on its pins.
+-- The bits by which C reads what a driver reads on its pins.
 use Rattle.std.specs.Prelude.{◌+◌, ◌*◌, ◌%◌, ℕ, Bool, Option, Some, None, if◌then◌else◌}
 use Rattle.vme_model.specs.declared.pins.Pins.{Pins}
 use Rattle.vme_model.specs.declared.sets.BusLevels.{BusLevels}
@@ -7,7 +7,7 @@ use Rattle.vme_model.specs.declared.signals.Cycle.{Cycle}
 use Rattle.vme_model.specs.declared.signals.Cycle.TheVariants.{Acknowledge, Access}
 use Rattle.vme_model.specs.Sets.{has_bus_level, has_level}
 
--- the value of a bit where the line is low, and else 0
+-- the value of a bit if the line is low, and 0 otherwise
 abbrev pub bit : Bool → ℕ → ℕ
 bit low value = if low then value else 0
 
@@ -30,13 +30,13 @@ interrupt_bits set =
     + bit (has_level set 4) 32768 + bit (has_level set 5) 65536 + bit (has_level set 6) 131072
     + bit (has_level set 7) 262144
 
--- what is shown, in six bits, by the number that names it; a level or a slot is below 32
+-- what is shown, in six bits, as the number that C uses for it; a level or a slot is below 32
 abbrev pub shown_number : Option Cycle → ℕ
 shown_number None = 0
 shown_number (Some (Acknowledge level)) = level % 32
 shown_number (Some (Access s)) = 32 + s % 32
 
--- bit 10 is the own grant-in, bit 11 the own iackin, and from bit 24 on stands what is shown
+-- bit 10 is its own grant-in, bit 11 its own iackin, and from bit 24 on stands what is shown
 abbrev pub pins_number : Pins → ℕ
 pins_number pins =
     request_bits pins.requests + line_bits pins + bit pins.grant_in 1024 + bit pins.iack_in 2048

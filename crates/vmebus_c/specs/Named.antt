@@ -1,4 +1,4 @@
--- The numbers by which C names a version and an edge.
+-- The numbers that C uses for a version and an edge.
 use Rattle.std.specs.Prelude.{◌==◌, ◌-◌, ℕ, Bool, true, false, Option, Some, None, if◌then◌else◌}
 use Rattle.std.specs.List.{slice_get}
 use Rattle.vme_model.specs.declared.signals.Version.{Version}
@@ -36,7 +36,7 @@ value_of_number n =
     else (if is_level n then Some (Some (Acknowledge n))
     else (if is_slot (n - 32) then Some (Some (Access (n - 32))) else None))
 
--- an edge of these parts, where all are known
+-- an edge of these parts, if all of them are known
 abbrev pub edge_of_parts :
     Option Driver → Option Wire → Option Bool → Option (Option Cycle) → Option Edge
 edge_of_parts (Some d) (Some w) (Some fall) (Some v) =

@@ -1,4 +1,4 @@
--- What the text of a scenario opens, or by which number it is refused.
+-- What the text of a scenario opens, or the number by which it is refused.
 use Rattle.std.specs.Prelude.{◌≡◌, ◌⊎◌, ◌<◌, ◌≤◌, ℕ, List, [], length, Option, Some, None, Ok}
 use Rattle.vme_model.specs.declared.refusals.PlanError.{PlanError}
 use Rattle.vme_model.specs.declared.refusals.PlanError.TheVariants as refusal
@@ -27,7 +27,7 @@ plan_number (refusal.HandlerWithoutRequester slot) = 7
 plan_number (refusal.OutOfRange field) = 8
 plan_number refusal.Memory = 9
 
--- and Q1 to Q4 and Q6 from 11 on
+-- a fault of the plan by its own number, and Q1 to Q4 and Q6 from 11 on
 abbrev pub fault_number : ScenarioError → ℕ
 fault_number error.NotToml = 11
 fault_number (error.UnknownKey key) = 12
@@ -36,7 +36,7 @@ fault_number (error.BadValue key) = 14
 fault_number (error.Plan e) = plan_number e
 fault_number error.Memory = 16
 
--- F2 is 20: the scenario is too long; and else it is the first fault of the scenario
+-- F2 is 20: the scenario is too long; otherwise it is the first fault of the scenario
 abbrev pub IsScenarioFault : List ℕ → ℕ → Type 0
 IsScenarioFault text n =
     ((scenario_limit < length text) × (n ≡ 20))

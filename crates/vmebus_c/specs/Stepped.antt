@@ -1,4 +1,4 @@
--- What an edge that is named, or spelled, is answered, and what history it leaves.
+-- The answer to an edge that is named or spelled, and the history that it leaves.
 use Rattle.std.specs.Prelude.{ℕ, List, Option, Some, None}
 use Rattle.vme_model.specs.declared.signals.Version.{Version}
 use Rattle.vme_model.specs.declared.signals.Edge.{Edge}
@@ -6,29 +6,29 @@ use Rattle.vme_model.specs.Plan.{Plan}
 use Rattle.vme_bus.specs.Steps.{answer_but_full, kept_but_full}
 use Rattle.vmebus_c.specs.Told.{answer_number, delivered_number}
 
--- where the numbers name no edge: it is E1, as no driver has it
+-- the answer if the numbers name no edge: it is E1, as no driver has such an edge
 abbrev pub no_driver : ℕ
 no_driver = 256
 
--- where the line spells no edge
+-- the answer if the line spells no edge
 abbrev pub no_edge : ℕ
 no_edge = 1280
 
--- where the struct is no bus
+-- the answer if the record is not a bus
 abbrev pub no_bus : ℕ
 no_bus = 4294967295
 
--- what is answered to an edge, or to none
+-- the answer to an edge, or to none
 abbrev pub answered_or : ℕ → Version → Plan → List Edge → Option Edge → ℕ
 answered_or none version p h (Some e) = answer_number (answer_but_full version p h e)
 answered_or none version p h None = none
 
--- what is told to be delivered
+-- what is reported as delivered
 abbrev pub told_delivery : Version → Plan → List Edge → Option Edge → ℕ
 told_delivery version p h (Some e) = delivered_number (answer_but_full version p h e)
 told_delivery version p h None = 0
 
--- the history with the edge where it is accepted, and else as it was
+-- the history with the edge if it is accepted, and otherwise as it was
 abbrev pub followed : Version → Plan → List Edge → Option Edge → List Edge
 followed version p h (Some e) = kept_but_full version p h e
 followed version p h None = h

@@ -1,4 +1,4 @@
--- The numbers by which C is told an answer and a delivery.
+-- The numbers by which C reads an answer and a delivery.
 use Rattle.std.specs.Prelude.{◌+◌, ◌*◌, ◌%◌, ℕ, Option, Some, Result, Ok, Err}
 use Rattle.vme_model.specs.declared.deliveries.Delivery.{Delivery}
 use Rattle.vme_model.specs.declared.refusals.Refused.{Refused}
@@ -12,7 +12,7 @@ refusal_number (Rule k) = 768 + k
 refusal_number (NotSettled k) = 1024 + k
 refusal_number TraceFull = 1280
 
--- 0 where the edge is accepted
+-- 0 if the edge is accepted
 abbrev pub answer_number : Result (Option Delivery) Refused → ℕ
 answer_number (Ok _) = 0
 answer_number (Err refused) = refusal_number refused
@@ -23,7 +23,7 @@ abbrev pub delivery_number : Delivery → ℕ
 delivery_number d =
     (((128 + d.level % 128) * 256 + d.handler) * 256 + d.answered_by) * 256 + d.status
 
--- 0 where nothing is delivered
+-- 0 if nothing is delivered
 abbrev pub delivered_number : Result (Option Delivery) Refused → ℕ
 delivered_number (Ok (Some d)) = delivery_number d
 delivered_number _ = 0

@@ -1,10 +1,10 @@
-//! What a driver reads on its pins as the bits that C is told.
+//! What a driver reads on its pins, as the bits that C reads.
 ghost use Rattle.std.specs.Prelude.{◌≡◌, ◌≤◌, ◌<◌};
 ghost use Rattle.vmebus_c.specs.Bits.{bit, request_bits, line_bits, interrupt_bits, shown_number, pins_number};
 
 use vme_model::{BusLevels, Cycle, Levels, Pins};
 
-/// What a line adds to the bits: its bit's value while it is low.
+/// What a line adds to the bits: the value of its bit if it is low, and 0 otherwise.
 fn bit(low: bool, value: u32) -> u32
     ensures value { result ≡ bit low value }
     ensures small { result ≤ value }
@@ -47,7 +47,7 @@ fn interrupt_bits(levels: Levels) -> u32
         + bit(levels.has(7), 0x4_0000)
 }
 
-/// What is shown, by the number that names it.
+/// What is shown, as the number that C uses for it, 0 to 63.
 fn shown_number(shown: Option<Cycle>) -> u32
     ensures number { result ≡ shown_number shown }
     ensures small { result < 64 }

@@ -1,6 +1,7 @@
-//! What C calls. Its header is `vmebus.h`.
+//! What C calls. The header is `vmebus.h`, and docs/EMBEDDING.md describes its use.
 //!
-//! No function has a condition: each argument is tested, and each is answered.
+//! No function has a condition on its arguments: each argument is tested, and any value has an
+//! answer.
 ghost use Rattle.std.specs.Prelude.{◌≡◌, ◌≢◌, ◌<◌, false, option_map, unwrap_or};
 ghost use Rattle.vme_model.specs.Signals.{is_slot};
 ghost use Rattle.vme_model.specs.declared.signals.Driver.TheVariants.{Controller};
@@ -22,25 +23,26 @@ use vme_bus::BusState;
 use vme_model::{Driver, Edge};
 use vme_trace::edge_of;
 
-/// How many words of C a bus has, as its header says.
+/// How many 32-bit words of C a bus has, as its header says.
 const WORDS: usize = 165;
 
 const _: () = prove!(size_of::<BusState>() == 4 * WORDS);
 
-/// What is answered where the struct is no bus.
+/// The answer if the record is not a bus.
 const NO_BUS: u32 = 0xffff_ffff;
 
 /// E1: no driver has such an edge.
 const NO_DRIVER: u32 = 0x100;
 
-/// What is answered to a line that spells no edge.
+/// The answer to a line that spells no edge.
 const NO_EDGE: u32 = 0x500;
 
 /// Opens a bus on the plan of a scenario, under the rules of a version, 1 or 2.
 ///
-/// Answers 0, or the number of the first fault: 31 where there is no such version; 20 where the scenario has more than
-/// 1,048,576 bytes; 1 to 9 for P1 to P9, and 11 to 14 and 16 for Q1 to Q4 and Q6. Want of memory, 9 or 16, may be answered
-/// in place of any of the scenario's. At a fault the bus is as it was.
+/// It returns 0, or the number of the first fault: 31 if there is no such version; 20 if the
+/// scenario has more than 1,048,576 bytes; 1 to 9 for P1 to P9; 11 to 14 and 16 for Q1 to Q4 and
+/// Q6. If memory runs out, 9 or 16 may be returned in place of any fault of the scenario. After a
+/// fault the bus is as it was.
 #[unsafe(no_mangle)]
 pub extern "C" fn vmebus_open(
     bus: &mut BusState,
@@ -64,7 +66,7 @@ pub extern "C" fn vmebus_open(
     }
 }
 
-/// Judges an edge and takes it in where it is accepted; `none` is answered where there is no edge.
+/// Judges an edge, and takes it in if it is accepted. It returns `none` if there is no edge.
 #[inline(always)]
 fn step(bus: &mut BusState, edge: Option<Edge>, none: u32, delivered: &mut u32) -> u32
     requires { 0 < none }
@@ -95,17 +97,20 @@ fn step(bus: &mut BusState, edge: Option<Edge>, none: u32, delivered: &mut u32) 
     }
 }
 
-/// Judges an edge, and takes it in where it is accepted.
+/// Judges an edge, and takes it in if it is accepted.
 ///
-/// The driver is 0 for the controller, or else the slot. The wire is 0 to 3 for bg0 to bg3, 4 bclr, 5 iack, 6 berr, 7 br,
-/// 8 bgout, 9 bbsy, 10 addr, 11 as, 12 ds, 13 irq, 14 iackout, 15 dtack. A fall is 1 and a rise 0. The value is 0, or for a
-/// fall of addr 1 to 7 for an acknowledge of that level, and 32 + t for an access to slot t.
+/// `driver` is 0 for the controller, or the slot. `wire` is 0 to 3 for bg0 to bg3, 4 for bclr, 5
+/// iack, 6 berr, 7 br, 8 bgout, 9 bbsy, 10 addr, 11 as, 12 ds, 13 irq, 14 iackout, 15 dtack. `fall`
+/// is 1 for a fall and 0 for a rise. `value` is 0, or for a fall of addr 1 to 7 for an acknowledge
+/// of that level, and 32 + t for an access to slot t.
 ///
-/// Answers 0 where the edge is accepted, and 0x100 * n + k where it is refused: n is 1 to 4 for E1 to E4, and k the number
-/// of the rule. Numbers that name no edge are E1. 0xffffffff is answered if the record is no bus: its number of slots is
-/// none from 1 to 21. An edge that is not accepted leaves the record as it was, and delivers 0.
+/// It returns 0 if the edge is accepted, and 0x100 * n + k if it is refused: n is 1 to 4 for E1 to
+/// E4, and k is the number of the rule. Numbers that name no edge are E1. It returns 0xffffffff if
+/// the record is not a bus, that is, its number of slots is not 1 to 21. An edge that is not
+/// accepted leaves the record as it was, and delivers 0.
 ///
-/// What is delivered is 0, or level << 24 | handler << 16 | slot << 8 | status, with bit 31 set.
+/// `delivered` becomes 0 if nothing is delivered, or level << 24 | handler << 16 | slot << 8 |
+/// status, with bit 31 set. Source: docs/RULES.md, E1 to E4 and Deliveries.
 #[unsafe(no_mangle)]
 pub extern "C" fn vmebus_step(
     bus: &mut BusState,
@@ -129,9 +134,10 @@ pub extern "C" fn vmebus_step(
     step(bus, edge, NO_DRIVER, delivered)
 }
 
-/// Judges the edge that a line of a trace spells, without its line feed, and takes it in where it is accepted.
+/// Judges the edge that a line of a trace spells, given without its line feed, and takes it in if
+/// it is accepted. docs/TRACES.md describes the lines.
 ///
-/// Answers as `vmebus_step`, and 0x500 where the line spells no edge.
+/// It returns what `vmebus_step` returns for that edge, and 0x500 if the line spells no edge.
 #[unsafe(no_mangle)]
 pub extern "C" fn vmebus_line(bus: &mut BusState, line: &[u8], delivered: &mut u32) -> u32
     ensures answer { OfHistory bus.old (λ version p h. result
@@ -147,7 +153,7 @@ pub extern "C" fn vmebus_line(bus: &mut BusState, line: &[u8], delivered: &mut u
     step(bus, edge_of(line), NO_EDGE, delivered)
 }
 
-/// The slot that holds the bus, or 0; 0 also if the record is no bus.
+/// The slot that holds the bus, 1 to 21; 0 if no slot does, or if the record is not a bus.
 #[unsafe(no_mangle)]
 pub extern "C" fn vmebus_holder(bus: &BusState) -> u32
     ensures slot { OfHistory bus.now (λ _ p h. result ≡ unwrap_or (holder p h) 0) }
@@ -159,7 +165,7 @@ pub extern "C" fn vmebus_holder(bus: &BusState) -> u32
     }
 }
 
-/// The slot at which a grant travels, or 0; 0 also if the record is no bus.
+/// The slot at which a grant stands, 1 to 21; 0 if no grant travels, or if the record is not a bus.
 #[unsafe(no_mangle)]
 pub extern "C" fn vmebus_grant_at(bus: &BusState) -> u32
     ensures slot { OfHistory bus.now (λ _ p h. result
@@ -172,11 +178,13 @@ pub extern "C" fn vmebus_grant_at(bus: &BusState) -> u32
     }
 }
 
-/// What a driver, 0 for the controller or else the slot, reads on its pins, a bit for each that is low.
+/// What a driver reads on its pins, with a bit for each line and input that is low. `driver` is 0
+/// for the controller, or the slot.
 ///
-/// Bits 0 to 3 are BR0* to BR3*, 4 BBSY*, 5 BCLR*, 6 AS*, 7 DS0*, 8 DTACK*, 9 BERR*, 10 the own grant-in, 11 the own iackin,
-/// 12 to 18 IRQ1* to IRQ7*; bits 24 to 29 are what is shown, as the value of an edge. A driver that there is not reads as
-/// the controller does. 0 is answered if the record is no bus.
+/// Bits 0 to 3 are BR0* to BR3*, 4 BBSY*, 5 BCLR*, 6 AS*, 7 DS0*, 8 DTACK*, 9 BERR*, 10 its own
+/// grant-in, 11 its own iackin, and 12 to 18 IRQ1* to IRQ7*. Bits 24 to 29 are what is shown, as
+/// the value of an edge. A driver that does not exist reads what the controller reads. The answer
+/// is 0 if the record is not a bus.
 #[unsafe(no_mangle)]
 pub extern "C" fn vmebus_pins(bus: &BusState, driver: u32) -> u32
     ensures pins { OfHistory bus.now (λ _ p h. result

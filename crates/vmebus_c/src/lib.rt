@@ -1,4 +1,5 @@
-//! The bus for C: a record of numbers that the caller owns, and functions that judge an edge at a time on it.
+//! The bus for C: a record of numbers that the caller owns, and functions that judge one edge at a
+//! time on it.
 #![tactic(auto)]
 
 mod bits;

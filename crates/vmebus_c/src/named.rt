@@ -1,4 +1,4 @@
-//! Versions and edges by the numbers that C names them by.
+//! Versions and edges, by the numbers that C uses for them.
 ghost use Rattle.std.specs.Prelude.{◌≡◌};
 ghost use Rattle.vme_model.specs.Signals.{is_slot};
 ghost use Rattle.vme_model.specs.Accepted.{when};
@@ -6,10 +6,10 @@ ghost use Rattle.vmebus_c.specs.Named.{version_of_number, driver_of_number, wire
 
 use vme_model::{Cycle, Driver, Edge, Version, Wire};
 
-/// What stands before the slot in the number of an access.
+/// What is added to the slot in the number of an access.
 const ACCESS: u32 = 32;
 
-/// The version of the rules: 1 or 2.
+/// The version of the rules, by its number 1 or 2.
 pub(crate) fn version_of(number: u32) -> Option<Version>
     ensures { result ≡ version_of_number number }
 {
@@ -20,7 +20,7 @@ pub(crate) fn version_of(number: u32) -> Option<Version>
     }
 }
 
-/// The slot of a number, if a backplane can have it.
+/// The slot of a number, if it is 1 to 21.
 fn slot_of(number: u32) -> Option<u8>
     ensures { result ≡ when (is_slot number) number }
 {
@@ -31,7 +31,7 @@ fn slot_of(number: u32) -> Option<u8>
     }
 }
 
-/// The driver: 0 is the controller, and else it is the slot.
+/// The driver: 0 is the controller, and 1 to 21 the board of that slot.
 pub(crate) fn driver_of(number: u32) -> Option<Driver>
     ensures { result ≡ driver_of_number number }
 {
@@ -44,7 +44,7 @@ pub(crate) fn driver_of(number: u32) -> Option<Driver>
     }
 }
 
-/// The wire by its place among all wires.
+/// The wire, by its place among all wires, 0 to 15.
 fn wire_of(number: u32) -> Option<Wire>
     ensures { result ≡ wire_of_number number }
 {
@@ -70,7 +70,7 @@ fn wire_of(number: u32) -> Option<Wire>
     Some(wire)
 }
 
-/// Whether it is a fall: 1, or 0 for a rise.
+/// Whether the edge is a fall: 1 is a fall, and 0 a rise.
 fn fall_of(number: u32) -> Option<bool>
     ensures { result ≡ fall_of_number number }
 {
@@ -81,8 +81,8 @@ fn fall_of(number: u32) -> Option<bool>
     }
 }
 
-/// What an address group shows: 0 for nothing, 1 to 7 for an acknowledge, and 32 more than the slot
-/// of an access.
+/// What an address group shows: 0 for nothing, 1 to 7 for an acknowledge of that level, and 32 more
+/// than the slot for an access.
 fn value_of(number: u32) -> Option<Option<Cycle>>
     ensures { result ≡ value_of_number number }
 {

@@ -11,13 +11,13 @@ use vme_slots::Plan;
 /// The most bytes of a scenario.
 const SCENARIO_LIMIT: usize = 1_048_576;
 
-/// F2: the scenario is longer than that.
+/// F2: the scenario is longer than 1,048,576 bytes.
 const TOO_LONG: u32 = 20;
 
 /// X1: there is no such version of the rules.
 pub(crate) const NO_VERSION: u32 = 31;
 
-/// A fault of a plan by its number.
+/// The number of a plan's fault: 1 to 9 for P1 to P9.
 fn plan_number(fault: PlanError) -> u32
     ensures number { result ≡ plan_number fault }
     ensures some { 0 < result }
@@ -35,7 +35,7 @@ fn plan_number(fault: PlanError) -> u32
     }
 }
 
-/// A fault of a scenario by its number.
+/// The number of a scenario's fault: that of its plan, or 11 to 14 and 16 for Q1 to Q4 and Q6.
 fn fault_number(fault: &ScenarioError) -> u32
     ensures number { result ≡ fault_number fault.now }
     ensures some { 0 < result }
@@ -50,7 +50,10 @@ fn fault_number(fault: &ScenarioError) -> u32
     }
 }
 
-/// The plan that a scenario says, or the number of its first fault.
+/// The plan that a scenario describes.
+///
+/// # Errors
+/// The number of the scenario's first fault, as `vmebus_open` returns it.
 pub(crate) fn plan_of(alloc: Global, text: &[u8]) -> Result<Plan, u32>
     ensures short { IfOk result (λ p. length text.now ≤ scenario_limit) }
     ensures ok { IfOk result (λ p. scenario text.now ≡ Ok p) }

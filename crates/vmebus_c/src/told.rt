@@ -1,10 +1,11 @@
-//! Answers and deliveries as the numbers that C is told.
+//! Answers and deliveries, as the numbers that C reads.
 ghost use Rattle.std.specs.Prelude.{◌≡◌, ◌<◌};
 ghost use Rattle.vmebus_c.specs.Told.{refusal_number, delivery_number};
 
 use vme_model::{Delivery, Refused};
 
-/// A refusal by its number, with that of its rule in the lowest byte.
+/// The number of a refusal: 0x100 for each of E1 to E4, with the number of its rule in the lowest
+/// byte.
 pub(crate) fn refusal_number(refused: Refused) -> u32
     ensures number { result ≡ refusal_number refused }
     ensures some { 0 < result }
@@ -18,7 +19,8 @@ pub(crate) fn refusal_number(refused: Refused) -> u32
     }
 }
 
-/// A delivery: the level under bit 31, the handler, the slot that answers, and the status byte.
+/// The number of a delivery. From the top it has bit 31 set and the level, the handler, the slot
+/// that answers, and the status byte.
 pub(crate) fn delivery_number(delivery: Delivery) -> u32
     ensures { result ≡ delivery_number delivery }
 {

@@ -7,7 +7,7 @@ else_if : (t : Bool) (n : ℕ) → t ≡ false → n ≡ (if t then 0 else n)
 else_if false n h = sym (ap (λ (t : Bool). if t then 0 else n) h)
 else_if true n h = absurd (cc)
 
--- many were made: they count no more
+-- many edges were made: further ones no longer count
 many : (weight made : ℕ) → 256 ≤ made → weight ≡ weight * (1 + 256 / (1 + made))
 many weight made h =
     let none : 256 / (1 + made) ≡ 0 = div-eq_of_lt (omega (arith, h)) in

@@ -13,7 +13,7 @@ returns-then-is_low c = λ k n same marks below low.
     let h = c.args.bus.now.history in
     let d = c.args.driver in
     let other = Slot c.args.slot in
-    let waits : drive h other Br ≡ true = sym (c.is_low.ensures.low k same marks) ∙ c.if-is_low.true in
+    let waits : drive h other Br ≡ true = sym (c.is_low.ensures.low) ∙ c.if-is_low.true in
     ap (λ x. nat_lt x c.asked_at-then-is_low.result) (c.asked_at.ensures k same marks)
     ∙ ap (λ x. nat_lt (unwrap_or (since k other Br) 0) x) (c.asked_at-then-is_low.ensures k same marks)
     ∙ older k h n other d Br same below waits low

@@ -13,7 +13,7 @@ returns-then-asked_before c = λ k n same marks below.
     let b = c.args.bus.now in
     let older = asked_before b.history c.args.driver in
     let slots : c.plan.result.now.slots ≡ b.plan.slots = ap (λ (p : Plan). p.slots) c.plan.ensures in
-    let low : drive b.history c.args.driver Br ≡ true = sym (c.is_low.ensures.low k same marks) ∙ c.if-not-is_low.false in
+    let low : drive b.history c.args.driver Br ≡ true = sym (c.is_low.ensures.low) ∙ c.if-not-is_low.false in
     sym (ap (λ t. t && list_any older (up_to b.plan.slots)) low
     ∙ one_passes older b.plan.slots c.loop-below.below (omega (arith, slots, c.slots-below-end.ensures, c.loop-below-test.true))
     (sym (c.asked_before.ensures k n same marks below low) ∙ c.if-asked_before.true))
@@ -21,6 +21,6 @@ returns-then-asked_before c = λ k n same marks below.
 pub loop-below-preserved : goal.loop-below-preserved
 loop-below-preserved c = λ k n same marks below.
     let b = c.args.bus.now in
-    let low : drive b.history c.args.driver Br ≡ true = sym (c.is_low.ensures.low k same marks) ∙ c.if-not-is_low.false in
+    let low : drive b.history c.args.driver Br ≡ true = sym (c.is_low.ensures.low) ∙ c.if-not-is_low.false in
     none_passes (asked_before b.history c.args.driver) c.loop-below.below (c.loop-below.invariant k n same marks below)
     (sym (c.asked_before.ensures k n same marks below low) ∙ c.if-asked_before.false)

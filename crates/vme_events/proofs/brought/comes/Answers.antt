@@ -1,6 +1,6 @@
 use Rattle.std.proofs.Common.{◌∙◌, ap}
 use Rattle.std.specs.List.{list_any}
-use Rattle.vme_events.specs.Brought.{is_same_event}
+use Rattle.vme_goals.specs.Events.{is_same_event}
 use Rattle.vme_events.specs.Events.{comes}
 use Rattle.vme_events.proofs.Contained.{among_all}
 use Rattle.vme_events.proofs.brought.comes.Goals as goal

@@ -9,5 +9,5 @@ use Rattle.vme_reasons.proofs.drivers.is_pending.Goals as goal
 pub returns-then-is_low : goal.returns-then-is_low
 returns-then-is_low c = λ k same marks. let b = c.args.bus.now in
     pending_unless_served b.plan b.history c.args.driver c.args.interrupter k c.is_none.result c.requires same
-    (ap (λ d. drive b.history d Irq) c.in-Slot.is ∙ sym (c.is_low.ensures.low k same marks) ∙ c.if-is_low.true)
+    (ap (λ d. drive b.history d Irq) c.in-Slot.is ∙ sym (c.is_low.ensures.low) ∙ c.if-is_low.true)
     (ap (λ d. is_some (served_since b.plan k d c.args.interrupter.kind)) c.in-Slot.is ∙ ap is_some (sym (c.served_since.ensures b.plan k marks)) ∙ c.is_none.ensures)

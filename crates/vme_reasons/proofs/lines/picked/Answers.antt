@@ -8,9 +8,9 @@ use Rattle.vme_reasons.proofs.Told.{pick_told}
 use Rattle.vme_reasons.proofs.lines.picked.Goals as goal
 
 pub returns : goal.returns
-returns c = λ k at is.
+returns c =
     let b = c.args.bus.now in
-    let level : c.last_level.result ≡ last_level b.history = c.last_level.ensures b.plan k is ∙ ap last_level at in
+    let level : c.last_level.result ≡ last_level b.history = c.last_level.ensures in
     let requests : c.pins.result.requests ≡ bus_levels (request_line b.plan b.history) = ap (λ (x : Pins). x.requests) c.pins.ensures in
     let kind : c.from-policy.result.kind ≡ b.plan.arbiter = c.from-policy.ensures ∙ c.arbiter.ensures ∙ ap (λ (p : Plan). p.arbiter) c.plan.ensures in
     ap (λ (x : Option ℕ). witness.Picks x)

@@ -8,7 +8,7 @@ pub returns-in_ok-since-in-Slot : goal.returns-in_ok-since-in-Slot
 returns-in_ok-since-in-Slot c = λ k at is.
     let b = c.args.bus.now in
     let d = c.args.driver in
-    let low : drive b.history d Irq ≡ true = cc (c.is_low.ensures b.plan k is, c.if-is_low.true, at) in
+    let low : drive b.history d Irq ≡ true = cc (c.is_low.ensures.low, c.if-is_low.true, c.in-Slot.is) in
     service_told b k d c.in-Slot.slot c.in_ok-interrupter.interrupter c.in_ok-since-in-Slot.since c.in-Slot.is low
     (sym c.interrupter_of.ensures ∙ c.in_ok-interrupter.was) (sym (c.served_since.ensures b.plan k is) ∙ c.in_ok-since-in-Slot.was)
 
@@ -16,5 +16,5 @@ pub returns-in_default : goal.returns-in_default
 returns-in_default c = λ k at is.
     let b = c.args.bus.now in
     let d = c.args.driver in
-    let high : drive b.history d Irq ≡ false = cc (c.is_low.ensures b.plan k is, c.if-is_low.false, at) in
+    let high : drive b.history d Irq ≡ false = cc (c.is_low.ensures.low, c.if-is_low.false, c.in-Slot.is) in
     service_high b k d high

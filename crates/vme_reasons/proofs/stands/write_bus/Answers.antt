@@ -23,7 +23,7 @@ returns-in_err-write_line-3-clause-front g c = on_err c.from_residual-in_err-wri
     let b = c.args.bus.now in
     front_of_third _ _ _ _ (after_text c.args.n (length b.history) ++ 10 ∷ []) (holder_text b k ++ 10 ∷ []) (grant_text b ++ 10 ∷ []) (shown_text b k ++ 10 ∷ [])
     (rw (c.after_line.ensures, c.len.ensures) at c.in_ok-write_line.ensures.ok) (rw (c.holder_line.ensures k same marks) at c.in_ok-write_line-2.ensures.ok)
-    (rw (c.grant_line.ensures k same marks) at c.in_err-write_line-3.ensures.front))
+    (rw (c.grant_line.ensures) at c.in_err-write_line-3.ensures.front))
 
 pub returns-clause-ok : goal.returns-clause-ok
 returns-clause-ok g c =
@@ -32,7 +32,7 @@ returns-clause-ok g c =
     Appends-trans _ _ _ (((after_text c.args.n (length b.history) ++ 10 ∷ []) ++ (holder_text b k ++ 10 ∷ [])) ++ (grant_text b ++ 10 ∷ [])) (shown_text b k ++ 10 ∷ [])
     (all_three _ _ _ _ (after_text c.args.n (length b.history) ++ 10 ∷ []) (holder_text b k ++ 10 ∷ []) (grant_text b ++ 10 ∷ [])
     (rw (c.after_line.ensures, c.len.ensures) at c.in_ok-write_line.ensures.ok) (rw (c.holder_line.ensures k same marks) at c.in_ok-write_line-2.ensures.ok)
-    (rw (c.grant_line.ensures k same marks) at c.in_ok-write_line-3.ensures.ok))
+    (rw (c.grant_line.ensures) at c.in_ok-write_line-3.ensures.ok))
     (rw (c.shown_line.ensures k same marks) at w))
     c.write_line-4.ensures.ok
 
@@ -43,6 +43,6 @@ returns-clause-front g c =
     front_behind _ _ _ (((after_text c.args.n (length b.history) ++ 10 ∷ []) ++ (holder_text b k ++ 10 ∷ [])) ++ (grant_text b ++ 10 ∷ [])) (shown_text b k ++ 10 ∷ [])
     (all_three _ _ _ _ (after_text c.args.n (length b.history) ++ 10 ∷ []) (holder_text b k ++ 10 ∷ []) (grant_text b ++ 10 ∷ [])
     (rw (c.after_line.ensures, c.len.ensures) at c.in_ok-write_line.ensures.ok) (rw (c.holder_line.ensures k same marks) at c.in_ok-write_line-2.ensures.ok)
-    (rw (c.grant_line.ensures k same marks) at c.in_ok-write_line-3.ensures.ok))
+    (rw (c.grant_line.ensures) at c.in_ok-write_line-3.ensures.ok))
     (rw (c.shown_line.ensures k same marks) at w))
     c.write_line-4.ensures.front

@@ -1,6 +1,6 @@
 use Rattle.std.proofs.Common.{◌∙◌, ap, get_or, codes}
+use Rattle.vme_goals.specs.Events.{event_index}
 use Rattle.vme_tallies.specs.Tally.{passed_by, times_met}
-use Rattle.vme_tallies.specs.Tallied.{event_place}
 use Rattle.vme_tallies.specs.Summary.{never_text}
 use Rattle.vme_tallies.proofs.Words.{same_events, same_rules}
 use Rattle.vme_tallies.proofs.lines.line.Goals as goal
@@ -11,4 +11,4 @@ returns-in-NeverAccepted c = λ t is.
 
 pub returns-in-NeverMet : goal.returns-in-NeverMet
 returns-in-NeverMet c = λ t is.
-    rw c.in-NeverMet.is (c.never_line-in-NeverMet.ensures ∙ ap (never_text (codes "never met")) (c.event_words.ensures.words ∙ same_events (λ v. get_or c.args.tally.now.met.times (event_place v) 0) (λ v. times_met v t) is.met.times))
+    rw c.in-NeverMet.is (c.never_line-in-NeverMet.ensures ∙ ap (never_text (codes "never met")) (c.event_words.ensures.words ∙ same_events (λ v. get_or c.args.tally.now.met.times (event_index v) 0) (λ v. times_met v t) is.met.times))

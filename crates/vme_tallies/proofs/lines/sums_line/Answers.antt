@@ -1,6 +1,6 @@
 use Rattle.std.proofs.Common.{◌∙◌, ap, get_or, codes}
+use Rattle.vme_goals.specs.Events.{event_index}
 use Rattle.vme_tallies.specs.Tally.{passed_by, times_met}
-use Rattle.vme_tallies.specs.Tallied.{event_place}
 use Rattle.vme_tallies.specs.Summary.{never_text}
 use Rattle.vme_tallies.specs.Sums.{total}
 use Rattle.vme_tallies.proofs.Words.{same_events, same_rules}
@@ -12,4 +12,4 @@ returns-in-NeverAccepted c = λ ts is.
 
 pub returns-in-NeverMet : goal.returns-in-NeverMet
 returns-in-NeverMet c = λ ts is.
-    rw c.in-NeverMet.is (c.never_line-in-NeverMet.ensures ∙ ap (never_text (codes "never met")) (c.event_words.ensures.words ∙ same_events (λ v. get_or c.args.sums.now.met (event_place v) 0) (λ v. total (times_met v) ts) is.met))
+    rw c.in-NeverMet.is (c.never_line-in-NeverMet.ensures ∙ ap (never_text (codes "never met")) (c.event_words.ensures.words ∙ same_events (λ v. get_or c.args.sums.now.met (event_index v) 0) (λ v. total (times_met v) ts) is.met))

@@ -1,4 +1,5 @@
--- `move_to` moves the values to the new room, and makes the old a piece again. Assumes `Logic`.
+-- `move_to` moves the values to the new room, and makes the old room a piece again. Assumes
+-- `Logic`.
 use Rattle.vme_arena.proofs.Steps.{◌≡◌, ℕ, ◌+◌, ◌-◌, ◌*◌, ◌^◌, ◌<◌, ◌≤◌, List, [], ◌∷◌, ◌++◌, refl, sym, ap, subst, ◌∙◌, arith, w64, SProp, emp, apply∗, Lft, Share, ftrue, froom, flft, full_share, Ty, Fn, Val, vint, vunit, ty_array, size, capped, capped_is, Env, WpFn, fact, fact_i, tables, sem, ‵, raw, ◌⊛◌, given, later, prop, settles, at_ret, ◌$◌, ◌∵◌, !, qed, by, move, drop, use0, use1, use2, use3, split, split3, join, learn, rewrite, regoal, fsplit, fsplit3, fjoin, fpick, await, whole, sub, agg, stop, fld, of_opd, no_more, and_then, first, blocks, exec, returns, enter, alloc_all, pass_all, free_all, look_at, get, get_in, sets, lands_last, env, RattleType, owns, Ptr, block_ptr, types_at, nothing, heard, Tuple, Stays, stay_dropped, walk_of, Goes-blank, Goes-dropped, after, fm, pair_of, pair_val, proved_at, leaves}
 use Rattle.vme_arena.proofs.Parts.{param, going_on, leaving}
 use mir.Syntax.{Args, a_type, place}
@@ -92,7 +93,8 @@ move_to_spec 𝓤 𝓛 𝓜 𝓡 wired T L =
     sets ! (agg ! (and_then ! (get ! refl) (no_more !))) refl (tt, (tt, tt)) $
     sets ! (agg ! (and_then ! (get ! refl) (and_then ! (get ! refl) (no_more !)))) refl (tt, (tt, (tt, tt))) $
     sets ! (agg ! (and_then ! (get ! refl) (and_then ! (get ! refl) (no_more !)))) refl (tt, ((tt, (tt, tt)), ((tt, tt), tt))) $
-    -- [the values; the old room; the lifetime; the new rest; the new token; the old rest; the old token]
+    -- [the values; the old room; the lifetime; the new rest; the new token; the old rest; the old
+    -- token]
     move ! (1 ∷ 5 ∷ []) $ use2 𝓛 (‵ (froom (ty_array τ old) b x.at)) (emptied E 𝓛 len old b x.at counts.2) $ use1 𝓛 (‵ (froom τ₀ b x.at)) (𝓛.laws.room-raw (ty_array τ old) b x.at) $ move ! (5 ∷ []) $
     fpick ! (λ _. move ! (1 ∷ 0 ∷ []) $ use2 𝓛 (‵ (units_at from m)) (apply∗ 𝓤 (sem 𝓛 (froom τ₀ b x.at)) (sem 𝓛 (units_at from m))) $
     returns ! (look_at ! 0 refl) $ free_all ! refl $

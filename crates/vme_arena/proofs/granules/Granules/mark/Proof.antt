@@ -42,7 +42,8 @@ mark_spec 𝓤 𝓛 𝓜 𝓡 wired =
     use1 𝓛 (‵ (froom (ty_int w8) b Y) ⊛ ‵ (room_for (loose m) (block_ptr b (Y + 1)))) (𝓛.laws.room_uncons (ty_int w8) m b Y) $ split ! $ move ! (3 ∷ []) $
     rewrite ! 0 (λ (k : ℕ). ‵ (units_at p k)) (omega (arith, more)) refl $ use1 𝓛 (‵ (units_at p 16) ⊛ ‵ (units_at (block_ptr b (X + 16)) (m * 16))) (cuts 𝓛 b X 16 (m * 16) refl) $ split ! $
     move ! (2 ∷ 0 ∷ 5 ∷ 1 ∷ 3 ∷ 4 ∷ 7 ∷ []) $
-    -- [the tag; the granule; those at home; the other granules; their tags; the padding; alive; nothing]
+    -- [the tag; the granule; those at home; the other granules; their tags; the padding; alive;
+    -- nothing]
     regoal ! (λ (us : List Val). prop (WpFn 𝓤 𝓛.H 𝓣.C 𝓣.Λ fn us Post)) (λ j. (granules_told x.bytes x.tags vss.0 are.0.0 ∙ (λ k. granules_val (lies.0 k) (lies.1 k) ∷ [])) j ++ (are.1.0.0 j ++ [])) refl $
     enter ! 𝓣.C 𝓣.Λ fn (granules_val here tags ∷ vint w64 i ∷ []) Post $
     alloc_all ! (λ l. pass_all ! refl ((tt, (tt, (tt, tt))), ((tt, record { fits = are.1.0.1 }), tt)) $ let En : Env 𝓤 𝓛.H = env fn.locals l in

@@ -1,4 +1,5 @@
--- `allocate` hands a piece out as room for the type that was asked, with the way back as the token. Assumes `Logic`.
+-- `allocate` gives a piece out as room for the requested type, with the way back as the token.
+-- Assumes `Logic`.
 use Rattle.vme_arena.proofs.Steps.{◌≡◌, List, [], ◌∷◌, ◌++◌, true, false, Ok, Err, refl, subst, lit<, w64, SProp, ent, id⊢, froom, Ty, Fn, Val, vint, vptr, size, align, capped, Env, WpFn, fact, tables, ‵, raw, ◌⊛◌, some, later, prop, at_ret, ◌$◌, ◌∵◌, !, qed, by, move, drop, use0, use1, split, join, pick, regoal, fjoin, await, whole, sub, agg, vrt, in_variant, stop, fld, lit, of_opd, no_more, and_then, first, switches_on, exec, returns, enter, alloc_all, pass_all, free_all, look_at, get, get_in, get_tag, sets, sets_last, lands_as, env, owns, Ptr, block_ptr, types_at, nothing, heard, alive, Stays, stay_dropped, walk_of, Goes-dropped, after, head, arm_body, fm, proved_at, leaves}
 use Rattle.vme_arena.proofs.Parts.{param, going_on}
 use denote.Triple.Call.{calls_from}

@@ -1,4 +1,5 @@
--- `shrink` hands the block to `shrunk` as a value, and takes apart what comes back. Assumes `Logic`.
+-- `shrink` passes the block to `shrunk` as a value, and takes apart what is returned. Assumes
+-- `Logic`.
 use Rattle.vme_arena.proofs.Steps.{◌≡◌, ℕ, ◌^◌, ◌≤◌, List, [], ◌∷◌, ◌++◌, true, false, Ok, Err, refl, sym, ap, ◌∙◌, lit<, w64, SProp, emp, id⊢, Fn, Val, vint, vptr, size, Env, WpFn, fact, fact_i, tables, ‵, raw, ◌⊛◌, some, later, prop, at_ret, ◌$◌, ◌∵◌, !, qed, by, move, keep, drop, use0, use1, split, split3, join, pick, rewrite, regoal, fsplit, fsplit3, fjoin, fpick, fpack, feq_i, flt_i, await, whole, sub, agg, vrt, in_variant, stop, fld, lit, of_opd, no_more, and_then, first, switches_on, exec, returns, enter, alloc_all, pass_all, free_all, look_at, get, get_in, get_tag, sets, sets_last, lands_as, env, RattleType, owns, Ptr, block_ptr, ptr_val, types_at, nothing, heard, alive, Stays, stay_dropped, walk_of, Goes-dropped, after, head, arm_body, fm, proved_at, leaves}
 use Rattle.vme_arena.proofs.Parts.{param, going_on}
 use mir.Syntax.{Args, a_type}

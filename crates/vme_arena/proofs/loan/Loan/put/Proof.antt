@@ -53,7 +53,8 @@ put_spec 𝓤 𝓛 𝓜 𝓡 wired =
     enter ! 𝓣.C 𝓣.Λ fn (v ∷ vint w64 i ∷ piece_val p ∷ []) Post $
     alloc_all ! (λ l. pass_all ! refl ((tt, (tt, (tt, (tt, tt)))), ((tt, record { fits = are.1.0.1 }), ((tt, (tt, tt)), tt))) $ let En : Env 𝓤 𝓛.H = env fn.locals l in
     bor_open ! tt $ move ! (1 ∷ []) $ use1 𝓛 (‵ Gr ⊛ raw (wand 𝓤 (sem 𝓛 Gr) (sem 𝓛 All))) (reaches 𝓛 b i n s.at s.tag small) $ split ! $ fpick ! (λ t. fsplit ! $
-    -- [the tag; what it speaks of; the way back; the open borrow; the granule; the rest of the piece]
+    -- [the tag; what it speaks of; the way back; the open borrow; the granule; the rest of the
+    -- piece]
     sets ! (of_opd ! (get_in ! (fld ! refl (stop !)) (sub ! 0 refl (whole !)))) refl (tt, tt) $
     sets ! (of_opd ! (get_in ! (fld ! refl (stop !)) (sub ! 1 refl (whole !)))) refl (tt, tt) $
     sets ! (of_opd ! (get_in ! (fld ! refl (stop !)) (sub ! 2 refl (whole !)))) refl (tt, tt) $

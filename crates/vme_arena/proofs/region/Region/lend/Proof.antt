@@ -59,7 +59,8 @@ lend_spec 𝓤 𝓛 𝓜 𝓡 wired =
     sets ! (agg ! (no_more !)) refl (tt, tt) $
     sets ! (agg ! (and_then ! (get ! refl) (and_then ! (get ! refl) (and_then ! (get ! refl) (no_more !))))) refl (tt, (tt, (tt, (tt, tt)))) $
     use0 𝓛 (‵ (granules_own y.bytes y.tags (granules_val y.bytes y.tags ∷ []))) (granules_made 𝓛 y.bytes y.tags) $ rewrite ! 0 (λ (r : Ptr × Ptr). ‵ (granules_own y.bytes y.tags (granules_val r.0 r.1 ∷ []))) (λ i. (lies.0 i, lies.1 i)) refl $
-    -- [the fields; the cell; those at home; the blank ones; the origin; the open borrow, in three entries]
+    -- [the fields; the cell; those at home; the blank ones; the origin; the open borrow, in three
+    -- entries]
     move ! (1 ∷ 7 ∷ []) $ join ! $ move ! (4 ∷ 0 ∷ []) $ join ! $ move ! (1 ∷ 0 ∷ []) $ join ! $ move ! (2 ∷ 0 ∷ []) $ join ! $ move ! (2 ∷ 1 ∷ 0 ∷ []) $
     use3 𝓛 (later (‵ (fbor κ Home) ⊛ ‵ (flft κ q))) (lends 𝓛 κ q x b o γ g ws.1.0) $ await ! tt $ split ! $
     -- [the borrow; the token; the last value of self]

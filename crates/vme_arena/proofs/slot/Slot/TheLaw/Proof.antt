@@ -1,4 +1,5 @@
--- A `&` to a slot is a borrow of all that it holds, which the thread's token opens. Assumes `Logic`.
+-- A `&` to a slot is a borrow of all that it holds, which the thread's token opens. Assumes
+-- `Logic`.
 use mathlib.Core.List.{[], ◌∷◌}
 use base.Fraction.{full_share}
 use base.Fml.{fbor}

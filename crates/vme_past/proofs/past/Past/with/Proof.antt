@@ -1,4 +1,4 @@
--- `with` makes a value of no bytes, at the list with one edge more.
+-- `with` makes a value of no bytes, at the list with one more edge.
 use Rattle.std.proofs.Common.{[], ◌∷◌, refl}
 use Rattle.std.proofs.raw_atomic.Walks.{proved}
 use mir.Syntax.{named}

@@ -3,4 +3,4 @@ use Rattle.vme_reasons.proofs.Fresh.{nothing_moved}
 use Rattle.vme_reasons.proofs.moves.Moves.new.Goals as goal
 
 pub returns : goal.returns
-returns c = nothing_moved _ refl refl refl
+returns c = nothing_moved _ refl refl

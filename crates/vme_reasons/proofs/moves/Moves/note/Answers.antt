@@ -7,5 +7,4 @@ returns-else-is_grant c = λ k is. record {
   places = grind (arith, common_steps);
   wires = λ d w has. grind (arith, common_steps, is.wires d w has);
   grant = grind (arith, common_steps);
-  level = grind (arith, common_steps);
 }

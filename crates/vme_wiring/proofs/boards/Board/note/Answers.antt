@@ -1,4 +1,4 @@
--- The parts that the wire does not concern are as they were.
+-- The parts that the wire does not concern stay as they were.
 use Rattle.std.proofs.Common.{◌≡◌, ◌∙◌, ap, sym, false, ⊎_elim}
 use Rattle.vme_model.specs.declared.signals.Wire.TheVariants.{Br, BgOut, Addr, AddressStrobe, DataStrobe}
 use Rattle.vme_wiring.specs.declared.boards.Board.{Board}

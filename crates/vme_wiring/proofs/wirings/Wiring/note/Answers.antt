@@ -1,4 +1,5 @@
--- The board in the driver's place is that of the plan, and its edge is one that the wiring can take.
+-- The board in the driver's place is that of the plan, and its edge is one that the wiring can
+-- take.
 use Rattle.std.proofs.Common.{◌∙◌, sym, ap, subst}
 use Rattle.std.specs.Prelude.{option_map}
 use Rattle.vme_model.specs.declared.boards.Row.{Row}
