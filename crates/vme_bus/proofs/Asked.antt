@@ -18,7 +18,7 @@ use Rattle.vme_model.specs.Readings.{readings}
 use Rattle.vme_model.specs.Rules.{rule}
 use Rattle.vme_model.specs.Verdict.{Judgement, check, is_other_state}
 use Rattle.vme_model.proofs.Bools.{and_left, and_right}
-use Rattle.vme_wiring.specs.Asked.{asked, exists}
+use Rattle.vme_histories.specs.Asked.{asked, exists}
 use Rattle.vme_bus.specs.Arms.{slot_of}
 
 -- every level beyond 3 is of the last chain

@@ -19,7 +19,7 @@ use Rattle.vme_bus.specs.declared.layouts.Input.TheVariants as input
 use Rattle.vme_bus.specs.declared.records.SeatRecord.{SeatRecord}
 use Rattle.vme_bus.specs.Moves.{MovesPlace, MovesSlots}
 use Rattle.vme_model.proofs.Ranges.{in_range}
-use Rattle.vme_wiring.proofs.AllowedBoards.{stands}
+use Rattle.vme_histories.proofs.AllowedBoards.{stands}
 use Rattle.vme_bus.specs.declared.sets.SlotSet.{SlotSet}
 use Rattle.vme_bus.specs.Sets.{has}
 use Rattle.vme_bus.specs.Layouts.{seat, seat_of, is_input_at, HoldsInputs, place_of, grant_head, acknowledge_head, grant_source}

@@ -29,12 +29,14 @@ use Rattle.vme_master.specs.Local.{most_cycles}
 use Rattle.vme_master.proofs.Counts.{one_more}
 use Rattle.vme_interrupter.specs.Local.{seen, served, serves_board}
 use Rattle.vme_interrupter.proofs.Seen.{served_seen}
-use Rattle.vme_wiring.specs.Counts.{addressing_after}
+use Rattle.vme_histories.specs.Shown.{addressing_after}
 use Rattle.vme_wiring.specs.declared.boards.Board.{Board}
-use Rattle.vme_wiring.proofs.Others.{same_wire, drive_same, cycles_same, strobed_same, parts_same}
-use Rattle.vme_wiring.proofs.AllowedBoards.{stands, driven, at, at_head}
-use Rattle.vme_wiring.proofs.LongerHistory.{controller_kept, addressing_by, addressing_kept}
-use Rattle.vme_wiring.proofs.AddressNotes.{IsShownAt, shown_at}
+use Rattle.vme_histories.proofs.Others.{same_wire, drive_same, cycles_same, strobed_same}
+use Rattle.vme_wiring.proofs.Others.{parts_same}
+use Rattle.vme_histories.proofs.AllowedBoards.{stands, driven, at, at_head}
+use Rattle.vme_wiring.proofs.LongerHistory.{controller_kept}
+use Rattle.vme_histories.proofs.Addressing.{addressing_by, addressing_kept}
+use Rattle.vme_histories.proofs.Addressing.{IsShownAt, shown_at}
 use Rattle.vme_bus.specs.declared.sets.SlotSet.{SlotSet}
 use Rattle.vme_bus.specs.declared.states.BusState.{BusState}
 use Rattle.vme_bus.specs.Sets.{has}
@@ -260,9 +262,9 @@ board_noted version p h s r w fall v old new is allowed found n =
       rules = ap version_in n.rules ∙ is.rules;
       layout = subst (IsLayoutOf p) (sym n.layout) is.layout;
       kind = ap kind_in n.kind ∙ is.kind;
-      last_level = n.last_level ∙ is.last_level ∙ ap (λ (c : ControllerState). c.last_level) (controller_kept p.arbiter version h s w fall v d.wire);
-      bus_clear = ap (λ x. has x bus_clear_place) n.controls ∙ is.bus_clear ∙ ap (λ (c : ControllerState). c.bclr) (controller_kept p.arbiter version h s w fall v d.wire);
-      bus_error = ap (λ x. has x bus_error_place) n.controls ∙ is.bus_error ∙ ap (λ (c : ControllerState). c.berr) (controller_kept p.arbiter version h s w fall v d.wire);
+      last_level = n.last_level ∙ is.last_level ∙ level_kept h s w fall v d.wire;
+      bus_clear = ap (λ x. has x bus_clear_place) n.controls ∙ is.bus_clear ∙ sym (drive_same h (at s w fall v) Controller Bclr refl);
+      bus_error = ap (λ x. has x bus_error_place) n.controls ∙ is.bus_error ∙ sym (drive_same h (at s w fall v) Controller Berr refl);
       br = wire_moved h s Br w fall v old.br new.br d.before n.br is.br;
       bbsy = wire_moved h s Bbsy w fall v old.bbsy new.bbsy d.before n.bbsy is.bbsy;
       addr = wire_moved h s Addr w fall v old.addr new.addr d.before n.addr is.addr;

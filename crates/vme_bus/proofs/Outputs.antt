@@ -23,8 +23,8 @@ use Rattle.vme_model.proofs.Bools.{and_left, and_right}
 use Rattle.vme_model.proofs.Below.{contained}
 use Rattle.vme_wiring.specs.Counts.{passes_grant}
 use Rattle.vme_wiring.proofs.PullCounts.{any_pulls, no_pulls_left}
-use Rattle.vme_wiring.proofs.AllowedBoards.{stands}
-use Rattle.vme_wiring.proofs.FieldReads.{never_drove}
+use Rattle.vme_histories.proofs.AllowedBoards.{stands}
+use Rattle.vme_histories.proofs.Drivers.{never_drove}
 use Rattle.vme_bus.specs.declared.sets.SlotSet.{SlotSet}
 use Rattle.vme_bus.specs.Sets.{has}
 use Rattle.vme_bus.specs.States.{HoldsWire, HoldsOutputs}

@@ -8,7 +8,7 @@ use Rattle.std.proofs.lemmas.Option.{slice_get_past, slice_get-get_or}
 use Rattle.vme_model.specs.declared.boards.Row.{Row}
 use Rattle.vme_model.specs.Plan.{Plan, board}
 use Rattle.vme_model.specs.Accepted.{IsAccepted}
-use Rattle.vme_wiring.proofs.AllowedBoards.{stands}
+use Rattle.vme_histories.proofs.AllowedBoards.{stands}
 use Rattle.vme_bus.specs.declared.records.SeatRecord.{SeatRecord}
 use Rattle.vme_bus.specs.declared.sets.SlotSet.{SlotSet}
 use Rattle.vme_bus.specs.declared.records.Seat.{Seat}

@@ -9,8 +9,8 @@ use Rattle.vme_model.specs.Signals.{is_same_wire}
 use Rattle.vme_requester.specs.Local.{is_requesters}
 use Rattle.vme_master.specs.Local.{is_masters}
 use Rattle.vme_interrupter.specs.Local.{is_interrupters}
-use Rattle.vme_wiring.specs.Counts.{addressing_after}
-use Rattle.vme_wiring.proofs.Others.{same_wire}
+use Rattle.vme_histories.specs.Shown.{addressing_after}
+use Rattle.vme_histories.proofs.Others.{same_wire}
 use Rattle.vme_bus.specs.declared.sets.SlotSet.{SlotSet}
 use Rattle.vme_bus.specs.Sets.{has}
 use Rattle.vme_bus.specs.Moves.{MovesPlace, MovesSlots, FollowsWire, turned_by, served_by, strobed_by, cycles_by, shown_by}

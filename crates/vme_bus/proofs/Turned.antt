@@ -20,10 +20,10 @@ use Rattle.vme_model.specs.Verdict.{check, is_other_state}
 use Rattle.vme_model.specs.Offers.{turned}
 use Rattle.vme_requester.specs.Local.{is_requesters}
 use Rattle.vme_interrupter.specs.Local.{is_interrupters}
-use Rattle.vme_wiring.specs.Asked.{exists}
-use Rattle.vme_wiring.specs.Offered.{is_open}
-use Rattle.vme_wiring.proofs.AllowedBoards.{stands}
-use Rattle.vme_wiring.proofs.NoOffers.{lacking}
+use Rattle.vme_histories.specs.Asked.{exists}
+use Rattle.vme_histories.specs.Offered.{is_open}
+use Rattle.vme_histories.proofs.AllowedBoards.{stands}
+use Rattle.vme_histories.proofs.NoOffers.{lacking}
 
 opens : (there low a b : Bool) (n m : ℕ) → there ≡ true → (a && b) ≡ is_ok (check there NoSuchDriver (check (is_other_state low (not low)) AlreadyThere (check a (Rule n) (check b (NotSettled m) (Ok tt)))))
 opens true true true true n m e = refl

@@ -4,7 +4,7 @@ ghost use Rattle.std.specs.List.{slice_get};
 ghost use Rattle.std.specs.Option.{option_copied, option_map_or};
 ghost use Rattle.vme_model.specs.declared.sets.ChainId.TheVariants as chain;
 ghost use Rattle.vme_model.specs.Plan.{board, upstream, last_active, grant_chain};
-ghost use Rattle.vme_wiring.specs.Counts.{request_level};
+ghost use Rattle.vme_histories.specs.Levels.{request_level};
 
 use crate::records::{Seat, SeatRecord};
 use crate::sets::SlotSet;
@@ -141,7 +141,7 @@ fn grant_source(plan: &Plan, row: &Row) -> u8
 }
 
 /// The board of a slot, with its inputs.
-#[tactic(auto, using(vme_wiring::proofs::AllowedBoards::stands))]
+#[tactic(auto, using(vme_histories::proofs::AllowedBoards::stands))]
 fn seat_of(plan: &Plan, slot: u8) -> Option<Seat>
     ensures { result ≡ option_map (seat_of plan.now) (board plan.now slot) }
 {

@@ -5,7 +5,7 @@ ghost use Rattle.vme_model.specs.Signals.{grant_level};
 ghost use Rattle.vme_model.specs.Plan.{board};
 ghost use Rattle.vme_model.specs.History.{shown};
 ghost use Rattle.vme_model.specs.Verdict.{verdict_but_full};
-ghost use Rattle.vme_wiring.specs.Counts.{addressing_after};
+ghost use Rattle.vme_histories.specs.Shown.{addressing_after};
 ghost use Rattle.vme_requester.specs.Local.{is_requesters};
 ghost use Rattle.vme_master.specs.Local.{is_masters};
 ghost use Rattle.vme_interrupter.specs.Local.{is_interrupters};

@@ -11,7 +11,7 @@ ghost use Rattle.vme_model.specs.declared.boards.Row.{Row as RowValue};
 ghost use Rattle.vme_model.specs.Plan.{board, drives};
 ghost use Rattle.vme_model.specs.Signals.{has_wire, has_value, is_acknowledge};
 ghost use Rattle.vme_model.specs.Rules.{guard, bus_numbers, pick, is_pick, are_grants_high, clear_guard, burst_guard, release_guard, show_guard, pass_guard, answer_guard};
-ghost use Rattle.vme_wiring.specs.Waits.{is_access_to};
+ghost use Rattle.vme_histories.specs.Shown.{is_access_to};
 ghost use Rattle.vme_bus.specs.Asks.{asks_at, IsNumbered};
 ghost use Rattle.vme_bus.specs.Records.{cycle_in};
 ghost use Rattle.vme_requester.specs.Local.{is_requesters};

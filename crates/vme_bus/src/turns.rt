@@ -3,7 +3,7 @@ ghost use Rattle.std.specs.Prelude.{◌≡◌, true, false};
 ghost use Rattle.vme_model.specs.declared.signals.Driver.TheVariants.{Controller, Slot};
 ghost use Rattle.vme_model.specs.Offers.{turned};
 ghost use Rattle.vme_model.specs.Open.{showing};
-ghost use Rattle.vme_wiring.specs.Offered.{is_open};
+ghost use Rattle.vme_histories.specs.Offered.{is_open};
 ghost use Rattle.vme_requester.specs.Local.{is_requesters};
 ghost use Rattle.vme_master.specs.Local.{is_masters};
 ghost use Rattle.vme_interrupter.specs.Local.{is_interrupters};

@@ -8,7 +8,7 @@ ghost use Rattle.vme_model.specs.Rules.{rule};
 ghost use Rattle.vme_model.specs.Settling.{is_unanswerable, settling, settling_guard, is_chain_clear, are_grants_through};
 ghost use Rattle.vme_model.specs.declared.sets.ChainId.TheVariants as chain;
 ghost use Rattle.vme_model.specs.Verdict.{check, is_other_state, settled, verdict_but_full};
-ghost use Rattle.vme_wiring.specs.Asked.{asked, exists};
+ghost use Rattle.vme_histories.specs.Asked.{asked, exists};
 ghost use Rattle.vme_requester.specs.Local.{is_requesters};
 ghost use Rattle.vme_master.specs.Local.{is_masters};
 ghost use Rattle.vme_interrupter.specs.Local.{is_interrupters};

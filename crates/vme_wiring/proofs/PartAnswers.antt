@@ -21,7 +21,8 @@ use Rattle.vme_master.specs.Local.{MasterState, master_of, is_masters, local as 
 use Rattle.vme_master.proofs.Over.{rules_over as master_rules_over}
 use Rattle.vme_interrupter.specs.Local.{InterrupterState, interrupter_of, is_interrupters, local as interrupter_local, over as interrupter_over, seen}
 use Rattle.vme_interrupter.proofs.Over.{rules_over as interrupter_rules_over}
-use Rattle.vme_wiring.specs.Asked.{asked, IsAsked}
+use Rattle.vme_histories.specs.Asked.{asked}
+use Rattle.vme_wiring.specs.Asked.{IsAsked}
 use Rattle.vme_wiring.specs.Boards.{parts_of, low_of}
 use Rattle.vme_wiring.specs.declared.boards.Board.{Board}
 use Rattle.vme_wiring.proofs.Parts.{part, free_at, low_at}

@@ -36,7 +36,8 @@ use Rattle.vme_master.specs.Local.{is_masters, told as master_told, over as mast
 use Rattle.vme_interrupter.specs.Local.{is_interrupters, seen, served, interrupter_readings, over as interrupter_over}
 use Rattle.vme_interrupter.proofs.Seen.{edges_seen, served_seen}
 use Rattle.vme_arbiter.specs.Local.{over as controller_over}
-use Rattle.vme_wiring.specs.Asked.{asked, asked_guard, IsAsked}
+use Rattle.vme_histories.specs.Asked.{asked, asked_guard}
+use Rattle.vme_wiring.specs.Asked.{IsAsked}
 
 -- two sets of lines that agree
 record Agree (s t : ℕ → Bool) : Type 0 where

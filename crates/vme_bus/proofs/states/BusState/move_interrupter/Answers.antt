@@ -4,7 +4,7 @@ use Rattle.std.proofs.lemmas.List.{set-get_or}
 use Rattle.vme_model.specs.declared.signals.Wire.TheVariants.{Br, BgOut, Bbsy, Addr, AddressStrobe, DataStrobe}
 use Rattle.vme_model.specs.Plan.{board}
 use Rattle.vme_interrupter.specs.Local.{is_interrupters}
-use Rattle.vme_wiring.proofs.LongerHistory.{standing}
+use Rattle.vme_histories.proofs.Drivers.{standing}
 use Rattle.vme_bus.specs.Records.{cycle_in, slot_in}
 use Rattle.vme_bus.specs.Moves.{release_of}
 use Rattle.vme_bus.proofs.LongerHistory.{noted_by_board}

@@ -3,7 +3,7 @@ use Rattle.vme_model.specs.declared.signals.Wire.TheVariants.{Br, BgOut, Bbsy, I
 use Rattle.vme_model.specs.Plan.{board}
 use Rattle.vme_model.specs.History.{shown}
 use Rattle.vme_master.specs.Local.{is_masters}
-use Rattle.vme_wiring.proofs.LongerHistory.{standing}
+use Rattle.vme_histories.proofs.Drivers.{standing}
 use Rattle.vme_bus.specs.Moves.{is_serving}
 use Rattle.vme_bus.proofs.LongerHistory.{noted_by_board}
 use Rattle.vme_bus.proofs.Parts.{master_delivers_not}

@@ -5,7 +5,7 @@ use Rattle.vme_model.specs.declared.signals.Wire.TheVariants.{Addr, AddressStrob
 use Rattle.vme_model.specs.Plan.{board}
 use Rattle.vme_model.specs.History.{shown}
 use Rattle.vme_requester.specs.Local.{is_requesters}
-use Rattle.vme_wiring.proofs.LongerHistory.{standing}
+use Rattle.vme_histories.proofs.Drivers.{standing}
 use Rattle.vme_bus.specs.Records.{cycle_in, slot_in}
 use Rattle.vme_bus.specs.Moves.{is_serving, release_of}
 use Rattle.vme_bus.proofs.LongerHistory.{noted_by_board}

@@ -1,6 +1,7 @@
 use Rattle.std.proofs.Common.{◌∙◌, refl, ap}
 use Rattle.vme_model.specs.declared.pins.Pins.{Pins}
-use Rattle.vme_wiring.proofs.Fresh.{high_shared, none_addresses}
+use Rattle.vme_wiring.proofs.Fresh.{high_shared}
+use Rattle.vme_histories.proofs.Addressing.{none_addresses}
 use Rattle.vme_bus.specs.Layouts.{grant_head, acknowledge_head}
 use Rattle.vme_bus.specs.States.{bus_clear_place, bus_error_place}
 use Rattle.vme_bus.proofs.PowerUp.{none_held, none_granted, none_acknowledged, none_served, no_cycles}

@@ -2,9 +2,9 @@ use Rattle.std.proofs.Common.{arith}
 use Rattle.vme_model.specs.Signals.{is_well_formed}
 use Rattle.vme_model.specs.Plan.{has_driver}
 use Rattle.vme_model.proofs.Bools.{and_left}
-use Rattle.vme_wiring.proofs.JudgedParts.{exists_accepted}
-use Rattle.vme_wiring.proofs.AllowedBoards.{stands}
-use Rattle.vme_wiring.proofs.LongerHistory.{standing}
+use Rattle.vme_histories.proofs.JudgedParts.{exists_accepted}
+use Rattle.vme_histories.proofs.AllowedBoards.{stands}
+use Rattle.vme_histories.proofs.Drivers.{standing}
 use Rattle.vme_bus.proofs.Parts.{requester_alone}
 use Rattle.vme_bus.proofs.states.BusState.note_requester.Goals as goal
 
