@@ -1,17 +1,17 @@
 -- The slot whose address group is on, and what it shows, after an edge of an address group.
-use Rattle.std.proofs.Common.{◌≡◌, ◌≢◌, ◌∙◌, refl, sym, ap, subst, ℕ, Bool, true, false, List, [], ◌∷◌, arith}
-use Rattle.std.specs.Prelude.{◌==◌, if◌then◌else◌, Option, Some, None, Ok}
+use Rattle.std.proofs.Common.{◌≡◌, ◌≢◌, ◌∙◌, refl, sym, ap, subst, ℕ, zero, suc, Bool, true, false, List, [], ◌∷◌, ◌++◌, arith}
+use Rattle.std.specs.Prelude.{◌==◌, if◌then◌else◌, Option, Some, None, Ok, find}
 use Rattle.std.specs.Option.{option_and_then}
 use Rattle.std.proofs.lemmas.Bool.Decides.{nat_tests}
 use Rattle.vme_model.specs.declared.boards.Row.{Row}
 use Rattle.vme_model.specs.declared.signals.Version.{Version}
-use Rattle.vme_model.specs.declared.signals.Driver.TheVariants.{Slot}
+use Rattle.vme_model.specs.declared.signals.Driver.TheVariants.{Controller, Slot}
 use Rattle.vme_model.specs.declared.signals.Wire.{Wire}
-use Rattle.vme_model.specs.declared.signals.Wire.TheVariants.{Addr}
+use Rattle.vme_model.specs.declared.signals.Wire.TheVariants.{Bg, Bclr, Iack, Berr, Br, BgOut, Bbsy, Addr, AddressStrobe, DataStrobe, Irq, IackOut, Dtack}
 use Rattle.vme_model.specs.declared.signals.Cycle.{Cycle}
 use Rattle.vme_model.specs.declared.signals.Edge.{Edge}
-use Rattle.vme_model.specs.Signals.{has_value}
-use Rattle.vme_model.specs.Plan.{Plan}
+use Rattle.vme_model.specs.Signals.{has_value, has_wire}
+use Rattle.vme_model.specs.Plan.{Plan, up_to}
 use Rattle.vme_model.specs.Accepted.{IsAccepted}
 use Rattle.vme_model.specs.History.{drive, addressing, shown, last_value}
 use Rattle.vme_model.specs.Verdict.{IsLegal, verdict_but_full}
@@ -22,7 +22,7 @@ use Rattle.vme_model.proofs.Safety.{legal_is_safe}
 use Rattle.vme_slots.proofs.Slots.{find_up_to_none, find_up_to_first}
 use Rattle.vme_histories.specs.Shown.{addressing_after}
 use Rattle.vme_histories.proofs.Others.{drive_same}
-use Rattle.vme_histories.proofs.AllowedBoards.{Stands, IsDriven, at, own_edge, own_after}
+use Rattle.vme_histories.proofs.AllowedBoards.{Stands, IsDriven, at, at_head, own_edge, own_after}
 
 whole : (P : List Edge → Type 0) (h : List Edge) → OnEachPrefix P h → P h
 whole P [] each = each

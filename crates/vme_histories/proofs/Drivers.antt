@@ -1,6 +1,6 @@
 -- Who drives a wire.
 use Rattle.std.proofs.Common.{◌≡◌, ◌∙◌, refl, sym, ap, subst, ℕ, Bool, true, false, List, [], ◌∷◌, ◌≤◌}
-use Rattle.std.specs.Prelude.{◌==◌, ◌&&◌, if◌then◌else◌, Option, Some, None}
+use Rattle.std.specs.Prelude.{◌==◌, ◌&&◌, if◌then◌else◌, Option, Some, None, Ok}
 use Rattle.std.specs.Option.{option_map_or}
 use Rattle.vme_model.specs.declared.boards.Row.{Row}
 use Rattle.vme_model.specs.declared.signals.Version.{Version}
@@ -11,7 +11,7 @@ use Rattle.vme_model.specs.declared.signals.Edge.{Edge}
 use Rattle.vme_model.specs.Signals.{is_same_driver, is_same_wire, is_edge_of}
 use Rattle.vme_model.specs.Plan.{Plan, board, has_driver, drives}
 use Rattle.vme_model.specs.History.{drive}
-use Rattle.vme_model.specs.Verdict.{IsLegal}
+use Rattle.vme_model.specs.Verdict.{IsLegal, verdict_but_full}
 use Rattle.vme_model.proofs.Bools.{same_number}
 use Rattle.vme_model.proofs.AllowedEdges.{all_passed}
 use Rattle.vme_histories.proofs.Others.{same_wire}

@@ -14,8 +14,7 @@ ghost use Rattle.vme_interrupter.specs.Local.{is_interrupters};
 ghost use Rattle.vme_histories.specs.Offered.{is_open};
 ghost use Rattle.vme_histories.specs.Judged.{OfState, may_grant};
 
-use vme_model::{Cycle, Driver, Edge, Levels, Refused, Wire};
-use vme_rules::Outcome;
+use vme_model::{Cycle, Driver, Levels, Wire};
 
 /// Parts of a board that wait for an edge of another driver. The rules then allow none of the edges
 /// that are considered for their wires. Source: profile.
