@@ -7,6 +7,8 @@ use Rattle.std.proofs.lemmas.Bool.Decides.{nat_tests}
 use Rattle.std.proofs.lemmas.List.{length-set, get_or-set_same, get_or-set_other}
 use Rattle.vme_model.specs.declared.boards.Row.{Row}
 use Rattle.vme_model.specs.declared.boards.RequesterRow.{RequesterRow}
+use Rattle.vme_model.specs.declared.boards.InterrupterRow.{InterrupterRow}
+use Rattle.vme_model.specs.declared.boards.IrqKind.{IrqKind}
 use Rattle.vme_model.specs.declared.boards.Release.{Release}
 use Rattle.vme_model.specs.declared.boards.Release.TheVariants.{Request}
 use Rattle.vme_model.specs.declared.signals.Version.{Version}
@@ -16,27 +18,22 @@ use Rattle.vme_model.specs.declared.signals.Wire.{Wire}
 use Rattle.vme_model.specs.declared.signals.Wire.TheVariants.{Bg, Bclr, Iack, Berr, Br, BgOut, Bbsy, Addr, AddressStrobe, DataStrobe, Irq, IackOut, Dtack}
 use Rattle.vme_model.specs.declared.signals.Cycle.{Cycle}
 use Rattle.vme_model.specs.declared.signals.Edge.{Edge}
-use Rattle.vme_model.specs.Signals.{is_same_driver, is_same_wire, grant_level, has_wire}
+use Rattle.vme_model.specs.Signals.{is_fall_of, is_same_driver, is_same_wire, grant_level, has_wire}
 use Rattle.vme_model.specs.Plan.{Plan, board}
 use Rattle.vme_model.specs.Accepted.{IsAccepted}
-use Rattle.vme_model.specs.History.{drive, shown, cycles, has_strobed, served_since_request}
+use Rattle.vme_model.specs.History.{drive, shown, cycles, has_strobed, serves, served_since_request}
 use Rattle.vme_model.specs.Readings.{is_served}
 use Rattle.vme_model.specs.Verdict.{verdict_but_full}
 use Rattle.vme_model.proofs.Bools.{same_number}
 use Rattle.vme_model.proofs.AllowedEdges.{all_passed}
-use Rattle.vme_arbiter.specs.Local.{ControllerState}
 use Rattle.vme_master.specs.Local.{most_cycles}
 use Rattle.vme_master.proofs.Counts.{one_more}
 use Rattle.vme_interrupter.specs.Local.{seen, served, serves_board}
 use Rattle.vme_interrupter.proofs.Seen.{served_seen}
 use Rattle.vme_histories.specs.Shown.{addressing_after}
-use Rattle.vme_wiring.specs.declared.boards.Board.{Board}
-use Rattle.vme_histories.proofs.Others.{same_wire, drive_same, cycles_same, strobed_same}
-use Rattle.vme_wiring.proofs.Others.{parts_same}
-use Rattle.vme_histories.proofs.AllowedBoards.{stands, driven, at, at_head}
-use Rattle.vme_wiring.proofs.LongerHistory.{controller_kept}
-use Rattle.vme_histories.proofs.Addressing.{addressing_by, addressing_kept}
-use Rattle.vme_histories.proofs.Addressing.{IsShownAt, shown_at}
+use Rattle.vme_histories.proofs.Others.{same_wire, drive_same, cycles_same, strobed_same, not_fall}
+use Rattle.vme_histories.proofs.AllowedBoards.{stands, driven, at, at_head, level_kept}
+use Rattle.vme_histories.proofs.Addressing.{addressing_by, addressing_kept, IsShownAt, shown_at}
 use Rattle.vme_bus.specs.declared.sets.SlotSet.{SlotSet}
 use Rattle.vme_bus.specs.declared.states.BusState.{BusState}
 use Rattle.vme_bus.specs.Sets.{has}
@@ -120,26 +117,28 @@ served_here p h s r w fall v serves found is =
     ∙ served_where (s == s) (serves_board r.interrupter (shown p h)) (served (seen p h) (Slot s) r.interrupter) w fall (self s)
     ∙ served_seen p (at s w fall v ∷ h) (Slot s) r found
 
-served_there : (version : Version) (p : Plan) (h : List Edge) (e : Edge) (t : ℕ) → IsAccepted p → is_same_driver e.driver (Slot t) ≡ false → is_served p (e ∷ h) (Slot t) ≡ is_served p h (Slot t)
-served_there version p h e t ok other = by_board (board p t) refl
-  where
-    none : (k : List Edge) → board p t ≡ None → is_served p k (Slot t) ≡ false
-    none k is = ap (λ o. option_map_or (λ r. option_map_or (λ i. served_since_request p k (Slot t) i.kind) r.interrupter false) o false) is
+served_same : (p : Plan) (h : List Edge) (e : Edge) (d : Driver) (kind : IrqKind) → is_same_driver e.driver d ≡ false → served_since_request p (e ∷ h) d kind ≡ served_since_request p h d kind
+served_same p h e d kind other =
+    ap (λ b. if b then false else (is_fall_of d Dtack e && serves kind (shown p h)) || served_since_request p h d kind) (not_fall d Irq e other)
+    ∙ ap (λ b. (b && serves kind (shown p h)) || served_since_request p h d kind) (not_fall d Dtack e other)
 
-    by_board : (o : Option Row) → board p t ≡ o → is_served p (e ∷ h) (Slot t) ≡ is_served p h (Slot t)
-    by_board None is = none (e ∷ h) is ∙ sym (none h is)
-    by_board (Some r) is =
-        let slot = (stands p t r ok is).slot in
-        let same = parts_same version p h e r (subst (λ x. is_same_driver e.driver (Slot x) ≡ false) (sym slot) other) in
-        sym (served_seen p (e ∷ h) (Slot t) r is)
-        ∙ subst (λ x. served (seen p (e ∷ h)) (Slot x) r.interrupter ≡ served (seen p h) (Slot x) r.interrupter) slot (ap (λ (b : Board). b.interrupter.is_served) same)
-        ∙ served_seen p h (Slot t) r is
+served_there : (p : Plan) (h : List Edge) (e : Edge) (t : ℕ) → is_same_driver e.driver (Slot t) ≡ false → is_served p (e ∷ h) (Slot t) ≡ is_served p h (Slot t)
+served_there p h e t other = by_board (board p t)
+  where
+    by_row : (o : Option InterrupterRow) → option_map_or (λ i. served_since_request p (e ∷ h) (Slot t) i.kind) o false ≡ option_map_or (λ i. served_since_request p h (Slot t) i.kind) o false
+    by_row None = refl
+    by_row (Some i) = served_same p h e (Slot t) i.kind other
+
+    by_board : (o : Option Row) → option_map_or (λ r. option_map_or (λ i. served_since_request p (e ∷ h) (Slot t) i.kind) r.interrupter false) o false
+        ≡ option_map_or (λ r. option_map_or (λ i. served_since_request p h (Slot t) i.kind) r.interrupter false) o false
+    by_board None = refl
+    by_board (Some r) = by_row r.interrupter
 
 served_moved : (version : Version) (p : Plan) (h : List Edge) (s : ℕ) (r : Row) (w : Wire) (fall : Bool) (v : Option Cycle) (serves : Bool) (old new : SlotSet) → IsAccepted p → board p s ≡ Some r → serves ≡ is_serving (board p s) (shown p h) → MovesPlace (served_by w fall serves) s old new → ((t : ℕ) → has old t ≡ is_served p h (Slot t)) → (t : ℕ) → has new t ≡ is_served p (at s w fall v ∷ h) (Slot t)
 served_moved version p h s r w fall v serves old new ok found is moves held t =
     moved_to (served_by w fall serves) s t old new (λ x. is_served p h (Slot x)) (λ x. is_served p (at s w fall v ∷ h) (Slot x)) moves (held t)
     (served_here p h s r w fall v serves found is)
-    (served_there version p h (at s w fall v) t ok)
+    (served_there p h (at s w fall v) t)
 
 -- the cycles of its tenure
 counted_by : (p : Plan) (h : List Edge) (s : ℕ) → counted p h s ≡ min (cycles h (Slot s)) (most_cycles (release_of (board p s)))

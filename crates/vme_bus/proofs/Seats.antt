@@ -1,7 +1,6 @@
 -- What a plan says of each slot and line: `fed_by`, `Layout::new`.
 use Rattle.std.proofs.Common.{◌≡◌, ◌∙◌, refl, sym, ap, ℕ, zero, suc, Bool, true, false, List, [], ◌∷◌, ◌<◌, ◌≤◌, length, get_or, arith}
-use Rattle.std.specs.Prelude.{◌&&◌}
-use Rattle.std.specs.Prelude.{Option, Some, None, option_map, nat_lt}
+use Rattle.std.specs.Prelude.{◌&&◌, Option, Some, None, option_map, nat_lt}
 use Rattle.std.specs.Option.{option_and_then, option_map_or}
 use Rattle.std.proofs.lemmas.Bool.Decides.{nat_tests}
 use Rattle.std.proofs.lemmas.Option.{slice_get_past, slice_get-get_or}

@@ -1,5 +1,5 @@
 //! A bus, which takes edges one by one and stores none of them.
-ghost use Rattle.std.specs.Prelude.{◌≡◌, ◌==◌, ◌&&◌, ◌+◌, ◌%◌, ◌≤◌, ◌↔◌, [], IsTrue, Ok, false, true, is_ok, length, map, slice_get, take};
+ghost use Rattle.std.specs.Prelude.{◌≡◌, ◌==◌, ◌&&◌, ◌+◌, ◌%◌, ◌≤◌, ◌↔◌, [], IsTrue, Ok, false, true, is_ok, length, map, take};
 ghost use Rattle.vme_model.specs.Verdict.{verdict, verdict_but_full, made, after, kept, IsLegal};
 ghost use Rattle.vme_model.specs.Failing.{tested, tested_but_full, unmet, unmet_but_full};
 ghost use Rattle.vme_model.specs.Safe.{IsSafe, IsOrderly};
@@ -9,9 +9,7 @@ ghost use Rattle.vme_model.specs.Signals.{is_well_formed};
 ghost use Rattle.vme_model.specs.Locality.{AreWellFormed};
 ghost use Rattle.vme_model.specs.declared.deliveries.Delivery.{Delivery as DeliveryValue};
 ghost use Rattle.vme_bus.specs.Answers.{answer_in, answer_of, answers};
-ghost use Rattle.vme_model.specs.Offers.{offered};
 ghost use Rattle.vme_model.specs.Open.{open_edges, IsAllThatIsAllowed};
-ghost use Rattle.vme_histories.specs.Offered.{offered_but_full};
 ghost use Rattle.vme_model.specs.Accepted.{IsAccepted};
 ghost use Rattle.vme_model.specs.Report.{at_power_up, trace_limit};
 ghost use Rattle.vme_histories.specs.Sound.{IsSound};

@@ -7,7 +7,6 @@ ghost use Rattle.vme_histories.specs.Offered.{is_open};
 ghost use Rattle.vme_requester.specs.Local.{is_requesters};
 ghost use Rattle.vme_master.specs.Local.{is_masters};
 ghost use Rattle.vme_interrupter.specs.Local.{is_interrupters};
-ghost use Rattle.vme_bus.specs.Asks.{is_boards};
 
 use crate::states::BusState;
 use vme_model::{Cycle, Driver, Edge, Wire};

@@ -4,7 +4,6 @@ ghost use Rattle.vme_model.specs.declared.signals.Driver.TheVariants.{Controller
 ghost use Rattle.vme_model.specs.Signals.{is_well_formed};
 ghost use Rattle.vme_model.specs.Plan.{has_driver, grant_chain};
 ghost use Rattle.vme_model.specs.History.{drive, shown, is_past_end};
-ghost use Rattle.vme_model.specs.Rules.{rule};
 ghost use Rattle.vme_model.specs.Settling.{is_unanswerable, settling, settling_guard, is_chain_clear, are_grants_through};
 ghost use Rattle.vme_model.specs.declared.sets.ChainId.TheVariants as chain;
 ghost use Rattle.vme_model.specs.Verdict.{check, is_other_state, settled, verdict_but_full};

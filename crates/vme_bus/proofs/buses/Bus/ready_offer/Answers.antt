@@ -1,6 +1,5 @@
 use Rattle.std.proofs.Common.{◌∙◌, sym, ap, ◌%◌, List, length}
 use Rattle.std.specs.Prelude.{slice_get}
-use Rattle.vme_model.specs.declared.signals.Driver.TheVariants.{Slot}
 use Rattle.vme_model.specs.declared.signals.Edge.{Edge}
 use Rattle.vme_histories.proofs.OfferChoice.{offered_full, offered_with_room}
 use Rattle.vme_bus.proofs.buses.Bus.ready_offer.Goals as goal

@@ -1,4 +1,4 @@
-use Rattle.std.proofs.Common.{◌≡◌, ◌∙◌, ◌≤◌, ◌⊎◌, inl, inr, refl, sym, ap, ℕ, List, false, arith}
+use Rattle.std.proofs.Common.{◌≡◌, ◌∙◌, ◌≤◌, ◌⊎◌, inl, inr, refl, sym, ap, List, false, arith}
 use Rattle.std.specs.Prelude.{◌==◌, nat_lt}
 use Rattle.std.proofs.lemmas.Bool.Decides.{nat_tests}
 use Rattle.vme_model.specs.declared.signals.Driver.TheVariants.{Controller}
@@ -9,7 +9,6 @@ use Rattle.vme_model.specs.declared.signals.Wire.TheVariants.{Bg, Br, BgOut, Bbs
 use Rattle.vme_model.specs.Plan.{Plan, has_driver}
 use Rattle.vme_model.specs.History.{drive}
 use Rattle.vme_model.specs.Verdict.{IsLegal}
-use Rattle.vme_arbiter.specs.Local.{low, controller_of, ControllerState}
 use Rattle.vme_histories.proofs.Drivers.{never_drove}
 use Rattle.vme_bus.proofs.states.BusState.is_control_low.Goals as goal
 

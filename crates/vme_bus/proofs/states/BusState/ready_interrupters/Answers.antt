@@ -1,21 +1,17 @@
 use Rattle.std.proofs.Common.{◌≡◌, ◌∙◌, refl, sym, ap, true, []}
 use Rattle.std.specs.Prelude.{◌&&◌, ◌||◌, not, Option, Some, None}
-use Rattle.std.specs.Option.{option_map_or}
 use Rattle.vme_model.specs.declared.boards.Row.{Row}
 use Rattle.vme_model.specs.declared.signals.Driver.TheVariants.{Slot}
 use Rattle.vme_model.specs.declared.signals.Wire.TheVariants.{AddressStrobe, IackOut, Dtack}
 use Rattle.vme_model.specs.Plan.{board}
 use Rattle.vme_model.specs.History.{drive, line}
-use Rattle.vme_model.specs.Readings.{readings}
 use Rattle.vme_histories.specs.Offered.{offered_on, interrupter_wires}
-use Rattle.vme_wiring.specs.Waits.{waits_for_cycle, is_unserved}
 use Rattle.vme_histories.specs.Shown.{is_access_to}
 use Rattle.vme_histories.proofs.AllowedBoards.{stands}
 use Rattle.vme_histories.proofs.NoOffers.{interrupter_of_none}
 use Rattle.vme_bus.specs.Records.{cycle_in}
 use Rattle.vme_bus.specs.Sets.{has}
-use Rattle.vme_bus.proofs.Ready.{neither}
-use Rattle.vme_bus.proofs.Ready.{interrupters_between, interrupters_under, and_not_is}
+use Rattle.vme_bus.proofs.Ready.{neither, interrupters_between, interrupters_under, and_not_is}
 use Rattle.vme_bus.proofs.states.BusState.ready_interrupters.Goals as goal
 
 pub returns-then-data_strobe : goal.returns-then-data_strobe

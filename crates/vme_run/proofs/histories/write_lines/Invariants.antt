@@ -1,7 +1,7 @@
 use Rattle.std.proofs.Common.{drop, reverse}
 use Rattle.vme_model.specs.Text.{edge_lines}
 use Rattle.vme_trace.proofs.WrittenLines.{Wrote}
-use Rattle.vme_engines.proofs.drives.write_lines.Given as goal
+use Rattle.vme_run.proofs.histories.write_lines.Given as goal
 
 abbrev pub invariant-loop-place : goal.invariant-loop-place
 invariant-loop-place g l =
