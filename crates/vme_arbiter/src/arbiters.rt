@@ -272,14 +272,6 @@ impl<P: Policy> Arbiter<P> {
         }
     }
 
-    /// The arbiter over a policy, with what the controller's edges left.
-    #[inline(always)]
-    pub fn of(policy: P, controller: Controller) -> Arbiter<P>
-        ensures { result ≡ (policy, controller) }
-    {
-        Arbiter { policy, controller }
-    }
-
     /// Whether the controller drives the wire low. Only `bg0` to `bg3`, `bclr`, `iack` and `berr`
     /// are its own; for any other wire the answer is false.
     #[inline(always)]

@@ -21,6 +21,7 @@ pub returns-else-level-lt4 : goal.returns-else-level-lt4
 returns-else-level-lt4 c version p h is =
     let n = c.in-Bg.level in
     let beyond = c.if-level-lt4.false in
+    let l : 4 ≤ n = omega arith in
     let off : nat_lt n 4 ≡ false = grind (arith, nat_tests) in
     off ∙ never version p h is.legal c.args.wire (Bg n) off c.in-Bg.is
 
