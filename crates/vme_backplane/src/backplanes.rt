@@ -1,5 +1,5 @@
 //! A backplane, which takes its edges one by one.
-ghost use Rattle.std.specs.Prelude.{◌≡◌, ◌==◌, ◌&&◌, ◌+◌, ◌%◌, ◌<◌, ◌≤◌, ◌↔◌, [], IfOk, IsTrue, Ok, Some, false, true, is_ok, length, slice_get};
+ghost use Rattle.std.specs.Prelude.{◌≡◌, ◌==◌, ◌&&◌, ◌+◌, ◌%◌, ◌<◌, ◌≤◌, ◌↔◌, [], IfOk, Ok, Some, false, true, is_ok, length, slice_get};
 ghost use Rattle.vme_model.specs.History.{in_order};
 ghost use Rattle.vme_model.specs.Signals.{is_well_formed};
 ghost use Rattle.vme_model.specs.Verdict.{verdict, verdict_but_full, made, after, kept, IsLegal};
@@ -281,13 +281,6 @@ impl<'r> Backplane<'r> {
         ensures { result ≡ length self.now.history }
     {
         self.store.len()
-    }
-
-    /// Whether no edge was made.
-    pub fn is_empty(&self) -> bool
-        ensures { IsTrue result ↔ (self.now.history ≡ []) }
-    {
-        self.len() == 0
     }
 
     /// Whether the trace can hold no further edge.

@@ -1,5 +1,5 @@
 //! A bus, which takes edges one by one and stores none of them.
-ghost use Rattle.std.specs.Prelude.{◌≡◌, ◌==◌, ◌&&◌, ◌+◌, ◌%◌, ◌≤◌, ◌↔◌, [], IsTrue, Ok, false, true, is_ok, length, map, take};
+ghost use Rattle.std.specs.Prelude.{◌≡◌, ◌==◌, ◌&&◌, ◌+◌, ◌%◌, ◌≤◌, ◌↔◌, IsTrue, Ok, false, true, is_ok, length, map, take};
 ghost use Rattle.vme_model.specs.Verdict.{verdict, verdict_but_full, made, after, kept, IsLegal};
 ghost use Rattle.vme_model.specs.Failing.{tested, tested_but_full, unmet, unmet_but_full};
 ghost use Rattle.vme_model.specs.Safe.{IsSafe, IsOrderly};
@@ -428,24 +428,10 @@ impl Bus {
         self.made
     }
 
-    /// Whether no edge was made.
-    pub fn is_empty(&self) -> bool
-        ensures { IsTrue result ↔ (self.now.history ≡ []) }
-    {
-        self.len() == 0
-    }
-
     /// Whether it takes no further edge.
     pub(crate) fn is_full(&self) -> bool
         ensures { result ≡ (length self.now.history == self.now.max) }
     {
-        self.len() == self.max()
-    }
-
-    /// How many edges can be made.
-    pub fn max(&self) -> u32
-        ensures { result ≡ self.now.max }
-    {
-        self.max
+        self.len() == self.max
     }
 }

@@ -284,7 +284,7 @@ fn delivered_by(backplane: &mut Backplane<'_>, edge: Edge) -> Option<Delivery> {
 
 /// Whether the backplane is at power-up, under the first version of the rules, with three slots.
 fn is_new(backplane: &Backplane<'_>) -> bool {
-    backplane.is_empty() && backplane.version() == Version::One && backplane.plan().slots() == 3
+    backplane.len() == 0 && backplane.version() == Version::One && backplane.plan().slots() == 3
 }
 
 /// The edge at a place, if that many edges were made.
