@@ -21,6 +21,7 @@ use Rattle.vme_model.specs.Views.{pins}
 use Rattle.vme_model.specs.Settling.{are_grants_through, is_chain_clear, settling_guard, bg_rise_settles, bg_fall_settles}
 use Rattle.vme_chain.specs.Segments.{segments_of, input, is_past_end, is_clear}
 use Rattle.vme_chain.proofs.History.{reads_inputs, reads_the_end, reads_clearness}
+use Rattle.vme_histories.proofs.Drivers.{never_drove}
 use Rattle.vme_wiring.specs.Counts.{passes_grant}
 use Rattle.vme_wiring.proofs.PullCounts.{no_pulls_left}
 use Rattle.vme_arbiter.specs.Local.{ControllerState, controller_of, low}
