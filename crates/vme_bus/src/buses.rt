@@ -21,7 +21,7 @@ use arrayvec::ArrayVec;
 use std::marker::Model;
 use vme_histories::{Counts, by_wire, open_edges_of};
 use vme_model::{Condition, Delivery, Driver, Edge, Pins, Refused, TRACE_LIMIT, Version, Wire};
-use vme_past::Past;
+use crate::past::Past;
 use vme_rules::Outcome;
 use vme_slots::Plan;
 

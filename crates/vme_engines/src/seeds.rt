@@ -12,7 +12,7 @@ use crate::listening::{Listener, Progress};
 use crate::plans::plan_of;
 use std::alloc::Global;
 use std::io::Write;
-use vme_draws::Walk;
+use vme_seeds::Walk;
 use vme_goals::Goal;
 use vme_model::Version;
 use vme_slots::Plan;

@@ -13,7 +13,7 @@ use arrayvec::ArrayVec;
 use vme_bus::Bus;
 use vme_goals::Event;
 use vme_model::{Cycle, Driver, Edge, Wire};
-use vme_reasons::Marks;
+use vme_explain::Marks;
 
 /// The situation where the test holds.
 fn alone(holds: bool, event: Event) -> ArrayVec<Event, 2>

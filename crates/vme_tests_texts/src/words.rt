@@ -3,7 +3,7 @@
 use std::process::Abort;
 use vme_goals::{Event, Goal, Miss};
 use vme_model::{Condition, IrqKind, Version};
-use vme_words::{Job, words};
+use vme_command_line::{Job, words};
 
 /// Asserts for which job words ask.
 fn assert_job(rt: &(impl Abort + AllocGlobal), given: &[&str], wanted: Job) {
