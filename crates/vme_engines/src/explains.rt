@@ -24,8 +24,8 @@ use crate::{EngineFault, Status};
 use std::alloc::Global;
 use std::io::{Read, Write};
 use vme_bus::Bus;
-use vme_model::Edge;
 use vme_explain::write_why;
+use vme_model::Edge;
 use vme_slots::Plan;
 use vme_trace::{Fault, flush};
 

@@ -16,9 +16,9 @@ use crate::{EngineFault, Status};
 use arrayvec::ArrayVec;
 use vme_bus::Bus;
 use vme_events::events_of;
+use vme_explain::Marks;
 use vme_goals::Event;
 use vme_model::{Cycle, Delivery, Driver, Edge, Refused, Wire};
-use vme_explain::Marks;
 use vme_trace::Fault;
 
 /// What an engine answers that tells one block.

@@ -10,11 +10,11 @@ ghost use Rattle.vme_engines.specs.Texts.{ListsOn};
 use crate::drives::put_line;
 use std::io::Write;
 use vme_bus::Bus;
-use vme_seeds::Walk;
 use vme_events::{comes, miss};
+use vme_explain::Marks;
 use vme_goals::Goal;
 use vme_model::{Driver, Edge};
-use vme_explain::Marks;
+use vme_seeds::Walk;
 use vme_text::Text;
 use vme_trace::Fault;
 

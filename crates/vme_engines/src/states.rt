@@ -19,8 +19,8 @@ use crate::{EngineFault, Status};
 use std::alloc::Global;
 use std::io::{Read, Write};
 use vme_bus::Bus;
-use vme_model::Edge;
 use vme_explain::write_stands;
+use vme_model::Edge;
 use vme_slots::Plan;
 use vme_trace::{Fault, flush};
 

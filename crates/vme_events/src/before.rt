@@ -13,8 +13,8 @@ ghost use Rattle.vme_events.specs.Events.{asked_before, fills_burst, has_rival, 
 ghost use Rattle.vme_events.specs.Ordered.{OfOrdered};
 
 use vme_bus::Bus;
-use vme_model::{Driver, InterrupterRow, IrqKind, Release, RequesterRow, Row, Wire};
 use vme_explain::{Marks, since};
+use vme_model::{Driver, InterrupterRow, IrqKind, Release, RequesterRow, Row, Wire};
 
 /// The board that a driver stands on; none for the controller.
 fn board_of(bus: &Bus, driver: Driver) -> Option<Row>

@@ -18,6 +18,7 @@ use std::io::Write;
 use std::process::ExitCode;
 use std::sync::Wait;
 use std::thread::Threads;
+use vme_command_line::{Job, VERSION};
 use vme_engines::{
     EngineFault, Status, add_trace, check, drive, drive_drawn, drive_found, explain, joined,
     replay, show, state, summary, tell_sums,
@@ -27,7 +28,6 @@ use vme_model::Version;
 use vme_run::{RunFault, run as run_scenario};
 use vme_summary::Sums;
 use vme_trace::{Fault, flush, put};
-use vme_command_line::{Job, VERSION};
 
 /// An engine's answer, given the name of the scenario.
 fn told<'a>(name: &'a str, answer: Result<Status, EngineFault>) -> Result<Status, ProgramFault<'a>>

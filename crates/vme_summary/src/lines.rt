@@ -14,9 +14,9 @@ use crate::sums::Sums;
 use crate::tallies::Tally;
 use crate::topics::Topic;
 use arrayvec::ArrayVec;
+use vme_explain::texts::{push, push_byte, push_number, push_verdict};
 use vme_goals::Event;
 use vme_model::Refused;
-use vme_explain::texts::{push, push_byte, push_number, push_verdict};
 use vme_slots::Plan;
 
 /// Room for any line: a board's has nine words of at most 14 bytes, and as many numbers of 20
