@@ -1,7 +1,7 @@
 use Rattle.std.proofs.Common.{ℕ, ◌+◌, ◌/◌, ◌%◌, List, [], ◌∷◌, ◌++◌, ◌∙◌, ap, arith}
-use Rattle.vme_explain.proofs.ByteDigits.{digit_alone, digit_behind}
-use Rattle.vme_explain.proofs.texts.push_byte.Goals as goal
-use Rattle.vme_explain.proofs.texts.push_byte.Goals.{then-n-ge100, else-n-ge100, then-n-ge10, else-n-ge10}
+use Rattle.vme_text.proofs.ByteDigits.{digit_alone, digit_behind}
+use Rattle.vme_text.proofs.lines.push_byte.Goals as goal
+use Rattle.vme_text.proofs.lines.push_byte.Goals.{then-n-ge100, else-n-ge100, then-n-ge10, else-n-ge10}
 
 pub returns-clause-items : goal.returns-clause-items
 returns-clause-items g c =
