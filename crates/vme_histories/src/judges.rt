@@ -13,7 +13,7 @@ ghost use Rattle.vme_histories.specs.Judged.{OfState, may_grant};
 ghost use Rattle.vme_model.specs.Settling.{settling_guard};
 ghost use Rattle.vme_model.specs.Verdict.{IsLegal, verdict_but_full};
 ghost use Rattle.vme_model.specs.declared.signals.Part.TheVariants as parts;
-ghost use Rattle.vme_model.specs.Signals.{is_of};
+ghost use Rattle.vme_model.specs.Signals.{is_of as is_wire_of};
 
 use vme_model::{Cycle, Driver, Levels, Wire};
 
@@ -48,21 +48,21 @@ pub trait Judges {
     /// Whether the rules allow the edge of the slot's requester that has no value and moves the
     /// wire to its other state.
     fn may_request(&self, slot: u8, wire: Wire) -> bool
-        requires { is_of parts.Requester wire ≡ true }
+        requires { is_wire_of parts.Requester wire ≡ true }
         ensures { OfState is_of self.now (λ version p h.
             result ≡ is_open version p h (turned h (Slot slot) wire)) };
 
     /// Whether the rules allow the edge of the slot's master that has no value and moves the wire
     /// to its other state.
     fn may_transfer(&self, slot: u8, wire: Wire) -> bool
-        requires { is_of parts.Master wire ≡ true }
+        requires { is_wire_of parts.Master wire ≡ true }
         ensures { OfState is_of self.now (λ version p h.
             result ≡ is_open version p h (turned h (Slot slot) wire)) };
 
     /// Whether the rules allow the edge of the slot's interrupter, or of its board's `dtack`, that
     /// has no value and moves the wire to its other state.
     fn may_interrupt(&self, slot: u8, wire: Wire) -> bool
-        requires { is_of parts.Interrupter wire ≡ true }
+        requires { is_wire_of parts.Interrupter wire ≡ true }
         ensures { OfState is_of self.now (λ version p h.
             result ≡ is_open version p h (turned h (Slot slot) wire)) };
 
