@@ -20,7 +20,6 @@ use Rattle.vme_model.specs.declared.signals.Cycle.{Cycle}
 use Rattle.vme_model.specs.declared.signals.Edge.{Edge}
 use Rattle.vme_model.specs.Signals.{is_fall_of, is_same_driver, is_same_wire, grant_level, has_wire}
 use Rattle.vme_model.specs.Plan.{Plan, board}
-use Rattle.vme_model.specs.Accepted.{IsAccepted}
 use Rattle.vme_model.specs.History.{drive, shown, cycles, has_strobed, serves, served_since_request}
 use Rattle.vme_model.specs.Readings.{is_served}
 use Rattle.vme_model.specs.Verdict.{verdict_but_full}
@@ -134,8 +133,8 @@ served_there p h e t other = by_board (board p t)
     by_board None = refl
     by_board (Some r) = by_row r.interrupter
 
-served_moved : (version : Version) (p : Plan) (h : List Edge) (s : ℕ) (r : Row) (w : Wire) (fall : Bool) (v : Option Cycle) (serves : Bool) (old new : SlotSet) → IsAccepted p → board p s ≡ Some r → serves ≡ is_serving (board p s) (shown p h) → MovesPlace (served_by w fall serves) s old new → ((t : ℕ) → has old t ≡ is_served p h (Slot t)) → (t : ℕ) → has new t ≡ is_served p (at s w fall v ∷ h) (Slot t)
-served_moved version p h s r w fall v serves old new ok found is moves held t =
+served_moved : (p : Plan) (h : List Edge) (s : ℕ) (r : Row) (w : Wire) (fall : Bool) (v : Option Cycle) (serves : Bool) (old new : SlotSet) → board p s ≡ Some r → serves ≡ is_serving (board p s) (shown p h) → MovesPlace (served_by w fall serves) s old new → ((t : ℕ) → has old t ≡ is_served p h (Slot t)) → (t : ℕ) → has new t ≡ is_served p (at s w fall v ∷ h) (Slot t)
+served_moved p h s r w fall v serves old new found is moves held t =
     moved_to (served_by w fall serves) s t old new (λ x. is_served p h (Slot x)) (λ x. is_served p (at s w fall v ∷ h) (Slot x)) moves (held t)
     (served_here p h s r w fall v serves found is)
     (served_there p h (at s w fall v) t)
@@ -277,7 +276,7 @@ board_noted version p h s r w fall v old new is allowed found n =
       acknowledges_head = acknowledges_head;
       granted = λ t. granted_moved (turned_by BgOut w) s p h (at s w fall v ∷ h) old.layout.seats (set_at old.layout.granted_by s) old.granted new.granted old.grants new.grants is.accepted is.layout.seats (is.layout.granted_by.each s (omega arith)) n.granted n.grants is.grants is.grant_heads grants grant_heads t (is.granted t);
       acknowledged = λ t. acknowledged_moved (turned_by IackOut w) s p h (at s w fall v ∷ h) old.layout.seats (set_at old.layout.acknowledged_by s) old.acknowledged new.acknowledged old.acknowledges new.acknowledges is.accepted is.layout.seats (is.layout.acknowledged_by.each s (omega arith)) n.acknowledged n.acknowledges is.acknowledges is.acknowledges_head acknowledges acknowledges_head t (is.acknowledged t);
-      served = served_moved version p h s r w fall v n.serves old.served new.served is.accepted found n.is_serving n.served is.served;
+      served = served_moved p h s r w fall v n.serves old.served new.served found n.is_serving n.served is.served;
       strobed = strobed_moved h s w fall v old.strobed new.strobed n.strobed is.strobed;
       cycles_room = ap length n.cycles ∙ length-set old.cycles s (cycles_by w fall n.release (get_or old.cycles s 0)) ∙ is.cycles_room;
       cycles = λ t near. ap (λ xs. get_or xs t 0) n.cycles ∙ cycles_moved p h s t w fall v n.release old.cycles k.near is.cycles_room n.is_release is.cycles near;
@@ -393,7 +392,7 @@ controller_noted version p h w fall v b last grants granted acknowledged acknowl
       acknowledges_head = head;
       granted = λ t. granted_moved (grant_turned_by w) (grant_head (grant_level w)) p h (e ∷ h) b.layout.seats (set_at b.layout.granted_by (grant_head (grant_level w))) b.granted granted b.grants grants is.accepted is.layout.seats (is.layout.granted_by.each (grant_head (grant_level w)) (head_near w passed.wire)) granted_moves moved is.grants is.grant_heads outputs heads t (is.granted t);
       acknowledged = λ t. acknowledged_moved (turned_by Iack w) acknowledge_head p h (e ∷ h) b.layout.seats (set_at b.layout.acknowledged_by acknowledge_head) b.acknowledged acknowledged b.acknowledges acknowledges is.accepted is.layout.seats (is.layout.acknowledged_by.each acknowledge_head (omega arith)) acknowledged_moves followed is.acknowledges is.acknowledges_head passes head t (is.acknowledged t);
-      served = λ t. is.served t ∙ sym (served_there version p h e t is.accepted refl);
+      served = λ t. is.served t ∙ sym (served_there p h e t refl);
       strobed = λ t. is.strobed t ∙ sym (strobed_same h e (Slot t) refl);
       cycles_room = is.cycles_room;
       cycles = λ t near. is.cycles t near ∙ counted_there p h e t refl;
