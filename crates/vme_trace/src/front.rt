@@ -256,7 +256,7 @@ pub fn edge_of(line: &[u8]) -> Option<Edge>
     if line.len() >= LINE {
         return None;
     }
-    let mut text = ArrayVec::new();
+    let mut text: ArrayVec<u8, LINE> = ArrayVec::new();
     push(&mut text, line);
     text.push(b'\n');
     let Some((edge, rest)) = edge_at(text.as_slice()) else {
