@@ -96,7 +96,7 @@ impl<'r> Backplane<'r> {
     ///
     /// # Errors
     /// The first of E1 to E5 that applies.
-    #[tactic(auto, using(crate::proofs::Judged::refused, crate::proofs::Judged::passed))]
+    #[tactic(auto, using(vme_histories::proofs::Judged::refused, vme_histories::proofs::Judged::passed))]
     #[inline(always)]
     pub fn verdict(&self, edge: Edge) -> Result<(), Refused>
         ensures { result ≡ verdict self.now edge }
