@@ -28,12 +28,12 @@ class Commands:
     def __init__(self):
         self.running, self.lock, self.is_stopped = set(), threading.Lock(), False
 
-    def call(self, words, folder):
-        """Runs a command in a folder, and returns how it ended."""
+    def call(self, words, folder, environment=None, at_line=lambda: None):
+        """Runs a command in a folder, calls at_line whenever it has printed a line, and returns how it ended."""
         with self.lock:
             if self.is_stopped:
                 raise Stopped
-            how = {"cwd": folder, "stdin": subprocess.DEVNULL, "stdout": subprocess.PIPE, "stderr": subprocess.STDOUT}
+            how = {"cwd": folder, "env": environment, "stdin": subprocess.DEVNULL, "stdout": subprocess.PIPE, "stderr": subprocess.STDOUT}
             made = subprocess.Popen(words, start_new_session=True, text=True, errors="replace", **how)
             self.running.add(made)
         began, lines, times = time.monotonic(), [], []
@@ -41,6 +41,7 @@ class Commands:
             for line in made.stdout:
                 lines.append(line)
                 times.append(time.monotonic() - began)
+                at_line()
             status, seconds = reaped(made)
         except BaseException:
             end(made)
