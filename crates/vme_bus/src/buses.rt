@@ -18,12 +18,12 @@ ghost use Rattle.vme_backplane.specs.Sound.{IsSound};
 ghost use Rattle.vme_bus.specs.States.{IsStateOf};
 
 use crate::answers::{ACCEPTED, AnswerRecord, is_accepted, refusal_number};
+use crate::past::Past;
 use crate::states::BusState;
 use arrayvec::ArrayVec;
 use std::marker::Model;
 use vme_backplane::{Counts, by_wire, choice};
 use vme_model::{Condition, Delivery, Driver, Edge, Pins, Refused, TRACE_LIMIT, Version, Wire};
-use vme_past::Past;
 use vme_rules::Outcome;
 use vme_slots::Plan;
 

@@ -9,6 +9,7 @@ mod choices;
 mod judging;
 mod layouts;
 mod moves;
+mod past;
 mod records;
 mod rules;
 mod sets;
