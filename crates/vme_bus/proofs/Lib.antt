@@ -44,3 +44,5 @@ pub mod Ready
 pub mod Room
 -- each refusal has a number of its own: `BusState::step_requester` and its like
 pub mod Numbers
+-- what a state is of that was given the kind of another: `BusState::set_kind`
+pub mod OneKind
