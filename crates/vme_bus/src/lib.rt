@@ -3,9 +3,9 @@
 
 mod answers;
 mod arms;
-mod at_work;
 mod buses;
 mod choices;
+mod conditions;
 mod judging;
 mod layouts;
 mod moves;
@@ -19,7 +19,6 @@ mod states;
 mod steps;
 mod turns;
 mod verdicts;
-mod waits;
 
 pub use answers::AnswerRecord;
 pub use buses::Bus;
