@@ -4,7 +4,6 @@ import os
 import signal
 import subprocess
 import threading
-import time
 from dataclasses import dataclass
 
 
@@ -14,7 +13,7 @@ class Stopped(Exception):
 
 @dataclass(frozen=True)
 class Ended:
-    """How a command ended: its status, what it printed, its seconds of processor time, and when it printed each line."""
+    """How a command ended: its status, what it printed, its seconds of processor time, and how many it had spent at each line."""
 
     status: int
     said: str
@@ -28,19 +27,20 @@ class Commands:
     def __init__(self):
         self.running, self.lock, self.is_stopped = set(), threading.Lock(), False
 
-    def call(self, words, folder):
-        """Runs a command in a folder, and returns how it ended."""
+    def call(self, words, folder, environment=None, at_line=lambda: None):
+        """Runs a command in a folder, calls at_line whenever it has printed a line, and returns how it ended."""
         with self.lock:
             if self.is_stopped:
                 raise Stopped
-            how = {"cwd": folder, "stdin": subprocess.DEVNULL, "stdout": subprocess.PIPE, "stderr": subprocess.STDOUT}
+            how = {"cwd": folder, "env": environment, "stdin": subprocess.DEVNULL, "stdout": subprocess.PIPE, "stderr": subprocess.STDOUT}
             made = subprocess.Popen(words, start_new_session=True, text=True, errors="replace", **how)
             self.running.add(made)
-        began, lines, times = time.monotonic(), [], []
+        lines, times = [], []
         try:
             for line in made.stdout:
                 lines.append(line)
-                times.append(time.monotonic() - began)
+                times.append(spent(made.pid))
+                at_line()
             status, seconds = reaped(made)
         except BaseException:
             end(made)
@@ -66,6 +66,16 @@ def reaped(command):
     command.returncode = -os.WTERMSIG(status) if os.WIFSIGNALED(status) else os.WEXITSTATUS(status)
     command.stdout.close()
     return command.returncode, used.ru_utime + used.ru_stime
+
+
+def spent(process):
+    """The seconds of processor time that a process has spent so far."""
+    try:
+        with open(f"/proc/{process}/stat", encoding="utf-8", errors="replace") as text:
+            fields = text.read().rpartition(")")[2].split()
+    except OSError:
+        return 0
+    return sum(map(int, fields[11:13])) / os.sysconf("SC_CLK_TCK")
 
 
 def end(command):

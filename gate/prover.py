@@ -1,9 +1,12 @@
 """Calls of the kit's prover on single functions of a crate, over libraries that are built already.
 
 `rt check` in a copy of the tree would do, but would prove each library once more: what `rt ci` built of them it does not
-take. So the prover is called as `rt ci` calls it for an edit.
+take. So the prover is called as `rt ci` calls it for an edit, but for what it does after it has judged: it searches once more
+for the proof texts that it offers for what it refused, which costs a batch 4 s and more. So it gets no folder to print them in,
+says so in a note, and offers none. What it says of each function stays the same.
 """
 
+import glob
 import os
 import shutil
 import threading
@@ -13,6 +16,10 @@ import trees
 
 # What a check may want of memory, in KiB.
 ROOM = 4_000_000
+# Where the prover makes temporary folders: it makes none but for the texts that it offers, and none here.
+NO_FOLDER = "/dev/null"
+# How the name ends of the folder, beside the kept work, in which it keeps what it offered.
+OFFERS = "-offers"
 
 
 def kit():
@@ -33,15 +40,14 @@ class Prover:
 
     def check(self, crate, uses, folder, functions):
         """Checks these functions of the crate that lies in a folder, over the work that is kept beside it, and returns how that ended."""
-        root = "src/main.rt" if os.path.isfile(f"{folder}/src/main.rt") else "src/lib.rt"
-        words = [f"{self.kit}/bin/rattle", "check", "--crate-name", crate, root, *self.libraries(uses)]
-        words += ["--antt-project", f"{self.kit}/rattle/logic/antt-project.json", "--logic-built", f"{self.kit}/logic_built"]
-        words += ["--jobs", "1", "--progress", "--links", f"{crate}=", "--incremental", f"{folder}/kept"]
+        words = [*self.words("check", crate, uses, folder, 1), "--progress", "--incremental", f"{folder}/kept"]
         for it in sorted(functions) or [""]:
             words += ["--only", it]
         self.begin()
         try:
-            return self.commands.call(words, folder)
+            remove_offers(f"{folder}/kept")
+            environment = {**os.environ, "TMPDIR": NO_FOLDER}
+            return self.commands.call(words, folder, environment, lambda: close_offers(f"{folder}/kept"))
         finally:
             with self.turn:
                 self.at_work -= 1
@@ -55,15 +61,35 @@ class Prover:
                     return
             time.sleep(1)
 
+    def prove(self, crate, uses, folder):
+        """Proves a library that lies in a folder, and returns how that ended."""
+        return self.commands.call(self.words("check", crate, uses, folder, 2), folder)
+
+    def build_program(self, crate, uses, folder):
+        """Proves a program that lies in a folder, and builds it there as out/CRATE, and returns how that ended."""
+        made = f"out/{crate}"
+        ended = self.build(crate, uses, folder, f"{made}.o")
+        if ended.status:
+            return ended
+        words = [f"{self.kit}/bin/rattle-link", "--target", "x86_64-unknown-linux-gnu", "--toolchain", f"{self.kit}/toolchain", "-o", made]
+        return self.commands.call([*words, f"{made}.o", f"{self.kit}/c/libos_c.a", f"{self.kit}/c/liblibc_c.a"], folder)
+
     def build_static(self, crate):
-        """Proves a static library and builds its archive, and returns how that ended."""
-        folder = f"{self.built}/crates/{crate}"
+        """Proves a static library of the tree and builds its archive, and returns how that ended."""
+        return self.build(crate, self.uses[crate], f"{self.built}/crates/{crate}", f"out/lib{crate}.a", "--crate-type", "staticlib")
+
+    def build(self, crate, uses, folder, to, *more):
+        """Proves a crate and compiles it by LLVM, and returns how that ended."""
         os.makedirs(f"{folder}/out", exist_ok=True)
-        words = [f"{self.kit}/bin/rattle", "build", "--crate-name", crate, "src/lib.rt", *self.libraries(self.uses[crate])]
-        words += ["--antt-project", f"{self.kit}/rattle/logic/antt-project.json", "--logic-built", f"{self.kit}/logic_built"]
-        words += ["--jobs", "2", "--links", f"{crate}=", "--crate-type", "staticlib"]
-        words += ["--toolchain", f"{self.kit}/toolchain", "--backend", "llvm", "-o", f"out/lib{crate}.a"]
+        words = [*self.words("build", crate, uses, folder, 2), *more, "--toolchain", f"{self.kit}/toolchain", "--backend", "llvm", "-o", to]
         return self.commands.call(words, folder)
+
+    def words(self, verb, crate, uses, folder, jobs):
+        """The words that call the prover on a crate that lies in a folder."""
+        root = "src/main.rt" if os.path.isfile(f"{folder}/src/main.rt") else "src/lib.rt"
+        words = [f"{self.kit}/bin/rattle", verb, "--crate-name", crate, root, *self.libraries(uses)]
+        words += ["--antt-project", f"{self.kit}/rattle/logic/antt-project.json", "--logic-built", f"{self.kit}/logic_built"]
+        return [*words, "--jobs", str(jobs), "--links", f"{crate}="]
 
     def libraries(self, uses):
         """The words that name the libraries that a crate uses, and where those below them lie."""
@@ -77,6 +103,22 @@ class Prover:
 
     def rlib(self, name):
         return f"{self.built}/crates/{name}/out/rlib/{name}.rlib"
+
+
+def remove_offers(kept):
+    """Removes what the prover kept of offers, and closes its place."""
+    for it in glob.glob(f"{kept}/*{OFFERS}"):
+        shutil.rmtree(it, ignore_errors=True)
+    close_offers(kept)
+
+
+def close_offers(kept):
+    """Puts an empty file in place of each folder in which the prover would keep what it offers: it has one beside each of kept work."""
+    for it in os.listdir(kept) if os.path.isdir(kept) else []:
+        file = f"{kept}/{it}{OFFERS}"
+        if not it.endswith(OFFERS) and not os.path.lexists(file):
+            with open(file, "w", encoding="utf-8"):
+                pass
 
 
 def free_memory():

@@ -123,7 +123,7 @@ class Queue:
 
 
 def timed(ended):
-    """What a check printed, with the second at which it ended with each function."""
+    """What a check printed, with the processor time that it had spent when it ended with each function."""
     lines = ended.said.split("\n")
     times = [*ended.times, *[0] * len(lines)]
-    return "\n".join(f"{line} at {time:.1f} s" if CHECKED.fullmatch(line) else line for line, time in zip(lines, times))
+    return "\n".join(f"{line} at {time:.2f} s" if CHECKED.fullmatch(line) else line for line, time in zip(lines, times))

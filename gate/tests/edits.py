@@ -9,6 +9,7 @@ import subprocess
 import time
 
 import verdicts
+from tests import kits
 from tests.small import EDITS, SOURCE, lay_out, run, write, write_edit
 
 # each edit, and the end of the line in which it has to be told
@@ -85,6 +86,7 @@ def test_all(count, room):
     test_export(count, room)
     test_definitions(count, room)
     test_callees(count)
+    test_offers(count, room)
     test_misuse(count, root)
     test_full_disk(count, room)
     test_interrupts(count, root, room)
@@ -131,6 +133,16 @@ def test_definitions(count, room):
 def test_callees(count):
     """A function that is refused for one that it calls alone is not refused itself, in a cycle of calls either."""
     count.tell("a cycle of calls", verdicts.read(CYCLE).refused == {}, str(verdicts.read(CYCLE)))
+
+
+def test_offers(count, room):
+    """The prover has no folder for the texts that it offers, so that it does not search for them. The first check names that folder."""
+    root, logs = f"{room}/offers", f"{room}/logs"
+    lay_out(root, {**kits.GOOD, "one_is_wrong_again": ("    1", "    1 + wrong_one()")}, kits.SOURCE)
+    status, said = run(root, "--logs", logs, environment=kits.lay_out(f"{room}/kit"))
+    with open(f"{logs}/numbers-1.log", encoding="utf-8") as log:
+        second = log.read()
+    count.tell("no proof is offered", status == 0 and said.endswith("\n3 passed, 0 failed\n") and "help:" not in second, said[-500:] + second)
 
 
 def test_misuse(count, root):

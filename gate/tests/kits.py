@@ -1,12 +1,26 @@
-"""A kit of the tests' own, by which an edit takes no time: its prover refuses a function whose name stands after `wrong_` in the source."""
+"""A kit of the tests' own, by which an edit takes no time: its prover refuses a function whose name stands after `wrong_` in the source.
+
+Like the kit's it keeps work, and offers what it would have proved by, if it has a folder for that.
+"""
 
 import os
 
 from tests.small import write
 
 PROVER = """#!/usr/bin/env python3
+import os
 import sys
+
+def is_made(folder):
+    try:
+        os.makedirs(folder, exist_ok=True)
+    except OSError:
+        return False
+    return True
+
 words = sys.argv[1:]
+kept = words[words.index("--incremental") + 1]
+is_made(f"{kept}/work")
 text = open("src/lib.rt", encoding="utf-8").read()
 asked = [words[at + 1].rpartition("::")[2] for at, it in enumerate(words) if it == "--only"]
 for name in asked:
@@ -14,6 +28,8 @@ for name in asked:
         print(f"src/lib.rt:1:1: {name} is wrong\\nfn numbers::{name}: no proof: `search` did not prove it")
     else:
         print(f"fn numbers::{name}: proved")
+if is_made(f"{kept}/work-offers") or is_made(os.environ.get("TMPDIR", "/tmp") + "/rattle-offers"):
+    print("help: write these lines")
 print(f"only={len(asked)} proved=0")
 """
 

@@ -14,14 +14,15 @@ use Rattle.vme_model.specs.declared.signals.Wire.{Wire}
 use Rattle.vme_model.specs.declared.signals.Wire.TheVariants.{Bg, Bclr, Iack, Berr}
 use Rattle.vme_model.specs.declared.signals.Cycle.{Cycle}
 use Rattle.vme_model.specs.declared.signals.Edge.{Edge}
-use Rattle.vme_model.specs.Signals.{is_grant, is_grant_wire, grant_level}
+use Rattle.vme_model.specs.Signals.{is_grant, is_grant_wire, grant_level, has_wire}
 use Rattle.vme_model.specs.Sets.{has_bus_level}
 use Rattle.vme_model.specs.History.{last_level}
 use Rattle.vme_model.specs.Readings.{Readings}
 use Rattle.vme_model.specs.Rules.{pick, is_pick, is_highest, guard}
 use Rattle.vme_model.proofs.Picks.{one_pick}
 use Rattle.vme_model.specs.Verdict.{ruling}
-use Rattle.vme_arbiter.specs.Local.{ControllerState, controller_of, is_controllers, local, over, over_pick}
+use Rattle.vme_model.specs.declared.signals.Driver.TheVariants.{Controller}
+use Rattle.vme_arbiter.specs.Local.{ControllerState, controller_of, local, over, over_pick}
 
 abbrev edge : Driver → Wire → Bool → Option Cycle → Edge
 edge d w f v = record { driver = d; wire = w; fall = f; value = v }
@@ -55,7 +56,7 @@ lone_pick (Some k) last n =
 abbrev pub as_asked : Readings → (ℕ → Bool) → ArbiterKind → Readings
 as_asked r request asked = record r { request = request; arbiter = asked }
 
-by_parts : (kind asked : ArbiterKind) (request : ℕ → Bool) (version : Version) (noted : List Edge) (pins : Pins) (d : Driver) (w : Wire) (f : Bool) (v : Option Cycle) → is_controllers w ≡ true →
+by_parts : (kind asked : ArbiterKind) (request : ℕ → Bool) (version : Version) (noted : List Edge) (pins : Pins) (d : Driver) (w : Wire) (f : Bool) (v : Option Cycle) → has_wire Controller w ≡ true →
     ruling version (as_asked (local (controller_of kind version noted) pins) request asked) (edge d w f v) ≡ ruling version (as_asked (over kind noted pins) request asked) (edge d w f v)
 by_parts kind asked request version noted pins d (Bg zero) true v own = refl
 by_parts kind asked request version noted pins d (Bg zero) false v own = refl
@@ -76,7 +77,7 @@ by_parts kind asked request version noted pins d Berr false v own = refl
 by_parts kind asked request version noted pins d w f v own = absurd (cc)
 
 -- a state that comes from a list answers as the list says
-pub answers_over : (kind : ArbiterKind) (version : Version) (noted : List Edge) (state : ControllerState) (pins : Pins) (e : Edge) → state ≡ controller_of kind version noted → is_controllers e.wire ≡ true →
+pub answers_over : (kind : ArbiterKind) (version : Version) (noted : List Edge) (state : ControllerState) (pins : Pins) (e : Edge) → state ≡ controller_of kind version noted → has_wire Controller e.wire ≡ true →
     ruling state.version (local state pins) e ≡ ruling version (over kind noted pins) e
 answers_over kind version noted state pins e same own =
     let P : ControllerState → Type 0 = λ c. ruling c.version (local c pins) e ≡ ruling version (over kind noted pins) e in
@@ -84,14 +85,14 @@ answers_over kind version noted state pins e same own =
 
 -- a state that comes from a list answers a grant as the list says, by a policy's pick for the level
 -- last granted
-pub grants_over : (kind : ArbiterKind) (version : Version) (noted : List Edge) (state : ControllerState) (pins : Pins) (e : Edge) (picked : ℕ → Option ℕ) → state ≡ controller_of kind version noted → is_controllers e.wire ≡ true →
+pub grants_over : (kind : ArbiterKind) (version : Version) (noted : List Edge) (state : ControllerState) (pins : Pins) (e : Edge) (picked : ℕ → Option ℕ) → state ≡ controller_of kind version noted → has_wire Controller e.wire ≡ true →
     ruling state.version (as_asked (local state pins) (alone (picked state.last_level)) Pri) e ≡ ruling version (over_pick (picked (last_level noted)) noted pins) e
 grants_over kind version noted state pins e picked same own =
     let P : ControllerState → Type 0 = λ c. ruling c.version (as_asked (local c pins) (alone (picked c.last_level)) Pri) e ≡ ruling version (over_pick (picked (last_level noted)) noted pins) e in
     subst P (sym same) (by_parts kind Pri (alone (picked (last_level noted))) version noted pins e.driver e.wire e.fall e.value own)
 
 -- a grant's level is one of the four
-level_small : (w : Wire) → is_controllers w ≡ true → is_grant_wire w ≡ true → grant_level w < 4
+level_small : (w : Wire) → has_wire Controller w ≡ true → is_grant_wire w ≡ true → grant_level w < 4
 level_small (Bg n) own grant = grind arith
 level_small w own grant = absurd (cc)
 
@@ -100,7 +101,7 @@ grant_wire true g grant = grant
 grant_wire false g grant = absurd (cc)
 
 -- whether a grant is of the picked level
-pub pick_alike : (kind : ArbiterKind) (requests : BusLevels) (last : ℕ) (e : Edge) {picked : Option ℕ} {is_picked : Bool} → is_controllers e.wire ≡ true →
+pub pick_alike : (kind : ArbiterKind) (requests : BusLevels) (last : ℕ) (e : Edge) {picked : Option ℕ} {is_picked : Bool} → has_wire Controller e.wire ≡ true →
     picked ≡ pick kind (has_bus_level requests) last → is_picked ≡ (is_grant e && option_map_or (λ m. m == grant_level e.wire) picked false) → is_grant e ≡ true →
     is_picked ≡ is_pick kind (has_bus_level requests) last (grant_level e.wire)
 pick_alike kind requests last e {picked} own picks is grant =
@@ -136,7 +137,7 @@ pick_alone last e picked is grant =
     ∙ sym (lone_pick picked last (grant_level e.wire))
 
 -- a guard by the state is the guard by the list
-guards_by_parts : (kind asked : ArbiterKind) (request : ℕ → Bool) (version : Version) (noted : List Edge) (pins : Pins) (w : Wire) (f : Bool) (v : Option Cycle) → is_controllers w ≡ true →
+guards_by_parts : (kind asked : ArbiterKind) (request : ℕ → Bool) (version : Version) (noted : List Edge) (pins : Pins) (w : Wire) (f : Bool) (v : Option Cycle) → has_wire Controller w ≡ true →
     (guard version (as_asked (local (controller_of kind version noted) pins) request asked) w f v).1 ≡ (guard version (as_asked (over kind noted pins) request asked) w f v).1
 guards_by_parts kind asked request version noted pins (Bg n) true v own = refl
 guards_by_parts kind asked request version noted pins (Bg n) false v own = refl
@@ -148,7 +149,7 @@ guards_by_parts kind asked request version noted pins Berr true v own = refl
 guards_by_parts kind asked request version noted pins Berr false v own = refl
 guards_by_parts kind asked request version noted pins w f v own = absurd (cc)
 
-pub guards_over : (kind : ArbiterKind) (version : Version) (noted : List Edge) (state : ControllerState) (pins : Pins) (e : Edge) → state ≡ controller_of kind version noted → is_controllers e.wire ≡ true →
+pub guards_over : (kind : ArbiterKind) (version : Version) (noted : List Edge) (state : ControllerState) (pins : Pins) (e : Edge) → state ≡ controller_of kind version noted → has_wire Controller e.wire ≡ true →
     (guard state.version (local state pins) e.wire e.fall e.value).1 ≡ (guard version (over kind noted pins) e.wire e.fall e.value).1
 guards_over kind version noted state pins e same own =
     let P : ControllerState → Type 0 = λ c. (guard c.version (local c pins) e.wire e.fall e.value).1 ≡ (guard version (over kind noted pins) e.wire e.fall e.value).1 in
@@ -156,7 +157,7 @@ guards_over kind version noted state pins e same own =
 
 -- the guards of a state that comes from a list are those over the list, for a grant by a policy's
 -- pick for the level last granted
-pub grant_guards_over : (kind : ArbiterKind) (version : Version) (noted : List Edge) (state : ControllerState) (pins : Pins) (e : Edge) (picked : ℕ → Option ℕ) → state ≡ controller_of kind version noted → is_controllers e.wire ≡ true →
+pub grant_guards_over : (kind : ArbiterKind) (version : Version) (noted : List Edge) (state : ControllerState) (pins : Pins) (e : Edge) (picked : ℕ → Option ℕ) → state ≡ controller_of kind version noted → has_wire Controller e.wire ≡ true →
     (guard state.version (as_asked (local state pins) (alone (picked state.last_level)) Pri) e.wire e.fall e.value).1 ≡ (guard version (over_pick (picked (last_level noted)) noted pins) e.wire e.fall e.value).1
 grant_guards_over kind version noted state pins e picked same own =
     let P : ControllerState → Type 0 = λ c. (guard c.version (as_asked (local c pins) (alone (picked c.last_level)) Pri) e.wire e.fall e.value).1 ≡ (guard version (over_pick (picked (last_level noted)) noted pins) e.wire e.fall e.value).1 in

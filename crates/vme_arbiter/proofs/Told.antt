@@ -9,13 +9,14 @@ use Rattle.vme_model.specs.declared.signals.Version.{Version}
 use Rattle.vme_model.specs.declared.signals.Wire.{Wire}
 use Rattle.vme_model.specs.declared.signals.Wire.TheVariants.{Bg, Bclr, Iack, Berr}
 use Rattle.vme_model.specs.declared.signals.Cycle.{Cycle}
-use Rattle.vme_model.specs.Signals.{is_acknowledge}
+use Rattle.vme_model.specs.Signals.{is_acknowledge, has_wire}
 use Rattle.vme_model.specs.Sets.{has_bus_level}
 use Rattle.vme_model.specs.Readings.{Readings}
 use Rattle.vme_model.specs.Rules.{bus_numbers, is_pick, is_pri, are_grants_high, is_bus_clear_due}
 use Rattle.vme_model.specs.Verdict.{check, is_other_state, ruling_on}
+use Rattle.vme_model.specs.declared.signals.Driver.TheVariants.{Controller}
 use Rattle.vme_model.proofs.Picks.{laws_of}
-use Rattle.vme_arbiter.specs.Local.{is_controllers, controller_readings, SayWhatIsTold}
+use Rattle.vme_arbiter.specs.Local.{controller_readings, SayWhatIsTold}
 
 alike : (o p b c fall : Bool) (n : ℕ) → o ≡ p → b ≡ c → check (is_other_state o fall) AlreadyThere (check b (Rule n) (Ok tt)) ≡ check (is_other_state p fall) AlreadyThere (check c (Rule n) (Ok tt))
 alike o p b c fall n e f = cc
@@ -53,7 +54,7 @@ module _ (version : Version) (kind : ArbiterKind) (own : Wire → Bool) (last_le
   acknowledge_alike : is_acknowledge pins.shown ≡ is_acknowledge r.shown
   acknowledge_alike = ap is_acknowledge (sym says.shown)
 
-  pub reads_told : (w : Wire) (fall : Bool) (value : Option Cycle) → is_controllers w ≡ true → ruling_on version t w fall value ≡ ruling_on version r w fall value
+  pub reads_told : (w : Wire) (fall : Bool) (value : Option Cycle) → has_wire Controller w ≡ true → ruling_on version t w fall value ≡ ruling_on version r w fall value
   reads_told (Bg n) true v own =
       alike _ _ _ _ true 1 (sym (says.own_wires (Bg n) own)) (cc (grants_alike, says.bbsy, pick_so n))
   reads_told (Bg n) false v own = alike _ _ _ _ false 2 (sym (says.own_wires (Bg n) own)) (cc says.bbsy)

@@ -44,10 +44,6 @@ controller_of kind version noted = record {
   last_level = last_level noted;
 }
 
--- the wires that a controller drives
-abbrev pub is_controllers : Wire → Bool
-is_controllers w = has_wire Controller w
-
 -- the state of the wires, by the local state
 abbrev pub low : ControllerState → Wire → Bool
 low c (Bg n) =
@@ -84,7 +80,7 @@ over_pick picked noted pins =
 pub record SayWhatIsTold
     (kind : ArbiterKind) (own : Wire → Bool) (last_level : ℕ) (pins : Pins) (r : Readings)
     : Type 0 where
-  pub own_wires : (w : Wire) → is_controllers w ≡ true → r.own w ≡ own w
+  pub own_wires : (w : Wire) → has_wire Controller w ≡ true → r.own w ≡ own w
   pub arbiter : r.arbiter ≡ kind
   pub last : r.last_level ≡ last_level
   pub requests : (n : ℕ) → r.request n ≡ has_bus_level pins.requests n

@@ -7,14 +7,14 @@ ghost use Rattle.vme_model.specs.declared.sets.BusLevels.{BusLevels as LevelsVal
 ghost use Rattle.vme_model.specs.declared.signals.Version.{Version as VersionValue};
 ghost use Rattle.vme_model.specs.declared.signals.Wire.TheVariants.{Bg};
 ghost use Rattle.vme_model.specs.declared.signals.Edge.{Edge as EdgeValue};
-ghost use Rattle.vme_model.specs.Signals.{is_grant, grant_level, is_acknowledge};
+ghost use Rattle.vme_model.specs.Signals.{is_grant, grant_level, is_acknowledge, has_wire};
 ghost use Rattle.vme_model.specs.Sets.{has_bus_level};
 ghost use Rattle.vme_model.specs.Guards.{holds};
 ghost use Rattle.vme_model.specs.History.{last_level};
 ghost use Rattle.vme_model.specs.Readings.{Readings};
 ghost use Rattle.vme_model.specs.Rules.{bus_numbers, pick, is_pick, are_grants_high, clear_guard, bg_falls, iack_falls, failing, guard};
 ghost use Rattle.vme_model.specs.Verdict.{ruling};
-ghost use Rattle.vme_arbiter.specs.Local.{controller_of, is_controllers, low, local, over, over_pick};
+ghost use Rattle.vme_arbiter.specs.Local.{controller_of, low, local, over, over_pick};
 
 use crate::policies::Policy;
 use arrayvec::ArrayVec;
@@ -155,18 +155,18 @@ impl Controller {
     /// guard answers. `is_picked` says whether the policy picks the level of a grant.
     #[inline(always)]
     fn rule<A: Outcome>(&self, edge: Edge, pins: Pins, is_picked: bool) -> (u8, A)
-        ensures number { (r : Readings) → is_controllers edge.wire ≡ true →
+        ensures number { (r : Readings) → has_wire Driver.Controller edge.wire ≡ true →
             result.0 ≡ (guard self.now.version r edge.wire edge.fall edge.value).0 }
         ensures picked { is_grant edge ≡ true →
             A.tells result.1
             (bg_falls (are_grants_high (local self.now pins)) pins.bbsy is_picked) }
-        ensures rows { is_controllers edge.wire ≡ true →
+        ensures rows { has_wire Driver.Controller edge.wire ≡ true →
             (is_grant edge ≡ true → is_picked ≡ is_pick self.now.kind (has_bus_level pins.requests)
             self.now.last_level (grant_level edge.wire)) →
             A.tells result.1
             (guard self.now.version (local self.now pins) edge.wire edge.fall edge.value).1 }
         ensures grants { (kind : KindValue) (request : ℕ → Bool) →
-            is_controllers edge.wire ≡ true → is_grant edge ≡ true →
+            has_wire Driver.Controller edge.wire ≡ true → is_grant edge ≡ true →
             is_picked ≡ is_pick kind request self.now.last_level (grant_level edge.wire) →
             A.tells result.1
             (guard self.now.version
@@ -193,12 +193,12 @@ impl Controller {
     #[inline(always)]
     fn judge(&self, edge: Edge, pins: Pins, is_picked: bool) -> Result<(), Refused>
         ensures picked { is_grant edge ≡ true → is_ok result ≡ true → is_picked ≡ true }
-        ensures rows { is_controllers edge.wire ≡ true →
+        ensures rows { has_wire Driver.Controller edge.wire ≡ true →
             (is_grant edge ≡ true → is_picked ≡ is_pick self.now.kind (has_bus_level pins.requests)
             self.now.last_level (grant_level edge.wire)) →
             result ≡ ruling self.now.version (local self.now pins) edge }
         ensures grants { (kind : KindValue) (request : ℕ → Bool) →
-            is_controllers edge.wire ≡ true → is_grant edge ≡ true →
+            has_wire Driver.Controller edge.wire ≡ true → is_grant edge ≡ true →
             is_picked ≡ is_pick kind request self.now.last_level (grant_level edge.wire) →
             result ≡ ruling self.now.version
             (record (local self.now pins) { request = request; arbiter = kind }) edge }
@@ -272,14 +272,6 @@ impl<P: Policy> Arbiter<P> {
         }
     }
 
-    /// The arbiter over a policy, with what the controller's edges left.
-    #[inline(always)]
-    pub fn of(policy: P, controller: Controller) -> Arbiter<P>
-        ensures { result ≡ (policy, controller) }
-    {
-        Arbiter { policy, controller }
-    }
-
     /// Whether the controller drives the wire low. Only `bg0` to `bg3`, `bclr`, `iack` and `berr`
     /// are its own; for any other wire the answer is false.
     #[inline(always)]
@@ -333,13 +325,13 @@ impl<P: Policy> Arbiter<P> {
             P.picked self.now.0 pins.requests self.now.1.last_level ≡ Some (grant_level edge.wire) }
         ensures rows { (kind : KindValue) (version : VersionValue) (noted : List EdgeValue) →
             self.now.1 ≡ controller_of kind version noted →
-            is_controllers edge.wire ≡ true →
+            has_wire Driver.Controller edge.wire ≡ true →
             (is_grant edge ≡ true → P.picked self.now.0 pins.requests (last_level noted)
             ≡ pick kind (has_bus_level pins.requests) (last_level noted)) →
             result ≡ ruling version (over kind noted pins) edge }
         ensures grants { (kind : KindValue) (version : VersionValue) (noted : List EdgeValue) →
             self.now.1 ≡ controller_of kind version noted →
-            is_controllers edge.wire ≡ true → is_grant edge ≡ true →
+            has_wire Driver.Controller edge.wire ≡ true → is_grant edge ≡ true →
             result ≡ ruling version
             (over_pick (P.picked self.now.0 pins.requests (last_level noted)) noted pins) edge }
     {
@@ -353,14 +345,14 @@ impl<P: Policy> Arbiter<P> {
     pub fn told<A: Outcome>(&self, edge: Edge, pins: Pins) -> A
         ensures rows { (kind : KindValue) (version : VersionValue) (noted : List EdgeValue) →
             self.now.1 ≡ controller_of kind version noted →
-            is_controllers edge.wire ≡ true →
+            has_wire Driver.Controller edge.wire ≡ true →
             (is_grant edge ≡ true → P.picked self.now.0 pins.requests (last_level noted)
             ≡ pick kind (has_bus_level pins.requests) (last_level noted)) →
             A.tells result
             (guard version (over kind noted pins) edge.wire edge.fall edge.value).1 }
         ensures grants { (kind : KindValue) (version : VersionValue) (noted : List EdgeValue) →
             self.now.1 ≡ controller_of kind version noted →
-            is_controllers edge.wire ≡ true → is_grant edge ≡ true →
+            has_wire Driver.Controller edge.wire ≡ true → is_grant edge ≡ true →
             A.tells result (guard version
             (over_pick (P.picked self.now.0 pins.requests (last_level noted)) noted pins)
             edge.wire edge.fall edge.value).1 }
@@ -375,14 +367,14 @@ impl<P: Policy> Arbiter<P> {
     pub fn failing(&self, edge: Edge, pins: Pins) -> ArrayVec<Condition, 5>
         ensures rows { (kind : KindValue) (version : VersionValue) (noted : List EdgeValue) →
             self.now.1 ≡ controller_of kind version noted →
-            is_controllers edge.wire ≡ true →
+            has_wire Driver.Controller edge.wire ≡ true →
             (is_grant edge ≡ true → P.picked self.now.0 pins.requests (last_level noted)
             ≡ pick kind (has_bus_level pins.requests) (last_level noted)) →
             result.items ≡
             failing version (over kind noted pins) edge.wire edge.fall edge.value }
         ensures grants { (kind : KindValue) (version : VersionValue) (noted : List EdgeValue) →
             self.now.1 ≡ controller_of kind version noted →
-            is_controllers edge.wire ≡ true → is_grant edge ≡ true →
+            has_wire Driver.Controller edge.wire ≡ true → is_grant edge ≡ true →
             result.items ≡ failing version
             (over_pick (P.picked self.now.0 pins.requests (last_level noted)) noted pins)
             edge.wire edge.fall edge.value }

@@ -10,7 +10,9 @@ ghost use Rattle.vme_model.specs.declared.signals.Wire.{Wire};
 ghost use Rattle.vme_model.specs.Readings.{Readings};
 ghost use Rattle.vme_model.specs.Rules.{is_pick, pick};
 ghost use Rattle.vme_model.specs.Verdict.{ruling_on};
-ghost use Rattle.vme_arbiter.specs.Local.{is_controllers, controller_readings, SayWhatIsTold};
+ghost use Rattle.vme_model.specs.Signals.{has_wire};
+ghost use Rattle.vme_model.specs.declared.signals.Driver.TheVariants.{Controller};
+ghost use Rattle.vme_arbiter.specs.Local.{controller_readings, SayWhatIsTold};
 
 /// A level passes the rule's test exactly if it is the level that is picked, so two never do.
 /// Source: Std 1014, chapter 3.
@@ -25,7 +27,7 @@ pub fn picks_one()
 pub fn reads_what_it_is_told()
     ensures { (version : Version) (kind : ArbiterKind) (own : Wire → Bool) (last_level : ℕ)
         (pins : Pins) (r : Readings) (w : Wire) (fall : Bool) (value : Option Cycle) →
-        SayWhatIsTold kind own last_level pins r → is_controllers w ≡ true →
+        SayWhatIsTold kind own last_level pins r → has_wire Controller w ≡ true →
         ruling_on version (controller_readings kind own last_level pins) w fall value ≡
         ruling_on version r w fall value }
 {}

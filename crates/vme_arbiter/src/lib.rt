@@ -6,5 +6,5 @@ mod arbiters;
 pub mod laws;
 mod policies;
 
-pub use arbiters::{Arbiter, Controller};
+pub use arbiters::Arbiter;
 pub use policies::{AnyPolicy, Policy, Pri, Rrs, Sgl};

@@ -1,61 +1,27 @@
 //! A backplane, which takes its edges one by one.
-ghost use Rattle.std.specs.Prelude.{◌≡◌, ◌==◌, ◌&&◌, ◌+◌, ◌%◌, ◌<◌, ◌≤◌, ◌↔◌, [], IfOk, IsTrue, Ok, Some, false, true, is_ok, length, slice_get};
-ghost use Rattle.std.specs.Option.{option_map_or};
+ghost use Rattle.std.specs.Prelude.{◌≡◌, ◌==◌, ◌&&◌, ◌+◌, ◌%◌, ◌<◌, ◌≤◌, ◌↔◌, [], IfOk, Ok, Some, false, true, is_ok, length, slice_get};
 ghost use Rattle.vme_model.specs.History.{in_order};
 ghost use Rattle.vme_model.specs.Signals.{is_well_formed};
 ghost use Rattle.vme_model.specs.Verdict.{verdict, verdict_but_full, made, after, kept, IsLegal};
-ghost use Rattle.vme_model.specs.Failing.{tested, tested_but_full, unmet, unmet_but_full};
 ghost use Rattle.vme_model.specs.Safe.{IsSafe, IsOrderly};
 ghost use Rattle.vme_model.specs.Views.{pins};
 ghost use Rattle.vme_model.specs.Deliveries.{answer, delivered, delivery};
 ghost use Rattle.vme_model.specs.Offers.{offered};
-ghost use Rattle.vme_model.specs.Open.{open_edges, IsAllThatIsAllowed};
-ghost use Rattle.vme_wiring.specs.Offered.{offered_but_full};
+ghost use Rattle.vme_histories.specs.Offered.{offered_but_full};
 ghost use Rattle.vme_wiring.specs.Waits.{is_waiting};
 ghost use Rattle.vme_model.specs.Accepted.{IsAccepted};
 ghost use Rattle.vme_model.specs.Report.{at_power_up, trace_limit};
-ghost use Rattle.vme_backplane.specs.Sound.{IsSound};
+ghost use Rattle.vme_histories.specs.Sound.{IsSound};
 
 use crate::deliveries::deliveries;
 use arrayvec::ArrayVec;
 use std::alloc::{AllocError, Global};
 use std::marker::Model;
-use vme_model::{Condition, Delivery, Driver, Edge, Pins, Refused, Version, Wire};
-use vme_rules::Outcome;
+use vme_histories::{Counts, by_wire, choice};
+use vme_model::{Delivery, Driver, Edge, Pins, Refused, Version, Wire};
 use vme_slots::Plan;
 use vme_store::{Store, Trace};
 use vme_wiring::Wiring;
-
-/// Evaluates `$done`, an expression over an edge, in an arm for each wire. In an arm, `$edge` is a
-/// copy whose wire is a constant, so the compiler leaves out what edges of other wires need. The
-/// contracts of the functions that `$done` calls refuse a wrong arm.
-///
-/// `$edge` is a variable of type `Edge`. A crate that uses the macro imports `vme_model::Wire`.
-#[macro_export]
-macro_rules! by_wire {
-    ($edge:ident => $done:expr) => {
-        match $edge.wire {
-            Wire::Bg(level) => $crate::by_wire!($edge, Wire::Bg(level), $done),
-            Wire::Bclr => $crate::by_wire!($edge, Wire::Bclr, $done),
-            Wire::Iack => $crate::by_wire!($edge, Wire::Iack, $done),
-            Wire::Berr => $crate::by_wire!($edge, Wire::Berr, $done),
-            Wire::Br => $crate::by_wire!($edge, Wire::Br, $done),
-            Wire::BgOut => $crate::by_wire!($edge, Wire::BgOut, $done),
-            Wire::Bbsy => $crate::by_wire!($edge, Wire::Bbsy, $done),
-            Wire::Addr => $crate::by_wire!($edge, Wire::Addr, $done),
-            Wire::AddressStrobe => $crate::by_wire!($edge, Wire::AddressStrobe, $done),
-            Wire::DataStrobe => $crate::by_wire!($edge, Wire::DataStrobe, $done),
-            Wire::Irq => $crate::by_wire!($edge, Wire::Irq, $done),
-            Wire::IackOut => $crate::by_wire!($edge, Wire::IackOut, $done),
-            Wire::Dtack => $crate::by_wire!($edge, Wire::Dtack, $done),
-        }
-    };
-    ($edge:ident, $wire:expr, $done:expr) => {{
-        let mut $edge = $edge;
-        $edge.wire = $wire;
-        $done
-    }};
-}
 
 /// A backplane: the version of its rules, its plan, and the edges that were made, with the wiring
 /// to which they lead.
@@ -81,24 +47,6 @@ impl<'r> Model for Backplane<'r> {
     } };
 
     ghost invariant = { λ b. IsWiringOf b.version b.plan b.store.history b.wiring };
-}
-
-/// How many edges of a run were accepted, and how many were refused.
-#[derive(Clone, Copy, PartialEq, Eq, Debug)]
-pub struct Counts {
-    pub accepted: u64,
-    pub refused: u64,
-}
-
-/// The offer that is made in a round: of k offers the one at place `round mod k`, counted from 0;
-/// none if there is no offer. Source: profile.
-pub fn choice(offers: &[Edge], round: u32) -> Option<Edge>
-    ensures { result ≡ slice_get offers.now (round % length offers.now) }
-{
-    if offers.is_empty() {
-        return None;
-    }
-    offers.get(round as usize % offers.len()).copied()
 }
 
 impl<'r> Backplane<'r> {
@@ -148,7 +96,7 @@ impl<'r> Backplane<'r> {
     ///
     /// # Errors
     /// The first of E1 to E5 that applies.
-    #[tactic(auto, using(crate::proofs::Judged::refused, crate::proofs::Judged::passed))]
+    #[tactic(auto, using(vme_histories::proofs::Judged::refused, vme_histories::proofs::Judged::passed))]
     #[inline(always)]
     pub fn verdict(&self, edge: Edge) -> Result<(), Refused>
         ensures { result ≡ verdict self.now edge }
@@ -163,71 +111,6 @@ impl<'r> Backplane<'r> {
             }
             Err(refused) => Err(refused),
         }
-    }
-
-    /// The answer that `step` would give to an edge: what the edge delivers. Nothing is made.
-    /// Source: docs/RULES.md, E1 to E5.
-    ///
-    /// # Errors
-    /// The first of E1 to E5 that applies.
-    pub fn answer(&self, edge: Edge) -> Result<Option<Delivery>, Refused>
-        ensures { result ≡ answer self.now edge }
-    {
-        match self.verdict(edge) {
-            Ok(()) => Ok(self.wiring.delivery(edge)),
-            Err(refused) => Err(refused),
-        }
-    }
-
-    /// Whether the edge is refused only because the trace is full.
-    fn lacks_room(&self, edge: Edge) -> bool
-        ensures { result ≡ ((length self.now.history == self.now.max)
-            && is_ok (verdict_but_full self.now.version self.now.plan self.now.history edge)) }
-    {
-        self.is_full() && self.judge(edge).is_ok()
-    }
-
-    /// What is tested for an edge, without the end of the trace.
-    fn told_but_full<A: Outcome>(&self, edge: Edge) -> A
-        ensures { A.tells result
-            (tested_but_full self.now.version self.now.plan self.now.history edge) }
-    {
-        self.wiring.told(edge)
-    }
-
-    /// What is tested for an edge, as far as its answer needs it. At E1 and E2 it is the one
-    /// condition that fails. Otherwise it is the conditions of the edge's rule; if they hold, the
-    /// condition of its settling rule follows, and at E5 that of the room. Source: profile.
-    pub fn told<A: Outcome>(&self, edge: Edge) -> A
-        ensures { A.tells result (tested self.now edge) }
-    {
-        let tested: A = self.told_but_full(edge);
-        if self.lacks_room(edge) {
-            tested.and(A::asks(Condition::HasRoom, false))
-        } else {
-            tested
-        }
-    }
-
-    /// The conditions that an edge fails, without the end of the trace.
-    fn failing_but_full(&self, edge: Edge) -> ArrayVec<Condition, 5>
-        ensures { result.items
-            ≡ unmet_but_full self.now.version self.now.plan self.now.history edge }
-    {
-        self.wiring.failing(edge)
-    }
-
-    /// The conditions that an edge fails, for the first of E1 to E5 that applies, in the order of
-    /// its guard. There are none if `step` would accept the edge. Source: profile.
-    pub fn failing(&self, edge: Edge) -> ArrayVec<Condition, 5>
-        ensures { result.items ≡ unmet self.now edge }
-    {
-        let mut failed = ArrayVec::new();
-        if self.lacks_room(edge) {
-            failed.push(Condition::HasRoom);
-            return failed;
-        }
-        self.failing_but_full(edge)
     }
 
     /// Makes the edge if the rules allow it, and returns what it delivers. It asks for no memory.
@@ -286,7 +169,7 @@ impl<'r> Backplane<'r> {
 
     /// Makes an edge for which `verdict` answers `Ok`.
     #[inline(always)]
-    pub fn make(&mut self, edge: Edge)
+    fn make(&mut self, edge: Edge)
         requires { verdict self.old edge ≡ Ok tt }
         ensures { self.new ≡ made self.old edge }
     {
@@ -294,15 +177,6 @@ impl<'r> Backplane<'r> {
         self.accepted(edge);
         self.wiring.note(edge);
         self.store.push(edge);
-    }
-
-    /// Makes an edge that would be accepted, with an arm for each wire.
-    #[inline(always)]
-    fn make_by_wire(&mut self, edge: Edge)
-        requires { verdict self.old edge ≡ Ok tt }
-        ensures { self.new ≡ made self.old edge }
-    {
-        by_wire!(edge => self.make(edge))
     }
 
     /// Steps through all the edges. A refused edge changes nothing, and the run goes on after it.
@@ -353,23 +227,6 @@ impl<'r> Backplane<'r> {
         self.wiring.offers(driver)
     }
 
-    /// All edges that the driver can make: those of the edges that move one of its wires that would
-    /// be accepted, in the order of its wires. An address group goes on with each acknowledge, by
-    /// level, and then with each access, by slot. Source: profile (the order).
-    ///
-    /// Each edge is tried, whether or not a board would consider it, so this takes longer than
-    /// `offers`.
-    pub fn open_edges(&self, driver: Driver) -> ArrayVec<Edge, 36>
-        ensures edges { result.items ≡ open_edges self.now driver }
-        ensures all { IsAllThatIsAllowed self.now driver result.items }
-    {
-        if self.is_full() {
-            ArrayVec::new()
-        } else {
-            self.wiring.open_edges(driver)
-        }
-    }
-
     /// Whether the driver waits for an edge of another driver. If so, it has no offer. If it
     /// answers false, there may be no offer either.
     fn is_waiting(&self, driver: Driver) -> bool
@@ -393,27 +250,6 @@ impl<'r> Backplane<'r> {
             return None;
         }
         choice(self.offers(driver).as_slice(), round)
-    }
-
-    /// Makes the offer that the driver makes in a round, if it has any, and returns it. Source:
-    /// profile.
-    ///
-    /// It does what `offer` and then `step` would do, without judging the edge again.
-    #[inline(always)]
-    pub fn make_offer(&mut self, driver: Driver, round: u32) -> Option<Edge>
-        ensures offer { result
-            ≡ slice_get (offered self.old driver) (round % length (offered self.old driver)) }
-        ensures state { self.new ≡ option_map_or (made self.old) result self.old }
-        ensures sound { IsSound self.new }
-    {
-        let offer = self.offer(driver, round);
-        match offer {
-            Some(edge) => self.make_by_wire(edge),
-            None => {}
-        }
-        self.laws();
-        self.safety();
-        offer
     }
 
     /// What was delivered, in the order of time. Source: Std 1014, chapter 4.
@@ -445,13 +281,6 @@ impl<'r> Backplane<'r> {
         ensures { result ≡ length self.now.history }
     {
         self.store.len()
-    }
-
-    /// Whether no edge was made.
-    pub fn is_empty(&self) -> bool
-        ensures { IsTrue result ↔ (self.now.history ≡ []) }
-    {
-        self.len() == 0
     }
 
     /// Whether the trace can hold no further edge.

@@ -9,5 +9,6 @@ mod backplanes;
 mod deliveries;
 pub mod laws;
 
-pub use backplanes::{Backplane, Counts, choice};
+pub use backplanes::Backplane;
+pub use vme_histories::Counts;
 pub use vme_store::{Trace, TraceError};

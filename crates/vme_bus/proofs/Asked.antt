@@ -11,15 +11,14 @@ use Rattle.vme_model.specs.declared.signals.Driver.TheVariants.{Controller, Slot
 use Rattle.vme_model.specs.declared.signals.Edge.{Edge}
 use Rattle.vme_model.specs.declared.signals.Wire.{Wire}
 use Rattle.vme_model.specs.declared.signals.Wire.TheVariants.{Bg, Bclr, Iack, Berr, Br, BgOut, Bbsy, Addr, AddressStrobe, DataStrobe, Irq, IackOut, Dtack}
-use Rattle.vme_model.specs.Signals.{is_well_formed, has_wire, has_value, is_slot}
+use Rattle.vme_model.specs.Signals.{is_well_formed, has_wire, has_value, is_slot, driver_number}
 use Rattle.vme_model.specs.Plan.{Plan, board, drives, has_driver, grant_chain}
 use Rattle.vme_model.specs.History.{drive}
 use Rattle.vme_model.specs.Readings.{readings}
 use Rattle.vme_model.specs.Rules.{rule}
 use Rattle.vme_model.specs.Verdict.{Judgement, check, is_other_state}
 use Rattle.vme_model.proofs.Bools.{and_left, and_right}
-use Rattle.vme_wiring.specs.Asked.{asked, exists}
-use Rattle.vme_bus.specs.Arms.{slot_of}
+use Rattle.vme_histories.specs.Asked.{asked, exists}
 
 -- every level beyond 3 is of the last chain
 pub last_chain : (n : ℕ) → grant_chain (min n 3) ≡ grant_chain n
@@ -105,9 +104,9 @@ near_slot s e driver formed =
     by_wire IackOut e = below e
     by_wire Dtack e = below e
 
-pub near_place : (e : Edge) → is_well_formed e ≡ true → slot_of e.driver < 22
+pub near_place : (e : Edge) → is_well_formed e ≡ true → driver_number e.driver < 22
 near_place e formed = by_driver e.driver refl
   where
-    by_driver : (d : Driver) → e.driver ≡ d → slot_of d < 22
+    by_driver : (d : Driver) → e.driver ≡ d → driver_number d < 22
     by_driver Controller is = omega arith
     by_driver (Slot s) is = near_slot s e is formed

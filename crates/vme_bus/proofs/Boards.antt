@@ -6,7 +6,7 @@ use Rattle.std.proofs.lemmas.Bool.Decides.{nat_tests}
 use Rattle.vme_model.specs.declared.boards.Row.{Row}
 use Rattle.vme_model.specs.Plan.{Plan, board}
 use Rattle.vme_model.specs.Accepted.{IsAccepted}
-use Rattle.vme_wiring.proofs.AllowedBoards.{stands}
+use Rattle.vme_histories.proofs.AllowedBoards.{stands}
 
 pub none_beyond : (p : Plan) → IsAccepted p → (s : ℕ) → 22 ≤ s → (f : Row → Bool) → option_map_or f (board p s) false ≡ false
 none_beyond p ok s far f = by_board (board p s) refl

@@ -21,7 +21,7 @@ use Rattle.vme_model.specs.Readings.{Readings, readings, iack_in}
 use Rattle.vme_model.specs.Guards.{asks, ◌⊓◌}
 use Rattle.vme_model.specs.Rules.{shows, passes, answers, show_guard, pass_guard, answer_guard}
 use Rattle.vme_model.proofs.Bools.{and_left, and_right}
-use Rattle.vme_wiring.specs.Waits.{is_access_to}
+use Rattle.vme_histories.specs.Shown.{is_access_to}
 use Rattle.vme_bus.specs.Asks.{asks_at}
 use Rattle.vme_bus.specs.Moves.{release_of}
 

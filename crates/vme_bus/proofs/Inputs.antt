@@ -1,6 +1,6 @@
 -- What a board reads at its inputs: `BusState::grant_in`, `iack_in`; and which inputs turn with an edge: `BusState::note`.
-use Rattle.std.proofs.Common.{◌≡◌, ◌∙◌, refl, sym, ap, subst, ℕ, Bool, true, false, List, ◌<◌, ◌≤◌, arith}
-use Rattle.std.specs.Prelude.{◌&&◌, Option, Some, None, is_some, nat_lt}
+use Rattle.std.proofs.Common.{◌≡◌, ◌∙◌, refl, sym, ap, subst, ℕ, Bool, true, false, List, ◌<◌, ◌≤◌, arith, zero, suc, ◌∷◌, []}
+use Rattle.std.specs.Prelude.{◌&&◌, Option, Some, None, is_some, nat_lt, ◌==◌, option_map, find, reverse, if◌then◌else◌}
 use Rattle.std.specs.Option.{option_map_or, IfSome}
 use Rattle.vme_model.specs.declared.boards.Row.{Row}
 use Rattle.vme_model.specs.declared.boards.RequesterRow.{RequesterRow}
@@ -10,27 +10,22 @@ use Rattle.vme_model.specs.declared.signals.Version.{Version}
 use Rattle.vme_model.specs.declared.signals.Edge.{Edge}
 use Rattle.vme_model.specs.declared.signals.Driver.TheVariants.{Controller, Slot}
 use Rattle.vme_model.specs.declared.signals.Wire.TheVariants.{Bg, Iack, BgOut, IackOut}
-use Rattle.vme_model.specs.Plan.{Plan, board, upstream, last_active, active, grant_chain, head_wire, out_wire}
+use Rattle.vme_model.specs.Plan.{Plan, board, upstream, last_active, active, grant_chain, head_wire, out_wire, is_active}
 use Rattle.vme_model.specs.History.{drive, segment, input, is_past_end}
 use Rattle.vme_model.specs.Readings.{grant_in, iack_in}
 use Rattle.vme_model.specs.Accepted.{IsAccepted}
-use Rattle.std.specs.Prelude.{◌==◌, option_map}
 use Rattle.vme_bus.specs.declared.layouts.Input.TheVariants as input
 use Rattle.vme_bus.specs.declared.records.SeatRecord.{SeatRecord}
 use Rattle.vme_bus.specs.Moves.{MovesPlace, MovesSlots}
 use Rattle.vme_model.proofs.Ranges.{in_range}
-use Rattle.vme_wiring.proofs.AllowedBoards.{stands}
+use Rattle.vme_histories.proofs.AllowedBoards.{stands}
 use Rattle.vme_bus.specs.declared.sets.SlotSet.{SlotSet}
 use Rattle.vme_bus.specs.Sets.{has}
 use Rattle.vme_bus.specs.Layouts.{seat, seat_of, is_input_at, HoldsInputs, place_of, grant_head, acknowledge_head, grant_source}
-use Rattle.vme_bus.specs.States.{HoldsOutputs}
-use Rattle.std.specs.Prelude.{find, reverse, if◌then◌else◌}
+use Rattle.vme_bus.specs.States.{HoldsOutputs, IsStateOf}
 use Rattle.std.proofs.lemmas.Bool.Decides.{nat_tests}
-use Rattle.std.proofs.Common.{zero, suc, ◌∷◌, []}
-use Rattle.vme_model.specs.Plan.{is_active}
 use Rattle.vme_model.proofs.Below.{last_of}
 use Rattle.vme_bus.specs.declared.states.BusState.{BusState}
-use Rattle.vme_bus.specs.States.{IsStateOf}
 
 -- what a search finds passes its test
 found_passes : (test : ℕ → Bool) (xs : List ℕ) (t : ℕ) → find test xs ≡ Some t → test t ≡ true

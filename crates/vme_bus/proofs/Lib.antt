@@ -32,8 +32,6 @@ pub mod Places
 pub mod LongerHistory
 -- what the sets say of one slot: `BusState::outputs`, `is_driven_low`, `row`, `told_by_rule`
 pub mod OneSlot
--- the slots whose parts do not wait are those of the sets at work: `BusState::requesters_at_work` and its like
-pub mod AtWork
 -- where a grant stops, it travels: `BusState::grant_at`, `Bus::grant_at`
 pub mod Standing
 -- the slots of an accepted plan, who is found among them, and what is shown: `Bus::has_driver`, `holder`, `addressing`, `shown`
@@ -46,3 +44,5 @@ pub mod Room
 pub mod Numbers
 -- what a state is of that was given the kind of another: `BusState::set_kind`
 pub mod OneKind
+-- what an edge fails with the end of the trace, from what it fails without it: `Bus::told`, `failing`
+pub mod Failing

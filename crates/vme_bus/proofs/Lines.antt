@@ -15,8 +15,8 @@ use Rattle.vme_model.specs.History.{drive, line, request_line, interrupt_line, p
 use Rattle.vme_model.specs.Verdict.{IsLegal}
 use Rattle.vme_model.proofs.Ranges.{IsRowInRange, in_range}
 use Rattle.vme_model.proofs.Members.{found_row, some_row}
-use Rattle.vme_wiring.proofs.AllowedBoards.{stands}
-use Rattle.vme_wiring.proofs.FieldReads.{never_drove}
+use Rattle.vme_histories.proofs.AllowedBoards.{stands}
+use Rattle.vme_histories.proofs.Drivers.{never_drove}
 use Rattle.vme_bus.specs.declared.layouts.Line.TheVariants as on_line
 use Rattle.vme_bus.specs.declared.sets.SlotSet.{SlotSet}
 use Rattle.vme_bus.specs.Sets.{has}

@@ -7,6 +7,8 @@ use Rattle.std.proofs.lemmas.Bool.Decides.{nat_tests}
 use Rattle.std.proofs.lemmas.List.{length-set, get_or-set_same, get_or-set_other}
 use Rattle.vme_model.specs.declared.boards.Row.{Row}
 use Rattle.vme_model.specs.declared.boards.RequesterRow.{RequesterRow}
+use Rattle.vme_model.specs.declared.boards.InterrupterRow.{InterrupterRow}
+use Rattle.vme_model.specs.declared.boards.IrqKind.{IrqKind}
 use Rattle.vme_model.specs.declared.boards.Release.{Release}
 use Rattle.vme_model.specs.declared.boards.Release.TheVariants.{Request}
 use Rattle.vme_model.specs.declared.signals.Version.{Version}
@@ -16,25 +18,21 @@ use Rattle.vme_model.specs.declared.signals.Wire.{Wire}
 use Rattle.vme_model.specs.declared.signals.Wire.TheVariants.{Bg, Bclr, Iack, Berr, Br, BgOut, Bbsy, Addr, AddressStrobe, DataStrobe, Irq, IackOut, Dtack}
 use Rattle.vme_model.specs.declared.signals.Cycle.{Cycle}
 use Rattle.vme_model.specs.declared.signals.Edge.{Edge}
-use Rattle.vme_model.specs.Signals.{is_same_driver, is_same_wire, grant_level, has_wire}
+use Rattle.vme_model.specs.Signals.{is_fall_of, is_same_driver, is_same_wire, grant_level, has_wire}
 use Rattle.vme_model.specs.Plan.{Plan, board}
-use Rattle.vme_model.specs.Accepted.{IsAccepted}
-use Rattle.vme_model.specs.History.{drive, shown, cycles, has_strobed, served_since_request}
+use Rattle.vme_model.specs.History.{drive, shown, cycles, has_strobed, serves, served_since_request}
 use Rattle.vme_model.specs.Readings.{is_served}
 use Rattle.vme_model.specs.Verdict.{verdict_but_full}
 use Rattle.vme_model.proofs.Bools.{same_number}
 use Rattle.vme_model.proofs.AllowedEdges.{all_passed}
-use Rattle.vme_arbiter.specs.Local.{ControllerState}
 use Rattle.vme_master.specs.Local.{most_cycles}
 use Rattle.vme_master.proofs.Counts.{one_more}
 use Rattle.vme_interrupter.specs.Local.{seen, served, serves_board}
 use Rattle.vme_interrupter.proofs.Seen.{served_seen}
-use Rattle.vme_wiring.specs.Counts.{addressing_after}
-use Rattle.vme_wiring.specs.declared.boards.Board.{Board}
-use Rattle.vme_wiring.proofs.Others.{same_wire, drive_same, cycles_same, strobed_same, parts_same}
-use Rattle.vme_wiring.proofs.AllowedBoards.{stands, driven, at, at_head}
-use Rattle.vme_wiring.proofs.LongerHistory.{controller_kept, addressing_by, addressing_kept}
-use Rattle.vme_wiring.proofs.AddressNotes.{IsShownAt, shown_at}
+use Rattle.vme_histories.specs.Shown.{addressing_after}
+use Rattle.vme_histories.proofs.Others.{same_wire, drive_same, cycles_same, strobed_same, not_fall}
+use Rattle.vme_histories.proofs.AllowedBoards.{stands, driven, at, at_head, level_kept}
+use Rattle.vme_histories.proofs.Addressing.{addressing_by, addressing_kept, IsShownAt, shown_at}
 use Rattle.vme_bus.specs.declared.sets.SlotSet.{SlotSet}
 use Rattle.vme_bus.specs.declared.states.BusState.{BusState}
 use Rattle.vme_bus.specs.Sets.{has}
@@ -118,26 +116,28 @@ served_here p h s r w fall v serves found is =
     ∙ served_where (s == s) (serves_board r.interrupter (shown p h)) (served (seen p h) (Slot s) r.interrupter) w fall (self s)
     ∙ served_seen p (at s w fall v ∷ h) (Slot s) r found
 
-served_there : (version : Version) (p : Plan) (h : List Edge) (e : Edge) (t : ℕ) → IsAccepted p → is_same_driver e.driver (Slot t) ≡ false → is_served p (e ∷ h) (Slot t) ≡ is_served p h (Slot t)
-served_there version p h e t ok other = by_board (board p t) refl
+served_same : (p : Plan) (h : List Edge) (e : Edge) (d : Driver) (kind : IrqKind) → is_same_driver e.driver d ≡ false → served_since_request p (e ∷ h) d kind ≡ served_since_request p h d kind
+served_same p h e d kind other =
+    ap (λ b. if b then false else (is_fall_of d Dtack e && serves kind (shown p h)) || served_since_request p h d kind) (not_fall d Irq e other)
+    ∙ ap (λ b. (b && serves kind (shown p h)) || served_since_request p h d kind) (not_fall d Dtack e other)
+
+served_there : (p : Plan) (h : List Edge) (e : Edge) (t : ℕ) → is_same_driver e.driver (Slot t) ≡ false → is_served p (e ∷ h) (Slot t) ≡ is_served p h (Slot t)
+served_there p h e t other = by_board (board p t)
   where
-    none : (k : List Edge) → board p t ≡ None → is_served p k (Slot t) ≡ false
-    none k is = ap (λ o. option_map_or (λ r. option_map_or (λ i. served_since_request p k (Slot t) i.kind) r.interrupter false) o false) is
+    by_row : (o : Option InterrupterRow) → option_map_or (λ i. served_since_request p (e ∷ h) (Slot t) i.kind) o false ≡ option_map_or (λ i. served_since_request p h (Slot t) i.kind) o false
+    by_row None = refl
+    by_row (Some i) = served_same p h e (Slot t) i.kind other
 
-    by_board : (o : Option Row) → board p t ≡ o → is_served p (e ∷ h) (Slot t) ≡ is_served p h (Slot t)
-    by_board None is = none (e ∷ h) is ∙ sym (none h is)
-    by_board (Some r) is =
-        let slot = (stands p t r ok is).slot in
-        let same = parts_same version p h e r (subst (λ x. is_same_driver e.driver (Slot x) ≡ false) (sym slot) other) in
-        sym (served_seen p (e ∷ h) (Slot t) r is)
-        ∙ subst (λ x. served (seen p (e ∷ h)) (Slot x) r.interrupter ≡ served (seen p h) (Slot x) r.interrupter) slot (ap (λ (b : Board). b.interrupter.is_served) same)
-        ∙ served_seen p h (Slot t) r is
+    by_board : (o : Option Row) → option_map_or (λ r. option_map_or (λ i. served_since_request p (e ∷ h) (Slot t) i.kind) r.interrupter false) o false
+        ≡ option_map_or (λ r. option_map_or (λ i. served_since_request p h (Slot t) i.kind) r.interrupter false) o false
+    by_board None = refl
+    by_board (Some r) = by_row r.interrupter
 
-served_moved : (version : Version) (p : Plan) (h : List Edge) (s : ℕ) (r : Row) (w : Wire) (fall : Bool) (v : Option Cycle) (serves : Bool) (old new : SlotSet) → IsAccepted p → board p s ≡ Some r → serves ≡ is_serving (board p s) (shown p h) → MovesPlace (served_by w fall serves) s old new → ((t : ℕ) → has old t ≡ is_served p h (Slot t)) → (t : ℕ) → has new t ≡ is_served p (at s w fall v ∷ h) (Slot t)
-served_moved version p h s r w fall v serves old new ok found is moves held t =
+served_moved : (p : Plan) (h : List Edge) (s : ℕ) (r : Row) (w : Wire) (fall : Bool) (v : Option Cycle) (serves : Bool) (old new : SlotSet) → board p s ≡ Some r → serves ≡ is_serving (board p s) (shown p h) → MovesPlace (served_by w fall serves) s old new → ((t : ℕ) → has old t ≡ is_served p h (Slot t)) → (t : ℕ) → has new t ≡ is_served p (at s w fall v ∷ h) (Slot t)
+served_moved p h s r w fall v serves old new found is moves held t =
     moved_to (served_by w fall serves) s t old new (λ x. is_served p h (Slot x)) (λ x. is_served p (at s w fall v ∷ h) (Slot x)) moves (held t)
     (served_here p h s r w fall v serves found is)
-    (served_there version p h (at s w fall v) t ok)
+    (served_there p h (at s w fall v) t)
 
 -- the cycles of its tenure
 counted_by : (p : Plan) (h : List Edge) (s : ℕ) → counted p h s ≡ min (cycles h (Slot s)) (most_cycles (release_of (board p s)))
@@ -260,9 +260,9 @@ board_noted version p h s r w fall v old new is allowed found n =
       rules = ap version_in n.rules ∙ is.rules;
       layout = subst (IsLayoutOf p) (sym n.layout) is.layout;
       kind = ap kind_in n.kind ∙ is.kind;
-      last_level = n.last_level ∙ is.last_level ∙ ap (λ (c : ControllerState). c.last_level) (controller_kept p.arbiter version h s w fall v d.wire);
-      bus_clear = ap (λ x. has x bus_clear_place) n.controls ∙ is.bus_clear ∙ ap (λ (c : ControllerState). c.bclr) (controller_kept p.arbiter version h s w fall v d.wire);
-      bus_error = ap (λ x. has x bus_error_place) n.controls ∙ is.bus_error ∙ ap (λ (c : ControllerState). c.berr) (controller_kept p.arbiter version h s w fall v d.wire);
+      last_level = n.last_level ∙ is.last_level ∙ level_kept h s w fall v d.wire;
+      bus_clear = ap (λ x. has x bus_clear_place) n.controls ∙ is.bus_clear ∙ sym (drive_same h (at s w fall v) Controller Bclr refl);
+      bus_error = ap (λ x. has x bus_error_place) n.controls ∙ is.bus_error ∙ sym (drive_same h (at s w fall v) Controller Berr refl);
       br = wire_moved h s Br w fall v old.br new.br d.before n.br is.br;
       bbsy = wire_moved h s Bbsy w fall v old.bbsy new.bbsy d.before n.bbsy is.bbsy;
       addr = wire_moved h s Addr w fall v old.addr new.addr d.before n.addr is.addr;
@@ -276,7 +276,7 @@ board_noted version p h s r w fall v old new is allowed found n =
       acknowledges_head = acknowledges_head;
       granted = λ t. granted_moved (turned_by BgOut w) s p h (at s w fall v ∷ h) old.layout.seats (set_at old.layout.granted_by s) old.granted new.granted old.grants new.grants is.accepted is.layout.seats (is.layout.granted_by.each s (omega arith)) n.granted n.grants is.grants is.grant_heads grants grant_heads t (is.granted t);
       acknowledged = λ t. acknowledged_moved (turned_by IackOut w) s p h (at s w fall v ∷ h) old.layout.seats (set_at old.layout.acknowledged_by s) old.acknowledged new.acknowledged old.acknowledges new.acknowledges is.accepted is.layout.seats (is.layout.acknowledged_by.each s (omega arith)) n.acknowledged n.acknowledges is.acknowledges is.acknowledges_head acknowledges acknowledges_head t (is.acknowledged t);
-      served = served_moved version p h s r w fall v n.serves old.served new.served is.accepted found n.is_serving n.served is.served;
+      served = served_moved p h s r w fall v n.serves old.served new.served found n.is_serving n.served is.served;
       strobed = strobed_moved h s w fall v old.strobed new.strobed n.strobed is.strobed;
       cycles_room = ap length n.cycles ∙ length-set old.cycles s (cycles_by w fall n.release (get_or old.cycles s 0)) ∙ is.cycles_room;
       cycles = λ t near. ap (λ xs. get_or xs t 0) n.cycles ∙ cycles_moved p h s t w fall v n.release old.cycles k.near is.cycles_room n.is_release is.cycles near;
@@ -392,7 +392,7 @@ controller_noted version p h w fall v b last grants granted acknowledged acknowl
       acknowledges_head = head;
       granted = λ t. granted_moved (grant_turned_by w) (grant_head (grant_level w)) p h (e ∷ h) b.layout.seats (set_at b.layout.granted_by (grant_head (grant_level w))) b.granted granted b.grants grants is.accepted is.layout.seats (is.layout.granted_by.each (grant_head (grant_level w)) (head_near w passed.wire)) granted_moves moved is.grants is.grant_heads outputs heads t (is.granted t);
       acknowledged = λ t. acknowledged_moved (turned_by Iack w) acknowledge_head p h (e ∷ h) b.layout.seats (set_at b.layout.acknowledged_by acknowledge_head) b.acknowledged acknowledged b.acknowledges acknowledges is.accepted is.layout.seats (is.layout.acknowledged_by.each acknowledge_head (omega arith)) acknowledged_moves followed is.acknowledges is.acknowledges_head passes head t (is.acknowledged t);
-      served = λ t. is.served t ∙ sym (served_there version p h e t is.accepted refl);
+      served = λ t. is.served t ∙ sym (served_there p h e t refl);
       strobed = λ t. is.strobed t ∙ sym (strobed_same h e (Slot t) refl);
       cycles_room = is.cycles_room;
       cycles = λ t near. is.cycles t near ∙ counted_there p h e t refl;

@@ -7,7 +7,7 @@ use Rattle.vme_model.specs.declared.boards.Row.{Row}
 use Rattle.vme_model.specs.Plan.{Plan, board, up_to}
 use Rattle.vme_model.specs.Accepted.{IsAccepted}
 use Rattle.vme_slots.proofs.Slots.{find_up_to_first, find_up_to_none}
-use Rattle.vme_wiring.proofs.AllowedBoards.{stands}
+use Rattle.vme_histories.proofs.AllowedBoards.{stands}
 use Rattle.vme_bus.specs.declared.layouts.Line.TheVariants as line
 use Rattle.vme_bus.specs.declared.sets.SlotSet.{SlotSet}
 use Rattle.vme_bus.specs.Sets.{has, HoldsNoneAbove, IsNextAbove}

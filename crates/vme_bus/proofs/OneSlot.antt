@@ -12,8 +12,8 @@ use Rattle.vme_model.specs.Plan.{Plan, board, drives}
 use Rattle.vme_model.specs.Accepted.{IsAccepted}
 use Rattle.vme_model.specs.History.{drive}
 use Rattle.vme_model.specs.Verdict.{IsLegal}
-use Rattle.vme_wiring.proofs.AllowedBoards.{stands}
-use Rattle.vme_wiring.proofs.FieldReads.{never_drove}
+use Rattle.vme_histories.proofs.AllowedBoards.{stands}
+use Rattle.vme_histories.proofs.Drivers.{never_drove}
 use Rattle.vme_bus.specs.declared.records.Seat.{Seat}
 use Rattle.vme_bus.specs.Layouts.{seat_of}
 

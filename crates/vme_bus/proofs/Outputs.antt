@@ -1,6 +1,6 @@
 -- What the low segments say of the settling rules: `BusState::are_grants_through`, `is_acknowledge_clear`.
 use Rattle.std.proofs.Common.{◌≡◌, ◌∙◌, refl, sym, ap, ℕ, Bool, true, false, List, [], ◌∷◌, ◌<◌, ◌≤◌, arith}
-use Rattle.std.specs.Prelude.{◌&&◌, ◌==◌, Option, Some, None, is_some, not, nat_lt}
+use Rattle.std.specs.Prelude.{◌&&◌, ◌||◌, ◌==◌, Option, Some, None, is_some, not, nat_lt}
 use Rattle.std.specs.List.{list_any, list_all, All, Contains}
 use Rattle.std.specs.Option.{option_map_or}
 use Rattle.std.proofs.lemmas.Bool.Decides.{nat_tests}
@@ -21,10 +21,8 @@ use Rattle.vme_model.specs.Settling.{are_grants_through, is_chain_clear}
 use Rattle.vme_model.specs.Verdict.{IsLegal}
 use Rattle.vme_model.proofs.Bools.{and_left, and_right}
 use Rattle.vme_model.proofs.Below.{contained}
-use Rattle.vme_wiring.specs.Counts.{passes_grant}
-use Rattle.vme_wiring.proofs.PullCounts.{any_pulls, no_pulls_left}
-use Rattle.vme_wiring.proofs.AllowedBoards.{stands}
-use Rattle.vme_wiring.proofs.FieldReads.{never_drove}
+use Rattle.vme_histories.proofs.AllowedBoards.{stands}
+use Rattle.vme_histories.proofs.Drivers.{never_drove}
 use Rattle.vme_bus.specs.declared.sets.SlotSet.{SlotSet}
 use Rattle.vme_bus.specs.Sets.{has}
 use Rattle.vme_bus.specs.States.{HoldsWire, HoldsOutputs}
@@ -59,7 +57,16 @@ outputs_held version p h w all set ok legal held both s = both s ∙ by_place (n
     by_place false is = let l : 22 ≤ s = grind (arith, nat_tests) in shut (has all s) ∙ sym (no_board l (board p s) refl)
 
 none_any : (f : Row → Bool) (rows : List Row) → list_all (λ r. not (f r)) rows ≡ not (list_any f rows)
-none_any f rows = no_pulls_left f rows ∙ ap not (sym (any_pulls f rows))
+none_any f [] = refl
+none_any f (r ∷ rows) = step (f r) (list_any f rows) (list_all (λ q. not (f q)) rows) (none_any f rows)
+  where
+    step : (a b c : Bool) → c ≡ not b → (not a && c) ≡ not (a || b)
+    step true b c e = refl
+    step false b c e = e
+
+-- the boards that pass a grant on
+abbrev passes_grant : List Edge → Row → Bool
+passes_grant h r = drive h (Slot r.slot) BgOut
 
 passing_held : (version : Version) (p : Plan) (h : List Edge) (set : SlotSet) → IsAccepted p → IsLegal version p h → HoldsWire h BgOut set → HoldsBoards p (passes_grant h) set
 passing_held version p h set ok legal held s = held s ∙ by_board (board p s) refl

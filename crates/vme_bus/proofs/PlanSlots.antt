@@ -24,7 +24,7 @@ use Rattle.vme_model.proofs.AllowedEdges.{checked}
 use Rattle.vme_model.proofs.Bools.{and_left, and_right, is_true, never}
 use Rattle.vme_model.proofs.Members.{found_row}
 use Rattle.vme_model.proofs.Ranges.{IsRowInRange, in_range}
-use Rattle.vme_wiring.proofs.FieldReads.{never_drove}
+use Rattle.vme_histories.proofs.Drivers.{never_drove}
 
 is_within : (s : ℕ) → 1 ≤ s → s ≤ 21 → is_slot s ≡ true
 is_within s low high = grind (arith, nat_tests)

@@ -1,11 +1,10 @@
 -- Before any edge: `BusState::new`.
 use Rattle.std.proofs.Common.{◌≡◌, ◌∙◌, refl, sym, ap, ℕ, Bool, true, false, [], ◌<◌, get_or}
-use Rattle.std.specs.Prelude.{Option, Some, None, min, replicate}
+use Rattle.std.specs.Prelude.{Option, Some, None, min, replicate, ◌==◌, ◌&&◌, is_some}
 use Rattle.std.specs.Option.{option_map_or}
 use Rattle.std.proofs.Math.Nat.{zero-min}
 use Rattle.std.proofs.lemmas.List.{get_or-replicate}
 use Rattle.std.proofs.lemmas.Nat.Bits.{bit_at-zero}
-use Rattle.std.specs.Prelude.{◌==◌, ◌&&◌, is_some}
 use Rattle.vme_model.specs.declared.boards.Row.{Row}
 use Rattle.vme_model.specs.declared.boards.RequesterRow.{RequesterRow}
 use Rattle.vme_model.specs.declared.boards.InterrupterRow.{InterrupterRow}

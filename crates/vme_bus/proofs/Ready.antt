@@ -17,10 +17,10 @@ use Rattle.vme_model.specs.History.{drive, line, shown, has_strobed}
 use Rattle.vme_model.specs.Readings.{readings, iack_in, is_served}
 use Rattle.vme_model.specs.Rules.{rule, may_answer}
 use Rattle.vme_model.specs.Offers.{turned, considered, cycles_of, going_on}
-use Rattle.vme_wiring.specs.Offered.{is_open, offered_on, master_wires, interrupter_wires}
-use Rattle.vme_wiring.specs.Waits.{is_access_to}
-use Rattle.vme_wiring.proofs.AllowedBoards.{stands}
-use Rattle.vme_wiring.proofs.NoOffers.{closed, lacking, ruled_out}
+use Rattle.vme_histories.specs.Offered.{is_open, offered_on, master_wires, interrupter_wires}
+use Rattle.vme_histories.specs.Shown.{is_access_to}
+use Rattle.vme_histories.proofs.AllowedBoards.{stands}
+use Rattle.vme_histories.proofs.NoOffers.{closed, lacking, ruled_out}
 
 none_shown : (f : Cycle → Edge) (test : Edge → Bool) (cs : List Cycle) → ((c : Cycle) → test (f c) ≡ false) → filter test (map f cs) ≡ []
 none_shown f test [] denied = refl
@@ -121,6 +121,11 @@ none_accessed false true true false there is called = absurd (cc)
 none_accessed true true true false there is called = absurd (cc)
 none_accessed reached boards accessed true there is called = absurd (cc)
 none_accessed reached false accessed dtack there is called = absurd (cc)
+
+-- of two facts that are joined by or
+pub neither : (a b : Bool) → (a || b) ≡ false → (a ≡ false) × (b ≡ false)
+neither false false e = (refl, refl)
+neither a b e = absurd (cc)
 
 pub and_is : (a b k l : Bool) → a ≡ k → b ≡ l → (k && l) ≡ (a && b)
 and_is a b k l ak bl = ap (λ x. x && l) (sym ak) ∙ ap (λ x. a && x) (sym bl)

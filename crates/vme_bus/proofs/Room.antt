@@ -10,7 +10,7 @@ use Rattle.vme_model.specs.declared.signals.Edge.{Edge}
 use Rattle.vme_model.specs.Plan.{Plan}
 use Rattle.vme_model.specs.Deliveries.{answer, delivery, with_delivery}
 use Rattle.vme_model.specs.Verdict.{State, Judgement, check, judged, verdict, verdict_but_full, made, after}
-use Rattle.vme_backplane.proofs.AcceptedOffers.{has_room}
+use Rattle.vme_histories.proofs.AcceptedOffers.{has_room}
 use Rattle.vme_bus.specs.Steps.{answer_but_full, kept_but_full}
 
 verdict_with_room : (b : State) (e : Edge) → (length b.history == b.max) ≡ false → verdict b e ≡ verdict_but_full b.version b.plan b.history e

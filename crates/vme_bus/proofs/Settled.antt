@@ -11,7 +11,7 @@ use Rattle.vme_model.specs.Rules.{rule}
 use Rattle.vme_model.specs.Settling.{settling}
 use Rattle.vme_model.specs.Verdict.{check, is_other_state, verdict_but_full}
 use Rattle.std.specs.Prelude.{Ok}
-use Rattle.vme_wiring.specs.Asked.{asked, exists}
+use Rattle.vme_histories.specs.Asked.{asked, exists}
 
 between : (there settles : Bool) (a b : Bool) (x y z : Refused) → there ≡ true → settles ≡ true → check a x (check b y (Ok tt)) ≡ check there NoSuchDriver (check a x (check b y (check settles z (Ok tt))))
 between true true a b x y z e f = refl

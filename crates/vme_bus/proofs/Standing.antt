@@ -23,7 +23,7 @@ use Rattle.vme_model.proofs.Ranges.{in_range}
 use Rattle.vme_model.proofs.Safety.{legal_is_safe}
 use Rattle.vme_model.proofs.Standing.{grant_travels, none_travels}
 use Rattle.vme_slots.proofs.Slots.{up_to_here}
-use Rattle.vme_wiring.proofs.AllowedBoards.{stands}
+use Rattle.vme_histories.proofs.AllowedBoards.{stands}
 use Rattle.vme_bus.specs.declared.states.BusState.{BusState}
 use Rattle.vme_bus.specs.Sets.{has}
 use Rattle.vme_bus.specs.States.{IsStateOf}

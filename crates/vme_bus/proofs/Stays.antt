@@ -5,12 +5,10 @@ use Rattle.vme_model.specs.declared.boards.Release.{Release}
 use Rattle.vme_model.specs.declared.signals.Cycle.{Cycle}
 use Rattle.vme_model.specs.declared.signals.Wire.{Wire}
 use Rattle.vme_model.specs.declared.signals.Wire.TheVariants.{Bg, Bclr, Iack, Berr, Br, BgOut, Bbsy, Addr, AddressStrobe, DataStrobe, Irq, IackOut, Dtack}
-use Rattle.vme_model.specs.Signals.{is_same_wire}
-use Rattle.vme_requester.specs.Local.{is_requesters}
-use Rattle.vme_master.specs.Local.{is_masters}
-use Rattle.vme_interrupter.specs.Local.{is_interrupters}
-use Rattle.vme_wiring.specs.Counts.{addressing_after}
-use Rattle.vme_wiring.proofs.Others.{same_wire}
+use Rattle.vme_model.specs.Signals.{is_same_wire, is_of}
+use Rattle.vme_histories.specs.Shown.{addressing_after}
+use Rattle.vme_histories.proofs.Others.{same_wire}
+use Rattle.vme_model.specs.declared.signals.Part.TheVariants as parts
 use Rattle.vme_bus.specs.declared.sets.SlotSet.{SlotSet}
 use Rattle.vme_bus.specs.Sets.{has}
 use Rattle.vme_bus.specs.Moves.{MovesPlace, MovesSlots, FollowsWire, turned_by, served_by, strobed_by, cycles_by, shown_by}
@@ -44,7 +42,7 @@ place_stays f same s set t = at (s == t) (has set t)
     at true low = sym (same low)
     at false low = refl
 
-served_same : (w : Wire) (fall serves b : Bool) → is_interrupters w ≡ false → served_by w fall serves b ≡ b
+served_same : (w : Wire) (fall serves b : Bool) → is_of parts.Interrupter w ≡ false → served_by w fall serves b ≡ b
 served_same (Bg n) true serves b other = refl
 served_same (Bg n) false serves b other = refl
 served_same Bclr true serves b other = refl
@@ -72,10 +70,10 @@ served_same IackOut false serves b other = absurd (cc)
 served_same Dtack true serves b other = absurd (cc)
 served_same Dtack false serves b other = absurd (cc)
 
-pub served_stays : (w : Wire) (fall serves : Bool) → is_interrupters w ≡ false → (s : ℕ) (set : SlotSet) → MovesPlace (served_by w fall serves) s set set
+pub served_stays : (w : Wire) (fall serves : Bool) → is_of parts.Interrupter w ≡ false → (s : ℕ) (set : SlotSet) → MovesPlace (served_by w fall serves) s set set
 served_stays w fall serves other = place_stays (served_by w fall serves) (λ b. served_same w fall serves b other)
 
-strobed_same : (w : Wire) (fall b : Bool) → is_masters w ≡ false → strobed_by w fall b ≡ b
+strobed_same : (w : Wire) (fall b : Bool) → is_of parts.Master w ≡ false → strobed_by w fall b ≡ b
 strobed_same (Bg n) true b other = refl
 strobed_same (Bg n) false b other = refl
 strobed_same Bclr true b other = refl
@@ -103,10 +101,10 @@ strobed_same IackOut false b other = refl
 strobed_same Dtack true b other = refl
 strobed_same Dtack false b other = refl
 
-pub strobed_stays : (w : Wire) (fall : Bool) → is_masters w ≡ false → (s : ℕ) (set : SlotSet) → MovesPlace (strobed_by w fall) s set set
+pub strobed_stays : (w : Wire) (fall : Bool) → is_of parts.Master w ≡ false → (s : ℕ) (set : SlotSet) → MovesPlace (strobed_by w fall) s set set
 strobed_stays w fall other = place_stays (strobed_by w fall) (λ b. strobed_same w fall b other)
 
-pub shown_stays : (w : Wire) (v shown : Option Cycle) → is_masters w ≡ false → shown ≡ shown_by w v shown
+pub shown_stays : (w : Wire) (v shown : Option Cycle) → is_of parts.Master w ≡ false → shown ≡ shown_by w v shown
 shown_stays (Bg n) v shown other = refl
 shown_stays Bclr v shown other = refl
 shown_stays Iack v shown other = refl
@@ -121,7 +119,7 @@ shown_stays Irq v shown other = refl
 shown_stays IackOut v shown other = refl
 shown_stays Dtack v shown other = refl
 
-pub addressing_stays : (w : Wire) (fall : Bool) (s : ℕ) (on : Option ℕ) → is_masters w ≡ false → on ≡ addressing_after on s w fall
+pub addressing_stays : (w : Wire) (fall : Bool) (s : ℕ) (on : Option ℕ) → is_of parts.Master w ≡ false → on ≡ addressing_after on s w fall
 addressing_stays (Bg n) fall s on other = refl
 addressing_stays Bclr fall s on other = refl
 addressing_stays Iack fall s on other = refl
@@ -137,7 +135,7 @@ addressing_stays IackOut fall s on other = refl
 addressing_stays Dtack fall s on other = refl
 
 -- a requester's edge counts alike under every release
-pub cycles_alike : (w : Wire) (fall : Bool) (r q : Release) (n : ℕ) → is_requesters w ≡ true → cycles_by w fall r n ≡ cycles_by w fall q n
+pub cycles_alike : (w : Wire) (fall : Bool) (r q : Release) (n : ℕ) → is_of parts.Requester w ≡ true → cycles_by w fall r n ≡ cycles_by w fall q n
 cycles_alike (Bg m) true r q n known = absurd (cc)
 cycles_alike (Bg m) false r q n known = absurd (cc)
 cycles_alike Bclr true r q n known = absurd (cc)
@@ -166,7 +164,7 @@ cycles_alike Dtack true r q n known = absurd (cc)
 cycles_alike Dtack false r q n known = absurd (cc)
 
 -- an interrupter's counts nothing
-pub cycles_stay : (w : Wire) (fall : Bool) (r : Release) (n : ℕ) → is_interrupters w ≡ true → n ≡ cycles_by w fall r n
+pub cycles_stay : (w : Wire) (fall : Bool) (r : Release) (n : ℕ) → is_of parts.Interrupter w ≡ true → n ≡ cycles_by w fall r n
 cycles_stay (Bg m) true r n known = absurd (cc)
 cycles_stay (Bg m) false r n known = absurd (cc)
 cycles_stay Bclr true r n known = absurd (cc)

@@ -18,12 +18,12 @@ use Rattle.vme_model.specs.Rules.{rule}
 use Rattle.vme_model.specs.Settling.{settling}
 use Rattle.vme_model.specs.Verdict.{check, is_other_state}
 use Rattle.vme_model.specs.Offers.{turned}
-use Rattle.vme_requester.specs.Local.{is_requesters}
-use Rattle.vme_interrupter.specs.Local.{is_interrupters}
-use Rattle.vme_wiring.specs.Asked.{exists}
-use Rattle.vme_wiring.specs.Offered.{is_open}
-use Rattle.vme_wiring.proofs.AllowedBoards.{stands}
-use Rattle.vme_wiring.proofs.NoOffers.{lacking}
+use Rattle.vme_histories.specs.Asked.{exists}
+use Rattle.vme_histories.specs.Offered.{is_open}
+use Rattle.vme_histories.proofs.AllowedBoards.{stands}
+use Rattle.vme_histories.proofs.NoOffers.{lacking}
+use Rattle.vme_model.specs.declared.signals.Part.TheVariants as parts
+use Rattle.vme_model.specs.Signals.{is_of}
 
 opens : (there low a b : Bool) (n m : ℕ) → there ≡ true → (a && b) ≡ is_ok (check there NoSuchDriver (check (is_other_state low (not low)) AlreadyThere (check a (Rule n) (check b (NotSettled m) (Ok tt)))))
 opens true true true true n m e = refl
@@ -71,7 +71,7 @@ beyond_shut version p h s w ok far = sym (lacking version p h (turned h (Slot s)
     by_board (Some r) found = let near = (stands p s r ok found).near in absurd (omega arith)
 
 -- no settling rule names a requester's edge
-pub requesters_settle : (version : Version) (p : Plan) (h : List Edge) (w : Wire) (fall : Bool) → is_requesters w ≡ true → (settling version p h w fall).1 ≡ true
+pub requesters_settle : (version : Version) (p : Plan) (h : List Edge) (w : Wire) (fall : Bool) → is_of parts.Requester w ≡ true → (settling version p h w fall).1 ≡ true
 requesters_settle version p h Br fall e = refl
 requesters_settle version p h BgOut fall e = refl
 requesters_settle version p h Bbsy fall e = refl
@@ -87,7 +87,7 @@ requesters_settle version p h IackOut fall e = absurd (cc)
 requesters_settle version p h Dtack fall e = absurd (cc)
 
 -- nor an interrupter's, nor an answer
-pub interrupters_settle : (version : Version) (p : Plan) (h : List Edge) (w : Wire) (fall : Bool) → is_interrupters w ≡ true → (settling version p h w fall).1 ≡ true
+pub interrupters_settle : (version : Version) (p : Plan) (h : List Edge) (w : Wire) (fall : Bool) → is_of parts.Interrupter w ≡ true → (settling version p h w fall).1 ≡ true
 interrupters_settle version p h Irq fall e = refl
 interrupters_settle version p h IackOut fall e = refl
 interrupters_settle version p h Dtack fall e = refl

@@ -1,7 +1,5 @@
--- The number of a wire, by which an edge finds its arm; and the slot and the level that the arm takes.
+-- The number of a wire, by which an edge finds its arm.
 use Rattle.std.specs.Prelude.{ℕ}
-use Rattle.vme_model.specs.declared.signals.Driver.{Driver}
-use Rattle.vme_model.specs.declared.signals.Driver.TheVariants.{Controller, Slot}
 use Rattle.vme_model.specs.declared.signals.Wire.{Wire}
 use Rattle.vme_model.specs.declared.signals.Wire.TheVariants.{Bg, Bclr, Iack, Berr, Br, BgOut, Bbsy, Addr, AddressStrobe, DataStrobe, Irq, IackOut, Dtack}
 
@@ -19,11 +17,3 @@ wire_number DataStrobe = 9
 wire_number Irq = 10
 wire_number IackOut = 11
 wire_number Dtack = 12
-
-abbrev pub level_of : Wire → ℕ
-level_of (Bg level) = level
-level_of w = 0
-
-abbrev pub slot_of : Driver → ℕ
-slot_of Controller = 0
-slot_of (Slot s) = s

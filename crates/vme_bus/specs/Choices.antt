@@ -5,7 +5,7 @@ use Rattle.vme_model.specs.declared.signals.Driver.TheVariants.{Slot}
 use Rattle.vme_model.specs.declared.signals.Wire.{Wire}
 use Rattle.vme_model.specs.declared.signals.Edge.{Edge}
 use Rattle.vme_model.specs.Plan.{Plan}
-use Rattle.vme_wiring.specs.Offered.{offered_on, requester_wires, master_wires, interrupter_wires}
+use Rattle.vme_histories.specs.Offered.{offered_on, requester_wires, master_wires, interrupter_wires}
 use Rattle.vme_bus.specs.declared.sets.SlotSet.{SlotSet}
 use Rattle.vme_bus.specs.declared.choices.Ready.{Ready}
 use Rattle.vme_bus.specs.Sets.{has}

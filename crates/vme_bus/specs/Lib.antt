@@ -10,8 +10,6 @@ pub mod States
 pub mod Asks
 -- words: what an edge makes of the numbers of a state
 pub mod Moves
--- words: whether a board's interrupter has nothing to do
-pub mod AtWork
 -- believe, for who keeps a `BusState`: what a step answers and leaves, and where a grant stops
 pub mod Steps
 -- words: the arm of an edge

@@ -1,5 +1,5 @@
 //! A bus, which takes edges one by one and stores none of them.
-ghost use Rattle.std.specs.Prelude.{◌≡◌, ◌==◌, ◌&&◌, ◌+◌, ◌%◌, ◌≤◌, ◌↔◌, [], IsTrue, Ok, false, true, is_ok, length, map, slice_get, take};
+ghost use Rattle.std.specs.Prelude.{◌≡◌, ◌==◌, ◌&&◌, ◌+◌, ◌%◌, ◌≤◌, ◌↔◌, IsTrue, Ok, false, true, is_ok, length, map, take};
 ghost use Rattle.vme_model.specs.Verdict.{verdict, verdict_but_full, made, after, kept, IsLegal};
 ghost use Rattle.vme_model.specs.Failing.{tested, tested_but_full, unmet, unmet_but_full};
 ghost use Rattle.vme_model.specs.Safe.{IsSafe, IsOrderly};
@@ -9,12 +9,10 @@ ghost use Rattle.vme_model.specs.Signals.{is_well_formed};
 ghost use Rattle.vme_model.specs.Locality.{AreWellFormed};
 ghost use Rattle.vme_model.specs.declared.deliveries.Delivery.{Delivery as DeliveryValue};
 ghost use Rattle.vme_bus.specs.Answers.{answer_in, answer_of, answers};
-ghost use Rattle.vme_model.specs.Offers.{offered};
 ghost use Rattle.vme_model.specs.Open.{open_edges, IsAllThatIsAllowed};
-ghost use Rattle.vme_wiring.specs.Offered.{offered_but_full};
 ghost use Rattle.vme_model.specs.Accepted.{IsAccepted};
 ghost use Rattle.vme_model.specs.Report.{at_power_up, trace_limit};
-ghost use Rattle.vme_backplane.specs.Sound.{IsSound};
+ghost use Rattle.vme_histories.specs.Sound.{IsSound};
 ghost use Rattle.vme_bus.specs.States.{IsStateOf};
 
 use crate::answers::{ACCEPTED, AnswerRecord, is_accepted, refusal_number};
@@ -22,7 +20,7 @@ use crate::past::Past;
 use crate::states::BusState;
 use arrayvec::ArrayVec;
 use std::marker::Model;
-use vme_backplane::{Counts, by_wire, choice};
+use vme_histories::{Counts, by_wire, open_edges_of};
 use vme_model::{Condition, Delivery, Driver, Edge, Pins, Refused, TRACE_LIMIT, Version, Wire};
 use vme_rules::Outcome;
 use vme_slots::Plan;
@@ -123,7 +121,7 @@ impl Bus {
 
     /// The answer to an edge, but for what it delivers: the first that applies of E1 to E5, or
     /// none.
-    #[tactic(auto, using(vme_backplane::proofs::Judged::refused, vme_backplane::proofs::Judged::passed))]
+    #[tactic(auto, using(vme_histories::proofs::Judged::refused, vme_histories::proofs::Judged::passed))]
     #[inline(always)]
     pub fn verdict(&self, edge: Edge) -> Result<(), Refused>
         ensures { result ≡ verdict self.now edge }
@@ -393,31 +391,11 @@ impl Bus {
         self.state.pins(driver)
     }
 
-    /// The driver's edges that would be accepted, in the order of its wires, with one acknowledge
-    /// and one access at most to show.
-    pub fn offers(&self, driver: Driver) -> ArrayVec<Edge, 16>
-        ensures { result.items ≡ offered self.now driver }
-    {
-        if self.is_full() {
-            return ArrayVec::new();
-        }
-        self.offers_but_full(driver)
-    }
-
-    /// The same, but for the end of the trace.
-    fn offers_but_full(&self, driver: Driver) -> ArrayVec<Edge, 16>
-        ensures { result.items
-            ≡ offered_but_full self.now.version self.now.plan self.now.history driver }
-    {
-        self.state.offers(driver)
-    }
-
     /// All edges that the driver can make: of those that move one of its wires, those that would be
     /// accepted, in the order of its wires. An address group goes on with each acknowledge, by
     /// level, and then with each access, by slot.
     ///
-    /// Each is tried, whether or not a board would consider it, so that it takes longer than
-    /// `offers`.
+    /// Each is tried, whether or not a board would consider it.
     pub fn open_edges(&self, driver: Driver) -> ArrayVec<Edge, 36>
         ensures edges { result.items ≡ open_edges self.now driver }
         ensures all { IsAllThatIsAllowed self.now driver result.items }
@@ -425,36 +403,8 @@ impl Bus {
         if self.is_full() {
             ArrayVec::new()
         } else {
-            self.state.open_edges(driver)
+            open_edges_of(&self.state, driver)
         }
-    }
-
-    /// The offer that the driver makes in a round, if it has any: of k offers the one at place
-    /// `round mod k`.
-    ///
-    /// It tries the edges of a driver that waits for another's too: `Turns` asks only the slots that
-    /// may have an offer.
-    #[inline(always)]
-    pub fn offer(&self, driver: Driver, round: u32) -> Option<Edge>
-        ensures { result
-            ≡ slice_get (offered self.now driver) (round % length (offered self.now driver)) }
-    {
-        if self.is_full() {
-            return None;
-        }
-        self.offer_but_full(driver, round)
-    }
-
-    /// The same, but for the end of the trace. The list has room for any driver's offers.
-    #[inline(always)]
-    fn offer_but_full(&self, driver: Driver, round: u32) -> Option<Edge>
-        ensures { let offers = offered_but_full
-            self.now.version self.now.plan self.now.history driver in
-            result ≡ slice_get offers (round % length offers) }
-    {
-        let mut offers: ArrayVec<Edge, 12> = ArrayVec::new();
-        self.state.put_offers(driver, &mut offers);
-        choice(offers.as_slice(), round)
     }
 
     /// The version of its rules.
@@ -478,24 +428,10 @@ impl Bus {
         self.made
     }
 
-    /// Whether no edge was made.
-    pub fn is_empty(&self) -> bool
-        ensures { IsTrue result ↔ (self.now.history ≡ []) }
-    {
-        self.len() == 0
-    }
-
     /// Whether it takes no further edge.
     pub(crate) fn is_full(&self) -> bool
         ensures { result ≡ (length self.now.history == self.now.max) }
     {
-        self.len() == self.max()
-    }
-
-    /// How many edges can be made.
-    pub fn max(&self) -> u32
-        ensures { result ≡ self.now.max }
-    {
-        self.max
+        self.len() == self.max
     }
 }

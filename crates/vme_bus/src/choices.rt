@@ -9,9 +9,9 @@ ghost use Rattle.vme_model.specs.Accepted.{IsAccepted};
 ghost use Rattle.vme_model.specs.Report.{trace_limit};
 ghost use Rattle.vme_model.specs.Safe.{IsSafe, IsOrderly};
 ghost use Rattle.vme_model.specs.Verdict.{made, verdict, IsLegal};
-ghost use Rattle.vme_wiring.specs.Offered.{offered_but_full, requester_wires, master_wires, interrupter_wires};
-ghost use Rattle.vme_wiring.specs.Waits.{is_access_to};
-ghost use Rattle.vme_backplane.specs.Sound.{IsSound};
+ghost use Rattle.vme_histories.specs.Offered.{offered_but_full, requester_wires, master_wires, interrupter_wires};
+ghost use Rattle.vme_histories.specs.Shown.{is_access_to};
+ghost use Rattle.vme_histories.specs.Sound.{IsSound};
 ghost use Rattle.vme_bus.specs.Records.{cycle_in};
 ghost use Rattle.vme_bus.specs.Sets.{has};
 ghost use Rattle.vme_bus.specs.Choices.{NoneBeside, IsReady};
@@ -21,9 +21,8 @@ use crate::sets::SlotSet;
 use crate::states::BusState;
 use arrayvec::ArrayVec;
 use std::marker::Model;
-use vme_backplane::choice;
-use vme_model::{Driver, Edge, Version};
-use vme_wiring::{Waiting, put_parts};
+use vme_histories::{Waiting, choice, put_controller, put_parts};
+use vme_model::{Cycle, Driver, Edge, Version};
 
 /// Of each part of the boards, the slots where it may have an edge to make: where it is in none of them, it has none.
 #[derive(Clone, Copy)]
@@ -101,13 +100,24 @@ impl BusState {
         }
     }
 
+    /// The slots that hold the bus, or whose address group or strobes are on.
+    #[inline(always)]
+    fn holding(&self) -> SlotSet
+        ensures { (s : ℕ) → has result s ≡ (has self.now.bbsy s
+            || ((has self.now.addr s || has self.now.address_strobe s)
+            || has self.now.data_strobe s)) }
+    {
+        let showing = self.addr.or(self.address_strobe).or(self.data_strobe);
+        self.bbsy.or(showing)
+    }
+
     /// The slots whose masters may have an edge to make.
     #[inline(always)]
     fn ready_masters(&self) -> SlotSet
         ensures { OfHistory self.now (λ version p h. NoneBeside version p h master_wires result) }
     {
         if !self.address_strobe() {
-            return self.masters_at_work();
+            return self.holding();
         }
         let ending = self.address_strobe.except(self.addr);
         if self.dtack() | self.berr() {
@@ -129,6 +139,17 @@ impl BusState {
             SlotSet::NONE
         } else {
             self.layout.interrupters.and(self.acknowledges)
+        }
+    }
+
+    /// The slot that an access is shown to.
+    #[inline(always)]
+    fn accessed(&self) -> SlotSet
+        ensures { (s : ℕ) → s < 22 → has result s ≡ is_access_to s (cycle_in self.now.shown) }
+    {
+        match self.shown() {
+            Some(Cycle::Access(slot)) if slot < 22 => SlotSet::NONE.with(slot),
+            _ => SlotSet::NONE,
         }
     }
 
@@ -199,31 +220,51 @@ impl Bus {
         self.state().ready()
     }
 
-    /// What a slot's board is offered in a round, but for the end of the trace: only the parts that are ready are asked.
+    /// Puts what a driver is offered, without the end of the trace, into an empty list. Of a board
+    /// only the parts that are ready are asked.
     #[inline(always)]
-    fn ready_offer_but_full(&self, ready: Ready, slot: u8, round: u32) -> Option<Edge>
+    fn put_ready<const N: usize>(
+        &self,
+        ready: Ready,
+        driver: Driver,
+        offers: &mut ArrayVec<Edge, N>,
+    )
+        requires ready { IsReady self.now.version self.now.plan self.now.history ready }
+        requires room { 11 ≤ N }
+        requires empty { offers.old.items ≡ [] }
+        ensures { offers.new.items
+            ≡ offered_but_full self.now.version self.now.plan self.now.history driver }
+    {
+        match driver {
+            Driver::Controller => put_controller(self.state(), offers),
+            Driver::Slot(slot) => put_parts(self.state(), slot, ready.waiting(slot), offers),
+        }
+    }
+
+    /// What a driver is offered in a round, without the end of the trace.
+    #[inline(always)]
+    fn ready_offer_but_full(&self, ready: Ready, driver: Driver, round: u32) -> Option<Edge>
         requires { IsReady self.now.version self.now.plan self.now.history ready }
         ensures { let offers = offered_but_full
-            self.now.version self.now.plan self.now.history (Slot slot) in
+            self.now.version self.now.plan self.now.history driver in
             result ≡ slice_get offers (round % length offers) }
     {
         let mut offers: ArrayVec<Edge, 12> = ArrayVec::new();
-        put_parts(self.state(), slot, ready.waiting(slot), &mut offers);
+        self.put_ready(ready, driver, &mut offers);
         chosen(offers.as_slice(), round)
     }
 
-    /// What a slot's board is offered in a round, if it is offered anything.
+    /// What a driver is offered in a round, if it is offered anything.
     #[inline(always)]
-    fn ready_offer(&self, ready: Ready, slot: u8, round: u32) -> Option<Edge>
+    fn ready_offer(&self, ready: Ready, driver: Driver, round: u32) -> Option<Edge>
         requires { IsReady self.now.version self.now.plan self.now.history ready }
         ensures { result
-            ≡ slice_get (offered self.now (Slot slot))
-            (round % length (offered self.now (Slot slot))) }
+            ≡ slice_get (offered self.now driver) (round % length (offered self.now driver)) }
     {
         if self.is_full() {
             return None;
         }
-        self.ready_offer_but_full(ready, slot, round)
+        self.ready_offer_but_full(ready, driver, round)
     }
 }
 
@@ -303,10 +344,7 @@ impl Turns {
         ensures { result
             ≡ slice_get (offered self.now driver) (round % length (offered self.now driver)) }
     {
-        match driver {
-            Driver::Controller => self.bus.offer(driver, round),
-            Driver::Slot(slot) => self.bus.ready_offer(self.ready, slot, round),
-        }
+        self.bus.ready_offer(self.ready, driver, round)
     }
 
     /// Makes the offer that the driver makes in a round, if it has any, and answers it: of k offers the one at place

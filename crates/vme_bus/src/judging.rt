@@ -1,45 +1,14 @@
-//! What a bus answers as a state that its edges lead to, and what is made of the answers.
-ghost use Rattle.std.specs.Prelude.{◌≡◌, ◌≤◌, []};
-ghost use Rattle.vme_model.specs.Failing.{tested_but_full, unmet_but_full};
-ghost use Rattle.vme_wiring.specs.Offered.{offered_but_full};
-ghost use Rattle.vme_wiring.specs.Opens.{open_but_full};
+//! What a bus answers as a state that its edges lead to.
 
 use crate::states::BusState;
-use arrayvec::ArrayVec;
-use vme_model::{Condition, Cycle, Driver, Edge, Levels, Refused, Wire};
-use vme_rules::Outcome;
+use vme_histories::Judges;
+use vme_model::{Cycle, Driver, Levels, Wire};
 use vme_rules::controllers::bg_falls;
-use vme_wiring::{Judges, Waiting, failing_by, offers_of, open_edges_of, put_offers, told_by};
 
 impl Judges for BusState {
     ghost use Rattle.vme_bus.specs.States.{IsStateOf};
 
     ghost is_of = { IsStateOf };
-
-    ghost is_legal = { λ version p h state is. is.legal };
-
-    #[inline(always)]
-    fn judge(&self, edge: Edge) -> Result<(), Refused> {
-        BusState::judge(self, edge)
-    }
-
-    fn told_by_rule<A: Outcome>(&self, edge: Edge) -> A {
-        match edge.driver {
-            Driver::Controller => self.controller_rule(edge.wire, edge.fall).1,
-            Driver::Slot(slot) => {
-                if slot < 22 {
-                    self.board_rule(slot, edge.wire, edge.fall, edge.value).1
-                } else {
-                    A::free()
-                }
-            }
-        }
-    }
-
-    fn told_by_settling<A: Outcome>(&self, edge: Edge) -> A {
-        let (_number, settles) = self.settling(edge.wire, edge.fall);
-        settles
-    }
 
     #[inline(always)]
     fn is_low(&self, driver: Driver, wire: Wire) -> bool {
@@ -92,64 +61,5 @@ impl Judges for BusState {
             Some(seat) => Some(seat.handler()),
             None => None,
         }
-    }
-
-    #[inline(always)]
-    fn waiting(&self, slot: u8) -> Waiting {
-        self.waiting_parts(slot)
-    }
-}
-
-impl BusState {
-    ghost use Rattle.vme_bus.specs.States.{OfHistory};
-
-    /// What is tested of an edge, but for the end of the trace: the one condition that fails at E1
-    /// and E2, else those of its rule, and where they hold, that of its settling rule.
-    pub fn told<A: Outcome>(&self, edge: Edge) -> A
-        ensures { OfHistory self.now (λ version p h.
-            A.tells result (tested_but_full version p h edge)) }
-    {
-        told_by(self, edge)
-    }
-
-    /// The conditions that an edge fails, of the first of E1 to E4 that applies: none where `judge`
-    /// answers `Ok`.
-    pub fn failing(&self, edge: Edge) -> ArrayVec<Condition, 5>
-        ensures { OfHistory self.now (λ version p h.
-            result.items ≡ unmet_but_full version p h edge) }
-    {
-        failing_by(self, edge)
-    }
-
-    /// What a driver is offered, but for the end of the trace: of the edges that are considered for
-    /// it those that the rules allow, in the order of its wires.
-    pub fn offers(&self, driver: Driver) -> ArrayVec<Edge, 16>
-        ensures { OfHistory self.now (λ version p h. result.items
-            ≡ offered_but_full version p h driver) }
-    {
-        offers_of(self, driver)
-    }
-
-    /// Puts the same into an empty list that has room for it.
-    #[inline(always)]
-    pub(crate) fn put_offers<const N: usize>(&self, driver: Driver, offers: &mut ArrayVec<Edge, N>)
-        requires room { 11 ≤ N }
-        requires empty { offers.old.items ≡ [] }
-        ensures { OfHistory self.now (λ version p h. offers.new.items
-            ≡ offered_but_full version p h driver) }
-    {
-        put_offers(self, driver, offers);
-    }
-
-    /// All edges that a driver can make, but for the end of the trace: of those that move one of
-    /// its wires those that the rules allow, in the order of its wires. An address group goes on
-    /// with each acknowledge, by level, and then with each access, by slot.
-    ///
-    /// `offers` has one acknowledge and one access of them at most.
-    pub fn open_edges(&self, driver: Driver) -> ArrayVec<Edge, 36>
-        ensures { OfHistory self.now (λ version p h. result.items
-            ≡ open_but_full version p h driver) }
-    {
-        open_edges_of(self, driver)
     }
 }

@@ -1,10 +1,8 @@
 //! What a plan says of each slot and line, as sets and small numbers.
 ghost use Rattle.std.specs.Prelude.{◌≡◌, ◌<◌, ℕ, false, Some, option_map, length, get_or};
-ghost use Rattle.std.specs.List.{slice_get};
-ghost use Rattle.std.specs.Option.{option_copied, option_map_or};
-ghost use Rattle.vme_model.specs.declared.sets.ChainId.TheVariants as chain;
+ghost use Rattle.std.specs.Option.{option_map_or};
 ghost use Rattle.vme_model.specs.Plan.{board, upstream, last_active, grant_chain};
-ghost use Rattle.vme_wiring.specs.Counts.{request_level};
+ghost use Rattle.vme_histories.specs.Levels.{request_level};
 
 use crate::records::{Seat, SeatRecord};
 use crate::sets::SlotSet;
@@ -91,7 +89,7 @@ impl Line {
 }
 
 ghost use Rattle.vme_bus.specs.Records.{seat_in, no_seat};
-ghost use Rattle.vme_bus.specs.Layouts.{seat_of, slot_is_on, grant_source, grant_head, acknowledge_head, place_of, seat, is_input_at, HoldsLine, HoldsInputs, HoldInputs};
+ghost use Rattle.vme_bus.specs.Layouts.{seat_of, slot_is_on, grant_source, grant_head, place_of, seat, is_input_at, HoldsLine, HoldsInputs, HoldInputs};
 
 impl Input {
     /// Whether the slot's board has it, at the place.
@@ -141,7 +139,7 @@ fn grant_source(plan: &Plan, row: &Row) -> u8
 }
 
 /// The board of a slot, with its inputs.
-#[tactic(auto, using(vme_wiring::proofs::AllowedBoards::stands))]
+#[tactic(auto, using(vme_histories::proofs::AllowedBoards::stands))]
 fn seat_of(plan: &Plan, slot: u8) -> Option<Seat>
     ensures { result ≡ option_map (seat_of plan.now) (board plan.now slot) }
 {

@@ -3,9 +3,9 @@
 
 mod answers;
 mod arms;
-mod at_work;
 mod buses;
 mod choices;
+mod conditions;
 mod judging;
 mod kinds;
 mod layouts;
@@ -20,7 +20,6 @@ mod states;
 mod steps;
 mod turns;
 mod verdicts;
-mod waits;
 
 pub use answers::AnswerRecord;
 pub use buses::Bus;

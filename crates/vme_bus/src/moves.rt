@@ -1,15 +1,12 @@
 //! What an edge makes of a state.
 ghost use Rattle.std.specs.Prelude.{◌≡◌, ◌==◌, ◌&&◌, ◌∷◌, ◌<◌, ℕ, Ok, true, false};
 ghost use Rattle.vme_model.specs.declared.signals.Driver.TheVariants as driver;
-ghost use Rattle.vme_model.specs.Signals.{grant_level};
+ghost use Rattle.vme_model.specs.declared.signals.Part.TheVariants as parts;
+ghost use Rattle.vme_model.specs.Signals.{grant_level, is_of};
 ghost use Rattle.vme_model.specs.Plan.{board};
 ghost use Rattle.vme_model.specs.History.{shown};
 ghost use Rattle.vme_model.specs.Verdict.{verdict_but_full};
-ghost use Rattle.vme_wiring.specs.Counts.{addressing_after};
-ghost use Rattle.vme_requester.specs.Local.{is_requesters};
-ghost use Rattle.vme_master.specs.Local.{is_masters};
-ghost use Rattle.vme_interrupter.specs.Local.{is_interrupters};
-ghost use Rattle.vme_bus.specs.Asks.{is_boards};
+ghost use Rattle.vme_histories.specs.Shown.{addressing_after};
 ghost use Rattle.vme_bus.specs.Sets.{has};
 ghost use Rattle.vme_bus.specs.Records.{cycle_in, slot_in};
 ghost use Rattle.vme_bus.specs.Layouts.{grant_head, set_at};
@@ -21,7 +18,7 @@ use crate::sets::SlotSet;
 use crate::states::{BUS_CLEAR, BUS_ERROR, BusState};
 use vme_interrupter::serves;
 use vme_master::one_more;
-use vme_model::{Driver, Edge, Release, Wire};
+use vme_model::{Driver, Edge, Part, Release, Wire};
 
 /// The set of the places whose own wire is low, after an edge of a wire of the place.
 #[inline(always)]
@@ -212,7 +209,7 @@ impl BusState {
     #[inline(always)]
     fn move_requester(&mut self, slot: u8, edge: Edge)
         requires slot { slot < 22 }
-        requires part { is_requesters edge.wire ≡ true }
+        requires part { is_of parts.Requester edge.wire ≡ true }
         ensures { OfHistory self.old (λ version p h. edge.driver ≡ driver.Slot slot
             → verdict_but_full version p h edge ≡ Ok tt
             → IsStateOf version p (edge ∷ h) self.new) }
@@ -231,7 +228,7 @@ impl BusState {
     #[inline(always)]
     fn move_master(&mut self, slot: u8, edge: Edge)
         requires slot { slot < 22 }
-        requires part { is_masters edge.wire ≡ true }
+        requires part { is_of parts.Master edge.wire ≡ true }
         ensures { OfHistory self.old (λ version p h. edge.driver ≡ driver.Slot slot
             → verdict_but_full version p h edge ≡ Ok tt
             → IsStateOf version p (edge ∷ h) self.new) }
@@ -252,7 +249,7 @@ impl BusState {
     #[inline(always)]
     fn move_interrupter(&mut self, slot: u8, edge: Edge)
         requires slot { slot < 22 }
-        requires part { is_interrupters edge.wire ≡ true }
+        requires part { is_of parts.Interrupter edge.wire ≡ true }
         ensures { OfHistory self.old (λ version p h. edge.driver ≡ driver.Slot slot
             → verdict_but_full version p h edge ≡ Ok tt
             → IsStateOf version p (edge ∷ h) self.new) }
@@ -271,7 +268,7 @@ impl BusState {
     /// Takes in an edge of the controller that the rules allow after a history that the state is of.
     #[inline(always)]
     pub(crate) fn note_controller(&mut self, edge: Edge)
-        requires { is_boards edge.wire ≡ false }
+        requires { is_of parts.Controller edge.wire ≡ true }
         ensures { OfHistory self.old (λ version p h. verdict_but_full version p h edge ≡ Ok tt
             → IsStateOf version p (edge ∷ h) self.new) }
     {
@@ -284,7 +281,7 @@ impl BusState {
     /// Takes in an edge of a board's requester that the rules allow after a history that the state is of.
     #[inline(always)]
     pub(crate) fn note_requester(&mut self, edge: Edge)
-        requires { is_requesters edge.wire ≡ true }
+        requires { is_of parts.Requester edge.wire ≡ true }
         ensures { OfHistory self.old (λ version p h. verdict_but_full version p h edge ≡ Ok tt
             → IsStateOf version p (edge ∷ h) self.new) }
     {
@@ -302,7 +299,7 @@ impl BusState {
     /// Takes in an edge of a board's master that the rules allow after a history that the state is of.
     #[inline(always)]
     pub(crate) fn note_master(&mut self, edge: Edge)
-        requires { is_masters edge.wire ≡ true }
+        requires { is_of parts.Master edge.wire ≡ true }
         ensures { OfHistory self.old (λ version p h. verdict_but_full version p h edge ≡ Ok tt
             → IsStateOf version p (edge ∷ h) self.new) }
     {
@@ -320,7 +317,7 @@ impl BusState {
     /// Takes in an edge of a board's interrupter, or an answer, that the rules allow after a history that the state is of.
     #[inline(always)]
     pub(crate) fn note_interrupter(&mut self, edge: Edge)
-        requires { is_interrupters edge.wire ≡ true }
+        requires { is_of parts.Interrupter edge.wire ≡ true }
         ensures { OfHistory self.old (λ version p h. verdict_but_full version p h edge ≡ Ok tt
             → IsStateOf version p (edge ∷ h) self.new) }
     {
@@ -341,11 +338,11 @@ impl BusState {
         ensures { OfHistory self.old (λ version p h. verdict_but_full version p h edge ≡ Ok tt
             → IsStateOf version p (edge ∷ h) self.new) }
     {
-        match edge.wire {
-            Wire::Br | Wire::BgOut | Wire::Bbsy => self.note_requester(edge),
-            Wire::Addr | Wire::AddressStrobe | Wire::DataStrobe => self.note_master(edge),
-            Wire::Irq | Wire::IackOut | Wire::Dtack => self.note_interrupter(edge),
-            Wire::Bg(_) | Wire::Bclr | Wire::Iack | Wire::Berr => self.note_controller(edge),
+        match edge.wire.part() {
+            Part::Controller => self.note_controller(edge),
+            Part::Requester => self.note_requester(edge),
+            Part::Master => self.note_master(edge),
+            Part::Interrupter => self.note_interrupter(edge),
         }
     }
 }

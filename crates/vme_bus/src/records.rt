@@ -1,7 +1,7 @@
 //! What enums and options say, as numbers alone, so that a record of them may lie in the memory of a program in C.
 //!
 //! Each number has a meaning, also one that no code here writes.
-ghost use Rattle.std.specs.Prelude.{◌≡◌, false, is_some};
+ghost use Rattle.std.specs.Prelude.{◌≡◌, is_some};
 ghost use Rattle.vme_bus.specs.Records.{version_in, kind_in, cycle_in, slot_in, requester_in, interrupter_in, seat_in};
 
 use bitflags::Flags;

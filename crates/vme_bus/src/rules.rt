@@ -9,20 +9,18 @@ ghost use Rattle.vme_model.specs.History.{drive, request_line, last_level, shown
 ghost use Rattle.vme_model.specs.Readings.{readings, grant_in, iack_in, is_pending};
 ghost use Rattle.vme_model.specs.declared.boards.Row.{Row as RowValue};
 ghost use Rattle.vme_model.specs.Plan.{board, drives};
-ghost use Rattle.vme_model.specs.Signals.{has_wire, has_value, is_acknowledge};
+ghost use Rattle.vme_model.specs.declared.signals.Part.TheVariants as parts;
+ghost use Rattle.vme_model.specs.Signals.{has_wire, has_value, is_acknowledge, is_of};
 ghost use Rattle.vme_model.specs.Rules.{guard, bus_numbers, pick, is_pick, are_grants_high, clear_guard, burst_guard, release_guard, show_guard, pass_guard, answer_guard};
-ghost use Rattle.vme_wiring.specs.Waits.{is_access_to};
+ghost use Rattle.vme_histories.specs.Shown.{is_access_to};
 ghost use Rattle.vme_bus.specs.Asks.{asks_at, IsNumbered};
 ghost use Rattle.vme_bus.specs.Records.{cycle_in};
-ghost use Rattle.vme_requester.specs.Local.{is_requesters};
-ghost use Rattle.vme_master.specs.Local.{is_masters};
-ghost use Rattle.vme_interrupter.specs.Local.{is_interrupters};
 
 use crate::layouts::grant_head;
 use crate::records::kind_in;
 use crate::states::BusState;
 use vme_arbiter::{AnyPolicy, Policy};
-use vme_model::{ArbiterKind, Cycle, Wire};
+use vme_model::{ArbiterKind, Cycle, Part, Wire};
 use vme_rules::Outcome;
 use vme_rules::controllers::{
     bclr_falls, bclr_rises, berr_falls, berr_rises, bg_falls, bg_rises, iack_falls, iack_rises,
@@ -195,9 +193,9 @@ impl BusState {
     #[inline(always)]
     pub(crate) fn requester_rule<A: Outcome>(&self, slot: u8, wire: Wire, fall: bool) -> (u8, A)
         requires { slot < 22 }
-        ensures number { IsNumbered result.0 wire fall (is_requesters wire) }
+        ensures number { IsNumbered result.0 wire fall (is_of parts.Requester wire) }
         ensures answer { OfBoard self.now slot (λ version p h r. (v : OptionValue CycleValue)
-            → is_requesters wire ≡ true → is_some r.requester ≡ true
+            → is_of parts.Requester wire ≡ true → is_some r.requester ≡ true
             → A.tells result.1 (guard version (readings p h (Slot slot)) wire fall v).1) }
     {
         match (wire, fall) {
@@ -264,9 +262,9 @@ impl BusState {
         value: Option<Cycle>,
     ) -> (u8, A)
         requires { slot < 22 }
-        ensures number { IsNumbered result.0 wire fall (is_masters wire) }
+        ensures number { IsNumbered result.0 wire fall (is_of parts.Master wire) }
         ensures answer { OfBoard self.now slot (λ version p h r.
-            is_masters wire ≡ true → is_some r.requester ≡ true
+            is_of parts.Master wire ≡ true → is_some r.requester ≡ true
             → has_value wire fall value ≡ true
             → A.tells result.1 (guard version (readings p h (Slot slot)) wire fall value).1) }
     {
@@ -363,9 +361,9 @@ impl BusState {
     #[inline(always)]
     pub(crate) fn interrupter_rule<A: Outcome>(&self, slot: u8, wire: Wire, fall: bool) -> (u8, A)
         requires { slot < 22 }
-        ensures number { IsNumbered result.0 wire fall (is_interrupters wire) }
+        ensures number { IsNumbered result.0 wire fall (is_of parts.Interrupter wire) }
         ensures answer { OfBoard self.now slot (λ version p h _. (v : OptionValue CycleValue)
-            → is_interrupters wire ≡ true
+            → is_of parts.Interrupter wire ≡ true
             → A.tells result.1 (guard version (readings p h (Slot slot)) wire fall v).1) }
     {
         match (wire, fall) {
@@ -407,13 +405,11 @@ impl BusState {
             → has_value wire fall value ≡ true
             → A.tells result.1 (guard version (readings p h (Slot slot)) wire fall value).1) }
     {
-        match wire {
-            Wire::Br | Wire::BgOut | Wire::Bbsy => self.requester_rule(slot, wire, fall),
-            Wire::Addr | Wire::AddressStrobe | Wire::DataStrobe => {
-                self.master_rule(slot, wire, fall, value)
-            }
-            Wire::Irq | Wire::IackOut | Wire::Dtack => self.interrupter_rule(slot, wire, fall),
-            Wire::Bg(_) | Wire::Bclr | Wire::Iack | Wire::Berr => (0, A::free()),
+        match wire.part() {
+            Part::Requester => self.requester_rule(slot, wire, fall),
+            Part::Master => self.master_rule(slot, wire, fall, value),
+            Part::Interrupter => self.interrupter_rule(slot, wire, fall),
+            Part::Controller => (0, A::free()),
         }
     }
 }

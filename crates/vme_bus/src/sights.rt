@@ -12,13 +12,11 @@ ghost use Rattle.vme_model.specs.Deliveries.{delivery, delivered_by};
 ghost use Rattle.vme_bus.specs.Layouts.{seat};
 ghost use Rattle.vme_bus.specs.Records.{version_in, cycle_in, seat_of_record};
 
-use crate::layouts::{ACKNOWLEDGE_HEAD, grant_head};
-use crate::records::{Seat, SeatRecord, kind_in, slot_in, version_in};
+use crate::records::{Seat, SeatRecord, slot_in, version_in};
 use crate::states::{BUS_CLEAR, BUS_ERROR, BusState};
 use bitflags::Flags;
-use vme_arbiter::{AnyPolicy, Arbiter, Controller};
+use vme_histories::delivered_by;
 use vme_model::{BusLevels, Cycle, Delivery, Driver, Edge, Levels, Pins, Row, Version, Wire};
-use vme_wiring::delivered_by;
 
 impl BusState {
     ghost use Rattle.vme_bus.specs.States.{OfHistory, OfBoard};

@@ -2,17 +2,14 @@
 ghost use Rattle.std.specs.Prelude.{◌≡◌, ◌∷◌, Ok, true, false, is_ok};
 ghost use Rattle.vme_model.specs.declared.signals.Driver.TheVariants.{Controller, Slot};
 ghost use Rattle.vme_model.specs.Deliveries.{delivery};
-ghost use Rattle.vme_model.specs.Signals.{is_well_formed};
+ghost use Rattle.vme_model.specs.declared.signals.Part.TheVariants as parts;
+ghost use Rattle.vme_model.specs.Signals.{is_well_formed, is_of};
 ghost use Rattle.vme_model.specs.Verdict.{verdict_but_full};
-ghost use Rattle.vme_requester.specs.Local.{is_requesters};
-ghost use Rattle.vme_master.specs.Local.{is_masters};
-ghost use Rattle.vme_interrupter.specs.Local.{is_interrupters};
 ghost use Rattle.vme_bus.specs.Answers.{answer_in};
-ghost use Rattle.vme_bus.specs.Asks.{is_boards};
 ghost use Rattle.vme_bus.specs.Steps.{answer_but_full, kept_but_full};
 
 use crate::answers::{NO_DELIVERY, NO_DRIVER, accepted_number, answer_in, refusal_number};
-use crate::arms::{level_of, slot_of, wire_number};
+use crate::arms::wire_number;
 use crate::states::BusState;
 use vme_model::{Delivery, Driver, Edge, Refused, Wire};
 
@@ -66,7 +63,7 @@ impl BusState {
             IsStateOf version p (kept_but_full version p h edge) self.new) }
         ensures refused { is_ok (answer_in result delivery.new) ≡ false → self.new ≡ self.old }
     {
-        let slot = slot_of(edge.driver);
+        let slot = edge.driver.number();
         let number = wire_number(edge.wire);
         // No board stands in a slot beyond 21, which the compiler does not know: by this test it
         // drops the later ones.
@@ -75,7 +72,7 @@ impl BusState {
         } else if number < 4 {
             if number < 1 {
                 by_direction!(
-                    self, step_controller, edge, Wire::Bg(level_of(edge.wire)) => delivery
+                    self, step_controller, edge, Wire::Bg(edge.wire.grant_level()) => delivery
                 )
             } else if number < 2 {
                 by_direction!(self, step_controller, edge, Wire::Bclr => delivery)
@@ -123,7 +120,7 @@ impl BusState {
         requires driver { Controller ≡ edge.driver }
         requires wire { wire ≡ edge.wire }
         requires fall { fall ≡ edge.fall }
-        requires part { is_boards wire ≡ false }
+        requires part { is_of parts.Controller wire ≡ true }
         ensures answer { OfHistory self.old (λ version p h.
             answer_in result delivery.new ≡ answer_but_full version p h edge) }
         ensures state { OfHistory self.old (λ version p h.
@@ -155,7 +152,7 @@ impl BusState {
         requires slot { Slot slot ≡ edge.driver }
         requires wire { wire ≡ edge.wire }
         requires fall { fall ≡ edge.fall }
-        requires part { is_requesters wire ≡ true }
+        requires part { is_of parts.Requester wire ≡ true }
         ensures answer { OfHistory self.old (λ version p h.
             answer_in result delivery.new ≡ answer_but_full version p h edge) }
         ensures state { OfHistory self.old (λ version p h.
@@ -187,7 +184,7 @@ impl BusState {
         requires slot { Slot slot ≡ edge.driver }
         requires wire { wire ≡ edge.wire }
         requires fall { fall ≡ edge.fall }
-        requires part { is_masters wire ≡ true }
+        requires part { is_of parts.Master wire ≡ true }
         ensures answer { OfHistory self.old (λ version p h.
             answer_in result delivery.new ≡ answer_but_full version p h edge) }
         ensures state { OfHistory self.old (λ version p h.
@@ -219,7 +216,7 @@ impl BusState {
         requires slot { Slot slot ≡ edge.driver }
         requires wire { wire ≡ edge.wire }
         requires fall { fall ≡ edge.fall }
-        requires part { is_interrupters wire ≡ true }
+        requires part { is_of parts.Interrupter wire ≡ true }
         ensures answer { OfHistory self.old (λ version p h.
             answer_in result delivery.new ≡ answer_but_full version p h edge) }
         ensures state { OfHistory self.old (λ version p h.
@@ -239,7 +236,7 @@ impl BusState {
     /// Takes an edge of the controller that the rules allow, which delivers nothing.
     #[inline(always)]
     fn take_controller(&mut self, edge: Edge) -> Option<Delivery>
-        requires { is_boards edge.wire ≡ false }
+        requires { is_of parts.Controller edge.wire ≡ true }
         ensures delivery { OfHistory self.old (λ _ p h. result ≡ delivery p h edge) }
         ensures state { OfHistory self.old (λ version p h. verdict_but_full version p h edge ≡ Ok tt
             → IsStateOf version p (edge ∷ h) self.new) }
@@ -251,7 +248,7 @@ impl BusState {
     /// Takes an edge of a board's requester that the rules allow, which delivers nothing.
     #[inline(always)]
     fn take_requester(&mut self, edge: Edge) -> Option<Delivery>
-        requires { is_requesters edge.wire ≡ true }
+        requires { is_of parts.Requester edge.wire ≡ true }
         ensures delivery { OfHistory self.old (λ _ p h. result ≡ delivery p h edge) }
         ensures state { OfHistory self.old (λ version p h. verdict_but_full version p h edge ≡ Ok tt
             → IsStateOf version p (edge ∷ h) self.new) }
@@ -263,7 +260,7 @@ impl BusState {
     /// Takes an edge of a board's master that the rules allow, which delivers nothing.
     #[inline(always)]
     fn take_master(&mut self, edge: Edge) -> Option<Delivery>
-        requires { is_masters edge.wire ≡ true }
+        requires { is_of parts.Master edge.wire ≡ true }
         ensures delivery { OfHistory self.old (λ _ p h. result ≡ delivery p h edge) }
         ensures state { OfHistory self.old (λ version p h. verdict_but_full version p h edge ≡ Ok tt
             → IsStateOf version p (edge ∷ h) self.new) }
@@ -275,7 +272,7 @@ impl BusState {
     /// Takes an edge of a board's interrupter, or an answer, that the rules allow, and answers what it delivers.
     #[inline(always)]
     fn take_interrupter(&mut self, edge: Edge) -> Option<Delivery>
-        requires { is_interrupters edge.wire ≡ true }
+        requires { is_of parts.Interrupter edge.wire ≡ true }
         ensures delivery { OfHistory self.old (λ _ p h. result ≡ delivery p h edge) }
         ensures state { OfHistory self.old (λ version p h. verdict_but_full version p h edge ≡ Ok tt
             → IsStateOf version p (edge ∷ h) self.new) }

@@ -3,11 +3,9 @@ ghost use Rattle.std.specs.Prelude.{◌≡◌, true, false};
 ghost use Rattle.vme_model.specs.declared.signals.Driver.TheVariants.{Controller, Slot};
 ghost use Rattle.vme_model.specs.Offers.{turned};
 ghost use Rattle.vme_model.specs.Open.{showing};
-ghost use Rattle.vme_wiring.specs.Offered.{is_open};
-ghost use Rattle.vme_requester.specs.Local.{is_requesters};
-ghost use Rattle.vme_master.specs.Local.{is_masters};
-ghost use Rattle.vme_interrupter.specs.Local.{is_interrupters};
-ghost use Rattle.vme_bus.specs.Asks.{is_boards};
+ghost use Rattle.vme_histories.specs.Offered.{is_open};
+ghost use Rattle.vme_model.specs.declared.signals.Part.TheVariants as parts;
+ghost use Rattle.vme_model.specs.Signals.{is_of};
 
 use crate::states::BusState;
 use vme_model::{Cycle, Driver, Edge, Wire};
@@ -46,7 +44,7 @@ impl BusState {
     /// Whether the rules allow the slot's requester to move the wire to its other state, without a value.
     #[inline(always)]
     pub(crate) fn may_request(&self, slot: u8, wire: Wire) -> bool
-        requires { is_requesters wire ≡ true }
+        requires { is_of parts.Requester wire ≡ true }
         ensures { OfHistory self.now (λ version p h.
             result ≡ is_open version p h (turned h (Slot slot) wire)) }
     {
@@ -65,7 +63,7 @@ impl BusState {
     /// Whether the rules allow the slot's master to move the wire to its other state, without a value.
     #[inline(always)]
     pub(crate) fn may_transfer(&self, slot: u8, wire: Wire) -> bool
-        requires { is_masters wire ≡ true }
+        requires { is_of parts.Master wire ≡ true }
         ensures { OfHistory self.now (λ version p h.
             result ≡ is_open version p h (turned h (Slot slot) wire)) }
     {
@@ -85,7 +83,7 @@ impl BusState {
     /// Whether the rules allow the slot's interrupter, or what answers cycles, to move the wire to its other state, without a value.
     #[inline(always)]
     pub(crate) fn may_interrupt(&self, slot: u8, wire: Wire) -> bool
-        requires { is_interrupters wire ≡ true }
+        requires { is_of parts.Interrupter wire ≡ true }
         ensures { OfHistory self.now (λ version p h.
             result ≡ is_open version p h (turned h (Slot slot) wire)) }
     {

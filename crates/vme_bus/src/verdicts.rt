@@ -1,25 +1,20 @@
 //! The verdict on an edge, but for the end of the trace.
 ghost use Rattle.std.specs.Prelude.{◌≡◌, ◌&&◌, ◌<◌, ℕ, true, false, Some, Ok};
 ghost use Rattle.vme_model.specs.declared.signals.Driver.TheVariants.{Controller, Slot};
-ghost use Rattle.vme_model.specs.Signals.{is_well_formed};
+ghost use Rattle.vme_model.specs.declared.signals.Part.TheVariants as parts;
+ghost use Rattle.vme_model.specs.Signals.{is_well_formed, is_of};
 ghost use Rattle.vme_model.specs.Plan.{has_driver, grant_chain};
 ghost use Rattle.vme_model.specs.History.{drive, shown, is_past_end};
-ghost use Rattle.vme_model.specs.Rules.{rule};
 ghost use Rattle.vme_model.specs.Settling.{is_unanswerable, settling, settling_guard, is_chain_clear, are_grants_through};
 ghost use Rattle.vme_model.specs.declared.sets.ChainId.TheVariants as chain;
 ghost use Rattle.vme_model.specs.Verdict.{check, is_other_state, settled, verdict_but_full};
-ghost use Rattle.vme_wiring.specs.Asked.{asked, exists};
-ghost use Rattle.vme_requester.specs.Local.{is_requesters};
-ghost use Rattle.vme_master.specs.Local.{is_masters};
-ghost use Rattle.vme_interrupter.specs.Local.{is_interrupters};
-ghost use Rattle.vme_bus.specs.Asks.{is_boards};
+ghost use Rattle.vme_histories.specs.Asked.{asked, exists};
 ghost use Rattle.vme_bus.specs.Sets.{has};
 
-use crate::arms::slot_of;
 use crate::layouts::{ACKNOWLEDGE_HEAD, grant_head};
 use crate::sets::SlotSet;
 use crate::states::{BUS_CLEAR, BUS_ERROR, BusState};
-use vme_model::{ChainId, Cycle, Driver, Edge, Refused, Wire};
+use vme_model::{ChainId, Cycle, Driver, Edge, Part, Refused, Wire};
 use vme_rules::settlings::{as_settles, berr_settles, bg_fall_settles, bg_rise_settles};
 use vme_rules::{Outcome, allowed};
 
@@ -213,7 +208,7 @@ impl BusState {
     /// E2 and E3 of an edge of the controller.
     #[inline(always)]
     fn ask_controller(&self, edge: Edge) -> Result<(), Refused>
-        requires part { is_boards edge.wire ≡ false }
+        requires part { is_of parts.Controller edge.wire ≡ true }
         requires formed { is_well_formed edge ≡ true }
         ensures { OfHistory self.now (λ version p h. exists p edge ≡ true
             → result ≡ asked version p h edge) }
@@ -225,12 +220,12 @@ impl BusState {
     /// E2 and E3 of an edge of a board's requester.
     #[inline(always)]
     fn ask_requester(&self, edge: Edge) -> Result<(), Refused>
-        requires part { is_requesters edge.wire ≡ true }
+        requires part { is_of parts.Requester edge.wire ≡ true }
         requires formed { is_well_formed edge ≡ true }
         ensures { OfHistory self.now (λ version p h. exists p edge ≡ true
             → result ≡ asked version p h edge) }
     {
-        let slot = slot_of(edge.driver);
+        let slot = edge.driver.number();
         let ruled = self.requester_rule(slot, edge.wire, edge.fall);
         asked(self.is_slot_low(slot, edge.wire), edge.fall, ruled)
     }
@@ -238,12 +233,12 @@ impl BusState {
     /// E2 and E3 of an edge of a board's master.
     #[inline(always)]
     fn ask_master(&self, edge: Edge) -> Result<(), Refused>
-        requires part { is_masters edge.wire ≡ true }
+        requires part { is_of parts.Master edge.wire ≡ true }
         requires formed { is_well_formed edge ≡ true }
         ensures { OfHistory self.now (λ version p h. exists p edge ≡ true
             → result ≡ asked version p h edge) }
     {
-        let slot = slot_of(edge.driver);
+        let slot = edge.driver.number();
         let ruled = self.master_rule(slot, edge.wire, edge.fall, edge.value);
         asked(self.is_slot_low(slot, edge.wire), edge.fall, ruled)
     }
@@ -251,12 +246,12 @@ impl BusState {
     /// E2 and E3 of an edge of a board's interrupter, or of its answer.
     #[inline(always)]
     fn ask_interrupter(&self, edge: Edge) -> Result<(), Refused>
-        requires part { is_interrupters edge.wire ≡ true }
+        requires part { is_of parts.Interrupter edge.wire ≡ true }
         requires formed { is_well_formed edge ≡ true }
         ensures { OfHistory self.now (λ version p h. exists p edge ≡ true
             → result ≡ asked version p h edge) }
     {
-        let slot = slot_of(edge.driver);
+        let slot = edge.driver.number();
         let ruled = self.interrupter_rule(slot, edge.wire, edge.fall);
         asked(self.is_slot_low(slot, edge.wire), edge.fall, ruled)
     }
@@ -279,7 +274,7 @@ impl BusState {
     /// The first of E1 to E4 that applies to a well-formed edge of the controller.
     #[inline(always)]
     pub(crate) fn judge_controller(&self, edge: Edge) -> Result<(), Refused>
-        requires part { is_boards edge.wire ≡ false }
+        requires part { is_of parts.Controller edge.wire ≡ true }
         requires formed { is_well_formed edge ≡ true }
         ensures { OfHistory self.now (λ version p h. result ≡ verdict_but_full version p h edge) }
     {
@@ -295,7 +290,7 @@ impl BusState {
     /// The first of E1 to E4 that applies to a well-formed edge of a board's requester.
     #[inline(always)]
     pub(crate) fn judge_requester(&self, edge: Edge) -> Result<(), Refused>
-        requires part { is_requesters edge.wire ≡ true }
+        requires part { is_of parts.Requester edge.wire ≡ true }
         requires formed { is_well_formed edge ≡ true }
         ensures { OfHistory self.now (λ version p h. result ≡ verdict_but_full version p h edge) }
     {
@@ -308,7 +303,7 @@ impl BusState {
     /// The first of E1 to E4 that applies to a well-formed edge of a board's master.
     #[inline(always)]
     pub(crate) fn judge_master(&self, edge: Edge) -> Result<(), Refused>
-        requires part { is_masters edge.wire ≡ true }
+        requires part { is_of parts.Master edge.wire ≡ true }
         requires formed { is_well_formed edge ≡ true }
         ensures { OfHistory self.now (λ version p h. result ≡ verdict_but_full version p h edge) }
     {
@@ -324,7 +319,7 @@ impl BusState {
     /// The first of E1 to E4 that applies to a well-formed edge of a board's interrupter, or of its answer.
     #[inline(always)]
     pub(crate) fn judge_interrupter(&self, edge: Edge) -> Result<(), Refused>
-        requires part { is_interrupters edge.wire ≡ true }
+        requires part { is_of parts.Interrupter edge.wire ≡ true }
         requires formed { is_well_formed edge ≡ true }
         ensures { OfHistory self.now (λ version p h. result ≡ verdict_but_full version p h edge) }
     {
@@ -342,11 +337,11 @@ impl BusState {
         if !edge.is_well_formed() {
             return Err(Refused::NoSuchDriver);
         }
-        match edge.wire {
-            Wire::Br | Wire::BgOut | Wire::Bbsy => self.judge_requester(edge),
-            Wire::Addr | Wire::AddressStrobe | Wire::DataStrobe => self.judge_master(edge),
-            Wire::Irq | Wire::IackOut | Wire::Dtack => self.judge_interrupter(edge),
-            Wire::Bg(_) | Wire::Bclr | Wire::Iack | Wire::Berr => self.judge_controller(edge),
+        match edge.wire.part() {
+            Part::Controller => self.judge_controller(edge),
+            Part::Requester => self.judge_requester(edge),
+            Part::Master => self.judge_master(edge),
+            Part::Interrupter => self.judge_interrupter(edge),
         }
     }
 }

@@ -9,11 +9,11 @@ use Rattle.vme_model.specs.declared.signals.Driver.{Driver}
 use Rattle.vme_model.specs.declared.signals.Driver.TheVariants.{Controller, Slot}
 use Rattle.vme_model.specs.declared.signals.Wire.{Wire}
 use Rattle.vme_model.specs.declared.signals.Wire.TheVariants.{Bg, Bclr, Iack, Berr, Br, BgOut, Bbsy, Addr, AddressStrobe, DataStrobe, Irq, IackOut, Dtack}
-use Rattle.vme_model.specs.Signals.{is_slot}
+use Rattle.vme_model.specs.Signals.{is_slot, driver_number}
 use Rattle.vme_model.specs.Text.{HasWord, driver_text, number, sign, wire_text}
 use Rattle.vme_model.proofs.Bools.{and_left, and_right}
 use Rattle.vme_trace.specs.Fronts.{IsDriver}
-use Rattle.vme_engines.specs.Spelled.{driver_number, move_place}
+use Rattle.vme_engines.specs.Spelled.{move_place}
 use Rattle.vme_engines.specs.declared.edges.TheConstants.{DRIVERS, WORDS, SIZES}
 
 -- the row of a wire and a direction begins with its word and its sign

@@ -1,13 +1,11 @@
-//! Letting the drivers of a backplane make edges in turn.
-ghost use Rattle.std.specs.Prelude.{◌≡◌, ◌==◌, ◌++◌, [], ℕ, false, OnOk, OnErr, IfErr, IsTrue, length, if◌then◌else◌};
+//! Letting the drivers of a bus make edges in turn.
+ghost use Rattle.std.specs.Prelude.{◌≡◌, ◌==◌, ◌++◌, [], OnOk, OnErr, IfErr, IsTrue, if◌then◌else◌};
 ghost use Rattle.std.specs.Io.KnownBytes.{Appends, Keeps};
 ghost use Rattle.vme_model.specs.Plan.{drivers};
 ghost use Rattle.vme_model.specs.Safe.{IsSafe};
-ghost use Rattle.vme_model.specs.History.{in_order};
 ghost use Rattle.vme_model.specs.declared.signals.Driver.TheVariants.{Slot};
-ghost use Rattle.vme_model.specs.Offers.{offered, turn, turns, rounds};
-ghost use Rattle.vme_bus.specs.Sets.{has};
-ghost use Rattle.vme_model.specs.Text.{text, edge_lines};
+ghost use Rattle.vme_model.specs.Offers.{turn, turns, rounds};
+ghost use Rattle.vme_model.specs.Text.{text};
 ghost use Rattle.vme_model.specs.Signals.{is_well_formed};
 ghost use Rattle.vme_trace.specs.Writing.{AppendsFront, edge_line};
 ghost use Rattle.vme_engines.specs.Texts.{HandsOn, ListsOn, trace_made};
@@ -22,7 +20,6 @@ use crate::plans::plan_of;
 use crate::{EngineFault, Status};
 use std::alloc::Global;
 use std::io::Write;
-use vme_backplane::Backplane;
 use vme_bus::{Bus, Turns};
 use vme_model::{Driver, Edge, Version};
 use vme_slots::Plan;
@@ -146,40 +143,6 @@ pub(crate) fn put_line<W: Write>(text: &mut Text, edge: &Edge, out: &mut W) -> R
     make_room(text, out)?;
     push_edge(text, edge);
     Ok(())
-}
-
-/// Writes the lines of the edges that were made.
-fn write_lines<W: Write>(backplane: &Backplane, out: &mut W) -> Result<(), Fault>
-    ensures ok { OnOk result
-        (Appends (W.contents out.old) (W.contents out.new)
-        (edge_lines (in_order backplane.now.history))) }
-    ensures front { OnErr result
-        (AppendsFront (W.contents out.old) (W.contents out.new)
-        (edge_lines (in_order backplane.now.history))) }
-    ensures fault { IfErr result (λ fault. fault ≡ Fault.Write) }
-{
-    backplane.laws();
-    for place in 0..backplane.len() {
-        write_line(&backplane.edge_at(place), out)?;
-    }
-    Ok(())
-}
-
-/// Writes the trace of the edges that were made on a backplane: the header line of its version and a line for each edge.
-///
-/// Errors: X8 where the output cannot be written; a prefix of the trace was then written.
-pub fn write_history<W: Write>(backplane: &Backplane, out: &mut W) -> Result<(), Fault>
-    ensures ok { OnOk result
-        (Appends (W.contents out.old) (W.contents out.new)
-        (text backplane.now.version (in_order backplane.now.history))) }
-    ensures front { OnErr result
-        (AppendsFront (W.contents out.old) (W.contents out.new)
-        (text backplane.now.version (in_order backplane.now.history))) }
-    ensures fault { IfErr result (λ fault. fault ≡ Fault.Write) }
-{
-    put(out, header_line(backplane.version()))?;
-    write_lines(backplane, out)?;
-    flush(out)
 }
 
 /// The status of an engine that made so many edges, of so many that were asked for.

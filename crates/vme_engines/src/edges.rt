@@ -1,10 +1,10 @@
 //! The lines of edges, put to a text.
 ghost use Rattle.std.specs.Prelude.{◌≡◌, ◌+◌, ◌<◌, ◌≤◌, ◌++◌, ◌∷◌, [], length, codes, Some, IsTrue};
-ghost use Rattle.vme_model.specs.Signals.{is_well_formed};
+ghost use Rattle.vme_model.specs.Signals.{is_well_formed, driver_number};
 ghost use Rattle.vme_model.specs.Text.{HasWord, argument, driver_text, number, sign, wire_text};
 ghost use Rattle.vme_trace.specs.Fronts.{IsDriver};
 ghost use Rattle.vme_trace.specs.Writing.{edge_line};
-ghost use Rattle.vme_engines.specs.Spelled.{cycle_number, driver_number, word_place, move_place};
+ghost use Rattle.vme_engines.specs.Spelled.{cycle_number, move_place};
 
 use vme_model::{Cycle, Driver, Edge, Wire};
 use vme_text::Text;
@@ -70,31 +70,6 @@ fn driver_place(driver: Driver) -> usize
     }
 }
 
-/// Where the first word of a wire stands, counted by pairs.
-#[inline(always)]
-fn word_place(wire: Wire) -> u8
-    requires { HasWord wire }
-    ensures place { result ≡ word_place wire }
-    ensures within { result < 16 }
-{
-    let after_grants = match wire {
-        Wire::Bg(_) => 0,
-        Wire::Bclr => 4,
-        Wire::Iack => 5,
-        Wire::Berr => 6,
-        Wire::Br => 7,
-        Wire::BgOut => 8,
-        Wire::Bbsy => 9,
-        Wire::Addr => 10,
-        Wire::AddressStrobe => 11,
-        Wire::DataStrobe => 12,
-        Wire::Irq => 13,
-        Wire::IackOut => 14,
-        Wire::Dtack => 15,
-    };
-    after_grants + wire.grant_level()
-}
-
 /// Where the word of a wire stands with the sign of such an edge.
 #[inline(always)]
 fn move_place(wire: Wire, fall: bool) -> usize
@@ -102,7 +77,7 @@ fn move_place(wire: Wire, fall: bool) -> usize
     ensures place { result ≡ move_place wire fall }
     ensures within { result < 32 }
 {
-    2 * usize::from(word_place(wire)) + usize::from(fall)
+    2 * usize::from(wire.number()) + usize::from(fall)
 }
 
 /// Appends a number in decimal.

@@ -28,7 +28,7 @@ mod traces;
 
 pub use checks::check;
 pub use draws::drive_drawn;
-pub use drives::{drive, status_of, write_history};
+pub use drives::{drive, status_of};
 pub use explains::explain;
 pub use joins::joined;
 pub use listening::Progress;

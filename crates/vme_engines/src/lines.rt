@@ -18,9 +18,9 @@ use crate::tails::{are_plain, push_line, push_plain};
 use arrayvec::ArrayVec;
 use std::io::Write;
 use vme_bus::{AnswerRecord, Bus};
-use vme_explain::texts::{push, push_number, push_verdict};
+use vme_explain::texts::push_verdict;
 use vme_model::Edge;
-use vme_text::Text;
+use vme_text::{Text, push, push_number};
 use vme_trace::{Fault, flush, put};
 
 /// Room for any line: two numbers of at most 20 digits, or one and a verdict, and a few words.

@@ -8,9 +8,9 @@ ghost use Rattle.vme_engines.specs.Recorded.{plain_lines};
 use crate::counts::Count;
 use arrayvec::ArrayVec;
 use vme_bus::AnswerRecord;
-use vme_explain::texts::{push, push_verdict};
+use vme_explain::texts::push_verdict;
 use vme_model::{Delivery, Refused};
-use vme_text::Text;
+use vme_text::{Text, push};
 
 /// How many numbers of answers have an end of their own: all that are used but that of a delivery.
 const ENDS_COUNT: usize = 64;

@@ -14,30 +14,6 @@ use vme_bus::Bus;
 use vme_goals::Miss;
 use vme_model::{Condition, Cycle, Driver, Edge, IrqKind, Refused, Wire};
 
-/// The controller's wires, in the order of offers.
-const CONTROLLERS: [Wire; 7] = [
-    Wire::Bg(0),
-    Wire::Bg(1),
-    Wire::Bg(2),
-    Wire::Bg(3),
-    Wire::Bclr,
-    Wire::Iack,
-    Wire::Berr,
-];
-
-/// A board's wires, in that order.
-const BOARDS: [Wire; 9] = [
-    Wire::Br,
-    Wire::BgOut,
-    Wire::Bbsy,
-    Wire::Addr,
-    Wire::AddressStrobe,
-    Wire::DataStrobe,
-    Wire::Irq,
-    Wire::IackOut,
-    Wire::Dtack,
-];
-
 /// All that an address group can show: the acknowledges, then the accesses.
 const CYCLES: [Cycle; 28] = [
     Cycle::Acknowledge(1),
@@ -238,10 +214,7 @@ fn of_driver(bus: &Bus, miss: Miss, driver: Driver) -> Option<Edge>
     ensures { result ≡ find (refuses bus.now miss)
         (flat_map (moves bus.now.history driver) (wires driver)) }
 {
-    match driver {
-        Driver::Controller => on_wires(bus, miss, driver, &CONTROLLERS),
-        Driver::Slot(_) => on_wires(bus, miss, driver, &BOARDS),
-    }
+    on_wires(bus, miss, driver, driver.wires())
 }
 
 /// The first edge of these drivers.

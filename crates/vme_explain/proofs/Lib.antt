@@ -8,8 +8,6 @@ pub mod Told
 pub mod Grown
 -- the groups together are all that is told
 pub mod Grouped
--- a byte's value in decimal, digit by digit: `texts::push_byte`
-pub mod ByteDigits
 -- every wire that is told of a condition has a word: `blocks::write_reason`
 pub mod SpokenWitnesses
 -- pieces of a text that are written one after another: src/blocks.rt

@@ -15,7 +15,7 @@ use Rattle.vme_explain.specs.Marks.{place}
 
 -- each field is that look back through the edges
 pub record IsMovesOf (k : Numbered) (m : Moves) : Type 0 where
-  pub places : length m.wires ≡ 198
+  pub places : length m.wires ≡ 352
   pub wires :
       (d : Driver) (w : Wire) → has_wire d w ≡ true
       → slice_index_or m.wires (place d w) None ≡ since k d w

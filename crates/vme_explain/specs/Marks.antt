@@ -3,34 +3,14 @@ use Rattle.std.specs.Prelude.{◌+◌, ◌-◌, ◌*◌, ◌^◌, min, ℕ, if�
 use Rattle.std.specs.Option.{option_or}
 use Rattle.vme_model.specs.declared.boards.IrqKind.{IrqKind}
 use Rattle.vme_model.specs.declared.signals.Driver.{Driver}
-use Rattle.vme_model.specs.declared.signals.Driver.TheVariants.{Controller, Slot}
 use Rattle.vme_model.specs.declared.signals.Wire.{Wire}
-use Rattle.vme_model.specs.declared.signals.Wire.TheVariants.{Bg, Bclr, Iack, Berr, Br, BgOut, Bbsy, Addr, AddressStrobe, DataStrobe, Irq, IackOut, Dtack}
+use Rattle.vme_model.specs.declared.signals.Wire.TheVariants.{Bbsy, AddressStrobe, DataStrobe, Irq, Dtack}
 use Rattle.vme_model.specs.declared.signals.Cycle.{Cycle}
 use Rattle.vme_model.specs.History.{serves}
-
-abbrev pub driver_place : Driver → ℕ
-driver_place Controller = 0
-driver_place (Slot s) = s
-
--- a wire's place among those of its driver: nine at most
-abbrev pub wire_place : Wire → ℕ
-wire_place (Bg level) = level
-wire_place Bclr = 4
-wire_place Iack = 5
-wire_place Berr = 6
-wire_place Br = 0
-wire_place BgOut = 1
-wire_place Bbsy = 2
-wire_place Addr = 3
-wire_place AddressStrobe = 4
-wire_place DataStrobe = 5
-wire_place Irq = 6
-wire_place IackOut = 7
-wire_place Dtack = 8
+use Rattle.vme_model.specs.Signals.{driver_number, wire_number}
 
 abbrev pub place : Driver → Wire → ℕ
-place d w = 9 * driver_place d + wire_place w
+place d w = 16 * driver_number d + wire_number w
 
 -- a board's `ds-` of its cycle after a fall of its wire, the n-th edge
 abbrev pub strobe_after : Wire → ℕ → Option ℕ → Option ℕ

@@ -13,11 +13,12 @@ use crate::boards::board_of;
 use crate::conditions::witnesses;
 use crate::marks::Marks;
 use crate::tested::Conditions;
-use crate::texts::{LINE, push, push_number, push_verdict, witness_line};
+use crate::texts::{LINE, push_verdict, witness_line};
 use arrayvec::ArrayVec;
 use std::io::Write;
 use vme_bus::Bus;
 use vme_model::{Delivery, Edge, Refused, Tested, Witness};
+use vme_text::{push, push_number};
 use vme_trace::{Fault, put, spelling_of};
 
 /// The first line: the number of the edge, the edge, and its verdict.

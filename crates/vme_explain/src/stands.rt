@@ -2,7 +2,6 @@
 ghost use Rattle.std.specs.Prelude.{◌≡◌, ◌+◌, ◌<◌, ◌≤◌, ◌++◌, ◌∷◌, [], ℕ, List, decimal, length, max, IfErr, OnOk, OnErr};
 ghost use Rattle.std.specs.Io.KnownBytes.{Appends};
 ghost use Rattle.arrayvec.specs.ArrayVec.{array_vec_len};
-ghost use Rattle.vme_model.specs.Offers.{wires};
 ghost use Rattle.vme_model.specs.Spoken.{driver_name};
 ghost use Rattle.vme_model.specs.Text.{HasWord, argument, number, sign};
 ghost use Rattle.vme_model.specs.Why.{since_text};
@@ -14,12 +13,13 @@ ghost use Rattle.vme_explain.specs.Standing.{bus_text, drivers_text, topic_text}
 use crate::Marks;
 use crate::boards::{interrupter_of, requester_of};
 use crate::drivers::{is_pending, since};
-use crate::texts::{push, push_argument, push_driver, push_number, push_since};
+use crate::texts::{push_argument, push_driver, push_since};
 use crate::wires::holds_low;
 use arrayvec::ArrayVec;
 use std::io::Write;
 use vme_bus::Bus;
 use vme_model::{Cycle, Driver, Edge, Wire};
+use vme_text::{push, push_number};
 use vme_trace::{Fault, put};
 
 /// Room for any line: a driver's has a word, with a comma and a blank, for each of its open edges, of
@@ -31,30 +31,6 @@ type Line = ArrayVec<u8, LINE>;
 
 /// Room for the word of an edge: the longest has 13 bytes.
 const WORD: usize = 16;
-
-/// The controller's wires, in the order in which they are told.
-const CONTROLLERS: [Wire; 7] = [
-    Wire::Bg(0),
-    Wire::Bg(1),
-    Wire::Bg(2),
-    Wire::Bg(3),
-    Wire::Bclr,
-    Wire::Iack,
-    Wire::Berr,
-];
-
-/// A board's wires, in that order.
-const BOARDS: [Wire; 9] = [
-    Wire::Br,
-    Wire::BgOut,
-    Wire::Bbsy,
-    Wire::Addr,
-    Wire::AddressStrobe,
-    Wire::DataStrobe,
-    Wire::Irq,
-    Wire::IackOut,
-    Wire::Dtack,
-];
 
 /// What a line tells of a driver.
 #[derive(Clone, Copy)]
@@ -223,22 +199,12 @@ fn word_of(edge: &Edge) -> ArrayVec<u8, WORD>
     word
 }
 
-/// A driver's wires, in the order in which they are told.
-fn wires(driver: Driver) -> &'static [Wire]
-    ensures { result.now ≡ wires driver }
-{
-    match driver {
-        Driver::Controller => &CONTROLLERS,
-        Driver::Slot(_) => &BOARDS,
-    }
-}
-
 /// The wires that the driver holds low; of its address group `shown` tells.
 fn low_line(bus: &Bus, driver: Driver) -> Line
     ensures { result.items ≡ low_text bus.now driver }
 {
     let mut line = ArrayVec::new();
-    for wire in wires(driver) {
+    for wire in driver.wires() {
         if !wire.is_same(Wire::Addr) && holds_low(bus, *wire, driver) {
             push_word(&mut line, "low ", driver, wire.word().as_bytes());
         }

@@ -3,9 +3,10 @@ ghost use Rattle.std.specs.Prelude.{◌≡◌, find};
 ghost use Rattle.vme_goals.specs.Goals.{goal_of, goal_text, has_goal, is_named};
 
 use crate::events::Event;
-use crate::misses::{Miss, WORDS, push};
+use crate::misses::{Miss, WORDS};
 use arrayvec::ArrayVec;
 use vme_model::Version;
+use vme_text::push;
 
 /// A goal: an event that an accepted edge brings about, or an edge that one condition alone
 /// refuses. Source: profile.
@@ -34,7 +35,7 @@ impl Goal {
         match self {
             Goal::Event(event) => {
                 let mut words = ArrayVec::new();
-                push(&mut words, event.name());
+                push(&mut words, event.name().as_bytes());
                 words
             }
             Goal::Miss(miss) => miss.text(),

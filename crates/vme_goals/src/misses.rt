@@ -5,32 +5,11 @@ ghost use Rattle.vme_model.specs.Spoken.{kind_text};
 ghost use Rattle.vme_goals.specs.Goals.{has_miss, pattern, miss_text};
 
 use arrayvec::ArrayVec;
-use itoa::Buffer;
 use vme_model::{Condition, IrqKind, Version};
+use vme_text::{push, push_byte};
 
 /// Room for the words of any goal, in bytes: the longest have 50.
 pub(crate) const WORDS: usize = 80;
-
-/// Appends a text. The words have to have room for it.
-pub(crate) fn push(words: &mut ArrayVec<u8, WORDS>, text: &str)
-    requires { array_vec_len words.old + length text.now ≤ 80 }
-    ensures items { words.new.items ≡ words.old.items ++ text.now }
-    ensures len { array_vec_len words.new ≡ array_vec_len words.old + length text.now }
-{
-    if words.try_extend_from_slice(text.as_bytes()).is_err() {
-        unreachable!()
-    }
-}
-
-/// Appends a rule's number in decimal. The words have to have room for 3 digits.
-fn push_number(words: &mut ArrayVec<u8, WORDS>, rule: u8)
-    requires { array_vec_len words.old + 3 ≤ 80 }
-    ensures items { words.new.items ≡ words.old.items ++ decimal rule }
-    ensures len { array_vec_len words.new ≤ array_vec_len words.old + 3 }
-{
-    let mut digits = Buffer::new();
-    push(words, digits.format(rule));
-}
 
 /// A miss: what alone refuses an edge. Source: profile.
 #[derive(Clone, Copy, PartialEq, Eq, Debug)]
@@ -160,18 +139,18 @@ impl Miss {
         let mut words = ArrayVec::new();
         match self {
             Miss::Rule(rule, condition) => {
-                push(&mut words, "G");
-                push_number(&mut words, rule);
-                push(&mut words, " ");
-                push(&mut words, pattern(condition));
+                push(&mut words, b"G");
+                push_byte(&mut words, rule);
+                push(&mut words, b" ");
+                push(&mut words, pattern(condition).as_bytes());
             }
             Miss::Unserved(kind) => {
-                push(&mut words, "G22 ");
-                push(&mut words, kind_text(kind));
+                push(&mut words, b"G22 ");
+                push(&mut words, kind_text(kind).as_bytes());
             }
             Miss::Settling(rule) => {
-                push(&mut words, "S");
-                push_number(&mut words, rule);
+                push(&mut words, b"S");
+                push_byte(&mut words, rule);
             }
         }
         words

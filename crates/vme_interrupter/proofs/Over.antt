@@ -18,7 +18,9 @@ use Rattle.vme_model.specs.declared.conditions.Condition.TheVariants.{Acknowledg
 use Rattle.vme_model.specs.Guards.{asks, ◌⊓◌}
 use Rattle.vme_model.specs.Rules.{guard, pass_guard, answer_guard, is_passed_by, may_answer}
 use Rattle.vme_model.specs.Verdict.{Judgement, check, is_other_state, ruling, ruling_on}
-use Rattle.vme_interrupter.specs.Local.{Noted, InterrupterState, edges, interrupter_of, is_interrupters, local, over}
+use Rattle.vme_model.specs.declared.signals.Part.TheVariants as parts
+use Rattle.vme_model.specs.Signals.{is_of}
+use Rattle.vme_interrupter.specs.Local.{Noted, InterrupterState, edges, interrupter_of, local, over}
 
 abbrev edge : Driver → Wire → Bool → Option Cycle → Edge
 edge d w f v = record { driver = d; wire = w; fall = f; value = v }
@@ -41,7 +43,7 @@ abbrev after : ℕ → List Noted → Wire → Judgement → Judgement
 after s noted w rest = check (is_other_state (drive (edges noted) (Slot s) w) true) AlreadyThere rest
 
 -- one rule names a wire and a direction, in both versions
-by_parts : (version : Version) (s : ℕ) (row : Option InterrupterRow) (noted : List Noted) (pins : Pins) (d : Driver) (w : Wire) (f : Bool) (v : Option Cycle) → is_interrupters w ≡ true →
+by_parts : (version : Version) (s : ℕ) (row : Option InterrupterRow) (noted : List Noted) (pins : Pins) (d : Driver) (w : Wire) (f : Bool) (v : Option Cycle) → is_of parts.Interrupter w ≡ true →
     ruling One (local (interrupter_of s row noted) pins) (edge d w f v) ≡ ruling version (over s row noted pins) (edge d w f v)
 by_parts version s row noted pins d Irq true v own = refl
 by_parts version s row noted pins d Irq false v own = refl
@@ -54,14 +56,14 @@ by_parts version s row noted pins d Dtack false v own = refl
 by_parts version s row noted pins d w f v own = absurd (cc)
 
 -- a state that comes from a list answers as the list says
-pub answers_over : (version : Version) (state : InterrupterState) (noted : List Noted) (pins : Pins) (e : Edge) → state ≡ interrupter_of state.slot state.row noted → is_interrupters e.wire ≡ true →
+pub answers_over : (version : Version) (state : InterrupterState) (noted : List Noted) (pins : Pins) (e : Edge) → state ≡ interrupter_of state.slot state.row noted → is_of parts.Interrupter e.wire ≡ true →
     ruling One (local state pins) e ≡ ruling version (over state.slot state.row noted pins) e
 answers_over version state noted pins e same own =
     let P : InterrupterState → Type 0 = λ i. ruling One (local i pins) e ≡ ruling version (over state.slot state.row noted pins) e in
     subst P (sym same) (by_parts version state.slot state.row noted pins e.driver e.wire e.fall e.value own)
 
 -- a state that comes from a list answers as the list says, for an edge of the wire x, which is w
-pub rules_over : (version : Version) (state : InterrupterState) (noted : List Noted) (pins : Pins) (d : Driver) (w x : Wire) (f : Bool) (v : Option Cycle) → state ≡ interrupter_of state.slot state.row noted → w ≡ x → is_interrupters x ≡ true →
+pub rules_over : (version : Version) (state : InterrupterState) (noted : List Noted) (pins : Pins) (d : Driver) (w x : Wire) (f : Bool) (v : Option Cycle) → state ≡ interrupter_of state.slot state.row noted → w ≡ x → is_of parts.Interrupter x ≡ true →
     ruling_on One (local state pins) x f v ≡ ruling_on version (over state.slot state.row noted pins) w f v
 rules_over version state noted pins d w x f v same is own =
     answers_over version state noted pins (edge d x f v) same own
@@ -80,7 +82,7 @@ answer_guards s row noted pins None = refl
 answer_guards s row noted pins (Some (Acknowledge level)) = refl
 answer_guards s row noted pins (Some (Access t)) = refl
 
-guards_by_parts : (version : Version) (s : ℕ) (row : Option InterrupterRow) (noted : List Noted) (pins : Pins) (w : Wire) (f : Bool) (v : Option Cycle) → is_interrupters w ≡ true →
+guards_by_parts : (version : Version) (s : ℕ) (row : Option InterrupterRow) (noted : List Noted) (pins : Pins) (w : Wire) (f : Bool) (v : Option Cycle) → is_of parts.Interrupter w ≡ true →
     (guard One (local (interrupter_of s row noted) pins) w f v).1 ≡ (guard version (over s row noted pins) w f v).1
 guards_by_parts version s row noted pins Irq true v own = refl
 guards_by_parts version s row noted pins Irq false v own = refl
@@ -93,7 +95,7 @@ guards_by_parts version s row noted pins Dtack false v own = refl
 guards_by_parts version s row noted pins w f v own = absurd (cc)
 
 -- the guards by the state are those over the list
-pub guards_over : (version : Version) (state : InterrupterState) (noted : List Noted) (pins : Pins) (w x : Wire) (f : Bool) (v : Option Cycle) → state ≡ interrupter_of state.slot state.row noted → w ≡ x → is_interrupters x ≡ true →
+pub guards_over : (version : Version) (state : InterrupterState) (noted : List Noted) (pins : Pins) (w x : Wire) (f : Bool) (v : Option Cycle) → state ≡ interrupter_of state.slot state.row noted → w ≡ x → is_of parts.Interrupter x ≡ true →
     (guard One (local state pins) x f v).1 ≡ (guard version (over state.slot state.row noted pins) w f v).1
 guards_over version state noted pins w x f v same is own =
     let P : InterrupterState → Type 0 = λ i. (guard One (local i pins) x f v).1 ≡ (guard version (over state.slot state.row noted pins) x f v).1 in

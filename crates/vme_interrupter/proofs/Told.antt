@@ -13,7 +13,9 @@ use Rattle.vme_model.specs.declared.signals.Cycle.TheVariants.{Acknowledge, Acce
 use Rattle.vme_model.specs.Readings.{Readings, is_pending}
 use Rattle.vme_model.specs.Rules.{is_passed_by, may_answer}
 use Rattle.vme_model.specs.Verdict.{check, is_other_state, ruling_on}
-use Rattle.vme_interrupter.specs.Local.{is_interrupters, interrupter_readings, SayWhatIsTold}
+use Rattle.vme_model.specs.declared.signals.Part.TheVariants as parts
+use Rattle.vme_model.specs.Signals.{is_of}
+use Rattle.vme_interrupter.specs.Local.{interrupter_readings, SayWhatIsTold}
 
 alike : (o p b c fall : Bool) (n : ℕ) → o ≡ p → b ≡ c → check (is_other_state o fall) AlreadyThere (check b (Rule n) (Ok tt)) ≡ check (is_other_state p fall) AlreadyThere (check c (Rule n) (Ok tt))
 alike o p b c fall n e f = cc
@@ -43,7 +45,7 @@ module _ (version : Version) (s : ℕ) (row : Option InterrupterRow) (own : Wire
   answered_shown : may_answer t pins.shown ≡ may_answer r r.shown
   answered_shown = answered_alike pins.shown ∙ ap (may_answer r) (sym says.shown)
 
-  pub reads_told : (w : Wire) (fall : Bool) (value : Option Cycle) → is_interrupters w ≡ true → ruling_on version t w fall value ≡ ruling_on version r w fall value
+  pub reads_told : (w : Wire) (fall : Bool) (value : Option Cycle) → is_of parts.Interrupter w ≡ true → ruling_on version t w fall value ≡ ruling_on version r w fall value
   reads_told Irq true v own = alike _ _ true true true 21 (sym (says.own_wires Irq refl)) refl
   reads_told Irq false v own = alike _ _ _ _ false 22 (sym (says.own_wires Irq refl)) (sym says.served)
   reads_told IackOut true v own = alike _ _ _ _ true 23 (sym (says.own_wires IackOut refl)) (cc (says.iack_in, says.own_wires Dtack refl, says.data_strobe, passed_shown))

@@ -10,7 +10,8 @@ use Rattle.vme_model.specs.declared.signals.Wire.{Wire}
 use Rattle.vme_model.specs.declared.signals.Wire.TheVariants.{Irq, IackOut, Dtack}
 use Rattle.vme_model.specs.declared.signals.Cycle.{Cycle}
 use Rattle.vme_model.specs.declared.signals.Edge.{Edge}
-use Rattle.vme_model.specs.Signals.{is_fall_of}
+use Rattle.vme_model.specs.declared.signals.Part.TheVariants as parts
+use Rattle.vme_model.specs.Signals.{is_fall_of, is_of}
 use Rattle.vme_model.specs.Sets.{no_levels}
 use Rattle.vme_model.specs.Plan.{Plan}
 use Rattle.vme_model.specs.History.{drive, serves, shown}
@@ -55,13 +56,6 @@ interrupter_of s row noted = record {
   is_served = served noted (Slot s) row;
 }
 
--- the wires that an interrupter drives
-abbrev pub is_interrupters : Wire → Bool
-is_interrupters Irq = true
-is_interrupters IackOut = true
-is_interrupters Dtack = true
-is_interrupters _ = false
-
 -- the state of the wires, by the local state
 abbrev pub low : InterrupterState → Wire → Bool
 low i Irq = i.irq
@@ -89,7 +83,7 @@ over s row noted pins =
 -- readings that agree with what an interrupter reads, whatever else they say
 pub record SayWhatIsTold (s : ℕ) (row : Option InterrupterRow) (own : Wire → Bool)
     (is_served : Bool) (pins : Pins) (r : Readings) : Type 0 where
-  pub own_wires : (w : Wire) → is_interrupters w ≡ true → r.own w ≡ own w
+  pub own_wires : (w : Wire) → is_of parts.Interrupter w ≡ true → r.own w ≡ own w
   pub served : r.served_since_request ≡ is_served
   pub address_strobe : r.address_strobe ≡ pins.address_strobe
   pub data_strobe : r.data_strobe ≡ pins.data_strobe

@@ -10,7 +10,9 @@ ghost use Rattle.vme_model.specs.declared.signals.Version.TheVariants.{One};
 ghost use Rattle.vme_model.specs.Readings.{is_pending};
 ghost use Rattle.vme_model.specs.Rules.{failing, guard};
 ghost use Rattle.vme_model.specs.Verdict.{ruling, ruling_on};
-ghost use Rattle.vme_interrupter.specs.Local.{Noted, interrupter_of, serves_board, is_interrupters, low, local, over};
+ghost use Rattle.vme_model.specs.declared.signals.Part.TheVariants as parts;
+ghost use Rattle.vme_model.specs.Signals.{is_of};
+ghost use Rattle.vme_interrupter.specs.Local.{Noted, interrupter_of, serves_board, low, local, over};
 ghost use Rattle.vme_interrupter.specs.Address.{asks_at, is_accessed};
 
 use arrayvec::ArrayVec;
@@ -264,10 +266,10 @@ impl Interrupter {
     /// E3 if the rule's guard fails.
     #[inline(always)]
     pub fn may(&self, edge: Edge, pins: Pins) -> Result<(), Refused>
-        ensures other { is_interrupters edge.wire ≡ false → result ≡ Err Refused.NoSuchDriver }
+        ensures other { is_of parts.Interrupter edge.wire ≡ false → result ≡ Err Refused.NoSuchDriver }
         ensures own { (version : Version) (noted : List Noted) →
             self.now ≡ interrupter_of self.now.slot self.now.row noted →
-            is_interrupters edge.wire ≡ true →
+            is_of parts.Interrupter edge.wire ≡ true →
             result ≡ ruling version (over self.now.slot self.now.row noted pins) edge }
     {
         match edge.wire {
@@ -283,7 +285,7 @@ impl Interrupter {
     pub fn told<A: Outcome>(&self, edge: Edge, pins: Pins) -> A
         ensures { (version : Version) (noted : List Noted) →
             self.now ≡ interrupter_of self.now.slot self.now.row noted →
-            is_interrupters edge.wire ≡ true →
+            is_of parts.Interrupter edge.wire ≡ true →
             A.tells result (guard version (over self.now.slot self.now.row noted pins)
             edge.wire edge.fall edge.value).1 }
     {
@@ -300,7 +302,7 @@ impl Interrupter {
     pub fn failing(&self, edge: Edge, pins: Pins) -> ArrayVec<Condition, 5>
         ensures { (version : Version) (noted : List Noted) →
             self.now ≡ interrupter_of self.now.slot self.now.row noted →
-            is_interrupters edge.wire ≡ true →
+            is_of parts.Interrupter edge.wire ≡ true →
             result.items ≡ failing version (over self.now.slot self.now.row noted pins)
             edge.wire edge.fall edge.value }
     {

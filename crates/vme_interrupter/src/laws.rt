@@ -11,12 +11,13 @@ ghost use Rattle.vme_model.specs.declared.signals.Driver.{Driver};
 ghost use Rattle.vme_model.specs.declared.signals.Driver.TheVariants.{Slot};
 ghost use Rattle.vme_model.specs.declared.signals.Wire.TheVariants.{Dtack};
 ghost use Rattle.vme_model.specs.declared.signals.Edge.{Edge};
-ghost use Rattle.vme_model.specs.Signals.{is_fall_of};
+ghost use Rattle.vme_model.specs.declared.signals.Part.TheVariants as parts;
+ghost use Rattle.vme_model.specs.Signals.{is_fall_of, is_of};
 ghost use Rattle.vme_model.specs.Plan.{Plan, board_of};
 ghost use Rattle.vme_model.specs.Readings.{Readings, is_served};
 ghost use Rattle.vme_model.specs.Verdict.{ruling_on};
 ghost use Rattle.std.specs.Prelude.{Some};
-ghost use Rattle.vme_interrupter.specs.Local.{Noted, edges, served, interrupter_of, seen, is_interrupters, interrupter_readings, SayWhatIsTold};
+ghost use Rattle.vme_interrupter.specs.Local.{Noted, edges, served, interrupter_of, seen, interrupter_readings, SayWhatIsTold};
 
 /// If each edge is noted as it is made, the noted edges are the history.
 pub fn notes_history()
@@ -47,7 +48,7 @@ pub fn reads_what_it_is_told()
         (is_served : Bool) (pins : Pins) (r : Readings) (w : Wire) (fall : Bool)
         (value : Option Cycle) →
         SayWhatIsTold s row own is_served pins r →
-        is_interrupters w ≡ true →
+        is_of parts.Interrupter w ≡ true →
         ruling_on version (interrupter_readings s row own is_served pins) w fall value
         ≡ ruling_on version r w fall value }
 {}

@@ -15,7 +15,9 @@ use Rattle.vme_model.specs.Readings.{Readings}
 use Rattle.vme_model.specs.Guards.{free as no_condition, holds}
 use Rattle.vme_model.specs.Rules.{below_burst, is_below_burst, is_within_burst, may_show}
 use Rattle.vme_model.specs.Verdict.{check, is_other_state, ruling_on}
-use Rattle.vme_master.specs.Local.{is_masters, master_readings, SayWhatIsTold}
+use Rattle.vme_model.specs.declared.signals.Part.TheVariants as parts
+use Rattle.vme_model.specs.Signals.{is_of}
+use Rattle.vme_master.specs.Local.{master_readings, SayWhatIsTold}
 
 alike : (o p b c fall : Bool) (n : ℕ) → o ≡ p → b ≡ c → check (is_other_state o fall) AlreadyThere (check b (Rule n) (Ok tt)) ≡ check (is_other_state p fall) AlreadyThere (check c (Rule n) (Ok tt))
 alike o p b c fall n e f = cc
@@ -34,7 +36,7 @@ module _ (version : Version) (s : ℕ) (row : RequesterRow) (handler : Levels) (
   show_alike (Some (Access slot)) = refl
   show_alike (Some (Acknowledge level)) = cc (says.handles level, says.irq level)
 
-  pub reads_told : (w : Wire) (fall : Bool) (value : Option Cycle) → is_masters w ≡ true → ruling_on version t w fall value ≡ ruling_on version r w fall value
+  pub reads_told : (w : Wire) (fall : Bool) (value : Option Cycle) → is_of parts.Master w ≡ true → ruling_on version t w fall value ≡ ruling_on version r w fall value
   reads_told Addr true v own = alike _ _ _ _ true 15 (sym (says.own_wires Addr refl)) (cc (says.bbsy, says.address_strobe, burst_alike, show_alike v))
   reads_told Addr false v own = alike _ _ _ _ false 19 (sym (says.own_wires Addr refl)) (cc (says.own_wires AddressStrobe refl, says.own_wires DataStrobe refl, says.strobed))
   reads_told AddressStrobe true v own = alike _ _ _ _ true 16 (sym (says.own_wires AddressStrobe refl)) (cc (says.own_wires Addr refl, says.address_strobe))

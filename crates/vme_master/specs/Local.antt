@@ -13,6 +13,8 @@ use Rattle.vme_model.specs.declared.signals.Edge.{Edge}
 use Rattle.vme_model.specs.Sets.{has_level}
 use Rattle.vme_model.specs.History.{drive, cycles, has_strobed}
 use Rattle.vme_model.specs.Readings.{Readings, readings_of_pins}
+use Rattle.vme_model.specs.declared.signals.Part.TheVariants as parts
+use Rattle.vme_model.specs.Signals.{is_of}
 
 -- what a master keeps: where it stands, which of its wires are low (the address group: on), its
 -- cycles, and its data strobe
@@ -45,13 +47,6 @@ master_of s row handler noted = record {
   cycles = min (cycles noted (Slot s)) (most_cycles row.release);
   has_strobed = has_strobed noted (Slot s);
 }
-
--- the wires that a master drives
-abbrev pub is_masters : Wire → Bool
-is_masters Addr = true
-is_masters AddressStrobe = true
-is_masters DataStrobe = true
-is_masters _ = false
 
 -- the state of the wires, by the local state
 abbrev pub low : MasterState → Wire → Bool
@@ -96,7 +91,7 @@ over s row handler noted pins holds_bus =
 -- readings that agree with what a master reads, whatever else they say
 pub record SayWhatIsTold (row : RequesterRow) (handler : Levels) (own : Wire → Bool)
     (cycles : ℕ) (has_strobed : Bool) (pins : Pins) (holds_bus : Bool) (r : Readings) : Type 0 where
-  pub own_wires : (w : Wire) → is_masters w ≡ true → r.own w ≡ own w
+  pub own_wires : (w : Wire) → is_of parts.Master w ≡ true → r.own w ≡ own w
   pub bbsy : r.own Bbsy ≡ holds_bus
   pub tenure : r.cycles ≡ cycles
   pub strobed : r.has_strobed ≡ has_strobed

@@ -9,7 +9,9 @@ ghost use Rattle.vme_model.specs.declared.signals.Version.{Version};
 ghost use Rattle.vme_model.specs.declared.signals.Wire.{Wire};
 ghost use Rattle.vme_model.specs.Readings.{Readings};
 ghost use Rattle.vme_model.specs.Verdict.{ruling_on};
-ghost use Rattle.vme_master.specs.Local.{is_masters, master_readings, SayWhatIsTold};
+ghost use Rattle.vme_model.specs.declared.signals.Part.TheVariants as parts;
+ghost use Rattle.vme_model.specs.Signals.{is_of};
+ghost use Rattle.vme_master.specs.Local.{master_readings, SayWhatIsTold};
 
 /// The rules of a master read its own wires and cycles, the interrupt lines, AS*, DTACK* and BERR*,
 /// its row, its handler and whether its board holds the bus, and nothing else. Any readings that
@@ -19,7 +21,7 @@ pub fn reads_what_it_is_told()
         (own : Wire → Bool) (cycles : ℕ) (has_strobed : Bool) (pins : Pins) (holds_bus : Bool)
         (r : Readings) (w : Wire) (fall : Bool) (value : Option Cycle) →
         SayWhatIsTold row handler own cycles has_strobed pins holds_bus r →
-        is_masters w ≡ true →
+        is_of parts.Master w ≡ true →
         ruling_on version (master_readings s row handler own cycles has_strobed pins holds_bus)
         w fall value
         ≡ ruling_on version r w fall value }

@@ -8,7 +8,9 @@ ghost use Rattle.vme_model.specs.declared.signals.Cycle.{Cycle as CycleValue};
 ghost use Rattle.vme_model.specs.declared.signals.Edge.{Edge as EdgeValue};
 ghost use Rattle.vme_model.specs.Rules.{failing, guard};
 ghost use Rattle.vme_model.specs.Verdict.{ruling, ruling_on};
-ghost use Rattle.vme_master.specs.Local.{master_of, most_cycles, is_masters, low, local, over};
+ghost use Rattle.vme_model.specs.declared.signals.Part.TheVariants as parts;
+ghost use Rattle.vme_model.specs.Signals.{is_of};
+ghost use Rattle.vme_master.specs.Local.{master_of, most_cycles, low, local, over};
 
 use arrayvec::ArrayVec;
 use std::marker::Model;
@@ -256,10 +258,10 @@ impl Master {
     /// E3 if the rule's guard fails.
     #[inline(always)]
     pub fn may(&self, edge: Edge, pins: Pins, holds_bus: bool) -> Result<(), Refused>
-        ensures other { is_masters edge.wire ≡ false → result ≡ Err Refused.NoSuchDriver }
+        ensures other { is_of parts.Master edge.wire ≡ false → result ≡ Err Refused.NoSuchDriver }
         ensures own { (version : Version) (noted : List EdgeValue) →
             self.now ≡ master_of self.now.slot self.now.row self.now.handler noted →
-            is_masters edge.wire ≡ true →
+            is_of parts.Master edge.wire ≡ true →
             result ≡ ruling version
             (over self.now.slot self.now.row self.now.handler noted pins holds_bus) edge }
     {
@@ -276,7 +278,7 @@ impl Master {
     pub fn told<A: Outcome>(&self, edge: Edge, pins: Pins, holds_bus: bool) -> A
         ensures { (version : Version) (noted : List EdgeValue) →
             self.now ≡ master_of self.now.slot self.now.row self.now.handler noted →
-            is_masters edge.wire ≡ true →
+            is_of parts.Master edge.wire ≡ true →
             A.tells result (guard version
             (over self.now.slot self.now.row self.now.handler noted pins holds_bus)
             edge.wire edge.fall edge.value).1 }
@@ -295,7 +297,7 @@ impl Master {
     pub fn failing(&self, edge: Edge, pins: Pins, holds_bus: bool) -> ArrayVec<Condition, 5>
         ensures { (version : Version) (noted : List EdgeValue) →
             self.now ≡ master_of self.now.slot self.now.row self.now.handler noted →
-            is_masters edge.wire ≡ true →
+            is_of parts.Master edge.wire ≡ true →
             result.items ≡ failing version
             (over self.now.slot self.now.row self.now.handler noted pins holds_bus)
             edge.wire edge.fall edge.value }

@@ -10,6 +10,8 @@ pub mod Below
 pub mod Ranges
 -- the four phases of the grant chains, and which edge leads to which
 pub mod GrantPhases
+-- `wires_are_of_one_part` and `wires_stand_at_their_numbers`
+pub mod Wires
 -- what a plan in range says about its slots
 pub mod Members
 -- what an edge that is allowed has passed

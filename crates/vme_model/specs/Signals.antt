@@ -1,10 +1,12 @@
 -- Which drivers, wires and edges there are. (Std 1014, chapters 2 to 4; one edge as the atomic step
 -- is this project's profile.)
-use Rattle.std.specs.Prelude.{◌==◌, ◌&&◌, ℕ, Bool, true, false, Option, Some, None, nat_lt, nat_le}
+use Rattle.std.specs.Prelude.{◌==◌, ◌&&◌, not, ℕ, Bool, true, false, Option, Some, None, nat_lt, nat_le}
 use Rattle.vme_model.specs.declared.signals.Version.{Version}
 use Rattle.vme_model.specs.declared.signals.Version.TheVariants.{One, Two}
 use Rattle.vme_model.specs.declared.signals.Driver.{Driver}
 use Rattle.vme_model.specs.declared.signals.Driver.TheVariants.{Controller, Slot}
+use Rattle.vme_model.specs.declared.signals.Part.{Part}
+use Rattle.vme_model.specs.declared.signals.Part.TheVariants as part
 use Rattle.vme_model.specs.declared.signals.Wire.{Wire}
 use Rattle.vme_model.specs.declared.signals.Wire.TheVariants.{Bg, Bclr, Iack, Berr, Br, BgOut, Bbsy, Addr, AddressStrobe, DataStrobe, Irq, IackOut, Dtack}
 use Rattle.vme_model.specs.declared.signals.Cycle.{Cycle}
@@ -69,18 +71,60 @@ is_slot s = nat_le 1 s && nat_le s 21
 abbrev pub is_level : ℕ → Bool
 is_level level = nat_le 1 level && nat_le level 7
 
+-- the part that drives a wire: the controller, or a part of a board (chapters 2 to 4)
+abbrev pub part_of : Wire → Part
+part_of (Bg level) = part.Controller
+part_of Bclr = part.Controller
+part_of Iack = part.Controller
+part_of Berr = part.Controller
+part_of Br = part.Requester
+part_of BgOut = part.Requester
+part_of Bbsy = part.Requester
+part_of Addr = part.Master
+part_of AddressStrobe = part.Master
+part_of DataStrobe = part.Master
+part_of Irq = part.Interrupter
+part_of IackOut = part.Interrupter
+part_of Dtack = part.Interrupter
+
+-- the two are the same part
+abbrev pub is_same_part : Part → Part → Bool
+is_same_part part.Controller part.Controller = true
+is_same_part part.Requester part.Requester = true
+is_same_part part.Master part.Master = true
+is_same_part part.Interrupter part.Interrupter = true
+is_same_part _ _ = false
+
+-- that part drives the wire
+abbrev pub is_of : Part → Wire → Bool
+is_of p w = is_same_part p (part_of w)
+
 -- which wires the controller and a board have
 abbrev pub has_wire : Driver → Wire → Bool
 has_wire Controller (Bg level) = nat_lt level 4
-has_wire Controller Bclr = true
-has_wire Controller Iack = true
-has_wire Controller Berr = true
-has_wire Controller _ = false
-has_wire (Slot s) (Bg level) = false
-has_wire (Slot s) Bclr = false
-has_wire (Slot s) Iack = false
-has_wire (Slot s) Berr = false
-has_wire (Slot s) _ = is_slot s
+has_wire Controller w = is_of part.Controller w
+has_wire (Slot s) w = not (is_of part.Controller w) && is_slot s
+
+-- a driver's number: 0 for the controller, and otherwise its slot
+abbrev pub driver_number : Driver → ℕ
+driver_number Controller = 0
+driver_number (Slot s) = s
+
+-- a wire's number is its place among all wires, from 0: bg0 to bg3, bclr, iack, berr, br, ..
+abbrev pub wire_number : Wire → ℕ
+wire_number (Bg level) = level
+wire_number Bclr = 4
+wire_number Iack = 5
+wire_number Berr = 6
+wire_number Br = 7
+wire_number BgOut = 8
+wire_number Bbsy = 9
+wire_number Addr = 10
+wire_number AddressStrobe = 11
+wire_number DataStrobe = 12
+wire_number Irq = 13
+wire_number IackOut = 14
+wire_number Dtack = 15
 
 -- an acknowledge, of any level (chapter 4)
 abbrev pub is_acknowledge : Option Cycle → Bool

@@ -3,7 +3,7 @@
 //! These functions do nothing and cost nothing. Each states a theorem over the definitions by its
 //! contract, and a call of it gives the theorem to the prover. The claims are profile;
 //! docs/SAFETY.md explains them.
-ghost use Rattle.std.specs.Prelude.{◌≡◌, ◌↔◌, ℕ, Some, None, true, not, Bool, List, [], Ok, Option, map, filter, is_ok, is_some};
+ghost use Rattle.std.specs.Prelude.{◌≡◌, ◌↔◌, ℕ, Some, None, true, not, Bool, List, [], Ok, Option, map, filter, is_ok, is_some, slice_get, false};
 ghost use Rattle.std.specs.List.{All, list_all};
 ghost use Rattle.vme_model.specs.Accepted.{IsAccepted};
 ghost use Rattle.vme_model.specs.Failing.{all_asked, first_failed, tested, tested_but_full, unmet, unmet_but_full};
@@ -18,15 +18,18 @@ ghost use Rattle.vme_model.specs.Readings.{Readings};
 ghost use Rattle.vme_model.specs.Rules.{failing, rule};
 ghost use Rattle.vme_model.specs.Safe.{IsOrderly, IsSafe};
 ghost use Rattle.vme_model.specs.Settling.{settling, unsettled};
-ghost use Rattle.vme_model.specs.Signals.{is_slot};
+ghost use Rattle.vme_model.specs.Signals.{has_wire, is_of, is_slot, wire_number};
 ghost use Rattle.vme_model.specs.Stands.{grant_at, holder};
+ghost use Rattle.vme_model.specs.Text.{HasWord, all_wires};
 ghost use Rattle.vme_model.specs.Verdict.{IsLegal, State, kept, verdict, verdict_but_full};
 ghost use Rattle.vme_model.specs.Why.{why};
 ghost use Rattle.vme_model.specs.declared.boards.IrqKind.{IrqKind};
 ghost use Rattle.vme_model.specs.declared.signals.Cycle.{Cycle};
 ghost use Rattle.vme_model.specs.declared.signals.Cycle.TheVariants.{Access};
 ghost use Rattle.vme_model.specs.declared.signals.Driver.{Driver};
+ghost use Rattle.vme_model.specs.declared.signals.Driver.TheVariants.{Controller, Slot};
 ghost use Rattle.vme_model.specs.declared.signals.Edge.{Edge};
+ghost use Rattle.vme_model.specs.declared.signals.Part.{Part};
 ghost use Rattle.vme_model.specs.declared.signals.Version.TheVariants.{One, Two};
 ghost use Rattle.vme_model.specs.declared.signals.Version.{Version};
 ghost use Rattle.vme_model.specs.declared.signals.Wire.{Wire};
@@ -142,4 +145,19 @@ pub fn bus_stands_where_it_is_told()
 pub fn accesses_are_open_alike()
     ensures { (b : State) (d : Driver) (s t : ℕ) → is_slot s ≡ true → is_slot t ≡ true →
         verdict b (showing d (Access s)) ≡ verdict b (showing d (Access t)) }
+{}
+
+/// A wire is of one part, and of no other. A wire that the controller has is of the controller's
+/// part, and a wire that a board has is not.
+pub fn wires_are_of_one_part()
+    ensures apart { (p q : Part) (w : Wire) → is_of p w ≡ true → is_of q w ≡ true → p ≡ q }
+    ensures controllers { (w : Wire) → has_wire Controller w ≡ true →
+        is_of Part.Controller w ≡ true }
+    ensures boards { (s : ℕ) (w : Wire) → has_wire (Slot s) w ≡ true →
+        is_of Part.Controller w ≡ false }
+{}
+
+/// A wire's number is its place among all wires, so no two wires have one number.
+pub fn wires_stand_at_their_numbers()
+    ensures { (w : Wire) → HasWord w → slice_get all_wires (wire_number w) ≡ Some w }
 {}

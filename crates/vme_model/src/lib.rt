@@ -25,7 +25,7 @@ pub use deliveries::Delivery;
 pub use pins::Pins;
 pub use refusals::{Field, PlanError, Refused};
 pub use sets::{BusLevels, ChainId, Chains, Levels};
-pub use signals::{Cycle, Driver, Edge, Version, Wire};
+pub use signals::{Cycle, Driver, Edge, Part, Version, Wire};
 pub use witnesses::Witness;
 
 /// The most edges that a trace can hold; the next one is refused as E5. Source: profile.

@@ -1,6 +1,7 @@
 //! Drivers, wires and edges.
-ghost use Rattle.std.specs.Prelude.{◌≡◌, ◌≤◌, length, Some};
-ghost use Rattle.vme_model.specs.Signals.{is_two, is_same_driver, is_same_wire, is_grant, is_grant_wire, grant_level, has_wire, is_slot, is_level, is_acknowledge, is_in_range, is_well_formed};
+ghost use Rattle.std.specs.Prelude.{◌≡◌, ◌<◌, ◌≤◌, length, Some};
+ghost use Rattle.vme_model.specs.Signals.{is_two, is_same_driver, is_same_wire, is_grant, is_grant_wire, grant_level, has_wire, part_of, driver_number, wire_number, is_slot, is_level, is_acknowledge, is_in_range, is_well_formed};
+ghost use Rattle.vme_model.specs.Offers.{wires};
 ghost use Rattle.vme_model.specs.Spoken.{state_text};
 ghost use Rattle.vme_model.specs.Text.{HasWord, wire_text};
 
@@ -54,6 +55,44 @@ pub enum Wire {
     /// A board's data transfer acknowledge.
     Dtack,
 }
+
+/// What drives a wire: the controller, or one of the three parts of a board. Source: Std 1014,
+/// chapters 2 to 4; that what slot 1 adds is one part is profile.
+#[derive(Clone, Copy, PartialEq, Eq, Debug)]
+pub enum Part {
+    /// What slot 1 adds: the arbiter, the head of the acknowledge chain and the bus timer.
+    Controller,
+    /// A board's requester.
+    Requester,
+    /// A board's master.
+    Master,
+    /// A board's interrupter, with what answers at a read or an acknowledge.
+    Interrupter,
+}
+
+/// The controller's wires, in the order of its offers.
+const CONTROLLERS: [Wire; 7] = [
+    Wire::Bg(0),
+    Wire::Bg(1),
+    Wire::Bg(2),
+    Wire::Bg(3),
+    Wire::Bclr,
+    Wire::Iack,
+    Wire::Berr,
+];
+
+/// A board's wires, in that order.
+const BOARDS: [Wire; 9] = [
+    Wire::Br,
+    Wire::BgOut,
+    Wire::Bbsy,
+    Wire::Addr,
+    Wire::AddressStrobe,
+    Wire::DataStrobe,
+    Wire::Irq,
+    Wire::IackOut,
+    Wire::Dtack,
+];
 
 /// What an address group that is on shows. Source: Std 1014, chapters 2 and 4.
 #[derive(Clone, Copy, PartialEq, Eq, Debug)]
@@ -109,16 +148,38 @@ impl Driver {
         self == other
     }
 
+    /// The driver's number: 0 for the controller, and otherwise its slot. Source: profile.
+    #[inline(always)]
+    pub fn number(self) -> u8
+        ensures { result ≡ driver_number self }
+    {
+        match self {
+            Driver::Controller => 0,
+            Driver::Slot(slot) => slot,
+        }
+    }
+
+    /// The driver's wires, in the order of its offers: the controller has 7, a board 9. Source:
+    /// profile.
+    #[inline]
+    pub fn wires(self) -> &'static [Wire]
+        ensures { result.now ≡ wires self }
+    {
+        match self {
+            Driver::Controller => &CONTROLLERS,
+            Driver::Slot(_) => &BOARDS,
+        }
+    }
+
     /// Whether such a driver has such a wire on some backplane. The slot's number and a grant's
     /// level are tested too.
     #[inline(always)]
     pub fn has_wire(self, wire: Wire) -> bool
         ensures { result ≡ has_wire self wire }
     {
-        match (self, wire) {
-            (Driver::Controller, wire) => wire.is_controllers(),
-            (Driver::Slot(_), Wire::Bg(_) | Wire::Bclr | Wire::Iack | Wire::Berr) => false,
-            (Driver::Slot(slot), _) => is_slot(slot),
+        match self {
+            Driver::Controller => wire.is_controllers(),
+            Driver::Slot(slot) => !matches!(wire.part(), Part::Controller) && is_slot(slot),
         }
     }
 }
@@ -129,6 +190,46 @@ impl Wire {
         ensures { result ≡ is_same_wire self wire }
     {
         self == wire
+    }
+
+    /// The part that drives the wire. Source: Std 1014, chapters 2 to 4.
+    #[inline(always)]
+    pub fn part(self) -> Part
+        ensures { result ≡ part_of self }
+    {
+        match self {
+            Wire::Bg(_) | Wire::Bclr | Wire::Iack | Wire::Berr => Part::Controller,
+            Wire::Br | Wire::BgOut | Wire::Bbsy => Part::Requester,
+            Wire::Addr | Wire::AddressStrobe | Wire::DataStrobe => Part::Master,
+            Wire::Irq | Wire::IackOut | Wire::Dtack => Part::Interrupter,
+        }
+    }
+
+    /// The wire's place among all wires, from 0: `bg0` to `bg3`, `bclr`, `iack`, `berr`, `br` and so
+    /// on to `dtack`, which has 15. A grant has the number of its level, which should be 0 to 3.
+    /// Source: profile.
+    #[inline(always)]
+    pub fn number(self) -> u8
+        ensures place { result ≡ wire_number self }
+        ensures within { HasWord self → result < 16 }
+    {
+        // A level is added and not chosen, so that the number is found without a branch.
+        let after_grants = match self {
+            Wire::Bg(_) => 0,
+            Wire::Bclr => 4,
+            Wire::Iack => 5,
+            Wire::Berr => 6,
+            Wire::Br => 7,
+            Wire::BgOut => 8,
+            Wire::Bbsy => 9,
+            Wire::Addr => 10,
+            Wire::AddressStrobe => 11,
+            Wire::DataStrobe => 12,
+            Wire::Irq => 13,
+            Wire::IackOut => 14,
+            Wire::Dtack => 15,
+        };
+        after_grants + self.grant_level()
     }
 
     /// Whether this is one of the controller's grants.
@@ -150,6 +251,7 @@ impl Wire {
     }
 
     /// The level of a grant, or 0 for any other wire.
+    #[inline(always)]
     pub fn grant_level(self) -> u8
         ensures { result ≡ grant_level self }
     {

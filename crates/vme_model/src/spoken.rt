@@ -8,31 +8,10 @@ use crate::boards::{IrqKind, Row};
 use crate::conditions::Condition;
 use crate::signals::{Cycle, Driver, Edge, Wire};
 use arrayvec::ArrayVec;
-use itoa::Buffer;
+use vme_text::{push, push_byte};
 
 /// Room for the text of any condition, in bytes: the longest has 45.
 const TEXT: usize = 48;
-
-/// Appends a text. The line has to have room for it.
-fn push(line: &mut ArrayVec<u8, TEXT>, text: &str)
-    requires { array_vec_len line.old + length text.now ≤ 48 }
-    ensures items { line.new.items ≡ line.old.items ++ text.now }
-    ensures len { array_vec_len line.new ≡ array_vec_len line.old + length text.now }
-{
-    if line.try_extend_from_slice(text.as_bytes()).is_err() {
-        unreachable!()
-    }
-}
-
-/// Appends a number in decimal. The line has to have room for 3 digits.
-fn push_number(line: &mut ArrayVec<u8, TEXT>, n: u8)
-    requires { array_vec_len line.old + 3 ≤ 48 }
-    ensures items { line.new.items ≡ line.old.items ++ decimal n }
-    ensures len { array_vec_len line.new ≤ array_vec_len line.old + 3 }
-{
-    let mut digits = Buffer::new();
-    push(line, digits.format(n));
-}
 
 /// The text alone, as a line.
 fn text_of(text: &str) -> ArrayVec<u8, TEXT>
@@ -40,7 +19,7 @@ fn text_of(text: &str) -> ArrayVec<u8, TEXT>
     ensures { result.items ≡ text.now }
 {
     let mut line = ArrayVec::new();
-    push(&mut line, text);
+    push(&mut line, text.as_bytes());
     line
 }
 
@@ -51,8 +30,8 @@ fn with_number(text: &str, n: u8) -> ArrayVec<u8, TEXT>
     ensures len { array_vec_len result ≤ length text.now + 3 }
 {
     let mut line = ArrayVec::new();
-    push(&mut line, text);
-    push_number(&mut line, n);
+    push(&mut line, text.as_bytes());
+    push_byte(&mut line, n);
     line
 }
 
@@ -104,13 +83,13 @@ fn moved_text(edge: &Edge) -> ArrayVec<u8, TEXT>
 {
     let mut line = ArrayVec::new();
     match edge.driver {
-        Driver::Controller => push(&mut line, "c"),
-        Driver::Slot(slot) => push_number(&mut line, slot),
+        Driver::Controller => push(&mut line, b"c"),
+        Driver::Slot(slot) => push_byte(&mut line, slot),
     }
-    push(&mut line, " ");
-    push(&mut line, edge.wire.word());
-    push(&mut line, " is ");
-    push(&mut line, edge.wire.state(!edge.fall));
+    push(&mut line, b" ");
+    push(&mut line, edge.wire.word().as_bytes());
+    push(&mut line, b" is ");
+    push(&mut line, edge.wire.state(!edge.fall).as_bytes());
     line
 }
 
@@ -128,7 +107,7 @@ impl Condition {
             Condition::Handled => with_number("the board handles level ", level_of(edge.value)),
             Condition::InterruptLow => {
                 let mut line = with_number("IRQ", level_of(edge.value));
-                push(&mut line, "* is low");
+                push(&mut line, b"* is low");
                 line
             }
             Condition::Pending => with_number("pending at level ", level_of(shown)),

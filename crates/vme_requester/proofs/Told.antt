@@ -16,7 +16,9 @@ use Rattle.vme_model.specs.Readings.{Readings}
 use Rattle.vme_model.specs.Guards.{free as no_condition, holds}
 use Rattle.vme_model.specs.Rules.{released, bus_numbers, is_asked, may_release}
 use Rattle.vme_model.specs.Verdict.{check, is_other_state, ruling_on}
-use Rattle.vme_requester.specs.Local.{is_requesters, requester_readings, SayWhatIsTold}
+use Rattle.vme_model.specs.declared.signals.Part.TheVariants as parts
+use Rattle.vme_model.specs.Signals.{is_of}
+use Rattle.vme_requester.specs.Local.{requester_readings, SayWhatIsTold}
 
 asked_alike : (r t : Readings) (release : Release) → ((n : ℕ) → r.request n ≡ t.request n) → is_asked r release ≡ is_asked t release
 asked_alike r t (Done burst) same = refl
@@ -38,7 +40,7 @@ module _ (version : Version) (s : ℕ) (row : RequesterRow) (own : Wire → Bool
       sym (asked_alike r t row.release says.requests)
       ∙ ap (λ q. holds (option_map_or (λ a. released (list_any r.request bus_numbers) a.release) q no_condition)) (sym says.requester)
 
-  pub reads_told : (w : Wire) (fall : Bool) (value : Option Cycle) → is_requesters w ≡ true → ruling_on version t w fall value ≡ ruling_on version r w fall value
+  pub reads_told : (w : Wire) (fall : Bool) (value : Option Cycle) → is_of parts.Requester w ≡ true → ruling_on version t w fall value ≡ ruling_on version r w fall value
   reads_told Br true v own = alike _ _ _ _ true 9 (sym (says.own_wires Br refl)) (cc (says.own_wires Bbsy refl))
   reads_told Br false v own = alike _ _ _ _ false 10 (sym (says.own_wires Br refl)) (cc (says.own_wires Bbsy refl))
   reads_told BgOut true v own = alike _ _ _ _ true 11 (sym (says.own_wires BgOut refl)) (cc (says.own_wires Br refl, says.own_wires Bbsy refl, says.grant_in))

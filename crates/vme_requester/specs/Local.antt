@@ -16,6 +16,8 @@ use Rattle.vme_model.specs.Readings.{Readings, readings_of_pins}
 use Rattle.vme_model.specs.Guards.{Guard, failed}
 use Rattle.vme_model.specs.Rules.{guard}
 use Rattle.vme_model.specs.Verdict.{Judgement, ruling}
+use Rattle.vme_model.specs.declared.signals.Part.TheVariants as parts
+use Rattle.vme_model.specs.Signals.{is_of}
 
 -- what a requester keeps: where it stands, the version of its rules, and which of its wires are low
 pub record RequesterState : Type 0 where
@@ -36,13 +38,6 @@ requester_of s row version noted = record {
   bgout = drive noted (Slot s) BgOut;
   bbsy = drive noted (Slot s) Bbsy;
 }
-
--- the wires that a requester drives
-abbrev pub is_requesters : Wire → Bool
-is_requesters Br = true
-is_requesters BgOut = true
-is_requesters Bbsy = true
-is_requesters _ = false
 
 -- the state of the wires, by the local state
 abbrev pub low : RequesterState → Wire → Bool
@@ -72,7 +67,7 @@ local r pins is_address_free = requester_readings r.slot r.row (low r) pins is_a
 -- readings that agree with what a requester reads, whatever else they say
 pub record SayWhatIsTold (row : RequesterRow) (own : Wire → Bool) (pins : Pins)
     (is_address_free : Bool) (r : Readings) : Type 0 where
-  pub own_wires : (w : Wire) → is_requesters w ≡ true → r.own w ≡ own w
+  pub own_wires : (w : Wire) → is_of parts.Requester w ≡ true → r.own w ≡ own w
   pub address_free : (not (r.own Addr) || r.own AddressStrobe) ≡ is_address_free
   pub requests : (n : ℕ) → r.request n ≡ has_bus_level pins.requests n
   pub grant_in : r.grant_in ≡ pins.grant_in

@@ -8,7 +8,9 @@ ghost use Rattle.vme_model.specs.declared.signals.Version.{Version};
 ghost use Rattle.vme_model.specs.declared.signals.Wire.{Wire};
 ghost use Rattle.vme_model.specs.Readings.{Readings};
 ghost use Rattle.vme_model.specs.Verdict.{ruling_on};
-ghost use Rattle.vme_requester.specs.Local.{is_requesters, requester_readings, SayWhatIsTold};
+ghost use Rattle.vme_model.specs.declared.signals.Part.TheVariants as parts;
+ghost use Rattle.vme_model.specs.Signals.{is_of};
+ghost use Rattle.vme_requester.specs.Local.{requester_readings, SayWhatIsTold};
 
 /// The rules of a requester read its own wires, the request lines, its grant-in, its row and
 /// whether its address is free, and nothing else. Any readings that agree on these have the same
@@ -17,7 +19,7 @@ pub fn reads_what_it_is_told()
     ensures { (version : Version) (s : ℕ) (row : RequesterRow) (own : Wire → Bool) (pins : Pins)
         (is_address_free : Bool) (r : Readings) (w : Wire) (fall : Bool) (value : Option Cycle) →
         SayWhatIsTold row own pins is_address_free r →
-        is_requesters w ≡ true →
+        is_of parts.Requester w ≡ true →
         ruling_on version (requester_readings s row own pins is_address_free) w fall value
         ≡ ruling_on version r w fall value }
 {}

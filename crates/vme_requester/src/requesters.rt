@@ -6,11 +6,12 @@ ghost use Rattle.vme_model.specs.declared.pins.Pins.{Pins as PinsValue};
 ghost use Rattle.vme_model.specs.declared.signals.Cycle.{Cycle as CycleValue};
 ghost use Rattle.vme_model.specs.declared.signals.Version.{Version as VersionValue};
 ghost use Rattle.vme_model.specs.declared.signals.Edge.{Edge as EdgeValue};
-ghost use Rattle.vme_model.specs.Signals.{is_two};
+ghost use Rattle.vme_model.specs.declared.signals.Part.TheVariants as parts;
+ghost use Rattle.vme_model.specs.Signals.{is_two, is_of};
 ghost use Rattle.vme_model.specs.Sets.{has_bus_level};
 ghost use Rattle.vme_model.specs.Rules.{bus_numbers, guard};
 ghost use Rattle.vme_model.specs.Verdict.{ruling_on};
-ghost use Rattle.vme_requester.specs.Local.{requester_of, is_requesters, low, local, answer_over, guard_over, failing_over};
+ghost use Rattle.vme_requester.specs.Local.{requester_of, low, local, answer_over, guard_over, failing_over};
 
 use arrayvec::ArrayVec;
 use std::marker::Model;
@@ -234,10 +235,10 @@ impl Requester {
     /// E3 if the rule's guard fails.
     #[inline(always)]
     pub fn may(&self, edge: Edge, pins: Pins, is_address_free: bool) -> Result<(), Refused>
-        ensures other { is_requesters edge.wire ≡ false → result ≡ Err Refused.NoSuchDriver }
+        ensures other { is_of parts.Requester edge.wire ≡ false → result ≡ Err Refused.NoSuchDriver }
         ensures own { (noted : List EdgeValue) →
             self.now ≡ requester_of self.now.slot self.now.row self.now.version noted →
-            is_requesters edge.wire ≡ true →
+            is_of parts.Requester edge.wire ≡ true →
             result ≡ answer_over self.now.slot self.now.row self.now.version noted pins
             is_address_free edge }
     {
@@ -257,7 +258,7 @@ impl Requester {
     pub fn told<A: Outcome>(&self, edge: Edge, pins: Pins, is_address_free: bool) -> A
         ensures { (noted : List EdgeValue) →
             self.now ≡ requester_of self.now.slot self.now.row self.now.version noted →
-            is_requesters edge.wire ≡ true →
+            is_of parts.Requester edge.wire ≡ true →
             A.tells result (guard_over self.now.slot self.now.row self.now.version noted pins
             is_address_free edge) }
     {
@@ -279,7 +280,7 @@ impl Requester {
     pub fn failing(&self, edge: Edge, pins: Pins, is_address_free: bool) -> ArrayVec<Condition, 5>
         ensures { (noted : List EdgeValue) →
             self.now ≡ requester_of self.now.slot self.now.row self.now.version noted →
-            is_requesters edge.wire ≡ true →
+            is_of parts.Requester edge.wire ≡ true →
             result.items ≡ failing_over self.now.slot self.now.row self.now.version noted pins
             is_address_free edge }
     {

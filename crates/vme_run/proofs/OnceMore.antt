@@ -9,7 +9,7 @@ use Rattle.vme_model.specs.declared.refusals.Refused.{Refused}
 use Rattle.vme_model.specs.declared.refusals.Refused.TheVariants.{TraceFull}
 use Rattle.vme_model.specs.History.{in_order}
 use Rattle.vme_model.specs.Verdict.{State, IsLegal, check, verdict, made, after}
-use Rattle.vme_backplane.proofs.Judged.{passed}
+use Rattle.vme_histories.proofs.Judged.{passed}
 use Rattle.vme_backplane.proofs.Replayed.{next_edge, was_allowed, all_made}
 
 -- a backplane with only the first i edges of its history

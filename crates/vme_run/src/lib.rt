@@ -6,6 +6,7 @@ ghost use Rattle.std.specs.Prelude.{Some};
 ghost use Rattle.vme_run.specs.Names.{driver_name};
 
 mod boards;
+mod histories;
 mod runs;
 
 pub use runs::run;

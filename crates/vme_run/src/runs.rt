@@ -6,13 +6,14 @@ ghost use Rattle.vme_run.specs.Running.{Runs};
 
 use crate::RunFault;
 use crate::boards::play;
+use crate::histories::write_history;
 use std::alloc::Global;
 use std::io::Write;
 use std::sync::Wait;
 use std::thread::Threads;
 use vme_arena::{Region, Rest};
 use vme_backplane::{Backplane, Trace, TraceError};
-use vme_engines::{EngineFault, Status, plan_of, status_of, write_history};
+use vme_engines::{EngineFault, Status, plan_of, status_of};
 use vme_lock::Bounds;
 use vme_model::Version;
 use vme_slots::Plan;

@@ -28,7 +28,7 @@ use Rattle.vme_model.proofs.Ranges.{IsRowInRange, in_range}
 use Rattle.vme_model.proofs.Safety.{legal_is_safe}
 use Rattle.vme_model.proofs.Standing.{holder_holds, grant_travels, none_travels}
 use Rattle.vme_slots.proofs.Slots.{find_up_to_first}
-use Rattle.vme_wiring.proofs.FieldReads.{never_drove}
+use Rattle.vme_histories.proofs.Drivers.{never_drove}
 use Rattle.vme_show.specs.Picture.{Column, columns, slot_mark}
 use Rattle.vme_show.specs.Letters.{TellsEveryGrant, TellsEveryHolder}
 

@@ -8,8 +8,8 @@ ghost use Rattle.vme_show.specs.Columns.{digit_of, topic_line, topic_name, wire_
 use crate::columns::{Column, Topic};
 use crate::wires::PlanWire;
 use arrayvec::ArrayVec;
-use vme_explain::texts::{push, push_byte, push_number};
 use vme_model::{Driver, Wire};
+use vme_text::{push, push_byte, push_number};
 
 /// The characters before the first column.
 const LABEL: usize = 11;

@@ -3,7 +3,7 @@ use Rattle.std.proofs.Common.{◌≡◌, ◌+◌, ◌-◌, ◌*◌, ◌/◌, ◌
 use Rattle.std.specs.Prelude.{Option, Some, None, ◌==◌, nat_lt, if◌then◌else◌}
 use Rattle.std.proofs.lemmas.Bool.{and_parts}
 use Rattle.std.proofs.lemmas.Bool.Decides.{nat_tests}
-use Rattle.vme_model.specs.Signals.{is_well_formed, has_wire, has_value, is_slot, is_level, is_in_range}
+use Rattle.vme_model.specs.Signals.{is_well_formed, has_wire, has_value, is_slot, is_level, is_in_range, driver_number, wire_number}
 use Rattle.vme_model.specs.declared.signals.Driver.{Driver}
 use Rattle.vme_model.specs.declared.signals.Driver.TheVariants.{Controller, Slot}
 use Rattle.vme_model.specs.declared.signals.Wire.{Wire}
@@ -11,7 +11,7 @@ use Rattle.vme_model.specs.declared.signals.Wire.TheVariants.{Bg, Bclr, Iack, Be
 use Rattle.vme_model.specs.declared.signals.Cycle.{Cycle}
 use Rattle.vme_model.specs.declared.signals.Cycle.TheVariants.{Acknowledge, Access}
 use Rattle.vme_model.specs.declared.signals.Edge.{Edge}
-use Rattle.vme_store.specs.Codes.{driver_code, wire_code, fall_code, value_code, code_of, driver_of, wire_of, value_of, edge_of}
+use Rattle.vme_store.specs.Codes.{fall_code, value_code, code_of, driver_of, wire_of, value_of, edge_of}
 
 -- the four parts of a code
 abbrev joined : ℕ → ℕ → ℕ → ℕ → ℕ
@@ -48,9 +48,9 @@ bg_below level h = grind (arith, nat_tests, h)
 
 -- a wire that the driver has, and the driver
 abbrev AreBack : Driver → Wire → Type 0
-AreBack d w = (driver_of (driver_code d) ≡ d) × (driver_code d < 32) × (wire_of (wire_code w) ≡ w) × (wire_code w < 16)
+AreBack d w = (driver_of (driver_number d) ≡ d) × (driver_number d < 32) × (wire_of (wire_number w) ≡ w) × (wire_number w < 16)
 
-at_slot : (s : ℕ) (w : Wire) → is_slot s ≡ true → wire_of (wire_code w) ≡ w → wire_code w < 16 → AreBack (Slot s) w
+at_slot : (s : ℕ) (w : Wire) → is_slot s ≡ true → wire_of (wire_number w) ≡ w → wire_number w < 16 → AreBack (Slot s) w
 at_slot s w h e l =
     let from : 1 ≤ s = slot_from s h in
     let to : s ≤ 21 = slot_to s h in
@@ -124,18 +124,18 @@ unfolding edge_of
 round_trip e h =
     let p = parts_of e h in
     let f = fall_back e.fall in
-    let i = first (driver_code e.driver) (wire_code e.wire) (fall_code e.fall) (value_code e.value) p.wires.1 p.wires.3 f.1 p.value.1 in
-    let j = second (driver_code e.driver) (wire_code e.wire) (fall_code e.fall) (value_code e.value) p.wires.3 f.1 p.value.1 in
-    let k = third (driver_code e.driver) (wire_code e.wire) (fall_code e.fall) (value_code e.value) f.1 p.value.1 in
-    let l = fourth (driver_code e.driver) (wire_code e.wire) (fall_code e.fall) (value_code e.value) p.value.1 in
+    let i = first (driver_number e.driver) (wire_number e.wire) (fall_code e.fall) (value_code e.value) p.wires.1 p.wires.3 f.1 p.value.1 in
+    let j = second (driver_number e.driver) (wire_number e.wire) (fall_code e.fall) (value_code e.value) p.wires.3 f.1 p.value.1 in
+    let k = third (driver_number e.driver) (wire_number e.wire) (fall_code e.fall) (value_code e.value) f.1 p.value.1 in
+    let l = fourth (driver_number e.driver) (wire_number e.wire) (fall_code e.fall) (value_code e.value) p.value.1 in
     rw (i, j, k, l, p.wires.0, p.wires.2, f.0, p.value.0) refl
 
 pub below : (e : Edge) → is_well_formed e ≡ true → code_of e < 2 ^ 15
 below e h =
     let p = parts_of e h in
     let f = fall_back e.fall in
-    let a : driver_code e.driver < 32 = p.wires.1 in
-    let b : wire_code e.wire < 16 = p.wires.3 in
+    let a : driver_number e.driver < 32 = p.wires.1 in
+    let b : wire_number e.wire < 16 = p.wires.3 in
     let c : fall_code e.fall < 2 = f.1 in
     let d : value_code e.value < 32 = p.value.1 in
     omega arith

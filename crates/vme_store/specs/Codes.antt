@@ -7,25 +7,7 @@ use Rattle.vme_model.specs.declared.signals.Wire.TheVariants.{Bg, Bclr, Iack, Be
 use Rattle.vme_model.specs.declared.signals.Cycle.{Cycle}
 use Rattle.vme_model.specs.declared.signals.Cycle.TheVariants.{Acknowledge, Access}
 use Rattle.vme_model.specs.declared.signals.Edge.{Edge}
-
-abbrev pub driver_code : Driver → ℕ
-driver_code Controller = 0
-driver_code (Slot s) = s
-
-abbrev pub wire_code : Wire → ℕ
-wire_code (Bg level) = level
-wire_code Bclr = 4
-wire_code Iack = 5
-wire_code Berr = 6
-wire_code Br = 7
-wire_code BgOut = 8
-wire_code Bbsy = 9
-wire_code Addr = 10
-wire_code AddressStrobe = 11
-wire_code DataStrobe = 12
-wire_code Irq = 13
-wire_code IackOut = 14
-wire_code Dtack = 15
+use Rattle.vme_model.specs.Signals.{driver_number, wire_number}
 
 abbrev pub fall_code : Bool → ℕ
 fall_code true = 1
@@ -40,7 +22,7 @@ value_code (Some (Access s)) = s + 7
 -- the code of an edge
 abbrev pub code_of : Edge → ℕ
 code_of e =
-    ((driver_code e.driver * 16 + wire_code e.wire) * 2 + fall_code e.fall) * 32
+    ((driver_number e.driver * 16 + wire_number e.wire) * 2 + fall_code e.fall) * 32
     + value_code e.value
 
 abbrev pub driver_of : ℕ → Driver

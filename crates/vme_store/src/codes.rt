@@ -1,7 +1,7 @@
 //! An edge as one number.
 ghost use Rattle.std.specs.Prelude.{◌≡◌, ◌<◌, true};
 ghost use Rattle.vme_model.specs.Signals.{is_well_formed};
-ghost use Rattle.vme_store.specs.Codes.{driver_code, wire_code, fall_code, value_code, code_of, driver_of, wire_of, value_of, edge_of};
+ghost use Rattle.vme_store.specs.Codes.{fall_code, value_code, code_of, driver_of, wire_of, value_of, edge_of};
 
 use std::marker::Model;
 use vme_model::{Cycle, Driver, Edge, Wire};
@@ -56,39 +56,6 @@ impl Code {
 }
 
 #[inline(always)]
-fn driver_code(driver: Driver) -> u32
-    ensures value { result ≡ driver_code driver }
-    ensures bounded { result < 256 }
-{
-    match driver {
-        Driver::Controller => 0,
-        Driver::Slot(slot) => u32::from(slot),
-    }
-}
-
-#[inline(always)]
-fn wire_code(wire: Wire) -> u32
-    ensures value { result ≡ wire_code wire }
-    ensures bounded { result < 256 }
-{
-    match wire {
-        Wire::Bg(level) => u32::from(level),
-        Wire::Bclr => 4,
-        Wire::Iack => 5,
-        Wire::Berr => 6,
-        Wire::Br => 7,
-        Wire::BgOut => 8,
-        Wire::Bbsy => 9,
-        Wire::Addr => 10,
-        Wire::AddressStrobe => 11,
-        Wire::DataStrobe => 12,
-        Wire::Irq => 13,
-        Wire::IackOut => 14,
-        Wire::Dtack => 15,
-    }
-}
-
-#[inline(always)]
 fn value_code(value: Option<Cycle>) -> u32
     ensures value { result ≡ value_code value }
     ensures bounded { result < 512 }
@@ -113,7 +80,7 @@ fn fall_code(fall: bool) -> u32
 pub(crate) fn code_of(edge: Edge) -> u32
     ensures { result ≡ code_of edge }
 {
-    let wire = driver_code(edge.driver) * 16 + wire_code(edge.wire);
+    let wire = u32::from(edge.driver.number()) * 16 + u32::from(edge.wire.number());
     (wire * 2 + fall_code(edge.fall)) * 32 + value_code(edge.value)
 }
 

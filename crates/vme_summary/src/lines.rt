@@ -14,10 +14,11 @@ use crate::sums::Sums;
 use crate::tallies::Tally;
 use crate::topics::Topic;
 use arrayvec::ArrayVec;
-use vme_explain::texts::{push, push_byte, push_number, push_verdict};
+use vme_explain::texts::push_verdict;
 use vme_goals::Event;
 use vme_model::Refused;
 use vme_slots::Plan;
+use vme_text::{push, push_byte, push_number};
 
 /// Room for any line: a board's has nine words of at most 14 bytes, and as many numbers of 20
 /// digits and more.

@@ -5,6 +5,7 @@ use std::process::Abort;
 use std::test::*;
 use vme_arena::Region;
 use vme_backplane::{Backplane, Trace, TraceError};
+use vme_bus::Bus;
 use vme_model::{
     ArbiterKind, Condition, Cycle, Delivery, Driver, Edge, Levels, Refused, Row, Version, Wire,
 };
@@ -160,8 +161,8 @@ const IN_ROUNDS: [Edge; 3] = [
 const FOURTH: Driver = Driver::Slot(4);
 
 /// A grant reaches slot 3, while slot 2 requests too late and slot 4 waits. Each edge stands with
-/// the conditions that it fails. The twelve edges that fail none fill the trace.
-const A_LATE_REQUEST: [(Edge, &[Condition]); 23] = [
+/// the conditions that it fails.
+const A_LATE_REQUEST: [(Edge, &[Condition]); 22] = [
     (fall!(FOURTH, Wire::Br), &[]),
     (fall!(CONTROLLER, Wire::Bg(3)), &[]),
     (fall!(SECOND, Wire::BgOut), &[]),
@@ -197,7 +198,6 @@ const A_LATE_REQUEST: [(Edge, &[Condition]); 23] = [
         fall!(THIRD, Wire::Addr, Some(Cycle::Access(1))),
         &[Condition::OwnBusyLow],
     ),
-    (fall!(THIRD, Wire::Br), &[Condition::HasRoom]),
 ];
 
 /// The bus timer may not end a cycle that a board can answer, and the data strobe may not rise
@@ -284,7 +284,7 @@ fn delivered_by(backplane: &mut Backplane<'_>, edge: Edge) -> Option<Delivery> {
 
 /// Whether the backplane is at power-up, under the first version of the rules, with three slots.
 fn is_new(backplane: &Backplane<'_>) -> bool {
-    backplane.is_empty() && backplane.version() == Version::One && backplane.plan().slots() == 3
+    backplane.len() == 0 && backplane.version() == Version::One && backplane.plan().slots() == 3
 }
 
 /// The edge at a place, if that many edges were made.
@@ -305,29 +305,26 @@ fn assert_refused(rt: &impl Abort, backplane: &mut Backplane<'_>, cases: &[(Edge
 
 /// Asserts that each edge fails the conditions that stand with it, and is accepted if there are
 /// none.
-fn assert_fails(rt: &impl Abort, backplane: &mut Backplane<'_>, cases: &[(Edge, &[Condition])]) {
+fn assert_fails(rt: &impl Abort, bus: &mut Bus, cases: &[(Edge, &[Condition])]) {
     for (edge, conditions) in cases {
-        let is_accepted: bool = backplane.told(*edge);
-        assert!(rt; backplane.failing(*edge).as_slice() == *conditions);
+        let is_accepted: bool = bus.told(*edge);
+        assert!(rt; bus.failing(*edge).as_slice() == *conditions);
         assert!(rt; is_accepted == conditions.is_empty());
-        assert!(rt; backplane.step(*edge).is_ok() == is_accepted);
+        assert!(rt; bus.step(*edge).is_ok() == is_accepted);
     }
 }
 
-/// Asserts, on a backplane with these boards and room for `max` edges, that each edge fails the
-/// conditions that stand with it, and is accepted if there are none.
+/// Asserts, on a bus with these boards, that each edge fails the conditions that stand with it, and
+/// is accepted if there are none.
 fn assert_told<R: AllocGlobal + Abort>(
     rt: &R,
     rows: &[Row],
     version: Version,
-    max: u32,
     cases: &[(Edge, &[Condition])],
 ) -> Result<(), Fail> {
-    let mut region = Region::new(rt.alloc(), Trace::bytes(100))?;
     let plan = Plan::new(rt.alloc(), 4, rows, &[], ArbiterKind::Sgl)?;
-    let trace = Trace::on(rt.alloc(), &mut region.rest(), max)?;
-    let mut backplane = Backplane::new(plan, trace, version);
-    assert_fails(rt, &mut backplane, cases);
+    let mut bus = Bus::new(plan, version);
+    assert_fails(rt, &mut bus, cases);
     Ok(())
 }
 
@@ -339,14 +336,14 @@ fn a_late_request_fails_its_conditions(rt: HostRuntime) -> Result<(), Fail> {
         requester(3, 3, 1),
         requester(4, 3, 1),
     ];
-    assert_told(&rt, &rows, Version::One, 12, &A_LATE_REQUEST)
+    assert_told(&rt, &rows, Version::One, &A_LATE_REQUEST)
 }
 
 #[test]
 fn a_settling_rule_is_told_where_its_rule_holds(rt: HostRuntime) -> Result<(), Fail> {
     let rows = [requester(1, 3, 2), requester(2, 3, 2)];
-    assert_told(&rt, &rows, Version::One, 100, &AN_ACCESS)?;
-    assert_told(&rt, &rows, Version::Two, 100, &WITHDRAWN)
+    assert_told(&rt, &rows, Version::One, &AN_ACCESS)?;
+    assert_told(&rt, &rows, Version::Two, &WITHDRAWN)
 }
 
 /// Whether no driver is offered anything.

@@ -4,8 +4,7 @@ use bitflags::Flags;
 use std::alloc::Global;
 use std::process::Abort;
 use std::test::Fail;
-use vme_arena::Region;
-use vme_backplane::{Backplane, Trace};
+use vme_bus::Bus;
 use vme_model::{
     ArbiterKind, Chains, Cycle, Driver, Edge, InterrupterRow, IrqKind, Jumper, Levels, Release,
     RequesterRow, Row, Version, Wire,
@@ -100,50 +99,32 @@ fn nine_slots(alloc: Global) -> Result<Plan, Fail> {
 }
 
 /// Asserts that the edges are accepted.
-fn assert_accepted(rt: &impl Abort, backplane: &mut Backplane<'_>, moves: &[Move]) {
+fn assert_accepted(rt: &impl Abort, bus: &mut Bus, moves: &[Move]) {
     for (driver, wire, falls) in moves {
-        assert!(rt; backplane.step(edge(*driver, *wire, *falls)).is_ok());
+        assert!(rt; bus.step(edge(*driver, *wire, *falls)).is_ok());
     }
 }
 
 /// Asserts that these wires of the driver can fall, and that it can make no other edge.
-fn assert_falls(rt: &impl Abort, backplane: &Backplane<'_>, driver: Driver, wires: &[Wire]) {
-    let open = backplane.open_edges(driver);
+fn assert_falls(rt: &impl Abort, bus: &Bus, driver: Driver, wires: &[Wire]) {
+    let open = bus.open_edges(driver);
     assert!(rt; open.len() == wires.len());
     for (place, wire) in wires.iter().enumerate() {
         assert!(rt; open.as_slice().get(place).copied() == Some(fall(driver, *wire)));
     }
 }
 
-fn assert_grant_under_way(rt: &impl Abort, backplane: &mut Backplane<'_>) {
-    assert_accepted(rt, backplane, &GRANT_UNDER_WAY);
+fn assert_grant_under_way(rt: &impl Abort, bus: &mut Bus) {
+    assert_accepted(rt, bus, &GRANT_UNDER_WAY);
     for (driver, wires) in CAN_FALL {
-        assert_falls(rt, backplane, driver, wires);
+        assert_falls(rt, bus, driver, wires);
     }
 }
 
 #[test]
 fn a_board_that_a_grant_has_reached_can_pass_it_on(rt: HostRuntime) -> Result<(), Fail> {
-    let mut region = Region::new(rt.alloc(), Trace::bytes(100))?;
-    let trace = Trace::on(rt.alloc(), &mut region.rest(), 100)?;
-    let mut backplane = Backplane::new(nine_slots(rt.alloc())?, trace, Version::One);
-    assert_grant_under_way(&rt, &mut backplane);
-    Ok(())
-}
-
-fn assert_nothing_open(rt: &impl Abort, backplane: &mut Backplane<'_>) {
-    assert_accepted(rt, backplane, &GRANT_UNDER_WAY);
-    for (driver, _) in CAN_FALL {
-        assert!(rt; backplane.open_edges(driver).is_empty());
-    }
-}
-
-#[test]
-fn nothing_is_open_on_a_full_trace(rt: HostRuntime) -> Result<(), Fail> {
-    let mut region = Region::new(rt.alloc(), Trace::bytes(4))?;
-    let trace = Trace::on(rt.alloc(), &mut region.rest(), 4)?;
-    let mut backplane = Backplane::new(nine_slots(rt.alloc())?, trace, Version::One);
-    assert_nothing_open(&rt, &mut backplane);
+    let mut bus = Bus::new(nine_slots(rt.alloc())?, Version::One);
+    assert_grant_under_way(&rt, &mut bus);
     Ok(())
 }
 
@@ -167,16 +148,14 @@ fn assert_shows_all(rt: &impl Abort, open: &[Edge]) {
     }
 }
 
-fn assert_held(rt: &impl Abort, backplane: &mut Backplane<'_>) {
-    assert_accepted(rt, backplane, &HELD);
-    assert_shows_all(rt, backplane.open_edges(FIRST).as_slice());
+fn assert_held(rt: &impl Abort, bus: &mut Bus) {
+    assert_accepted(rt, bus, &HELD);
+    assert_shows_all(rt, bus.open_edges(FIRST).as_slice());
 }
 
 #[test]
 fn an_address_group_can_show_each_cycle(rt: HostRuntime) -> Result<(), Fail> {
-    let mut region = Region::new(rt.alloc(), Trace::bytes(100))?;
-    let trace = Trace::on(rt.alloc(), &mut region.rest(), 100)?;
-    let mut backplane = Backplane::new(nine_slots(rt.alloc())?, trace, Version::One);
-    assert_held(&rt, &mut backplane);
+    let mut bus = Bus::new(nine_slots(rt.alloc())?, Version::One);
+    assert_held(&rt, &mut bus);
     Ok(())
 }

@@ -5,9 +5,10 @@ ghost use Rattle.vme_model.specs.Signals.{is_slot, is_level, has_wire, has_value
 ghost use Rattle.vme_model.specs.Text.{number, driver_text, wire_text, sign, argument, spelling, edge_of};
 ghost use Rattle.vme_trace.specs.Fronts.{IsFrontLine, IsDriver, front_of, first_driver, first_control_wire, first_bus_wire, first_transfer_wire, first_interrupt_wire, first_board_wire, first_wire, first_sign, first_level, first_slot, first_cycle, first_end, first_value};
 
-use crate::writer::{LINE, push_text};
+use crate::writer::LINE;
 use arrayvec::ArrayVec;
 use vme_model::{Cycle, Driver, Edge, Wire};
+use vme_text::push;
 
 /// The driver whose name and space stand at the front of a text, and the rest of the text.
 #[inline(always)]
@@ -255,8 +256,8 @@ pub fn edge_of(line: &[u8]) -> Option<Edge>
     if line.len() >= LINE {
         return None;
     }
-    let mut text = ArrayVec::new();
-    push_text(&mut text, line);
+    let mut text: ArrayVec<u8, LINE> = ArrayVec::new();
+    push(&mut text, line);
     text.push(b'\n');
     let Some((edge, rest)) = edge_at(text.as_slice()) else {
         return None;

@@ -12,6 +12,7 @@ use crate::patience::flush_patiently;
 use arrayvec::ArrayVec;
 use std::io::Write;
 use vme_model::{Cycle, Driver, Edge, Version};
+use vme_text::push;
 
 /// Room for any line of a trace: the longest has 12 bytes and a line feed.
 pub(crate) const LINE: usize = 16;
@@ -64,16 +65,6 @@ fn push_number(line: &mut ArrayVec<u8, LINE>, n: u8)
     line.push(b'0' + n % 10);
 }
 
-/// Appends a text. The line has to have room for it.
-pub(crate) fn push_text(line: &mut ArrayVec<u8, LINE>, text: &[u8])
-    requires { array_vec_len line.old + length text.now ≤ 16 }
-    ensures { line.new.items ≡ line.old.items ++ text.now }
-{
-    if line.try_extend_from_slice(text).is_err() {
-        unreachable!()
-    }
-}
-
 /// The spelling of an edge: its line without the line feed, at most 12 bytes. The edge has to be
 /// well formed. docs/TRACES.md has the spellings.
 pub fn spelling_of(edge: &Edge) -> ArrayVec<u8, LINE>
@@ -87,16 +78,16 @@ pub fn spelling_of(edge: &Edge) -> ArrayVec<u8, LINE>
         Driver::Slot(slot) => push_number(&mut line, slot),
     }
     line.push(b' ');
-    push_text(&mut line, edge.wire.word().as_bytes());
+    push(&mut line, edge.wire.word().as_bytes());
     line.push(if edge.fall { b'-' } else { b'+' });
     match edge.value {
         None => {}
         Some(Cycle::Acknowledge(level)) => {
-            push_text(&mut line, b" i");
+            push(&mut line, b" i");
             push_number(&mut line, level);
         }
         Some(Cycle::Access(slot)) => {
-            push_text(&mut line, b" r");
+            push(&mut line, b" r");
             push_number(&mut line, slot);
         }
     }

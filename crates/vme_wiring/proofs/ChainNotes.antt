@@ -17,12 +17,12 @@ use Rattle.vme_model.specs.Signals.{has_wire}
 use Rattle.vme_model.specs.Plan.{Plan, board, active, is_active, works, grant_chain, out_wire}
 use Rattle.vme_model.specs.History.{drive}
 use Rattle.vme_chain.specs.Segments.{Segments, segments_of, output_number}
-use Rattle.vme_wiring.specs.Counts.{request_level}
+use Rattle.vme_histories.specs.Levels.{request_level}
 use Rattle.vme_wiring.specs.Chained.{chains_of, chain_at, moved, with_output, after_board, after_controller, IsBefore, CanMove, CanMoveHead}
 use Rattle.vme_wiring.specs.declared.chains.Chains.{Chains}
-use Rattle.vme_wiring.proofs.Others.{drive_same}
+use Rattle.vme_histories.proofs.Others.{drive_same}
 use Rattle.vme_wiring.proofs.SegmentMoves.{IsOne, HasPlace, placed, map_others}
-use Rattle.vme_wiring.proofs.AllowedBoards.{Stands, IsDriven, at, at_head, own_after}
+use Rattle.vme_histories.proofs.AllowedBoards.{Stands, IsDriven, at, at_head, own_after}
 
 self : (n : ℕ) → (n == n) ≡ true
 self n = grind (arith, nat_tests)

@@ -1,5 +1,5 @@
 -- What the stored fields say about the history.
-use Rattle.std.proofs.Common.{◌≡◌, ◌∙◌, refl, sym, ap, subst, ℕ, zero, suc, Bool, true, false, List, [], ◌∷◌, ◌≤◌, arith}
+use Rattle.std.proofs.Common.{◌≡◌, ◌∙◌, refl, sym, ap, ℕ, zero, suc, Bool, true, false, List, [], ◌∷◌, ◌≤◌, arith}
 use Rattle.std.specs.Prelude.{◌==◌, ◌&&◌, if◌then◌else◌, not, Option, Some, None, is_some, option_map, nat_lt}
 use Rattle.std.specs.Option.{option_map_or}
 use Rattle.std.proofs.lemmas.Bool.Decides.{nat_tests}
@@ -9,21 +9,19 @@ use Rattle.vme_model.specs.declared.pins.Pins.{Pins}
 use Rattle.vme_model.specs.declared.sets.ChainId.{ChainId}
 use Rattle.vme_model.specs.declared.sets.ChainId.TheVariants as chain
 use Rattle.vme_model.specs.declared.signals.Version.{Version}
-use Rattle.vme_model.specs.declared.signals.Driver.{Driver}
 use Rattle.vme_model.specs.declared.signals.Driver.TheVariants.{Controller, Slot}
 use Rattle.vme_model.specs.declared.signals.Wire.{Wire}
 use Rattle.vme_model.specs.declared.signals.Wire.TheVariants.{Bg, Bclr, Iack, Berr, Br, BgOut, Bbsy, Addr, AddressStrobe, DataStrobe, Irq, IackOut, Dtack}
 use Rattle.vme_model.specs.declared.signals.Edge.{Edge}
-use Rattle.vme_model.specs.Signals.{is_same_driver, is_same_wire, is_edge_of, has_wire}
-use Rattle.vme_model.specs.Plan.{Plan, board, has_driver, drives, grant_chain}
+use Rattle.vme_model.specs.Signals.{has_wire}
+use Rattle.vme_model.specs.Plan.{Plan, board, drives, grant_chain}
 use Rattle.vme_model.specs.History.{drive, input as input_after, is_past_end as is_past_end_after, line}
 use Rattle.vme_model.specs.Verdict.{IsLegal}
 use Rattle.vme_model.specs.Views.{pins}
-use Rattle.vme_model.proofs.Bools.{same_number}
-use Rattle.vme_model.proofs.AllowedEdges.{all_passed}
 use Rattle.vme_model.specs.Settling.{are_grants_through, is_chain_clear, settling_guard, bg_rise_settles, bg_fall_settles}
 use Rattle.vme_chain.specs.Segments.{segments_of, input, is_past_end, is_clear}
 use Rattle.vme_chain.proofs.History.{reads_inputs, reads_the_end, reads_clearness}
+use Rattle.vme_histories.proofs.Drivers.{never_drove}
 use Rattle.vme_wiring.specs.Counts.{passes_grant}
 use Rattle.vme_wiring.proofs.PullCounts.{no_pulls_left}
 use Rattle.vme_arbiter.specs.Local.{ControllerState, controller_of, low}
@@ -39,7 +37,6 @@ use Rattle.vme_wiring.specs.Wired.{IsWiringOf}
 use Rattle.vme_wiring.specs.declared.boards.Board.{Board}
 use Rattle.vme_wiring.specs.declared.chains.Chains.{Chains}
 use Rattle.vme_wiring.specs.declared.wirings.Wiring.{Wiring}
-use Rattle.vme_wiring.proofs.Others.{same_wire}
 use Rattle.vme_wiring.proofs.Parts.{low_driven}
 use Rattle.vme_wiring.proofs.LongerHistory.{none_placed}
 
@@ -80,28 +77,6 @@ pins_of_none version p h w s is none =
 pub no_board_in : (version : Version) (p : Plan) (h : List Edge) (w : Wiring) (s : ℕ) → IsWiringOf version p h w → place w.boards s ≡ None → board p s ≡ None
 no_board_in version p h w s is none = none_placed (parts_of version p h) (board p s) (sym (is.boards s) ∙ none)
 
--- a driver without such a wire never drove it
-same_driver : (a b : Driver) → is_same_driver a b ≡ true → a ≡ b
-same_driver Controller Controller e = refl
-same_driver (Slot s) (Slot t) e = ap (λ x. Slot x) (same_number s t e)
-same_driver a b e = absurd (cc)
-
-both : (a b : Bool) → (a && b) ≡ true → (a ≡ true) × (b ≡ true)
-both true b e = (refl, e)
-both false b e = absurd (cc)
-
-pub never_drove : (version : Version) (p : Plan) (h : List Edge) (d : Driver) (w : Wire) → IsLegal version p h → has_driver p d w ≡ false → drive h d w ≡ false
-never_drove version p [] d w legal lacks = refl
-never_drove version p (e ∷ h) d w legal lacks = by_edge (never_drove version p h d w legal.1 lacks) (is_edge_of d w e) refl
-  where
-    by_edge : drive h d w ≡ false → (b : Bool) → is_edge_of d w e ≡ b → (if b then e.fall else drive h d w) ≡ false
-    by_edge before true is =
-        let k = both (is_same_wire e.wire w) (is_same_driver e.driver d) is in
-        let has = (all_passed version p h e.driver e.wire e.fall e.value legal.0).exists in
-        let here : has_driver p d w ≡ true = subst (λ x. has_driver p x w ≡ true) (same_driver e.driver d k.1) (subst (λ x. has_driver p e.driver x ≡ true) (same_wire e.wire w k.0) has) in
-        let bad : false ≡ true = sym lacks ∙ here in cc
-    by_edge before false is = before
-
 -- a board's wires
 no_part : {X A : Type 0} (g : A → Bool) (f : X → A) (o : Option X) → is_some o ≡ false → option_map_or g (option_map f o) false ≡ false
 no_part {X} {A} g f None none = refl
@@ -133,10 +108,6 @@ own_of_board version p h s r b w legal found slot is = ap (λ (x : Board). low_o
     by_wire false lacks =
         let high = never_drove version p h (Slot s) w legal (ap (λ (o : Option Row). option_map_or (drives w) o false) found ∙ lacks) in
         low_lacking version p h r w lacks (ap (λ x. drive h (Slot x) w) slot ∙ high) ∙ sym high
-
--- a slot without a board has no wire low
-pub own_of_none : (version : Version) (p : Plan) (h : List Edge) (s : ℕ) (w : Wire) → IsLegal version p h → board p s ≡ None → false ≡ drive h (Slot s) w
-own_of_none version p h s w legal none = sym (never_drove version p h (Slot s) w legal (ap (λ (o : Option Row). option_map_or (drives w) o false) none))
 
 -- the controller's wires
 pub own_of_controller : (version : Version) (p : Plan) (h : List Edge) (w : Wire) → IsLegal version p h → low (controller_of p.arbiter version h) w ≡ drive h Controller w

@@ -1,6 +1,6 @@
 -- Before any edge.
 use Rattle.std.proofs.Common.{◌≡◌, ◌∙◌, refl, sym, ap, ℕ, zero, suc, Bool, true, false, List, [], ◌∷◌, ◌++◌, ◌<◌, ◌≤◌, length, take, get_or, add-one, arith}
-use Rattle.std.specs.Prelude.{◌+◌, ◌&&◌, ◌||◌, if◌then◌else◌, map, replicate, Option, Some, None, option_map, find, nat_lt}
+use Rattle.std.specs.Prelude.{◌+◌, ◌&&◌, ◌||◌, if◌then◌else◌, map, replicate, Option, Some, None, option_map, nat_lt}
 use Rattle.std.specs.List.{list_any, slice_get}
 use Rattle.std.specs.Option.{option_and_then}
 use Rattle.std.proofs.lemmas.Bool.Decides.{nat_tests}
@@ -11,17 +11,18 @@ use Rattle.vme_model.specs.declared.signals.Version.{Version}
 use Rattle.vme_model.specs.declared.signals.Cycle.{Cycle}
 use Rattle.vme_model.specs.declared.signals.Wire.TheVariants.{Bbsy, AddressStrobe, DataStrobe, Dtack}
 use Rattle.vme_model.specs.Sets.{bus_levels, irq_levels}
+use Rattle.vme_histories.proofs.Addressing.{none_on}
 use Rattle.vme_wiring.specs.Boards.{parts_of, place}
 use Rattle.vme_wiring.specs.Counts.{pulls, IsLines, no_pulls, high_pins}
 use Rattle.vme_wiring.specs.declared.boards.Board.{Board}
-use Rattle.vme_wiring.proofs.AllowedBoards.{stands}
+use Rattle.vme_histories.proofs.AllowedBoards.{stands}
 use Rattle.vme_model.specs.declared.boards.Row.{Row}
 use Rattle.vme_model.specs.declared.pins.Pins.{Pins}
 use Rattle.vme_model.specs.declared.sets.ChainId.{ChainId}
 use Rattle.vme_model.specs.declared.signals.Driver.TheVariants.{Controller, Slot}
-use Rattle.vme_model.specs.Plan.{Plan, board, active, up_to, requests_on, interrupts_on, drives}
+use Rattle.vme_model.specs.Plan.{Plan, board, active, requests_on, interrupts_on, drives}
 use Rattle.vme_model.specs.Accepted.{IsAccepted}
-use Rattle.vme_model.specs.History.{addressing, shown, last_value, line, request_line, interrupt_line}
+use Rattle.vme_model.specs.History.{shown, last_value, line, request_line, interrupt_line}
 use Rattle.vme_model.specs.Views.{pins}
 use Rattle.vme_chain.specs.Segments.{Segments, all_high, segments_of}
 use Rattle.vme_chain.proofs.History.{holds_every_slot}
@@ -74,14 +75,6 @@ none_pull gate (r ∷ rows) = none (gate r) (pulls (λ q. gate q && false) rows)
 none_pass : (rows : List Row) → 0 ≡ pulls (λ r. false) rows
 none_pass [] = refl
 none_pass (r ∷ rows) = none_pass rows
-
-none_on : (n : ℕ) → find (λ s. false) (up_to n) ≡ None
-none_on zero = refl
-none_on (suc n) = skip (up_to n) (none_on n)
-  where
-    skip : (xs : List ℕ) → find (λ (s : ℕ). false) xs ≡ None → find (λ (s : ℕ). false) (xs ++ suc n ∷ []) ≡ None
-    skip [] e = refl
-    skip (x ∷ xs) e = skip xs e
 
 pub high_lines : (p : Plan) → IsLines p [] no_pulls
 high_lines p = record {
@@ -138,9 +131,6 @@ high_shared p =
 
     irq : (n : ℕ) → false ≡ interrupt_line p [] n
     irq n = sym (no_line (interrupts_on n) p.rows)
-
-pub none_addresses : (p : Plan) → None ≡ addressing p []
-none_addresses p = sym (none_on p.slots)
 
 -- a place beyond the slots has no board
 pub boards_in_places : (version : Version) (p : Plan) (boards : List (Option Board)) → IsAccepted p → length boards ≡ 22 → ((s : ℕ) → s < 22 → slice_get boards s ≡ Some (option_map (parts_of version p []) (board p s))) →

@@ -23,11 +23,12 @@ use Rattle.vme_model.specs.Accepted.{IsAccepted}
 use Rattle.vme_model.specs.History.{pulls_line, pulls_request, pulls_interrupt, drive, request_line, interrupt_line, shown}
 use Rattle.vme_model.specs.Views.{pins}
 use Rattle.vme_model.proofs.Bools.{same_number}
-use Rattle.vme_wiring.specs.Counts.{pulls, passes_grant, IsLines, moved, is_movable, request_level, interrupt_level, count_of, lines_after, shared_after, shared_after_controller}
+use Rattle.vme_wiring.specs.Counts.{pulls, passes_grant, IsLines, moved, is_movable, count_of, lines_after, shared_after, shared_after_controller}
+use Rattle.vme_histories.specs.Levels.{request_level, interrupt_level}
 use Rattle.vme_wiring.specs.declared.lines.Lines.{Lines}
 use Rattle.vme_wiring.proofs.PullCounts.{any_pulls, IsSameElsewhere, IsMoved, pulls_move, pulls_stay}
-use Rattle.vme_wiring.proofs.Others.{drive_same}
-use Rattle.vme_wiring.proofs.AllowedBoards.{Stands, IsDriven, at, at_head, own_after, flipped}
+use Rattle.vme_histories.proofs.Others.{drive_same}
+use Rattle.vme_histories.proofs.AllowedBoards.{Stands, IsDriven, at, at_head, own_after, flipped}
 
 -- which of the boards that pass a test pull the line
 abbrev gated : (Row → Bool) → List Edge → Wire → Row → Bool

@@ -2,7 +2,7 @@
 use Rattle.std.proofs.Common.{◌≡◌, ◌∙◌, refl, sym, ap, subst, ℕ, zero, suc, Bool, true, false, List, [], ◌∷◌, ◌<◌, length, arith}
 use Rattle.std.specs.Prelude.{◌==◌, not, Option, Some, None, Ok, option_map, set}
 use Rattle.std.specs.List.{slice_get}
-use Rattle.std.specs.Option.{option_and_then, option_map_or}
+use Rattle.std.specs.Option.{option_and_then}
 use Rattle.std.proofs.lemmas.Bool.Decides.{nat_tests}
 use Rattle.std.proofs.lemmas.List.{length-set}
 use Rattle.vme_model.specs.declared.boards.Row.{Row}
@@ -12,11 +12,12 @@ use Rattle.vme_model.specs.declared.signals.Version.{Version}
 use Rattle.vme_model.specs.declared.signals.Driver.{Driver}
 use Rattle.vme_model.specs.declared.signals.Driver.TheVariants.{Controller, Slot}
 use Rattle.vme_model.specs.declared.signals.Wire.{Wire}
-use Rattle.vme_model.specs.declared.signals.Wire.TheVariants.{Bg, Bclr, Iack, Berr, Br, BgOut, Bbsy, Addr, AddressStrobe, DataStrobe, Irq, IackOut, Dtack}
+use Rattle.vme_model.specs.declared.signals.Wire.TheVariants.{Bg, Bclr, Iack, Berr}
+use Rattle.vme_model.specs.declared.signals.Wire.TheVariants.{Addr}
 use Rattle.vme_model.specs.declared.signals.Cycle.{Cycle}
 use Rattle.vme_model.specs.declared.signals.Edge.{Edge}
 use Rattle.vme_model.specs.Signals.{has_wire, is_same_driver}
-use Rattle.vme_model.specs.Plan.{Plan, board, has_driver, drives}
+use Rattle.vme_model.specs.Plan.{Plan, board}
 use Rattle.vme_model.specs.Accepted.{IsAccepted}
 use Rattle.vme_model.specs.History.{drive, addressing}
 use Rattle.vme_model.specs.Verdict.{verdict_but_full}
@@ -24,17 +25,19 @@ use Rattle.vme_model.proofs.AllowedEdges.{all_passed}
 use Rattle.vme_arbiter.specs.declared.policies.AnyPolicy.{AnyPolicy}
 use Rattle.vme_arbiter.specs.Local.{ControllerState, controller_of}
 use Rattle.vme_wiring.specs.Boards.{parts_of, place}
-use Rattle.vme_wiring.specs.Counts.{IsLines, lines_after, shared_after, shared_after_controller, addressing_after, is_movable, count_of}
+use Rattle.vme_wiring.specs.Counts.{IsLines, lines_after, shared_after, shared_after_controller, is_movable, count_of}
+use Rattle.vme_histories.specs.Shown.{addressing_after}
 use Rattle.vme_wiring.specs.Chained.{after_board, after_controller, CanMove, CanMoveHead}
 use Rattle.vme_wiring.specs.Wired.{IsWiringOf}
 use Rattle.vme_wiring.specs.declared.boards.Board.{Board}
 use Rattle.vme_wiring.specs.declared.wirings.Wiring.{Wiring}
 use Rattle.vme_wiring.proofs.Parts.{part}
 use Rattle.vme_wiring.proofs.Others.{parts_same}
-use Rattle.vme_wiring.proofs.AllowedBoards.{Stands, stands, driven, at, at_head, flipped}
+use Rattle.vme_histories.proofs.AllowedBoards.{Stands, stands, driven, at, at_head, flipped, level_kept}
+use Rattle.vme_histories.proofs.Others.{drive_same}
+use Rattle.vme_histories.proofs.Addressing.{addressing_by, addressing_kept, IsShownAt, shown_at}
 use Rattle.vme_wiring.proofs.LineNotes.{counted, uncounted, shared_by_board, shared_by_controller}
 use Rattle.vme_wiring.proofs.ChainNotes.{chained, can_move, chained_head, can_move_head}
-use Rattle.vme_wiring.proofs.AddressNotes.{IsShownAt, shown_at}
 
 -- one place of the boards is written
 set_here : {A : Type 0} (xs : List A) (s : ℕ) (x : A) → s < length xs → slice_get (set xs s x) s ≡ Some x
@@ -78,46 +81,18 @@ boards_kept : (version : Version) (p : Plan) (h : List Edge) (w : Wire) (fall : 
 boards_kept version p h w fall v boards old t = old t ∙ other_board version p h (at_head w fall v) (board p t) (λ r found. refl)
 
 -- a board's edge leaves the controller's part unchanged
-pub controller_kept : (kind : ArbiterKind) (version : Version) (h : List Edge) (s : ℕ) (w : Wire) (fall : Bool) (v : Option Cycle) → has_wire (Slot s) w ≡ true → controller_of kind version h ≡ controller_of kind version (at s w fall v ∷ h)
-controller_kept kind version h s Br true v has = refl
-controller_kept kind version h s Br false v has = refl
-controller_kept kind version h s BgOut true v has = refl
-controller_kept kind version h s BgOut false v has = refl
-controller_kept kind version h s Bbsy true v has = refl
-controller_kept kind version h s Bbsy false v has = refl
-controller_kept kind version h s Addr true v has = refl
-controller_kept kind version h s Addr false v has = refl
-controller_kept kind version h s AddressStrobe true v has = refl
-controller_kept kind version h s AddressStrobe false v has = refl
-controller_kept kind version h s DataStrobe true v has = refl
-controller_kept kind version h s DataStrobe false v has = refl
-controller_kept kind version h s Irq true v has = refl
-controller_kept kind version h s Irq false v has = refl
-controller_kept kind version h s IackOut true v has = refl
-controller_kept kind version h s IackOut false v has = refl
-controller_kept kind version h s Dtack true v has = refl
-controller_kept kind version h s Dtack false v has = refl
-controller_kept kind version h s w fall v has = absurd (cc)
-
--- the slot whose address group is on
-pub addressing_by : (p : Plan) (h : List Edge) (s : ℕ) (w : Wire) (fall : Bool) (v : Option Cycle) → has_wire (Slot s) w ≡ true → (w ≡ Addr → addressing p (at s w fall v ∷ h) ≡ addressing_after (addressing p h) s w fall) → addressing_after (addressing p h) s w fall ≡ addressing p (at s w fall v ∷ h)
-addressing_by p h s Addr fall v has on = sym (on refl)
-addressing_by p h s Br fall v has on = refl
-addressing_by p h s BgOut fall v has on = refl
-addressing_by p h s Bbsy fall v has on = refl
-addressing_by p h s AddressStrobe fall v has on = refl
-addressing_by p h s DataStrobe fall v has on = refl
-addressing_by p h s Irq fall v has on = refl
-addressing_by p h s IackOut fall v has on = refl
-addressing_by p h s Dtack fall v has on = refl
-addressing_by p h s w fall v has on = absurd (cc)
-
-pub addressing_kept : (p : Plan) (h : List Edge) (w : Wire) (fall : Bool) (v : Option Cycle) → has_wire Controller w ≡ true → addressing p h ≡ addressing p (at_head w fall v ∷ h)
-addressing_kept p h (Bg n) fall v has = refl
-addressing_kept p h Bclr fall v has = refl
-addressing_kept p h Iack fall v has = refl
-addressing_kept p h Berr fall v has = refl
-addressing_kept p h w fall v has = absurd (cc)
+controller_kept : (kind : ArbiterKind) (version : Version) (h : List Edge) (s : ℕ) (w : Wire) (fall : Bool) (v : Option Cycle) → has_wire (Slot s) w ≡ true → controller_of kind version h ≡ controller_of kind version (at s w fall v ∷ h)
+controller_kept kind version h s w fall v has =
+    let low = λ (x : Wire). drive_same h (at s w fall v) Controller x refl in
+    let a = low (Bg 0) in
+    let b = low (Bg 1) in
+    let c = low (Bg 2) in
+    let d = low (Bg 3) in
+    let e = low Bclr in
+    let f = low Iack in
+    let g = low Berr in
+    let l = sym (level_kept h s w fall v has) in
+    rw (a, b, c, d, e, f, g, l)
 
 -- what an edge of a board leaves unchanged
 pub record IsNotedByBoard (version : Version) (p : Plan) (h : List Edge) (s : ℕ) (r : Row) (e : Edge) (old new : Wiring) : Type 0 where
@@ -203,13 +178,6 @@ noted_by_controller version p h e old new is allowed driver n =
     let all : P Controller = λ a m. controller_noted version p h e.wire e.fall e.value old new is a m in
     subst P (sym driver) all allowed n
 
--- the rules allow no edge of a slot without a board
-pub no_board : (version : Version) (p : Plan) (h : List Edge) (s : ℕ) (e : Edge) → verdict_but_full version p h e ≡ Ok tt → e.driver ≡ Slot s → board p s ≡ None → ⊥
-no_board version p h s e allowed driver none =
-    let passed = all_passed version p h e.driver e.wire e.fall e.value allowed in
-    let exists : has_driver p (Slot s) e.wire ≡ true = subst (λ d. has_driver p d e.wire ≡ true) driver passed.exists in
-    let bad : false ≡ true = subst (λ (o : Option Row). option_map_or (drives e.wire) o false ≡ true) none exists in cc
-
 -- the line's count and the chain's segment can move
 pub line_can : (version : Version) (p : Plan) (h : List Edge) (s : ℕ) (r : Row) (e : Edge) (w : Wiring) → IsWiringOf version p h w → verdict_but_full version p h e ≡ Ok tt → e.driver ≡ Slot s → board p s ≡ Some r → is_movable (count_of w.lines r e.wire) e.fall ≡ true
 line_can version p h s r e w is allowed driver found =
@@ -246,18 +214,6 @@ placed_board version p h s b w is here =
       same_row = ap (λ (x : Board). x.row) k.is_part;
       stands = stands p s k.of is.accepted k.is_row;
     }
-
--- the board to which an allowed edge of a slot belongs
-pub record IsStanding (p : Plan) (s : ℕ) : Type 0 where
-  pub row : Row
-  pub found : board p s ≡ Some row
-
-pub standing : (version : Version) (p : Plan) (h : List Edge) (s : ℕ) (e : Edge) → verdict_but_full version p h e ≡ Ok tt → e.driver ≡ Slot s → IsStanding p s
-standing version p h s e allowed driver = by_board (board p s) refl
-  where
-    by_board : (o : Option Row) → board p s ≡ o → IsStanding p s
-    by_board None is = absurd (no_board version p h s e allowed driver is)
-    by_board (Some r) is = record { row = r; found = is }
 
 pub none_placed : {X A : Type 0} (f : X → A) (o : Option X) → option_map f o ≡ None → o ≡ None
 none_placed {X} {A} f None e = refl

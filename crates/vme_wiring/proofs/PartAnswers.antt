@@ -15,13 +15,16 @@ use Rattle.vme_model.specs.declared.signals.Edge.{Edge}
 use Rattle.vme_model.specs.Plan.{Plan}
 use Rattle.vme_model.specs.Rules.{is_passed_by, may_answer}
 use Rattle.vme_model.specs.Verdict.{Judgement, check, is_other_state, ruling, ruling_on}
-use Rattle.vme_requester.specs.Local.{RequesterState, requester_of, is_requesters, low as requester_low, requester_readings, answer_over}
+use Rattle.vme_model.specs.declared.signals.Part.TheVariants as parts
+use Rattle.vme_model.specs.Signals.{is_of}
+use Rattle.vme_requester.specs.Local.{RequesterState, requester_of, low as requester_low, requester_readings, answer_over}
 use Rattle.vme_requester.proofs.Over.{answers_over as requester_over}
-use Rattle.vme_master.specs.Local.{MasterState, master_of, is_masters, local as master_local, over as master_over}
+use Rattle.vme_master.specs.Local.{MasterState, master_of, local as master_local, over as master_over}
 use Rattle.vme_master.proofs.Over.{rules_over as master_rules_over}
-use Rattle.vme_interrupter.specs.Local.{InterrupterState, interrupter_of, is_interrupters, local as interrupter_local, over as interrupter_over, seen}
+use Rattle.vme_interrupter.specs.Local.{InterrupterState, interrupter_of, local as interrupter_local, over as interrupter_over, seen}
 use Rattle.vme_interrupter.proofs.Over.{rules_over as interrupter_rules_over}
-use Rattle.vme_wiring.specs.Asked.{asked, IsAsked}
+use Rattle.vme_histories.specs.Asked.{asked}
+use Rattle.vme_wiring.specs.Asked.{IsAsked}
 use Rattle.vme_wiring.specs.Boards.{parts_of, low_of}
 use Rattle.vme_wiring.specs.declared.boards.Board.{Board}
 use Rattle.vme_wiring.proofs.Parts.{part, free_at, low_at}
@@ -36,7 +39,7 @@ with_inputs lines grant iack = record lines { grant_in = grant; iack_in = iack }
 
 -- a requester
 pub requester_ruled : (version : Version) (p : Plan) (h : List Edge) (r : Row) (b : Board) (q : RequesterState) (pins : Pins) (e : Edge) (x : Wire) (answer : Judgement) →
-    b ≡ parts_of version p h r → b.requester ≡ Some q → IsAsked p h r pins e → e.wire ≡ x → is_requesters x ≡ true →
+    b ≡ parts_of version p h r → b.requester ≡ Some q → IsAsked p h r pins e → e.wire ≡ x → is_of parts.Requester x ≡ true →
     answer ≡ ruling_on q.version (requester_readings q.slot q.row (requester_low q) pins (is_free b)) x e.fall e.value →
     answer ≡ asked version p h e
 requester_ruled version p h r b q pins e x answer same has told wire own is =
@@ -47,7 +50,7 @@ requester_ruled version p h r b q pins e x answer same has told wire own is =
     is
     ∙ requester_over q h pins (is_free b) e.wire x e.fall e.value noted wire own
     ∙ ap (λ (x : RequesterState). answer_over x.slot x.row x.version h pins (is_free b) e) k.is_part
-    ∙ requester_asked version p h r k.of pins (is_free b) e told k.is_row (free_at version p h r b same some) (ap is_requesters wire ∙ own)
+    ∙ requester_asked version p h r k.of pins (is_free b) e told k.is_row (free_at version p h r b same some) (ap (is_of parts.Requester) wire ∙ own)
 
 -- it does not read the acknowledge chain
 pub blind_to_acknowledge : (version : Version) (s : ℕ) (row : RequesterRow) (own : Wire → Bool) (lines : Pins) (grant iack free f : Bool) (v : Option Cycle) →
@@ -57,7 +60,7 @@ blind_to_acknowledge version s row own lines grant iack free false v = refl
 
 -- a master
 pub master_ruled : (version : Version) (p : Plan) (h : List Edge) (r : Row) (b : Board) (m : MasterState) (pins : Pins) (e : Edge) (x : Wire) (answer : Judgement) →
-    b ≡ parts_of version p h r → b.master ≡ Some m → IsAsked p h r pins e → e.wire ≡ x → is_masters x ≡ true →
+    b ≡ parts_of version p h r → b.master ≡ Some m → IsAsked p h r pins e → e.wire ≡ x → is_of parts.Master x ≡ true →
     answer ≡ ruling_on One (master_local m pins (low_of b Bbsy)) x e.fall e.value →
     answer ≡ asked version p h e
 master_ruled version p h r b m pins e x answer same has told wire own is =
@@ -68,10 +71,10 @@ master_ruled version p h r b m pins e x answer same has told wire own is =
     is
     ∙ master_rules_over version m h pins (low_of b Bbsy) e.driver e.wire x e.fall e.value noted wire own
     ∙ ap (λ (x : MasterState). ruling version (master_over x.slot x.row x.handler h pins (low_of b Bbsy)) e) k.is_part
-    ∙ master_asked version p h r k.of pins (low_of b Bbsy) e told k.is_row (low_at version p h r b Bbsy same some) (ap is_masters wire ∙ own)
+    ∙ master_asked version p h r k.of pins (low_of b Bbsy) e told k.is_row (low_at version p h r b Bbsy same some) (ap (is_of parts.Master) wire ∙ own)
 
 -- it reads neither chain
-pub blind_to_inputs : (m : MasterState) (lines : Pins) (grant iack holds_bus : Bool) (w : Wire) (f : Bool) (v : Option Cycle) → is_masters w ≡ true →
+pub blind_to_inputs : (m : MasterState) (lines : Pins) (grant iack holds_bus : Bool) (w : Wire) (f : Bool) (v : Option Cycle) → is_of parts.Master w ≡ true →
     ruling_on One (master_local m lines holds_bus) w f v ≡ ruling_on One (master_local m (with_inputs lines grant iack) holds_bus) w f v
 blind_to_inputs m lines grant iack holds_bus Addr true None own = refl
 blind_to_inputs m lines grant iack holds_bus Addr true (Some (Acknowledge n)) own = refl
@@ -85,7 +88,7 @@ blind_to_inputs m lines grant iack holds_bus w f v own = absurd (cc)
 
 -- an interrupter
 pub interrupter_ruled : (version : Version) (p : Plan) (h : List Edge) (r : Row) (b : Board) (pins : Pins) (e : Edge) (x : Wire) (answer : Judgement) →
-    b ≡ parts_of version p h r → IsAsked p h r pins e → e.wire ≡ x → is_interrupters x ≡ true →
+    b ≡ parts_of version p h r → IsAsked p h r pins e → e.wire ≡ x → is_of parts.Interrupter x ≡ true →
     answer ≡ ruling_on One (interrupter_local b.interrupter pins) x e.fall e.value →
     answer ≡ asked version p h e
 interrupter_ruled version p h r b pins e x answer same told wire own is =
@@ -95,7 +98,7 @@ interrupter_ruled version p h r b pins e x answer same told wire own is =
     is
     ∙ interrupter_rules_over version b.interrupter (seen p h) pins e.driver e.wire x e.fall e.value noted wire own
     ∙ ap (λ (x : InterrupterState). ruling version (interrupter_over x.slot x.row (seen p h) pins) e) has
-    ∙ interrupter_asked version p h r pins e told (ap is_interrupters wire ∙ own)
+    ∙ interrupter_asked version p h r pins e told (ap (is_of parts.Interrupter) wire ∙ own)
 
 -- it does not read its grant chain
 passed_alike : (i : InterrupterState) (lines : Pins) (grant iack : Bool) (shown : Option Cycle) →

@@ -1,6 +1,6 @@
--- A quiet board that nothing has reached waits. While the bus is busy, no grant falls.
+-- A quiet board that nothing has reached waits.
 use Rattle.std.proofs.Common.{◌≡◌, ◌∙◌, refl, ap, Bool, true, false, ℕ, List}
-use Rattle.std.specs.Prelude.{◌&&◌, not, Some, filter, [], ◌∷◌}
+use Rattle.std.specs.Prelude.{◌&&◌, not, Some, ◌∷◌}
 use Rattle.std.specs.List.{list_all}
 use Rattle.std.proofs.Math.Path.{fun_ext}
 use Rattle.vme_model.specs.declared.signals.Version.{Version}
@@ -9,22 +9,20 @@ use Rattle.vme_model.specs.declared.signals.Wire.{Wire}
 use Rattle.vme_model.specs.declared.signals.Wire.TheVariants.{Bg, Bbsy}
 use Rattle.vme_model.specs.declared.signals.Edge.{Edge}
 use Rattle.vme_model.specs.Plan.{Plan}
-use Rattle.vme_model.specs.History.{drive, line, last_level, request_line}
+use Rattle.vme_model.specs.History.{drive, line}
 use Rattle.vme_model.specs.Readings.{readings}
-use Rattle.vme_model.specs.Rules.{bus_numbers, is_pick}
-use Rattle.vme_model.specs.Offers.{turned}
+use Rattle.vme_model.specs.Rules.{bus_numbers}
 use Rattle.vme_model.specs.Verdict.{IsLegal}
 use Rattle.vme_arbiter.specs.Local.{ControllerState, controller_of, low}
 use Rattle.vme_wiring.specs.Boards.{low_of, place}
 use Rattle.vme_wiring.specs.Asked.{seen_by, read_by}
-use Rattle.vme_wiring.specs.Offered.{is_open}
 use Rattle.vme_wiring.specs.Waits.{is_quiet, is_requester_quiet, is_master_quiet, is_interrupter_quiet, is_ungranted, is_unaddressed, is_left_alone, waits_for_grant, waits_for_bus, waits_for_cycle}
-use Rattle.vme_wiring.specs.Judged.{may_grant}
+use Rattle.vme_histories.specs.Judged.{may_grant}
 use Rattle.vme_wiring.specs.Wired.{IsWiringOf}
 use Rattle.vme_wiring.specs.declared.boards.Board.{Board}
 use Rattle.vme_wiring.specs.declared.wirings.Wiring.{Wiring}
 use Rattle.vme_wiring.proofs.FieldReads.{own_of_controller}
-use Rattle.vme_wiring.proofs.NoOffers.{closed, reads_grant, reads_bus, reads_cycle}
+use Rattle.vme_wiring.proofs.NoOffers.{reads_grant, reads_bus, reads_cycle}
 
 -- the same truth part by part, or by its wires and then by what reaches it
 by_parts : (r m i u a : Bool) → ((r && m && i) && (u && a)) ≡ ((r && u) && m && (i && a))
@@ -55,11 +53,6 @@ one_moves true true false d moves = refl
 one_moves true false c d moves = refl
 one_moves false b c d moves = refl
 
-and_stops : (a b c : Bool) → (a && b) ≡ false → (a && b && c) ≡ false
-and_stops true true c none = absurd (cc)
-and_stops true false c none = refl
-and_stops false b c none = refl
-
 and_true : (b : Bool) → (b && true) ≡ b
 and_true true = refl
 and_true false = refl
@@ -75,13 +68,6 @@ module _ (version : Version) (p : Plan) (h : List Edge) where
       and_true (grants_high (low c) && not bbsy)
       ∙ ap (λ f. grants_high f && not bbsy) (fun_ext own)
       ∙ ap (λ b. grants_high (drive h Controller) && not b) pin
-
-  pub no_grant : (n : ℕ) → drive h Controller (Bg n) ≡ false → may_grant p h ≡ false → filter (is_open version p h) (turned h Controller (Bg n) ∷ []) ≡ []
-  no_grant n high busy =
-      let shut : is_open version p h (turned h Controller (Bg n)) ≡ false =
-      closed version p h Controller (Bg n) false high
-      (and_stops (grants_high (drive h Controller)) (not (line p h Bbsy)) (is_pick p.arbiter (request_line p h) (last_level h) n) busy) in
-      rw shut
 
 module _ (version : Version) (p : Plan) (h : List Edge) (w : Wiring) (s : ℕ) (b : Board) (is : IsWiringOf version p h w) (here : Some b ≡ place w.boards s) where
   -- what the fields say of a board in its place, by what its rules read

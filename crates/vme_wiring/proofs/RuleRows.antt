@@ -18,7 +18,8 @@ use Rattle.vme_model.specs.declared.signals.Wire.TheVariants.{Bg, Bclr, Iack, Be
 use Rattle.vme_model.specs.declared.signals.Cycle.{Cycle}
 use Rattle.vme_model.specs.declared.signals.Cycle.TheVariants.{Acknowledge, Access}
 use Rattle.vme_model.specs.declared.signals.Edge.{Edge}
-use Rattle.vme_model.specs.Signals.{has_wire, has_value, is_well_formed, is_level}
+use Rattle.vme_model.specs.declared.signals.Part.TheVariants as parts
+use Rattle.vme_model.specs.Signals.{has_wire, has_value, is_well_formed, is_level, is_of}
 use Rattle.vme_model.specs.Sets.{has_level, has_bus_level, bus_levels}
 use Rattle.vme_model.specs.Plan.{Plan, board}
 use Rattle.vme_model.specs.History.{drive, request_line, interrupt_line, cycles, last_level, shown, line}
@@ -31,12 +32,13 @@ use Rattle.vme_model.specs.Views.{pins}
 use Rattle.vme_model.proofs.Picks.{laws_of}
 use Rattle.vme_model.proofs.PinSets.{has_bus, has_irq}
 use Rattle.vme_model.proofs.Bools.{and_left, and_right}
-use Rattle.vme_requester.specs.Local.{is_requesters, told as requester_told, requester_readings, answer_over, guard_over}
-use Rattle.vme_master.specs.Local.{is_masters, told as master_told, over as master_over}
-use Rattle.vme_interrupter.specs.Local.{is_interrupters, seen, served, interrupter_readings, over as interrupter_over}
+use Rattle.vme_requester.specs.Local.{told as requester_told, requester_readings, answer_over, guard_over}
+use Rattle.vme_master.specs.Local.{told as master_told, over as master_over}
+use Rattle.vme_interrupter.specs.Local.{seen, served, interrupter_readings, over as interrupter_over}
 use Rattle.vme_interrupter.proofs.Seen.{edges_seen, served_seen}
 use Rattle.vme_arbiter.specs.Local.{over as controller_over}
-use Rattle.vme_wiring.specs.Asked.{asked, asked_guard, IsAsked}
+use Rattle.vme_histories.specs.Asked.{asked, asked_guard}
+use Rattle.vme_wiring.specs.Asked.{IsAsked}
 
 -- two sets of lines that agree
 record Agree (s t : ℕ → Bool) : Type 0 where
@@ -104,7 +106,7 @@ released p h s q e =
     ap (λ b. released_where b q.release) (any_low (request_line p h))
     ∙ sym (ap (λ o. option_map_or (λ x. released_where (list_any (request_line p h) bus_numbers) x.release) o no_condition) e)
 
-requester_row : (version : Version) (p : Plan) (h : List Edge) (s : ℕ) (q : RequesterRow) (w : Wire) (f : Bool) (v : Option Cycle) → option_and_then (λ b. b.requester) (board p s) ≡ Some q → is_requesters w ≡ true →
+requester_row : (version : Version) (p : Plan) (h : List Edge) (s : ℕ) (q : RequesterRow) (w : Wire) (f : Bool) (v : Option Cycle) → option_and_then (λ b. b.requester) (board p s) ≡ Some q → is_of parts.Requester w ≡ true →
     guard version (requester_sees p h s q) w f v ≡ guard version (readings p h (Slot s)) w f v
 requester_row version p h s q Br true v e own = refl
 requester_row version p h s q Br false v e own = refl
@@ -117,13 +119,13 @@ requester_row version p h s q Bbsy false v e own =
     ∙ ap (λ k. row (is_free h s) k) (released p h s q e)
 requester_row version p h s q w f v e own = absurd (cc)
 
-requester_own : (p : Plan) (h : List Edge) (s : ℕ) (q : RequesterRow) (w : Wire) → is_requesters w ≡ true → requester_told (drive h (Slot s)) (is_free h s) w ≡ drive h (Slot s) w
+requester_own : (p : Plan) (h : List Edge) (s : ℕ) (q : RequesterRow) (w : Wire) → is_of parts.Requester w ≡ true → requester_told (drive h (Slot s)) (is_free h s) w ≡ drive h (Slot s) w
 requester_own p h s q Br own = refl
 requester_own p h s q BgOut own = refl
 requester_own p h s q Bbsy own = refl
 requester_own p h s q w own = absurd (cc)
 
-pub requester_asked : (version : Version) (p : Plan) (h : List Edge) (r : Row) (q : RequesterRow) (seen : Pins) (free : Bool) (e : Edge) → IsAsked p h r seen e → r.requester ≡ Some q → free ≡ is_free h r.slot → is_requesters e.wire ≡ true →
+pub requester_asked : (version : Version) (p : Plan) (h : List Edge) (r : Row) (q : RequesterRow) (seen : Pins) (free : Bool) (e : Edge) → IsAsked p h r seen e → r.requester ≡ Some q → free ≡ is_free h r.slot → is_of parts.Requester e.wire ≡ true →
     answer_over r.slot q version h seen free e ≡ asked version p h e
 requester_asked version p h r q seen free e k has told own =
     let s = r.slot in
@@ -133,7 +135,7 @@ requester_asked version p h r q seen free e k has told own =
     ∙ by_same (drive h (Slot s) e.wire) e.fall _ _ (requester_row version p h s q e.wire e.fall e.value (part_of_board p s r q k.row has) own)
     ∙ asked_of version p h (Slot s) e k.driver
 
-pub requester_guarded : (version : Version) (p : Plan) (h : List Edge) (r : Row) (q : RequesterRow) (seen : Pins) (free : Bool) (e : Edge) → IsAsked p h r seen e → r.requester ≡ Some q → free ≡ is_free h r.slot → is_requesters e.wire ≡ true →
+pub requester_guarded : (version : Version) (p : Plan) (h : List Edge) (r : Row) (q : RequesterRow) (seen : Pins) (free : Bool) (e : Edge) → IsAsked p h r seen e → r.requester ≡ Some q → free ≡ is_free h r.slot → is_of parts.Requester e.wire ≡ true →
     guard_over r.slot q version h seen free e ≡ asked_guard version p h e
 requester_guarded version p h r q seen free e k has told own =
     let s = r.slot in
@@ -164,7 +166,7 @@ showing p h r q (Some (Acknowledge n)) found formed =
 showing p h r q (Some (Access t)) found formed = refl
 showing p h r q None found formed = refl
 
-master_row : (version : Version) (p : Plan) (h : List Edge) (r : Row) (q : RequesterRow) (w : Wire) (f : Bool) (v : Option Cycle) → board p r.slot ≡ Some r → option_and_then (λ b. b.requester) (board p r.slot) ≡ Some q → has_value w f v ≡ true → is_masters w ≡ true →
+master_row : (version : Version) (p : Plan) (h : List Edge) (r : Row) (q : RequesterRow) (w : Wire) (f : Bool) (v : Option Cycle) → board p r.slot ≡ Some r → option_and_then (λ b. b.requester) (board p r.slot) ≡ Some q → has_value w f v ≡ true → is_of parts.Master w ≡ true →
     guard version (master_sees p h r q) w f v ≡ guard version (readings p h (Slot r.slot)) w f v
 master_row version p h r q Addr true v found e formed own =
     let row : Guard → Guard → ℕ × Guard = λ a b. (15, addr_goes_on (drive h (Slot r.slot) Bbsy) (line p h AddressStrobe) a b) in
@@ -177,7 +179,7 @@ master_row version p h r q DataStrobe true v found e formed own = refl
 master_row version p h r q DataStrobe false v found e formed own = refl
 master_row version p h r q w f v found e formed own = absurd (cc)
 
-master_own : (h : List Edge) (s : ℕ) (w : Wire) → is_masters w ≡ true → master_told (drive h (Slot s)) (drive h (Slot s) Bbsy) w ≡ drive h (Slot s) w
+master_own : (h : List Edge) (s : ℕ) (w : Wire) → is_of parts.Master w ≡ true → master_told (drive h (Slot s)) (drive h (Slot s) Bbsy) w ≡ drive h (Slot s) w
 master_own h s Addr own = refl
 master_own h s AddressStrobe own = refl
 master_own h s DataStrobe own = refl
@@ -186,7 +188,7 @@ master_own h s w own = absurd (cc)
 value_of : (e : Edge) → is_well_formed e ≡ true → has_value e.wire e.fall e.value ≡ true
 value_of e formed = and_right (has_wire e.driver e.wire) (has_value e.wire e.fall e.value) formed
 
-pub master_asked : (version : Version) (p : Plan) (h : List Edge) (r : Row) (q : RequesterRow) (seen : Pins) (holds : Bool) (e : Edge) → IsAsked p h r seen e → r.requester ≡ Some q → holds ≡ drive h (Slot r.slot) Bbsy → is_masters e.wire ≡ true →
+pub master_asked : (version : Version) (p : Plan) (h : List Edge) (r : Row) (q : RequesterRow) (seen : Pins) (holds : Bool) (e : Edge) → IsAsked p h r seen e → r.requester ≡ Some q → holds ≡ drive h (Slot r.slot) Bbsy → is_of parts.Master e.wire ≡ true →
     ruling version (master_over r.slot q r.handler h seen holds) e ≡ asked version p h e
 master_asked version p h r q seen holds e k has told own =
     let s = r.slot in
@@ -196,7 +198,7 @@ master_asked version p h r q seen holds e k has told own =
     ∙ by_same (drive h (Slot s) e.wire) e.fall _ _ (master_row version p h r q e.wire e.fall e.value k.row (part_of_board p s r q k.row has) (value_of e k.formed) own)
     ∙ asked_of version p h (Slot s) e k.driver
 
-pub master_guarded : (version : Version) (p : Plan) (h : List Edge) (r : Row) (q : RequesterRow) (seen : Pins) (holds : Bool) (e : Edge) → IsAsked p h r seen e → r.requester ≡ Some q → holds ≡ drive h (Slot r.slot) Bbsy → is_masters e.wire ≡ true →
+pub master_guarded : (version : Version) (p : Plan) (h : List Edge) (r : Row) (q : RequesterRow) (seen : Pins) (holds : Bool) (e : Edge) → IsAsked p h r seen e → r.requester ≡ Some q → holds ≡ drive h (Slot r.slot) Bbsy → is_of parts.Master e.wire ≡ true →
     (guard version (master_over r.slot q r.handler h seen holds) e.wire e.fall e.value).1 ≡ asked_guard version p h e
 master_guarded version p h r q seen holds e k has told own =
     let s = r.slot in
@@ -221,7 +223,7 @@ answering p h r (Some (Acknowledge n)) found =
 answering p h r (Some (Access t)) found = sym (ap (λ o. asks OwnSlotShown (option_map_or (λ b. b.slot == t) o false)) found)
 answering p h r None found = refl
 
-interrupter_row : (version : Version) (p : Plan) (h : List Edge) (r : Row) (w : Wire) (f : Bool) (v : Option Cycle) → board p r.slot ≡ Some r → is_interrupters w ≡ true →
+interrupter_row : (version : Version) (p : Plan) (h : List Edge) (r : Row) (w : Wire) (f : Bool) (v : Option Cycle) → board p r.slot ≡ Some r → is_of parts.Interrupter w ≡ true →
     guard version (interrupter_sees p h r) w f v ≡ guard version (readings p h (Slot r.slot)) w f v
 interrupter_row version p h r Irq true v found own = refl
 interrupter_row version p h r Irq false v found own = refl
@@ -240,14 +242,14 @@ over_seen p h r seen_pins found same =
     ∙ ap (λ (x : List Edge). interrupter_readings r.slot r.interrupter (drive x (Slot r.slot)) (served (seen p h) (Slot r.slot) r.interrupter) (pins p h (Slot r.slot))) (edges_seen p h)
     ∙ ap (λ b. interrupter_readings r.slot r.interrupter (drive h (Slot r.slot)) b (pins p h (Slot r.slot))) (served_seen p h (Slot r.slot) r found)
 
-pub interrupter_asked : (version : Version) (p : Plan) (h : List Edge) (r : Row) (seen_pins : Pins) (e : Edge) → IsAsked p h r seen_pins e → is_interrupters e.wire ≡ true →
+pub interrupter_asked : (version : Version) (p : Plan) (h : List Edge) (r : Row) (seen_pins : Pins) (e : Edge) → IsAsked p h r seen_pins e → is_of parts.Interrupter e.wire ≡ true →
     ruling version (interrupter_over r.slot r.interrupter (seen p h) seen_pins) e ≡ asked version p h e
 interrupter_asked version p h r seen_pins e k own =
     ap (λ (x : Readings). ruling version x e) (over_seen p h r seen_pins k.row k.pins)
     ∙ by_same (drive h (Slot r.slot) e.wire) e.fall _ _ (interrupter_row version p h r e.wire e.fall e.value k.row own)
     ∙ asked_of version p h (Slot r.slot) e k.driver
 
-pub interrupter_guarded : (version : Version) (p : Plan) (h : List Edge) (r : Row) (seen_pins : Pins) (e : Edge) → IsAsked p h r seen_pins e → is_interrupters e.wire ≡ true →
+pub interrupter_guarded : (version : Version) (p : Plan) (h : List Edge) (r : Row) (seen_pins : Pins) (e : Edge) → IsAsked p h r seen_pins e → is_of parts.Interrupter e.wire ≡ true →
     (guard version (interrupter_over r.slot r.interrupter (seen p h) seen_pins) e.wire e.fall e.value).1 ≡ asked_guard version p h e
 interrupter_guarded version p h r seen_pins e k own =
     ap (λ (x : Readings). (guard version x e.wire e.fall e.value).1) (over_seen p h r seen_pins k.row k.pins)

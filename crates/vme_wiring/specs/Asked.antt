@@ -1,33 +1,18 @@
--- What a part is asked: E2 and E3.
-use Rattle.std.specs.Prelude.{◌≡◌, ◌&&◌, Bool, true, Some, List}
+-- What a board reads, and is asked.
+use Rattle.std.specs.Prelude.{◌≡◌, ◌&&◌, true, Some, List}
 use Rattle.vme_model.specs.declared.boards.Row.{Row}
 use Rattle.vme_model.specs.declared.pins.Pins.{Pins}
 use Rattle.vme_model.specs.declared.signals.Driver.TheVariants.{Slot}
-use Rattle.vme_model.specs.declared.signals.Version.{Version}
 use Rattle.vme_model.specs.declared.signals.Edge.{Edge}
 use Rattle.vme_model.specs.Signals.{is_well_formed}
-use Rattle.vme_model.specs.Plan.{Plan, board, drives, has_driver}
-use Rattle.vme_model.specs.Readings.{Readings, readings, readings_of_pins}
-use Rattle.vme_model.specs.Guards.{Guard}
-use Rattle.vme_model.specs.Rules.{guard}
-use Rattle.vme_model.specs.Verdict.{Judgement, ruling}
+use Rattle.vme_model.specs.Plan.{Plan, board, drives}
+use Rattle.vme_model.specs.Readings.{Readings, readings_of_pins}
 use Rattle.vme_model.specs.Views.{pins}
 use Rattle.vme_wiring.specs.Chained.{grant_in, iack_in}
 use Rattle.vme_wiring.specs.Boards.{low_of}
 use Rattle.vme_wiring.specs.declared.boards.Board.{Board}
 use Rattle.vme_wiring.specs.declared.chains.Chains.{Chains}
 use Rattle.vme_wiring.specs.declared.wirings.Wiring.{Wiring}
-
--- E1 does not apply: the edge is well formed, and the plan has such a driver
-abbrev pub exists : Plan → Edge → Bool
-exists p e = is_well_formed e && has_driver p e.driver e.wire
-
-abbrev pub asked : Version → Plan → List Edge → Edge → Judgement
-asked version p h e = ruling version (readings p h e.driver) e
-
--- the guard of the rule that names an edge
-abbrev pub asked_guard : Version → Plan → List Edge → Edge → Guard
-asked_guard version p h e = (guard version (readings p h e.driver) e.wire e.fall e.value).1
 
 -- a board's pins, by the chains and by what all drivers see alike of the lines
 abbrev pub seen_by : Chains → Pins → Row → Pins

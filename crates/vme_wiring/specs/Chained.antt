@@ -4,13 +4,12 @@ use Rattle.std.specs.Option.{option_map_or}
 use Rattle.vme_model.specs.declared.sets.ChainId.{ChainId}
 use Rattle.vme_model.specs.declared.sets.ChainId.TheVariants as chain
 use Rattle.vme_model.specs.declared.signals.Edge.{Edge}
-use Rattle.vme_model.specs.Plan.{Plan}
+use Rattle.vme_model.specs.Plan.{Plan, grant_chain}
 use Rattle.vme_model.specs.declared.boards.Row.{Row}
 use Rattle.vme_model.specs.declared.signals.Wire.{Wire}
 use Rattle.vme_model.specs.declared.signals.Wire.TheVariants as wire
-use Rattle.vme_model.specs.Plan.{grant_chain}
 use Rattle.vme_chain.specs.Segments.{Segments, segments_of, input, output_number}
-use Rattle.vme_wiring.specs.Counts.{request_level}
+use Rattle.vme_histories.specs.Levels.{request_level}
 use Rattle.vme_wiring.specs.declared.chains.Chains.{Chains}
 
 abbrev pub chains_of : Plan → List Edge → Chains

@@ -1,6 +1,5 @@
 -- The open-collector lines, as counts of the boards that pull them.
-use Rattle.std.specs.Prelude.{◌≡◌, ◌+◌, ◌-◌, ◌<◌, if◌then◌else◌, ℕ, Bool, true, false, List, [], ◌∷◌, Option, Some, None, get_or, set, length, nat_lt}
-use Rattle.std.specs.Option.{option_map_or}
+use Rattle.std.specs.Prelude.{◌≡◌, ◌+◌, ◌-◌, ◌<◌, if◌then◌else◌, ℕ, Bool, true, false, List, [], ◌∷◌, Option, None, get_or, set, length, nat_lt}
 use Rattle.vme_model.specs.declared.boards.Row.{Row}
 use Rattle.vme_model.specs.declared.signals.Driver.TheVariants.{Slot}
 use Rattle.vme_model.specs.declared.signals.Wire.{Wire}
@@ -11,6 +10,7 @@ use Rattle.vme_model.specs.declared.signals.Cycle.{Cycle}
 use Rattle.vme_model.specs.Sets.{bus_levels, irq_levels}
 use Rattle.vme_model.specs.Plan.{Plan}
 use Rattle.vme_model.specs.History.{drive, pulls_line, pulls_request, pulls_interrupt}
+use Rattle.vme_histories.specs.Levels.{request_level, interrupt_level}
 use Rattle.vme_wiring.specs.declared.lines.Lines.{Lines}
 
 -- how many boards pull a line
@@ -57,13 +57,6 @@ moved_at ns n fall = set ns n (moved (get_or ns n 0) fall)
 abbrev pub is_movable : ℕ → Bool → Bool
 is_movable n true = nat_lt n 22
 is_movable n false = nat_lt 0 n
-
--- the levels of a board's requester and interrupter
-abbrev pub request_level : Row → ℕ
-request_level r = option_map_or (λ q. q.level) r.requester 0
-
-abbrev pub interrupt_level : Row → ℕ
-interrupt_level r = option_map_or (λ i. i.level) r.interrupter 0
 
 -- the count of the line on which a board's wire is
 abbrev pub count_of : Lines → Row → Wire → ℕ
@@ -119,8 +112,3 @@ abbrev pub shared_after_controller : Pins → Wire → Bool → Pins
 shared_after_controller s Bclr fall = record s { bclr = fall }
 shared_after_controller s Berr fall = record s { berr = fall }
 shared_after_controller s _ fall = s
-
--- the slot whose address group is on, after an edge of the slot's board
-abbrev pub addressing_after : Option ℕ → ℕ → Wire → Bool → Option ℕ
-addressing_after on s Addr fall = if fall then Some s else None
-addressing_after on s _ fall = on

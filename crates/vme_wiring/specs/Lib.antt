@@ -10,13 +10,7 @@ pub mod Chained
 -- words: the wiring to which a history leads; `Wiring::new` and `note` say all that a user needs to
 -- know of it
 pub mod Wired
--- words: what a part is asked
+-- words: what a board reads, and is asked
 pub mod Asked
--- believe, for `Wiring::offers`: what a driver is offered, without the end of the trace
-pub mod Offered
--- believe, for `Wiring::open_edges`: all edges that a driver can make, without the end of the trace
-pub mod Opens
 -- believe, for `Wiring::is_waiting`: which drivers wait for an edge of another driver
 pub mod Waits
--- words: what a state of the bus is asked, in whatever form it is kept
-pub mod Judged

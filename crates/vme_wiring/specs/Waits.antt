@@ -1,5 +1,5 @@
 -- Which drivers wait for an edge of another driver, by what their rules read.
-use Rattle.std.specs.Prelude.{◌&&◌, ◌==◌, not, ℕ, Bool, true, false, Option, Some, List}
+use Rattle.std.specs.Prelude.{◌&&◌, ◌==◌, not, ℕ, Bool, true, false, Option, List}
 use Rattle.std.specs.Option.{option_map_or}
 use Rattle.vme_model.specs.declared.boards.Row.{Row}
 use Rattle.vme_model.specs.declared.pins.Pins.{Pins}
@@ -9,11 +9,11 @@ use Rattle.vme_model.specs.declared.signals.Driver.TheVariants.{Controller, Slot
 use Rattle.vme_model.specs.declared.signals.Wire.{Wire}
 use Rattle.vme_model.specs.declared.signals.Wire.TheVariants.{Br, BgOut, Bbsy, Addr, AddressStrobe, DataStrobe, Irq, IackOut, Dtack}
 use Rattle.vme_model.specs.declared.signals.Cycle.{Cycle}
-use Rattle.vme_model.specs.declared.signals.Cycle.TheVariants.{Access}
 use Rattle.vme_model.specs.declared.signals.Edge.{Edge}
 use Rattle.vme_model.specs.Signals.{is_two}
 use Rattle.vme_model.specs.Plan.{Plan, board}
 use Rattle.vme_model.specs.Readings.{Readings, readings}
+use Rattle.vme_histories.specs.Shown.{is_access_to}
 
 -- By its own wires: a requester, if there is one, requests the bus, passes no grant on and does not
 -- hold the bus (chapter 3)
@@ -41,11 +41,6 @@ is_quiet own b = is_requester_quiet own b && is_master_quiet own && is_interrupt
 abbrev pub is_ungranted : Version → Bool → Row → Bool
 is_ungranted version grant_in b =
     option_map_or (λ q. not (is_two version) && not grant_in) b.requester true
-
--- what is shown is an access to the slot (chapter 2)
-abbrev pub is_access_to : ℕ → Option Cycle → Bool
-is_access_to s (Some (Access t)) = s == t
-is_access_to s _ = false
 
 -- no access to the board is shown, and no acknowledge has reached its interrupter, if it has one
 -- (chapters 2 and 4)
@@ -84,3 +79,17 @@ abbrev pub is_waiting : Version → Plan → List Edge → Driver → Bool
 is_waiting version p h Controller = false
 is_waiting version p h (Slot s) =
     option_map_or (board_waits version (readings p h (Slot s))) (board p s) true
+
+-- the parts of a slot's board wait, or there is no board
+abbrev pub requester_waits : Version → Plan → List Edge → ℕ → Bool
+requester_waits version p h s =
+    option_map_or (waits_for_grant version (readings p h (Slot s))) (board p s) true
+
+abbrev pub master_waits : Plan → List Edge → ℕ → Bool
+master_waits p h s = option_map_or (λ r. waits_for_bus (readings p h (Slot s))) (board p s) true
+
+abbrev pub interrupter_waits : Plan → List Edge → ℕ → Bool
+interrupter_waits p h s =
+    option_map_or
+    (λ r. waits_for_cycle (readings p h (Slot s)) r && is_unserved (readings p h (Slot s)) r)
+    (board p s) true

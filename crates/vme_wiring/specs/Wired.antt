@@ -11,7 +11,8 @@ use Rattle.vme_model.specs.Verdict.{IsLegal, verdict_but_full}
 use Rattle.vme_model.specs.Views.{pins}
 use Rattle.vme_arbiter.specs.Local.{controller_of}
 use Rattle.vme_wiring.specs.Boards.{parts_of, place}
-use Rattle.vme_wiring.specs.Counts.{IsLines, request_level, interrupt_level, is_movable, count_of}
+use Rattle.vme_wiring.specs.Counts.{IsLines, is_movable, count_of}
+use Rattle.vme_histories.specs.Levels.{request_level, interrupt_level}
 use Rattle.vme_wiring.specs.Chained.{chains_of, CanMove}
 use Rattle.vme_wiring.specs.declared.boards.Board.{Board}
 use Rattle.vme_wiring.specs.declared.wirings.Wiring.{Wiring}

@@ -1,22 +1,21 @@
 //! One board, with its parts.
-ghost use Rattle.std.specs.Prelude.{◌≡◌, ◌||◌, ◌∷◌, [], ℕ, true, false, not, Err, List, Option as OptionValue, option_map};
+ghost use Rattle.std.specs.Prelude.{◌≡◌, ◌||◌, ◌∷◌, [], ℕ, false, not, Err, List, Option as OptionValue, option_map};
 ghost use Rattle.vme_model.specs.declared.boards.RequesterRow.{RequesterRow as RequesterValue};
 ghost use Rattle.vme_model.specs.declared.sets.Levels.{Levels as LevelsValue};
 ghost use Rattle.vme_model.specs.declared.signals.Edge.{Edge as EdgeValue};
 ghost use Rattle.vme_model.specs.declared.signals.Version.{Version as VersionValue};
 ghost use Rattle.vme_model.specs.Plan.{Plan, drives};
 ghost use Rattle.vme_model.specs.History.{shown as shown_after};
-ghost use Rattle.vme_requester.specs.Local.{requester_of, is_requesters};
-ghost use Rattle.vme_master.specs.Local.{master_of, is_masters};
-ghost use Rattle.vme_interrupter.specs.Local.{is_interrupters};
-ghost use Rattle.vme_wiring.specs.Asked.{asked, asked_guard, seen_by, IsAsked};
+ghost use Rattle.vme_requester.specs.Local.{requester_of};
+ghost use Rattle.vme_master.specs.Local.{master_of};
+ghost use Rattle.vme_histories.specs.Asked.{asked};
+ghost use Rattle.vme_wiring.specs.Asked.{seen_by, IsAsked};
 
 use crate::chains::Chains;
 use vme_interrupter::Interrupter;
 use vme_master::Master;
 use vme_model::{Cycle, Edge, Pins, Refused, Row, Version, Wire};
 use vme_requester::Requester;
-use vme_rules::Outcome;
 
 /// A board, as its row of the plan and the states of its parts.
 #[derive(Clone, Copy)]
@@ -163,52 +162,6 @@ impl Board {
                 self.interrupter.may_answer(edge.fall, pins, iack_in)
             }
             _ => Err(Refused::NoSuchDriver),
-        }
-    }
-
-    /// What the guard of the rule that names an edge of the requester's wires answers.
-    fn told_by_requester<A: Outcome>(&self, edge: Edge, pins: Pins) -> A
-        ensures { OfParts self.now (λ version p h r. IsAsked p h r pins edge
-            → is_requesters edge.wire ≡ true → A.tells result (asked_guard version p h edge)) }
-    {
-        match &self.requester {
-            Some(requester) => requester.told(edge, pins, self.is_address_free()),
-            None => A::free(),
-        }
-    }
-
-    /// What the guard of the rule that names an edge of the master's wires answers.
-    fn told_by_master<A: Outcome>(&self, edge: Edge, pins: Pins) -> A
-        ensures { OfParts self.now (λ version p h r. IsAsked p h r pins edge
-            → is_masters edge.wire ≡ true → A.tells result (asked_guard version p h edge)) }
-    {
-        match &self.master {
-            Some(master) => master.told(edge, pins, self.is_low(Wire::Bbsy)),
-            None => A::free(),
-        }
-    }
-
-    /// What the guard of the rule that names an edge of the interrupter's wires answers.
-    fn told_by_interrupter<A: Outcome>(&self, edge: Edge, pins: Pins) -> A
-        ensures { OfParts self.now (λ version p h r. IsAsked p h r pins edge
-            → is_interrupters edge.wire ≡ true → A.tells result (asked_guard version p h edge)) }
-    {
-        self.interrupter.told(edge, pins)
-    }
-
-    /// What the guard of the rule that names an edge of one of the board's wires answers, by the
-    /// part that drives the wire. It is given the board's pins. Source: G9 to G26 of docs/RULES.md.
-    pub fn told<A: Outcome>(&self, edge: Edge, pins: Pins) -> A
-        ensures { OfParts self.now (λ version p h r. IsAsked p h r pins edge
-            → A.tells result (asked_guard version p h edge)) }
-    {
-        match edge.wire {
-            Wire::Br | Wire::BgOut | Wire::Bbsy => self.told_by_requester(edge, pins),
-            Wire::Addr | Wire::AddressStrobe | Wire::DataStrobe => {
-                self.told_by_master(edge, pins)
-            }
-            Wire::Irq | Wire::IackOut | Wire::Dtack => self.told_by_interrupter(edge, pins),
-            Wire::Bg(_) | Wire::Bclr | Wire::Iack | Wire::Berr => A::free(),
         }
     }
 }

@@ -1,7 +1,9 @@
 //! The open-collector lines that boards pull, as counts of the boards that pull them.
-ghost use Rattle.std.specs.Prelude.{◌≡◌, ◌<◌, [], ◌∷◌, true, get_or, nat_lt};
+ghost use Rattle.std.specs.Prelude.{◌≡◌, ◌<◌, ◌∷◌, true, get_or, nat_lt};
 ghost use Rattle.vme_model.specs.Sets.{bus_levels, irq_levels};
-ghost use Rattle.vme_wiring.specs.Counts.{moved, is_movable, request_level, interrupt_level, no_pulls, count_of, lines_after, shared_after, shared_after_controller, addressing_after};
+ghost use Rattle.vme_wiring.specs.Counts.{moved, is_movable, no_pulls, count_of, lines_after, shared_after, shared_after_controller};
+ghost use Rattle.vme_histories.specs.Levels.{request_level, interrupt_level};
+ghost use Rattle.vme_histories.specs.Shown.{addressing_after};
 
 use vme_lines::OrLine;
 use vme_model::{BusLevels, Edge, Levels, Pins, Row, Wire};

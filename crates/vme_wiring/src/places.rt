@@ -1,5 +1,5 @@
 //! A board in its place, with what each of its edges changes and every turn asks for.
-ghost use Rattle.std.specs.Prelude.{◌≡◌, ◌&&◌, ◌∷◌, [], true, not};
+ghost use Rattle.std.specs.Prelude.{◌≡◌, ◌&&◌, ◌∷◌, [], true};
 ghost use Rattle.vme_model.specs.Plan.{Plan};
 ghost use Rattle.vme_model.specs.History.{shown as shown_after};
 ghost use Rattle.vme_wiring.specs.Boards.{OfParts, parts_of, low_of};

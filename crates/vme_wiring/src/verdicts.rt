@@ -4,7 +4,7 @@ ghost use Rattle.vme_model.specs.Offers.{turned};
 ghost use Rattle.vme_model.specs.History.{drive, shown};
 ghost use Rattle.vme_model.specs.Settling.{is_unanswerable, settling, settling_guard};
 ghost use Rattle.vme_model.specs.Verdict.{check, settled, verdict_but_full};
-ghost use Rattle.vme_wiring.specs.Asked.{asked, exists};
+ghost use Rattle.vme_histories.specs.Asked.{asked, exists};
 
 use crate::wirings::Wiring;
 use vme_model::{ChainId, Cycle, Driver, Edge, Refused, Wire};

@@ -4,13 +4,14 @@ ghost use Rattle.vme_model.specs.declared.signals.Driver.TheVariants.{Slot};
 ghost use Rattle.vme_model.specs.Readings.{readings};
 ghost use Rattle.vme_wiring.specs.Boards.{OfParts};
 ghost use Rattle.vme_wiring.specs.Asked.{seen_by, read_by};
-ghost use Rattle.vme_wiring.specs.Waits.{is_access_to, is_unserved};
+ghost use Rattle.vme_histories.specs.Shown.{is_access_to};
+ghost use Rattle.vme_wiring.specs.Waits.{is_unserved};
 ghost use Rattle.vme_wiring.specs.declared.wirings.Wiring.{Wiring as WiringValue};
 
 use crate::boards::Board;
-use crate::judges::Waiting;
 use crate::places::{Placed, is_interrupter_quiet, is_master_quiet, is_requester_quiet};
 use crate::wirings::Wiring;
+use vme_histories::Waiting;
 use vme_model::{Cycle, Driver};
 
 /// Whether an access to the slot is shown.
@@ -38,8 +39,8 @@ impl Wiring {
     ghost use Rattle.vme_wiring.specs.Wired.{OfHistory, OfPlaced};
     ghost use Rattle.vme_wiring.specs.Boards.{low_of};
     ghost use Rattle.vme_wiring.specs.Chained.{grant_in, iack_in};
-    ghost use Rattle.vme_wiring.specs.Offered.{offered_but_full};
-    ghost use Rattle.vme_wiring.specs.Waits.{is_quiet, is_ungranted, is_unaddressed, is_left_alone, is_waiting, waits_for_bus, waits_for_cycle, waits_for_grant};
+    ghost use Rattle.vme_histories.specs.Offered.{offered_but_full};
+    ghost use Rattle.vme_wiring.specs.Waits.{is_quiet, is_ungranted, is_unaddressed, is_left_alone, is_waiting, waits_for_bus, waits_for_cycle, waits_for_grant, requester_waits, master_waits, interrupter_waits};
 
     /// Whether the board's requester, if it has one, may not withdraw, and no grant has reached it.
     #[inline(always)]
@@ -95,7 +96,7 @@ impl Wiring {
 
     /// Which parts of a board wait.
     #[inline(always)]
-    pub(crate) fn waiting_parts(&self, board: &Board) -> Waiting
+    fn waiting_parts(&self, board: &Board) -> Waiting
         ensures requester { OfPlaced self.now board.now (λ version p h s. result.requester
             ≡ waits_for_grant version (readings p h (Slot s)) board.now.row) }
         ensures master { OfPlaced self.now board.now (λ _ p h s. result.master
@@ -108,6 +109,25 @@ impl Wiring {
             requester: self.waits_for_grant(board),
             master: is_master_quiet(board),
             interrupter: self.is_interrupter_waiting(board),
+        }
+    }
+
+    /// Which parts of a slot's board wait. All of them do if there is no board.
+    #[inline(always)]
+    pub(crate) fn waiting(&self, slot: u8) -> Waiting
+        ensures requester { OfHistory self.now (λ version p h.
+            result.requester ≡ requester_waits version p h slot) }
+        ensures master { OfHistory self.now (λ _ p h. result.master ≡ master_waits p h slot) }
+        ensures interrupter { OfHistory self.now (λ _ p h.
+            result.interrupter ≡ interrupter_waits p h slot) }
+    {
+        match self.board(slot) {
+            Some(board) => self.waiting_parts(board),
+            None => Waiting {
+                requester: true,
+                master: true,
+                interrupter: true,
+            },
         }
     }
 

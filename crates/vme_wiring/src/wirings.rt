@@ -11,7 +11,8 @@ ghost use Rattle.vme_model.specs.History.{shown};
 ghost use Rattle.vme_model.specs.Verdict.{verdict_but_full};
 ghost use Rattle.vme_arbiter.specs.Local.{controller_of};
 ghost use Rattle.vme_wiring.specs.Boards.{OfPlace, parts_of, place};
-ghost use Rattle.vme_wiring.specs.Counts.{high_pins, lines_after, shared_after, shared_after_controller, addressing_after};
+ghost use Rattle.vme_wiring.specs.Counts.{high_pins, lines_after, shared_after, shared_after_controller};
+ghost use Rattle.vme_histories.specs.Shown.{addressing_after};
 ghost use Rattle.vme_wiring.specs.Chained.{after_board, after_controller, CanMoveHead};
 
 use crate::boards::Board;

@@ -1,4 +1,4 @@
-use Rattle.vme_backplane.proofs.AcceptedOffers.{is_allowed, has_room}
+use Rattle.vme_histories.proofs.AcceptedOffers.{is_allowed, has_room}
 use Rattle.vme_backplane.proofs.WellFormed.{allowed_is_well_formed}
 use Rattle.vme_backplane.proofs.backplanes.Backplane.accepted.Goals as goal
 

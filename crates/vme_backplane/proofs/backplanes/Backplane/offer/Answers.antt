@@ -1,7 +1,7 @@
 use Rattle.std.proofs.Common.{◌∙◌, sym, ap, List, length}
 use Rattle.std.specs.Prelude.{◌%◌, slice_get}
 use Rattle.vme_model.specs.declared.signals.Edge.{Edge}
-use Rattle.vme_backplane.proofs.OfferChoice.{none_offered}
+use Rattle.vme_histories.proofs.OfferChoice.{none_offered}
 use Rattle.vme_backplane.proofs.backplanes.Backplane.offer.Goals as goal
 
 pub returns-then-is_waiting : goal.returns-then-is_waiting

@@ -1,5 +1,5 @@
 use Rattle.std.proofs.Common.{◌∙◌, sym}
-use Rattle.vme_backplane.proofs.OfferChoice.{offered_full, offered_with_room}
+use Rattle.vme_histories.proofs.OfferChoice.{offered_full, offered_with_room}
 use Rattle.vme_backplane.proofs.backplanes.Backplane.offers.Goals as goal
 
 pub returns-then-is_full : goal.returns-then-is_full

@@ -1,4 +1,4 @@
-use Rattle.vme_backplane.proofs.AcceptedOffers.{is_allowed, has_room}
+use Rattle.vme_histories.proofs.AcceptedOffers.{is_allowed, has_room}
 use Rattle.vme_bus.proofs.buses.Bus.accepted.Goals as goal
 
 pub returns-clause-room : goal.returns-clause-room

@@ -1,7 +1,7 @@
 use Rattle.std.proofs.Common.{◌∙◌, sym, ap, List, ◌++◌, ◌∷◌, []}
 use Rattle.vme_model.specs.declared.conditions.Condition.{Condition}
 use Rattle.vme_model.specs.declared.conditions.Condition.TheVariants.{HasRoom}
-use Rattle.vme_backplane.proofs.Failing.{unmet_room, unmet_without}
+use Rattle.vme_bus.proofs.Failing.{unmet_room, unmet_without}
 use Rattle.vme_bus.proofs.buses.Bus.failing.Goals as goal
 
 pub returns-then-lacks_room : goal.returns-then-lacks_room

@@ -1,6 +1,6 @@
 use Rattle.std.proofs.Common.{◌∙◌, ap}
 use Rattle.std.specs.Prelude.{is_ok}
-use Rattle.vme_backplane.proofs.AcceptedOffers.{answered}
+use Rattle.vme_histories.proofs.AcceptedOffers.{answered}
 use Rattle.vme_bus.proofs.buses.Bus.step.Goals as goal
 
 pub returns-clause-accepted : goal.returns-clause-accepted

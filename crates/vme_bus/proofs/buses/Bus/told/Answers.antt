@@ -1,5 +1,5 @@
 use Rattle.std.proofs.Common.{◌∙◌, sym, subst}
-use Rattle.vme_backplane.proofs.Failing.{tested_room, tested_without}
+use Rattle.vme_bus.proofs.Failing.{tested_room, tested_without}
 use Rattle.vme_bus.proofs.buses.Bus.told.Goals as goal
 
 pub returns-then-lacks_room : goal.returns-then-lacks_room

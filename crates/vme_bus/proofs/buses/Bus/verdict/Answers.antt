@@ -2,7 +2,7 @@ use Rattle.std.proofs.Common.{◌∙◌, sym, length}
 use Rattle.std.specs.Prelude.{◌==◌, not, Ok}
 use Rattle.vme_model.specs.declared.refusals.Refused.TheVariants.{TraceFull}
 use Rattle.vme_model.specs.Verdict.{check}
-use Rattle.vme_backplane.proofs.Judged.{refused}
+use Rattle.vme_histories.proofs.Judged.{refused}
 use Rattle.vme_bus.proofs.buses.Bus.verdict.Goals as goal
 
 pub returns-in-Err : goal.returns-in-Err

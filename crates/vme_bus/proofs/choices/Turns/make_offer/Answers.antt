@@ -1,7 +1,7 @@
 use Rattle.std.proofs.Common.{◌∙◌, sym, length}
 use Rattle.std.specs.Prelude.{◌%◌}
 use Rattle.vme_model.specs.Offers.{offered}
-use Rattle.vme_backplane.proofs.AcceptedOffers.{offer_is_accepted}
+use Rattle.vme_histories.proofs.AcceptedOffers.{offer_is_accepted}
 use Rattle.vme_bus.proofs.choices.Turns.make_offer.Goals as goal
 
 pub take-requires : goal.take-requires

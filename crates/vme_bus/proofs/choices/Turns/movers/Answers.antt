@@ -2,10 +2,10 @@ use Rattle.std.proofs.Common.{◌≡◌, ◌∙◌, sym, subst, []}
 use Rattle.vme_model.specs.declared.signals.Driver.TheVariants.{Slot}
 use Rattle.vme_model.specs.Offers.{offered}
 use Rattle.vme_model.specs.Verdict.{State}
-use Rattle.vme_backplane.proofs.OfferChoice.{none_offered}
-use Rattle.vme_wiring.proofs.NoOffers.{none_waits}
+use Rattle.vme_histories.proofs.OfferChoice.{none_offered}
+use Rattle.vme_histories.proofs.NoOffers.{none_waits}
 use Rattle.vme_bus.specs.Sets.{has}
-use Rattle.vme_bus.proofs.AtWork.{neither}
+use Rattle.vme_bus.proofs.Ready.{neither}
 use Rattle.vme_bus.proofs.choices.Turns.movers.Goals as goal
 
 pub returns : goal.returns

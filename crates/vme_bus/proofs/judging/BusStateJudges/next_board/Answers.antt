@@ -1,5 +1,5 @@
 use Rattle.std.proofs.Common.{◌∙◌}
-use Rattle.vme_wiring.proofs.ConsideredReads.{next}
+use Rattle.vme_histories.proofs.Considered.{next}
 use Rattle.vme_bus.proofs.judging.BusStateJudges.next_board.Goals as goal
 
 pub returns : goal.returns

@@ -4,8 +4,8 @@ use Rattle.vme_model.specs.declared.signals.Wire.TheVariants.{IackOut}
 use Rattle.vme_model.specs.History.{drive, shown}
 use Rattle.vme_model.specs.Readings.{readings, iack_in}
 use Rattle.vme_model.specs.Rules.{answers}
-use Rattle.vme_wiring.specs.Waits.{is_access_to}
-use Rattle.vme_wiring.proofs.AllowedBoards.{stands}
+use Rattle.vme_histories.specs.Shown.{is_access_to}
+use Rattle.vme_histories.proofs.AllowedBoards.{stands}
 use Rattle.vme_bus.specs.Asks.{asks_at}
 use Rattle.vme_bus.specs.Records.{cycle_in}
 use Rattle.vme_bus.proofs.Guards.{answered_by}

@@ -1,15 +1,16 @@
-use Rattle.std.proofs.Common.{◌∙◌}
+use Rattle.std.proofs.Common.{refl, ◌∙◌}
 use Rattle.vme_model.specs.declared.signals.Driver.TheVariants.{Slot}
 use Rattle.vme_model.specs.Readings.{readings}
+use Rattle.vme_model.specs.declared.signals.Part.TheVariants as parts
 use Rattle.vme_bus.proofs.Asked.{has_board, near_slot, asked_so}
-use Rattle.vme_bus.proofs.Parts.{interrupter_alone, slot_alone}
+use Rattle.vme_bus.proofs.Parts.{board_alone, slot_alone}
 use Rattle.vme_bus.proofs.states.BusState.ask_interrupter.Goals as goal
 
 pub returns : goal.returns
 returns c version p h is exists =
-    let s = c.slot_of-slot.result in
+    let s = c.number-slot.result in
     let e = c.args.edge in
-    let driver = slot_alone e s c.slot_of-slot.ensures (λ alone. interrupter_alone e alone c.requires.part c.requires.formed) in
+    let driver = slot_alone e s c.number-slot.ensures (λ alone. board_alone parts.Interrupter refl e alone c.requires.part c.requires.formed) in
     let o = has_board p s e driver exists in
     c.asked.ensures
     ∙ asked_so version p h (Slot s) e _ _ _ driver

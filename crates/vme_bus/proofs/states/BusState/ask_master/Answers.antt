@@ -1,15 +1,16 @@
-use Rattle.std.proofs.Common.{◌∙◌}
+use Rattle.std.proofs.Common.{refl, ◌∙◌}
 use Rattle.vme_model.specs.declared.signals.Driver.TheVariants.{Slot}
 use Rattle.vme_model.specs.Readings.{readings}
+use Rattle.vme_model.specs.declared.signals.Part.TheVariants as parts
 use Rattle.vme_bus.proofs.Asked.{asks_for, has_board, near_slot, asked_so}
-use Rattle.vme_bus.proofs.Parts.{masters_of, master_alone, slot_alone}
+use Rattle.vme_bus.proofs.Parts.{masters_of, board_alone, slot_alone}
 use Rattle.vme_bus.proofs.states.BusState.ask_master.Goals as goal
 
 pub returns : goal.returns
 returns c version p h is exists =
-    let s = c.slot_of-slot.result in
+    let s = c.number-slot.result in
     let e = c.args.edge in
-    let driver = slot_alone e s c.slot_of-slot.ensures (λ alone. master_alone e alone c.requires.part c.requires.formed) in
+    let driver = slot_alone e s c.number-slot.ensures (λ alone. board_alone parts.Master refl e alone c.requires.part c.requires.formed) in
     let o = has_board p s e driver exists in
     let k = asks_for p s o.0 e o.1 driver exists in
     c.asked.ensures

@@ -1,23 +1,30 @@
-use Rattle.vme_bus.proofs.Parts.{of_requester, of_master, of_interrupter, requests_by, masters_by}
+use Rattle.std.proofs.Common.{refl}
+use Rattle.vme_model.specs.declared.signals.Part.TheVariants as parts
+use Rattle.vme_bus.proofs.Parts.{of_its_part, requests_of, masters_of}
 use Rattle.vme_bus.proofs.states.BusState.board_rule.Goals as goal
 
-pub returns-in-Br-clause-number : goal.returns-in-Br-clause-number
-returns-in-Br-clause-number g c r version reads v known = c.requester_rule.ensures.number version reads v (of_requester c.args.wire c.in-Br.is)
+pub returns-in-Requester-clause-number : goal.returns-in-Requester-clause-number
+returns-in-Requester-clause-number g c r version reads v known =
+    c.requester_rule.ensures.number version reads v (of_its_part parts.Requester c.args.wire _ c.part.ensures c.in-Requester.is refl)
 
-pub returns-in-Br-clause-answer : goal.returns-in-Br-clause-answer
-returns-in-Br-clause-answer g c version p h r is found drives formed =
-    c.requester_rule.ensures.answer version p h r is found c.args.value (of_requester c.args.wire c.in-Br.is) (requests_by c.args.wire r c.in-Br.is drives)
+pub returns-in-Requester-clause-answer : goal.returns-in-Requester-clause-answer
+returns-in-Requester-clause-answer g c version p h r is found drives formed =
+    let own = of_its_part parts.Requester c.args.wire _ c.part.ensures c.in-Requester.is refl in
+    c.requester_rule.ensures.answer version p h r is found c.args.value own (requests_of c.args.wire r own drives)
 
-pub returns-in-Addr-clause-number : goal.returns-in-Addr-clause-number
-returns-in-Addr-clause-number g c r version reads v known = c.master_rule.ensures.number version reads v (of_master c.args.wire c.in-Addr.is)
+pub returns-in-Master-clause-number : goal.returns-in-Master-clause-number
+returns-in-Master-clause-number g c r version reads v known =
+    c.master_rule.ensures.number version reads v (of_its_part parts.Master c.args.wire _ c.part.ensures c.in-Master.is refl)
 
-pub returns-in-Addr-clause-answer : goal.returns-in-Addr-clause-answer
-returns-in-Addr-clause-answer g c version p h r is found drives formed =
-    c.master_rule.ensures.answer version p h r is found (of_master c.args.wire c.in-Addr.is) (masters_by c.args.wire r c.in-Addr.is drives) formed
+pub returns-in-Master-clause-answer : goal.returns-in-Master-clause-answer
+returns-in-Master-clause-answer g c version p h r is found drives formed =
+    let own = of_its_part parts.Master c.args.wire _ c.part.ensures c.in-Master.is refl in
+    c.master_rule.ensures.answer version p h r is found own (masters_of c.args.wire r own drives) formed
 
-pub returns-in-Irq-clause-number : goal.returns-in-Irq-clause-number
-returns-in-Irq-clause-number g c r version reads v known = c.interrupter_rule.ensures.number version reads v (of_interrupter c.args.wire c.in-Irq.is)
+pub returns-in-Interrupter-clause-number : goal.returns-in-Interrupter-clause-number
+returns-in-Interrupter-clause-number g c r version reads v known =
+    c.interrupter_rule.ensures.number version reads v (of_its_part parts.Interrupter c.args.wire _ c.part.ensures c.in-Interrupter.is refl)
 
-pub returns-in-Irq-clause-answer : goal.returns-in-Irq-clause-answer
-returns-in-Irq-clause-answer g c version p h r is found drives formed =
-    c.interrupter_rule.ensures.answer version p h r is found c.args.value (of_interrupter c.args.wire c.in-Irq.is)
+pub returns-in-Interrupter-clause-answer : goal.returns-in-Interrupter-clause-answer
+returns-in-Interrupter-clause-answer g c version p h r is found drives formed =
+    c.interrupter_rule.ensures.answer version p h r is found c.args.value (of_its_part parts.Interrupter c.args.wire _ c.part.ensures c.in-Interrupter.is refl)

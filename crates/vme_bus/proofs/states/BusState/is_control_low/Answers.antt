@@ -1,4 +1,4 @@
-use Rattle.std.proofs.Common.{◌≡◌, ◌∙◌, ◌≤◌, ◌⊎◌, inl, inr, refl, sym, ap, ℕ, List, false, arith}
+use Rattle.std.proofs.Common.{◌≡◌, ◌∙◌, ◌≤◌, ◌⊎◌, inl, inr, refl, sym, ap, List, false, arith}
 use Rattle.std.specs.Prelude.{◌==◌, nat_lt}
 use Rattle.std.proofs.lemmas.Bool.Decides.{nat_tests}
 use Rattle.vme_model.specs.declared.signals.Driver.TheVariants.{Controller}
@@ -6,25 +6,16 @@ use Rattle.vme_model.specs.declared.signals.Edge.{Edge}
 use Rattle.vme_model.specs.declared.signals.Version.{Version}
 use Rattle.vme_model.specs.declared.signals.Wire.{Wire}
 use Rattle.vme_model.specs.declared.signals.Wire.TheVariants.{Bg, Br, BgOut, Bbsy, Addr, AddressStrobe, DataStrobe, Irq, IackOut, Dtack}
-use Rattle.vme_model.specs.Plan.{Plan}
+use Rattle.vme_model.specs.Plan.{Plan, has_driver}
 use Rattle.vme_model.specs.History.{drive}
 use Rattle.vme_model.specs.Verdict.{IsLegal}
-use Rattle.vme_arbiter.specs.Local.{low, controller_of, ControllerState}
-use Rattle.vme_wiring.proofs.FieldReads.{own_of_controller}
+use Rattle.vme_histories.proofs.Drivers.{never_drove}
 use Rattle.vme_bus.proofs.states.BusState.is_control_low.Goals as goal
 
-far : (c : ControllerState) (n : ℕ) → 4 ≤ n → false ≡ low c (Bg n)
-far c n l =
-    let a : (n == 0) ≡ false = grind (arith, nat_tests) in
-    let b : (n == 1) ≡ false = grind (arith, nat_tests) in
-    let d : (n == 2) ≡ false = grind (arith, nat_tests) in
-    let e : (n == 3) ≡ false = grind (arith, nat_tests) in
-    rw (a, b, d, e)
-
 module _ (version : Version) (p : Plan) (h : List Edge) (legal : IsLegal version p h) where
-  -- the controller drives no wire that it never drives
-  never : (w v : Wire) → low (controller_of p.arbiter version h) v ≡ false → w ≡ v → false ≡ drive h Controller w
-  never w v off e = sym off ∙ own_of_controller version p h v legal ∙ sym (ap (λ (x : Wire). drive h Controller x) e)
+  -- the controller drives no wire that it lacks
+  never : (w v : Wire) → has_driver p Controller v ≡ false → w ≡ v → false ≡ drive h Controller w
+  never w v lacks e = sym (never_drove version p h Controller v legal lacks) ∙ sym (ap (λ (x : Wire). drive h Controller x) e)
 
 pub returns-else-level-lt4 : goal.returns-else-level-lt4
 returns-else-level-lt4 c version p h is =
@@ -32,7 +23,7 @@ returns-else-level-lt4 c version p h is =
     let beyond = c.if-level-lt4.false in
     let l : 4 ≤ n = omega arith in
     let off : nat_lt n 4 ≡ false = grind (arith, nat_tests) in
-    off ∙ never version p h is.legal c.args.wire (Bg n) (sym (far (controller_of p.arbiter version h) n l)) c.in-Bg.is
+    off ∙ never version p h is.legal c.args.wire (Bg n) off c.in-Bg.is
 
 pub returns-in-Br : goal.returns-in-Br
 returns-in-Br c version p h is = by_wire c.in-Br.is

@@ -1,7 +1,7 @@
 use Rattle.std.proofs.Common.{◌∙◌, sym}
 use Rattle.vme_bus.proofs.Turned.{interrupters_settle}
 use Rattle.vme_bus.proofs.Settled.{asked_alone}
-use Rattle.vme_wiring.proofs.JudgedParts.{exists_by}
+use Rattle.vme_histories.proofs.JudgedParts.{exists_by}
 use Rattle.vme_bus.proofs.states.BusState.judge_interrupter.Goals as goal
 
 pub returns : goal.returns

@@ -1,6 +1,5 @@
 use Rattle.std.proofs.Common.{◌∙◌, sym}
-use Rattle.vme_wiring.proofs.JudgedParts.{refused, passed}
-use Rattle.vme_wiring.proofs.JudgedParts.{exists_by}
+use Rattle.vme_histories.proofs.JudgedParts.{refused, passed, exists_by}
 use Rattle.vme_bus.proofs.states.BusState.judge_master.Goals as goal
 
 pub returns-in-Ok : goal.returns-in-Ok

@@ -6,7 +6,7 @@ use Rattle.vme_model.specs.Readings.{readings}
 use Rattle.vme_model.specs.Rules.{rule}
 use Rattle.vme_model.specs.Offers.{turned}
 use Rattle.vme_model.specs.History.{drive}
-use Rattle.vme_wiring.specs.Asked.{exists}
+use Rattle.vme_histories.specs.Asked.{exists}
 use Rattle.vme_bus.proofs.Asked.{asks_for, has_board}
 use Rattle.vme_bus.proofs.Parts.{requests_of}
 use Rattle.vme_bus.proofs.Turned.{beyond_shut, open_by_rule, requesters_settle}

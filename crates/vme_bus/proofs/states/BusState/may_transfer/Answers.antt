@@ -8,7 +8,7 @@ use Rattle.vme_model.specs.Settling.{settling}
 use Rattle.vme_model.specs.Signals.{has_value}
 use Rattle.vme_model.specs.Offers.{turned}
 use Rattle.vme_model.specs.History.{drive}
-use Rattle.vme_wiring.specs.Asked.{exists}
+use Rattle.vme_histories.specs.Asked.{exists}
 use Rattle.vme_bus.proofs.Asked.{asks_for, has_board}
 use Rattle.vme_bus.proofs.Parts.{masters_of}
 use Rattle.vme_bus.proofs.Turned.{beyond_shut, open_where}

@@ -1,6 +1,8 @@
-use Rattle.std.proofs.Common.{◌∙◌, refl, ap}
-use Rattle.vme_model.specs.declared.pins.Pins.{Pins}
-use Rattle.vme_wiring.proofs.Fresh.{high_shared, none_addresses}
+use Rattle.std.proofs.Common.{◌∙◌, refl, ap, []}
+use Rattle.std.specs.Option.{option_and_then}
+use Rattle.vme_model.specs.declared.signals.Driver.TheVariants.{Slot}
+use Rattle.vme_model.specs.History.{last_value}
+use Rattle.vme_histories.proofs.Addressing.{none_addresses}
 use Rattle.vme_bus.specs.Layouts.{grant_head, acknowledge_head}
 use Rattle.vme_bus.specs.States.{bus_clear_place, bus_error_place}
 use Rattle.vme_bus.proofs.PowerUp.{none_held, none_granted, none_acknowledged, none_served, no_cycles}
@@ -35,6 +37,6 @@ returns c =
       strobed = none_held;
       cycles_room = refl;
       cycles = no_cycles p;
-      shown = c.of.ensures ∙ ap (λ (x : Pins). x.shown) (high_shared p);
+      shown = c.of.ensures ∙ ap (option_and_then (λ s. last_value [] (Slot s))) (none_addresses p);
       addressing = none_addresses p;
     }

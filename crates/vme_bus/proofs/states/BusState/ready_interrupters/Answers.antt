@@ -1,28 +1,24 @@
 use Rattle.std.proofs.Common.{◌≡◌, ◌∙◌, refl, sym, ap, true, []}
 use Rattle.std.specs.Prelude.{◌&&◌, ◌||◌, not, Option, Some, None}
-use Rattle.std.specs.Option.{option_map_or}
 use Rattle.vme_model.specs.declared.boards.Row.{Row}
 use Rattle.vme_model.specs.declared.signals.Driver.TheVariants.{Slot}
 use Rattle.vme_model.specs.declared.signals.Wire.TheVariants.{AddressStrobe, IackOut, Dtack}
 use Rattle.vme_model.specs.Plan.{board}
 use Rattle.vme_model.specs.History.{drive, line}
-use Rattle.vme_model.specs.Readings.{readings}
-use Rattle.vme_wiring.specs.Offered.{offered_on, interrupter_wires}
-use Rattle.vme_wiring.specs.Waits.{waits_for_cycle, is_unserved, is_access_to}
-use Rattle.vme_wiring.proofs.AllowedBoards.{stands}
-use Rattle.vme_wiring.proofs.NoOffers.{interrupter_idle}
+use Rattle.vme_histories.specs.Offered.{offered_on, interrupter_wires}
+use Rattle.vme_histories.specs.Shown.{is_access_to}
+use Rattle.vme_histories.proofs.AllowedBoards.{stands}
+use Rattle.vme_histories.proofs.NoOffers.{interrupter_of_none}
 use Rattle.vme_bus.specs.Records.{cycle_in}
 use Rattle.vme_bus.specs.Sets.{has}
-use Rattle.vme_bus.proofs.AtWork.{neither}
-use Rattle.vme_bus.proofs.Ready.{interrupters_between, interrupters_under, and_not_is}
+use Rattle.vme_bus.proofs.Ready.{neither, interrupters_between, interrupters_under, and_not_is}
 use Rattle.vme_bus.proofs.states.BusState.ready_interrupters.Goals as goal
 
 pub returns-then-data_strobe : goal.returns-then-data_strobe
 returns-then-data_strobe c version p h is s off = by_board (board p s) refl
   where
     by_board : (o : Option Row) → board p s ≡ o → offered_on version p h (Slot s) interrupter_wires ≡ []
-    by_board None found =
-        interrupter_idle version p h s is.legal (ap (λ (o : Option Row). option_map_or (λ r. waits_for_cycle (readings p h (Slot s)) r && is_unserved (readings p h (Slot s)) r) o true) found)
+    by_board None found = interrupter_of_none version p h s found
     by_board (Some r) found =
         let b = c.args.self.now in
         let near = (stands p s r is.accepted found).near in
@@ -45,8 +41,7 @@ pub returns-else-data_strobe : goal.returns-else-data_strobe
 returns-else-data_strobe c version p h is s off = by_board (board p s) refl
   where
     by_board : (o : Option Row) → board p s ≡ o → offered_on version p h (Slot s) interrupter_wires ≡ []
-    by_board None found =
-        interrupter_idle version p h s is.legal (ap (λ (o : Option Row). option_map_or (λ r. waits_for_cycle (readings p h (Slot s)) r && is_unserved (readings p h (Slot s)) r) o true) found)
+    by_board None found = interrupter_of_none version p h s found
     by_board (Some r) found =
         let b = c.args.self.now in
         let near = (stands p s r is.accepted found).near in

@@ -1,13 +1,16 @@
 use Rattle.std.proofs.Common.{◌∙◌, sym}
-use Rattle.vme_wiring.proofs.NoOffers.{master_idle}
+use Rattle.vme_histories.proofs.NoOffers.{master_closed}
 use Rattle.vme_bus.specs.Sets.{has}
-use Rattle.vme_bus.proofs.AtWork.{neither, waits_then}
-use Rattle.vme_bus.proofs.Ready.{masters_answered, masters_unanswered, and_is, or_is, and_not_is}
+use Rattle.vme_bus.proofs.Ready.{neither, masters_answered, masters_unanswered, and_is, or_is, and_not_is}
 use Rattle.vme_bus.proofs.states.BusState.ready_masters.Goals as goal
 
 pub returns-then-not-address_strobe : goal.returns-then-not-address_strobe
 returns-then-not-address_strobe c version p h is s off =
-    master_idle version p h s is.legal (waits_then _ (sym (c.masters_at_work.ensures version p h is s) ∙ off))
+    let b = c.args.self.now in
+    let t = neither (has b.bbsy s) _ (sym (c.holding.ensures s) ∙ off) in
+    let u = neither _ (has b.data_strobe s) t.1 in
+    let v = neither (has b.addr s) (has b.address_strobe s) u.0 in
+    master_closed version p h s (sym (is.bbsy s) ∙ t.0) (sym (is.addr s) ∙ v.0) (sym (is.address_strobe s) ∙ v.1) (sym (is.data_strobe s) ∙ u.1)
 
 pub returns-then-dtack-berr : goal.returns-then-dtack-berr
 returns-then-dtack-berr c version p h is s off =

@@ -14,11 +14,11 @@ use Rattle.vme_model.specs.Verdict.{check, ruling}
 use Rattle.vme_model.proofs.Bools.{and_left}
 use Rattle.vme_arbiter.specs.declared.policies.AnyPolicy.{AnyPolicy}
 use Rattle.vme_arbiter.specs.Local.{over}
-use Rattle.vme_wiring.specs.Asked.{asked}
+use Rattle.vme_histories.specs.Asked.{asked}
 use Rattle.vme_wiring.proofs.RuleRows.{controller_asked}
 use Rattle.vme_wiring.proofs.LongerHistory.{placed_board}
 use Rattle.vme_wiring.proofs.FieldReads.{pins_of_board}
-use Rattle.vme_wiring.proofs.JudgedParts.{exists_as, exists_by, board_asked}
+use Rattle.vme_histories.proofs.JudgedParts.{exists_as, exists_by, board_asked}
 use Rattle.vme_wiring.proofs.wirings.Wiring.ask.Goals as goal
 
 pub returns-in-Controller : goal.returns-in-Controller

@@ -3,7 +3,7 @@ use Rattle.std.proofs.Common.{◌≡◌, ◌∙◌, sym, arith, ℕ, true}
 use Rattle.std.specs.Prelude.{◌&&◌, nat_lt, is_some}
 use Rattle.vme_model.specs.Plan.{board}
 use Rattle.vme_slots.proofs.Slots.{find_up_to_first, find_up_to_none}
-use Rattle.vme_wiring.proofs.ConsideredReads.{none_up_to}
+use Rattle.vme_histories.proofs.Considered.{none_up_to}
 use Rattle.vme_wiring.proofs.wirings.Wiring.board_above.Goals as goal
 
 pub loop-other-preserved : goal.loop-other-preserved

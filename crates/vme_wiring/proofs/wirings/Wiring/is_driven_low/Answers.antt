@@ -4,7 +4,8 @@ use Rattle.vme_model.specs.declared.signals.Driver.{Driver}
 use Rattle.vme_model.specs.History.{drive}
 use Rattle.vme_arbiter.specs.Local.{low}
 use Rattle.vme_wiring.proofs.ConsideredReads.{own_of_place}
-use Rattle.vme_wiring.proofs.FieldReads.{no_board_in, own_of_controller, own_of_none}
+use Rattle.vme_histories.proofs.Drivers.{own_of_none}
+use Rattle.vme_wiring.proofs.FieldReads.{no_board_in, own_of_controller}
 use Rattle.vme_wiring.proofs.wirings.Wiring.is_driven_low.Goals as goal
 
 pub returns-in-Controller : goal.returns-in-Controller

@@ -1,5 +1,5 @@
 use Rattle.std.proofs.Common.{◌∙◌, sym}
-use Rattle.vme_wiring.proofs.JudgedParts.{refused_asked, passed_asked}
+use Rattle.vme_histories.proofs.JudgedParts.{refused_asked, passed_asked}
 use Rattle.vme_wiring.proofs.wirings.Wiring.judge.Goals as goal
 
 pub returns-in-Ok : goal.returns-in-Ok

@@ -1,6 +1,7 @@
 use Rattle.std.proofs.Common.{◌∙◌, refl, sym, subst, []}
 use Rattle.vme_wiring.specs.Counts.{IsLines}
-use Rattle.vme_wiring.proofs.Fresh.{high_lines, high_shared, none_addresses, boards_in_places}
+use Rattle.vme_wiring.proofs.Fresh.{high_lines, high_shared, boards_in_places}
+use Rattle.vme_histories.proofs.Addressing.{none_addresses}
 use Rattle.vme_wiring.proofs.FieldReads.{arbiter_of}
 use Rattle.vme_wiring.proofs.wirings.Wiring.new.Goals as goal
 

@@ -6,8 +6,9 @@ use Rattle.vme_model.specs.declared.boards.Row.{Row}
 use Rattle.vme_model.specs.declared.pins.Pins.{Pins}
 use Rattle.vme_wiring.specs.Boards.{parts_of}
 use Rattle.vme_wiring.specs.Wired.{CanNote}
-use Rattle.vme_wiring.proofs.AllowedBoards.{stands}
-use Rattle.vme_wiring.proofs.LongerHistory.{noted_by_board, noted_by_controller, line_can, chain_can, head_can, placed_board, standing}
+use Rattle.vme_histories.proofs.AllowedBoards.{stands}
+use Rattle.vme_wiring.proofs.LongerHistory.{noted_by_board, noted_by_controller, line_can, chain_can, head_can, placed_board}
+use Rattle.vme_histories.proofs.Drivers.{standing}
 use Rattle.vme_wiring.proofs.wirings.Wiring.note.Goals as goal
 
 pub note_controller-requires : goal.note_controller-requires

@@ -1,8 +1,0 @@
-use Rattle.std.proofs.Common.{◌∙◌}
-use Rattle.vme_model.proofs.Failing.{fails_of_tested_but_full}
-use Rattle.vme_rules.proofs.TestedRoom.{five_tested}
-use Rattle.vme_wiring.proofs.conditions.failing_by.Goals as goal
-
-pub returns : goal.returns
-returns g c = λ version p h is.
-    c.told_by.ensures version p h is (five_tested version p h c.args.edge) ∙ fails_of_tested_but_full version p h c.args.edge
