@@ -9,9 +9,9 @@ ghost use Rattle.vme_order.specs.Ordering.{place_line, seen_at};
 use crate::Form;
 use arrayvec::ArrayVec;
 use std::io::Write;
-use vme_explain::texts::{push, push_number};
 use vme_model::Version;
 use vme_moments::Seen;
+use vme_text::{push, push_number};
 use vme_trace::{Fault, header_line, put, spelling_of, write_line};
 
 /// Room for any line: three numbers of at most 20 digits, an edge of 12 bytes, and a few words.
