@@ -44,3 +44,5 @@ pub mod Ready
 pub mod Room
 -- each refusal has a number of its own: `BusState::step_requester` and its like
 pub mod Numbers
+-- what states of one history or of one kind are of: the search for an order, in a crate above
+pub mod OneKind

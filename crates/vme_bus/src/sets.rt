@@ -3,7 +3,7 @@ ghost use Rattle.std.specs.Prelude.{◌≡◌, ◌≢◌, ◌&&◌, ◌||◌, �
 
 /// A set of slots, a bit for each.
 #[repr(C)]
-#[derive(Clone, Copy)]
+#[derive(Clone, Copy, PartialEq, Eq)]
 pub struct SlotSet {
     bits: u32,
 }
@@ -117,6 +117,14 @@ impl SlotSet {
         SlotSet {
             bits: self.bits ^ other.bits,
         }
+    }
+
+    /// Its bits, one for each slot.
+    #[inline(always)]
+    pub(crate) fn to_bits(self) -> u32
+        ensures { result ≡ self.bits }
+    {
+        self.bits
     }
 
     /// The least slot above that one that it holds, if it holds any.

@@ -10,6 +10,7 @@ use std::io::{self, ErrorKind};
 use std::process::ExitCode;
 use thiserror::Error;
 use vme_engines::EngineFault;
+use vme_ordering::OrderingFault;
 use vme_run::RunFault;
 use vme_trace::Fault;
 
@@ -37,6 +38,9 @@ pub enum ProgramFault<'a> {
     /// A fault of `run`, whose boards run in threads.
     #[error("{0}")]
     Boards(RunFault),
+    /// A fault of moments, or of the search for an order of their edges.
+    #[error("{0}")]
+    Ordering(OrderingFault),
 }
 
 impl<'a> ProgramFault<'a> {

@@ -124,6 +124,27 @@ Examples:
   vmebus summary board.toml tenure.vme
   vmebus summary board.toml drawn-1.vme drawn-2.vme drawn-3.vme";
 
+const ORDER: &str = "Finds the first order, of edges seen at the same moment, that the rules allow";
+
+const ORDER_USAGE: &str = "vmebus order <SCENARIO> <MOMENTS> [--slack <S>] [--where]";
+
+const ORDER_EXAMPLE: &str =
+    "A clocked design moves several wires at once. MOMENTS is a trace with lines `@N` between its edges: an
+edge was seen at the moment of the last `@N` above it, such as the number of the clock. Edges of one
+moment may have been made in any order, those of a later moment after them.
+With --slack S an edge took effect at most S moments before it was seen: S is a number for all
+drivers, or a list of drivers with a number each, as `c=2,5=1`; the others have 0. Edges that one
+board, or one part of the controller, makes at different moments keep their order.
+
+It writes the trace of an order that the rules allow, of all such orders the least by the places of
+the edges in MOMENTS, and the exit status is 0. Where there is none, it writes what comes furthest,
+and after it the edges that could come next, each of which is refused there; the exit status is 2, and
+`vmebus explain` tells why the first is refused. With --where it writes for each edge of that trace
+its number, its line in MOMENTS and its moment. At a fault the exit status is 1.
+
+Example:
+  vmebus order board.toml seen.vme --slack c=2 > tenure.vme";
+
 const DRIVE: &str =
     "Writes a trace that the drivers of a scenario make in turn, or one that is drawn by lot";
 
@@ -193,6 +214,13 @@ fn trace_file<'a>(alloc: Global) -> Arg<'a>
     ensures { rule_of result ≡ said.file (codes "TRACE") }
 {
     file(alloc, "TRACE", "The edges, one a line")
+}
+
+fn moments_file<'a>(alloc: Global) -> Arg<'a>
+    ensures { rule_of result ≡ said.file (codes "MOMENTS") }
+{
+    let help = "The edges, one a line, below the moments at which they were seen";
+    file(alloc, "MOMENTS", help)
 }
 
 /// The argument for the files of traces, of which at least one is required.
@@ -322,6 +350,16 @@ fn seeds_option<'a>(alloc: Global) -> Arg<'a>
         .help("Tries these seeds in order until one comes to EVENT; needs --until")
 }
 
+fn slack_option<'a>(alloc: Global) -> Arg<'a>
+    ensures { rule_of result ≡ said.slack }
+{
+    Arg::new(alloc, "slack")
+        .long("slack")
+        .value_name("S")
+        .action(ArgAction::Set)
+        .help("By how many moments edges may be seen late, as 2 or c=2,5=1 [default: 0]")
+}
+
 /// An option without a value.
 fn flag<'a>(alloc: Global, name: &'a str, help: &'a str) -> Arg<'a>
     ensures { rule_of result ≡ said.flag name.entry.now }
@@ -344,6 +382,13 @@ fn progress_option<'a>(alloc: Global) -> Arg<'a>
 {
     let help = "Tells on standard error which seed it tries, once a second at most; needs --seeds";
     flag(alloc, "progress", help)
+}
+
+fn where_option<'a>(alloc: Global) -> Arg<'a>
+    ensures { rule_of result ≡ said.places }
+{
+    let help = "Tells where each edge was seen, in place of the trace";
+    flag(alloc, "where", help)
 }
 
 /// A command that takes a scenario.
@@ -435,6 +480,16 @@ fn summary<'a>(alloc: Global) -> Result<Command<'a>, AllocError>
     taking(command, trace_files(alloc))
 }
 
+/// The command `order`.
+pub(crate) fn order<'a>(alloc: Global) -> Result<Command<'a>, AllocError>
+    ensures { IfOk result (λ c. shape_of c ≡ said.order) }
+{
+    let command = command(alloc, "order", ORDER, ORDER_USAGE, ORDER_EXAMPLE);
+    let command = taking(command, moments_file(alloc));
+    let command = taking(command, slack_option(alloc));
+    taking(command, where_option(alloc))
+}
+
 /// The command `drive`.
 pub(crate) fn drive<'a>(alloc: Global) -> Result<Command<'a>, AllocError>
     ensures { IfOk result (λ c. shape_of c ≡ said.drive) }
@@ -494,6 +549,7 @@ pub(crate) fn commands<'a>(alloc: Global) -> Result<Command<'a>, AllocError>
     let program = offering(program, state(alloc));
     let program = offering(program, show(alloc));
     let program = offering(program, summary(alloc));
+    let program = offering(program, order(alloc));
     let program = offering(program, drive(alloc));
     offering(program, run(alloc))
 }

@@ -1,5 +1,6 @@
 use Rattle.std.proofs.Common.{rules, ◌<◌}
-use Rattle.vme_words.specs.Asked.{IsSeed, NamesNoSeeds}
+use Rattle.vme_words.specs.Asked.{NamesNoSeeds}
+use Rattle.vme_words.specs.Numbers.{IsSeed}
 use Rattle.vme_words.proofs.Parting.{IsParted, no_first, no_last, turned, unparted}
 use Rattle.vme_words.proofs.seeds_in.Goals as goal
 
