@@ -37,6 +37,7 @@ def words_of(draw, edges):
     begin, files = draw.randint(1, edges + 1), FILES[:2]
     yield from (["replay", *files], ["check", *files], [], ["explain", *files])
     yield from (["explain", *files, "--edge", str(draw.randint(1, edges + 1))] for _ in range(3))
+    yield ["shrink", *files, *draw.choice([[], ["--edge", str(draw.randint(1, edges + 1))]])]
     yield ["state", *files, *draw.choice([[], ["--after", str(draw.randint(0, edges + 1))]])]
     end = begin + draw.randint(-1, 200)
     window = draw.choice([[], ["--from", str(begin)], ["--to", str(begin)], ["--from", str(begin), "--to", str(end)]])

@@ -4,23 +4,37 @@ from .bus import Bus
 from .judging import beyond
 from .readings import of_wire, readings
 from .traces import GRANTS, name_of
-from .verdicts import guard, hold, is_ok, refusal, settling, step
+from .verdicts import guard, hold, is_ok, refusal, settling, step, verdict_of
 
 
 def explain(plan, trace, options, console):
     """Tells of edge N, or of the first that is refused; what stands after it is not judged."""
-    bus, wanted, number = Bus(plan, trace.version), options.get("--edge"), 0
+    bus = Bus(plan, trace.version)
+    number, edge = asked_edge(bus, trace, options.get("--edge"))
+    if edge is None:
+        console.write(f"legal {number}\n")
+        return 0
+    verdict = verdict_of(bus, edge)
+    console.write("\n".join([f"{number} {edge} {verdict}", *conditions(bus, edge), ""]))
+    return 0 if is_ok(verdict) else 2
+
+
+def asked_edge(bus, trace, wanted):
+    """The number of the edge that is wanted, or of the first that is refused, and the edge; the bus is brought to just before
+    it. If no edge is refused, the number of all edges, and None."""
+    number = 0
     for number, edge in enumerate(trace, 1):
         if number == wanted or wanted is None and refusal(bus, edge):
-            lines = list(conditions(bus, edge))
-            verdict = step(bus, edge, number)
-            console.write("\n".join([f"{number} {edge} {verdict}", *lines, ""]))
-            return 0 if is_ok(verdict) else 2
+            return number, edge
         step(bus, edge, number)
     if wanted is not None:
         raise beyond(number)
-    console.write(f"legal {number}\n")
-    return 0
+    return number, None
+
+
+def fails(bus, edge):
+    """The conditions of an edge that fail, as they are told."""
+    return [it for it in conditions(bus, edge) if it.startswith("fails ")]
 
 
 def conditions(bus, edge):

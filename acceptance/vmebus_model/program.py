@@ -12,6 +12,7 @@ from .faults import Fault, WrongWords, escaped
 from .judging import check, replay
 from .order import order
 from .show import show
+from .shrink import shrink
 from .state import state
 from .summary import summary
 from .traces import Trace
@@ -144,7 +145,7 @@ def done(job, console):
     trace = Trace(first)
     if job.command in ("replay", "check"):
         return (replay if job.command == "replay" else check)(plan, trace, console)
-    return {"explain": explain, "state": state, "show": show}[job.command](plan, trace, options, console)
+    return {"explain": explain, "shrink": shrink, "state": state, "show": show}[job.command](plan, trace, options, console)
 
 
 def traces_of(names, first, console):

@@ -19,6 +19,7 @@ COMMANDS = {
     "replay": (2, 2, ()),
     "check": (2, 2, ()),
     "explain": (2, 2, ("--edge",)),
+    "shrink": (2, 2, ("--edge",)),
     "state": (2, 2, ("--after",)),
     "show": (2, 2, ("--from", "--to", "--color")),
     "summary": (2, None, ()),
