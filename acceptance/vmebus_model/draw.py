@@ -1,5 +1,7 @@
 """`drive` with a seed: traces that are drawn among all legal edges, until an event or a miss comes."""
 
+from typing import NamedTuple, Optional
+
 from .bus import Bus
 from .drive import written
 from .events import EVENTS, OF_VERSION_2, events_of
@@ -49,12 +51,39 @@ NEVER_ALONE = ("G5 AS* is low", "G16 AS* is high", "G17 own addr is on", "G23 an
                "G25 a cycle is shown")
 
 
+# The rules that have a condition, or a settling rule, in each version.
+RULES = {version: [f"G{rule}" for rule in range(1, 27) if rule != 21 and (version, rule) != (2, 10)] for version in (1, 2)}
+
+
 def goals(version):
     """All that `--until` may name in a version of the rules."""
     events = [it for it in EVENTS if version == 2 or it not in OF_VERSION_2]
     guards = [f"G{rule} {it}" for rule, names in CONDITIONS.items() for it in names if version == 1 or rule not in (2, 10)]
     guards = [it for it in guards if it not in NEVER_ALONE]
-    return events + guards + ["S1", "S2"] + (["S3", "S4"] if version == 2 else [])
+    return events + RULES[version] + guards + ["S1", "S2"] + (["S3", "S4"] if version == 2 else [])
+
+
+def why_no_goal(name, version):
+    """What is wrong with a name that is no goal in this version of the rules."""
+    if name in {f"G{rule}" for rule in range(1, 27)}:
+        return f"rule {name} has no condition"
+    if name in NEVER_ALONE:
+        return "wherever this condition fails, another one of the rule fails too"
+    if name in goals(3 - version):
+        return f"version {version} has no such {'event' if name in EVENTS else 'condition'}"
+    return f"no event or condition is called {name}"
+
+
+class Goal(NamedTuple):
+    """What ends a drawn trace: an event or a miss by its name, of one driver or of any, behind some number of edges."""
+
+    name: str
+    driver: Optional[int]
+    after: int
+
+    def takes(self, driver, number):
+        """Whether an edge of a driver counts, if it is this one of the trace."""
+        return self.driver in (None, driver) and number > self.after
 
 
 class Numbers:
@@ -110,27 +139,33 @@ class Walk:
         return self.weights[kind] * (1 + 256 // (1 + self.made[kind]))
 
 
-def is_miss(bus, edge, goal):
-    """Whether just the condition, or the settling rule, that the goal names refuses an edge to its wire's other state."""
-    rule, _, name = goal.partition(" ")
-    guarding, settles = GUARDS[edge.wire, edge.falls], SETTLING.get((edge.wire, edge.falls))
-    if name:
-        return name_of_rule(guarding) == rule and [it for it, holds, _ in guard(bus, edge) if not holds] == [name]
-    return settles and name_of_rule(settles) == rule and hold(guard(bus, edge)) and not hold(settling(bus, edge))
+def is_miss(bus, edge, named):
+    """Whether just one condition, or the settling rule, refuses an edge to its wire's other state, and it is one that is named:
+    by itself, by the settling rule, or by the rule that guards the edge."""
+    rule, _, name = named.partition(" ")
+    guards, settles = name_of_rule(GUARDS[edge.wire, edge.falls]), SETTLING.get((edge.wire, edge.falls))
+    if rule != guards and not (settles and rule == name_of_rule(settles)):
+        return False
+    failing = [it for it, holds, _ in guard(bus, edge) if not holds]
+    is_unsettled = not failing and not hold(settling(bus, edge))
+    if rule == guards and not name:
+        return len(failing) == 1 or is_unsettled
+    return failing == [name] if name else is_unsettled
 
 
-def miss(bus, goal):
-    """The first edge by driver, wire and value that is the miss of this name, None if there is none."""
-    if goal is None or goal in EVENTS:
+def miss(bus, goal, number):
+    """The first edge by driver, wire and value that is the miss of this goal, None if there is none, or if none counts now."""
+    if goal is None or goal.name in EVENTS:
         return None
-    return next((edge for driver in bus.plan.drivers for edge in next_edges(bus, driver) if is_miss(bus, edge, goal)), None)
+    drivers = [it for it in bus.plan.drivers if goal.takes(it, number)]
+    return next((edge for driver in drivers for edge in next_edges(bus, driver) if is_miss(bus, edge, goal.name)), None)
 
 
 def walked(plan, version, seed, most, goal=None):
     """A drawn trace, and whether it came to the goal, which ends it."""
     walk, edges = Walk(plan, version, seed), []
     while len(edges) < most:
-        missed = miss(walk.bus, goal)
+        missed = miss(walk.bus, goal, len(edges) + 1)
         if missed:
             return edges + [missed], True
         edge = walk.drawn()
@@ -139,14 +174,21 @@ def walked(plan, version, seed, most, goal=None):
         events = events_of(walk.bus, edge)
         edges.append(edge)
         walk.bus.accept(edge, len(edges))
-        if goal in events:
+        if goal and goal.name in events and goal.takes(edge.driver, len(edges)):
             return edges, True
     return edges, False
 
 
+def goal_of(options):
+    """The goal that options name, None if they name none."""
+    if "--until" not in options:
+        return None
+    return Goal(options["--until"], options.get("--of"), options.get("--after", 0))
+
+
 def drive_drawn(plan, options, console):
     """`drive --seed`, with `--until` or without."""
-    goal, most, version = options.get("--until"), options["--edges"], options["--version"]
+    goal, most, version = goal_of(options), options["--edges"], options["--version"]
     edges, came = walked(plan, version, options["--seed"], most, goal)
     status = written(version, edges, most, console)
     return status if goal is None else 0 if came else 3
@@ -156,7 +198,7 @@ def drive_seeds(plan, options, console):
     """`drive --seeds`: the trace of the first seed that comes to the event."""
     first, last = options["--seeds"]
     for seed in range(first, last + 1):
-        edges, came = walked(plan, options["--version"], seed, options["--edges"], options["--until"])
+        edges, came = walked(plan, options["--version"], seed, options["--edges"], goal_of(options))
         if came:
             console.write(text_of(options["--version"], edges))
             console.tell(f"seed {seed}")

@@ -27,8 +27,9 @@ VALUES = {
     "--version": ("1", "2", "0", "3", "+1", "02"),
     "--slack": ("2", "c=2", "+03", "1=1,c=0", "c=1,c=1", "c", "=1", "c=", "x=1", "22=1", "21=1", "1,c=1", "c=1,", "-1", ""),
     "--seeds": ("0..1", "+3..03", "1..0", "0..", "..1", "1", "0...1", "-1..1", f"{GREATEST}..{GREATEST}"),
-    "--until": ("delivery", "S1", "withdrawn", "S4", "G10 own bbsy is low", "G14 some BR line is low", "G21", "Delivery",
+    "--until": ("delivery", "S1", "G13", "withdrawn", "S4", "G10 own bbsy is low", "G14 some BR line is low", "G10", "G21", "Delivery",
                 "G5 AS* is low", ""),
+    "--of": ("c", "2", "+03", "1", "0", "22", "C", ""),
 }
 
 
@@ -55,8 +56,10 @@ def words_that_drive(draw):
     yield ["drive", *making]
     yield ["run", *making, "--turns", "30"]
     yield ["drive", *making, "--seed", str(seed)]
-    goal = draw.choice(goals(draw.choice([int(version), 2])))
-    yield ["drive", *making, "--until", goal, *draw.choice([["--seed", str(seed)], ["--seeds", f"{seed}..{seed + 5}"]])]
+    goal, seeds = draw.choice(goals(draw.choice([int(version), 2]))), f"{seed}..{seed + 5}"
+    yield ["drive", *making, "--until", goal, *draw.choice([["--seed", str(seed)], ["--seeds", seeds]])]
+    of, after = ["--of", draw.choice(["c", "1", "2", "3", "21"])], ["--after", str(draw.choice([0, 1, 5, 10, 50]))]
+    yield ["drive", *making, "--until", goal, *draw.choice([of, after, of + after]), "--seeds", seeds]
 
 
 def any_words(draw):

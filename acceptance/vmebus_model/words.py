@@ -4,7 +4,7 @@ import re
 from dataclasses import dataclass, field
 from typing import Dict, List
 
-from .draw import goals
+from .draw import goals, why_no_goal
 from .faults import Fault, WrongWords
 from .traces import name_of
 
@@ -24,7 +24,7 @@ COMMANDS = {
     "show": (2, 2, ("--from", "--to", "--color")),
     "summary": (2, None, ()),
     "order": (2, 2, ("--slack", "--where")),
-    "drive": (1, 1, ("--edges", "--version", "--seed", "--seeds", "--until", "--progress")),
+    "drive": (1, 1, ("--edges", "--version", "--seed", "--seeds", "--until", "--of", "--after", "--progress")),
     "run": (1, 1, ("--edges", "--turns", "--version")),
 }
 NEEDED = {"drive": ("--edges",), "run": ("--edges", "--turns")}
@@ -142,8 +142,13 @@ def slack(text):
     return listed
 
 
+def driver(text):
+    """The controller, or a slot, which is a number like others."""
+    return DRIVERS["c"] if text == "c" else number(text, 1, 21)
+
+
 # Options whose values are no mere numbers.
-VALUES = {"--until": str, "--seeds": seeds, "--slack": slack}
+VALUES = {"--until": str, "--of": driver, "--seeds": seeds, "--slack": slack}
 
 
 def drive_of(job):
@@ -153,7 +158,10 @@ def drive_of(job):
     demand("--until" not in options or "--seed" in options or "--seeds" in options, "an event without a seed")
     demand("--seeds" not in options or "--until" in options, "seeds without an event")
     demand("--progress" not in options or "--seeds" in options, "progress without seeds")
-    demand("--until" not in options or options["--until"] in goals(options["--version"]), "no such event")
+    demand("--until" in options or not {"--of", "--after"} & set(options), "a driver or a place without an event")
+    if "--until" in options:
+        name, version = options["--until"], options["--version"]
+        demand(name in goals(version), why_no_goal(name, version))
     return job
 
 
