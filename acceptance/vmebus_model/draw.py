@@ -6,6 +6,7 @@ from .bus import Bus
 from .drive import written
 from .events import EVENTS, OF_VERSION_2, events_of
 from .rules import GUARDS, SETTLING, name_of_rule
+from .sources import TABLE
 from .traces import text_of
 from .verdicts import guard, hold, next_edges, open_edges, settling
 
@@ -14,36 +15,10 @@ KINDS = (
     "addr-i", "addr-r", "addr-e", "addr+", "as-", "as+", "ds-", "ds+", "irq-", "irq+", "iackout-", "iackout+", "dtack-", "dtack+",
 )
 FACTOR = 6364136223846793005
+GUARDED = [f"G{number}" for number in range(1, 27)]
 
-# The conditions that a miss may be named by, as the table of docs/COMMANDS.md has them.
-CONDITIONS = {
-    1: ("all four grants are high", "BBSY* is high", "the arbiter picks level N"),
-    2: ("BBSY* is low",),
-    3: ("the arbiter is PRI", "BBSY* is low", "all four grants are high", "a request above the level last granted is low"),
-    4: ("bus clear is not due",),
-    5: ("AS* is low", "DS0* is low", "an acknowledge is shown"),
-    6: ("AS* is high",),
-    7: ("DS0* is low", "DTACK* is high"),
-    8: ("DS0* is high",),
-    9: ("own bbsy is high",),
-    10: ("own bbsy is low",),
-    11: ("own grant-in is low", "own br is high", "own bbsy is high"),
-    12: ("own grant-in is high",),
-    13: ("own grant-in is low", "own bgout is high", "own br is low"),
-    14: ("own br is high", "own grant-in is high", "own addr is off or own as is low", "some BR line is low"),
-    15: ("own bbsy is low", "AS* is high", "fewer cycles than the burst", "the board handles level N", "IRQN* is low"),
-    16: ("own addr is on", "AS* is high"),
-    17: ("own as is low", "own addr is on", "DTACK* is high", "BERR* is high", "no own ds- in this cycle"),
-    18: ("DTACK* or BERR* is low",),
-    19: ("own as is low", "own ds is high", "an own ds- in this cycle"),
-    20: ("own addr is off",),
-    22: ("the request was served by an acknowledge", "the request was served by an access"),
-    23: ("own iackin is low", "own dtack is high", "DS0* is low", "not pending at level N", "an acknowledge is shown"),
-    24: ("AS* is high",),
-    25: ("DS0* is low", "AS* is low", "own iackin is low", "own iackout is high", "pending at level N", "the own slot is shown",
-         "a cycle is shown"),
-    26: ("DS0* is high",),
-}
+# The conditions that a miss may be named by, each with the version in which alone it is.
+CONDITIONS = {f"{rule} {name}": source.version for rule in GUARDED for name, source in TABLE[rule].conditions.items()}
 
 
 # Those of them that another condition of the rule always fails beside, so that no trace comes to them.
@@ -51,21 +26,24 @@ NEVER_ALONE = ("G5 AS* is low", "G16 AS* is high", "G17 own addr is on", "G23 an
                "G25 a cycle is shown")
 
 
-# The rules that have a condition, or a settling rule, in each version.
-RULES = {version: [f"G{rule}" for rule in range(1, 27) if rule != 21 and (version, rule) != (2, 10)] for version in (1, 2)}
+def has_miss(rule, version):
+    """Whether a rule has a condition, or a settling rule, in a version."""
+    settles = {TABLE[it].edge for it in ("S1", "S2", *(["S3", "S4"] if version == 2 else []))}
+    sources = TABLE[rule].conditions.values()
+    return TABLE[rule].edge in settles or any(it.version in (0, version) for it in sources)
 
 
 def goals(version):
     """All that `--until` may name in a version of the rules."""
     events = [it for it in EVENTS if version == 2 or it not in OF_VERSION_2]
-    guards = [f"G{rule} {it}" for rule, names in CONDITIONS.items() for it in names if version == 1 or rule not in (2, 10)]
-    guards = [it for it in guards if it not in NEVER_ALONE]
-    return events + RULES[version] + guards + ["S1", "S2"] + (["S3", "S4"] if version == 2 else [])
+    rules = [it for it in GUARDED if has_miss(it, version)]
+    guards = [it for it, only in CONDITIONS.items() if only in (0, version) and it not in NEVER_ALONE]
+    return events + rules + guards + ["S1", "S2"] + (["S3", "S4"] if version == 2 else [])
 
 
 def why_no_goal(name, version):
     """What is wrong with a name that is no goal in this version of the rules."""
-    if name in {f"G{rule}" for rule in range(1, 27)}:
+    if name in GUARDED:
         return f"rule {name} has no condition"
     if name in NEVER_ALONE:
         return "wherever this condition fails, another one of the rule fails too"

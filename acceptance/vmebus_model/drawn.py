@@ -13,6 +13,7 @@ from .cases import Kept, first_difference
 from .draw import goals
 from .drawing import plan_of, scenario_of, some, spoiled_scenario, trace_of
 from .program import main
+from .sources import TABLE
 from .traces import HEADERS
 from .words import COMMANDS, FLAGS, GREATEST, NEEDED, RANGES, job_of
 
@@ -27,7 +28,8 @@ VALUES = {
     "--version": ("1", "2", "0", "3", "+1", "02"),
     "--slack": ("2", "c=2", "+03", "1=1,c=0", "c=1,c=1", "c", "=1", "c=", "x=1", "22=1", "21=1", "1,c=1", "c=1,", "-1", ""),
     "--seeds": ("0..1", "+3..03", "1..0", "0..", "..1", "1", "0...1", "-1..1", f"{GREATEST}..{GREATEST}"),
-    "--until": ("delivery", "S1", "G13", "withdrawn", "S4", "G10 own bbsy is low", "G14 some BR line is low", "G10", "G21", "Delivery",
+    "--until": ("delivery", "S1", "G13", "G9 own bbsy is high (profile)", "G13 own grant-in is low (profile)",
+                "withdrawn", "S4", "G10 own bbsy is low", "G14 some BR line is low", "G10", "G21", "Delivery",
                 "G5 AS* is low", ""),
     "--of": ("c", "2", "+03", "1", "0", "22", "C", ""),
 }
@@ -45,6 +47,7 @@ def words_of(draw, edges):
     yield ["show", *files, *window, *draw.choice([[], ["--color"]])]
     yield ["summary", *files]
     yield ["summary", *FILES, *draw.choice([[], ["trace.vme"], ["none.vme"]])]
+    yield ["rule", *draw.choice([[], [draw.choice(list(TABLE))]])]
     yield from words_that_drive(draw)
     yield from (any_words(draw), any_words(draw))
 

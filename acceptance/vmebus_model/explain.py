@@ -3,6 +3,8 @@
 from .bus import Bus
 from .judging import beyond
 from .readings import of_wire, readings
+from .rules import GUARDS, SETTLING, name_of_rule
+from .sources import marked
 from .traces import GRANTS, name_of
 from .verdicts import guard, hold, is_ok, refusal, settling, step, verdict_of
 
@@ -46,9 +48,9 @@ def conditions(bus, edge):
         yield f"fails {name_of(edge.driver)} {edge.wire} is {state_before(edge)}"
         yield "    " + of_wire(bus, (edge.driver, edge.wire))
     else:
-        yield from told(bus, edge, guard(bus, edge))
+        yield from told(bus, edge, GUARDS, guard(bus, edge))
         if hold(guard(bus, edge)):
-            yield from told(bus, edge, settling(bus, edge))
+            yield from told(bus, edge, SETTLING, settling(bus, edge))
         if verdict == "E5":
             yield "fails the trace has room"
 
@@ -60,10 +62,11 @@ def state_before(edge):
     return "high" if edge.falls else "low"
 
 
-def told(bus, edge, some):
-    """Each of some conditions, and below it what it rests on."""
+def told(bus, edge, rules, some):
+    """Each of some conditions of the edge's rule, and below it what it rests on."""
     for name, holds, rests in some:
-        yield ("holds " if holds else "fails ") + with_level(name, bus, edge)
+        mark = marked(name_of_rule(rules[edge.wire, edge.falls]), name)
+        yield ("holds " if holds else "fails ") + with_level(name, bus, edge) + mark
         yield from ("    " + it for it in readings(bus, edge, rests))
 
 

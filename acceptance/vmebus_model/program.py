@@ -13,6 +13,7 @@ from .judging import check, replay
 from .order import order
 from .show import show
 from .shrink import shrink
+from .sources import rule
 from .state import state
 from .summary import summary
 from .traces import Trace
@@ -127,6 +128,8 @@ def done(job, console):
     """Does a job, and returns its status; files come first, then the scenario's text."""
     if job.command == "--version":
         return tell_version(console)
+    if job.command == "rule":
+        return rule(job.files, console)
     scenario_name, *trace_names = job.files
     scenario = scenario_of(console.open(scenario_name), scenario_name)
     first = console.open(trace_names[0]) if trace_names else None

@@ -6,6 +6,7 @@ from typing import Dict, List
 
 from .draw import goals, why_no_goal
 from .faults import Fault, WrongWords
+from .sources import TABLE, unmarked
 from .traces import name_of
 
 GREATEST = 2**64 - 1
@@ -24,6 +25,7 @@ COMMANDS = {
     "show": (2, 2, ("--from", "--to", "--color")),
     "summary": (2, None, ()),
     "order": (2, 2, ("--slack", "--where")),
+    "rule": (0, 1, ()),
     "drive": (1, 1, ("--edges", "--version", "--seed", "--seeds", "--until", "--of", "--after", "--progress")),
     "run": (1, 1, ("--edges", "--turns", "--version")),
 }
@@ -84,7 +86,7 @@ def job_of(words):
     demand(least <= len(job.files) <= (most or len(job.files)), "the number of files")
     demand(all(it in job.options for it in NEEDED.get(job.command, ())), "an option is missing")
     job.options.setdefault("--version", 1)
-    return drive_of(job) if job.command == "drive" else window_of(job) if job.command == "show" else job
+    return DEMANDS[job.command](job) if job.command in DEMANDS else job
 
 
 def read_words(job, texts):
@@ -160,8 +162,9 @@ def drive_of(job):
     demand("--progress" not in options or "--seeds" in options, "progress without seeds")
     demand("--until" in options or not {"--of", "--after"} & set(options), "a driver or a place without an event")
     if "--until" in options:
-        name, version = options["--until"], options["--version"]
+        name, version = unmarked(options["--until"]), options["--version"]
         demand(name in goals(version), why_no_goal(name, version))
+        options["--until"] = name
     return job
 
 
@@ -173,3 +176,13 @@ def window_of(job):
     options.setdefault("--to", min(GREATEST, options["--from"] + (SHOWN - 1)))
     demand(0 <= options["--to"] - options["--from"] < WINDOW, "the window")
     return job
+
+
+def rule_of(job):
+    """A rule, if there is one of that name."""
+    demand(all(it in TABLE for it in job.files), "no such rule")
+    return job
+
+
+# What a command demands of its words beside the ranges of its options.
+DEMANDS = {"drive": drive_of, "show": window_of, "rule": rule_of}
