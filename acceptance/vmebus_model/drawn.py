@@ -45,6 +45,8 @@ def words_of(draw, edges):
     end = begin + draw.randint(-1, 200)
     window = draw.choice([[], ["--from", str(begin)], ["--to", str(begin)], ["--from", str(begin), "--to", str(end)]])
     yield ["show", *files, *window, *draw.choice([[], ["--color"]])]
+    yield ["replay", *files, "--full"]
+    yield ["check", *FILES, *draw.choice([[], ["trace.vme"], ["none.vme", "second.vme"]])]
     yield ["summary", *files]
     yield ["summary", *FILES, *draw.choice([[], ["trace.vme"], ["none.vme"]])]
     yield ["rule", *draw.choice([[], [draw.choice(list(TABLE))]])]

@@ -9,7 +9,7 @@ from .draw import drive_drawn, drive_seeds
 from .drive import drive, run
 from .explain import explain
 from .faults import Fault, WrongWords, escaped
-from .judging import check, replay
+from .judging import check, check_all, replay
 from .order import order
 from .show import show
 from .shrink import shrink
@@ -132,6 +132,8 @@ def done(job, console):
         return rule(job.files, console)
     scenario_name, *trace_names = job.files
     scenario = scenario_of(console.open(scenario_name), scenario_name)
+    if job.command == "check" and len(trace_names) > 1:
+        return check_all(backplane.read(scenario), trace_names, console)
     first = console.open(trace_names[0]) if trace_names else None
     options = job.options
     plan = backplane.read(scenario)
@@ -146,8 +148,10 @@ def done(job, console):
     if job.command == "order":
         return order(plan, first, options, console)
     trace = Trace(first)
-    if job.command in ("replay", "check"):
-        return (replay if job.command == "replay" else check)(plan, trace, console)
+    if job.command == "check":
+        return check(plan, trace, console)
+    if job.command == "replay":
+        return replay(plan, trace, console, "--full" in options)
     return {"explain": explain, "shrink": shrink, "state": state, "show": show}[job.command](plan, trace, options, console)
 
 

@@ -17,8 +17,8 @@ NUMBER = re.compile(r"\+?0*([0-9]{1,20})")
 
 # For each command: how many operands it has, at least and at most, and the options that it takes.
 COMMANDS = {
-    "replay": (2, 2, ()),
-    "check": (2, 2, ()),
+    "replay": (2, 2, ("--full",)),
+    "check": (2, None, ()),
     "explain": (2, 2, ("--edge",)),
     "shrink": (2, 2, ("--edge",)),
     "state": (2, 2, ("--after",)),
@@ -30,7 +30,7 @@ COMMANDS = {
     "run": (1, 1, ("--edges", "--turns", "--version")),
 }
 NEEDED = {"drive": ("--edges",), "run": ("--edges", "--turns")}
-FLAGS = ("--color", "--progress", "--where")
+FLAGS = ("--color", "--full", "--progress", "--where")
 VERSION = ("--version", "-V")
 RANGES = {
     "--edges": (1, MOST),
