@@ -6,6 +6,7 @@ Where to begin: rules.py has G1 to G26 and S1 to S4, and bus.py the words in whi
 - verdicts.py and judging.py: which refusal is the first; `replay`, `check`, and the program without words;
 - sources.py: the table of the rules, their sentences and where each condition comes from;
 - explain.py with readings.py, state.py, show.py, summary.py with events.py: what is told of a trace;
+- cycles.py: a trace by its transactions;
 - shrink.py: a few of the edges before an edge, which give it the same answer;
 - moments.py and order.py: a legal order of edges that were seen at the same moments;
 - drive.py and draw.py: traces that the program makes, in rounds and by a seed;

@@ -47,6 +47,7 @@ def words_of(draw, edges):
     yield ["show", *files, *window, *draw.choice([[], ["--color"]])]
     yield ["replay", *files, "--full"]
     yield ["check", *FILES, *draw.choice([[], ["trace.vme"], ["none.vme", "second.vme"]])]
+    yield ["cycles", *files]
     yield ["summary", *files]
     yield ["summary", *FILES, *draw.choice([[], ["trace.vme"], ["none.vme"]])]
     yield ["rule", *draw.choice([[], [draw.choice(list(TABLE))]])]

@@ -5,6 +5,7 @@ import re
 from pathlib import Path
 
 from . import backplane
+from .cycles import cycles
 from .draw import drive_drawn, drive_seeds
 from .drive import drive, run
 from .explain import explain
@@ -148,8 +149,8 @@ def done(job, console):
     if job.command == "order":
         return order(plan, first, options, console)
     trace = Trace(first)
-    if job.command == "check":
-        return check(plan, trace, console)
+    if job.command in ("check", "cycles"):
+        return (check if job.command == "check" else cycles)(plan, trace, console)
     if job.command == "replay":
         return replay(plan, trace, console, "--full" in options)
     return {"explain": explain, "shrink": shrink, "state": state, "show": show}[job.command](plan, trace, options, console)

@@ -24,6 +24,7 @@ COMMANDS = {
     "state": (2, 2, ("--after",)),
     "show": (2, 2, ("--from", "--to", "--color")),
     "summary": (2, None, ()),
+    "cycles": (2, 2, ()),
     "order": (2, 2, ("--slack", "--where")),
     "rule": (0, 1, ()),
     "drive": (1, 1, ("--edges", "--version", "--seed", "--seeds", "--until", "--of", "--after", "--progress")),
