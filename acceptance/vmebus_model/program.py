@@ -11,6 +11,8 @@ from .explain import explain
 from .faults import Fault, WrongWords, escaped
 from .judging import check, replay
 from .order import order
+from .races import races
+from .same import same
 from .show import show
 from .state import state
 from .summary import summary
@@ -141,10 +143,13 @@ def done(job, console):
         return (drive_seeds if "--seeds" in options else drive_drawn if "--seed" in options else drive)(plan, options, console)
     if job.command == "order":
         return order(plan, first, options, console)
+    if job.command == "same":
+        return same(plan, first, trace_names, console)
     trace = Trace(first)
     if job.command in ("replay", "check"):
         return (replay if job.command == "replay" else check)(plan, trace, console)
-    return {"explain": explain, "state": state, "show": show}[job.command](plan, trace, options, console)
+    told = {"explain": explain, "state": state, "show": show, "races": races}[job.command]
+    return told(plan, trace, options, console)
 
 
 def traces_of(names, first, console):

@@ -47,17 +47,23 @@ def delivers(bus, edge):
     return edge.wire == "dtack" and edge.falls and bus.acknowledge() is not None
 
 
-def step(bus, edge, number):
-    """The verdict of an edge, which is added to the history if it is accepted."""
+def verdict(bus, edge):
+    """The verdict of an edge, which stays outside the history."""
     refused = refusal(bus, edge)
     if refused:
         return refused
-    verdict = "ok"
     if delivers(bus, edge):
         status = bus.plan.interrupters[edge.driver].status
-        verdict = f"ok irq {bus.acknowledge()} to {bus.owner_of_cycle()} from {edge.driver} status {status}"
-    bus.accept(edge, number)
-    return verdict
+        return f"ok irq {bus.acknowledge()} to {bus.owner_of_cycle()} from {edge.driver} status {status}"
+    return "ok"
+
+
+def step(bus, edge, number):
+    """The verdict of an edge, which is added to the history if it is accepted."""
+    said = verdict(bus, edge)
+    if is_ok(said):
+        bus.accept(edge, number)
+    return said
 
 
 def is_ok(verdict):

@@ -22,6 +22,8 @@ COMMANDS = {
     "state": (2, 2, ("--after",)),
     "show": (2, 2, ("--from", "--to", "--color")),
     "summary": (2, None, ()),
+    "races": (2, 2, ("--edge", "--other")),
+    "same": (3, 3, ()),
     "order": (2, 2, ("--slack", "--where")),
     "drive": (1, 1, ("--edges", "--version", "--seed", "--seeds", "--until", "--progress")),
     "run": (1, 1, ("--edges", "--turns", "--version")),
@@ -34,6 +36,7 @@ RANGES = {
     "--turns": (1, 1_000_000),
     "--version": (1, 2),
     "--edge": (1, GREATEST),
+    "--other": (1, GREATEST),
     "--from": (1, GREATEST),
     "--to": (1, GREATEST),
     "--after": (0, GREATEST),
@@ -82,6 +85,7 @@ def job_of(words):
     least, most, _ = COMMANDS[job.command]
     demand(least <= len(job.files) <= (most or len(job.files)), "the number of files")
     demand(all(it in job.options for it in NEEDED.get(job.command, ())), "an option is missing")
+    demand("--edge" not in job.options or "--other" not in job.options, "two edges")
     job.options.setdefault("--version", 1)
     return drive_of(job) if job.command == "drive" else window_of(job) if job.command == "show" else job
 
