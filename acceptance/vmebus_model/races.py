@@ -23,22 +23,31 @@ def races(plan, trace, options, console):
     raise beyond(number)
 
 
+def ways_of(bus, trace):
+    """The number, the edge and the way back of each edge, in front of which the bus then stands;
+    the way is None if the edge is refused."""
+    for number, edge in enumerate(trace, 1):
+        is_accepted = is_ok(verdict(bus, edge))
+        yield number, edge, way_back(bus, edge) if is_accepted else None
+        step(bus, edge, number)
+
+
 def all_races(plan, trace, console):
     """A line for each race, and the counts; the lines before a fault are written first."""
-    bus, lines, counts, number = Bus(plan, trace.version), [], Counter(), 0
+    bus, lines, counts = Bus(plan, trace.version), [], Counter()
     try:
-        for number, edge in enumerate(trace, 1):
-            if is_ok(verdict(bus, edge)):
-                way = way_back(bus, edge)
-                counts.update([way.stop, "free" if way.passed else "not free"])
-                if way.stop == "races":
-                    lines.append(f"{number} {edge} {told(bus, way)}\n")
-            step(bus, edge, number)
+        for number, edge, way in ways_of(bus, trace):
+            if way is None:
+                counts["refused"] += 1
+                continue
+            counts.update([way.stop, "free" if way.passed else "not free"])
+            if way.stop == "races":
+                lines.append(f"{number} {edge} {told(bus, way)}\n")
         found = f"races {counts['races']} waits {counts['waits for']} free {counts['free']}"
         lines.append(f"accepted {bus.accepted} {found}\n")
     finally:
         console.write("".join(lines))
-    return 2 if bus.accepted < number else 0
+    return 2 if counts["refused"] else 0
 
 
 def told(bus, way):
