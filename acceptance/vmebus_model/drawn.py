@@ -53,7 +53,7 @@ def words_of(draw, edges, racing):
 
 def words_of_orders(draw, edges, racing):
     """The words of runs that speak of other orders."""
-    files, others = FILES[:2], [draw.randint(1, edges + 1), *draw.sample(racing, min(1, len(racing)))]
+    files, others = FILES[:2], [draw.randint(1, edges + 1), *racing[:1], *racing[-1:]]
     yield ["races", *files]
     yield from (["races", *files, "--edge", str(draw.randint(1, edges + 1))] for _ in range(2))
     yield from (["races", *files, "--other", str(it)] for it in others)

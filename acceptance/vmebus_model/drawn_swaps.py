@@ -46,7 +46,8 @@ class Told:
 def exchanged(state, place):
     """A state, in which the numbers of two neighbours are exchanged, the first of which has this
     place."""
-    numbers = {b"%d" % it: b"%d" % other for it, other in ((place + 1, place + 2), (place + 2, place + 1))}
+    first, second = b"%d" % (place + 1), b"%d" % (place + 2)
+    numbers = {first: second, second: first}
     return SINCE.sub(lambda found: numbers.get(found[0], found[0]), state)
 
 

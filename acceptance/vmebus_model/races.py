@@ -71,7 +71,7 @@ def one_edge(bus, number, edge, console):
 
 
 def other_order(bus, number, edge, console):
-    """The trace of the other order of a race: the edge, and behind it the one with which it races."""
+    """The trace of the other order of a race: the edge, and then the one with which it races."""
     way = way_back(bus, edge) if is_ok(verdict(bus, edge)) else None
     if way is None or way.stop != "races":
         raise Fault(f"X11 edge {number} races with none")
