@@ -113,22 +113,21 @@ def near_edge(draw, bus):
 
 def free_swaps(draw, plan, version, edges, chance):
     """From the beginning on, some of the free swaps of legal edges, one after the other: the place
-    of each, and all edges before it and after it."""
+    of each, and all edges as they stand then."""
     bus = Bus(plan, version)
     for place in range(len(edges) - 1):
         first, second = edges[place : place + 2]
         if some(draw, chance) and is_free(bus, first, second):
-            swapped = [*edges[:place], second, first, *edges[place + 2 :]]
-            yield place, edges, swapped
-            edges = swapped
+            edges = [*edges[:place], second, first, *edges[place + 2 :]]
+            yield place, edges
         bus.accept(edges[place], place + 1)
 
 
 def shuffled(draw, plan, version, edges):
     """Legal edges in another order, to which free swaps lead."""
     for _ in range(draw.choice([1, 2, 5, 20])):
-        for _, _, swapped in free_swaps(draw, plan, version, edges, draw.choice([0.2, 0.5, 0.9])):
-            edges = swapped
+        for _, edges in free_swaps(draw, plan, version, edges, draw.choice([0.2, 0.5, 0.9])):
+            pass
     return edges
 
 

@@ -72,7 +72,7 @@ def swaps_of(seed, program, folder):
     edges = legal_edges(draw, plan, version, draw.choice([10, 20, 40, 80]))
     Path(folder, FILES[0]).write_text(scenario)
     before = Told(program, folder, version, edges)
-    for place, _, swapped in free_swaps(draw, plan, version, edges, 0.7):
+    for place, swapped in free_swaps(draw, plan, version, edges, 0.7):
         after = Told(program, folder, version, swapped)
         yield fault_in_swap(before, after, place)
         before = after
