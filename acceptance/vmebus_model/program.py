@@ -19,7 +19,7 @@ from .words import job_of
 MOST_BYTES = 1_048_576
 
 # Where the program's version stands, and nowhere else.
-WORDS = Path(__file__).resolve().parents[2] / "crates/vme_words/src/lib.rt"
+WORDS = Path(__file__).resolve().parents[2] / "crates/vme_command_line/src/lib.rt"
 HEADER = re.compile(rb"^vme [12]\n", re.M)
 
 

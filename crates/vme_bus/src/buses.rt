@@ -16,12 +16,12 @@ ghost use Rattle.vme_histories.specs.Sound.{IsSound};
 ghost use Rattle.vme_bus.specs.States.{IsStateOf};
 
 use crate::answers::{ACCEPTED, AnswerRecord, is_accepted, refusal_number};
+use crate::past::Past;
 use crate::states::BusState;
 use arrayvec::ArrayVec;
 use std::marker::Model;
 use vme_histories::{Counts, by_wire, open_edges_of};
 use vme_model::{Condition, Delivery, Driver, Edge, Pins, Refused, TRACE_LIMIT, Version, Wire};
-use vme_past::Past;
 use vme_rules::Outcome;
 use vme_slots::Plan;
 

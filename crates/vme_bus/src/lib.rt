@@ -9,6 +9,7 @@ mod conditions;
 mod judging;
 mod layouts;
 mod moves;
+mod past;
 mod records;
 mod rules;
 mod sets;

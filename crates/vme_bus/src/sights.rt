@@ -12,12 +12,11 @@ ghost use Rattle.vme_model.specs.Deliveries.{delivery, delivered_by};
 ghost use Rattle.vme_bus.specs.Layouts.{seat};
 ghost use Rattle.vme_bus.specs.Records.{version_in, cycle_in, seat_of_record};
 
-
 use crate::records::{Seat, SeatRecord, slot_in, version_in};
 use crate::states::{BUS_CLEAR, BUS_ERROR, BusState};
 use bitflags::Flags;
-use vme_model::{BusLevels, Cycle, Delivery, Driver, Edge, Levels, Pins, Row, Version, Wire};
 use vme_histories::delivered_by;
+use vme_model::{BusLevels, Cycle, Delivery, Driver, Edge, Levels, Pins, Row, Version, Wire};
 
 impl BusState {
     ghost use Rattle.vme_bus.specs.States.{OfHistory, OfBoard};

@@ -4,7 +4,7 @@ use Rattle.std.specs.Prelude.{Option, Some, None, if◌then◌else◌}
 use Rattle.std.specs.Option.{option_map_or}
 use Rattle.vme_model.specs.declared.signals.Edge.{Edge}
 use Rattle.vme_model.specs.Plan.{Plan}
-use Rattle.vme_draws.specs.Walks.{Walk, next_edge, drawn, with_edge}
+use Rattle.vme_seeds.specs.Walks.{Walk, next_edge, drawn, with_edge}
 use Rattle.vme_goals.specs.declared.events.Event.{Event}
 use Rattle.vme_goals.specs.declared.goals.Goal.TheVariants as goal
 use Rattle.vme_events.specs.Events.{comes}

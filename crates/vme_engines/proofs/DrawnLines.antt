@@ -8,7 +8,7 @@ use Rattle.vme_model.specs.History.{in_order}
 use Rattle.vme_model.specs.Verdict.{State}
 use Rattle.vme_model.specs.Text.{edge_lines}
 use Rattle.vme_trace.specs.Writing.{AppendsFront}
-use Rattle.vme_draws.specs.Walks.{Walk, next_edge, drawn, with_edge, walked}
+use Rattle.vme_seeds.specs.Walks.{Walk, next_edge, drawn, with_edge, walked}
 use Rattle.vme_goals.specs.declared.goals.Goal.{Goal}
 use Rattle.vme_engines.specs.declared.seeks.Ending.{Ending}
 use Rattle.vme_engines.specs.Seeking.{Ended, missed_by, ends_at, drawn_on, turned, sought}

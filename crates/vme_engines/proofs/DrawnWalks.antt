@@ -9,8 +9,8 @@ use Rattle.vme_model.specs.Accepted.{IsAccepted}
 use Rattle.vme_model.specs.Safe.{IsSafe, IsOrderly}
 use Rattle.vme_model.specs.Verdict.{State, IsLegal}
 use Rattle.vme_model.specs.Report.{trace_limit}
-use Rattle.vme_draws.specs.Walks.{at_start}
-use Rattle.vme_draws.proofs.Walked.{IsOn}
+use Rattle.vme_seeds.specs.Walks.{at_start}
+use Rattle.vme_seeds.proofs.Walked.{IsOn}
 use Rattle.vme_goals.specs.declared.goals.Goal.{Goal}
 use Rattle.vme_engines.specs.declared.Status.{Status}
 use Rattle.vme_engines.specs.declared.seeks.Ending.{Ending}

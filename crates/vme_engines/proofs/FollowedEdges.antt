@@ -13,11 +13,11 @@ use Rattle.vme_model.specs.History.{shown}
 use Rattle.vme_model.specs.Verdict.{State, Judgement, verdict, made, after, kept}
 use Rattle.vme_model.specs.Deliveries.{answer, with_delivery}
 use Rattle.vme_model.specs.Numbered.{Numbered, edges_in, numbered_with, numbered_on}
-use Rattle.vme_reasons.specs.declared.marks.Marks.{Marks}
-use Rattle.vme_reasons.specs.Marked.{IsMarksOf}
+use Rattle.vme_explain.specs.declared.marks.Marks.{Marks}
+use Rattle.vme_explain.specs.Marked.{IsMarksOf}
 use Rattle.vme_engines.specs.declared.following.Following.{Following}
 use Rattle.vme_engines.specs.Checking.{or_refusal, first_refusal}
-use Rattle.vme_reasons.specs.Traced.{OfTrace}
+use Rattle.vme_explain.specs.Traced.{OfTrace}
 use Rattle.vme_engines.specs.Followed.{Follows, ComesTo}
 use Rattle.vme_engines.proofs.WrittenLines.{kept_append}
 use Rattle.vme_engines.proofs.CheckPieces.{refusal_behind}

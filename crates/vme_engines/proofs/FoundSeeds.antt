@@ -6,8 +6,8 @@ use Rattle.vme_model.specs.declared.signals.Version.{Version}
 use Rattle.vme_model.specs.Plan.{Plan}
 use Rattle.vme_model.specs.Verdict.{State}
 use Rattle.vme_scenario.specs.Format.{scenario}
-use Rattle.vme_draws.specs.Walks.{Walk, at_start}
-use Rattle.vme_draws.proofs.Walked.{IsOn}
+use Rattle.vme_seeds.specs.Walks.{Walk, at_start}
+use Rattle.vme_seeds.proofs.Walked.{IsOn}
 use Rattle.vme_goals.specs.declared.goals.Goal.{Goal}
 use Rattle.vme_trace.specs.declared.Fault.TheVariants.{Write}
 use Rattle.vme_engines.specs.declared.Status.{Status}

@@ -5,9 +5,9 @@ use Rattle.std.specs.Io.KnownBytes.{Keeps, Appends}
 use Rattle.std.proofs.KnownBytes.{Keeps-trans}
 use Rattle.vme_model.specs.declared.signals.Edge.{Edge}
 use Rattle.vme_model.specs.Verdict.{State, after, kept}
-use Rattle.vme_pictures.specs.declared.columns.Column.{Column}
-use Rattle.vme_pictures.specs.Picture.{columns, picture}
-use Rattle.vme_pictures.specs.Columns.{Seen, IsWindowOf, column_of, with_column}
+use Rattle.vme_show.specs.declared.columns.Column.{Column}
+use Rattle.vme_show.specs.Picture.{columns, picture}
+use Rattle.vme_show.specs.Columns.{Seen, IsWindowOf, column_of, with_column}
 use Rattle.vme_trace.specs.declared.Fault.{Fault}
 use Rattle.vme_trace.specs.Writing.{AppendsFront}
 use Rattle.vme_engines.specs.declared.following.Told.{Told}

@@ -13,8 +13,8 @@ use Rattle.vme_model.specs.History.{shown}
 use Rattle.vme_model.specs.Numbered.{Numbered, edges_in}
 use Rattle.vme_model.proofs.AllowedEdges.{checked}
 use Rattle.vme_model.proofs.Bools.{and_left}
-use Rattle.vme_draws.specs.Walks.{Walk, next_edge, drawn, with_edge}
-use Rattle.vme_draws.proofs.Walked.{IsOn, stays_on}
+use Rattle.vme_seeds.specs.Walks.{Walk, next_edge, drawn, with_edge}
+use Rattle.vme_seeds.proofs.Walked.{IsOn, stays_on}
 use Rattle.vme_goals.specs.declared.goals.Goal.{Goal}
 use Rattle.vme_goals.specs.declared.goals.Goal.TheVariants as goal
 use Rattle.vme_goals.specs.declared.misses.Miss.{Miss}
@@ -24,8 +24,8 @@ use Rattle.vme_events.specs.Events.{comes}
 use Rattle.vme_events.specs.Ordered.{OfOrdered}
 use Rattle.vme_events.specs.Places.{by_place}
 use Rattle.vme_events.proofs.Places.{places_below, edges_placed}
-use Rattle.vme_reasons.specs.declared.marks.Marks.{Marks}
-use Rattle.vme_reasons.specs.Marked.{IsMarksOf}
+use Rattle.vme_explain.specs.declared.marks.Marks.{Marks}
+use Rattle.vme_explain.specs.Marked.{IsMarksOf}
 use Rattle.vme_events.specs.Misses.{all_moves, fails_rule, fails_settling, refuses}
 use Rattle.vme_engines.specs.declared.seeks.Ending.{Ending}
 use Rattle.vme_engines.specs.declared.seeks.Ending.TheVariants.{Over, Came, Missed}

@@ -11,19 +11,19 @@ use Rattle.vme_model.specs.Verdict.{State, verdict, made, after, kept}
 use Rattle.vme_model.specs.Deliveries.{delivery}
 use Rattle.vme_model.specs.Text.{read_of}
 use Rattle.vme_model.specs.Numbered.{Numbered, numbered_with, numbered}
-use Rattle.vme_reasons.specs.Marked.{IsMarksOf}
-use Rattle.vme_reasons.specs.Traced.{OfTrace}
+use Rattle.vme_explain.specs.Marked.{IsMarksOf}
+use Rattle.vme_explain.specs.Traced.{OfTrace}
 use Rattle.vme_trace.specs.declared.Fault.{Fault}
 use Rattle.vme_trace.specs.Writing.{AppendsFront}
 use Rattle.vme_goals.specs.declared.events.Event.{Event}
 use Rattle.vme_events.specs.Events.{events_of}
 use Rattle.vme_events.specs.Ordered.{OfOrdered}
 use Rattle.vme_events.proofs.Places.{numbers_below}
-use Rattle.vme_tallies.specs.Tally.{Answers as Told, answered_edge, answered_on, answered, is_accepted, accepted, refused}
-use Rattle.vme_tallies.specs.Tallied.{IsTallyOf}
-use Rattle.vme_tallies.specs.Summary.{summary_text}
-use Rattle.vme_tallies.proofs.Counted.{count_step}
-use Rattle.vme_tallies.proofs.Words.{each_once}
+use Rattle.vme_summary.specs.Tally.{Answers as Told, answered_edge, answered_on, answered, is_accepted, accepted, refused}
+use Rattle.vme_summary.specs.Tallied.{IsTallyOf}
+use Rattle.vme_summary.specs.Summary.{summary_text}
+use Rattle.vme_summary.proofs.Counted.{count_step}
+use Rattle.vme_summary.proofs.Words.{each_once}
 use Rattle.vme_engines.specs.declared.Status.{Status}
 use Rattle.vme_engines.specs.declared.EngineFault.TheVariants as fault
 use Rattle.vme_engines.specs.declared.summaries.Summing.{Summing}

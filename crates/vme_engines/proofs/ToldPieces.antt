@@ -10,7 +10,7 @@ use Rattle.vme_model.specs.Why.{why_text}
 use Rattle.vme_model.specs.Stands.{stands_text}
 use Rattle.vme_trace.specs.declared.Fault.{Fault}
 use Rattle.vme_trace.specs.Writing.{AppendsFront}
-use Rattle.vme_reasons.specs.declared.marks.Marks.{Marks}
+use Rattle.vme_explain.specs.declared.marks.Marks.{Marks}
 use Rattle.vme_engines.specs.declared.Status.{Status}
 use Rattle.vme_engines.specs.declared.following.Following.{Following}
 use Rattle.vme_engines.specs.declared.following.Found.{Found}
@@ -19,7 +19,7 @@ use Rattle.vme_engines.specs.declared.following.Told.TheVariants.{Block, Beyond}
 use Rattle.vme_engines.specs.declared.checks.Finding.TheVariants.{Legal}
 use Rattle.vme_engines.specs.Checking.{first_refusal, finding_line}
 use Rattle.vme_engines.specs.Explaining.{edge_status}
-use Rattle.vme_reasons.specs.Traced.{OfTrace}
+use Rattle.vme_explain.specs.Traced.{OfTrace}
 use Rattle.vme_engines.specs.Followed.{Follows, IsNext, IsMissing, ComesTo, TellsEdge, TellsLegal, Tells, ExplainsPiece, IsPlace, IsBehind, IsNotBefore, TellsPlace, Reaches, EndsBehind, StatesPiece}
 use Rattle.vme_engines.specs.Pieces.{answered}
 use Rattle.vme_engines.proofs.WrittenLines.{on_err}

@@ -13,7 +13,7 @@ use Rattle.vme_model.specs.Text.{read_of}
 use Rattle.vme_model.specs.Numbered.{Numbered, numbered_on, numbered}
 use Rattle.vme_model.specs.Why.{why_text}
 use Rattle.vme_model.specs.Stands.{stands_text}
-use Rattle.vme_reasons.specs.Marked.{IsMarksOf}
+use Rattle.vme_explain.specs.Marked.{IsMarksOf}
 use Rattle.vme_scenario.specs.Format.{scenario}
 use Rattle.vme_trace.specs.declared.Fault.{Fault}
 use Rattle.vme_trace.specs.Writing.{AppendsFront}
@@ -31,7 +31,7 @@ use Rattle.vme_engines.specs.Stating.{IsReached, IsAhead, IsStated, States, Stat
 use Rattle.vme_engines.specs.Steps.{Begins}
 use Rattle.vme_engines.specs.Pieces.{Came, Answers, answered}
 use Rattle.vme_engines.specs.Begun.{IsUnbegun}
-use Rattle.vme_reasons.specs.Traced.{OfTrace}
+use Rattle.vme_explain.specs.Traced.{OfTrace}
 use Rattle.vme_engines.specs.Followed.{told_answer, IsNext, IsMissing, TellsEdge, TellsLegal, Tells, ExplainsPiece, IsPlace, IsBehind, TellsPlace, StatesPiece}
 use Rattle.vme_engines.proofs.ReadOn.{came_begins}
 use Rattle.vme_engines.proofs.Waits.{stops_waiting, waits_unbegun}

@@ -4,9 +4,9 @@ use Rattle.vme_model.specs.declared.signals.Edge.{Edge}
 use Rattle.vme_model.specs.Plan.{Plan}
 use Rattle.vme_model.specs.Text.{read_of}
 use Rattle.vme_trace.specs.declared.Fault.{Fault}
-use Rattle.vme_tallies.specs.declared.tallies.Tally.{Tally}
-use Rattle.vme_tallies.specs.Tally.{Answers, answered}
-use Rattle.vme_tallies.specs.Tallied.{IsTallyOf}
+use Rattle.vme_summary.specs.declared.tallies.Tally.{Tally}
+use Rattle.vme_summary.specs.Tally.{Answers, answered}
+use Rattle.vme_summary.specs.Tallied.{IsTallyOf}
 use Rattle.vme_engines.specs.declared.summaries.Summing.{Summing}
 use Rattle.vme_engines.specs.Streams.{Streams, IsInput, IsReadOut}
 use Rattle.vme_engines.specs.Summed.{IsSumOf, OfSum}

@@ -2,7 +2,7 @@
 use Rattle.std.specs.Prelude.{◌≡◌, ◌++◌, ◌∷◌, ℕ, true, false, List, []}
 use Rattle.vme_model.specs.declared.signals.Edge.{Edge}
 use Rattle.vme_model.specs.Plan.{Plan}
-use Rattle.vme_draws.specs.Walks.{Walk}
+use Rattle.vme_seeds.specs.Walks.{Walk}
 use Rattle.vme_goals.specs.declared.events.Event.{Event}
 use Rattle.vme_goals.specs.declared.goals.Goal.TheVariants as goal
 use Rattle.vme_events.specs.Events.{comes}

@@ -12,7 +12,7 @@ use Rattle.vme_model.specs.Text.{edge_lines, text, read_of}
 use Rattle.vme_scenario.specs.Format.{scenario}
 use Rattle.vme_trace.specs.declared.Fault.TheVariants.{Write}
 use Rattle.vme_trace.specs.Writing.{AppendsFront}
-use Rattle.vme_draws.specs.Walks.{at_start}
+use Rattle.vme_seeds.specs.Walks.{at_start}
 use Rattle.vme_goals.specs.declared.goals.Goal.{Goal}
 use Rattle.vme_goals.specs.declared.goals.Goal.TheVariants as goal
 use Rattle.vme_events.specs.Misses.{refuses}

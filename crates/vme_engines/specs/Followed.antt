@@ -7,7 +7,7 @@ use Rattle.vme_model.specs.Deliveries.{answer}
 use Rattle.vme_model.specs.Numbered.{numbered_on}
 use Rattle.vme_model.specs.Why.{why_text}
 use Rattle.vme_model.specs.Stands.{stands_text}
-use Rattle.vme_reasons.specs.Marked.{IsMarksOf}
+use Rattle.vme_explain.specs.Marked.{IsMarksOf}
 use Rattle.vme_trace.specs.declared.Fault.{Fault}
 use Rattle.vme_trace.specs.declared.Fault.TheVariants.{Write}
 use Rattle.vme_trace.specs.Writing.{AppendsFront}
@@ -22,7 +22,7 @@ use Rattle.vme_engines.specs.declared.EngineFault.TheVariants as fault
 use Rattle.vme_engines.specs.Outcomes.{Answer}
 use Rattle.vme_engines.specs.Checking.{first_refusal, finding_line}
 use Rattle.vme_engines.specs.Explaining.{edge_status}
-use Rattle.vme_reasons.specs.Traced.{OfTrace}
+use Rattle.vme_explain.specs.Traced.{OfTrace}
 
 -- the answer of an engine that is to tell a block
 abbrev pub told_answer : Result Told Fault → Answer

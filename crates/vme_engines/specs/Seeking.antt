@@ -3,7 +3,7 @@ use Rattle.std.specs.Prelude.{ℕ, zero, suc, Bool, true, false, Option, Some, N
 use Rattle.std.specs.Option.{option_map_or}
 use Rattle.vme_model.specs.declared.signals.Edge.{Edge}
 use Rattle.vme_model.specs.Verdict.{State}
-use Rattle.vme_draws.specs.Walks.{Walk, next_edge, drawn, with_edge, walked}
+use Rattle.vme_seeds.specs.Walks.{Walk, next_edge, drawn, with_edge, walked}
 use Rattle.vme_goals.specs.declared.goals.Goal.{Goal}
 use Rattle.vme_goals.specs.declared.goals.Goal.TheVariants as goal
 use Rattle.vme_events.specs.Events.{comes}

@@ -7,7 +7,7 @@ use Rattle.vme_model.specs.Verdict.{State, kept}
 use Rattle.vme_model.specs.Text.{Reading, read_of}
 use Rattle.vme_trace.specs.declared.Fault.{Fault}
 use Rattle.vme_trace.specs.declared.Fault.TheVariants.{Write}
-use Rattle.vme_pictures.specs.Picture.{picture}
+use Rattle.vme_show.specs.Picture.{picture}
 use Rattle.vme_engines.specs.declared.EngineFault.TheVariants as fault
 use Rattle.vme_engines.specs.Streams.{Streams, IsInput, IsReadOut, Wrote, WroteFront, WroteNothing}
 use Rattle.vme_engines.specs.Outcomes.{Answer, bench, refused_count, status_with}

@@ -1,7 +1,7 @@
 -- A trace under way to the end of a stretch that is shown.
 use Rattle.std.specs.Prelude.{◌≡◌, ◌+◌, ◌<◌, ◌≤◌, ◌^◌, ℕ, length, Option, Some, None}
 use Rattle.vme_model.specs.Verdict.{State}
-use Rattle.vme_pictures.specs.Columns.{Seen}
+use Rattle.vme_show.specs.Columns.{Seen}
 use Rattle.vme_engines.specs.declared.shows.Stretch.{Stretch}
 
 -- the bus, what is shown, how many edges were judged, and what is kept of the stretch

@@ -4,13 +4,13 @@ use Rattle.std.specs.Io.KnownBytes.{Appends, Keeps}
 use Rattle.vme_model.specs.declared.signals.Edge.{Edge}
 use Rattle.vme_model.specs.Verdict.{State, kept}
 use Rattle.vme_model.specs.Numbered.{numbered}
-use Rattle.vme_reasons.specs.Marked.{IsMarksOf}
+use Rattle.vme_explain.specs.Marked.{IsMarksOf}
 use Rattle.vme_trace.specs.declared.Fault.{Fault}
 use Rattle.vme_trace.specs.declared.Fault.TheVariants.{Write}
 use Rattle.vme_trace.specs.Writing.{AppendsFront}
-use Rattle.vme_tallies.specs.Tally.{answered, refused}
-use Rattle.vme_tallies.specs.Tallied.{IsTallyOf}
-use Rattle.vme_tallies.specs.Summary.{summary_text}
+use Rattle.vme_summary.specs.Tally.{answered, refused}
+use Rattle.vme_summary.specs.Tallied.{IsTallyOf}
+use Rattle.vme_summary.specs.Summary.{summary_text}
 use Rattle.vme_engines.specs.declared.Status.{Status}
 use Rattle.vme_engines.specs.declared.summaries.Summing.{Summing}
 use Rattle.vme_engines.specs.Outcomes.{status_with}

@@ -5,8 +5,8 @@ use Rattle.vme_model.specs.declared.signals.Edge.{Edge}
 use Rattle.vme_model.specs.Plan.{Plan}
 use Rattle.vme_model.specs.Text.{Reading, read_of}
 use Rattle.vme_trace.specs.declared.Fault.TheVariants.{Write}
-use Rattle.vme_tallies.specs.Tally.{answered}
-use Rattle.vme_tallies.specs.Summary.{summary_text}
+use Rattle.vme_summary.specs.Tally.{answered}
+use Rattle.vme_summary.specs.Summary.{summary_text}
 use Rattle.vme_engines.specs.declared.EngineFault.TheVariants as fault
 use Rattle.vme_engines.specs.Streams.{Streams, IsInput, IsReadOut, Wrote, WroteFront, WroteNothing}
 use Rattle.vme_engines.specs.Outcomes.{Answer, bench, status_of}

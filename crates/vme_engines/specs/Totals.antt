@@ -6,10 +6,10 @@ use Rattle.vme_model.specs.Plan.{Plan}
 use Rattle.vme_model.specs.Text.{Reading, read_of}
 use Rattle.vme_trace.specs.declared.Fault.TheVariants.{Write}
 use Rattle.vme_trace.specs.Writing.{AppendsFront}
-use Rattle.vme_tallies.specs.declared.sums.Sums.{Sums}
-use Rattle.vme_tallies.specs.Tally.{Answers, answered, refused}
-use Rattle.vme_tallies.specs.Sums.{total, sums_text}
-use Rattle.vme_tallies.specs.Summed.{AreSumsOf, OfSums}
+use Rattle.vme_summary.specs.declared.sums.Sums.{Sums}
+use Rattle.vme_summary.specs.Tally.{Answers, answered, refused}
+use Rattle.vme_summary.specs.Sums.{total, sums_text}
+use Rattle.vme_summary.specs.Summed.{AreSumsOf, OfSums}
 use Rattle.vme_engines.specs.declared.EngineFault.TheVariants as fault
 use Rattle.vme_engines.specs.Streams.{Streams, IsInput, IsReadOut}
 use Rattle.vme_engines.specs.Outcomes.{Answer, bench, status_with}

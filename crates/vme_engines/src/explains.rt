@@ -10,7 +10,7 @@ ghost use Rattle.vme_engines.specs.Streams.{streams, ReadNothing, WroteNothing};
 ghost use Rattle.vme_engines.specs.Outcomes.{LentAsking};
 ghost use Rattle.vme_engines.specs.Explaining.{ExplainsInput, edge_status};
 ghost use Rattle.vme_engines.specs.Followed.{EndsMissing, ExplainsPiece, told_answer};
-ghost use Rattle.vme_reasons.specs.Traced.{OfTrace};
+ghost use Rattle.vme_explain.specs.Traced.{OfTrace};
 ghost use Rattle.std.proofs.Common.{arith};
 ghost use Rattle.std.proofs.KnownBytes.{Keeps-refl};
 
@@ -24,8 +24,8 @@ use crate::{EngineFault, Status};
 use std::alloc::Global;
 use std::io::{Read, Write};
 use vme_bus::Bus;
+use vme_explain::write_why;
 use vme_model::Edge;
-use vme_reasons::write_why;
 use vme_slots::Plan;
 use vme_trace::{Fault, flush};
 

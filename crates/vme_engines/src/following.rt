@@ -6,8 +6,8 @@ ghost use Rattle.vme_model.specs.History.{shown};
 ghost use Rattle.vme_model.specs.Verdict.{verdict, after};
 ghost use Rattle.vme_model.specs.Deliveries.{answer};
 ghost use Rattle.vme_model.specs.Numbered.{numbered_with};
-ghost use Rattle.vme_reasons.specs.Marked.{IsMarksOf};
-ghost use Rattle.vme_reasons.specs.Traced.{OfTrace};
+ghost use Rattle.vme_explain.specs.Marked.{IsMarksOf};
+ghost use Rattle.vme_explain.specs.Traced.{OfTrace};
 ghost use Rattle.vme_events.specs.Events.{events_of};
 ghost use Rattle.vme_events.specs.Ordered.{OfOrdered};
 ghost use Rattle.vme_engines.specs.Followed.{Follows, IsMissing, ComesTo, Reaches, told_answer};
@@ -16,9 +16,9 @@ use crate::{EngineFault, Status};
 use arrayvec::ArrayVec;
 use vme_bus::Bus;
 use vme_events::events_of;
+use vme_explain::Marks;
 use vme_goals::Event;
 use vme_model::{Cycle, Delivery, Driver, Edge, Refused, Wire};
-use vme_reasons::Marks;
 use vme_trace::Fault;
 
 /// What an engine answers that tells one block.

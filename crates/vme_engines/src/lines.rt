@@ -18,8 +18,8 @@ use crate::tails::{are_plain, push_line, push_plain};
 use arrayvec::ArrayVec;
 use std::io::Write;
 use vme_bus::{AnswerRecord, Bus};
+use vme_explain::texts::{push, push_number, push_verdict};
 use vme_model::Edge;
-use vme_reasons::texts::{push, push_number, push_verdict};
 use vme_text::Text;
 use vme_trace::{Fault, flush, put};
 

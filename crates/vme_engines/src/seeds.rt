@@ -12,9 +12,9 @@ use crate::listening::{Listener, Progress};
 use crate::plans::plan_of;
 use std::alloc::Global;
 use std::io::Write;
-use vme_draws::Walk;
 use vme_goals::Goal;
 use vme_model::Version;
+use vme_seeds::Walk;
 use vme_slots::Plan;
 use vme_trace::Fault;
 

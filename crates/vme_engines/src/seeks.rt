@@ -1,20 +1,20 @@
 //! A walk that seeks a goal.
 ghost use Rattle.std.specs.Prelude.{◌≡◌, [], Ok, IfOk};
 ghost use Rattle.vme_model.specs.Verdict.{verdict};
-ghost use Rattle.vme_draws.specs.Walks.{with_edge};
+ghost use Rattle.vme_seeds.specs.Walks.{with_edge};
 ghost use Rattle.vme_events.specs.Places.{by_place};
-ghost use Rattle.vme_reasons.specs.Marked.{IsMarksOf};
+ghost use Rattle.vme_explain.specs.Marked.{IsMarksOf};
 ghost use Rattle.vme_engines.specs.Seeking.{brings, ends_at, is_over, missed_by, sought, turned};
 ghost use Rattle.vme_engines.specs.Texts.{ListsOn};
 
 use crate::drives::put_line;
 use std::io::Write;
 use vme_bus::Bus;
-use vme_draws::Walk;
 use vme_events::{comes, miss};
+use vme_explain::Marks;
 use vme_goals::Goal;
 use vme_model::{Driver, Edge};
-use vme_reasons::Marks;
+use vme_seeds::Walk;
 use vme_text::Text;
 use vme_trace::Fault;
 

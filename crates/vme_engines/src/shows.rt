@@ -24,7 +24,7 @@ use std::io::{Read, Write};
 use std::marker::Model;
 use vme_bus::Bus;
 use vme_model::Edge;
-use vme_pictures::Window;
+use vme_show::Window;
 use vme_slots::Plan;
 use vme_trace::{Fault, flush};
 

@@ -7,7 +7,7 @@ ghost use Rattle.vme_engines.specs.Streams.{streams, ReadNothing, WroteNothing};
 ghost use Rattle.vme_engines.specs.Outcomes.{LentAsking};
 ghost use Rattle.vme_engines.specs.Stating.{StatesInput};
 ghost use Rattle.vme_engines.specs.Followed.{EndsBehind, StatesPiece, told_answer};
-ghost use Rattle.vme_reasons.specs.Traced.{OfTrace};
+ghost use Rattle.vme_explain.specs.Traced.{OfTrace};
 ghost use Rattle.std.proofs.Common.{arith};
 ghost use Rattle.std.proofs.KnownBytes.{Keeps-refl};
 
@@ -19,8 +19,8 @@ use crate::{EngineFault, Status};
 use std::alloc::Global;
 use std::io::{Read, Write};
 use vme_bus::Bus;
+use vme_explain::write_stands;
 use vme_model::Edge;
-use vme_reasons::write_stands;
 use vme_slots::Plan;
 use vme_trace::{Fault, flush};
 

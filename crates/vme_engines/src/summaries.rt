@@ -4,8 +4,8 @@ ghost use Rattle.std.specs.Io.KnownBytes.{Appends};
 ghost use Rattle.vme_model.specs.Signals.{is_well_formed};
 ghost use Rattle.vme_model.specs.Locality.{AreWellFormed};
 ghost use Rattle.vme_trace.specs.Writing.{AppendsFront};
-ghost use Rattle.vme_tallies.specs.Tally.{answered, refused};
-ghost use Rattle.vme_tallies.specs.Summary.{summary_text};
+ghost use Rattle.vme_summary.specs.Tally.{answered, refused};
+ghost use Rattle.vme_summary.specs.Summary.{summary_text};
 ghost use Rattle.vme_engines.specs.Streams.{streams, ReadNothing, WroteNothing};
 ghost use Rattle.vme_engines.specs.Outcomes.{LentAsking, status_with};
 ghost use Rattle.vme_engines.specs.Steps.{traced};
@@ -26,7 +26,7 @@ use std::io::{Read, Write};
 use vme_bus::Bus;
 use vme_model::Edge;
 use vme_slots::Plan;
-use vme_tallies::{Tally, write_summary};
+use vme_summary::{Tally, write_summary};
 use vme_trace::{Fault, flush};
 
 /// A trace on the way to its end, with what its edges came to.

@@ -8,8 +8,8 @@ ghost use Rattle.vme_engines.specs.Recorded.{plain_lines};
 use crate::counts::Count;
 use arrayvec::ArrayVec;
 use vme_bus::AnswerRecord;
+use vme_explain::texts::{push, push_verdict};
 use vme_model::{Delivery, Refused};
-use vme_reasons::texts::{push, push_verdict};
 use vme_text::Text;
 
 /// How many numbers of answers have an end of their own: all that are used but that of a delivery.

@@ -3,9 +3,9 @@ ghost use Rattle.std.specs.Prelude.{◌≡◌, ◌+◌, ◌<◌, ◌^◌, ◌++�
 ghost use Rattle.std.specs.Io.KnownBytes.{Appends, Keeps};
 ghost use Rattle.vme_model.specs.Locality.{AreWellFormed};
 ghost use Rattle.vme_trace.specs.Writing.{AppendsFront};
-ghost use Rattle.vme_tallies.specs.Tally.{refused};
-ghost use Rattle.vme_tallies.specs.Summed.{OfSums};
-ghost use Rattle.vme_tallies.specs.Sums.{sums_text, total};
+ghost use Rattle.vme_summary.specs.Tally.{refused};
+ghost use Rattle.vme_summary.specs.Summed.{OfSums};
+ghost use Rattle.vme_summary.specs.Sums.{sums_text, total};
 ghost use Rattle.vme_engines.specs.Added.{TalliesInput, TalliesPiece};
 ghost use Rattle.vme_engines.specs.Outcomes.{Lent, LentAsking, status_with};
 ghost use Rattle.vme_engines.specs.Streams.{streams, ReadNothing};
@@ -27,7 +27,7 @@ use std::mem::replace;
 use vme_bus::Bus;
 use vme_model::Edge;
 use vme_slots::Plan;
-use vme_tallies::{Sums, Tally, write_sums};
+use vme_summary::{Sums, Tally, write_sums};
 use vme_trace::{Fault, flush};
 
 /// A trace on the way to its end, where it gives its tally away.

@@ -3,8 +3,8 @@
 use Rattle.std.specs.Prelude.{◌≡◌, ℕ}
 use Rattle.vme_model.specs.Verdict.{State}
 use Rattle.vme_model.specs.Numbered.{Numbered, edges_in}
-use Rattle.vme_reasons.specs.declared.marks.Marks.{Marks}
-use Rattle.vme_reasons.specs.Marked.{IsMarksOf}
+use Rattle.vme_explain.specs.declared.marks.Marks.{Marks}
+use Rattle.vme_explain.specs.Marked.{IsMarksOf}
 use Rattle.vme_events.specs.Places.{AreBelow}
 
 abbrev pub OfOrdered : State → Marks → (Numbered → Type 0) → Type 0

@@ -3,18 +3,18 @@ ghost use Rattle.std.specs.Prelude.{◌≡◌, true, Some, is_some, unwrap_or};
 ghost use Rattle.std.specs.List.{list_any};
 ghost use Rattle.std.specs.Option.{option_and_then};
 ghost use Rattle.vme_model.specs.declared.boards.Row.{Row as RowValue};
-ghost use Rattle.vme_reasons.specs.Told.{is_driver};
+ghost use Rattle.vme_explain.specs.Told.{is_driver};
 ghost use Rattle.vme_model.specs.Plan.{board_of, up_to};
 ghost use Rattle.vme_model.specs.History.{drive, served_since_request};
 ghost use Rattle.vme_model.specs.Numbered.{since as since_in};
 ghost use Rattle.vme_model.specs.Readings.{pending};
-ghost use Rattle.vme_reasons.specs.Traced.{OfTrace};
+ghost use Rattle.vme_explain.specs.Traced.{OfTrace};
 ghost use Rattle.vme_events.specs.Events.{asked_before, fills_burst, has_rival, is_filled, is_rival, overtakes};
 ghost use Rattle.vme_events.specs.Ordered.{OfOrdered};
 
 use vme_bus::Bus;
+use vme_explain::{Marks, since};
 use vme_model::{Driver, InterrupterRow, IrqKind, Release, RequesterRow, Row, Wire};
-use vme_reasons::{Marks, since};
 
 /// The board that a driver stands on; none for the controller.
 fn board_of(bus: &Bus, driver: Driver) -> Option<Row>

@@ -11,9 +11,9 @@ ghost use Rattle.vme_events.specs.Ordered.{OfOrdered};
 use crate::before::{fills_burst, has_acknowledged, has_rival, overtakes};
 use arrayvec::ArrayVec;
 use vme_bus::Bus;
+use vme_explain::Marks;
 use vme_goals::Event;
 use vme_model::{Cycle, Driver, Edge, Wire};
-use vme_reasons::Marks;
 
 /// The situation where the test holds.
 fn alone(holds: bool, event: Event) -> ArrayVec<Event, 2>

@@ -1,9 +1,9 @@
 //! What the words of the command line mean. What is printed for usage errors and for help is in
 //! `acceptance/words`.
 use std::process::Abort;
+use vme_command_line::{Job, words};
 use vme_goals::{Event, Goal, Miss};
 use vme_model::{Condition, IrqKind, Version};
-use vme_words::{Job, words};
 
 /// Asserts for which job words ask.
 fn assert_job(rt: &(impl Abort + AllocGlobal), given: &[&str], wanted: Job) {

@@ -8,7 +8,7 @@
 use std::process::ExitCode;
 use std::sync::Wait;
 use std::thread::Threads;
-use vme_jobs::{WordsFault, given, obey, output, tell};
+use vme_program::{WordsFault, given, obey, output, tell};
 
 /// Reads the words and obeys them.
 ///

@@ -1,6 +1,6 @@
 use Rattle.std.proofs.Common.{subst}
 use Rattle.std.specs.Prelude.{OnOk}
-use Rattle.vme_draws.specs.Walks.{Walk}
+use Rattle.vme_seeds.specs.Walks.{Walk}
 use Rattle.vme_engines.specs.Drawing.{Draws, WalksSafely}
 use Rattle.vme_engines.proofs.draws.draw_on.Goals as goal
 

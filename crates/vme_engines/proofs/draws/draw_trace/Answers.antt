@@ -1,7 +1,7 @@
 use Rattle.std.proofs.Common.{◌≡◌, ◌∙◌, ap, subst, arith}
 use Rattle.std.specs.Io.KnownBytes.{Appends}
 use Rattle.vme_trace.specs.Writing.{AppendsFront}
-use Rattle.vme_draws.specs.Walks.{Walk}
+use Rattle.vme_seeds.specs.Walks.{Walk}
 use Rattle.vme_engines.specs.Drawing.{ended_text, status_to, walk}
 use Rattle.vme_engines.specs.Seeking.{walk_to}
 use Rattle.vme_engines.proofs.DrawnWalks.{draws_done, walks_safely}

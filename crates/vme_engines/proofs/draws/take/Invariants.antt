@@ -1,5 +1,5 @@
 use Rattle.std.proofs.Common.{◌≡◌, ◌-◌}
-use Rattle.vme_draws.specs.Walks.{walked}
+use Rattle.vme_seeds.specs.Walks.{walked}
 use Rattle.vme_engines.specs.Texts.{KeepsListed}
 use Rattle.vme_engines.proofs.draws.take.Given as goal
 

@@ -1,6 +1,6 @@
 use Rattle.std.proofs.Common.{subst}
 use Rattle.std.specs.Prelude.{IfOk, IfSome, Some}
-use Rattle.vme_draws.specs.Walks.{Walk}
+use Rattle.vme_seeds.specs.Walks.{Walk}
 use Rattle.vme_engines.specs.Drawing.{WalksSafely}
 use Rattle.vme_engines.specs.Found.{Finds, found_answer}
 use Rattle.vme_engines.proofs.seeds.search_on.Goals as goal

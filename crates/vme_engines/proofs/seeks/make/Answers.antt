@@ -1,7 +1,7 @@
 use Rattle.std.proofs.Common.{◌∙◌, sym, ap, subst, ◌+◌}
-use Rattle.vme_draws.specs.Walks.{Walk}
+use Rattle.vme_seeds.specs.Walks.{Walk}
 use Rattle.vme_events.specs.Places.{by_place}
-use Rattle.vme_reasons.specs.Marked.{IsMarksOf}
+use Rattle.vme_explain.specs.Marked.{IsMarksOf}
 use Rattle.vme_engines.proofs.SoughtGoals.{marked_more}
 use Rattle.vme_engines.proofs.seeks.make.Goals as goal
 

@@ -2,7 +2,7 @@ use Rattle.std.proofs.Common.{◌≡◌, ◌∙◌, sym, ap, subst, suc, ◌+◌
 use Rattle.std.proofs.lemmas.Result.{err_from_is_err_and}
 use Rattle.vme_model.specs.declared.signals.Edge.{Edge}
 use Rattle.vme_events.specs.Places.{by_place}
-use Rattle.vme_reasons.specs.Marked.{IsMarksOf}
+use Rattle.vme_explain.specs.Marked.{IsMarksOf}
 use Rattle.vme_engines.specs.Seeking.{Ended, sought}
 use Rattle.vme_engines.proofs.SoughtGoals.{seek_ends, seek_goes_on}
 use Rattle.vme_engines.proofs.DrawnLines.{turn_front}

@@ -1,6 +1,6 @@
 use Rattle.std.proofs.Common.{◌≡◌, ◌∙◌, ap, sym, None}
 use Rattle.std.proofs.lemmas.Result.{err_from_is_err_and}
-use Rattle.vme_draws.specs.Walks.{Walk, drawn, with_edge}
+use Rattle.vme_seeds.specs.Walks.{Walk, drawn, with_edge}
 use Rattle.vme_engines.specs.Seeking.{missed_by, turned}
 use Rattle.vme_engines.proofs.ListedLines.{edge_listed, edge_cut}
 use Rattle.vme_engines.proofs.DrawnLines.{before_turned}

@@ -1,5 +1,5 @@
 use Rattle.std.proofs.KnownBytes.{Appends-kept}
-use Rattle.vme_tallies.specs.Sums.{sums_text}
+use Rattle.vme_summary.specs.Sums.{sums_text}
 use Rattle.vme_engines.proofs.ToldPieces.{front_then}
 use Rattle.vme_engines.proofs.WrittenLines.{on_err}
 use Rattle.vme_engines.proofs.totals.tell.Goals as goal

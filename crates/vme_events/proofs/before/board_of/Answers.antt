@@ -1,6 +1,6 @@
 use Rattle.std.proofs.Common.{◌∙◌, sym, subst}
 use Rattle.vme_model.specs.Accepted.{IsAccepted}
-use Rattle.vme_reasons.proofs.OnPlan.{driver_of_board}
+use Rattle.vme_explain.proofs.OnPlan.{driver_of_board}
 use Rattle.vme_events.proofs.before.board_of.Goals as goal
 
 pub returns-in-Slot-clause-slot : goal.returns-in-Slot-clause-slot

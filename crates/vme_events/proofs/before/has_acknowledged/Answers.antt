@@ -6,7 +6,7 @@ use Rattle.vme_model.specs.declared.signals.Driver.TheVariants.{Slot}
 use Rattle.vme_model.specs.Signals.{has_wire}
 use Rattle.vme_model.specs.History.{served_since_request}
 use Rattle.vme_model.proofs.Numbers.{served_has_since}
-use Rattle.vme_reasons.proofs.NoSuchWire.{legal_in, never_moved}
+use Rattle.vme_explain.proofs.NoSuchWire.{legal_in, never_moved}
 use Rattle.vme_events.proofs.Waiting.{nothing_answered}
 use Rattle.vme_events.proofs.before.has_acknowledged.Goals as goal
 

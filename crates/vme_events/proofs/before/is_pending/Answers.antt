@@ -2,7 +2,7 @@ use Rattle.std.proofs.Common.{◌∙◌, sym, ap}
 use Rattle.std.specs.Prelude.{is_some}
 use Rattle.vme_model.specs.declared.signals.Driver.TheVariants.{Slot}
 use Rattle.vme_model.specs.Readings.{is_pending, readings}
-use Rattle.vme_reasons.proofs.Pending.{pending_unless_served}
+use Rattle.vme_explain.proofs.Pending.{pending_unless_served}
 use Rattle.vme_events.proofs.before.is_pending.Goals as goal
 
 pub returns-then-is_low : goal.returns-then-is_low

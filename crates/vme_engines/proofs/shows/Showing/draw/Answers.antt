@@ -2,7 +2,7 @@ use Rattle.std.proofs.Common.{Option, List, OnErr, subst, arith}
 use Rattle.vme_model.specs.declared.signals.Edge.{Edge}
 use Rattle.vme_model.specs.Verdict.{State}
 use Rattle.vme_trace.specs.Writing.{AppendsFront}
-use Rattle.vme_pictures.specs.Columns.{Seen}
+use Rattle.vme_show.specs.Columns.{Seen}
 use Rattle.vme_engines.specs.Stretches.{Stage, IsCount, IsOpen}
 use Rattle.vme_engines.specs.Shown.{IsShown, stretch_text}
 use Rattle.vme_engines.proofs.ShownPieces.{flushed}

@@ -1,5 +1,5 @@
 use Rattle.std.proofs.Common.{◌+◌, ◌<◌, ◌≤◌, Option, length, refl, sym, ap, subst, arith}
-use Rattle.vme_pictures.specs.Columns.{Seen}
+use Rattle.vme_show.specs.Columns.{Seen}
 use Rattle.vme_engines.specs.Stretches.{Stage}
 use Rattle.vme_engines.specs.Shown.{IsKept, IsShown}
 use Rattle.vme_engines.proofs.ShownPieces.{begun_before, begun_now, grown, next_shown}

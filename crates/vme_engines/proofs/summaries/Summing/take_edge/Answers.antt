@@ -1,5 +1,5 @@
 use Rattle.std.proofs.Common.{◌∙◌, ap, ◌+◌}
-use Rattle.vme_tallies.specs.Tally.{answered}
+use Rattle.vme_summary.specs.Tally.{answered}
 use Rattle.vme_engines.proofs.Sums.{one_summed}
 use Rattle.vme_engines.proofs.summaries.Summing.take_edge.Goals as goal
 

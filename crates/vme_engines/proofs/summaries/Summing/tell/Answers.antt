@@ -3,8 +3,8 @@ use Rattle.std.specs.Io.KnownBytes.{Appends}
 use Rattle.std.proofs.KnownBytes.{Appends-kept}
 use Rattle.vme_model.specs.Plan.{Plan}
 use Rattle.vme_trace.specs.Writing.{AppendsFront}
-use Rattle.vme_tallies.specs.Tally.{answered}
-use Rattle.vme_tallies.specs.Summary.{summary_text}
+use Rattle.vme_summary.specs.Tally.{answered}
+use Rattle.vme_summary.specs.Summary.{summary_text}
 use Rattle.vme_engines.proofs.ToldPieces.{front_then}
 use Rattle.vme_engines.proofs.WrittenLines.{on_err}
 use Rattle.vme_engines.proofs.Sums.{plan_of}

@@ -1,0 +1,24 @@
+-- What is unfit, and not missing, is no job.
+use Rattle.std.proofs.Common.{◌≢◌, List, Option, Some, None, IsSomeAnd, refl}
+use Rattle.clap.specs.Words.{Row, Text}
+use Rattle.vme_command_line.specs.Asked.{IsNoJob}
+use Rattle.vme_command_line.specs.Unfits.{IsUnfit}
+use Rattle.vme_command_line.specs.declared.Unfit.{Unfit}
+use Rattle.vme_command_line.specs.declared.Unfit.TheVariants.{Missing, NoMemory, Window, Beside, Event, Seedless, Aimless, Seeded, Seeds, Idle}
+
+one : (name : Text) (rows : List Row) (unfit : Unfit) → unfit ≢ Missing → unfit ≢ NoMemory → IsUnfit name rows unfit → IsNoJob name rows
+one name rows Missing other room is = absurd (other refl)
+one name rows NoMemory other room is = absurd (room refl)
+one name rows (Window from to) other room is = is
+one name rows (Beside named) other room is = is
+one name rows (Event named version) other room is = is
+one name rows Seedless other room is = is
+one name rows Aimless other room is = is
+one name rows Seeded other room is = is
+one name rows (Seeds named) other room is = is
+one name rows Idle other room is = is
+
+pub no_job : (met : Option (Text × List Row)) (unfit : Unfit) → unfit ≢ Missing → unfit ≢ NoMemory → (unfit ≢ Missing → IsSomeAnd met (λ m. IsUnfit m.0 m.1 unfit))
+    → IsSomeAnd met (λ m. IsNoJob m.0 m.1)
+no_job None unfit other room is = is other
+no_job (Some m) unfit other room is = one m.0 m.1 unfit other room (is other)

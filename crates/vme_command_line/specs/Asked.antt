@@ -1,0 +1,170 @@
+-- The job for which the words after the program's name ask.
+use Rattle.std.specs.Prelude.{◌≡◌, ◌≢◌, ◌↔◌, ◌⊎◌, ◌+◌, ◌-◌, ◌^◌, ◌<◌, ◌≤◌, ◌++◌, ℕ, Bool, true, false, IsTrue, List, [], ◌∷◌, Option, Some, None, codes, length, map, max, min, option_map, IsSomeAnd}
+use Rattle.std.specs.Borrow.{Bor}
+use Rattle.std.specs.Str.Parse.{IsNumeral, digits_value, without_leading_plus}
+use Rattle.clap.specs.Words.{IsAmong, Row, Text, all_of, fault_of, first_of, one_of, subcommand_of}
+use Rattle.clap.specs.declared.error.kind.ErrorKind.TheVariants.{DisplayVersion}
+use Rattle.vme_model.specs.declared.Version.{Version}
+use Rattle.vme_model.specs.declared.Version.TheVariants.{One, Two}
+use Rattle.vme_goals.specs.declared.goals.Goal.{Goal}
+use Rattle.vme_command_line.specs.Alone.{aim_of}
+use Rattle.vme_command_line.specs.Commands.{commands}
+use Rattle.vme_command_line.specs.declared.Job.{Job}
+use Rattle.vme_command_line.specs.declared.Job.TheVariants.{Joined, OwnVersion, Replay, Check, Explain, State, Show, Summary, Sums, Drive, Draw, Search, Run}
+use Rattle.vme_command_line.specs.Limits.{IsNoWindow}
+
+-- the words that are lent, as texts
+abbrev pub texts_of : List (Bor Text) → List Text
+texts_of words = map (λ word. word.now) words
+
+-- the operand of this name is this file
+abbrev pub IsFile : Text → List Row → Text → Type 0
+IsFile name rows file = first_of name rows ≡ Some file
+
+-- the operands of this name are these files
+abbrev pub AreFiles : Text → List Row → List Text → Type 0
+AreFiles name rows files = all_of name rows ≡ Some files
+
+-- the number that the option of this name spells, in decimal digits; none if the option is not
+-- given
+abbrev pub spelled : Text → List Row → Option ℕ
+spelled name rows =
+    option_map (λ text. digits_value 10 (without_leading_plus text)) (one_of name rows)
+
+abbrev pub version_number : Version → ℕ
+version_number One = 1
+version_number Two = 2
+
+-- the options `--edges` and `--version`; the default of the latter stands in the command line
+abbrev pub AreOptions : List Row → ℕ → Version → Type 0
+AreOptions rows edges version =
+    (spelled (codes "edges") rows ≡ Some edges)
+    × (spelled (codes "version") rows ≡ Some (version_number version))
+
+-- the flag of this name is given, or is not
+abbrev pub IsFlag : Text → List Row → Bool → Type 0
+IsFlag name rows given = IsTrue given ↔ (one_of name rows ≡ Some (codes "true"))
+
+-- the first edge that a picture shows, by `--from` and `--to`: with `--to` alone 60 edges end there
+abbrev pub first_shown : Option ℕ → Option ℕ → ℕ
+first_shown (Some from) to = from
+first_shown None (Some to) = max 1 (to - 59)
+first_shown None None = 1
+
+-- the last edge of a picture, by `--to` and the first edge: without `--to` it is the 60th edge of
+-- the picture, or the greatest number if that is less
+abbrev pub last_shown : Option ℕ → ℕ → ℕ
+last_shown (Some to) first = to
+last_shown None first = min (first + 59) (2 ^ 64 - 1)
+
+abbrev pub first_of_window : List Row → ℕ
+first_of_window rows = first_shown (spelled (codes "from") rows) (spelled (codes "to") rows)
+
+abbrev pub last_of_window : List Row → ℕ
+last_of_window rows = last_shown (spelled (codes "to") rows) (first_of_window rows)
+
+-- the goal that `--until` names, among all that a trace can reach in that version
+abbrev pub IsAim : List Row → Version → Option Goal → Type 0
+IsAim rows version None = first_of (codes "until") rows ≡ None
+IsAim rows version (Some goal) = (named : Text) × (first_of (codes "until") rows ≡ Some named)
+    × (aim_of named version ≡ Some goal)
+
+-- a text spells this seed, in decimal digits
+abbrev pub IsSeed : Text → ℕ → Type 0
+IsSeed text n = IsNumeral 10 (without_leading_plus text)
+    × (digits_value 10 (without_leading_plus text) ≡ n) × (n < 2 ^ 64)
+
+-- a text names the seeds from this one to that one: two dots stand between them
+abbrev pub AreSeeds : Text → ℕ → ℕ → Type 0
+AreSeeds named first last = (begins : Text) × (ends : Text) × (named ≡ begins ++ codes ".." ++ ends)
+    × IsSeed begins first × IsSeed ends last × (first ≤ last)
+
+-- a text names no seeds
+abbrev pub NamesNoSeeds : Text → Type 0
+NamesNoSeeds named = (first last : ℕ) → ¬ (AreSeeds named first last)
+
+-- the option `--seeds`, with the first and the last seed
+abbrev pub AreTried : List Row → ℕ → ℕ → Type 0
+AreTried rows first last = (named : Text) × (first_of (codes "seeds") rows ≡ Some named)
+    × AreSeeds named first last
+
+-- the flag `--progress`
+abbrev pub IsTold : List Row → Bool → Type 0
+IsTold rows progress = IsFlag (codes "progress") rows progress
+
+-- a command of this name, with these operands, is this job
+abbrev pub AsksFor : Text → List Row → Job → Type 0
+AsksFor name rows Joined = ⊥
+AsksFor name rows OwnVersion = ⊥
+AsksFor name rows (Replay scenario trace) = (name ≡ codes "replay")
+    × IsFile (codes "SCENARIO") rows scenario.now × IsFile (codes "TRACE") rows trace.now
+AsksFor name rows (Check scenario trace) = (name ≡ codes "check")
+    × IsFile (codes "SCENARIO") rows scenario.now × IsFile (codes "TRACE") rows trace.now
+AsksFor name rows (Explain scenario trace edge) = (name ≡ codes "explain")
+    × IsFile (codes "SCENARIO") rows scenario.now × IsFile (codes "TRACE") rows trace.now
+    × (spelled (codes "edge") rows ≡ edge)
+AsksFor name rows (State scenario trace after) = (name ≡ codes "state")
+    × IsFile (codes "SCENARIO") rows scenario.now × IsFile (codes "TRACE") rows trace.now
+    × (spelled (codes "after") rows ≡ after)
+AsksFor name rows (Show scenario trace from to color) = (name ≡ codes "show")
+    × IsFile (codes "SCENARIO") rows scenario.now × IsFile (codes "TRACE") rows trace.now
+    × (from ≡ first_of_window rows) × (to ≡ last_of_window rows)
+    × IsFlag (codes "color") rows color
+AsksFor name rows (Summary scenario trace) = (name ≡ codes "summary")
+    × IsFile (codes "SCENARIO") rows scenario.now
+    × AreFiles (codes "TRACE") rows (trace.now ∷ [])
+AsksFor name rows (Sums scenario traces) = (name ≡ codes "summary")
+    × IsFile (codes "SCENARIO") rows scenario.now
+    × AreFiles (codes "TRACE") rows (texts_of traces.items) × (2 ≤ length traces.items)
+AsksFor name rows (Drive scenario edges version) = (name ≡ codes "drive")
+    × IsFile (codes "SCENARIO") rows scenario.now × AreOptions rows edges version
+    × (spelled (codes "seed") rows ≡ None) × (first_of (codes "seeds") rows ≡ None)
+    × IsAim rows version None × IsTold rows false
+AsksFor name rows (Draw scenario edges seed until version) = (name ≡ codes "drive")
+    × IsFile (codes "SCENARIO") rows scenario.now × AreOptions rows edges version
+    × (spelled (codes "seed") rows ≡ Some seed) × (first_of (codes "seeds") rows ≡ None)
+    × IsAim rows version until × IsTold rows false
+AsksFor name rows (Search scenario edges first last goal version progress) = (name ≡ codes "drive")
+    × IsFile (codes "SCENARIO") rows scenario.now × AreOptions rows edges version
+    × (spelled (codes "seed") rows ≡ None) × AreTried rows first last
+    × IsAim rows version (Some goal) × IsTold rows progress
+AsksFor name rows (Run scenario edges turns version) = (name ≡ codes "run")
+    × IsFile (codes "SCENARIO") rows scenario.now × AreOptions rows edges version
+    × (spelled (codes "turns") rows ≡ Some turns)
+
+-- the command line reaches the option that asks for the program's own version
+abbrev pub AskForVersion : List Text → Type 0
+AskForVersion words = IsAmong DisplayVersion (fault_of commands words)
+
+-- without words the job is to replay standard input; other words ask for the version, or for what
+-- their command says, with the operands that the command line gives it
+abbrev pub Ask : List Text → Job → Type 0
+Ask [] job = job ≡ Joined
+Ask (word ∷ words) job = (AskForVersion (word ∷ words) × (job ≡ OwnVersion))
+    ⊎ IsSomeAnd (subcommand_of commands (word ∷ words)) (λ met. AsksFor met.0 met.1 job)
+
+-- `--until` is given without seeds, or names nothing that a trace can reach in that version
+abbrev pub IsNoAim : List Row → Type 0
+IsNoAim rows = (named : Text) × (first_of (codes "until") rows ≡ Some named)
+    × (((spelled (codes "seed") rows ≡ None) × (first_of (codes "seeds") rows ≡ None))
+    ⊎ ((version : Version) × (spelled (codes "version") rows ≡ Some (version_number version))
+    × (aim_of named version ≡ None)))
+
+-- `--seeds` is given together with `--seed` or without `--until`, or does not name seeds
+abbrev pub AreNotTried : List Row → Type 0
+AreNotTried rows = (named : Text) × (first_of (codes "seeds") rows ≡ Some named)
+    × ((spelled (codes "seed") rows ≢ None) ⊎ (first_of (codes "until") rows ≡ None)
+    ⊎ NamesNoSeeds named)
+
+-- `--progress` is given without `--seeds`
+abbrev pub IsIdle : List Row → Type 0
+IsIdle rows = IsTold rows true × (first_of (codes "seeds") rows ≡ None)
+
+-- a command of this name is no job with these operands
+abbrev pub IsNoJob : Text → List Row → Type 0
+IsNoJob name rows =
+    ((name ≡ codes "show") × IsNoWindow (first_of_window rows) (last_of_window rows))
+    ⊎ ((name ≡ codes "drive") × ((IsNoAim rows ⊎ IsIdle rows) ⊎ AreNotTried rows))
+
+abbrev pub AskForNoJob : List Text → Type 0
+AskForNoJob words = IsSomeAnd (subcommand_of commands words) (λ met. IsNoJob met.0 met.1)

@@ -1,0 +1,499 @@
+//! The commands that the program offers, and their help.
+ghost use Rattle.std.specs.Prelude.{◌≡◌, ◌≤◌, ◌^◌, ◌-◌, [], ◌∷◌, IfOk, codes, pos, true};
+ghost use Rattle.clap.specs.Words.{App, Rule, Shape, app_of, new_app, rule_of, shape_of, with_rule, with_subcommand};
+ghost use Rattle.clap.specs.Simple.{on_top};
+ghost use Rattle.vme_command_line.specs.Commands as said;
+
+use crate::{MOST_EDGES, MOST_TURNS, VERSION};
+use clap::builder::ValueParser;
+use clap::{Arg, ArgAction, Command, value_parser};
+use std::alloc::{AllocError, Global};
+
+const ABOUT: &str =
+    "Simulates and checks the arbitration bus and the interrupt bus of a VMEbus backplane, edge by edge.";
+
+const OVERVIEW: &str =
+    "Without a command, a scenario and after it a trace are read from standard input, and the trace is
+replayed:
+  cat board.toml tenure.vme | vmebus
+
+A scenario is a TOML file that says which boards stand in which slots. A trace is the line `vme 1`
+or `vme 2`, and then one edge a line, as `1 br-` or `c bg3-`. docs/RULES.md has the rules,
+docs/FORMATS.md has scenarios, traces, reports and faults to the byte, and examples/ has some of
+each.
+
+Exit status: 0 done, 1 a fault (one line on standard error) or a text as this one,
+2 some edge was refused, 3 the limit of edges was reached, or `--until` did not come to its event (so
+mind `set -e` in a script).";
+
+const REPLAY: &str =
+    "Writes the verdict on each edge of a trace, and how many were accepted and refused";
+
+const REPLAY_USAGE: &str = "vmebus replay <SCENARIO> <TRACE>";
+
+const REPLAY_EXAMPLE: &str = "Each edge has a line with its number and its verdict, as `5 E3 G13`:
+  ok      accepted; `ok irq ..` says which status byte it delivers
+  E1      no such driver on this backplane
+  E2      the driver is in that state already
+  E3 Gk   the guard of rule Gk does not hold
+  E4 Sk   settling rule Sk does not hold
+  E5      the trace is full
+The rules G1 to G26 and S1 to S4 stand in docs/RULES.md. A refused edge changes nothing, and the
+replay goes on after it. `vmebus explain` tells why an edge is refused, `vmebus show` draws edges,
+and `vmebus summary` counts them. The exit status is 2 where an edge was refused.
+
+Example:
+  vmebus replay board.toml tenure.vme";
+
+const CHECK: &str =
+    "Writes whether every edge of a trace is allowed, or which is the first that is not";
+
+const CHECK_USAGE: &str = "vmebus check <SCENARIO> <TRACE>";
+
+const CHECK_EXAMPLE: &str =
+    "It writes `legal N`, with the number of edges, or `illegal N VERDICT` at the first refused edge, and
+reads no further. `vmebus replay --help` tells the verdicts, docs/RULES.md the rules that they name,
+and `vmebus explain` why that edge is refused. The exit status is 2 where an edge was refused.
+
+Example:
+  vmebus check board.toml tenure.vme";
+
+const EXPLAIN: &str = "Tells why an edge of a trace is accepted or refused";
+
+const EXPLAIN_USAGE: &str = "vmebus explain <SCENARIO> <TRACE> [--edge <N>]";
+
+const EXPLAIN_EXAMPLE: &str =
+    "It writes the number of the edge, the edge and its verdict, and then each condition that was tested
+of it: `holds ..` or `fails ..`, and under it the wires that it speaks of, since which edge they are
+so. N counts refused edges too. Without --edge it tells the first edge that is refused, or `legal N`
+where none is. It reads no further than that edge. The exit status is 0 where the edge is accepted,
+2 where it is refused, and 1 at a fault. docs/FORMATS.md has each line, and docs/RULES.md the rules.
+
+Example:
+  vmebus explain board.toml tenure.vme --edge 8";
+
+const STATE: &str = "Tells where the bus stands after a trace, or after its first edges";
+
+const STATE_USAGE: &str = "vmebus state <SCENARIO> <TRACE> [--after <N>]";
+
+const STATE_EXAMPLE: &str =
+    "It writes who holds the bus, where a grant stands, what the address lines show, who asks for the
+bus, which interrupts are pending, the wires that each driver holds low, and all edges that would be
+accepted next. `since N` is the number of an edge in the trace. With --after it reads no further
+than the N-th edge; N counts refused edges too, and 0 is power-up. The exit status is 0, or 1 at a
+fault. docs/FORMATS.md has each line.
+
+Example:
+  vmebus state board.toml tenure.vme --after 4";
+
+const SHOW: &str =
+    "Draws a timing picture of a trace, a row for each wire and a column for each edge";
+
+const SHOW_USAGE: &str = "vmebus show <SCENARIO> <TRACE> [--from <A>] [--to <B>] [--color]";
+
+const SHOW_EXAMPLE: &str =
+    "Each wire that an edge of A to B moves, or tries to move, has a row, as `2 bbsy  --\\__x_/-`:
+  \\ /     an accepted fall, an accepted rise
+  x       a refused edge of this wire
+  _ -     another edge, while the wire is low, while it is high
+Four rows under them tell how it is after each edge: `grant at` is the slot at which a grant waits,
+`holder` the slot that drives BBSY* low, `shown` the target of an access or the level of an
+acknowledge, and `verdict` is `x` refused, `!` a status byte delivered, or `.` accepted. A slot is a
+letter, `a` for 1 to `u` for 21. It reads no further than edge B. The exit status is 2 where one of
+the edges 1 to B is refused, 0 where none is, and 1 at a fault. docs/FORMATS.md has each line.
+
+Example:
+  vmebus show board.toml tenure.vme --from 1 --to 8";
+
+const SUMMARY: &str = "Counts what traces exercised, who waited for the bus and who held it";
+
+const SUMMARY_USAGE: &str = "vmebus summary <SCENARIO> <TRACE>...";
+
+const SUMMARY_EXAMPLE: &str =
+    "It writes how many edges were accepted and refused, in all and by each rule, by which rules none was
+accepted, and which events came, how often, and which never did. For each board it writes how often
+it asked for the bus, how many edges it waited for it and held it, and how often it answered.
+`first N` and `since N` are numbers of edges in the trace; N counts refused edges too. The exit
+status is 2 where an edge was refused, 0 where none was, and 1 at a fault, where nothing is written.
+
+Of several traces, each of which begins at power-up, it writes the sums, and of the longest waits and
+holds the greatest. Then no edge is told by its number.
+docs/FORMATS.md has each line.
+
+Examples:
+  vmebus summary board.toml tenure.vme
+  vmebus summary board.toml drawn-1.vme drawn-2.vme drawn-3.vme";
+
+const DRIVE: &str =
+    "Writes a trace that the drivers of a scenario make in turn, or one that is drawn by lot";
+
+const DRIVE_USAGE: &str =
+    "vmebus drive <SCENARIO> --edges <N> [--seed <S> [--until <EVENT>]] [--version <V>]
+       vmebus drive <SCENARIO> --edges <N> --seeds <S..T> --until <EVENT> [--progress] [--version <V>]";
+
+const DRIVE_EXAMPLE: &str =
+    "In each round the controller and then each board makes one of the edges that are open to it. It ends
+with the given number of edges, and then the exit status is 3, or after a round in which nobody
+could make one, and then it is 0.
+
+With --seed there are no rounds: each edge is drawn by lot from all edges that would be accepted, of
+all drivers. A seed always draws the same trace. The exit status is 3 after the given number of
+edges, and 0 where nobody could make a further one.
+
+With --until the trace ends as soon as EVENT comes, and the exit status is 0 where it came, else 3.
+EVENT is a situation that an accepted edge brings about,
+  grant-passed late-request overtaken early-release overlap full-burst bus-clear rivals delivery
+  iack-passed answered-again spurious bus-error, and in version 2 withdrawn grant-timeout
+or what alone refuses an edge, which is then the last of the trace: a rule and one of its conditions
+as `vmebus explain` writes it, with N for a level, or a settling rule, as S2. docs/FORMATS.md tells
+what each event is, and has all conditions; six of them never refuse an edge alone, and are no EVENT.
+
+With --seeds it tries the seeds S to T in order. The first with which EVENT comes within the given
+number of edges is told on standard error as `seed S`, its trace is written, and the exit status is
+0. Where it comes with none, `no seed` is told, nothing is written, and the exit status is 3. With
+--progress it tells on standard error which seed it tries, as `trying seed S`, once a second at most,
+and of a long one how many edges it has drawn.
+
+Examples:
+  vmebus drive board.toml --edges 1000 > tenure.vme
+  vmebus drive board.toml --edges 1000 --seed 7 > drawn.vme
+  vmebus drive board.toml --edges 1000 --seed 7 --until \"G13 own br is low\" > refused.vme
+  vmebus drive board.toml --edges 60 --seeds 0..1000 --until bus-error > error.vme";
+
+const RUN: &str = "Writes a trace that the drivers of a scenario make at once, a thread for each";
+
+const RUN_USAGE: &str = "vmebus run <SCENARIO> --edges <N> --turns <T> [--version <V>]";
+
+const RUN_EXAMPLE: &str =
+    "Each driver gets the given number of turns, and in a turn it tries one of the edges that are open to
+it. The exit status is 3 where as many edges were made as were asked for, and 0 where all turns were
+spent before: then the run is done, too.
+Two runs may differ; what each writes is legal.
+
+Example:
+  vmebus run board.toml --edges 1000 --turns 100000 > tenure.vme";
+
+/// An argument that is a file's name, and is required.
+fn file<'a>(alloc: Global, name: &'a str, help: &'a str) -> Arg<'a>
+    ensures { rule_of result ≡ said.file name.entry.now }
+{
+    Arg::new(alloc, name)
+        .required(true)
+        .action(ArgAction::Set)
+        .help(help)
+}
+
+fn scenario_file<'a>(alloc: Global) -> Arg<'a>
+    ensures { rule_of result ≡ said.file (codes "SCENARIO") }
+{
+    file(alloc, "SCENARIO", "The boards, a TOML file")
+}
+
+fn trace_file<'a>(alloc: Global) -> Arg<'a>
+    ensures { rule_of result ≡ said.file (codes "TRACE") }
+{
+    file(alloc, "TRACE", "The edges, one a line")
+}
+
+/// The argument for the files of traces, of which at least one is required.
+fn trace_files<'a>(alloc: Global) -> Arg<'a>
+    ensures { rule_of result ≡ said.files (codes "TRACE") }
+{
+    trace_file(alloc).action(ArgAction::Append).num_args(1..)
+}
+
+/// A parser of a number from 1 to `most`.
+fn number<'a>(most: u32) -> ValueParser<'a>
+    ensures { result ≡ ValueParser.Signed (pos 1) (pos most) }
+{
+    value_parser!(u32).range(1..=i64::from(most))
+}
+
+/// An option whose value is a number from 1 to `most`.
+fn option<'a>(alloc: Global, name: &'a str, value: &'a str, most: u32, help: &'a str) -> Arg<'a>
+    ensures { rule_of result ≡ said.option name.entry.now most }
+{
+    Arg::new(alloc, name)
+        .long(name)
+        .value_name(value)
+        .action(ArgAction::Set)
+        .value_parser(number(most))
+        .help(help)
+}
+
+fn edges_option<'a>(alloc: Global) -> Arg<'a>
+    ensures { rule_of result ≡ said.edges }
+{
+    let help = "The most edges to make, 1 to 1048576";
+    option(alloc, "edges", "N", MOST_EDGES, help).required(true)
+}
+
+fn turns_option<'a>(alloc: Global) -> Arg<'a>
+    ensures { rule_of result ≡ said.turns }
+{
+    let help = "The turns of each driver, 1 to 1000000";
+    option(alloc, "turns", "T", MOST_TURNS, help).required(true)
+}
+
+fn version_option<'a>(alloc: Global) -> Arg<'a>
+    ensures { rule_of result ≡ said.version }
+{
+    let help = "The version of the rules, 1 or 2";
+    option(alloc, "version", "V", 2, help).default_value("1")
+}
+
+/// A parser of a whole number of 64 bits, `least` or more.
+fn whole_number<'a>(least: u64) -> ValueParser<'a>
+    ensures { result ≡ ValueParser.Unsigned least (2 ^ 64 - 1) }
+{
+    ValueParser::unsigned(least, u64::MAX)
+}
+
+/// An option whose value is a whole number of 64 bits, `least` or more.
+fn whole_option<'a>(
+    alloc: Global,
+    name: &'a str,
+    value: &'a str,
+    least: u64,
+    help: &'a str,
+) -> Arg<'a>
+    ensures { rule_of result ≡ said.whole name.entry.now least }
+{
+    Arg::new(alloc, name)
+        .long(name)
+        .value_name(value)
+        .action(ArgAction::Set)
+        .value_parser(whole_number(least))
+        .help(help)
+}
+
+fn edge_option<'a>(alloc: Global) -> Arg<'a>
+    ensures { rule_of result ≡ said.edge }
+{
+    let help = "Which edge, 1 the first [default: the first that is refused]";
+    whole_option(alloc, "edge", "N", 1, help)
+}
+
+fn after_option<'a>(alloc: Global) -> Arg<'a>
+    ensures { rule_of result ≡ said.after }
+{
+    let help = "After how many edges [default: after all]";
+    whole_option(alloc, "after", "N", 0, help)
+}
+
+fn from_option<'a>(alloc: Global) -> Arg<'a>
+    ensures { rule_of result ≡ said.from }
+{
+    let help = "The first edge that is drawn [default: 1; with --to alone B - 59, at least 1]";
+    whole_option(alloc, "from", "A", 1, help)
+}
+
+fn to_option<'a>(alloc: Global) -> Arg<'a>
+    ensures { rule_of result ≡ said.to }
+{
+    let help = "The last edge that is drawn, A to A + 199 [default: A + 59]";
+    whole_option(alloc, "to", "B", 1, help)
+}
+
+fn seed_option<'a>(alloc: Global) -> Arg<'a>
+    ensures { rule_of result ≡ said.seed }
+{
+    let help = "Draws the edges by lot from this seed, 0 to 18446744073709551615";
+    whole_option(alloc, "seed", "S", 0, help)
+}
+
+fn until_option<'a>(alloc: Global) -> Arg<'a>
+    ensures { rule_of result ≡ said.until }
+{
+    Arg::new(alloc, "until")
+        .long("until")
+        .value_name("EVENT")
+        .action(ArgAction::Set)
+        .help("Ends with the first edge that brings this about; needs --seed or --seeds")
+}
+
+fn seeds_option<'a>(alloc: Global) -> Arg<'a>
+    ensures { rule_of result ≡ said.seeds }
+{
+    Arg::new(alloc, "seeds")
+        .long("seeds")
+        .value_name("S..T")
+        .action(ArgAction::Set)
+        .help("Tries these seeds in order until one comes to EVENT; needs --until")
+}
+
+/// An option without a value.
+fn flag<'a>(alloc: Global, name: &'a str, help: &'a str) -> Arg<'a>
+    ensures { rule_of result ≡ said.flag name.entry.now }
+{
+    Arg::new(alloc, name)
+        .long(name)
+        .action(ArgAction::SetTrue)
+        .help(help)
+}
+
+fn color_option<'a>(alloc: Global) -> Arg<'a>
+    ensures { rule_of result ≡ said.color }
+{
+    let help = "Paints each `x` red and each `!` green, for a terminal";
+    flag(alloc, "color", help)
+}
+
+fn progress_option<'a>(alloc: Global) -> Arg<'a>
+    ensures { rule_of result ≡ said.progress }
+{
+    let help = "Tells on standard error which seed it tries, once a second at most; needs --seeds";
+    flag(alloc, "progress", help)
+}
+
+/// A command that takes a scenario.
+fn command<'a>(
+    alloc: Global,
+    name: &'a str,
+    about: &'a str,
+    usage: &'a str,
+    example: &'a str,
+) -> Result<Command<'a>, AllocError>
+    ensures { IfOk result (λ c. app_of c ≡ said.leaf name.entry.now []) }
+{
+    Command::new(alloc, name)
+        .about(about)
+        .override_usage(usage)
+        .after_help(example)
+        .arg(scenario_file(alloc))
+}
+
+/// The command with one more argument, or the error of the command.
+fn taking<'a>(
+    command: Result<Command<'a>, AllocError>,
+    word: Arg<'a>,
+) -> Result<Command<'a>, AllocError>
+    ensures { IfOk result (λ c. (a : App) (r : Rule)
+        → IfOk command.entry (λ before. app_of before ≡ a)
+        → rule_of word.entry ≡ r → r.is_simple ≡ true → app_of c ≡ with_rule a r) }
+{
+    command?.arg(word)
+}
+
+/// A command that takes a scenario and a trace.
+fn command_on_trace<'a>(
+    alloc: Global,
+    name: &'a str,
+    about: &'a str,
+    usage: &'a str,
+    example: &'a str,
+) -> Result<Command<'a>, AllocError>
+    ensures { IfOk result (λ c.
+        app_of c ≡ said.leaf name.entry.now (said.file (codes "TRACE") ∷ [])) }
+{
+    taking(
+        command(alloc, name, about, usage, example),
+        trace_file(alloc),
+    )
+}
+
+fn replay<'a>(alloc: Global) -> Result<Command<'a>, AllocError>
+    ensures { IfOk result (λ c. shape_of c ≡ said.replay) }
+{
+    command_on_trace(alloc, "replay", REPLAY, REPLAY_USAGE, REPLAY_EXAMPLE)
+}
+
+fn check<'a>(alloc: Global) -> Result<Command<'a>, AllocError>
+    ensures { IfOk result (λ c. shape_of c ≡ said.check) }
+{
+    command_on_trace(alloc, "check", CHECK, CHECK_USAGE, CHECK_EXAMPLE)
+}
+
+fn explain<'a>(alloc: Global) -> Result<Command<'a>, AllocError>
+    ensures { IfOk result (λ c. shape_of c ≡ said.explain) }
+{
+    let command = command_on_trace(alloc, "explain", EXPLAIN, EXPLAIN_USAGE, EXPLAIN_EXAMPLE);
+    taking(command, edge_option(alloc))
+}
+
+fn state<'a>(alloc: Global) -> Result<Command<'a>, AllocError>
+    ensures { IfOk result (λ c. shape_of c ≡ said.state) }
+{
+    let command = command_on_trace(alloc, "state", STATE, STATE_USAGE, STATE_EXAMPLE);
+    taking(command, after_option(alloc))
+}
+
+/// The command `show`.
+pub(crate) fn show<'a>(alloc: Global) -> Result<Command<'a>, AllocError>
+    ensures { IfOk result (λ c. shape_of c ≡ said.show) }
+{
+    let command = command_on_trace(alloc, "show", SHOW, SHOW_USAGE, SHOW_EXAMPLE);
+    let command = taking(command, from_option(alloc));
+    let command = taking(command, to_option(alloc));
+    taking(command, color_option(alloc))
+}
+
+fn summary<'a>(alloc: Global) -> Result<Command<'a>, AllocError>
+    ensures { IfOk result (λ c. shape_of c ≡ said.summary) }
+{
+    let command = command(alloc, "summary", SUMMARY, SUMMARY_USAGE, SUMMARY_EXAMPLE);
+    taking(command, trace_files(alloc))
+}
+
+/// The command `drive`.
+pub(crate) fn drive<'a>(alloc: Global) -> Result<Command<'a>, AllocError>
+    ensures { IfOk result (λ c. shape_of c ≡ said.drive) }
+{
+    let command = command(alloc, "drive", DRIVE, DRIVE_USAGE, DRIVE_EXAMPLE);
+    let command = taking(command, edges_option(alloc));
+    let command = taking(command, seed_option(alloc));
+    let command = taking(command, seeds_option(alloc));
+    let command = taking(command, until_option(alloc));
+    let command = taking(command, progress_option(alloc));
+    taking(command, version_option(alloc))
+}
+
+fn run<'a>(alloc: Global) -> Result<Command<'a>, AllocError>
+    ensures { IfOk result (λ c. shape_of c ≡ said.run) }
+{
+    let command = command(alloc, "run", RUN, RUN_USAGE, RUN_EXAMPLE);
+    let command = taking(command, edges_option(alloc));
+    let command = taking(command, turns_option(alloc));
+    taking(command, version_option(alloc))
+}
+
+/// The program without its commands.
+fn program<'a>(alloc: Global) -> Result<Command<'a>, AllocError>
+    ensures { IfOk result (λ c.
+        app_of c ≡ on_top (λ s. record s { no_binary_name = true; has_version = true })
+        (new_app (codes "vmebus"))) }
+{
+    Command::new(alloc, "vmebus")
+        .no_binary_name(true)
+        .version(VERSION)
+        .about(ABOUT)
+        .after_help(OVERVIEW)
+        .bin_name("vmebus")
+}
+
+/// The program with one more command, or the first error of the two.
+fn offering<'a>(
+    program: Result<Command<'a>, AllocError>,
+    command: Result<Command<'a>, AllocError>,
+) -> Result<Command<'a>, AllocError>
+    ensures { IfOk result (λ c. (a : App) (s : Shape)
+        → IfOk program.entry (λ before. app_of before ≡ a)
+        → IfOk command.entry (λ sub. shape_of sub ≡ s)
+        → s.is_plain ≡ true → app_of c ≡ with_subcommand a s) }
+{
+    program?.subcommand(command?)
+}
+
+/// The program's command line.
+pub(crate) fn commands<'a>(alloc: Global) -> Result<Command<'a>, AllocError>
+    ensures { IfOk result (λ c. app_of c ≡ said.commands) }
+{
+    let program = offering(program(alloc), replay(alloc));
+    let program = offering(program, check(alloc));
+    let program = offering(program, explain(alloc));
+    let program = offering(program, state(alloc));
+    let program = offering(program, show(alloc));
+    let program = offering(program, summary(alloc));
+    let program = offering(program, drive(alloc));
+    offering(program, run(alloc))
+}

@@ -1,0 +1,672 @@
+//! The words after the name of the program `vmebus`, and the job for which they ask.
+//! docs/COMMANDS.md describes the command line.
+#![tactic(auto)]
+
+ghost use Rattle.std.specs.Prelude.{◌≡◌, ◌≢◌, ◌≤◌, ◌↔◌, ◌⊎◌, ℕ, [], ◌∷◌, IfErr, IfOk, IfSome, IsSomeAnd, MatchOption, Err, Ok, Some, codes, false, length, option_map, true};
+ghost use Rattle.clap.specs.Words.{FailsBy, IsAmong, all_of, fault_of, first_of as first_text, found_of, kind_of, rows_of, subcommand_of, subcommand_rows_of};
+ghost use Rattle.vme_command_line.specs.Asked.{AreSeeds, Ask, AskForNoJob, AsksFor, IsAim, IsFile, IsFlag, IsSeed, NamesNoSeeds, first_shown, last_shown, spelled, texts_of, version_number};
+ghost use Rattle.vme_command_line.specs.Commands.{commands as commands_said};
+ghost use Rattle.vme_command_line.specs.Limits.{IsWithin};
+ghost use Rattle.vme_command_line.specs.Unfits.{IsUnfit};
+
+mod alone;
+mod commands;
+
+use alone::aim_named;
+use clap::error::ErrorKind;
+use clap::{ArgMatches, Error};
+use commands::{commands, drive, show};
+use std::alloc::{AllocError, Global};
+use vme_goals::{Goal, goal_of};
+use vme_model::{TRACE_LIMIT, Version};
+
+/// The program's name and its version, as the line that `--version` prints. The version stands only
+/// here.
+pub const VERSION: &str = "vmebus 1.0.0\n";
+
+/// The most edges that `drive` and `run` make. Source: profile (E5).
+pub const MOST_EDGES: u32 = TRACE_LIMIT;
+
+/// The most turns of each driver of a run.
+pub const MOST_TURNS: u32 = 1_000_000;
+
+/// The most edges that a picture shows.
+pub const MOST_SHOWN: u64 = 200;
+
+/// How many edges a picture shows if its first and last edge are not both given.
+const SHOWN: u64 = 60;
+
+/// What the program is to do. Files have the names that the user gave. docs/COMMANDS.md describes
+/// each command.
+#[derive(PartialEq, Eq, Debug, Drop)]
+pub enum Job<'a> {
+    /// Replay standard input: a scenario, and a trace after it.
+    Joined,
+    /// Print the program's own version, [`VERSION`].
+    OwnVersion,
+    /// Replay a trace.
+    Replay {
+        /// The file of the scenario.
+        scenario: &'a str,
+        /// The file of the trace.
+        trace: &'a str,
+    },
+    /// Check a trace.
+    Check {
+        /// The file of the scenario.
+        scenario: &'a str,
+        /// The file of the trace.
+        trace: &'a str,
+    },
+    /// Explain why an edge of a trace has its verdict.
+    Explain {
+        /// The file of the scenario.
+        scenario: &'a str,
+        /// The file of the trace.
+        trace: &'a str,
+        /// The edge, counted from 1. If it is not given, it is the first edge that is refused.
+        edge: Option<u64>,
+    },
+    /// Report where the bus stands in a trace.
+    State {
+        /// The file of the scenario.
+        scenario: &'a str,
+        /// The file of the trace.
+        trace: &'a str,
+        /// After how many edges; after all of them if it is not given.
+        after: Option<u64>,
+    },
+    /// Draw a picture of some edges of a trace.
+    Show {
+        /// The file of the scenario.
+        scenario: &'a str,
+        /// The file of the trace.
+        trace: &'a str,
+        /// The first edge of the picture, counted from 1.
+        from: u64,
+        /// The last edge of the picture: not before the first one, and less than [`MOST_SHOWN`]
+        /// after it.
+        to: u64,
+        /// Whether refused edges and deliveries are coloured.
+        color: bool,
+    },
+    /// Count what a trace exercised.
+    Summary {
+        /// The file of the scenario.
+        scenario: &'a str,
+        /// The file of the trace.
+        trace: &'a str,
+    },
+    /// Add up what several traces exercised.
+    Sums {
+        /// The file of the scenario.
+        scenario: &'a str,
+        /// The files of the traces, two or more.
+        traces: Vec<&'a str>,
+    },
+    /// Let the drivers make edges in turn.
+    Drive {
+        /// The file of the scenario.
+        scenario: &'a str,
+        /// The most edges to make, 1 to [`MOST_EDGES`].
+        edges: u32,
+        /// The version of the rules.
+        version: Version,
+    },
+    /// Draw edges at random from all that are open to the drivers.
+    Draw {
+        /// The file of the scenario.
+        scenario: &'a str,
+        /// The most edges to make, 1 to [`MOST_EDGES`].
+        edges: u32,
+        /// The seed by which the edges are drawn.
+        seed: u64,
+        /// The goal with which the trace is to end, if there is one.
+        until: Option<Goal>,
+        /// The version of the rules.
+        version: Version,
+    },
+    /// Draw edges by one seed after another, until the trace of one ends with the goal.
+    Search {
+        /// The file of the scenario.
+        scenario: &'a str,
+        /// The most edges of a trace, 1 to [`MOST_EDGES`].
+        edges: u32,
+        /// The seed that is tried first.
+        first: u64,
+        /// The seed that is tried last, not below the first.
+        last: u64,
+        /// The goal with which the trace is to end.
+        goal: Goal,
+        /// The version of the rules.
+        version: Version,
+        /// Whether the seeds are reported while they are tried.
+        progress: bool,
+    },
+    /// Let each driver make edges in a thread of its own.
+    Run {
+        /// The file of the scenario.
+        scenario: &'a str,
+        /// The most edges to make, 1 to [`MOST_EDGES`].
+        edges: u32,
+        /// The turns of each driver, 1 to [`MOST_TURNS`].
+        turns: u32,
+        /// The version of the rules.
+        version: Version,
+    },
+}
+
+/// Why words that the command line accepts ask for no job.
+#[derive(Clone, Copy, PartialEq, Eq, Debug)]
+enum Unfit<'a> {
+    /// They name no command, or a command without one of its required operands.
+    Missing,
+    /// There is no memory for the names of the files.
+    NoMemory,
+    /// No picture goes from the one edge to the other.
+    Window { from: u64, to: u64 },
+    /// No trace can end with the goal of this name: another condition always fails together with
+    /// it.
+    Beside { named: &'a str },
+    /// The version of the rules has no goal of this name.
+    Event { named: &'a str, version: Version },
+    /// There is a goal, but no seed.
+    Seedless,
+    /// There are seeds to try, but no goal.
+    Aimless,
+    /// There are both a seed and seeds to try.
+    Seeded,
+    /// The text does not name seeds to try.
+    Seeds { named: &'a str },
+    /// Progress is to be reported, but there are no seeds to try.
+    Idle,
+}
+
+/// The text of the operand of that name, if it is given.
+fn text_of<'a>(operands: &ArgMatches<'a>, name: &str) -> Option<&'a str>
+    ensures { option_map (λ text. text.now) result
+        ≡ first_text name.now (rows_of (found_of operands.now)) }
+{
+    operands.get_str(name)
+}
+
+/// The file that the operand of that name names.
+fn file_of<'a>(operands: &ArgMatches<'a>, name: &str) -> Result<&'a str, Unfit<'a>>
+    ensures file { IfOk result (λ file.
+        IsFile name.now (rows_of (found_of operands.now)) file.now) }
+    ensures missing { IfErr result (λ unfit. unfit ≡ Unfit.Missing) }
+{
+    match text_of(operands, name) {
+        Some(file) => Ok(file),
+        None => Err(Unfit::Missing),
+    }
+}
+
+/// The files that are given for the operand of that name; none if it is not given.
+fn files_of<'m, 'a>(operands: &'m ArgMatches<'a>, name: &str) -> Option<&'m [&'a str]>
+    ensures { option_map (λ files. texts_of files.now) result
+        ≡ all_of name.now (rows_of (found_of operands.now)) }
+{
+    operands.get_strs(name)
+}
+
+/// The number that the option of that name spells, if it is 1 to `most`.
+fn number_of<'a>(operands: &ArgMatches<'a>, name: &str, most: u32) -> Result<u32, Unfit<'a>>
+    ensures within { IfOk result (λ n. (1 ≤ n) × (n ≤ most)) }
+    ensures spelled { IfOk result (λ n.
+        spelled name.now (rows_of (found_of operands.now)) ≡ Some n) }
+    ensures missing { IfErr result (λ unfit. unfit ≡ Unfit.Missing) }
+{
+    match operands.get_one::<u32>(name) {
+        Some(number) if 1 <= number && number <= most => Ok(number),
+        _ => Err(Unfit::Missing),
+    }
+}
+
+/// The whole number of 64 bits that the option of that name spells, if it is `least` or more; none
+/// if the option is not given.
+fn whole_of<'a>(operands: &ArgMatches<'a>, name: &str, least: u64) -> Result<Option<u64>, Unfit<'a>>
+    ensures within { IfOk result (λ whole. IfSome whole (λ n. least ≤ n)) }
+    ensures spelled { IfOk result (λ whole.
+        spelled name.now (rows_of (found_of operands.now)) ≡ whole) }
+    ensures missing { IfErr result (λ unfit. unfit ≡ Unfit.Missing) }
+{
+    match operands.try_get_one::<u64>(name) {
+        Ok(None) => Ok(None),
+        Ok(Some(n)) if least <= n => Ok(Some(n)),
+        _ => Err(Unfit::Missing),
+    }
+}
+
+/// The version of the rules that `--version` spells, if there is one of that number.
+fn version_of<'a>(operands: &ArgMatches<'a>) -> Result<Version, Unfit<'a>>
+    ensures spelled { IfOk result (λ version.
+        spelled (codes "version") (rows_of (found_of operands.now))
+        ≡ Some (version_number version)) }
+    ensures missing { IfErr result (λ unfit. unfit ≡ Unfit.Missing) }
+{
+    match number_of(operands, "version", 2)? {
+        1 => Ok(Version::One),
+        _ => Ok(Version::Two),
+    }
+}
+
+/// The goal that `--until` names, among all that a trace can reach in that version of the rules;
+/// none if the option is not given.
+fn aim_of<'a>(operands: &ArgMatches<'a>, version: Version) -> Result<Option<Goal>, Unfit<'a>>
+    ensures aim { IfOk result (IsAim (rows_of (found_of operands.now)) version) }
+    ensures unfit { spelled (codes "version") (rows_of (found_of operands.now))
+        ≡ Some (version_number version)
+        → IfErr result (IsUnfit (codes "drive") (rows_of (found_of operands.now))) }
+{
+    match text_of(operands, "until") {
+        None => Ok(None),
+        Some(named) => match aim_named(named, version) {
+            Some(goal) => Ok(Some(goal)),
+            None if goal_of(named, version).is_some() => Err(Unfit::Beside { named }),
+            None => Err(Unfit::Event { named, version }),
+        },
+    }
+}
+
+/// A summary of one trace of the scenario, or the sums over several traces.
+fn summary_of<'a>(
+    alloc: Global,
+    scenario: &'a str,
+    operands: &ArgMatches<'a>,
+) -> Result<Job<'a>, Unfit<'a>>
+    ensures within { IfOk result IsWithin }
+    ensures asked { IsFile (codes "SCENARIO") (rows_of (found_of operands.now)) scenario.now
+        → IfOk result (AsksFor (codes "summary") (rows_of (found_of operands.now))) }
+    ensures unfit { IfErr result (IsUnfit (codes "summary") (rows_of (found_of operands.now))) }
+{
+    match files_of(operands, "TRACE") {
+        None | Some([]) => Err(Unfit::Missing),
+        Some([trace]) => Ok(Job::Summary { scenario, trace }),
+        Some(traces) => match traces.to_vec(alloc) {
+            Ok(traces) => Ok(Job::Sums { scenario, traces }),
+            Err(_) => Err(Unfit::NoMemory),
+        },
+    }
+}
+
+/// An explanation on the scenario, with its other operands.
+fn explain_of<'a>(scenario: &'a str, operands: &ArgMatches<'a>) -> Result<Job<'a>, Unfit<'a>>
+    ensures within { IfOk result IsWithin }
+    ensures asked { IsFile (codes "SCENARIO") (rows_of (found_of operands.now)) scenario.now
+        → IfOk result (AsksFor (codes "explain") (rows_of (found_of operands.now))) }
+    ensures unfit { IfErr result (IsUnfit (codes "explain") (rows_of (found_of operands.now))) }
+{
+    Ok(Job::Explain {
+        scenario,
+        trace: file_of(operands, "TRACE")?,
+        edge: whole_of(operands, "edge", 1)?,
+    })
+}
+
+/// The state of the scenario's bus, with its other operands.
+fn state_of<'a>(scenario: &'a str, operands: &ArgMatches<'a>) -> Result<Job<'a>, Unfit<'a>>
+    ensures within { IfOk result IsWithin }
+    ensures asked { IsFile (codes "SCENARIO") (rows_of (found_of operands.now)) scenario.now
+        → IfOk result (AsksFor (codes "state") (rows_of (found_of operands.now))) }
+    ensures unfit { IfErr result (IsUnfit (codes "state") (rows_of (found_of operands.now))) }
+{
+    Ok(Job::State {
+        scenario,
+        trace: file_of(operands, "TRACE")?,
+        after: whole_of(operands, "after", 0)?,
+    })
+}
+
+/// Whether the flag of that name is given.
+fn is_flagged(operands: &ArgMatches<'_>, name: &str) -> bool
+    ensures { IsFlag name.now (rows_of (found_of operands.now)) result }
+{
+    operands.get_one(name).unwrap_or(false)
+}
+
+/// The first edge of a picture, given `--from` and `--to`.
+fn first_of(from: Option<u64>, to: Option<u64>) -> u64
+    requires { IfSome from (λ n. 1 ≤ n) }
+    ensures counted { 1 ≤ result }
+    ensures shown { result ≡ first_shown from to }
+{
+    match (from, to) {
+        (Some(from), _) => from,
+        (None, Some(to)) => to.saturating_sub(SHOWN - 1).max(1),
+        (None, None) => 1,
+    }
+}
+
+/// The last edge of a picture, given `--to` and the first edge.
+fn last_of(to: Option<u64>, first: u64) -> u64
+    ensures { result ≡ last_shown to first }
+{
+    to.unwrap_or(first.saturating_add(SHOWN - 1))
+}
+
+/// A picture of the scenario's trace, with its other operands.
+fn show_of<'a>(scenario: &'a str, operands: &ArgMatches<'a>) -> Result<Job<'a>, Unfit<'a>>
+    ensures within { IfOk result IsWithin }
+    ensures asked { IsFile (codes "SCENARIO") (rows_of (found_of operands.now)) scenario.now
+        → IfOk result (AsksFor (codes "show") (rows_of (found_of operands.now))) }
+    ensures unfit { IfErr result (IsUnfit (codes "show") (rows_of (found_of operands.now))) }
+{
+    let trace = file_of(operands, "TRACE")?;
+    let to = whole_of(operands, "to", 1)?;
+    let from = first_of(whole_of(operands, "from", 1)?, to);
+    let to = last_of(to, from);
+    if to < from || to - from >= MOST_SHOWN {
+        return Err(Unfit::Window { from, to });
+    }
+    Ok(Job::Show {
+        scenario,
+        trace,
+        from,
+        to,
+        color: is_flagged(operands, "color"),
+    })
+}
+
+/// The seed that a text spells.
+fn seed_in(text: &str) -> Option<u64>
+    ensures { MatchOption result ((n : ℕ) → ¬ (IsSeed text.now n)) (λ n. IsSeed text.now n) }
+{
+    text.parse().ok()
+}
+
+/// The first and the last of the seeds that a text such as `0..9` names.
+fn seeds_in(text: &str) -> Option<(u64, u64)>
+    ensures { MatchOption result (NamesNoSeeds text.now)
+        (λ seeds. AreSeeds text.now seeds.0 seeds.1) }
+{
+    let (first, last) = text.split_once("..")?;
+    let (first, last) = (seed_in(first)?, seed_in(last)?);
+    if first <= last {
+        Some((first, last))
+    } else {
+        None
+    }
+}
+
+/// The job, unless its progress is to be reported: that is possible only if several seeds are
+/// tried.
+fn untold(progress: bool, job: Job<'_>) -> Result<Job<'_>, Unfit<'_>>
+    ensures untold { progress ≡ false → result ≡ Ok job.entry }
+    ensures told { progress ≡ true → result ≡ Err Unfit.Idle }
+{
+    if progress { Err(Unfit::Idle) } else { Ok(job) }
+}
+
+/// A drive of the scenario, with its other operands: at random if there is a seed, and otherwise in
+/// turn.
+fn drive_of<'a>(scenario: &'a str, operands: &ArgMatches<'a>) -> Result<Job<'a>, Unfit<'a>>
+    ensures within { IfOk result IsWithin }
+    ensures asked { IsFile (codes "SCENARIO") (rows_of (found_of operands.now)) scenario.now
+        → IfOk result (AsksFor (codes "drive") (rows_of (found_of operands.now))) }
+    ensures unfit { IfErr result (IsUnfit (codes "drive") (rows_of (found_of operands.now))) }
+{
+    let edges = number_of(operands, "edges", MOST_EDGES)?;
+    let version = version_of(operands)?;
+    let until = aim_of(operands, version)?;
+    let seed = whole_of(operands, "seed", 0)?;
+    let progress = is_flagged(operands, "progress");
+    match (seed, text_of(operands, "seeds"), until) {
+        (Some(_), Some(_), _) => Err(Unfit::Seeded),
+        (None, Some(_), None) => Err(Unfit::Aimless),
+        (None, Some(named), Some(goal)) => match seeds_in(named) {
+            Some((first, last)) => Ok(Job::Search {
+                scenario,
+                edges,
+                first,
+                last,
+                goal,
+                version,
+                progress,
+            }),
+            None => Err(Unfit::Seeds { named }),
+        },
+        (None, None, Some(_)) => Err(Unfit::Seedless),
+        (Some(seed), None, until) => {
+            let job = Job::Draw {
+                scenario,
+                edges,
+                seed,
+                until,
+                version,
+            };
+            untold(progress, job)
+        }
+        (None, None, None) => {
+            let job = Job::Drive {
+                scenario,
+                edges,
+                version,
+            };
+            untold(progress, job)
+        }
+    }
+}
+
+/// A run of the scenario, with its other operands.
+fn run_of<'a>(scenario: &'a str, operands: &ArgMatches<'a>) -> Result<Job<'a>, Unfit<'a>>
+    ensures within { IfOk result IsWithin }
+    ensures asked { IsFile (codes "SCENARIO") (rows_of (found_of operands.now)) scenario.now
+        → IfOk result (AsksFor (codes "run") (rows_of (found_of operands.now))) }
+    ensures unfit { IfErr result (IsUnfit (codes "run") (rows_of (found_of operands.now))) }
+{
+    Ok(Job::Run {
+        scenario,
+        edges: number_of(operands, "edges", MOST_EDGES)?,
+        turns: number_of(operands, "turns", MOST_TURNS)?,
+        version: version_of(operands)?,
+    })
+}
+
+/// The job for a command's name, with its operands.
+fn job_of<'a>(alloc: Global, name: &str, operands: &ArgMatches<'a>) -> Result<Job<'a>, Unfit<'a>>
+    ensures within { IfOk result IsWithin }
+    ensures asked { IfOk result (AsksFor name.now (rows_of (found_of operands.now))) }
+    ensures unfit { IfErr result (IsUnfit name.now (rows_of (found_of operands.now))) }
+{
+    let scenario = file_of(operands, "SCENARIO")?;
+    match name {
+        "replay" => Ok(Job::Replay {
+            scenario,
+            trace: file_of(operands, "TRACE")?,
+        }),
+        "check" => Ok(Job::Check {
+            scenario,
+            trace: file_of(operands, "TRACE")?,
+        }),
+        "explain" => explain_of(scenario, operands),
+        "state" => state_of(scenario, operands),
+        "show" => show_of(scenario, operands),
+        "summary" => summary_of(alloc, scenario, operands),
+        "drive" => drive_of(scenario, operands),
+        "run" => run_of(scenario, operands),
+        _ => Err(Unfit::Missing),
+    }
+}
+
+/// The job for which the command of a parse asks.
+fn job_in<'a>(alloc: Global, matches: &ArgMatches<'a>) -> Result<Job<'a>, Unfit<'a>>
+    ensures within { IfOk result IsWithin }
+    ensures asked { IfOk result (λ job.
+        IsSomeAnd (subcommand_rows_of matches.now) (λ met. AsksFor met.0 met.1 job)) }
+    ensures unfit { IfErr result (λ unfit. unfit ≢ Unfit.Missing
+        → IsSomeAnd (subcommand_rows_of matches.now) (λ met. IsUnfit met.0 met.1 unfit)) }
+{
+    match matches.subcommand() {
+        Some((name, operands)) => job_of(alloc, name, operands),
+        None => Err(Unfit::Missing),
+    }
+}
+
+/// What the command line's parser makes of words.
+fn parsed<'a>(alloc: Global, words: &'a [&'a str]) -> Result<ArgMatches<'a>, Error>
+    ensures fault { FailsBy (fault_of commands_said (texts_of words.entry.now)) result }
+    ensures found { IfOk result (λ m.
+        subcommand_rows_of m ≡ subcommand_of commands_said (texts_of words.entry.now)) }
+{
+    commands(alloc)?.try_get_matches_from(words)
+}
+
+/// The job for which words ask, or why they ask for none.
+fn asked<'a>(alloc: Global, words: &'a [&'a str]) -> Result<Result<Job<'a>, Unfit<'a>>, Error>
+    ensures within { IfOk result (λ job. IfOk job IsWithin) }
+    ensures asked { IfOk result (λ job. IfOk job (λ found.
+        IsSomeAnd (subcommand_of commands_said (texts_of words.entry.now))
+        (λ met. AsksFor met.0 met.1 found))) }
+    ensures unfit { IfOk result (λ job. IfErr job (λ unfit. unfit ≢ Unfit.Missing
+        → IsSomeAnd (subcommand_of commands_said (texts_of words.entry.now))
+        (λ met. IsUnfit met.0 met.1 unfit))) }
+    ensures fault { FailsBy (fault_of commands_said (texts_of words.entry.now)) result }
+{
+    Ok(job_in(alloc, &parsed(alloc, words)?))
+}
+
+/// The usage error if no command is given.
+fn missing(alloc: Global) -> Result<Error, AllocError>
+    ensures { IfOk result (λ error. kind_of error ≡ ErrorKind.MissingSubcommand) }
+{
+    commands(alloc)?.error(ErrorKind::MissingSubcommand, "a command is missing")
+}
+
+/// The usage error if a picture cannot end with the edge that is given.
+fn no_window(alloc: Global, from: u64, to: u64) -> Result<Error, AllocError>
+    ensures { IfOk result (λ error. kind_of error ≡ ErrorKind.ValueValidation) }
+{
+    let most = from.saturating_add(MOST_SHOWN - 1);
+    let text = format!(in alloc;
+        "invalid value '{to}' for '--to <B>': {to} is not in {from}..={most}"
+    )?;
+    show(alloc)?.error(ErrorKind::ValueValidation, &text)
+}
+
+/// The usage error if the version of the rules has no goal of that name.
+fn no_event(alloc: Global, named: &str, version: Version) -> Result<Error, AllocError>
+    ensures { IfOk result (λ error. kind_of error ≡ ErrorKind.ValueValidation) }
+{
+    let number = if version.is_two() { 2 } else { 1 };
+    let text = format!(in alloc;
+        "invalid value '{named}' for '--until <EVENT>': version {number} has no such event"
+    )?;
+    drive(alloc)?.error(ErrorKind::ValueValidation, &text)
+}
+
+/// The usage error if the condition of that name never fails alone.
+fn no_miss(alloc: Global, named: &str) -> Result<Error, AllocError>
+    ensures { IfOk result (λ error. kind_of error ≡ ErrorKind.ValueValidation) }
+{
+    let text = format!(in alloc;
+        "invalid value '{named}' for '--until <EVENT>': wherever this condition fails, another \
+         one of the rule fails too, so that it never refuses an edge alone"
+    )?;
+    drive(alloc)?.error(ErrorKind::ValueValidation, &text)
+}
+
+/// The usage error if there is no seed.
+fn no_seed(alloc: Global) -> Result<Error, AllocError>
+    ensures { IfOk result (λ error. kind_of error ≡ ErrorKind.ValueValidation) }
+{
+    let text = "the option '--until <EVENT>' needs '--seed <S>' or '--seeds <S..T>'";
+    drive(alloc)?.error(ErrorKind::ValueValidation, text)
+}
+
+/// The usage error if there is no goal.
+fn no_aim(alloc: Global) -> Result<Error, AllocError>
+    ensures { IfOk result (λ error. kind_of error ≡ ErrorKind.ValueValidation) }
+{
+    let text = "the option '--seeds <S..T>' needs '--until <EVENT>'";
+    drive(alloc)?.error(ErrorKind::ValueValidation, text)
+}
+
+/// The usage error if there are both a seed and seeds to try.
+fn seeded(alloc: Global) -> Result<Error, AllocError>
+    ensures { IfOk result (λ error. kind_of error ≡ ErrorKind.ValueValidation) }
+{
+    let text = "the options '--seed <S>' and '--seeds <S..T>' exclude each other";
+    drive(alloc)?.error(ErrorKind::ValueValidation, text)
+}
+
+/// The usage error if a text does not name seeds to try.
+fn no_seeds(alloc: Global, named: &str) -> Result<Error, AllocError>
+    ensures { IfOk result (λ error. kind_of error ≡ ErrorKind.ValueValidation) }
+{
+    let text = format!(in alloc;
+        "invalid value '{named}' for '--seeds <S..T>': S and T are 0 to {}, and T is not below S",
+        u64::MAX
+    )?;
+    drive(alloc)?.error(ErrorKind::ValueValidation, &text)
+}
+
+/// The usage error if progress is to be reported and there are no seeds to try.
+fn no_progress(alloc: Global) -> Result<Error, AllocError>
+    ensures { IfOk result (λ error. kind_of error ≡ ErrorKind.ValueValidation) }
+{
+    let text = "the option '--progress' needs '--seeds <S..T>'";
+    drive(alloc)?.error(ErrorKind::ValueValidation, text)
+}
+
+/// The usage error that says why words ask for no job.
+fn error_of(alloc: Global, unfit: Unfit<'_>) -> Result<Error, AllocError>
+    ensures { IfOk result (λ error. (kind_of error ≡ ErrorKind.MissingSubcommand)
+        ⊎ ((kind_of error ≡ ErrorKind.ValueValidation)
+        × (unfit.entry ≢ Unfit.Missing) × (unfit.entry ≢ Unfit.NoMemory))) }
+{
+    match unfit {
+        Unfit::Missing => missing(alloc),
+        Unfit::NoMemory => Err(AllocError),
+        Unfit::Window { from, to } => no_window(alloc, from, to),
+        Unfit::Beside { named } => no_miss(alloc, named),
+        Unfit::Event { named, version } => no_event(alloc, named, version),
+        Unfit::Seedless => no_seed(alloc),
+        Unfit::Aimless => no_aim(alloc),
+        Unfit::Seeded => seeded(alloc),
+        Unfit::Seeds { named } => no_seeds(alloc, named),
+        Unfit::Idle => no_progress(alloc),
+    }
+}
+
+/// The job if the command line ended with this error. A request for the version is not an error.
+fn job_at<'a>(error: Error) -> Result<Job<'a>, Error>
+    ensures version { IfOk result (λ job.
+        (kind_of error ≡ ErrorKind.DisplayVersion) × (job ≡ Job.OwnVersion)) }
+    ensures other { IfErr result (λ told.
+        (kind_of error ≢ ErrorKind.DisplayVersion) × (told ≡ error)) }
+{
+    match error.kind() {
+        ErrorKind::DisplayVersion => Ok(Job::OwnVersion),
+        _ => Err(error),
+    }
+}
+
+/// The job for which the words after the program's name ask. docs/COMMANDS.md describes them.
+///
+/// If there are no words, it is [`Job::Joined`]. A request for the version is [`Job::OwnVersion`].
+///
+/// # Errors
+/// A usage error, or a request for help. Its `Display` is the text for the user.
+pub fn words<'a>(alloc: Global, words: &'a [&'a str]) -> Result<Job<'a>, Error>
+    ensures within { IfOk result IsWithin }
+    ensures asked { IfOk result (Ask (texts_of words.entry.now)) }
+    ensures taken { IfOk result (λ job. (length words.entry.now ≡ 0) ⊎ (job ≡ Job.OwnVersion)
+        ⊎ (fault_of commands_said (texts_of words.entry.now) ≡ [])) }
+    ensures version { IfErr result (λ error. kind_of error ≢ ErrorKind.DisplayVersion) }
+    ensures refused { IfErr result (λ error. IsAmong (kind_of error)
+        (ErrorKind.OutOfMemory ∷ ErrorKind.MissingSubcommand
+        ∷ fault_of commands_said (texts_of words.entry.now))
+        ⊎ ((kind_of error ≡ ErrorKind.ValueValidation)
+        × AskForNoJob (texts_of words.entry.now))) }
+    ensures joined { (result ≡ Ok Job.Joined) ↔ (length words.entry.now ≡ 0) }
+{
+    if words.is_empty() {
+        return Ok(Job::Joined);
+    }
+    match asked(alloc, words) {
+        Ok(Ok(job)) => Ok(job),
+        Ok(Err(unfit)) => Err(error_of(alloc, unfit)?),
+        Err(error) => job_at(error),
+    }
+}

@@ -1,8 +1,0 @@
-use Rattle.std.proofs.Common.{◌∙◌, ap}
-use Rattle.std.specs.Prelude.{slice_get}
-use Rattle.vme_draws.specs.Kinds.{kinds}
-use Rattle.vme_draws.proofs.chances.Chances.kind_at.Goals as goal
-
-pub returns : goal.returns
-unfolding kinds
-returns c = c.kind_in.ensures ∙ ap (slice_get kinds) c.falls_at.ensures

@@ -1,0 +1,118 @@
+-- What a job leaves on its output, and returns.
+use Rattle.std.specs.Prelude.{◌≡◌, ◌⊎◌, ℕ, List, length, Option, Result, Ok, Err}
+use Rattle.std.specs.Io.KnownBytes.{Appends, Keeps}
+use Rattle.vme_model.specs.Plan.{Plan}
+use Rattle.vme_scenario.specs.Format.{scenario as read}
+use Rattle.vme_trace.specs.declared.Fault.{Fault}
+use Rattle.vme_trace.specs.declared.Fault.TheVariants.{Write}
+use Rattle.vme_trace.specs.Writing.{AppendsFront}
+use Rattle.vme_engines.specs.declared.Status.{Status}
+use Rattle.vme_engines.specs.declared.Status.TheVariants as ends
+use Rattle.vme_engines.specs.declared.EngineFault.TheVariants as fault
+use Rattle.vme_engines.specs.Streams.{Streams, ReadNothing, WroteNothing, streams}
+use Rattle.vme_engines.specs.Outcomes.{Answer, Lent, LentAsking, ReplaysInput}
+use Rattle.vme_engines.specs.Checking.{ChecksInput}
+use Rattle.vme_engines.specs.Explaining.{ExplainsInput}
+use Rattle.vme_engines.specs.Stating.{StatesInput}
+use Rattle.vme_engines.specs.Showing.{ShowsInput}
+use Rattle.vme_engines.specs.Summing.{SumsInput}
+use Rattle.vme_engines.specs.Driving.{Drives}
+use Rattle.vme_engines.specs.Drawing.{Draws}
+use Rattle.vme_engines.specs.Found.{Found, Finds, found_answer}
+use Rattle.vme_engines.specs.Joining.{Joins}
+use Rattle.vme_run.specs.declared.RunFault.{RunFault}
+use Rattle.vme_run.specs.declared.RunFault.TheVariants as run
+use Rattle.vme_run.specs.Running.{Runs}
+use Rattle.vme_command_line.specs.declared.Job.{Job}
+use Rattle.vme_command_line.specs.declared.Job.TheVariants.{Joined, OwnVersion, Replay, Check, Explain, State, Show, Summary, Sums, Drive, Draw, Search, Run}
+use Rattle.vme_command_line.specs.Asked.{Ask, texts_of}
+use Rattle.vme_command_line.specs.declared.TheConstants.{VERSION}
+use Rattle.vme_program.specs.Statuses.{exit_code}
+use Rattle.vme_program.specs.Together.{StopsAt, SumsUp}
+use Rattle.vme_program.specs.declared.faults.ProgramFault.{ProgramFault}
+use Rattle.vme_program.specs.declared.faults.ProgramFault.TheVariants.{CannotRead, TooLong, Engine, InTrace, Boards}
+
+abbrev pub Known : Type 0
+Known = Option (List ℕ)
+
+-- the answer of an engine that starts no thread
+abbrev pub Alone : (Answer → Type 0) → Result Status RunFault → Type 0
+Alone Ends (Ok status) = Ends (Ok status)
+Alone Ends (Err (run.Engine f)) = Ends (Err f)
+Alone Ends (Err _) = ⊥
+
+-- an engine that does this on a plan and a trace
+abbrev pub OnTrace : (Streams → Plan → Answer → Type 0) → Known → Known → Answer → Type 0
+OnTrace Ends old new answer = (text : List ℕ) × (from : Known) × (to : Known)
+    × (let s = streams from to old new in
+    LentAsking text (ReadNothing s × WroteNothing s) (Ends s) answer)
+
+-- the line of the program's version is written, or at X8 a prefix of it
+abbrev pub TellsVersion : Known → Known → Answer → Type 0
+TellsVersion old new (Ok status) = Appends old new VERSION.now × (status ≡ ends.Done)
+TellsVersion old new (Err (fault.Trace f)) = (f ≡ Write) × AppendsFront old new VERSION.now
+TellsVersion old new (Err _) = ⊥
+
+-- What the engine of a job does, by what the output held before and holds now, on some text of a
+-- scenario, and on some input, given the bytes that it had left before and has left now. (No clause
+-- can say what a file gives.)
+abbrev pub Does : Job → Known → Known → Result Status RunFault → Type 0
+Does Joined old new =
+    Alone (λ answer. (from : Known) × (to : Known) × Joins (streams from to old new) answer)
+Does OwnVersion old new = Alone (TellsVersion old new)
+Does (Replay scenario trace) old new = Alone (OnTrace ReplaysInput old new)
+Does (Check scenario trace) old new = Alone (OnTrace ChecksInput old new)
+Does (Explain scenario trace edge) old new = Alone (OnTrace (ExplainsInput edge) old new)
+Does (State scenario trace after) old new = Alone (OnTrace (StatesInput after) old new)
+Does (Show scenario trace from to color) old new =
+    Alone (OnTrace (ShowsInput from to color) old new)
+Does (Summary scenario trace) old new = Alone (OnTrace SumsInput old new)
+Does (Sums scenario traces) old new = Alone (λ answer.
+    (text : List ℕ) × Lent text (Keeps old new) (SumsUp (length traces.items) old new) answer)
+Does (Drive scenario edges version) old new = Alone (λ answer.
+    (text : List ℕ) × Lent text (Keeps old new) (Drives version edges old new) answer)
+Does (Draw scenario edges seed until version) old new = Alone (λ answer.
+    (text : List ℕ) × Lent text (Keeps old new) (Draws version seed edges until old new) answer)
+Does (Search scenario edges first last goal version progress) old new = Alone (λ answer.
+    (text : List ℕ) × (found : Found) × (answer ≡ found_answer found)
+    × Lent text (Keeps old new) (Finds version edges first last goal old new found) answer)
+Does (Run scenario edges turns version) old new = λ answer.
+    (text : List ℕ) × Runs text version edges turns old new answer
+
+-- a trace of a job that reads several has a fault
+abbrev pub Stops : Job → List ℕ → Fault → Type 0
+Stops (Sums scenario traces) name f =
+    (text : List ℕ) × (p : Plan) × (read text ≡ Ok p) × StopsAt (texts_of traces.items) name f p
+Stops job name f = ⊥
+
+-- The answer is an engine's. Or a file could not be read, there was no memory for what is passed to
+-- the engine, or one of several traces has a fault; then nothing was written.
+abbrev pub Hands :
+    (Result Status RunFault → Type 0) → (List ℕ → Fault → Type 0) → Type 0
+    → Result Status ProgramFault → Type 0
+Hands Ends Stops nothing (Ok status) = Ends (Ok status)
+Hands Ends Stops nothing (Err (CannotRead name)) = nothing
+Hands Ends Stops nothing (Err (TooLong name)) = nothing
+Hands Ends Stops nothing (Err (Engine f)) =
+    Ends (Err (run.Engine f)) ⊎ ((f ≡ fault.NoMemory) × nothing)
+Hands Ends Stops nothing (Err (InTrace name f)) = Stops name.now f × nothing
+Hands Ends Stops nothing (Err (Boards f)) = Ends (Err f)
+
+-- the job is done in this way
+abbrev pub IsDone : Job → Known → Known → Result Status ProgramFault → Type 0
+IsDone job old new result = Hands (Does job old new) (Stops job) (Keeps old new) result
+
+-- The output at a fault: nothing was written, or a job for which the words ask ended with the
+-- fault.
+abbrev pub HasFailed : List (List ℕ) → Known → Known → Type 0
+HasFailed words old new = Keeps old new
+    ⊎ ((job : Job) × (f : ProgramFault) × Ask words job × IsDone job old new (Err f))
+
+-- What the program does, by its words, its output and its exit status: a job for which the words
+-- ask is done without a fault, and the status is the engine's; or there was a fault, and the status
+-- is 1.
+abbrev pub IsObeyed : List (List ℕ) → Known → Known → ℕ → Type 0
+IsObeyed words old new code =
+    ((job : Job) × (status : Status) × Ask words job
+    × Does job old new (Ok status) × (code ≡ exit_code status))
+    ⊎ (HasFailed words old new × (code ≡ 1))

@@ -1,0 +1,94 @@
+-- The names that a fault may print.
+use Rattle.std.specs.Prelude.{◌≡◌, ◌⊎◌, ℕ, List, [], codes, Result, Ok, Err}
+use Rattle.std.specs.List.{Contains}
+use Rattle.std.specs.Borrow.{Bor}
+use Rattle.vme_engines.specs.declared.Status.{Status}
+use Rattle.vme_engines.specs.declared.EngineFault.{EngineFault}
+use Rattle.vme_engines.specs.declared.EngineFault.TheVariants as fault
+use Rattle.vme_run.specs.declared.RunFault.{RunFault}
+use Rattle.vme_run.specs.declared.RunFault.TheVariants as run
+use Rattle.vme_command_line.specs.Asked.{texts_of}
+use Rattle.vme_command_line.specs.declared.Job.{Job}
+use Rattle.vme_command_line.specs.declared.Job.TheVariants.{Joined, OwnVersion, Replay, Check, Explain, State, Show, Summary, Sums, Drive, Draw, Search, Run}
+use Rattle.vme_program.specs.declared.faults.ProgramFault.{ProgramFault}
+use Rattle.vme_program.specs.declared.faults.ProgramFault.TheVariants.{CannotRead, TooLong, Engine, InTrace, Boards}
+
+-- the name of the scenario of a job: standard input is `-`, and the version has none
+abbrev pub scenario_name : Job → List ℕ
+scenario_name Joined = codes "-"
+scenario_name OwnVersion = []
+scenario_name (Replay scenario trace) = scenario.now
+scenario_name (Check scenario trace) = scenario.now
+scenario_name (Explain scenario trace edge) = scenario.now
+scenario_name (State scenario trace after) = scenario.now
+scenario_name (Show scenario trace from to color) = scenario.now
+scenario_name (Summary scenario trace) = scenario.now
+scenario_name (Sums scenario traces) = scenario.now
+scenario_name (Drive scenario edges version) = scenario.now
+scenario_name (Draw scenario edges seed until version) = scenario.now
+scenario_name (Search scenario edges first last goal version progress) = scenario.now
+scenario_name (Run scenario edges turns version) = scenario.now
+
+-- this is the name of a file of a job
+abbrev pub IsFileOf : Job → List ℕ → Type 0
+IsFileOf Joined name = name ≡ codes "-"
+IsFileOf OwnVersion name = ⊥
+IsFileOf (Replay scenario trace) name = (name ≡ scenario.now) ⊎ (name ≡ trace.now)
+IsFileOf (Check scenario trace) name = (name ≡ scenario.now) ⊎ (name ≡ trace.now)
+IsFileOf (Explain scenario trace edge) name = (name ≡ scenario.now) ⊎ (name ≡ trace.now)
+IsFileOf (State scenario trace after) name = (name ≡ scenario.now) ⊎ (name ≡ trace.now)
+IsFileOf (Show scenario trace from to color) name = (name ≡ scenario.now) ⊎ (name ≡ trace.now)
+IsFileOf (Summary scenario trace) name = (name ≡ scenario.now) ⊎ (name ≡ trace.now)
+IsFileOf (Sums scenario traces) name =
+    (name ≡ scenario.now) ⊎ Contains (texts_of traces.items) name
+IsFileOf (Drive scenario edges version) name = name ≡ scenario.now
+IsFileOf (Draw scenario edges seed until version) name = name ≡ scenario.now
+IsFileOf (Search scenario edges first last goal version progress) name = name ≡ scenario.now
+IsFileOf (Run scenario edges turns version) name = name ≡ scenario.now
+
+-- an engine's fault, given the name of the scenario
+abbrev pub told_fault : Bor (List ℕ) → EngineFault → ProgramFault
+told_fault name fault.CannotRead = CannotRead name
+told_fault name fault.TooLong = TooLong name
+told_fault name (fault.Scenario e) = Engine (fault.Scenario e)
+told_fault name (fault.Trace f) = Engine (fault.Trace f)
+told_fault name (fault.Beyond edges) = Engine (fault.Beyond edges)
+told_fault name fault.NoMemory = Engine fault.NoMemory
+
+abbrev pub told_answer : Bor (List ℕ) → Result Status EngineFault → Result Status ProgramFault
+told_answer name (Ok status) = Ok status
+told_answer name (Err f) = Err (told_fault name f)
+
+-- an engine's fault, given the name of the scenario and that of the trace, which is one of several
+abbrev pub told_trace_fault : Bor (List ℕ) → Bor (List ℕ) → EngineFault → ProgramFault
+told_trace_fault scenario trace (fault.Trace f) = InTrace trace f
+told_trace_fault scenario trace f = told_fault scenario f
+
+abbrev pub told_trace_answer :
+    Bor (List ℕ) → Bor (List ℕ) → Result Status EngineFault → Result Status ProgramFault
+told_trace_answer scenario trace (Ok status) = Ok status
+told_trace_answer scenario trace (Err f) = Err (told_trace_fault scenario trace f)
+
+abbrev pub told_run_answer :
+    Bor (List ℕ) → Result Status RunFault → Result Status ProgramFault
+told_run_answer name (Ok status) = Ok status
+told_run_answer name (Err (run.Engine f)) = Err (told_fault name f)
+told_run_answer name (Err run.NotStarted) = Err (Boards run.NotStarted)
+told_run_answer name (Err (run.LogDiffers driver at)) = Err (Boards (run.LogDiffers driver at))
+told_run_answer name (Err (run.NotReplayed at)) = Err (Boards (run.NotReplayed at))
+
+-- a file of this name cannot be read, or there is no memory for it
+abbrev pub IsFileFault : Bor (List ℕ) → ProgramFault → Type 0
+IsFileFault name f = (f ≡ CannotRead name) ⊎ (f ≡ Engine fault.NoMemory)
+
+-- a scenario of this name cannot be read, is too long, or there is no memory for it
+abbrev pub IsScenarioFault : Bor (List ℕ) → ProgramFault → Type 0
+IsScenarioFault name f = (f ≡ CannotRead name) ⊎ (f ≡ TooLong name) ⊎ (f ≡ Engine fault.NoMemory)
+
+-- a fault of a job: what cannot be read is one of its files, and what is too long is its scenario
+abbrev pub IsFaultOf : Job → ProgramFault → Type 0
+IsFaultOf job (CannotRead name) = IsFileOf job name.now
+IsFaultOf job (TooLong name) = name.now ≡ scenario_name job
+IsFaultOf job (Engine fault) = Unit {0}
+IsFaultOf job (InTrace name fault) = IsFileOf job name.now
+IsFaultOf job (Boards fault) = Unit {0}

@@ -1,0 +1,454 @@
+//! The engine of each job, on the files that the words name.
+ghost use Rattle.std.specs.Prelude.{◌≡◌, ◌≤◌, IfErr, OnErr, OnOk};
+ghost use Rattle.std.specs.Io.KnownBytes.{Appends};
+ghost use Rattle.std.specs.Process.{exit_status};
+ghost use Rattle.vme_model.specs.Report.{trace_limit};
+ghost use Rattle.vme_command_line.specs.Limits.{IsWindow, IsWithin, most_turns};
+ghost use Rattle.vme_trace.specs.Writing.{AppendsFront};
+ghost use Rattle.vme_program.specs.Done.{IsDone};
+ghost use Rattle.vme_engines.specs.Found.{found_answer};
+ghost use Rattle.vme_program.specs.Names.{IsFaultOf, told_answer, told_run_answer, told_trace_answer};
+ghost use Rattle.vme_program.specs.Statuses.{exit_code};
+ghost use Rattle.vme_program.specs.Adding.{AddsFile, AddsFiles};
+
+use crate::faults::ProgramFault;
+use crate::files::{buffered, open, read_scenario};
+use crate::tellers::Teller;
+use std::io::Write;
+use std::process::ExitCode;
+use std::sync::Wait;
+use std::thread::Threads;
+use vme_command_line::{Job, VERSION};
+use vme_engines::{
+    EngineFault, Status, add_trace, check, drive, drive_drawn, drive_found, explain, joined,
+    replay, show, state, summary, tell_sums,
+};
+use vme_goals::Goal;
+use vme_model::Version;
+use vme_run::{RunFault, run as run_scenario};
+use vme_summary::Sums;
+use vme_trace::{Fault, flush, put};
+
+/// An engine's answer, given the name of the scenario.
+fn told<'a>(name: &'a str, answer: Result<Status, EngineFault>) -> Result<Status, ProgramFault<'a>>
+    ensures { result ≡ told_answer name.entry answer }
+{
+    match answer {
+        Ok(status) => Ok(status),
+        Err(fault) => Err(ProgramFault::of_engine(name, fault)),
+    }
+}
+
+/// A search's answer, given the name of the scenario. It prints the seed that was found.
+fn told_seed<'a>(
+    rt: &HostRuntime,
+    name: &'a str,
+    found: Result<Option<u64>, EngineFault>,
+) -> Result<Status, ProgramFault<'a>>
+    ensures { result ≡ told_answer name.entry (found_answer found) }
+{
+    match found {
+        Ok(Some(seed)) => {
+            let _ = eprintln!(rt; "seed {seed}");
+            Ok(Status::Done)
+        }
+        Ok(None) => {
+            let _ = eprintln!(rt; "no seed");
+            Ok(Status::Limit)
+        }
+        Err(fault) => Err(ProgramFault::of_engine(name, fault)),
+    }
+}
+
+/// An engine's answer, given the name of the scenario and that of the trace, which is one of
+/// several.
+fn told_trace<'a>(
+    scenario: &'a str,
+    trace: &'a str,
+    answer: Result<Status, EngineFault>,
+) -> Result<Status, ProgramFault<'a>>
+    ensures { result ≡ told_trace_answer scenario.entry trace.entry answer }
+{
+    match answer {
+        Ok(status) => Ok(status),
+        Err(fault) => Err(ProgramFault::of_trace(scenario, trace, fault)),
+    }
+}
+
+/// The answer of `run`, given the name of the scenario.
+fn told_run<'a>(name: &'a str, answer: Result<Status, RunFault>) -> Result<Status, ProgramFault<'a>>
+    ensures { result ≡ told_run_answer name.entry answer }
+{
+    match answer {
+        Ok(status) => Ok(status),
+        Err(RunFault::Engine(fault)) => Err(ProgramFault::of_engine(name, fault)),
+        Err(fault) => Err(ProgramFault::Boards(fault)),
+    }
+}
+
+/// Replays standard input.
+#[inline(never)]
+fn run_joined<W: Write>(rt: &HostRuntime, out: &mut W) -> Result<Status, ProgramFault<'static>>
+    ensures fault { IfErr result (IsFaultOf Job.Joined) }
+    ensures done { IsDone Job.Joined (W.contents out.old) (W.contents out.new) result }
+{
+    let mut input = buffered(rt, rt.stdin())?;
+    told("-", joined(rt.alloc(), &mut input, out))
+}
+
+/// Writes the program's version, and makes the writer pass on what it has buffered.
+///
+/// # Errors
+/// X8 if the output cannot be written; then a prefix of the line was written.
+fn tell_version<W: Write>(out: &mut W) -> Result<(), Fault>
+    ensures ok { OnOk result (Appends (W.contents out.old) (W.contents out.new) VERSION.now) }
+    ensures front { OnErr result
+        (AppendsFront (W.contents out.old) (W.contents out.new) VERSION.now) }
+    ensures fault { IfErr result (λ fault. fault ≡ Fault.Write) }
+{
+    put(out, VERSION.as_bytes())?;
+    flush(out)
+}
+
+/// Prints the program's version.
+#[inline(never)]
+fn run_version<W: Write>(out: &mut W) -> Result<Status, ProgramFault<'static>>
+    ensures fault { IfErr result (IsFaultOf Job.OwnVersion) }
+    ensures done { IsDone Job.OwnVersion (W.contents out.old) (W.contents out.new) result }
+{
+    match tell_version(out) {
+        Ok(()) => Ok(Status::Done),
+        Err(fault) => Err(ProgramFault::Engine(EngineFault::Trace(fault))),
+    }
+}
+
+/// Replays a trace.
+#[inline(never)]
+fn run_replay<'a, W: Write>(
+    rt: &HostRuntime,
+    scenario: &'a str,
+    trace: &'a str,
+    out: &mut W,
+) -> Result<Status, ProgramFault<'a>>
+    ensures fault { IfErr result (IsFaultOf (Job.Replay scenario.entry trace.entry)) }
+    ensures done { IsDone (Job.Replay scenario.entry trace.entry)
+        (W.contents out.old) (W.contents out.new) result }
+{
+    let text = read_scenario(rt, scenario)?;
+    let mut input = open(rt, trace)?;
+    told(scenario, replay(rt.alloc(), &text, &mut input, out))
+}
+
+/// Checks a trace.
+#[inline(never)]
+fn run_check<'a, W: Write>(
+    rt: &HostRuntime,
+    scenario: &'a str,
+    trace: &'a str,
+    out: &mut W,
+) -> Result<Status, ProgramFault<'a>>
+    ensures fault { IfErr result (IsFaultOf (Job.Check scenario.entry trace.entry)) }
+    ensures done { IsDone (Job.Check scenario.entry trace.entry)
+        (W.contents out.old) (W.contents out.new) result }
+{
+    let text = read_scenario(rt, scenario)?;
+    let mut input = open(rt, trace)?;
+    told(scenario, check(rt.alloc(), &text, &mut input, out))
+}
+
+/// Explains why an edge of a trace has its verdict.
+#[inline(never)]
+fn run_explain<'a, W: Write>(
+    rt: &HostRuntime,
+    scenario: &'a str,
+    trace: &'a str,
+    edge: Option<u64>,
+    out: &mut W,
+) -> Result<Status, ProgramFault<'a>>
+    ensures fault { IfErr result (IsFaultOf (Job.Explain scenario.entry trace.entry edge)) }
+    ensures done { IsDone (Job.Explain scenario.entry trace.entry edge)
+        (W.contents out.old) (W.contents out.new) result }
+{
+    let text = read_scenario(rt, scenario)?;
+    let mut input = open(rt, trace)?;
+    told(scenario, explain(rt.alloc(), &text, &mut input, edge, out))
+}
+
+/// Reports where the bus stands in a trace.
+#[inline(never)]
+fn run_state<'a, W: Write>(
+    rt: &HostRuntime,
+    scenario: &'a str,
+    trace: &'a str,
+    after: Option<u64>,
+    out: &mut W,
+) -> Result<Status, ProgramFault<'a>>
+    ensures fault { IfErr result (IsFaultOf (Job.State scenario.entry trace.entry after)) }
+    ensures done { IsDone (Job.State scenario.entry trace.entry after)
+        (W.contents out.old) (W.contents out.new) result }
+{
+    let text = read_scenario(rt, scenario)?;
+    let mut input = open(rt, trace)?;
+    told(scenario, state(rt.alloc(), &text, &mut input, after, out))
+}
+
+/// Draws a picture of some edges of a trace.
+#[inline(never)]
+fn run_show<'a, W: Write>(
+    rt: &HostRuntime,
+    scenario: &'a str,
+    trace: &'a str,
+    from: u64,
+    to: u64,
+    color: bool,
+    out: &mut W,
+) -> Result<Status, ProgramFault<'a>>
+    requires { (1 ≤ from) × IsWindow from to }
+    ensures fault { IfErr result (IsFaultOf (Job.Show scenario.entry trace.entry from to color)) }
+    ensures done { IsDone (Job.Show scenario.entry trace.entry from to color)
+        (W.contents out.old) (W.contents out.new) result }
+{
+    let text = read_scenario(rt, scenario)?;
+    let mut input = open(rt, trace)?;
+    told(
+        scenario,
+        show(rt.alloc(), &text, &mut input, from, to, color, out),
+    )
+}
+
+/// Counts what a trace exercised.
+#[inline(never)]
+fn run_summary<'a, W: Write>(
+    rt: &HostRuntime,
+    scenario: &'a str,
+    trace: &'a str,
+    out: &mut W,
+) -> Result<Status, ProgramFault<'a>>
+    ensures fault { IfErr result (IsFaultOf (Job.Summary scenario.entry trace.entry)) }
+    ensures done { IsDone (Job.Summary scenario.entry trace.entry)
+        (W.contents out.old) (W.contents out.new) result }
+{
+    let text = read_scenario(rt, scenario)?;
+    let mut input = open(rt, trace)?;
+    told(scenario, summary(rt.alloc(), &text, &mut input, out))
+}
+
+/// Adds to the sums what the trace of that name exercised. It is one of several on the scenario.
+fn add_file<'a>(
+    rt: &HostRuntime,
+    text: &[u8],
+    scenario: &'a str,
+    trace: &'a str,
+    sums: &mut Sums,
+) -> Result<Status, ProgramFault<'a>>
+    ensures { AddsFile text.now scenario.entry trace.entry sums.old sums.new result }
+{
+    let mut input = open(rt, trace)?;
+    told_trace(
+        scenario,
+        trace,
+        add_trace(rt.alloc(), text, &mut input, sums),
+    )
+}
+
+/// Adds up what the traces of those names exercised on the scenario, up to the first fault.
+fn add_files<'a>(
+    rt: &HostRuntime,
+    text: &[u8],
+    scenario: &'a str,
+    traces: &[&'a str],
+) -> Result<Sums, ProgramFault<'a>>
+    ensures { AddsFiles text.now scenario.entry traces.now result }
+{
+    let mut sums = Sums::new();
+    for trace in traces {
+        add_file(rt, text, scenario, *trace, &mut sums)?;
+    }
+    Ok(sums)
+}
+
+/// Adds up what several traces exercised, and prints the sums.
+#[inline(never)]
+fn run_sums<'a, W: Write>(
+    rt: &HostRuntime,
+    scenario: &'a str,
+    traces: Vec<&'a str>,
+    out: &mut W,
+) -> Result<Status, ProgramFault<'a>>
+    ensures fault { IfErr result (IsFaultOf (Job.Sums scenario.entry traces.entry)) }
+    ensures done { IsDone (Job.Sums scenario.entry traces.entry)
+        (W.contents out.old) (W.contents out.new) result }
+{
+    let text = read_scenario(rt, scenario)?;
+    let sums = add_files(rt, &text, scenario, &traces)?;
+    told(scenario, tell_sums(rt.alloc(), &text, &sums, out))
+}
+
+/// Lets the drivers of a scenario make edges in turn.
+#[inline(never)]
+fn run_drive<'a, W: Write>(
+    rt: &HostRuntime,
+    scenario: &'a str,
+    edges: u32,
+    version: Version,
+    out: &mut W,
+) -> Result<Status, ProgramFault<'a>>
+    ensures fault { IfErr result (IsFaultOf (Job.Drive scenario.entry edges version)) }
+    ensures done { IsDone (Job.Drive scenario.entry edges version)
+        (W.contents out.old) (W.contents out.new) result }
+{
+    let text = read_scenario(rt, scenario)?;
+    told(scenario, drive(rt.alloc(), &text, edges, out, version))
+}
+
+/// Draws edges at random from all that are open to the drivers of a scenario.
+#[inline(never)]
+fn run_draw<'a, W: Write>(
+    rt: &HostRuntime,
+    scenario: &'a str,
+    edges: u32,
+    seed: u64,
+    until: Option<Goal>,
+    version: Version,
+    out: &mut W,
+) -> Result<Status, ProgramFault<'a>>
+    ensures fault { IfErr result (IsFaultOf (Job.Draw scenario.entry edges seed until version)) }
+    ensures done { IsDone (Job.Draw scenario.entry edges seed until version)
+        (W.contents out.old) (W.contents out.new) result }
+{
+    let text = read_scenario(rt, scenario)?;
+    told(
+        scenario,
+        drive_drawn(rt.alloc(), &text, edges, seed, until, out, version),
+    )
+}
+
+/// Draws edges by one seed after another, until the trace of one ends with the goal.
+#[inline(never)]
+fn run_search<'a, W: Write>(
+    rt: &HostRuntime,
+    scenario: &'a str,
+    edges: u32,
+    first: u64,
+    last: u64,
+    goal: Goal,
+    version: Version,
+    progress: bool,
+    out: &mut W,
+) -> Result<Status, ProgramFault<'a>>
+    requires { first ≤ last }
+    ensures fault { IfErr result
+        (IsFaultOf (Job.Search scenario.entry edges first last goal version progress)) }
+    ensures done { IsDone (Job.Search scenario.entry edges first last goal version progress)
+        (W.contents out.old) (W.contents out.new) result }
+{
+    let text = read_scenario(rt, scenario)?;
+    let alloc = rt.alloc();
+    let teller = &mut Teller::new(rt, progress);
+    let found = drive_found(alloc, &text, edges, first, last, goal, out, version, teller);
+    told_seed(rt, scenario, found)
+}
+
+/// Lets each driver of a scenario make edges in a thread of its own. It may wait for other threads.
+#[inline(never)]
+fn run_run<'a, R: Threads + Wait + Sync, W: Write>(
+    rt: &HostRuntime,
+    threads: &R,
+    scenario: &'a str,
+    edges: u32,
+    turns: u32,
+    version: Version,
+    out: &mut W,
+) -> Result<Status, ProgramFault<'a>>
+    requires { (edges ≤ trace_limit) × (turns ≤ most_turns) }
+    ensures fault { IfErr result (IsFaultOf (Job.Run scenario.entry edges turns version)) }
+    ensures done { IsDone (Job.Run scenario.entry edges turns version)
+        (W.contents out.old) (W.contents out.new) result }
+{
+    let text = read_scenario(rt, scenario)?;
+    told_run(
+        scenario,
+        run_scenario(threads, rt.alloc(), &text, edges, turns, out, version),
+    )
+}
+
+/// Does a job. `threads` starts the threads of `run`.
+///
+/// # Errors
+/// The errors of its files, and then those of its engine.
+pub fn run<'a, R: Threads + Wait + Sync, W: Write>(
+    rt: &HostRuntime,
+    threads: &R,
+    job: Job<'a>,
+    out: &mut W,
+) -> Result<Status, ProgramFault<'a>>
+    requires { IsWithin job }
+    ensures fault { IfErr result (IsFaultOf job.entry) }
+    ensures done { IsDone job.entry (W.contents out.old) (W.contents out.new) result }
+{
+    match job {
+        Job::Joined => run_joined(rt, out),
+        Job::OwnVersion => run_version(out),
+        Job::Replay { scenario, trace } => run_replay(rt, scenario, trace, out),
+        Job::Check { scenario, trace } => run_check(rt, scenario, trace, out),
+        Job::Explain {
+            scenario,
+            trace,
+            edge,
+        } => run_explain(rt, scenario, trace, edge, out),
+        Job::State {
+            scenario,
+            trace,
+            after,
+        } => run_state(rt, scenario, trace, after, out),
+        Job::Show {
+            scenario,
+            trace,
+            from,
+            to,
+            color,
+        } => run_show(rt, scenario, trace, from, to, color, out),
+        Job::Summary { scenario, trace } => run_summary(rt, scenario, trace, out),
+        Job::Sums { scenario, traces } => run_sums(rt, scenario, traces, out),
+        Job::Drive {
+            scenario,
+            edges,
+            version,
+        } => run_drive(rt, scenario, edges, version, out),
+        Job::Draw {
+            scenario,
+            edges,
+            seed,
+            until,
+            version,
+        } => run_draw(rt, scenario, edges, seed, until, version, out),
+        Job::Search {
+            scenario,
+            edges,
+            first,
+            last,
+            goal,
+            version,
+            progress,
+        } => run_search(
+            rt, scenario, edges, first, last, goal, version, progress, out,
+        ),
+        Job::Run {
+            scenario,
+            edges,
+            turns,
+            version,
+        } => run_run(rt, threads, scenario, edges, turns, version, out),
+    }
+}
+
+/// The exit status of a job that met no fault.
+pub fn code_of(status: Status) -> ExitCode
+    ensures { exit_status result ≡ exit_code status }
+{
+    match status {
+        Status::Done => ExitCode::SUCCESS,
+        Status::SomeRefused => ExitCode::from(2),
+        Status::Limit => ExitCode::from(3),
+    }
+}

@@ -1,9 +1,0 @@
-use Rattle.std.proofs.Common.{◌∙◌, sym, subst}
-use Rattle.vme_model.specs.Accepted.{IsAccepted}
-use Rattle.vme_reasons.proofs.OnPlan.{upstream_slot}
-use Rattle.vme_reasons.proofs.chains.input_of.Goals as goal
-
-pub segment_at-requires : goal.segment_at-requires
-segment_at-requires c = λ s found.
-    let accepted : IsAccepted c.plan-2.result.now = subst IsAccepted (c.plan.ensures ∙ sym c.plan-2.ensures) c.accepted.ensures in
-    upstream_slot c.plan-2.result.now accepted c.args.chain c.args.slot s (sym c.upstream-upstream.ensures ∙ found)

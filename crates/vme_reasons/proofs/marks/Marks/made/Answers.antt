@@ -1,4 +1,0 @@
-use Rattle.vme_reasons.proofs.marks.Marks.made.Goals as goal
-
-pub returns : goal.returns
-returns c = λ p k is. c.made.ensures p k is.services

@@ -1,7 +1,0 @@
-use Rattle.vme_reasons.proofs.marks.Marks.note.Goals as goal
-
-pub returns : goal.returns
-returns c = λ p k is showing. record {
-  moves = c.note.ensures k is.moves;
-  services = c.note-2.ensures p k is.services showing;
-}

@@ -1,9 +1,0 @@
--- What holds of all numbered edges that the marks are of, where these are the edges of a backplane.
-use Rattle.std.specs.Prelude.{◌≡◌}
-use Rattle.vme_model.specs.Verdict.{State}
-use Rattle.vme_model.specs.Numbered.{Numbered, edges_in}
-use Rattle.vme_reasons.specs.declared.marks.Marks.{Marks}
-use Rattle.vme_reasons.specs.Marked.{IsMarksOf}
-
-abbrev pub OfTrace : State → Marks → (Numbered → Type 0) → Type 0
-OfTrace b m P = (k : Numbered) → edges_in k ≡ b.history → IsMarksOf b.plan k m → P k

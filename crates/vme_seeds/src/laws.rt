@@ -1,0 +1,20 @@
+//! What holds for every walk.
+//!
+//! The functions do nothing and cost nothing. Each states a theorem by its contract, and a call of
+//! it gives the theorem to the prover.
+ghost use Rattle.vme_seeds.specs.Laws.{EachCanBeMade, EachIsOpen, IsBelow, NumbersAreDrawn, SomeIsMade};
+
+/// Each edge that the rules allow is of one kind, and some two numbers choose it. Whatever two
+/// numbers choose, the rules allow. As long as an edge is open, some edge is chosen.
+pub fn nothing_is_left_out()
+    ensures made { EachCanBeMade }
+    ensures open { EachIsOpen }
+    ensures some { SomeIsMade }
+{}
+
+/// Each number below a bound of at most 2^32 is the draw of some word, and no draw is another
+/// number.
+pub fn every_number_can_be_drawn()
+    ensures drawn { NumbersAreDrawn }
+    ensures below { IsBelow }
+{}

@@ -1,0 +1,29 @@
+use Rattle.std.proofs.Common.{◌∙◌, arith}
+use Rattle.std.specs.List.{flat_map}
+use Rattle.vme_trace.specs.Writing.{AppendsFront}
+use Rattle.vme_trace.proofs.WrittenLines.{on_err}
+use Rattle.vme_explain.proofs.WrittenPieces.{none_written, one_more, front_of_one, all_written}
+use Rattle.vme_summary.specs.Summary.{line_text}
+use Rattle.vme_summary.specs.Tallied.{OfTally}
+use Rattle.vme_summary.proofs.summaries.write_topics.Goals as goal
+
+pub loop-topic-init : goal.loop-topic-init
+loop-topic-init g c = λ t is. none_written (line_text c.args.plan.now t) c.args.topics.now _
+
+pub returns-in_err-put-clause-front : goal.returns-in_err-put-clause-front
+returns-in_err-put-clause-front g c =
+    let front : OfTally c.args.tally.now (λ t. AppendsFront (g.W.Write.contents c.args.out.now) (g.W.Write.contents c.put.new.out) (flat_map (line_text c.args.plan.now t) c.args.topics.now)) = λ t is.
+    front_of_one (line_text c.args.plan.now t) c.args.topics.now _ _ _ c.loop-topic.topic-index _ _ (omega arith)
+    (c.as_slice.ensures.value ∙ c.line.ensures t is)
+    (c.loop-topic.invariant t is) c.in_err-put.ensures.front in
+    on_err _ _ front
+
+pub loop-topic-preserved : goal.loop-topic-preserved
+loop-topic-preserved g c = λ t is.
+    one_more (line_text c.args.plan.now t) c.args.topics.now _ _ _ c.loop-topic.topic-index _ _ (omega arith)
+    (c.as_slice.ensures.value ∙ c.line.ensures t is)
+    (c.loop-topic.invariant t is) c.in_ok-put.ensures.ok
+
+pub returns-clause-ok : goal.returns-clause-ok
+returns-clause-ok g c = λ t is.
+    all_written (line_text c.args.plan.now t) c.args.topics.now _ _ c.loop-topic.topic-index (omega arith) (c.loop-topic.invariant t is)

@@ -1,5 +1,0 @@
-use Rattle.vme_tallies.proofs.Shares.{by_one_board_each}
-use Rattle.vme_tallies.proofs.laws.boards_share_tenures.Goals as goal
-
-pub returns : goal.returns
-returns c = by_one_board_each

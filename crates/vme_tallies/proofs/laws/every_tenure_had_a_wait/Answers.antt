@@ -1,5 +1,0 @@
-use Rattle.vme_tallies.proofs.Standing.{told}
-use Rattle.vme_tallies.proofs.laws.every_tenure_had_a_wait.Goals as goal
-
-pub returns : goal.returns
-returns c = λ b es s none. (told s b es none).waits

@@ -1,5 +1,0 @@
-use Rattle.vme_tallies.proofs.Shares.{by_one_refusal_each}
-use Rattle.vme_tallies.proofs.laws.refusals_share_refused_edges.Goals as goal
-
-pub returns : goal.returns
-returns c = by_one_refusal_each

@@ -1,5 +1,0 @@
-use Rattle.vme_tallies.proofs.Shares.{by_one_rule_each}
-use Rattle.vme_tallies.proofs.laws.rules_share_accepted_edges.Goals as goal
-
-pub returns : goal.returns
-returns c = by_one_rule_each

@@ -1,8 +1,0 @@
-use Rattle.std.proofs.Common.{refl}
-use Rattle.vme_goals.specs.Events.{all_events}
-use Rattle.vme_tallies.proofs.Situations.{nothing_met}
-use Rattle.vme_tallies.proofs.met.Met.new.Goals as goal
-
-pub returns : goal.returns
-unfolding all_events
-returns c = nothing_met _ refl refl

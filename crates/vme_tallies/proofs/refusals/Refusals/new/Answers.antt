@@ -1,6 +1,0 @@
-use Rattle.std.proofs.Common.{refl}
-use Rattle.vme_tallies.proofs.OneMore.{nothing_refused}
-use Rattle.vme_tallies.proofs.refusals.Refusals.new.Goals as goal
-
-pub returns : goal.returns
-returns c = nothing_refused _ refl refl refl refl refl

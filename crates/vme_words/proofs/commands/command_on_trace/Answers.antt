@@ -1,9 +1,0 @@
-use Rattle.std.proofs.Common.{[], refl, codes}
-use Rattle.std.proofs.lemmas.Result.{IfOk-weaker}
-use Rattle.vme_words.specs.Commands.{file, leaf}
-use Rattle.vme_words.proofs.commands.command_on_trace.Goals as goal
-
-pub returns : goal.returns
-returns c = IfOk-weaker c.taking.result _ _
-    (λ made adds. adds (leaf c.args.name.now []) (file (codes "TRACE")) c.command.ensures c.trace_file.ensures refl)
-    c.taking.ensures
