@@ -55,7 +55,8 @@ impl Goal {
         words
     }
 
-    /// Whether these are the words of the goal, with its mark or without it, and the version of the rules can reach it.
+    /// Whether these are the words of the goal, with its mark or without it, and the version of the
+    /// rules can reach it.
     fn is_named(self, words: &str, version: Version) -> bool
         ensures { result ≡ is_named words.now version self }
     {
@@ -93,8 +94,8 @@ fn miss_of(misses: &[Miss], words: &str, version: Version) -> Option<Miss>
 }
 
 /// The goal that these words name: an event by its name, a condition such as `G13 own br is low`,
-/// with N for a level and with the mark of `explain` or without it, or a settling rule such as `S2`. It is none if no goal has these words, or
-/// if the version of the rules cannot reach it.
+/// with N for a level and with the mark of `explain` or without it, or a settling rule such as
+/// `S2`. It is none if no goal has these words, or if the version of the rules cannot reach it.
 pub fn goal_of(words: &str, version: Version) -> Option<Goal>
     ensures { result ≡ goal_of words.now version }
 {

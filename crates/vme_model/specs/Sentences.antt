@@ -1,5 +1,5 @@
--- The rules in words: for each its name, its edge, and a sentence. (Profile; which conditions are the
--- standard's stands in `Sources`.)
+-- The rules in words: for each its name, its edge, and a sentence. (Profile. Which conditions are
+-- the standard's stands in `Sources`.)
 use Rattle.std.specs.Prelude.{ℕ, Option, List, [], ◌∷◌, ◌++◌, codes, find}
 use Rattle.std.specs.Str.{bytes_eq}
 use Rattle.vme_model.specs.declared.sentences.Rule.{Rule}
@@ -92,7 +92,22 @@ other_sentence S4 = codes "Version 2: a new grant does not follow one that is st
 other_sentence E5 = codes "A trace has at most 1,048,576 accepted edges."
 other_sentence r = []
 
--- the sentence of a rule of boards
+-- the sentence of a rule of interrupters
+abbrev pub interrupters_sentence : Rule → List ℕ
+interrupters_sentence G21 = codes "An interrupt request may come at any time."
+interrupters_sentence G22 =
+    codes "An interrupt request stands until it is served: with ROAK by an acknowledge, with RORA "
+    ++ codes "by an access."
+interrupters_sentence G23 =
+    codes "A board with nothing pending at the level shown passes the acknowledge on."
+interrupters_sentence G24 = codes "A board keeps the IACK chain low until the cycle ends."
+interrupters_sentence G25 =
+    codes "The first pending board that an acknowledge reaches answers it, and a board answers an "
+    ++ codes "access to its slot."
+interrupters_sentence G26 = codes "An answer stands until the master has seen it."
+interrupters_sentence r = other_sentence r
+
+-- the sentence of a rule of requesters or masters
 abbrev pub board_sentence : Rule → List ℕ
 board_sentence G9 = codes "The owner of the bus does not request it."
 board_sentence G10 = codes "A request stands until it is met. Version 2: it may be withdrawn."
@@ -111,18 +126,7 @@ board_sentence G17 =
 board_sentence G18 = codes "A data strobe stands until it is answered."
 board_sentence G19 = codes "The address goes off once its one transfer is over."
 board_sentence G20 = codes "A cycle ends once its address is off."
-board_sentence G21 = codes "An interrupt request may come at any time."
-board_sentence G22 =
-    codes "An interrupt request stands until it is served: with ROAK by an acknowledge, with RORA "
-    ++ codes "by an access."
-board_sentence G23 =
-    codes "A board with nothing pending at the level shown passes the acknowledge on."
-board_sentence G24 = codes "A board keeps the IACK chain low until the cycle ends."
-board_sentence G25 =
-    codes "The first pending board that an acknowledge reaches answers it, and a board answers an "
-    ++ codes "access to its slot."
-board_sentence G26 = codes "An answer stands until the master has seen it."
-board_sentence r = other_sentence r
+board_sentence r = interrupters_sentence r
 
 -- the sentence of a rule
 abbrev pub sentence : Rule → List ℕ

@@ -1,7 +1,7 @@
--- Where each condition of a rule comes from: a chapter of the standard, or this project's profile. A
--- condition is the standard's if a sentence of the chapter asks for just that, times aside. What makes it
--- stricter, or says when, is the profile's. (The standard's text was not at hand; RULES.md marks what
--- rests on memory.)
+-- Where each condition of a rule comes from: a chapter of the standard, or this project's profile.
+-- A condition is the standard's if a sentence of the chapter asks for just that, times aside. What
+-- makes it stricter, or says when, is the profile's. (The standard's text was not at hand; RULES.md
+-- marks what rests on memory.)
 use Rattle.std.specs.Prelude.{◌&&◌, ◌||◌, ℕ, Bool, true, false, if◌then◌else◌, Option, Some, None, List, [], ◌∷◌, ◌++◌, codes, decimal}
 use Rattle.std.specs.List.{list_any}
 use Rattle.std.specs.Option.{option_map_or}
@@ -194,7 +194,8 @@ settling_of (Bg n) false = Some S3
 settling_of (Bg n) true = Some S4
 settling_of _ _ = None
 
--- a condition that is tested for an edge is the profile's: in the edge rule, or in the settling rule
+-- a condition that is tested for an edge is the profile's: in the edge rule, or in the settling
+-- rule
 abbrev pub is_ours : Wire → Bool → Condition → Bool
 is_ours w fall c =
     is_profile (rule_of w fall) c || option_map_or (λ r. is_profile r c) (settling_of w fall) false

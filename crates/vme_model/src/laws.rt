@@ -147,8 +147,8 @@ pub fn accesses_are_open_alike()
         verdict b (showing d (Access s)) ≡ verdict b (showing d (Access t)) }
 {}
 
-/// The table of the sources has the rules of the table of guards: each edge has the rule of the same
-/// number there, and the settling rule of the same number.
+/// The table of the sources has the rules of the table of guards: each edge has the rule of the
+/// same number there, and the settling rule of the same number.
 pub fn sources_have_the_rules_of_the_guards()
     ensures edge { (version : Version) (r : Readings) (w : Wire) (fall : Bool) (v : Option Cycle) →
         rule_name (rule_of w fall) ≡ codes "G" ++ decimal (guard version r w fall v).0 }
@@ -158,8 +158,8 @@ pub fn sources_have_the_rules_of_the_guards()
         (option_to_list (settling_of w fall)) }
 {}
 
-/// Every condition of a guard is in the table of the sources, as one of the rule of its edge, and that
-/// of a settling guard as one of the settling rule.
+/// Every condition of a guard is in the table of the sources, as one of the rule of its edge, and
+/// that of a settling guard as one of the settling rule.
 pub fn every_condition_has_a_source()
     ensures edge { (version : Version) (r : Readings) (w : Wire) (fall : Bool) (v : Option Cycle) →
         list_all (λ t. has_condition (rule_of w fall) t.condition)

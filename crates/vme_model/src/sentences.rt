@@ -1,9 +1,10 @@
 //! The rules in words: for each its name, its edge, and a sentence.
 ghost use Rattle.std.specs.Prelude.{◌≡◌, ◌≤◌, find, length};
 ghost use Rattle.std.specs.Str.{bytes_eq};
-ghost use Rattle.vme_model.specs.Sentences.{all_rules, board_sentence, other_sentence, rule_edge, rule_name, rule_named, sentence};
+ghost use Rattle.vme_model.specs.Sentences.{all_rules, board_sentence, interrupters_sentence, other_sentence, rule_edge, rule_name, rule_named, sentence};
 
-/// A rule by its name: what refuses an edge. docs/RULES.md has the rules. Source: profile (the names).
+/// A rule by its name: what refuses an edge. docs/RULES.md has the rules. Source: profile (the
+/// names).
 #[derive(Clone, Copy, PartialEq, Eq, Debug)]
 pub enum Rule {
     E1,
@@ -121,8 +122,8 @@ impl Rule {
         }
     }
 
-    /// The edge that the rule is asked for, such as `c bgN-`, with N for a grant's level and v for what is
-    /// shown; `any` if it is any edge. At most 8 bytes.
+    /// The edge that the rule is asked for, such as `c bgN-`, with N for a grant's level and v for
+    /// what is shown; `any` if it is any edge. At most 8 bytes.
     pub fn edge(self) -> &'static str
         ensures text { result.now ≡ rule_edge self }
         ensures short { length result.now ≤ 8 }
@@ -164,7 +165,8 @@ impl Rule {
         }
     }
 
-    /// The rule in a sentence: at most 160 bytes. What holds in version 2 alone comes after `Version 2:`.
+    /// The rule in a sentence: at most 160 bytes. What holds in version 2 alone comes after
+    /// `Version 2:`.
     pub fn sentence(self) -> &'static str
         ensures text { result.now ≡ sentence self }
         ensures short { length result.now ≤ 160 }
@@ -193,7 +195,7 @@ impl Rule {
         }
     }
 
-    /// The sentence of a rule of boards.
+    /// The sentence of a rule of requesters or masters.
     fn board_sentence(self) -> &'static str
         ensures text { result.now ≡ board_sentence self }
         ensures short { length result.now ≤ 160 }
@@ -219,6 +221,16 @@ impl Rule {
             Rule::G18 => "A data strobe stands until it is answered.",
             Rule::G19 => "The address goes off once its one transfer is over.",
             Rule::G20 => "A cycle ends once its address is off.",
+            _ => self.interrupters_sentence(),
+        }
+    }
+
+    /// The sentence of a rule of interrupters.
+    fn interrupters_sentence(self) -> &'static str
+        ensures text { result.now ≡ interrupters_sentence self }
+        ensures short { length result.now ≤ 160 }
+    {
+        match self {
             Rule::G21 => "An interrupt request may come at any time.",
             Rule::G22 => {
                 "An interrupt request stands until it is served: with ROAK by an acknowledge, \

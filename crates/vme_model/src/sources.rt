@@ -157,8 +157,8 @@ impl Sourced {
 }
 
 impl Rule {
-    /// The conditions of the rule, in the order of its guard, each with its source; none of E1, E2 and
-    /// E5, which ask nothing of a bus.
+    /// The conditions of the rule, in the order of its guard, each with its source; none of E1, E2
+    /// and E5, which ask nothing of a bus.
     pub fn sources(self) -> &'static [Sourced]
         ensures { result.now ≡ sources self }
     {
