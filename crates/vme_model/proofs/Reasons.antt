@@ -1,12 +1,12 @@
 -- A condition that is reported for an edge fails exactly if the edge is refused.
-use Rattle.std.proofs.Common.{◌≡◌, ◌∙◌, Bool, true, false, Ok, Err, refl, sym, ap}
-use Rattle.std.specs.Prelude.{◌↔◌, is_ok}
+use Rattle.std.proofs.Common.{◌≡◌, ◌∙◌, Bool, true, false, Ok, Err, refl, sym}
+use Rattle.std.specs.Prelude.{is_ok}
 use Rattle.std.specs.List.{list_all}
 use Rattle.std.proofs.lemmas.List.Folds.{list_all-map}
 use Rattle.vme_model.specs.declared.signals.Edge.{Edge}
 use Rattle.vme_model.specs.Guards.{holds, conditions}
 use Rattle.vme_model.specs.Verdict.{State, Judgement, verdict}
-use Rattle.vme_model.specs.Failing.{unmet, tested}
+use Rattle.vme_model.specs.Failing.{tested}
 use Rattle.vme_model.specs.Numbered.{Numbered}
 use Rattle.vme_model.specs.Witnesses.{witnesses_of}
 use Rattle.vme_model.specs.Why.{why}

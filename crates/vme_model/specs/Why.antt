@@ -1,17 +1,14 @@
 -- Why an edge is accepted or refused, and the block that reports it. (Profile.)
-use Rattle.std.specs.Prelude.{ℕ, Bool, if◌then◌else◌, Option, Some, None, List, [], ◌∷◌, ◌++◌, map, decimal, codes, Ok, Err}
+use Rattle.std.specs.Prelude.{ℕ, Bool, if◌then◌else◌, Option, Some, None, List, [], ◌∷◌, ◌++◌, map, decimal, codes}
 use Rattle.std.specs.List.{flat_map}
 use Rattle.vme_model.specs.declared.conditions.Tested.{Tested}
-use Rattle.vme_model.specs.declared.refusals.Refused.TheVariants.{NoSuchDriver, AlreadyThere, Rule, NotSettled, TraceFull}
 use Rattle.vme_model.specs.declared.signals.Edge.{Edge}
 use Rattle.vme_model.specs.declared.witnesses.Witness.{Witness}
 use Rattle.vme_model.specs.declared.witnesses.Witness.TheVariants.{Wire as wire_is, Granted, Picks, Cycles, Served, Strobed}
 use Rattle.vme_model.specs.Plan.{board_of}
-use Rattle.vme_model.specs.History.{drive, shown}
-use Rattle.vme_model.specs.Readings.{readings}
+use Rattle.vme_model.specs.History.{shown}
 use Rattle.vme_model.specs.Guards.{conditions}
-use Rattle.vme_model.specs.Rules.{guard}
-use Rattle.vme_model.specs.Settling.{settling_guard}
+use Rattle.vme_model.specs.Sources.{is_ours, profile_mark}
 use Rattle.vme_model.specs.Verdict.{State}
 use Rattle.vme_model.specs.Failing.{tested}
 use Rattle.vme_model.specs.Deliveries.{answer}
@@ -69,8 +66,9 @@ outcome_text holds = if holds then codes "holds " else codes "fails "
 -- a line for a condition of an edge, and one for each of its readings
 abbrev pub reason_lines : State → Edge → Reason → List ℕ
 reason_lines b e r =
-    ((outcome_text r.tested.holds
+    (((outcome_text r.tested.holds
     ++ condition_text r.tested.condition e (board_of b.plan e.driver) (shown b.plan b.history))
+    ++ profile_mark (is_ours e.wire e.fall r.tested.condition))
     ++ 10 ∷ [])
     ++ witness_lines r.witnesses
 
