@@ -6,11 +6,13 @@ use Rattle.clap.specs.Words.{IsAmong, Row, Text, all_of, fault_of, first_of, one
 use Rattle.clap.specs.declared.error.kind.ErrorKind.TheVariants.{DisplayVersion}
 use Rattle.vme_model.specs.declared.Version.{Version}
 use Rattle.vme_model.specs.declared.Version.TheVariants.{One, Two}
+use Rattle.vme_model.specs.declared.Rule.{Rule}
+use Rattle.vme_model.specs.Sentences.{rule_named}
 use Rattle.vme_goals.specs.declared.goals.Goal.{Goal}
 use Rattle.vme_command_line.specs.Alone.{aim_of}
 use Rattle.vme_command_line.specs.Commands.{commands}
 use Rattle.vme_command_line.specs.declared.Job.{Job}
-use Rattle.vme_command_line.specs.declared.Job.TheVariants.{Joined, OwnVersion, Replay, Check, Explain, State, Show, Summary, Sums, Drive, Draw, Search, Run}
+use Rattle.vme_command_line.specs.declared.Job.TheVariants.{Joined, OwnVersion, Replay, Check, Explain, Rules, State, Show, Summary, Sums, Drive, Draw, Search, Run}
 use Rattle.vme_command_line.specs.Limits.{IsNoWindow}
 
 -- the words that are lent, as texts
@@ -92,6 +94,17 @@ AreTried rows first last = (named : Text) × (first_of (codes "seeds") rows ≡ 
 abbrev pub IsTold : List Row → Bool → Type 0
 IsTold rows progress = IsFlag (codes "progress") rows progress
 
+-- the rule that the operand NAME names; none if it is not given
+abbrev pub IsRule : List Row → Option Rule → Type 0
+IsRule rows None = first_of (codes "NAME") rows ≡ None
+IsRule rows (Some rule) = (named : Text) × (first_of (codes "NAME") rows ≡ Some named)
+    × (rule_named named ≡ Some rule)
+
+-- the operand NAME names no rule
+abbrev pub IsNoRule : List Row → Type 0
+IsNoRule rows = (named : Text) × (first_of (codes "NAME") rows ≡ Some named)
+    × (rule_named named ≡ None)
+
 -- a command of this name, with these operands, is this job
 abbrev pub AsksFor : Text → List Row → Job → Type 0
 AsksFor name rows Joined = ⊥
@@ -103,6 +116,7 @@ AsksFor name rows (Check scenario trace) = (name ≡ codes "check")
 AsksFor name rows (Explain scenario trace edge) = (name ≡ codes "explain")
     × IsFile (codes "SCENARIO") rows scenario.now × IsFile (codes "TRACE") rows trace.now
     × (spelled (codes "edge") rows ≡ edge)
+AsksFor name rows (Rules rule) = (name ≡ codes "rule") × IsRule rows rule
 AsksFor name rows (State scenario trace after) = (name ≡ codes "state")
     × IsFile (codes "SCENARIO") rows scenario.now × IsFile (codes "TRACE") rows trace.now
     × (spelled (codes "after") rows ≡ after)
@@ -165,6 +179,7 @@ abbrev pub IsNoJob : Text → List Row → Type 0
 IsNoJob name rows =
     ((name ≡ codes "show") × IsNoWindow (first_of_window rows) (last_of_window rows))
     ⊎ ((name ≡ codes "drive") × ((IsNoAim rows ⊎ IsIdle rows) ⊎ AreNotTried rows))
+    ⊎ ((name ≡ codes "rule") × IsNoRule rows)
 
 abbrev pub AskForNoJob : List Text → Type 0
 AskForNoJob words = IsSomeAnd (subcommand_of commands words) (λ met. IsNoJob met.0 met.1)
