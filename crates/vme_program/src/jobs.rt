@@ -148,10 +148,7 @@ fn rules_text(rule: Option<Rule>) -> Text
 
 /// Prints the rules.
 #[inline(never)]
-fn run_rules<W: Write>(
-    rule: Option<Rule>,
-    out: &mut W,
-) -> Result<Status, ProgramFault<'static>>
+fn run_rules<W: Write>(rule: Option<Rule>, out: &mut W) -> Result<Status, ProgramFault<'static>>
     ensures fault { IfErr result (IsFaultOf (Job.Rules rule)) }
     ensures done { IsDone (Job.Rules rule) (W.contents out.old) (W.contents out.new) result }
 {
