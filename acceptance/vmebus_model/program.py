@@ -10,6 +10,7 @@ from .drive import drive, run
 from .explain import explain
 from .faults import Fault, WrongWords, escaped
 from .judging import check, replay
+from .order import order
 from .show import show
 from .state import state
 from .summary import summary
@@ -138,6 +139,8 @@ def done(job, console):
         return run(plan, options, console)
     if job.command == "drive":
         return (drive_seeds if "--seeds" in options else drive_drawn if "--seed" in options else drive)(plan, options, console)
+    if job.command == "order":
+        return order(plan, first, options, console)
     trace = Trace(first)
     if job.command in ("replay", "check"):
         return (replay if job.command == "replay" else check)(plan, trace, console)

@@ -6,6 +6,7 @@ from typing import Dict, List
 
 from .draw import goals
 from .faults import Fault, WrongWords
+from .traces import name_of
 
 GREATEST = 2**64 - 1
 MOST = 1_048_576
@@ -21,11 +22,12 @@ COMMANDS = {
     "state": (2, 2, ("--after",)),
     "show": (2, 2, ("--from", "--to", "--color")),
     "summary": (2, None, ()),
+    "order": (2, 2, ("--slack", "--where")),
     "drive": (1, 1, ("--edges", "--version", "--seed", "--seeds", "--until", "--progress")),
     "run": (1, 1, ("--edges", "--turns", "--version")),
 }
 NEEDED = {"drive": ("--edges",), "run": ("--edges", "--turns")}
-FLAGS = ("--color", "--progress")
+FLAGS = ("--color", "--progress", "--where")
 VERSION = ("--version", "-V")
 RANGES = {
     "--edges": (1, MOST),
@@ -36,7 +38,11 @@ RANGES = {
     "--to": (1, GREATEST),
     "--after": (0, GREATEST),
     "--seed": (0, GREATEST),
+    "--slack": (0, GREATEST),
 }
+
+# The drivers as a list of slacks names them.
+DRIVERS = {name_of(driver): driver for driver in range(22)}
 
 
 @dataclass
@@ -104,7 +110,7 @@ def read_option(job, name, sign, value, waiting):
         return
     demand(sign or waiting, "an option without value")
     text = value if sign else waiting.pop(0)
-    job.options[name] = text if name == "--until" else seeds(text) if name == "--seeds" else number(text, *RANGES[name])
+    job.options[name] = VALUES[name](text) if name in VALUES else number(text, *RANGES[name])
 
 
 def number(text, least, most):
@@ -120,6 +126,23 @@ def seeds(text):
     bounds = number(first, 0, GREATEST), number(last, 0, GREATEST)
     demand(bounds[0] <= bounds[1], "an empty range")
     return bounds
+
+
+def slack(text):
+    """A number for all drivers, or a list of some of them, each with a number: by driver."""
+    if "=" not in text:
+        return number(text, *RANGES["--slack"])
+    listed = {}
+    for item in text.split(","):
+        name, _, value = item.partition("=")
+        demand(name in DRIVERS, "no driver")
+        demand(DRIVERS[name] not in listed, "a driver twice")
+        listed[DRIVERS[name]] = number(value, *RANGES["--slack"])
+    return listed
+
+
+# Options whose values are no mere numbers.
+VALUES = {"--until": str, "--seeds": seeds, "--slack": slack}
 
 
 def drive_of(job):

@@ -42,5 +42,7 @@ pub mod Ready
 pub mod Room
 -- each refusal has a number of its own: `BusState::step_requester` and its like
 pub mod Numbers
+-- what a state is of that was given the kind of another: `BusState::set_kind`
+pub mod OneKind
 -- what an edge fails with the end of the trace, from what it fails without it: `Bus::told`, `failing`
 pub mod Failing

@@ -1,10 +1,11 @@
 -- What is unfit, and not missing, is no job.
-use Rattle.std.proofs.Common.{◌≢◌, List, Option, Some, None, IsSomeAnd, refl}
+use Rattle.std.proofs.Common.{◌≡◌, ◌≢◌, Bool, true, false, Result, Ok, Err, IfOk, List, Option, Some, None, IsSomeAnd, refl}
 use Rattle.clap.specs.Words.{Row, Text}
 use Rattle.vme_command_line.specs.Asked.{IsNoJob}
 use Rattle.vme_command_line.specs.Unfits.{IsUnfit}
+use Rattle.vme_command_line.specs.declared.Job.{Job}
 use Rattle.vme_command_line.specs.declared.Unfit.{Unfit}
-use Rattle.vme_command_line.specs.declared.Unfit.TheVariants.{Missing, NoMemory, Window, Beside, Event, Seedless, Aimless, Seeded, Seeds, Idle}
+use Rattle.vme_command_line.specs.declared.Unfit.TheVariants.{Missing, NoMemory, Window, Beside, Event, Seedless, Aimless, Seeded, Seeds, Idle, Slack}
 
 one : (name : Text) (rows : List Row) (unfit : Unfit) → unfit ≢ Missing → unfit ≢ NoMemory → IsUnfit name rows unfit → IsNoJob name rows
 one name rows Missing other room is = absurd (other refl)
@@ -17,8 +18,16 @@ one name rows Aimless other room is = is
 one name rows Seeded other room is = is
 one name rows (Seeds named) other room is = is
 one name rows Idle other room is = is
+one name rows (Slack named) other room is = is
 
 pub no_job : (met : Option (Text × List Row)) (unfit : Unfit) → unfit ≢ Missing → unfit ≢ NoMemory → (unfit ≢ Missing → IsSomeAnd met (λ m. IsUnfit m.0 m.1 unfit))
     → IsSomeAnd met (λ m. IsNoJob m.0 m.1)
 no_job None unfit other room is = is other
 no_job (Some m) unfit other room is = one m.0 m.1 unfit other room (is other)
+
+-- a job whose progress is not to be reported
+pub if_untold : (progress : Bool) (r : Result Job Unfit) (job : Job) (Asks : Job → Type 0)
+    → (progress ≡ false → r ≡ Ok job) → (progress ≡ true → r ≡ Err Idle)
+    → (progress ≡ false → Asks job) → IfOk r Asks
+if_untold true r job Asks untold told asks = rw (told refl) tt
+if_untold false r job Asks untold told asks = rw (untold refl) (asks refl)

@@ -1,7 +1,7 @@
 -- The job for which the words after the program's name ask.
 use Rattle.std.specs.Prelude.{◌≡◌, ◌≢◌, ◌↔◌, ◌⊎◌, ◌+◌, ◌-◌, ◌^◌, ◌<◌, ◌≤◌, ◌++◌, ℕ, Bool, true, false, IsTrue, List, [], ◌∷◌, Option, Some, None, codes, length, map, max, min, option_map, IsSomeAnd}
 use Rattle.std.specs.Borrow.{Bor}
-use Rattle.std.specs.Str.Parse.{IsNumeral, digits_value, without_leading_plus}
+use Rattle.std.specs.Str.Parse.{digits_value, without_leading_plus}
 use Rattle.clap.specs.Words.{IsAmong, Row, Text, all_of, fault_of, first_of, one_of, subcommand_of}
 use Rattle.clap.specs.declared.error.kind.ErrorKind.TheVariants.{DisplayVersion}
 use Rattle.vme_model.specs.declared.Version.{Version}
@@ -10,8 +10,11 @@ use Rattle.vme_goals.specs.declared.goals.Goal.{Goal}
 use Rattle.vme_command_line.specs.Alone.{aim_of}
 use Rattle.vme_command_line.specs.Commands.{commands}
 use Rattle.vme_command_line.specs.declared.Job.{Job}
-use Rattle.vme_command_line.specs.declared.Job.TheVariants.{Joined, OwnVersion, Replay, Check, Explain, State, Show, Summary, Sums, Drive, Draw, Search, Run}
+use Rattle.vme_command_line.specs.declared.Job.TheVariants.{Joined, OwnVersion, Replay, Check, Explain, State, Show, Summary, Sums, Order, Drive, Draw, Search, Run}
 use Rattle.vme_command_line.specs.Limits.{IsNoWindow}
+use Rattle.vme_moments.specs.declared.slacks.Slacks.{Slacks}
+use Rattle.vme_command_line.specs.Numbers.{IsSeed}
+use Rattle.vme_command_line.specs.Slacks.{AreAll, AreSlacks, NameNoSlacks}
 
 -- the words that are lent, as texts
 abbrev pub texts_of : List (Bor Text) → List Text
@@ -69,11 +72,6 @@ IsAim rows version None = first_of (codes "until") rows ≡ None
 IsAim rows version (Some goal) = (named : Text) × (first_of (codes "until") rows ≡ Some named)
     × (aim_of named version ≡ Some goal)
 
--- a text spells this seed, in decimal digits
-abbrev pub IsSeed : Text → ℕ → Type 0
-IsSeed text n = IsNumeral 10 (without_leading_plus text)
-    × (digits_value 10 (without_leading_plus text) ≡ n) × (n < 2 ^ 64)
-
 -- a text names the seeds from this one to that one: two dots stand between them
 abbrev pub AreSeeds : Text → ℕ → ℕ → Type 0
 AreSeeds named first last = (begins : Text) × (ends : Text) × (named ≡ begins ++ codes ".." ++ ends)
@@ -91,6 +89,11 @@ AreTried rows first last = (named : Text) × (first_of (codes "seeds") rows ≡ 
 -- the flag `--progress`
 abbrev pub IsTold : List Row → Bool → Type 0
 IsTold rows progress = IsFlag (codes "progress") rows progress
+
+-- the slacks that `--slack` names; no driver has slack if it is not given
+abbrev pub AreTheSlacks : List Row → Slacks → Type 0
+AreTheSlacks rows x = ((first_of (codes "slack") rows ≡ None) × AreAll 0 x)
+    ⊎ ((named : Text) × (first_of (codes "slack") rows ≡ Some named) × AreSlacks named x)
 
 -- a command of this name, with these operands, is this job
 abbrev pub AsksFor : Text → List Row → Job → Type 0
@@ -116,6 +119,9 @@ AsksFor name rows (Summary scenario trace) = (name ≡ codes "summary")
 AsksFor name rows (Sums scenario traces) = (name ≡ codes "summary")
     × IsFile (codes "SCENARIO") rows scenario.now
     × AreFiles (codes "TRACE") rows (texts_of traces.items) × (2 ≤ length traces.items)
+AsksFor name rows (Order scenario moments slacks places) = (name ≡ codes "order")
+    × IsFile (codes "SCENARIO") rows scenario.now × IsFile (codes "MOMENTS") rows moments.now
+    × AreTheSlacks rows slacks × IsFlag (codes "where") rows places
 AsksFor name rows (Drive scenario edges version) = (name ≡ codes "drive")
     × IsFile (codes "SCENARIO") rows scenario.now × AreOptions rows edges version
     × (spelled (codes "seed") rows ≡ None) × (first_of (codes "seeds") rows ≡ None)
@@ -160,11 +166,16 @@ AreNotTried rows = (named : Text) × (first_of (codes "seeds") rows ≡ Some nam
 abbrev pub IsIdle : List Row → Type 0
 IsIdle rows = IsTold rows true × (first_of (codes "seeds") rows ≡ None)
 
+-- `--slack` names no slacks
+abbrev pub IsNoSlack : List Row → Type 0
+IsNoSlack rows = (named : Text) × (first_of (codes "slack") rows ≡ Some named) × NameNoSlacks named
+
 -- a command of this name is no job with these operands
 abbrev pub IsNoJob : Text → List Row → Type 0
 IsNoJob name rows =
     ((name ≡ codes "show") × IsNoWindow (first_of_window rows) (last_of_window rows))
     ⊎ ((name ≡ codes "drive") × ((IsNoAim rows ⊎ IsIdle rows) ⊎ AreNotTried rows))
+    ⊎ ((name ≡ codes "order") × IsNoSlack rows)
 
 abbrev pub AskForNoJob : List Text → Type 0
 AskForNoJob words = IsSomeAnd (subcommand_of commands words) (λ met. IsNoJob met.0 met.1)

@@ -74,6 +74,9 @@ texted name = record (new_rule name) { long = Some name; action = Some Set; valu
 abbrev pub seeds : Rule
 seeds = texted (codes "seeds")
 
+abbrev pub slack : Rule
+slack = texted (codes "slack")
+
 abbrev pub until : Rule
 until = texted (codes "until")
 
@@ -83,6 +86,10 @@ flag name = record (new_rule name) { long = Some name; action = Some SetTrue }
 
 abbrev pub color : Rule
 color = flag (codes "color")
+
+-- the flag `--where`
+abbrev pub places : Rule
+places = flag (codes "where")
 
 abbrev pub progress : Rule
 progress = flag (codes "progress")
@@ -112,6 +119,9 @@ show = (leaf (codes "show") (file (codes "TRACE") ∷ from ∷ to ∷ color ∷ 
 abbrev pub summary : Shape
 summary = (leaf (codes "summary") (files (codes "TRACE") ∷ [])).top
 
+abbrev pub order : Shape
+order = (leaf (codes "order") (file (codes "MOMENTS") ∷ slack ∷ places ∷ [])).top
+
 abbrev pub drive : Shape
 drive = (leaf (codes "drive") (edges ∷ seed ∷ seeds ∷ until ∷ progress ∷ version ∷ [])).top
 
@@ -125,5 +135,5 @@ commands = record {
     no_binary_name = true;
     has_version = true;
   };
-  subs = replay ∷ check ∷ explain ∷ state ∷ show ∷ summary ∷ drive ∷ run ∷ [];
+  subs = replay ∷ check ∷ explain ∷ state ∷ show ∷ summary ∷ order ∷ drive ∷ run ∷ [];
 }

@@ -124,6 +124,33 @@ Examples:
   vmebus summary board.toml tenure.vme
   vmebus summary board.toml drawn-1.vme drawn-2.vme drawn-3.vme";
 
+const ORDER: &str =
+    "Prints a legal order of edges that were seen at the same moments, if there is one";
+
+const ORDER_USAGE: &str = "vmebus order <SCENARIO> <MOMENTS> [--slack <S>] [--where]";
+
+const ORDER_EXAMPLE: &str =
+    "A clocked design moves several wires at once, and does not say in which order. MOMENTS is a trace with
+lines `@N` between its edges. An edge was seen at the moment of the last `@N` above it, such as the
+number of the clock. Edges of one moment may have been made in any order; those of a later moment were
+made after them.
+
+With --slack an edge may have been made up to S moments before it was seen. S is a number for all
+drivers, or a list of drivers with a number each, such as `c=2,5=1`; the others have 0. Edges that one
+board made at different moments keep their order. So do those of the arbiter, of the IACK driver, and
+of the bus timer.
+
+If the rules allow some order of all edges, the first of these is printed as a trace, and the exit
+status is 0. It leaves the edges as they are listed as far as the rules let them. If no order is
+allowed, the longest beginning that is allowed is printed, and behind it each edge that could come
+next. All of these are refused there, and `vmebus explain` says why the first of them is. The exit
+status is 2 then, and 1 at a fault. With --where each edge of that trace has a line with its number,
+its line in MOMENTS and its moment. docs/COMMANDS.md has each line, and docs/RTL.md says how to print
+moments.
+
+Example:
+  vmebus order board.toml seen.vme --slack c=2 > tenure.vme";
+
 const DRIVE: &str =
     "Writes a trace that the drivers of a scenario make in turn, or one that is drawn by lot";
 
@@ -193,6 +220,13 @@ fn trace_file<'a>(alloc: Global) -> Arg<'a>
     ensures { rule_of result ≡ said.file (codes "TRACE") }
 {
     file(alloc, "TRACE", "The edges, one a line")
+}
+
+fn moments_file<'a>(alloc: Global) -> Arg<'a>
+    ensures { rule_of result ≡ said.file (codes "MOMENTS") }
+{
+    let help = "The edges, one a line, below the moments at which they were seen";
+    file(alloc, "MOMENTS", help)
 }
 
 /// The argument for the files of traces, of which at least one is required.
@@ -322,6 +356,16 @@ fn seeds_option<'a>(alloc: Global) -> Arg<'a>
         .help("Tries these seeds in order until one comes to EVENT; needs --until")
 }
 
+fn slack_option<'a>(alloc: Global) -> Arg<'a>
+    ensures { rule_of result ≡ said.slack }
+{
+    Arg::new(alloc, "slack")
+        .long("slack")
+        .value_name("S")
+        .action(ArgAction::Set)
+        .help("By how many moments edges may be seen late, such as 2 or c=2,5=1 [default: 0]")
+}
+
 /// An option without a value.
 fn flag<'a>(alloc: Global, name: &'a str, help: &'a str) -> Arg<'a>
     ensures { rule_of result ≡ said.flag name.entry.now }
@@ -344,6 +388,13 @@ fn progress_option<'a>(alloc: Global) -> Arg<'a>
 {
     let help = "Tells on standard error which seed it tries, once a second at most; needs --seeds";
     flag(alloc, "progress", help)
+}
+
+fn where_option<'a>(alloc: Global) -> Arg<'a>
+    ensures { rule_of result ≡ said.places }
+{
+    let help = "Prints where each edge was seen, in place of the trace";
+    flag(alloc, "where", help)
 }
 
 /// A command that takes a scenario.
@@ -435,6 +486,16 @@ fn summary<'a>(alloc: Global) -> Result<Command<'a>, AllocError>
     taking(command, trace_files(alloc))
 }
 
+/// The command `order`.
+pub(crate) fn order<'a>(alloc: Global) -> Result<Command<'a>, AllocError>
+    ensures { IfOk result (λ c. shape_of c ≡ said.order) }
+{
+    let command = command(alloc, "order", ORDER, ORDER_USAGE, ORDER_EXAMPLE);
+    let command = taking(command, moments_file(alloc));
+    let command = taking(command, slack_option(alloc));
+    taking(command, where_option(alloc))
+}
+
 /// The command `drive`.
 pub(crate) fn drive<'a>(alloc: Global) -> Result<Command<'a>, AllocError>
     ensures { IfOk result (λ c. shape_of c ≡ said.drive) }
@@ -494,6 +555,7 @@ pub(crate) fn commands<'a>(alloc: Global) -> Result<Command<'a>, AllocError>
     let program = offering(program, state(alloc));
     let program = offering(program, show(alloc));
     let program = offering(program, summary(alloc));
+    let program = offering(program, order(alloc));
     let program = offering(program, drive(alloc));
     offering(program, run(alloc))
 }

@@ -4,21 +4,25 @@
 
 ghost use Rattle.std.specs.Prelude.{◌≡◌, ◌≢◌, ◌≤◌, ◌↔◌, ◌⊎◌, ℕ, [], ◌∷◌, IfErr, IfOk, IfSome, IsSomeAnd, MatchOption, Err, Ok, Some, codes, false, length, option_map, true};
 ghost use Rattle.clap.specs.Words.{FailsBy, IsAmong, all_of, fault_of, first_of as first_text, found_of, kind_of, rows_of, subcommand_of, subcommand_rows_of};
-ghost use Rattle.vme_command_line.specs.Asked.{AreSeeds, Ask, AskForNoJob, AsksFor, IsAim, IsFile, IsFlag, IsSeed, NamesNoSeeds, first_shown, last_shown, spelled, texts_of, version_number};
+ghost use Rattle.vme_command_line.specs.Asked.{AreSeeds, Ask, AskForNoJob, AsksFor, AreTheSlacks, IsAim, IsFile, IsFlag, IsNoSlack, NamesNoSeeds, first_shown, last_shown, spelled, texts_of, version_number};
 ghost use Rattle.vme_command_line.specs.Commands.{commands as commands_said};
 ghost use Rattle.vme_command_line.specs.Limits.{IsWithin};
+ghost use Rattle.vme_command_line.specs.Numbers.{IsSeed};
 ghost use Rattle.vme_command_line.specs.Unfits.{IsUnfit};
 
 mod alone;
 mod commands;
+mod slacks;
 
 use alone::aim_named;
 use clap::error::ErrorKind;
 use clap::{ArgMatches, Error};
-use commands::{commands, drive, show};
+use commands::{commands, drive, order, show};
+use slacks::slacks_in;
 use std::alloc::{AllocError, Global};
 use vme_goals::{Goal, goal_of};
 use vme_model::{TRACE_LIMIT, Version};
+use vme_moments::Slacks;
 
 /// The program's name and its version, as the line that `--version` prints. The version stands only
 /// here.
@@ -104,6 +108,17 @@ pub enum Job<'a> {
         /// The files of the traces, two or more.
         traces: Vec<&'a str>,
     },
+    /// Find a legal order of edges that were seen at moments.
+    Order {
+        /// The file of the boards.
+        scenario: &'a str,
+        /// The file of the edges with their moments.
+        moments: &'a str,
+        /// By how many moments at most the edges of each driver were seen late.
+        slacks: Slacks,
+        /// Whether to print where each edge was seen, in place of the trace.
+        places: bool,
+    },
     /// Let the drivers make edges in turn.
     Drive {
         /// The file of the scenario.
@@ -180,6 +195,8 @@ enum Unfit<'a> {
     Seeds { named: &'a str },
     /// Progress is to be reported, but there are no seeds to try.
     Idle,
+    /// The text does not name slacks.
+    Slack { named: &'a str },
 }
 
 /// The text of the operand of that name, if it is given.
@@ -368,8 +385,38 @@ fn show_of<'a>(scenario: &'a str, operands: &ArgMatches<'a>) -> Result<Job<'a>, 
     })
 }
 
+/// The slacks that `--slack` names. No driver has slack if it is not given.
+fn slacks_of<'a>(operands: &ArgMatches<'a>) -> Result<Slacks, Unfit<'a>>
+    ensures slacks { IfOk result (AreTheSlacks (rows_of (found_of operands.now))) }
+    ensures unfit { IfErr result (λ unfit. IsNoSlack (rows_of (found_of operands.now))
+        × (unfit ≢ Unfit.Missing)) }
+{
+    match text_of(operands, "slack") {
+        None => Ok(Slacks::all(0)),
+        Some(named) => match slacks_in(named) {
+            Some(slacks) => Ok(slacks),
+            None => Err(Unfit::Slack { named }),
+        },
+    }
+}
+
+/// An order of moments on the scenario, with its other operands.
+fn order_of<'a>(scenario: &'a str, operands: &ArgMatches<'a>) -> Result<Job<'a>, Unfit<'a>>
+    ensures within { IfOk result IsWithin }
+    ensures asked { IsFile (codes "SCENARIO") (rows_of (found_of operands.now)) scenario.now
+        → IfOk result (AsksFor (codes "order") (rows_of (found_of operands.now))) }
+    ensures unfit { IfErr result (IsUnfit (codes "order") (rows_of (found_of operands.now))) }
+{
+    Ok(Job::Order {
+        scenario,
+        moments: file_of(operands, "MOMENTS")?,
+        slacks: slacks_of(operands)?,
+        places: is_flagged(operands, "where"),
+    })
+}
+
 /// The seed that a text spells.
-fn seed_in(text: &str) -> Option<u64>
+pub(crate) fn seed_in(text: &str) -> Option<u64>
     ensures { MatchOption result ((n : ℕ) → ¬ (IsSeed text.now n)) (λ n. IsSeed text.now n) }
 {
     text.parse().ok()
@@ -483,6 +530,7 @@ fn job_of<'a>(alloc: Global, name: &str, operands: &ArgMatches<'a>) -> Result<Jo
         "state" => state_of(scenario, operands),
         "show" => show_of(scenario, operands),
         "summary" => summary_of(alloc, scenario, operands),
+        "order" => order_of(scenario, operands),
         "drive" => drive_of(scenario, operands),
         "run" => run_of(scenario, operands),
         _ => Err(Unfit::Missing),
@@ -609,6 +657,18 @@ fn no_progress(alloc: Global) -> Result<Error, AllocError>
     drive(alloc)?.error(ErrorKind::ValueValidation, text)
 }
 
+/// The usage error if a text does not name slacks.
+fn no_slack(alloc: Global, named: &str) -> Result<Error, AllocError>
+    ensures { IfOk result (λ error. kind_of error ≡ ErrorKind.ValueValidation) }
+{
+    let text = format!(in alloc;
+        "invalid value '{named}' for '--slack <S>': S is 0 to {}, or a list of different drivers \
+         with such a number each, such as c=2,5=1",
+        u64::MAX
+    )?;
+    order(alloc)?.error(ErrorKind::ValueValidation, &text)
+}
+
 /// The usage error that says why words ask for no job.
 fn error_of(alloc: Global, unfit: Unfit<'_>) -> Result<Error, AllocError>
     ensures { IfOk result (λ error. (kind_of error ≡ ErrorKind.MissingSubcommand)
@@ -626,6 +686,7 @@ fn error_of(alloc: Global, unfit: Unfit<'_>) -> Result<Error, AllocError>
         Unfit::Seeded => seeded(alloc),
         Unfit::Seeds { named } => no_seeds(alloc, named),
         Unfit::Idle => no_progress(alloc),
+        Unfit::Slack { named } => no_slack(alloc, named),
     }
 }
 

@@ -1,8 +1,8 @@
 -- A replay, piece by piece.
 use Rattle.std.proofs.Common.{◌≡◌, inl, inr, ℕ, ◌+◌, ◌-◌, List, [], ◌++◌, length, Bool, true, false, Option, Some, None, Result, Ok, Err, refl, sym, ◌∙◌, ap, append_assoc, append-nil, subst, arith, option_map}
 use Rattle.std.proofs.Math.ListN.{length-append}
-use Rattle.std.specs.Io.KnownBytes.{Appends}
-use Rattle.std.proofs.KnownBytes.{Appends-trans}
+use Rattle.std.specs.Io.KnownBytes.{Appends, Consumes}
+use Rattle.std.proofs.KnownBytes.{Appends-trans, Consumes-trans}
 use Rattle.vme_model.specs.declared.signals.Version.{Version}
 use Rattle.vme_model.specs.declared.signals.Edge.{Edge}
 use Rattle.vme_model.specs.Plan.{Plan}
@@ -14,10 +14,12 @@ use Rattle.vme_trace.specs.declared.Fault.TheVariants.{Header, Line, TooLong, Cu
 use Rattle.vme_trace.specs.Reading as trace
 use Rattle.vme_trace.specs.Writing.{AppendsFront}
 use Rattle.vme_engines.specs.declared.Status.{Status}
-use Rattle.vme_engines.specs.Streams.{Streams, Wrote}
+use Rattle.vme_engines.specs.Streams.{Streams, streams, IsInput, Wrote}
 use Rattle.vme_engines.specs.Outcomes.{bench, lines_of, refused_count, status_with, HasFault, ReplayStops, Replays}
 use Rattle.vme_engines.specs.Steps.{Begins, ending, piece_text, TakesPiece, traced}
-use Rattle.vme_engines.specs.Pieces.{Stopped, Came, Answers}
+use Rattle.vme_engines.specs.declared.replays.Replaying.{Replaying}
+use Rattle.vme_engines.specs.Pieces.{Stopped, Came}
+use Rattle.vme_engines.specs.Readings.{GoesOn, Takes}
 use Rattle.vme_engines.proofs.ReadOn.{came_begins}
 use Rattle.vme_engines.proofs.WrittenLines.{front_of_more, front_behind, lines_append, kept_append}
 
@@ -85,7 +87,7 @@ closing_none (Some x) f b es h = refl
 
 -- ---- a whole replay
 
-module _ (p : Plan) (v : Version) (text trace : List ℕ) (s : Streams) (es : List Edge) (begins : Begins (read_of trace) v es) where
+module _ (p : Plan) (v : Version) (trace : List ℕ) (s : Streams) (es : List Edge) (begins : Begins (read_of trace) v es) where
   -- the lines of these edges, with nothing behind them
   bare : (more : Result Bool Fault) → ending more (0 + length es) (length (kept (bench p v) es).history) ≡ [] → piece_text (bench p v) 0 es more ≡ verdict_lines (bench p v) 1 es
   bare more none = ap (λ l. verdict_lines (bench p v) 1 es ++ l) none ∙ append-nil (verdict_lines (bench p v) 1 es)
@@ -101,7 +103,7 @@ module _ (p : Plan) (v : Version) (text trace : List ℕ) (s : Streams) (es : Li
   at_fault : (f : Fault) → HasFault trace f × ((read_of trace).edges ≡ es) → Wrote s (verdict_lines (bench p v) 1 es) → HasFault trace f × Wrote s (report p trace)
   at_fault f h w = (h.0, rw (report_at f h.0 h.1) w)
 
-  stops : (f : Fault) → Stopped v text trace s.from s.to es f → Wrote s (verdict_lines (bench p v) 1 es) → ReplayStops p text trace s f
+  stops : (f : Fault) → Stopped v trace s.from s.to es f → Wrote s (verdict_lines (bench p v) 1 es) → ReplayStops p [] trace s f
   stops Header h w = at_fault Header h w
   stops (Line n) h w = at_fault (Line n) h w
   stops (TooLong n) h w = at_fault (TooLong n) h w
@@ -132,27 +134,69 @@ module _ (p : Plan) (v : Version) (text trace : List ℕ) (s : Streams) (es : Li
       rw (e, edges) (ap (λ n. status_with (n - length (kept (bench p v) es).history)) count ∙ ap (λ n. status_with (length es - n)) (sym accepted))
 
   -- only a front of the text was written
-  cut_short : (more : Result Bool Fault) → Came v text trace s.from s.to es more → AppendsFront s.old s.new (piece_text (bench p v) 0 es more) → AppendsFront s.old s.new (report p trace)
+  cut_short : (more : Result Bool Fault) → Came v trace s.from s.to es more → AppendsFront s.old s.new (piece_text (bench p v) 0 es more) → AppendsFront s.old s.new (report p trace)
   cut_short (Ok true) h w = rw (report_begins p v (read_of trace) es begins) (front_of_more s.old s.new _ (tail_of p v (read_of trace) es begins) (rw (bare (Ok true) refl) at w))
   cut_short (Ok false) h w = rw (whole_text h.1 h.2) w
   cut_short (Err f) h w = rw (report_begins p v (read_of trace) es begins) (front_of_more s.old s.new _ (tail_of p v (read_of trace) es begins) (rw (bare (Err f) refl) at w))
 
--- What the loop leaves is the replay of the whole trace.
-pub replays_all : {S : Type 0} (state : S → State) (count : S → ℕ) (p : Plan) (v : Version) (text trace : List ℕ) (s : Streams) (b : State) (judged : ℕ) (answer : Result Status Fault) → b ≡ bench p v → judged ≡ 0
-    → Answers (λ es more old new (now : S) a. TakesPiece b judged es more old new (state now) (count now) a) v text trace s answer → Replays p text trace s (traced answer)
-replays_all state count p v text trace s b judged (Ok status) is none h =
-    let took : TakesPiece (bench p v) 0 h.0 h.1 s.old s.new (state h.2) (count h.2) (Ok (Some status)) = rw (is, none) at h.4 in
-    let came : Came v text trace s.from s.to h.0 (Ok false) = subst (Came v text trace s.from s.to h.0) took.0 h.3 in
-    let wrote : Wrote s (piece_text (bench p v) 0 h.0 (Ok false)) = subst (λ (m : Result Bool Fault). Wrote s (piece_text (bench p v) 0 h.0 m)) took.0 took.1 in (
-      came.2,
-      came.3,
-      rw (whole_text p v text trace s h.0 came.0 came.1 came.2) wrote,
-      took.2 ∙ status_is p v text trace s h.0 came.0 (read_of trace).version came.0.version came.1,
-    )
-replays_all state count p v text trace s b judged (Err f) is none h =
-    let took : TakesPiece (bench p v) 0 h.0 h.1 s.old s.new (state h.2) (count h.2) (Err f) = rw (is, none) at h.4 in
-    elim took [
-      | inl all ↦ (let came : Came v text trace s.from s.to h.0 (Err f) = subst (Came v text trace s.from s.to h.0) all.0 h.3 in
-          stops p v text trace s h.0 came.0 f came.1 (rw (bare p v text trace s h.0 came.0 (Err f) refl) at (subst (λ (m : Result Bool Fault). Wrote s (piece_text (bench p v) 0 h.0 m)) all.0 all.1)))
-      | inr part ↦ subst (λ (g : Fault). ReplayStops p text trace s g) (sym part.0) (cut_short p v text trace s h.0 (came_begins v text trace s.from s.to h.0 h.1 h.3) h.1 h.3 part.1)
-    ]
+-- by what the last read answered
+module _ (p : Plan) (v : Version) (trace : List ℕ) (s : Streams) (es : List Edge) (more : Result Bool Fault) (came : Came v trace s.from s.to es more) where
+  replays_end : (status : Status) → more ≡ Ok false → Wrote s (piece_text (bench p v) 0 es more) → status ≡ status_with (0 + length es - length (kept (bench p v) es).history) → Replays p [] trace s (Ok status)
+  replays_end status is wrote ends =
+      let end : Came v trace s.from s.to es (Ok false) = subst (Came v trace s.from s.to es) is came in (
+        end.2,
+        end.3,
+        rw (whole_text p v trace s es end.0 end.1 end.2) (subst (λ (m : Result Bool Fault). Wrote s (piece_text (bench p v) 0 es m)) is wrote),
+        ends ∙ status_is p v trace s es end.0 (read_of trace).version end.0.version end.1,
+      )
+
+  replays_stop : (f : Fault) → more ≡ Err f → Wrote s (piece_text (bench p v) 0 es more) → ReplayStops p [] trace s f
+  replays_stop f is wrote =
+      let end : Came v trace s.from s.to es (Err f) = subst (Came v trace s.from s.to es) is came in
+      stops p v trace s es end.0 f end.1 (rw (bare p v trace s es end.0 (Err f) refl) at (subst (λ (m : Result Bool Fault). Wrote s (piece_text (bench p v) 0 es m)) is wrote))
+
+  replays_cut : (f : Fault) → f ≡ Write → AppendsFront s.old s.new (piece_text (bench p v) 0 es more) → ReplayStops p [] trace s f
+  replays_cut f is wrote = subst (λ (g : Fault). ReplayStops p [] trace s g) (sym is) (cut_short p v trace s es (came_begins v trace s.from s.to es more came) more came wrote)
+
+-- What a piece leaves, or how far it came.
+pub replay_takes : (p : Plan) (v : Version) (es : List Edge) (more : Result Bool Fault) (old new : Option (List ℕ)) (now : Replaying) (answer : Result (Option Status) Fault) → TakesPiece (bench p v) 0 es more old new now.bus now.judged answer
+    → Takes (λ fs x y (s : Replaying). TakesPiece (bench p v) 0 fs (Ok true) x y s.bus s.judged (Ok None)) (λ trace s a. Replays p [] trace s (traced a)) v es more old new now answer
+replay_takes p v es more old new now (Ok None) h = subst (λ (m : Result Bool Fault). TakesPiece (bench p v) 0 es m old new now.bus now.judged (Ok None)) h.0 h
+replay_takes p v es more old new now (Ok (Some status)) h = λ trace from to came. replays_end p v trace (streams from to old new) es more came status h.0 h.1 h.2
+replay_takes p v es more old new now (Err f) h = λ trace from to came. elim h [
+  | inl all ↦ replays_stop p v trace (streams from to old new) es more came f all.0 all.1
+  | inr part ↦ replays_cut p v trace (streams from to old new) es more came f part.0 part.1
+]
+
+pub replay_goes_on : (b next : State) (judged now : ℕ) (es : List Edge) (more : Result Bool Fault) (old new : Option (List ℕ)) (answer : Result (Option Status) Fault) → TakesPiece b judged es more old new next now answer → GoesOn more now (judged + length es) answer
+replay_goes_on b next judged now es more old new (Ok None) h = (h.0, h.3)
+replay_goes_on b next judged now es more old new (Ok (Some status)) h = tt
+replay_goes_on b next judged now es more old new (Err f) h = tt
+
+-- ---- behind a text
+
+-- what was read is the text, and what stands behind it
+pub behind_text : (from at : Option (List ℕ)) (text bytes : List ℕ) → Consumes from at (text ++ bytes) → (mid : Option (List ℕ)) × Consumes from mid text × Consumes mid at bytes
+behind_text None at text bytes h = (None, tt, tt)
+behind_text (Some all) None text bytes h = absurd h
+behind_text (Some all) (Some rest) text bytes h = (Some (bytes ++ rest), h ∙ append_assoc text bytes rest, refl)
+
+pub input_of : (from mid : Option (List ℕ)) (text trace : List ℕ) → Consumes from mid text → IsInput mid trace → IsInput from (text ++ trace)
+input_of None mid text trace h is = tt
+input_of (Some all) None text trace h is = absurd h
+input_of (Some all) (Some rest) text trace h is = h ∙ ap (λ l. text ++ l) is
+
+module _ (p : Plan) (text trace : List ℕ) (from mid to old new : Option (List ℕ)) (taken : Consumes from mid text) where
+  stops_behind : (f : Fault) → ReplayStops p [] trace (streams mid to old new) f → ReplayStops p text trace (streams from to old new) f
+  stops_behind Header h = h
+  stops_behind (Line n) h = h
+  stops_behind (TooLong n) h = h
+  stops_behind CutOff h = h
+  stops_behind Read h = (h.0, Consumes-trans from mid to text h.0 taken h.1, h.2, h.3)
+  stops_behind Memory h = h
+  stops_behind Failed h = h
+  stops_behind Write h = h
+
+  pub replays_behind : (answer : Result Status Fault) → Replays p [] trace (streams mid to old new) (traced answer) → Replays p text trace (streams from to old new) (traced answer)
+  replays_behind (Ok status) h = h
+  replays_behind (Err f) h = stops_behind f h

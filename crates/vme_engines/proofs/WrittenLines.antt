@@ -1,5 +1,5 @@
 -- Lines that are written one after the other.
-use Rattle.std.proofs.Common.{◌≡◌, ℕ, ◌+◌, List, [], ◌∷◌, ◌++◌, length, ◌-◌, Bool, false, Option, Result, Ok, Err, OnErr, refl, sym, ◌∙◌, ap, append_assoc, append-nil, arith}
+use Rattle.std.proofs.Common.{◌≡◌, ℕ, ◌+◌, List, [], ◌∷◌, ◌++◌, length, ◌-◌, Bool, false, Option, Some, None, Result, Ok, Err, OnErr, refl, sym, ◌∙◌, ap, append_assoc, append-nil, arith}
 use Rattle.std.specs.Io.KnownBytes.{Appends, Keeps}
 use Rattle.std.proofs.KnownBytes.{Appends-trans, Appends-nil, Appends-kept}
 use Rattle.vme_model.specs.declared.signals.Edge.{Edge}
@@ -32,6 +32,16 @@ front_behind a b c x y w f =
 pub on_err : {E A : Type 0} (r : Result A E) (P : Type 0) → P → OnErr r P
 on_err (Ok a) P h = tt
 on_err (Err e) P h = h
+
+-- behind what was kept
+pub appends_behind : (a b c : Option (List ℕ)) (bs : List ℕ) → Keeps a b → Appends b c bs → Appends a c bs
+appends_behind None b c bs p q = tt
+appends_behind (Some x) None c bs p q = absurd p
+appends_behind (Some x) (Some y) None bs p q = absurd q
+appends_behind (Some x) (Some y) (Some z) bs p q = q ∙ ap (λ l. l ++ bs) p
+
+pub front_after : (a b c : Option (List ℕ)) (bs : List ℕ) → Keeps a b → AppendsFront b c bs → AppendsFront a c bs
+front_after a b c bs p q = (q.0, q.1, q.2, appends_behind a b c q.0 p q.3)
 
 pub front_kept : (a b c : Option (List ℕ)) (x : List ℕ) → Appends a b x → Keeps b c → AppendsFront a c x
 front_kept a b c x w k = front_of_all a c x (Appends-kept a b c x w k)

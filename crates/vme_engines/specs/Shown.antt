@@ -1,5 +1,5 @@
 -- What the edges of a trace do to `show`.
-use Rattle.std.specs.Prelude.{◌≡◌, ◌⊎◌, ◌+◌, ◌-◌, ◌<◌, ◌≤◌, ℕ, Bool, true, false, List, [], length, take, drop, Option, Some, None, Result, Ok, Err}
+use Rattle.std.specs.Prelude.{◌≡◌, ◌⊎◌, ◌+◌, ◌-◌, ◌<◌, ◌≤◌, ℕ, Bool, false, List, [], length, take, drop, Option, Some, None, Result, Ok, Err}
 use Rattle.std.specs.Io.KnownBytes.{Appends, Keeps}
 use Rattle.vme_model.specs.declared.signals.Edge.{Edge}
 use Rattle.vme_model.specs.Verdict.{State, kept}
@@ -73,18 +73,3 @@ Ends s b es more old new now (Ok (Some (Beyond n))) =
 Ends s b es more old new now (Err f) =
     ((more ≡ Err f) × (length es < s.to) × Appends old new (stretch_text s b es))
     ⊎ ((f ≡ Write) × IsEnd s.to es more × AppendsFront old new (stretch_text s b es))
-
--- the trace goes on, and all of so many edges were judged
-abbrev pub GoesOn :
-    Result Bool Fault → ℕ → Stage → Stage → Result (Option Told) Fault → Type 0
-GoesOn more n first now (Ok None) = (more ≡ Ok true) × (now.judged ≡ first.judged + n)
-GoesOn more n first now answer = Unit {0}
-
--- the same of an engine since it began
-abbrev pub ShowsPiece :
-    Stage → List Edge → Result Bool Fault → Option (List ℕ) → Option (List ℕ)
-    → Stage → Result (Option Told) Fault → Type 0
-ShowsPiece first es more old new now answer =
-    GoesOn more (length es) first now answer
-    × (now.stretch ≡ first.stretch)
-    × (IsFresh first → Ends first.stretch first.bus es more old new now answer)

@@ -6,8 +6,9 @@ ghost use Rattle.vme_engines.specs.Streams.{streams};
 ghost use Rattle.vme_engines.specs.Joining.{Joins};
 ghost use Rattle.vme_engines.specs.Front.{header_line, IsHeld, IsFront, IsTextOf, Takes, Finds, Starts, JoinsBehind, ReplaysBehind};
 
-use crate::pieces::{buffer_of, read_on};
+use crate::pieces::buffer_of;
 use crate::plans::plan_of;
+use crate::readings::{Judge, read_on};
 use crate::replays::Replaying;
 use crate::{EngineFault, READS, SCENARIO_LIMIT, Status};
 use arrayvec::ArrayVec;
@@ -168,7 +169,7 @@ fn replay_rest<R: Read, W: Write>(
     let mut reader = Reader::new();
     let mut edges = Vec::new(alloc);
     let first = start(&mut reader, version, rest, &mut edges);
-    let mut replay = Replaying::new(Bus::new(plan, version));
+    let mut replay = Replaying::begin(&(), Bus::new(plan, version));
     read_on(
         &mut replay,
         &mut reader,

@@ -16,6 +16,7 @@ mod lines;
 mod listening;
 mod pieces;
 mod plans;
+mod readings;
 mod replays;
 mod seeds;
 mod seeks;

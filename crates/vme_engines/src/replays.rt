@@ -1,22 +1,17 @@
 //! Replaying a trace: a verdict on each edge, and the closing line.
-ghost use Rattle.std.specs.Prelude.{◌≡◌, ◌+◌, ◌<◌, ◌^◌, length, refl};
-ghost use Rattle.std.proofs.Common.{arith};
-ghost use Rattle.std.proofs.KnownBytes.{Appends-nil};
+ghost use Rattle.std.specs.Prelude.{◌≡◌, ◌+◌, ◌<◌, ◌^◌, [], length, None, Ok, true};
 ghost use Rattle.vme_model.specs.Locality.{AreWellFormed};
 ghost use Rattle.vme_engines.specs.Streams.{streams, ReadNothing, WroteNothing};
-ghost use Rattle.vme_engines.specs.Outcomes.{LentAsking, ReplaysInput, status_with};
+ghost use Rattle.vme_engines.specs.Outcomes.{LentAsking, Replays, ReplaysInput, bench, status_with};
 ghost use Rattle.vme_engines.specs.Steps.{TakesPiece, traced};
 
 use crate::lines::{close, write_verdicts};
-use crate::pieces::{Judge, buffer_of};
-use crate::plans::plan_of;
-use crate::traces::Input;
+use crate::readings::{Judge, read};
 use crate::{EngineFault, Status};
 use std::alloc::Global;
 use std::io::{Read, Write};
 use vme_bus::Bus;
 use vme_model::Edge;
-use vme_slots::Plan;
 use vme_text::Text;
 use vme_trace::{Fault, flush};
 
@@ -81,27 +76,29 @@ pub(crate) struct Replaying {
     text: Text,
 }
 
-impl Replaying {
-    /// Before the first edge.
-    pub(crate) fn new(bus: Bus) -> Replaying
-        ensures bus { result.bus ≡ bus }
-        ensures judged { result.judged ≡ 0 }
-    {
+impl Judge for Replaying {
+    type Task = ();
+
+    type Answer = Status;
+
+    ghost can = { λ _. Unit {0} };
+
+    ghost count = { λ now. now.judged };
+
+    ghost stands = { λ _ p v es old new now.
+        TakesPiece (bench p v) 0 es (Ok true) old new now.bus now.judged (Ok None) };
+
+    ghost leaves = { λ _ p trace s answer. Replays p [] trace s (traced answer) };
+
+    fn begin(_task: &(), bus: Bus) -> Replaying {
         Replaying {
             bus,
             judged: 0,
             text: Text::new(),
         }
     }
-}
 
-impl Judge for Replaying {
-    type Answer = Status;
-
-    ghost count = { λ now. now.judged };
-
-    ghost takes = { λ first es more old new now answer.
-        TakesPiece first.bus first.judged es more old new now.bus now.judged answer };
+    fn unbegun(_task: &()) {}
 
     fn take<W: Write>(
         &mut self,
@@ -120,31 +117,6 @@ impl Judge for Replaying {
             out,
         )
     }
-
-    ghost begins = { λ first old. (refl, Appends-nil old, refl, omega arith) };
-
-    ghost goes_on = { λ first es more old new now h. (h.0, h.3) };
-}
-
-/// Replays a trace that stands alone, on a plan.
-#[inline(never)]
-fn replay_trace<R: Read, W: Write>(
-    alloc: Global,
-    plan: Plan,
-    buffer: &mut [u8],
-    trace: &mut R,
-    out: &mut W,
-) -> Result<Status, Fault>
-    requires room { length buffer.old ≡ 69632 }
-    ensures { ReplaysInput
-        (streams (R.remaining trace.old) (R.remaining trace.new)
-        (W.contents out.old) (W.contents out.new))
-        plan (traced result) }
-{
-    let mut input = Input::new(alloc);
-    let version = input.begin(buffer, trace)?;
-    let mut replay = Replaying::new(Bus::new(plan, version));
-    input.read_on(&mut replay, buffer, trace, out)
 }
 
 /// Replays a trace on the plan of a scenario.
@@ -165,10 +137,5 @@ pub fn replay<R: Read, W: Write>(
         (W.contents out.old) (W.contents out.new) in
         LentAsking scenario.now (ReadNothing s × WroteNothing s) (ReplaysInput s) result }
 {
-    let plan = plan_of(alloc, scenario)?;
-    let mut buffer = buffer_of(alloc)?;
-    match replay_trace(alloc, plan, &mut buffer, trace, out) {
-        Ok(status) => Ok(status),
-        Err(fault) => Err(EngineFault::Trace(fault)),
-    }
+    read::<Replaying, R, W>(alloc, scenario, &(), trace, out)
 }

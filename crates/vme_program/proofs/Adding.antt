@@ -1,5 +1,5 @@
 -- Traces that are added up, file by file, and the answer that is passed on.
-use Rattle.std.proofs.Common.{◌≡◌, ◌⊎◌, ◌∙◌, inl, inr, ℕ, ◌+◌, List, [], ◌∷◌, length, Option, Some, None, Result, Ok, Err, refl, sym, ap, subst, arith}
+use Rattle.std.proofs.Common.{◌≡◌, ◌⊎◌, ◌∙◌, inl, inr, ℕ, ◌+◌, List, [], ◌∷◌, length, Some, None, Result, Ok, Err, refl, sym, ap, subst, arith}
 use Rattle.std.specs.Io.KnownBytes.{Keeps}
 use Rattle.std.specs.Borrow.{Bor}
 use Rattle.std.specs.List.{Contains}
@@ -13,7 +13,6 @@ use Rattle.vme_summary.specs.declared.sums.Sums.{Sums as Added}
 use Rattle.vme_summary.specs.Tally.{Answers}
 use Rattle.vme_summary.specs.Sums.{Traces}
 use Rattle.vme_summary.specs.Summed.{AreSumsOf, OfSums}
-use Rattle.vme_engines.specs.declared.Status.{Status}
 use Rattle.vme_engines.specs.declared.EngineFault.TheVariants as fault
 use Rattle.vme_engines.specs.Streams.{ReadNothing, streams}
 use Rattle.vme_engines.specs.Outcomes.{Answer, Lent, LentAsking}
@@ -21,7 +20,7 @@ use Rattle.vme_engines.specs.Totals.{AddsInput, IsWhole, Tells}
 use Rattle.vme_command_line.specs.declared.Job.{Job}
 use Rattle.vme_command_line.specs.Asked.{texts_of}
 use Rattle.vme_program.specs.declared.faults.ProgramFault.{ProgramFault}
-use Rattle.vme_program.specs.declared.faults.ProgramFault.TheVariants.{CannotRead, TooLong, Engine, InTrace, Boards}
+use Rattle.vme_program.specs.declared.faults.ProgramFault.TheVariants.{CannotRead, TooLong, Engine, InTrace, Boards, Ordering}
 use Rattle.vme_program.specs.Adding.{AddsFile, Blames, IsFaulty}
 use Rattle.vme_program.specs.Done.{Alone, Hands, Known}
 use Rattle.vme_program.specs.Names.{IsFaultOf, IsFileOf, scenario_name, told_answer, told_trace_answer}
@@ -94,6 +93,7 @@ fault_at text scenario traces trace sums i (InTrace name f) at among so_far h =
       (i, at ∙ ap Some (sym h.0), had.0, had.1, h.3.0, h.3.1, h.3.2, h.3.3),
     )
 fault_at text scenario traces trace sums i (Boards f) at among so_far h = absurd h
+fault_at text scenario traces trace sums i (Ordering f) at among so_far h = absurd h
 
 -- ---- the job
 
@@ -107,13 +107,13 @@ sums_lent text n sums old new (Err (fault.Beyond edges)) all h = absurd h.3
 sums_lent text n sums old new (Err fault.NoMemory) all h = h
 
 pub sums_done : (Stops : List ℕ → Fault → Type 0) (scenario : Bor (List ℕ)) (text : List ℕ) (n : ℕ) (sums : Added) (old new : Known) (answer : Answer) → SoFar text n sums → Lent text (Keeps old new) (Tells sums old new) answer
-    → Hands (Alone (λ a. (t : List ℕ) × Lent t (Keeps old new) (SumsUp n old new) a)) Stops (Keeps old new) (told_answer scenario answer)
+    → Hands (Alone (λ a. (t : List ℕ) × Lent t (Keeps old new) (SumsUp n old new) a)) Stops (λ f. ⊥) (Keeps old new) (told_answer scenario answer)
 sums_done Stops scenario text n sums old new answer all told =
-    handed Stops (λ a. (t : List ℕ) × Lent t (Keeps old new) (SumsUp n old new) a) (Keeps old new) scenario answer (text, sums_lent text n sums old new answer all told) (λ h. absurd h.1) (λ h. h.1.1)
+    handed Stops (λ f. ⊥) (λ a. (t : List ℕ) × Lent t (Keeps old new) (SumsUp n old new) a) (Keeps old new) scenario answer (text, sums_lent text n sums old new answer all told) (λ h. absurd h.1) (λ h. h.1.1)
 
 -- a fault before the sums are written
 pub sums_stopped : (text : List ℕ) (scenario : Bor (List ℕ)) (traces : List (Bor (List ℕ))) (held : Known) (f : ProgramFault) → Blames text scenario (Contains (texts_of traces)) (λ p name g. StopsAt (texts_of traces) name g p) f
-    → Hands (Alone (λ a. (t : List ℕ) × Lent t (Keeps held held) (SumsUp (length traces) held held) a)) (λ name g. (t : List ℕ) × (p : Plan) × (read t ≡ Ok p) × StopsAt (texts_of traces) name g p) (Keeps held held) (Err f)
+    → Hands (Alone (λ a. (t : List ℕ) × Lent t (Keeps held held) (SumsUp (length traces) held held) a)) (λ name g. (t : List ℕ) × (p : Plan) × (read t ≡ Ok p) × StopsAt (texts_of traces) name g p) (λ g. ⊥) (Keeps held held) (Err f)
 sums_stopped text scenario traces held (CannotRead name) h = Keeps-refl held
 sums_stopped text scenario traces held (TooLong name) h = Keeps-refl held
 sums_stopped text scenario traces held (Engine (fault.Scenario e)) h = inl (text, (h.0, h.1, Keeps-refl held))
@@ -124,6 +124,7 @@ sums_stopped text scenario traces held (Engine (fault.Trace f)) h = absurd h
 sums_stopped text scenario traces held (Engine (fault.Beyond edges)) h = absurd h
 sums_stopped text scenario traces held (InTrace name f) h = ((text, h.1, h.2, h.3), Keeps-refl held)
 sums_stopped text scenario traces held (Boards f) h = absurd h
+sums_stopped text scenario traces held (Ordering f) h = absurd h
 
 -- the files that a fault may name
 pub sums_fault : (text : List ℕ) (job : Job) (scenario : Bor (List ℕ)) (traces : List (Bor (List ℕ))) (f : ProgramFault) → scenario_name job ≡ scenario.now → ((name : List ℕ) → Contains (texts_of traces) name → IsFileOf job name)
@@ -133,3 +134,4 @@ sums_fault text job scenario traces (TooLong name) is files h = ap (λ (b : Bor 
 sums_fault text job scenario traces (Engine f) is files h = tt
 sums_fault text job scenario traces (InTrace name f) is files h = files name.now h.0
 sums_fault text job scenario traces (Boards f) is files h = tt
+sums_fault text job scenario traces (Ordering f) is files h = tt

@@ -1,5 +1,5 @@
 -- The names that a fault may print.
-use Rattle.std.specs.Prelude.{◌≡◌, ◌⊎◌, ℕ, List, [], codes, Result, Ok, Err}
+use Rattle.std.specs.Prelude.{◌≡◌, ◌⊎◌, ℕ, Bool, true, false, List, [], codes, Result, Ok, Err}
 use Rattle.std.specs.List.{Contains}
 use Rattle.std.specs.Borrow.{Bor}
 use Rattle.vme_engines.specs.declared.Status.{Status}
@@ -7,11 +7,15 @@ use Rattle.vme_engines.specs.declared.EngineFault.{EngineFault}
 use Rattle.vme_engines.specs.declared.EngineFault.TheVariants as fault
 use Rattle.vme_run.specs.declared.RunFault.{RunFault}
 use Rattle.vme_run.specs.declared.RunFault.TheVariants as run
+use Rattle.vme_order.specs.declared.Form.{Form}
+use Rattle.vme_order.specs.declared.Form.TheVariants.{Trace, Places}
+use Rattle.vme_order.specs.declared.OrderingFault.{OrderingFault}
+use Rattle.vme_order.specs.declared.OrderingFault.TheVariants as order
 use Rattle.vme_command_line.specs.Asked.{texts_of}
 use Rattle.vme_command_line.specs.declared.Job.{Job}
-use Rattle.vme_command_line.specs.declared.Job.TheVariants.{Joined, OwnVersion, Replay, Check, Explain, State, Show, Summary, Sums, Drive, Draw, Search, Run}
+use Rattle.vme_command_line.specs.declared.Job.TheVariants.{Joined, OwnVersion, Replay, Check, Explain, State, Show, Summary, Sums, Order, Drive, Draw, Search, Run}
 use Rattle.vme_program.specs.declared.faults.ProgramFault.{ProgramFault}
-use Rattle.vme_program.specs.declared.faults.ProgramFault.TheVariants.{CannotRead, TooLong, Engine, InTrace, Boards}
+use Rattle.vme_program.specs.declared.faults.ProgramFault.TheVariants.{CannotRead, TooLong, Engine, InTrace, Boards, Ordering}
 
 -- the name of the scenario of a job: standard input is `-`, and the version has none
 abbrev pub scenario_name : Job → List ℕ
@@ -24,6 +28,7 @@ scenario_name (State scenario trace after) = scenario.now
 scenario_name (Show scenario trace from to color) = scenario.now
 scenario_name (Summary scenario trace) = scenario.now
 scenario_name (Sums scenario traces) = scenario.now
+scenario_name (Order scenario moments slacks places) = scenario.now
 scenario_name (Drive scenario edges version) = scenario.now
 scenario_name (Draw scenario edges seed until version) = scenario.now
 scenario_name (Search scenario edges first last goal version progress) = scenario.now
@@ -41,6 +46,8 @@ IsFileOf (Show scenario trace from to color) name = (name ≡ scenario.now) ⊎ 
 IsFileOf (Summary scenario trace) name = (name ≡ scenario.now) ⊎ (name ≡ trace.now)
 IsFileOf (Sums scenario traces) name =
     (name ≡ scenario.now) ⊎ Contains (texts_of traces.items) name
+IsFileOf (Order scenario moments slacks places) name =
+    (name ≡ scenario.now) ⊎ (name ≡ moments.now)
 IsFileOf (Drive scenario edges version) name = name ≡ scenario.now
 IsFileOf (Draw scenario edges seed until version) name = name ≡ scenario.now
 IsFileOf (Search scenario edges first last goal version progress) name = name ≡ scenario.now
@@ -77,6 +84,19 @@ told_run_answer name (Err run.NotStarted) = Err (Boards run.NotStarted)
 told_run_answer name (Err (run.LogDiffers driver at)) = Err (Boards (run.LogDiffers driver at))
 told_run_answer name (Err (run.NotReplayed at)) = Err (Boards (run.NotReplayed at))
 
+-- what is written of an order, with `--where` and without
+abbrev pub form_of : Bool → Form
+form_of true = Places
+form_of false = Trace
+
+abbrev pub told_order_answer :
+    Bor (List ℕ) → Result Status OrderingFault → Result Status ProgramFault
+told_order_answer name (Ok status) = Ok status
+told_order_answer name (Err (order.Engine f)) = Err (told_fault name f)
+told_order_answer name (Err (order.Moments f)) = Err (Ordering (order.Moments f))
+told_order_answer name (Err (order.NoBoard slot)) = Err (Ordering (order.NoBoard slot))
+told_order_answer name (Err order.TooManyOrders) = Err (Ordering order.TooManyOrders)
+
 -- a file of this name cannot be read, or there is no memory for it
 abbrev pub IsFileFault : Bor (List ℕ) → ProgramFault → Type 0
 IsFileFault name f = (f ≡ CannotRead name) ⊎ (f ≡ Engine fault.NoMemory)
@@ -92,3 +112,4 @@ IsFaultOf job (TooLong name) = name.now ≡ scenario_name job
 IsFaultOf job (Engine fault) = Unit {0}
 IsFaultOf job (InTrace name fault) = IsFileOf job name.now
 IsFaultOf job (Boards fault) = Unit {0}
+IsFaultOf job (Ordering fault) = Unit {0}

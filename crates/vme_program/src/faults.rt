@@ -10,6 +10,7 @@ use std::io::{self, ErrorKind};
 use std::process::ExitCode;
 use thiserror::Error;
 use vme_engines::EngineFault;
+use vme_order::OrderingFault;
 use vme_run::RunFault;
 use vme_trace::Fault;
 
@@ -37,6 +38,9 @@ pub enum ProgramFault<'a> {
     /// A fault of `run`, whose boards run in threads.
     #[error("{0}")]
     Boards(RunFault),
+    /// A fault of the moments of `order`, of their orders, or of the slacks.
+    #[error("{0}")]
+    Ordering(OrderingFault),
 }
 
 impl<'a> ProgramFault<'a> {

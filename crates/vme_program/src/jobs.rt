@@ -7,7 +7,7 @@ ghost use Rattle.vme_command_line.specs.Limits.{IsWindow, IsWithin, most_turns};
 ghost use Rattle.vme_trace.specs.Writing.{AppendsFront};
 ghost use Rattle.vme_program.specs.Done.{IsDone};
 ghost use Rattle.vme_engines.specs.Found.{found_answer};
-ghost use Rattle.vme_program.specs.Names.{IsFaultOf, told_answer, told_run_answer, told_trace_answer};
+ghost use Rattle.vme_program.specs.Names.{IsFaultOf, form_of, told_answer, told_order_answer, told_run_answer, told_trace_answer};
 ghost use Rattle.vme_program.specs.Statuses.{exit_code};
 ghost use Rattle.vme_program.specs.Adding.{AddsFile, AddsFiles};
 
@@ -25,6 +25,8 @@ use vme_engines::{
 };
 use vme_goals::Goal;
 use vme_model::Version;
+use vme_moments::Slacks;
+use vme_order::{Form, OrderingFault, order};
 use vme_run::{RunFault, run as run_scenario};
 use vme_summary::Sums;
 use vme_trace::{Fault, flush, put};
@@ -83,6 +85,20 @@ fn told_run<'a>(name: &'a str, answer: Result<Status, RunFault>) -> Result<Statu
         Ok(status) => Ok(status),
         Err(RunFault::Engine(fault)) => Err(ProgramFault::of_engine(name, fault)),
         Err(fault) => Err(ProgramFault::Boards(fault)),
+    }
+}
+
+/// The answer of `order`, given the name of the scenario.
+fn told_order<'a>(
+    name: &'a str,
+    answer: Result<Status, OrderingFault>,
+) -> Result<Status, ProgramFault<'a>>
+    ensures { result ≡ told_order_answer name.entry answer }
+{
+    match answer {
+        Ok(status) => Ok(status),
+        Err(OrderingFault::Engine(fault)) => Err(ProgramFault::of_engine(name, fault)),
+        Err(fault) => Err(ProgramFault::Ordering(fault)),
     }
 }
 
@@ -284,6 +300,37 @@ fn run_sums<'a, W: Write>(
     told(scenario, tell_sums(rt.alloc(), &text, &sums, out))
 }
 
+/// What is written of an order, with `--where` and without.
+fn form_of(places: bool) -> Form
+    ensures { result ≡ form_of places }
+{
+    if places { Form::Places } else { Form::Trace }
+}
+
+/// Finds a legal order of edges that were seen at moments.
+#[inline(never)]
+fn run_order<'a, W: Write>(
+    rt: &HostRuntime,
+    scenario: &'a str,
+    moments: &'a str,
+    slacks: &Slacks,
+    places: bool,
+    out: &mut W,
+) -> Result<Status, ProgramFault<'a>>
+    ensures fault { IfErr result
+        (IsFaultOf (Job.Order scenario.entry moments.entry slacks.now places)) }
+    ensures done { IsDone (Job.Order scenario.entry moments.entry slacks.now places)
+        (W.contents out.old) (W.contents out.new) result }
+{
+    let text = read_scenario(rt, scenario)?;
+    let mut input = open(rt, moments)?;
+    let form = form_of(places);
+    told_order(
+        scenario,
+        order(rt.alloc(), &text, &mut input, slacks, form, out),
+    )
+}
+
 /// Lets the drivers of a scenario make edges in turn.
 #[inline(never)]
 fn run_drive<'a, W: Write>(
@@ -410,6 +457,12 @@ pub fn run<'a, R: Threads + Wait + Sync, W: Write>(
         } => run_show(rt, scenario, trace, from, to, color, out),
         Job::Summary { scenario, trace } => run_summary(rt, scenario, trace, out),
         Job::Sums { scenario, traces } => run_sums(rt, scenario, traces, out),
+        Job::Order {
+            scenario,
+            moments,
+            slacks,
+            places,
+        } => run_order(rt, scenario, moments, &slacks, places, out),
         Job::Drive {
             scenario,
             edges,

@@ -2,7 +2,7 @@ use Rattle.std.proofs.Common.{true, refl, codes}
 use Rattle.std.proofs.lemmas.Result.{IfOk-weaker}
 use Rattle.clap.specs.Words.{App, new_app, with_subcommand}
 use Rattle.clap.specs.Simple.{on_top}
-use Rattle.vme_command_line.specs.Commands.{check, drive, explain, replay, run, show, state, summary}
+use Rattle.vme_command_line.specs.Commands.{check, drive, explain, order, replay, run, show, state, summary}
 use Rattle.vme_command_line.proofs.commands.commands.Goals as goal
 
 abbrev bare : App
@@ -25,5 +25,6 @@ returns c =
     let four = IfOk-weaker c.offering-program-4.result _ _ (λ made adds. adds (with_subcommand judging explain) state three c.state.ensures refl) c.offering-program-4.ensures in
     let five = IfOk-weaker c.offering-program-5.result _ _ (λ made adds. adds telling show four c.show.ensures refl) c.offering-program-5.ensures in
     let six = IfOk-weaker c.offering-program-6.result _ _ (λ made adds. adds (with_subcommand telling show) summary five c.summary.ensures refl) c.offering-program-6.ensures in
-    let seven = IfOk-weaker c.offering-program-7.result _ _ (λ made adds. adds counting drive six c.drive.ensures refl) c.offering-program-7.ensures in
-    IfOk-weaker c.offering.result _ _ (λ made adds. adds (with_subcommand counting drive) run seven c.run.ensures refl) c.offering.ensures
+    let seven = IfOk-weaker c.offering-program-7.result _ _ (λ made adds. adds counting order six c.order.ensures refl) c.offering-program-7.ensures in
+    let eight = IfOk-weaker c.offering-program-8.result _ _ (λ made adds. adds (with_subcommand counting order) drive seven c.drive.ensures refl) c.offering-program-8.ensures in
+    IfOk-weaker c.offering.result _ _ (λ made adds. adds (with_subcommand (with_subcommand counting order) drive) run eight c.run.ensures refl) c.offering.ensures

@@ -1,19 +1,9 @@
-use Rattle.std.proofs.Common.{inl}
-use Rattle.vme_engines.proofs.CheckPieces.{nothing_found}
+use Rattle.vme_engines.specs.Streams.{streams, ReadNothing, WroteNothing}
+use Rattle.vme_engines.specs.Checking.{ChecksInput}
+use Rattle.vme_engines.proofs.ReadTraces.{lent_status}
 use Rattle.vme_engines.proofs.checks.check.Goals as goal
 
-pub returns-in-Err : goal.returns-in-Err
-returns-in-Err g c = (
-  c.in_ok-plan.plan,
-  c.in_ok-plan.ensures.ok.0,
-  c.in_ok-plan.ensures.ok.1,
-  (
-    c.in-Err.ensures.finds.0,
-    c.in-Err.ensures.finds.1,
-    inl (
-      nothing_found c.in_ok-plan.plan c.in-Err.ensures.finds.0 (g.R.Read.remaining c.args.trace.now) (g.R.Read.remaining c.find.new.trace) (g.W.Write.contents c.args.out.now) (g.W.Write.contents c.find.new.out)
-          c.in-Err.fault c.in-Err.ensures.finds.2,
-      c.in-Err.ensures.kept,
-    ),
-  ),
-)
+pub returns : goal.returns
+returns g c =
+    let s = streams (g.R.Read.remaining c.args.trace.now) (g.R.Read.remaining c.read.new.trace) (g.W.Write.contents c.args.out.now) (g.W.Write.contents c.read.new.out) in
+    lent_status c.args.scenario.now (ReadNothing s × WroteNothing s) (ChecksInput s) c.read.result c.read.ensures

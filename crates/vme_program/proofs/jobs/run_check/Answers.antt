@@ -6,4 +6,4 @@ use Rattle.vme_program.proofs.jobs.run_check.Goals as goal
 pub returns-clause-done : goal.returns-clause-done
 returns-clause-done g c =
     rw c.told.ensures
-    (on_trace _ ChecksInput c.args.scenario _ None None (g.W.Write.contents c.args.out.now) (g.W.Write.contents c.check.new.out) c.check.result c.check.ensures)
+    (on_trace _ _ ChecksInput c.args.scenario _ None None (g.W.Write.contents c.args.out.now) (g.W.Write.contents c.check.new.out) c.check.result c.check.ensures)

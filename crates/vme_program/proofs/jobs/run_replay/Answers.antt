@@ -6,4 +6,4 @@ use Rattle.vme_program.proofs.jobs.run_replay.Goals as goal
 pub returns-clause-done : goal.returns-clause-done
 returns-clause-done g c =
     rw c.told.ensures
-    (on_trace _ ReplaysInput c.args.scenario _ None None (g.W.Write.contents c.args.out.now) (g.W.Write.contents c.replay.new.out) c.replay.result c.replay.ensures)
+    (on_trace _ _ ReplaysInput c.args.scenario _ None None (g.W.Write.contents c.args.out.now) (g.W.Write.contents c.replay.new.out) c.replay.result c.replay.ensures)

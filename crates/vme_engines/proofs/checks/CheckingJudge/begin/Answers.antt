@@ -1,0 +1,6 @@
+use Rattle.std.proofs.Common.{refl}
+use Rattle.std.proofs.KnownBytes.{Keeps-refl}
+use Rattle.vme_engines.proofs.checks.CheckingJudge.begin.Goals as goal
+
+pub returns-clause-stands : goal.returns-clause-stands
+returns-clause-stands c = λ p v old is. (Keeps-refl old, record { unrefused = refl; bus = is; judged = refl })
