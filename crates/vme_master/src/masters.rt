@@ -142,8 +142,8 @@ impl Master {
         (15, guard)
     }
 
-    /// The number of the rule that names an edge of its address strobe, and whether the rule's guard
-    /// holds (G16, G20).
+    /// The number of the rule that names an edge of its address strobe, and whether the rule's
+    /// guard holds (G16, G20).
     #[inline(always)]
     fn address_strobe_rule(&self, fall: bool, pins: &Pins) -> (u8, bool)
         ensures { (holds_bus : Bool) (value : OptionValue CycleValue) →
