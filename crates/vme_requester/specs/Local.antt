@@ -3,7 +3,6 @@
 use Rattle.std.specs.Prelude.{◌≡◌, ◌||◌, ℕ, Bool, true, false, not, Some, None, List}
 use Rattle.vme_model.specs.declared.boards.RequesterRow.{RequesterRow}
 use Rattle.std.specs.Option.{option_and_then}
-use Rattle.vme_model.specs.declared.conditions.Condition.{Condition}
 use Rattle.vme_model.specs.declared.pins.Pins.{Pins}
 use Rattle.vme_model.specs.declared.signals.Version.{Version}
 use Rattle.vme_model.specs.declared.signals.Driver.TheVariants.{Slot}
@@ -13,8 +12,6 @@ use Rattle.vme_model.specs.declared.signals.Edge.{Edge}
 use Rattle.vme_model.specs.Sets.{no_levels, has_bus_level}
 use Rattle.vme_model.specs.History.{drive}
 use Rattle.vme_model.specs.Readings.{Readings, readings_of_pins}
-use Rattle.vme_model.specs.Guards.{Guard, failed}
-use Rattle.vme_model.specs.Rules.{guard}
 use Rattle.vme_model.specs.Verdict.{Judgement, ruling}
 use Rattle.vme_model.specs.declared.signals.Part.TheVariants as parts
 use Rattle.vme_model.specs.Signals.{is_of}
@@ -77,15 +74,3 @@ pub record SayWhatIsTold (row : RequesterRow) (own : Wire → Bool) (pins : Pins
 abbrev pub answer_over : ℕ → RequesterRow → Version → List Edge → Pins → Bool → Edge → Judgement
 answer_over s row version noted pins is_address_free e =
     ruling version (requester_readings s row (drive noted (Slot s)) pins is_address_free) e
-
--- the guard of the rule that names an edge of its own, read over the edges that were noted
-abbrev pub guard_over : ℕ → RequesterRow → Version → List Edge → Pins → Bool → Edge → Guard
-guard_over s row version noted pins is_address_free e =
-    (guard version (requester_readings s row (drive noted (Slot s)) pins is_address_free)
-    e.wire e.fall e.value).1
-
--- the conditions of that guard that fail
-abbrev pub failing_over : ℕ → RequesterRow → Version → List Edge → Pins → Bool → Edge →
-    List Condition
-failing_over s row version noted pins is_address_free e =
-    failed (guard_over s row version noted pins is_address_free e)
