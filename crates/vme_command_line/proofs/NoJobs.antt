@@ -5,7 +5,7 @@ use Rattle.vme_command_line.specs.Asked.{IsNoJob}
 use Rattle.vme_command_line.specs.Unfits.{IsUnfit}
 use Rattle.vme_command_line.specs.declared.Job.{Job}
 use Rattle.vme_command_line.specs.declared.Unfit.{Unfit}
-use Rattle.vme_command_line.specs.declared.Unfit.TheVariants.{Missing, NoMemory, Window, Beside, Event, Seedless, Aimless, Seeded, Seeds, Idle, Slack}
+use Rattle.vme_command_line.specs.declared.Unfit.TheVariants.{Missing, NoMemory, Window, Beside, Event, Seedless, Aimless, Seeded, Seeds, Idle, Rule, Slack}
 
 one : (name : Text) (rows : List Row) (unfit : Unfit) → unfit ≢ Missing → unfit ≢ NoMemory → IsUnfit name rows unfit → IsNoJob name rows
 one name rows Missing other room is = absurd (other refl)
@@ -18,6 +18,7 @@ one name rows Aimless other room is = is
 one name rows Seeded other room is = is
 one name rows (Seeds named) other room is = is
 one name rows Idle other room is = is
+one name rows (Rule named) other room is = is
 one name rows (Slack named) other room is = is
 
 pub no_job : (met : Option (Text × List Row)) (unfit : Unfit) → unfit ≢ Missing → unfit ≢ NoMemory → (unfit ≢ Missing → IsSomeAnd met (λ m. IsUnfit m.0 m.1 unfit))

@@ -6,11 +6,13 @@ use Rattle.clap.specs.Words.{IsAmong, Row, Text, all_of, fault_of, first_of, one
 use Rattle.clap.specs.declared.error.kind.ErrorKind.TheVariants.{DisplayVersion}
 use Rattle.vme_model.specs.declared.Version.{Version}
 use Rattle.vme_model.specs.declared.Version.TheVariants.{One, Two}
+use Rattle.vme_model.specs.declared.Rule.{Rule}
+use Rattle.vme_model.specs.Sentences.{rule_named}
 use Rattle.vme_goals.specs.declared.goals.Goal.{Goal}
 use Rattle.vme_command_line.specs.Alone.{aim_of}
 use Rattle.vme_command_line.specs.Commands.{commands}
 use Rattle.vme_command_line.specs.declared.Job.{Job}
-use Rattle.vme_command_line.specs.declared.Job.TheVariants.{Joined, OwnVersion, Replay, Check, Explain, State, Show, Summary, Sums, Order, Drive, Draw, Search, Run}
+use Rattle.vme_command_line.specs.declared.Job.TheVariants.{Joined, OwnVersion, Replay, Check, Explain, Rules, State, Show, Summary, Sums, Order, Drive, Draw, Search, Run}
 use Rattle.vme_command_line.specs.Limits.{IsNoWindow}
 use Rattle.vme_moments.specs.declared.slacks.Slacks.{Slacks}
 use Rattle.vme_command_line.specs.Numbers.{IsSeed}
@@ -90,6 +92,17 @@ AreTried rows first last = (named : Text) × (first_of (codes "seeds") rows ≡ 
 abbrev pub IsTold : List Row → Bool → Type 0
 IsTold rows progress = IsFlag (codes "progress") rows progress
 
+-- the rule that the operand NAME names; none if it is not given
+abbrev pub IsRule : List Row → Option Rule → Type 0
+IsRule rows None = first_of (codes "NAME") rows ≡ None
+IsRule rows (Some rule) = (named : Text) × (first_of (codes "NAME") rows ≡ Some named)
+    × (rule_named named ≡ Some rule)
+
+-- the operand NAME names no rule
+abbrev pub IsNoRule : List Row → Type 0
+IsNoRule rows = (named : Text) × (first_of (codes "NAME") rows ≡ Some named)
+    × (rule_named named ≡ None)
+
 -- the slacks that `--slack` names; no driver has slack if it is not given
 abbrev pub AreTheSlacks : List Row → Slacks → Type 0
 AreTheSlacks rows x = ((first_of (codes "slack") rows ≡ None) × AreAll 0 x)
@@ -106,6 +119,7 @@ AsksFor name rows (Check scenario trace) = (name ≡ codes "check")
 AsksFor name rows (Explain scenario trace edge) = (name ≡ codes "explain")
     × IsFile (codes "SCENARIO") rows scenario.now × IsFile (codes "TRACE") rows trace.now
     × (spelled (codes "edge") rows ≡ edge)
+AsksFor name rows (Rules rule) = (name ≡ codes "rule") × IsRule rows rule
 AsksFor name rows (State scenario trace after) = (name ≡ codes "state")
     × IsFile (codes "SCENARIO") rows scenario.now × IsFile (codes "TRACE") rows trace.now
     × (spelled (codes "after") rows ≡ after)
@@ -175,6 +189,7 @@ abbrev pub IsNoJob : Text → List Row → Type 0
 IsNoJob name rows =
     ((name ≡ codes "show") × IsNoWindow (first_of_window rows) (last_of_window rows))
     ⊎ ((name ≡ codes "drive") × ((IsNoAim rows ⊎ IsIdle rows) ⊎ AreNotTried rows))
+    ⊎ ((name ≡ codes "rule") × IsNoRule rows)
     ⊎ ((name ≡ codes "order") × IsNoSlack rows)
 
 abbrev pub AskForNoJob : List Text → Type 0

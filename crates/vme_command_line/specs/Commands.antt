@@ -14,6 +14,10 @@ use Rattle.clap.specs.declared.builder.value_parser.ValueParser.TheVariants.{Sig
 abbrev pub file : Text → Rule
 file name = record (new_rule name) { action = Some Set; required = true }
 
+-- a word that may be left out
+abbrev pub word : Text → Rule
+word name = record (new_rule name) { action = Some Set }
+
 -- words, of which at least one is required
 abbrev pub files : Text → Rule
 files name = record (file name) {
@@ -110,6 +114,10 @@ check = (leaf (codes "check") (file (codes "TRACE") ∷ [])).top
 abbrev pub explain : Shape
 explain = (leaf (codes "explain") (file (codes "TRACE") ∷ edge ∷ [])).top
 
+-- `rule` takes no scenario
+abbrev pub rule : Shape
+rule = record (new_shape (codes "rule")) { rules = word (codes "NAME") ∷ [] }
+
 abbrev pub state : Shape
 state = (leaf (codes "state") (file (codes "TRACE") ∷ after ∷ [])).top
 
@@ -135,5 +143,5 @@ commands = record {
     no_binary_name = true;
     has_version = true;
   };
-  subs = replay ∷ check ∷ explain ∷ state ∷ show ∷ summary ∷ order ∷ drive ∷ run ∷ [];
+  subs = replay ∷ check ∷ explain ∷ rule ∷ state ∷ show ∷ summary ∷ order ∷ drive ∷ run ∷ [];
 }

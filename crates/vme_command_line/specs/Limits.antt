@@ -2,7 +2,7 @@
 use Rattle.std.specs.Prelude.{◌≤◌, ◌<◌, ◌+◌, ◌⊎◌, ℕ, IfSome}
 use Rattle.vme_model.specs.Report.{trace_limit}
 use Rattle.vme_command_line.specs.declared.Job.{Job}
-use Rattle.vme_command_line.specs.declared.Job.TheVariants.{Joined, OwnVersion, Replay, Check, Explain, State, Show, Summary, Sums, Order, Drive, Draw, Search, Run}
+use Rattle.vme_command_line.specs.declared.Job.TheVariants.{Joined, OwnVersion, Replay, Check, Explain, Rules, State, Show, Summary, Sums, Order, Drive, Draw, Search, Run}
 
 abbrev pub most_turns : ℕ
 most_turns = 1000000
@@ -27,6 +27,7 @@ IsWithin OwnVersion = Unit {0}
 IsWithin (Replay scenario trace) = Unit {0}
 IsWithin (Check scenario trace) = Unit {0}
 IsWithin (Explain scenario trace edge) = IfSome edge (λ n. 1 ≤ n)
+IsWithin (Rules rule) = Unit {0}
 IsWithin (State scenario trace after) = Unit {0}
 IsWithin (Show scenario trace from to color) = (1 ≤ from) × IsWindow from to
 IsWithin (Summary scenario trace) = Unit {0}

@@ -65,12 +65,26 @@ const EXPLAIN_USAGE: &str = "vmebus explain <SCENARIO> <TRACE> [--edge <N>]";
 const EXPLAIN_EXAMPLE: &str =
     "It writes the number of the edge, the edge and its verdict, and then each condition that was tested
 of it: `holds ..` or `fails ..`, and under it the wires that it speaks of, since which edge they are
-so. N counts refused edges too. Without --edge it tells the first edge that is refused, or `legal N`
-where none is. It reads no further than that edge. The exit status is 0 where the edge is accepted,
-2 where it is refused, and 1 at a fault. docs/FORMATS.md has each line, and docs/RULES.md the rules.
+so. ` (profile)` follows a condition that is not the standard's; `vmebus rule` tells why. N counts
+refused edges too. Without --edge it tells the first edge that is refused, or `legal N` where none
+is. It reads no further than that edge. The exit status is 0 where the edge is accepted, 2 where it
+is refused, and 1 at a fault. docs/FORMATS.md has each line, and docs/RULES.md the rules.
 
 Example:
   vmebus explain board.toml tenure.vme --edge 8";
+
+const RULE: &str = "Tells the rules, or of one rule where its conditions come from";
+
+const RULE_USAGE: &str = "vmebus rule [NAME]";
+
+const RULE_EXAMPLE: &str =
+    "It writes a line for each rule: its name, its edge, and the rule in a sentence. With NAME it writes
+the line of that rule, and a line for each of its conditions: the chapter of the standard that asks
+for it, or `profile` where it is stricter than the standard, and why. NAME is E1, E2, G1 to G26, S1
+to S4 or E5. docs/RULES.md has the guards, and docs/COMMANDS.md each line.
+
+Example:
+  vmebus rule G13";
 
 const STATE: &str = "Tells where the bus stands after a trace, or after its first edges";
 
@@ -98,9 +112,10 @@ const SHOW_EXAMPLE: &str =
   _ -     another edge, while the wire is low, while it is high
 Four rows under them tell how it is after each edge: `grant at` is the slot at which a grant waits,
 `holder` the slot that drives BBSY* low, `shown` the target of an access or the level of an
-acknowledge, and `verdict` is `x` refused, `!` a status byte delivered, or `.` accepted. A slot is a
-letter, `a` for 1 to `u` for 21. It reads no further than edge B. The exit status is 2 where one of
-the edges 1 to B is refused, 0 where none is, and 1 at a fault. docs/FORMATS.md has each line.
+acknowledge, and `verdict` is `x` refused, `!` a status byte delivered, or `.` accepted. Slots are
+`1` to `9`, then `A` for 10 to `L` for 21; the levels of an acknowledge are `a` for 1 to `g` for 7.
+It reads no further than edge B. The exit status is 2 where one of the edges 1 to B is refused, 0
+where none is, and 1 at a fault. docs/FORMATS.md has each line.
 
 Example:
   vmebus show board.toml tenure.vme --from 1 --to 8";
@@ -227,6 +242,15 @@ fn moments_file<'a>(alloc: Global) -> Arg<'a>
 {
     let help = "The edges, one a line, below the moments at which they were seen";
     file(alloc, "MOMENTS", help)
+}
+
+/// The argument for the name of a rule, which may be left out.
+fn rule_name<'a>(alloc: Global) -> Arg<'a>
+    ensures { rule_of result ≡ said.word (codes "NAME") }
+{
+    Arg::new(alloc, "NAME")
+        .action(ArgAction::Set)
+        .help("Which rule, such as G13 [default: all]")
 }
 
 /// The argument for the files of traces, of which at least one is required.
@@ -462,6 +486,17 @@ fn explain<'a>(alloc: Global) -> Result<Command<'a>, AllocError>
     taking(command, edge_option(alloc))
 }
 
+/// The command `rule`, which takes no scenario.
+pub(crate) fn rule<'a>(alloc: Global) -> Result<Command<'a>, AllocError>
+    ensures { IfOk result (λ c. shape_of c ≡ said.rule) }
+{
+    Command::new(alloc, "rule")
+        .about(RULE)
+        .override_usage(RULE_USAGE)
+        .after_help(RULE_EXAMPLE)
+        .arg(rule_name(alloc))
+}
+
 fn state<'a>(alloc: Global) -> Result<Command<'a>, AllocError>
     ensures { IfOk result (λ c. shape_of c ≡ said.state) }
 {
@@ -552,6 +587,7 @@ pub(crate) fn commands<'a>(alloc: Global) -> Result<Command<'a>, AllocError>
     let program = offering(program(alloc), replay(alloc));
     let program = offering(program, check(alloc));
     let program = offering(program, explain(alloc));
+    let program = offering(program, rule(alloc));
     let program = offering(program, state(alloc));
     let program = offering(program, show(alloc));
     let program = offering(program, summary(alloc));

@@ -17,11 +17,11 @@ mod slacks;
 use alone::aim_named;
 use clap::error::ErrorKind;
 use clap::{ArgMatches, Error};
-use commands::{commands, drive, order, show};
+use commands::{commands, drive, order, rule, show};
 use slacks::slacks_in;
 use std::alloc::{AllocError, Global};
 use vme_goals::{Goal, goal_of};
-use vme_model::{TRACE_LIMIT, Version};
+use vme_model::{Rule, TRACE_LIMIT, Version};
 use vme_moments::Slacks;
 
 /// The program's name and its version, as the line that `--version` prints. The version stands only
@@ -70,6 +70,11 @@ pub enum Job<'a> {
         trace: &'a str,
         /// The edge, counted from 1. If it is not given, it is the first edge that is refused.
         edge: Option<u64>,
+    },
+    /// Tell the rules.
+    Rules {
+        /// The rule whose conditions are told; all rules in a sentence each if it is not given.
+        rule: Option<Rule>,
     },
     /// Report where the bus stands in a trace.
     State {
@@ -195,6 +200,8 @@ enum Unfit<'a> {
     Seeds { named: &'a str },
     /// Progress is to be reported, but there are no seeds to try.
     Idle,
+    /// No rule has this name.
+    Rule { named: &'a str },
     /// The text does not name slacks.
     Slack { named: &'a str },
 }
@@ -319,6 +326,21 @@ fn explain_of<'a>(scenario: &'a str, operands: &ArgMatches<'a>) -> Result<Job<'a
         trace: file_of(operands, "TRACE")?,
         edge: whole_of(operands, "edge", 1)?,
     })
+}
+
+/// The rules, with the name of one if it is given.
+fn rules_of<'a>(operands: &ArgMatches<'a>) -> Result<Job<'a>, Unfit<'a>>
+    ensures within { IfOk result IsWithin }
+    ensures asked { IfOk result (AsksFor (codes "rule") (rows_of (found_of operands.now))) }
+    ensures unfit { IfErr result (IsUnfit (codes "rule") (rows_of (found_of operands.now))) }
+{
+    match text_of(operands, "NAME") {
+        None => Ok(Job::Rules { rule: None }),
+        Some(named) => match Rule::named(named.as_bytes()) {
+            Some(rule) => Ok(Job::Rules { rule: Some(rule) }),
+            None => Err(Unfit::Rule { named }),
+        },
+    }
 }
 
 /// The state of the scenario's bus, with its other operands.
@@ -510,8 +532,12 @@ fn run_of<'a>(scenario: &'a str, operands: &ArgMatches<'a>) -> Result<Job<'a>, U
     })
 }
 
-/// The job for a command's name, with its operands.
-fn job_of<'a>(alloc: Global, name: &str, operands: &ArgMatches<'a>) -> Result<Job<'a>, Unfit<'a>>
+/// The job for the name of a command that takes a scenario, with its operands.
+fn job_on_scenario<'a>(
+    alloc: Global,
+    name: &str,
+    operands: &ArgMatches<'a>,
+) -> Result<Job<'a>, Unfit<'a>>
     ensures within { IfOk result IsWithin }
     ensures asked { IfOk result (AsksFor name.now (rows_of (found_of operands.now))) }
     ensures unfit { IfErr result (IsUnfit name.now (rows_of (found_of operands.now))) }
@@ -534,6 +560,18 @@ fn job_of<'a>(alloc: Global, name: &str, operands: &ArgMatches<'a>) -> Result<Jo
         "drive" => drive_of(scenario, operands),
         "run" => run_of(scenario, operands),
         _ => Err(Unfit::Missing),
+    }
+}
+
+/// The job for a command's name, with its operands.
+fn job_of<'a>(alloc: Global, name: &str, operands: &ArgMatches<'a>) -> Result<Job<'a>, Unfit<'a>>
+    ensures within { IfOk result IsWithin }
+    ensures asked { IfOk result (AsksFor name.now (rows_of (found_of operands.now))) }
+    ensures unfit { IfErr result (IsUnfit name.now (rows_of (found_of operands.now))) }
+{
+    match name {
+        "rule" => rules_of(operands),
+        _ => job_on_scenario(alloc, name, operands),
     }
 }
 
@@ -657,6 +695,16 @@ fn no_progress(alloc: Global) -> Result<Error, AllocError>
     drive(alloc)?.error(ErrorKind::ValueValidation, text)
 }
 
+/// The usage error if no rule has that name.
+fn no_rule(alloc: Global, named: &str) -> Result<Error, AllocError>
+    ensures { IfOk result (λ error. kind_of error ≡ ErrorKind.ValueValidation) }
+{
+    let text = format!(in alloc;
+        "invalid value '{named}' for '[NAME]': no rule is called {named}"
+    )?;
+    rule(alloc)?.error(ErrorKind::ValueValidation, &text)
+}
+
 /// The usage error if a text does not name slacks.
 fn no_slack(alloc: Global, named: &str) -> Result<Error, AllocError>
     ensures { IfOk result (λ error. kind_of error ≡ ErrorKind.ValueValidation) }
@@ -686,6 +734,7 @@ fn error_of(alloc: Global, unfit: Unfit<'_>) -> Result<Error, AllocError>
         Unfit::Seeded => seeded(alloc),
         Unfit::Seeds { named } => no_seeds(alloc, named),
         Unfit::Idle => no_progress(alloc),
+        Unfit::Rule { named } => no_rule(alloc, named),
         Unfit::Slack { named } => no_slack(alloc, named),
     }
 }

@@ -17,7 +17,7 @@ use crate::texts::{LINE, push_verdict, witness_line};
 use arrayvec::ArrayVec;
 use std::io::Write;
 use vme_bus::Bus;
-use vme_model::{Delivery, Edge, Refused, Tested, Witness};
+use vme_model::{Delivery, Edge, Refused, Tested, Witness, profile_mark};
 use vme_text::{push, push_number};
 use vme_trace::{Fault, put, spelling_of};
 
@@ -41,7 +41,7 @@ fn verdict_line(
     line
 }
 
-/// The line of a condition.
+/// The line of a condition, with its mark if it is the profile's.
 fn condition_line(bus: &Bus, edge: &Edge, tested: Tested) -> ArrayVec<u8, LINE>
     requires { IsTrue (is_well_formed edge.now) }
     ensures { result.items ≡ condition_line bus.now edge.now tested }
@@ -52,6 +52,8 @@ fn condition_line(bus: &Bus, edge: &Edge, tested: Tested) -> ArrayVec<u8, LINE>
     let mut line = ArrayVec::new();
     push(&mut line, if tested.holds { b"holds " } else { b"fails " });
     push(&mut line, text.as_slice());
+    let ours = tested.condition.is_ours(edge.wire, edge.fall);
+    push(&mut line, profile_mark(ours).as_bytes());
     push(&mut line, b"\n");
     line
 }

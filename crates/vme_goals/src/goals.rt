@@ -1,6 +1,8 @@
 //! Goals: what a trace can be drawn to reach.
-ghost use Rattle.std.specs.Prelude.{◌≡◌, find};
-ghost use Rattle.vme_goals.specs.Goals.{goal_of, goal_text, has_goal, is_named};
+ghost use Rattle.std.specs.Prelude.{◌≡◌, ◌≤◌, ◌++◌, find};
+ghost use Rattle.std.specs.Str.{bytes_eq};
+ghost use Rattle.arrayvec.specs.ArrayVec.{array_vec_len};
+ghost use Rattle.vme_goals.specs.Goals.{goal_mark, goal_of, goal_text, has_goal, is_named};
 
 use crate::events::Event;
 use crate::misses::{Miss, WORDS};
@@ -28,9 +30,10 @@ impl Goal {
         }
     }
 
-    /// The words of the goal, at most 80 bytes.
+    /// The words of the goal, at most 53 bytes.
     pub fn text(self) -> ArrayVec<u8, WORDS>
-        ensures { result.items ≡ goal_text self }
+        ensures items { result.items ≡ goal_text self }
+        ensures short { array_vec_len result ≤ 53 }
     {
         match self {
             Goal::Event(event) => {
@@ -42,12 +45,33 @@ impl Goal {
         }
     }
 
-    /// Whether these are the words of the goal, and the version of the rules can reach it.
+    /// The words of the goal, and the mark that `explain` writes after its condition.
+    fn marked_text(self) -> ArrayVec<u8, WORDS>
+        ensures { result.items ≡ goal_text self ++ goal_mark self }
+    {
+        let mut words = self.text();
+        if let Goal::Miss(miss) = self {
+            push(&mut words, miss.mark().as_bytes());
+        }
+        words
+    }
+
+    /// Whether these are the words of the goal, with its mark or without it, and the version of the
+    /// rules can reach it.
     fn is_named(self, words: &str, version: Version) -> bool
         ensures { result ≡ is_named words.now version self }
     {
-        self.is_of(version) && words.as_bytes() == self.text().as_slice()
+        self.is_of(version)
+            && (is_spelled(words, self.text().as_slice())
+                || is_spelled(words, self.marked_text().as_slice()))
     }
+}
+
+/// Whether the words are this text.
+fn is_spelled(words: &str, text: &[u8]) -> bool
+    ensures { result ≡ bytes_eq words.now text.now }
+{
+    words.as_bytes() == text
 }
 
 /// The first of these events that the words name.
@@ -71,8 +95,8 @@ fn miss_of(misses: &[Miss], words: &str, version: Version) -> Option<Miss>
 }
 
 /// The goal that these words name: an event by its name, a condition such as `G13 own br is low`,
-/// with N for a level, or a settling rule such as `S2`. It is none if no goal has these words, or
-/// if the version of the rules cannot reach it.
+/// with N for a level and with the mark of `explain` or without it, or a settling rule such as
+/// `S2`. It is none if no goal has these words, or if the version of the rules cannot reach it.
 pub fn goal_of(words: &str, version: Version) -> Option<Goal>
     ensures { result ≡ goal_of words.now version }
 {

@@ -1,11 +1,10 @@
 //! Misses: edges that one condition alone refuses.
 ghost use Rattle.std.specs.Prelude.{◌≡◌, ◌≤◌, ◌+◌, ◌++◌, decimal, length};
 ghost use Rattle.arrayvec.specs.ArrayVec.{array_vec_len};
-ghost use Rattle.vme_model.specs.Spoken.{kind_text};
-ghost use Rattle.vme_goals.specs.Goals.{has_miss, pattern, miss_text};
+ghost use Rattle.vme_goals.specs.Goals.{has_miss, miss_mark, miss_text};
 
 use arrayvec::ArrayVec;
-use vme_model::{Condition, IrqKind, Version};
+use vme_model::{Condition, IrqKind, Rule, Version, profile_mark};
 use vme_text::{push, push_byte};
 
 /// Room for the words of any goal, in bytes: the longest have 50.
@@ -20,32 +19,6 @@ pub enum Miss {
     Unserved(IrqKind),
     /// The guard of the rule holds, and this settling rule, S1 to S4, does not.
     Settling(u8),
-}
-
-/// The text of a condition, with N for a level.
-fn pattern(condition: Condition) -> &'static str
-    ensures text { result.now ≡ pattern condition }
-    ensures short { length result.now ≤ 48 }
-{
-    match condition {
-        Condition::Picked => "the arbiter picks level N",
-        Condition::Handled => "the board handles level N",
-        Condition::InterruptLow => "IRQN* is low",
-        Condition::Pending => "pending at level N",
-        Condition::NotPending => "not pending at level N",
-        _ => condition.fixed_text().unwrap_or(""),
-    }
-}
-
-/// The text for what serves an interrupter of this kind.
-fn kind_text(kind: IrqKind) -> &'static str
-    ensures text { result.now ≡ kind_text kind }
-    ensures short { length result.now ≤ 48 }
-{
-    match kind {
-        IrqKind::Roak => "the request was served by an acknowledge",
-        IrqKind::Rora => "the request was served by an access",
-    }
 }
 
 impl Miss {
@@ -131,28 +104,53 @@ impl Miss {
         }
     }
 
-    /// The words of the miss: a rule and the text of its condition, with N for a level, or a
-    /// settling rule.
-    pub fn text(self) -> ArrayVec<u8, WORDS>
-        ensures { result.items ≡ miss_text self }
+    /// Appends the words of the miss, at most 53 bytes.
+    fn push_text(self, words: &mut ArrayVec<u8, WORDS>)
+        requires { array_vec_len words.old + 53 ≤ 80 }
+        ensures items { words.new.items ≡ words.old.items ++ miss_text self }
+        ensures len { array_vec_len words.new ≤ array_vec_len words.old + 53 }
     {
-        let mut words = ArrayVec::new();
         match self {
             Miss::Rule(rule, condition) => {
-                push(&mut words, b"G");
-                push_byte(&mut words, rule);
-                push(&mut words, b" ");
-                push(&mut words, pattern(condition).as_bytes());
+                push(words, b"G");
+                push_byte(words, rule);
+                push(words, b" ");
+                push(words, condition.pattern().as_bytes());
             }
             Miss::Unserved(kind) => {
-                push(&mut words, b"G22 ");
-                push(&mut words, kind_text(kind).as_bytes());
+                push(words, b"G22 ");
+                push(words, kind.service_text().as_bytes());
             }
             Miss::Settling(rule) => {
-                push(&mut words, b"S");
-                push_byte(&mut words, rule);
+                push(words, b"S");
+                push_byte(words, rule);
             }
         }
+    }
+
+    /// The words of the miss: a rule and the text of its condition, with N for a level, or a
+    /// settling rule. At most 53 bytes.
+    pub fn text(self) -> ArrayVec<u8, WORDS>
+        ensures items { result.items ≡ miss_text self }
+        ensures short { array_vec_len result ≤ 53 }
+    {
+        let mut words = ArrayVec::new();
+        self.push_text(&mut words);
         words
+    }
+
+    /// The mark that `explain` writes after the condition, if it is the profile's; a settling rule
+    /// has none.
+    pub(crate) fn mark(self) -> &'static str
+        ensures text { result.now ≡ miss_mark self }
+        ensures short { length result.now ≤ 10 }
+    {
+        match self {
+            Miss::Rule(number, condition) => match Rule::numbered(number) {
+                Some(rule) => profile_mark(rule.is_profile(condition)),
+                None => "",
+            },
+            Miss::Unserved(_) | Miss::Settling(_) => "",
+        }
     }
 }

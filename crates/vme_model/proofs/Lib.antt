@@ -50,3 +50,7 @@ pub mod Reasons
 pub mod Standing
 -- what is reported of edges and of a bus, to the byte: examples, computed
 pub mod TextExamples
+-- `sources_have_the_rules_of_the_guards`
+pub mod NamedRules
+-- `every_condition_has_a_source`
+pub mod SourcedGuards

@@ -1,7 +1,9 @@
 -- What a job leaves on its output, and returns.
-use Rattle.std.specs.Prelude.{◌≡◌, ◌⊎◌, ℕ, List, length, Option, Result, Ok, Err}
+use Rattle.std.specs.Prelude.{◌≡◌, ◌⊎◌, ℕ, List, length, Option, Some, None, Result, Ok, Err}
 use Rattle.std.specs.Io.KnownBytes.{Appends, Keeps}
+use Rattle.vme_model.specs.declared.Rule.{Rule}
 use Rattle.vme_model.specs.Plan.{Plan}
+use Rattle.vme_rulebook.specs.Pages.{list, page}
 use Rattle.vme_scenario.specs.Format.{scenario as read}
 use Rattle.vme_trace.specs.declared.Fault.{Fault}
 use Rattle.vme_trace.specs.declared.Fault.TheVariants.{Write}
@@ -29,7 +31,7 @@ use Rattle.vme_order.specs.declared.OrderingFault.{OrderingFault}
 use Rattle.vme_order.specs.declared.OrderingFault.TheVariants as order
 use Rattle.vme_order.specs.Ordering.{Answer as OrderAnswer, LentText, OrdersInput}
 use Rattle.vme_command_line.specs.declared.Job.{Job}
-use Rattle.vme_command_line.specs.declared.Job.TheVariants.{Joined, OwnVersion, Replay, Check, Explain, State, Show, Summary, Sums, Order, Drive, Draw, Search, Run}
+use Rattle.vme_command_line.specs.declared.Job.TheVariants.{Joined, OwnVersion, Replay, Check, Explain, Rules, State, Show, Summary, Sums, Order, Drive, Draw, Search, Run}
 use Rattle.vme_command_line.specs.Asked.{Ask, texts_of}
 use Rattle.vme_command_line.specs.declared.TheConstants.{VERSION}
 use Rattle.vme_program.specs.Names.{form_of}
@@ -53,11 +55,16 @@ OnTrace Ends old new answer = (text : List ℕ) × (from : Known) × (to : Known
     × (let s = streams from to old new in
     LentAsking text (ReadNothing s × WroteNothing s) (Ends s) answer)
 
--- the line of the program's version is written, or at X8 a prefix of it
-abbrev pub TellsVersion : Known → Known → Answer → Type 0
-TellsVersion old new (Ok status) = Appends old new VERSION.now × (status ≡ ends.Done)
-TellsVersion old new (Err (fault.Trace f)) = (f ≡ Write) × AppendsFront old new VERSION.now
-TellsVersion old new (Err _) = ⊥
+-- a text is written, or at X8 a prefix of it
+abbrev pub Tells : List ℕ → Known → Known → Answer → Type 0
+Tells text old new (Ok status) = Appends old new text × (status ≡ ends.Done)
+Tells text old new (Err (fault.Trace f)) = (f ≡ Write) × AppendsFront old new text
+Tells text old new (Err _) = ⊥
+
+-- one rule with its conditions, or all rules in a sentence each
+abbrev pub rules_text : Option Rule → List ℕ
+rules_text (Some rule) = page rule
+rules_text None = list
 
 -- what the engine `order` does on a plan and moments
 abbrev pub OnMoments : Form → Slacks → Known → Known → OrderAnswer → Type 0
@@ -77,7 +84,8 @@ Ordered Ends (Err _) = ⊥
 abbrev pub Does : Job → Known → Known → Result Status RunFault → Type 0
 Does Joined old new =
     Alone (λ answer. (from : Known) × (to : Known) × Joins (streams from to old new) answer)
-Does OwnVersion old new = Alone (TellsVersion old new)
+Does OwnVersion old new = Alone (Tells VERSION.now old new)
+Does (Rules rule) old new = Alone (Tells (rules_text rule) old new)
 Does (Replay scenario trace) old new = Alone (OnTrace ReplaysInput old new)
 Does (Check scenario trace) old new = Alone (OnTrace ChecksInput old new)
 Does (Explain scenario trace edge) old new = Alone (OnTrace (ExplainsInput edge) old new)

@@ -1,11 +1,11 @@
 //! The engine of each job, on the files that the words name.
-ghost use Rattle.std.specs.Prelude.{◌≡◌, ◌≤◌, IfErr, OnErr, OnOk};
+ghost use Rattle.std.specs.Prelude.{◌≡◌, ◌≤◌, IfErr, IfOk, OnErr, OnOk};
 ghost use Rattle.std.specs.Io.KnownBytes.{Appends};
 ghost use Rattle.std.specs.Process.{exit_status};
 ghost use Rattle.vme_model.specs.Report.{trace_limit};
 ghost use Rattle.vme_command_line.specs.Limits.{IsWindow, IsWithin, most_turns};
 ghost use Rattle.vme_trace.specs.Writing.{AppendsFront};
-ghost use Rattle.vme_program.specs.Done.{IsDone};
+ghost use Rattle.vme_program.specs.Done.{IsDone, rules_text};
 ghost use Rattle.vme_engines.specs.Found.{found_answer};
 ghost use Rattle.vme_program.specs.Names.{IsFaultOf, form_of, told_answer, told_order_answer, told_run_answer, told_trace_answer};
 ghost use Rattle.vme_program.specs.Statuses.{exit_code};
@@ -24,11 +24,13 @@ use vme_engines::{
     replay, show, state, summary, tell_sums,
 };
 use vme_goals::Goal;
-use vme_model::Version;
+use vme_model::{Rule, Version};
 use vme_moments::Slacks;
 use vme_order::{Form, OrderingFault, order};
+use vme_rulebook::{all_rules, one_rule};
 use vme_run::{RunFault, run as run_scenario};
 use vme_summary::Sums;
+use vme_text::Text;
 use vme_trace::{Fault, flush, put};
 
 /// An engine's answer, given the name of the scenario.
@@ -112,18 +114,33 @@ fn run_joined<W: Write>(rt: &HostRuntime, out: &mut W) -> Result<Status, Program
     told("-", joined(rt.alloc(), &mut input, out))
 }
 
-/// Writes the program's version, and makes the writer pass on what it has buffered.
+/// Writes a text, and makes the writer pass on what it has buffered.
 ///
 /// # Errors
-/// X8 if the output cannot be written; then a prefix of the line was written.
-fn tell_version<W: Write>(out: &mut W) -> Result<(), Fault>
-    ensures ok { OnOk result (Appends (W.contents out.old) (W.contents out.new) VERSION.now) }
+/// X8 if the output cannot be written; then a prefix of the text was written.
+fn tell_text<W: Write>(text: &[u8], out: &mut W) -> Result<(), Fault>
+    ensures ok { OnOk result (Appends (W.contents out.old) (W.contents out.new) text.now) }
     ensures front { OnErr result
-        (AppendsFront (W.contents out.old) (W.contents out.new) VERSION.now) }
+        (AppendsFront (W.contents out.old) (W.contents out.new) text.now) }
     ensures fault { IfErr result (λ fault. fault ≡ Fault.Write) }
 {
-    put(out, VERSION.as_bytes())?;
+    put(out, text)?;
     flush(out)
+}
+
+/// Prints a text.
+fn run_text<W: Write>(text: &[u8], out: &mut W) -> Result<Status, ProgramFault<'static>>
+    ensures ok { IfOk result (λ status. (status ≡ Status.Done)
+        × Appends (W.contents out.old) (W.contents out.new) text.now) }
+    ensures front { OnErr result
+        (AppendsFront (W.contents out.old) (W.contents out.new) text.now) }
+    ensures fault { IfErr result (λ fault.
+        fault ≡ ProgramFault.Engine (EngineFault.Trace Fault.Write)) }
+{
+    match tell_text(text, out) {
+        Ok(()) => Ok(Status::Done),
+        Err(fault) => Err(ProgramFault::Engine(EngineFault::Trace(fault))),
+    }
 }
 
 /// Prints the program's version.
@@ -132,10 +149,26 @@ fn run_version<W: Write>(out: &mut W) -> Result<Status, ProgramFault<'static>>
     ensures fault { IfErr result (IsFaultOf Job.OwnVersion) }
     ensures done { IsDone Job.OwnVersion (W.contents out.old) (W.contents out.new) result }
 {
-    match tell_version(out) {
-        Ok(()) => Ok(Status::Done),
-        Err(fault) => Err(ProgramFault::Engine(EngineFault::Trace(fault))),
+    run_text(VERSION.as_bytes(), out)
+}
+
+/// One rule with its conditions, or all rules in a sentence each.
+fn rules_text(rule: Option<Rule>) -> Text
+    ensures { result ≡ rules_text rule }
+{
+    match rule {
+        Some(rule) => one_rule(rule),
+        None => all_rules(),
     }
+}
+
+/// Prints the rules.
+#[inline(never)]
+fn run_rules<W: Write>(rule: Option<Rule>, out: &mut W) -> Result<Status, ProgramFault<'static>>
+    ensures fault { IfErr result (IsFaultOf (Job.Rules rule)) }
+    ensures done { IsDone (Job.Rules rule) (W.contents out.old) (W.contents out.new) result }
+{
+    run_text(rules_text(rule).as_slice(), out)
 }
 
 /// Replays a trace.
@@ -443,6 +476,7 @@ pub fn run<'a, R: Threads + Wait + Sync, W: Write>(
             trace,
             edge,
         } => run_explain(rt, scenario, trace, edge, out),
+        Job::Rules { rule } => run_rules(rule, out),
         Job::State {
             scenario,
             trace,

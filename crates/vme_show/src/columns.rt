@@ -72,25 +72,26 @@ impl Verdict {
     }
 }
 
-/// The mark of a slot: its letter, `a` for slot 1.
+/// The mark of a slot: `1` to `9`, and `A` for slot 10 to `L` for slot 21.
 fn slot_mark(slot: Option<u8>) -> u8
     requires { IfSome slot (λ s. IsTrue (is_slot s)) }
     ensures { result ≡ slot_mark slot }
 {
     match slot {
         None => b'.',
-        Some(slot) => b'`' + slot,
+        Some(slot @ ..10) => b'0' + slot,
+        Some(slot) => b'A' + (slot - 10),
     }
 }
 
-/// The mark of what is shown: an acknowledge's level, an access's target by its letter.
+/// The mark of what is shown: an acknowledge's level, `a` for level 1, or an access's target.
 fn cycle_mark(shown: Option<Cycle>) -> u8
     requires { IfSome shown (λ c. IsTrue (is_in_range c)) }
     ensures { result ≡ cycle_mark shown }
 {
     match shown {
         None => b'.',
-        Some(Cycle::Acknowledge(level)) => b'0' + level,
+        Some(Cycle::Acknowledge(level)) => b'a' + (level - 1),
         Some(Cycle::Access(slot)) => slot_mark(Some(slot)),
     }
 }
