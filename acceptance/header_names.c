@@ -38,6 +38,62 @@ static const struct name pins[] = {
     {"IRQ7*", VMEBUS_PIN_IRQ(7)},
 };
 
+/* The conditions by their texts, with N for a level. */
+static const struct name conditions[] = {
+    {"all four grants are high", VMEBUS_CONDITION_GRANTS_HIGH},
+    {"the arbiter picks level N", VMEBUS_CONDITION_PICKED},
+    {"the arbiter is PRI", VMEBUS_CONDITION_ARBITER_IS_PRI},
+    {"a request above the level last granted is low", VMEBUS_CONDITION_HIGHER_ASKED},
+    {"bus clear is not due", VMEBUS_CONDITION_CLEAR_NOT_DUE},
+    {"BBSY* is high", VMEBUS_CONDITION_BUSY_HIGH},
+    {"BBSY* is low", VMEBUS_CONDITION_BUSY_LOW},
+    {"AS* is high", VMEBUS_CONDITION_ADDRESS_STROBE_HIGH},
+    {"AS* is low", VMEBUS_CONDITION_ADDRESS_STROBE_LOW},
+    {"DS0* is high", VMEBUS_CONDITION_DATA_STROBE_HIGH},
+    {"DS0* is low", VMEBUS_CONDITION_DATA_STROBE_LOW},
+    {"DTACK* is high", VMEBUS_CONDITION_DTACK_HIGH},
+    {"BERR* is high", VMEBUS_CONDITION_BERR_HIGH},
+    {"DTACK* or BERR* is low", VMEBUS_CONDITION_ANSWERED},
+    {"an acknowledge is shown", VMEBUS_CONDITION_ACKNOWLEDGE_SHOWN},
+    {"a cycle is shown", VMEBUS_CONDITION_CYCLE_SHOWN},
+    {"the own slot is shown", VMEBUS_CONDITION_OWN_SLOT_SHOWN},
+    {"own grant-in is high", VMEBUS_CONDITION_GRANT_IN_HIGH},
+    {"own grant-in is low", VMEBUS_CONDITION_GRANT_IN_LOW},
+    {"own iackin is low", VMEBUS_CONDITION_ACKNOWLEDGE_IN_LOW},
+    {"own br is high", VMEBUS_CONDITION_OWN_REQUEST_HIGH},
+    {"own br is low", VMEBUS_CONDITION_OWN_REQUEST_LOW},
+    {"own bgout is high", VMEBUS_CONDITION_OWN_GRANT_OUT_HIGH},
+    {"own bbsy is high", VMEBUS_CONDITION_OWN_BUSY_HIGH},
+    {"own bbsy is low", VMEBUS_CONDITION_OWN_BUSY_LOW},
+    {"own addr is on", VMEBUS_CONDITION_OWN_ADDRESS_ON},
+    {"own addr is off", VMEBUS_CONDITION_OWN_ADDRESS_OFF},
+    {"own addr is off or own as is low", VMEBUS_CONDITION_ADDRESS_FREE},
+    {"own as is low", VMEBUS_CONDITION_OWN_ADDRESS_STROBE_LOW},
+    {"own ds is high", VMEBUS_CONDITION_OWN_DATA_STROBE_HIGH},
+    {"own iackout is high", VMEBUS_CONDITION_OWN_ACKNOWLEDGE_OUT_HIGH},
+    {"own dtack is high", VMEBUS_CONDITION_OWN_DTACK_HIGH},
+    {"some BR line is low", VMEBUS_CONDITION_ASKED},
+    {"fewer cycles than the burst", VMEBUS_CONDITION_WITHIN_BURST},
+    {"the board handles level N", VMEBUS_CONDITION_HANDLED},
+    {"IRQN* is low", VMEBUS_CONDITION_INTERRUPT_LOW},
+    {"an own ds- in this cycle", VMEBUS_CONDITION_STROBED},
+    {"no own ds- in this cycle", VMEBUS_CONDITION_NOT_STROBED},
+    {"the request was served", VMEBUS_CONDITION_SERVED},
+    {"pending at level N", VMEBUS_CONDITION_PENDING},
+    {"not pending at level N", VMEBUS_CONDITION_NOT_PENDING},
+    {"iack and every iackout are high", VMEBUS_CONDITION_CHAIN_HIGH},
+    {"nobody can answer", VMEBUS_CONDITION_NOBODY_CAN_ANSWER},
+    {"the grant has passed the last board", VMEBUS_CONDITION_PASSED_THE_LAST_BOARD},
+    {"every bgout is high", VMEBUS_CONDITION_GRANTS_THROUGH},
+    {"there is the driver", VMEBUS_CONDITION_HAS_DRIVER},
+    {"the other state", VMEBUS_CONDITION_OTHER_STATE},
+};
+
+/* The numbers of an edge. */
+struct edge {
+    uint32_t driver, wire, fall, value;
+};
+
 struct text {
     uint8_t *bytes;
     size_t length;
@@ -72,8 +128,8 @@ static uint32_t wire_of(const char *word) {
     return UINT32_MAX;
 }
 
-/* Makes the edge that a line spells by its numbers. */
-static uint32_t step(struct vmebus *bus, const uint8_t *line, size_t bytes, uint32_t *delivered) {
+/* The numbers of the edge that a line spells. */
+static struct edge edge_of(const uint8_t *line, size_t bytes) {
     char text[MOST_BYTES + 1] = "", wire[8] = "", sign = 0, kind = 0;
     unsigned driver = VMEBUS_CONTROLLER, argument = 0;
     memcpy(text, line, bytes < MOST_BYTES ? bytes : MOST_BYTES);
@@ -84,7 +140,66 @@ static uint32_t step(struct vmebus *bus, const uint8_t *line, size_t bytes, uint
     uint32_t value = 0;
     if (kind == 'i') value = VMEBUS_ACKNOWLEDGE(argument);
     if (kind == 'r') value = VMEBUS_ACCESS(argument);
-    return vmebus_step(bus, driver, wire_of(wire), sign == '-', value, delivered);
+    return (struct edge){driver, wire_of(wire), sign == '-', value};
+}
+
+/* Makes an edge by its numbers. */
+static uint32_t step(struct vmebus *bus, struct edge it, uint32_t *delivered) {
+    return vmebus_step(bus, it.driver, it.wire, it.fall, it.value, delivered);
+}
+
+/* The numbers of an edge in one word. */
+static struct edge edge_in(uint32_t word) {
+    return (struct edge){VMEBUS_DRIVER(word), VMEBUS_WIRE(word), VMEBUS_FALL(word),
+                         VMEBUS_VALUE(word)};
+}
+
+/* Prints an edge as the library spells it. */
+static void print_edge(struct edge it) {
+    uint8_t line[MOST_BYTES];
+    uint32_t bytes = vmebus_spell(it.driver, it.wire, it.fall, it.value, line, sizeof line);
+    printf("%.*s", (int)bytes, (const char *)line);
+}
+
+/* Prints the conditions that an edge fails: each by its name, and as the library writes it. */
+static void print_failing(const struct vmebus *bus, struct edge it) {
+    uint32_t numbers[8];
+    uint32_t count = vmebus_failing(bus, it.driver, it.wire, it.fall, it.value, numbers, 8);
+    for (uint32_t place = 0; place < count; place++) {
+        uint8_t text[MOST_BYTES];
+        uint32_t bytes =
+            vmebus_why(bus, it.driver, it.wire, it.fall, it.value, place, text, sizeof text);
+        printf("fails");
+        for (size_t at = 0; at < sizeof conditions / sizeof *conditions; at++)
+            if (conditions[at].number == numbers[place]) printf(" %s", conditions[at].name);
+        printf(": %.*s\n", (int)bytes, (const char *)text);
+    }
+}
+
+/* Prints what a driver could make next, which of its wires are low, and which it has. */
+static void print_driver(const struct vmebus *bus, uint32_t driver) {
+    uint32_t edges[MOST_BYTES], count = vmebus_open_edges(bus, driver, edges, MOST_BYTES);
+    printf("open");
+    for (uint32_t at = 0; at < count; at++) {
+        printf(at == 0 ? " " : ", ");
+        print_edge(edge_in(edges[at]));
+    }
+    printf("\nlow");
+    for (size_t at = 0; at < sizeof wires / sizeof *wires; at++)
+        if (vmebus_low(bus, driver, wires[at].number)) printf(" %s", wires[at].name);
+    printf("\nhas");
+    for (size_t at = 0; at < sizeof wires / sizeof *wires; at++)
+        if (vmebus_has(bus, driver, wires[at].number)) printf(" %s", wires[at].name);
+    putchar('\n');
+}
+
+/* Prints the version of the header, and whether the library is of another build. */
+static void print_build(void) {
+    uint32_t numbers[4] = {0, 0, 0, 0}, version = VMEBUS_VERSION;
+    printf("version %u.%u.%u\n", version >> 16, version >> 8 & 0xff, version & 0xff);
+    if (vmebus_build(numbers, 4) != 3 || numbers[0] != version || numbers[1] != VMEBUS_WORDS ||
+        numbers[2] != VMEBUS_DRAWS_WORDS)
+        puts("the library is of another build");
 }
 
 /* Prints an answer, with what is delivered. */
@@ -156,8 +271,8 @@ static uint32_t open_within(struct vmebus *bus, int byte, uint32_t version, stru
     return fault;
 }
 
-/* Prints how no edge is answered: on words that are no bus, by a line that spells none, and by a
- * driver that there is not. */
+/* Prints how no edge is answered: on words that are no bus, by a line that spells none, by a driver
+ * that there is not, and by a draw on no wires. */
 static void print_no_edge(struct vmebus *bus) {
     struct vmebus zeros;
     uint32_t delivered = 1;
@@ -170,6 +285,11 @@ static void print_no_edge(struct vmebus *bus) {
     delivered = 1;
     answer = vmebus_step(bus, MOST_SLOTS + 1, VMEBUS_BR, 1, 0, &delivered);
     print_answer(answer, delivered);
+    struct vmebus_draws draws;
+    uint32_t wires[1] = {0}, edge;
+    vmebus_draws(&draws, 0);
+    answer = vmebus_draw(bus, &draws, wires, 1, &edge);
+    puts(answer == VMEBUS_NONE_OPEN ? "none open" : "an edge is drawn");
 }
 
 /* Makes the edge of a line on both buses, and prints the answer and the bus behind it. Returns
@@ -181,11 +301,16 @@ static bool follow(struct vmebus *by_line, struct vmebus *by_numbers, struct tex
         print_answer(answer, told);
         return false;
     }
-    uint32_t answer_too = step(by_numbers, line.bytes, line.length, &told_too);
+    struct edge edge = edge_of(line.bytes, line.length);
+    print_edge(edge);
+    putchar('\n');
+    print_failing(by_numbers, edge);
+    uint32_t answer_too = step(by_numbers, edge, &told_too);
     print_answer(answer_too, told_too);
     if (answer != answer_too || told != told_too) puts("a line is answered unlike its numbers");
     if (memcmp(by_line, by_numbers, sizeof *by_line) != 0) puts("a line makes another edge");
     print_bus(by_numbers);
+    print_driver(by_numbers, edge.driver);
     return true;
 }
 
@@ -207,6 +332,7 @@ static void judge(struct text scenario, struct text trace) {
         return;
     }
     if (memcmp(&by_line, &by_numbers, sizeof by_line) != 0) puts("a bus is shorter than its words");
+    print_build();
     print_no_edge(&by_numbers);
     print_bus(&by_numbers);
     const uint8_t *line = trace.bytes + 6, *end = trace.bytes + trace.length, *feed;

@@ -1,11 +1,11 @@
 /* Opens a bus on a stack of so many KiB, with nothing below that may be touched: see
  * acceptance/library.
  *
- *     little_stack KIB KIB_OF_OTHERS SCENARIO..
+ *     little_stack KIB KIB_OF_DRAW KIB_OF_OTHERS SCENARIO..
  *
  * Prints for each scenario the number of the fault, or 0, and how many bytes of the stack were
- * written. Then it makes all other calls, on the bus that was opened last, if any, on a stack of
- * KIB_OF_OTHERS, and prints the same. If a call takes more stack than there is, SIGSEGV ends the
+ * written. Then it draws edges on a stack of KIB_OF_DRAW, and makes all other calls on one of
+ * KIB_OF_OTHERS, on the bus that was opened last, if any, and prints the same. If a call takes more stack than there is, SIGSEGV ends the
  * program. */
 #include <stdio.h>
 #include <stdlib.h>
@@ -63,10 +63,36 @@ static void open_bus(void) {
     if (fault != 0) bus = before;
 }
 
+/* Asks of an edge and its driver all that there is to ask. */
+static uint32_t ask(uint32_t driver, uint32_t wire, uint32_t fall, uint32_t value) {
+    uint32_t numbers[36];
+    uint8_t line[64];
+    struct vmebus_draws draws;
+    vmebus_draws(&draws, driver);
+    return vmebus_failing(&bus, driver, wire, fall, value, numbers, 36) |
+           vmebus_why(&bus, driver, wire, fall, value, 0, line, sizeof line) |
+           vmebus_spell(driver, wire, fall, value, line, sizeof line) |
+           vmebus_open_edges(&bus, driver, numbers, 36) | vmebus_low(&bus, driver, wire) |
+           vmebus_has(&bus, driver, wire) | vmebus_build(numbers, 36);
+}
+
+/* Draws edges on all wires, and makes them. */
+static void draw_edges(void) {
+    uint32_t wires[22], edge, told;
+    struct vmebus_draws draws;
+    for (int at = 0; at < 22; at++) wires[at] = 0xffff;
+    vmebus_draws(&draws, 1);
+    for (int left = 200; left > 0; left--)
+        if (vmebus_draw(&bus, &draws, wires, 22, &edge) == 0)
+            vmebus_step(&bus, VMEBUS_DRIVER(edge), VMEBUS_WIRE(edge), VMEBUS_FALL(edge),
+                        VMEBUS_VALUE(edge), &told);
+}
+
 /* Makes each edge that some numbers name, each line that some bytes are, and looks at the bus. */
 static void call_others(void) {
     uint32_t told, seen = 0;
     for (uint32_t number = 0; number < 22 * 16 * 2; number++) {
+        seen |= ask(number / 32, number / 2 % 16, number % 2, number % 56);
         vmebus_step(&bus, number / 32, number / 2 % 16, number % 2, number % 56, &told);
         vmebus_line(&bus, text + number, number % 64, &told);
         seen |= vmebus_holder(&bus) | vmebus_grant_at(&bus) | vmebus_pins(&bus, number % 24);
@@ -83,15 +109,18 @@ static void read_scenario(const char *path) {
 }
 
 int main(int count, char **words) {
-    if (count < 4) return 1;
+    if (count < 5) return 1;
     lay_out(strtoul(words[1], NULL, 10) * 1024);
-    for (int at = 3; at < count; at++) {
+    for (int at = 4; at < count; at++) {
         read_scenario(words[at]);
         size_t written = written_by(open_bus);
         printf("%u %zu\n", fault, written);
         fflush(stdout);
     }
     lay_out(strtoul(words[2], NULL, 10) * 1024);
+    printf("draws %zu\n", written_by(draw_edges));
+    fflush(stdout);
+    lay_out(strtoul(words[3], NULL, 10) * 1024);
     printf("others %zu\n", written_by(call_others));
     return 0;
 }

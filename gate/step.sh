@@ -29,8 +29,19 @@ step() {
     echo "check: $name took $(between "$log.before" "$log.after")"
 }
 
-# Prints the sum of all steps' totals, and fails if anything failed or nothing passed.
+# Prints, for each step in which something failed, the last lines of its log but for those of what passed.
+repeat_failures() {
+    local total name
+    for total in $(grep -LE ' 0 failed$' "$room"/*.total); do
+        name=$(basename "$total" .total)
+        echo "check: $name: $(cat "$total"); its log ends with"
+        grep -avE ': as it should be$|: refused at ' "$room/$name.log" | tail -n 10 | cut -c 1-300 | sed 's/^/    /'
+    done
+}
+
+# Prints what failed and the sum of all steps' totals, and fails if anything failed or nothing passed.
 sum_up() {
+    repeat_failures
     awk '{ passed += $1; failed += $3 }
         END { if (!passed && !failed) failed = 1; printf "%d passed, %d failed\n", passed, failed; exit failed > 0 }' "$room"/*.total
 }

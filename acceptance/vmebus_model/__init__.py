@@ -4,7 +4,11 @@ Where to begin: rules.py has G1 to G26 and S1 to S4, and bus.py the words in whi
 
 - traces.py, toml.py and backplane.py: edges, traces and scenarios, and the faults of both;
 - verdicts.py and judging.py: which refusal is the first; `replay`, `check`, and the program without words;
+- sources.py: the table of the rules, their sentences and where each condition comes from;
 - explain.py with readings.py, state.py, show.py, summary.py with events.py: what is told of a trace;
+- shrink.py: a few of the edges before an edge, with which it has the same answer;
+- cycles.py: the transactions of a trace;
+- moments.py and order.py: a legal order of edges that were seen at the same moments;
 - drive.py and draw.py: traces that the program makes, in rounds and by a seed;
 - embedded.py: what a program in C sees of the bus;
 - words.py, program.py and faults.py: the command line, files and streams, and what ends a command;

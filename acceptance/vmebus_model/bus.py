@@ -5,6 +5,7 @@ An edge has the number that it has in its trace, refused edges counted; `since` 
 
 from bisect import bisect_right
 from collections import defaultdict
+from copy import copy
 
 from .traces import BOARD_WIRES, CONTROLLER_WIRES, GRANTS
 
@@ -17,7 +18,7 @@ class Bus:
     def __init__(self, plan, version):
         self.plan, self.version = plan, version
         self.accepted = 0
-        self.low = {wire: set() for wire in CONTROLLER_WIRES + BOARD_WIRES}  # the drivers that hold a wire low, or on
+        self.low = {wire: frozenset() for wire in CONTROLLER_WIRES + BOARD_WIRES}  # the drivers that hold a wire low, or on
         self.falls = defaultdict(list)  # the numbers of the falls of a driver's wire
         self.moved = {}  # the number of the last edge of a driver's wire
         self.answers = defaultdict(list)  # the numbers of a board's answers, by whether an acknowledge was shown
@@ -34,12 +35,21 @@ class Bus:
         if cycle:
             self.on[driver] = cycle
         if falls:
-            self.low[wire].add(driver)
+            self.low[wire] |= {driver}
             self.falls[driver, wire].append(number)
         else:
-            self.low[wire].discard(driver)
+            self.low[wire] -= {driver}
         self.moved[driver, wire] = number
         self.accepted += 1
+
+    def with_edge(self, edge, number):
+        """Another bus of this history with an edge added; this one stays as it is."""
+        other = copy(self)
+        other.low, other.moved, other.on = dict(self.low), dict(self.moved), dict(self.on)
+        for name in ("falls", "answers"):
+            setattr(other, name, defaultdict(list, {key: list(them) for key, them in getattr(self, name).items()}))
+        other.accept(edge, number)
+        return other
 
     # Lines and daisy chains
 

@@ -1,9 +1,13 @@
 """`drive` with a seed: traces that are drawn among all legal edges, until an event or a miss comes."""
 
+import re
+from typing import NamedTuple, Optional
+
 from .bus import Bus
 from .drive import written
 from .events import EVENTS, OF_VERSION_2, events_of
 from .rules import GUARDS, SETTLING, name_of_rule
+from .sources import TABLE
 from .traces import text_of
 from .verdicts import guard, hold, next_edges, open_edges, settling
 
@@ -12,36 +16,10 @@ KINDS = (
     "addr-i", "addr-r", "addr-e", "addr+", "as-", "as+", "ds-", "ds+", "irq-", "irq+", "iackout-", "iackout+", "dtack-", "dtack+",
 )
 FACTOR = 6364136223846793005
+GUARDED = [f"G{number}" for number in range(1, 27)]
 
-# The conditions that a miss may be named by, as the table of docs/COMMANDS.md has them.
-CONDITIONS = {
-    1: ("all four grants are high", "BBSY* is high", "the arbiter picks level N"),
-    2: ("BBSY* is low",),
-    3: ("the arbiter is PRI", "BBSY* is low", "all four grants are high", "a request above the level last granted is low"),
-    4: ("bus clear is not due",),
-    5: ("AS* is low", "DS0* is low", "an acknowledge is shown"),
-    6: ("AS* is high",),
-    7: ("DS0* is low", "DTACK* is high"),
-    8: ("DS0* is high",),
-    9: ("own bbsy is high",),
-    10: ("own bbsy is low",),
-    11: ("own grant-in is low", "own br is high", "own bbsy is high"),
-    12: ("own grant-in is high",),
-    13: ("own grant-in is low", "own bgout is high", "own br is low"),
-    14: ("own br is high", "own grant-in is high", "own addr is off or own as is low", "some BR line is low"),
-    15: ("own bbsy is low", "AS* is high", "fewer cycles than the burst", "the board handles level N", "IRQN* is low"),
-    16: ("own addr is on", "AS* is high"),
-    17: ("own as is low", "own addr is on", "DTACK* is high", "BERR* is high", "no own ds- in this cycle"),
-    18: ("DTACK* or BERR* is low",),
-    19: ("own as is low", "own ds is high", "an own ds- in this cycle"),
-    20: ("own addr is off",),
-    22: ("the request was served by an acknowledge", "the request was served by an access"),
-    23: ("own iackin is low", "own dtack is high", "DS0* is low", "not pending at level N", "an acknowledge is shown"),
-    24: ("AS* is high",),
-    25: ("DS0* is low", "AS* is low", "own iackin is low", "own iackout is high", "pending at level N", "the own slot is shown",
-         "a cycle is shown"),
-    26: ("DS0* is high",),
-}
+# The conditions that a miss may be named by, each with the version in which alone it is.
+CONDITIONS = {f"{rule} {name}": source.version for rule in GUARDED for name, source in TABLE[rule].conditions.items()}
 
 
 # Those of them that another condition of the rule always fails beside, so that no trace comes to them.
@@ -49,12 +27,56 @@ NEVER_ALONE = ("G5 AS* is low", "G16 AS* is high", "G17 own addr is on", "G23 an
                "G25 a cycle is shown")
 
 
+def has_miss(rule, version):
+    """Whether a rule has a condition, or a settling rule, in a version."""
+    settles = {TABLE[it].edge for it in ("S1", "S2", *(["S3", "S4"] if version == 2 else []))}
+    sources = TABLE[rule].conditions.values()
+    return TABLE[rule].edge in settles or any(it.version in (0, version) for it in sources)
+
+
 def goals(version):
     """All that `--until` may name in a version of the rules."""
     events = [it for it in EVENTS if version == 2 or it not in OF_VERSION_2]
-    guards = [f"G{rule} {it}" for rule, names in CONDITIONS.items() for it in names if version == 1 or rule not in (2, 10)]
-    guards = [it for it in guards if it not in NEVER_ALONE]
-    return events + guards + ["S1", "S2"] + (["S3", "S4"] if version == 2 else [])
+    rules = [it for it in GUARDED if has_miss(it, version)]
+    guards = [it for it, only in CONDITIONS.items() if only in (0, version) and it not in NEVER_ALONE]
+    return events + rules + guards + ["S1", "S2"] + (["S3", "S4"] if version == 2 else [])
+
+
+def why_no_goal(name, version):
+    """What is wrong with a name that is no goal in this version of the rules."""
+    if name in GUARDED:
+        return f"rule {name} has no condition"
+    if name in NEVER_ALONE:
+        return "wherever this condition fails, another one of the rule fails too"
+    if name in goals(3 - version):
+        return f"version {version} has no such {'event' if name in EVENTS else 'condition'}"
+    return why_unknown(name)
+
+
+def why_unknown(name):
+    """What is wrong with a name that is no goal of any version."""
+    first = name.partition(" ")[0]
+    if any(re.fullmatch(re.escape(it).replace("N", "[N0-9]") + r"( \(profile\))?", name) for it in goals(1)):
+        return "N stands for a level, as in 'IRQN* is low'"
+    if first in GUARDED:
+        return f"rule {first} has no such condition"
+    if name != first and first in ("S1", "S2", "S3", "S4"):
+        return f"{first} is named without its condition"
+    if re.match("[GgSsEe][0-9]", name) and first not in ("E1", "E2", "E5"):
+        return f"no rule is called {first}"
+    return f"no event or condition is called {name}"
+
+
+class Goal(NamedTuple):
+    """What ends a drawn trace: an event or a miss by its name, of one driver or of any, behind some number of edges."""
+
+    name: str
+    driver: Optional[int]
+    after: int
+
+    def takes(self, driver, number):
+        """Whether an edge of a driver counts, if it is this one of the trace."""
+        return self.driver in (None, driver) and number > self.after
 
 
 class Numbers:
@@ -110,27 +132,33 @@ class Walk:
         return self.weights[kind] * (1 + 256 // (1 + self.made[kind]))
 
 
-def is_miss(bus, edge, goal):
-    """Whether just the condition, or the settling rule, that the goal names refuses an edge to its wire's other state."""
-    rule, _, name = goal.partition(" ")
-    guarding, settles = GUARDS[edge.wire, edge.falls], SETTLING.get((edge.wire, edge.falls))
-    if name:
-        return name_of_rule(guarding) == rule and [it for it, holds, _ in guard(bus, edge) if not holds] == [name]
-    return settles and name_of_rule(settles) == rule and hold(guard(bus, edge)) and not hold(settling(bus, edge))
+def is_miss(bus, edge, named):
+    """Whether just one condition, or the settling rule, refuses an edge to its wire's other state, and it is one that is named:
+    by itself, by the settling rule, or by the rule that guards the edge."""
+    rule, _, name = named.partition(" ")
+    guards, settles = name_of_rule(GUARDS[edge.wire, edge.falls]), SETTLING.get((edge.wire, edge.falls))
+    if rule != guards and not (settles and rule == name_of_rule(settles)):
+        return False
+    failing = [it for it, holds, _ in guard(bus, edge) if not holds]
+    is_unsettled = not failing and not hold(settling(bus, edge))
+    if rule == guards and not name:
+        return len(failing) == 1 or is_unsettled
+    return failing == [name] if name else is_unsettled
 
 
-def miss(bus, goal):
-    """The first edge by driver, wire and value that is the miss of this name, None if there is none."""
-    if goal is None or goal in EVENTS:
+def miss(bus, goal, number):
+    """The first edge by driver, wire and value that is the miss of this goal, None if there is none, or if none counts now."""
+    if goal is None or goal.name in EVENTS:
         return None
-    return next((edge for driver in bus.plan.drivers for edge in next_edges(bus, driver) if is_miss(bus, edge, goal)), None)
+    drivers = [it for it in bus.plan.drivers if goal.takes(it, number)]
+    return next((edge for driver in drivers for edge in next_edges(bus, driver) if is_miss(bus, edge, goal.name)), None)
 
 
 def walked(plan, version, seed, most, goal=None):
     """A drawn trace, and whether it came to the goal, which ends it."""
     walk, edges = Walk(plan, version, seed), []
     while len(edges) < most:
-        missed = miss(walk.bus, goal)
+        missed = miss(walk.bus, goal, len(edges) + 1)
         if missed:
             return edges + [missed], True
         edge = walk.drawn()
@@ -139,14 +167,21 @@ def walked(plan, version, seed, most, goal=None):
         events = events_of(walk.bus, edge)
         edges.append(edge)
         walk.bus.accept(edge, len(edges))
-        if goal in events:
+        if goal and goal.name in events and goal.takes(edge.driver, len(edges)):
             return edges, True
     return edges, False
 
 
+def goal_of(options):
+    """The goal that options name, None if they name none."""
+    if "--until" not in options:
+        return None
+    return Goal(options["--until"], options.get("--of"), options.get("--after", 0))
+
+
 def drive_drawn(plan, options, console):
     """`drive --seed`, with `--until` or without."""
-    goal, most, version = options.get("--until"), options["--edges"], options["--version"]
+    goal, most, version = goal_of(options), options["--edges"], options["--version"]
     edges, came = walked(plan, version, options["--seed"], most, goal)
     status = written(version, edges, most, console)
     return status if goal is None else 0 if came else 3
@@ -156,7 +191,7 @@ def drive_seeds(plan, options, console):
     """`drive --seeds`: the trace of the first seed that comes to the event."""
     first, last = options["--seeds"]
     for seed in range(first, last + 1):
-        edges, came = walked(plan, options["--version"], seed, options["--edges"], options["--until"])
+        edges, came = walked(plan, options["--version"], seed, options["--edges"], goal_of(options))
         if came:
             console.write(text_of(options["--version"], edges))
             console.tell(f"seed {seed}")

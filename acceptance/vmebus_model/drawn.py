@@ -13,6 +13,7 @@ from .cases import Kept, first_difference
 from .draw import goals
 from .drawing import plan_of, scenario_of, some, spoiled_scenario, trace_of
 from .program import main
+from .sources import TABLE
 from .traces import HEADERS
 from .words import COMMANDS, FLAGS, GREATEST, NEEDED, RANGES, job_of
 
@@ -25,9 +26,12 @@ VALUES = {
     "--edges": ("1", "20", "+5", "0", "1048577", "-1", ""),
     "--turns": ("1", "30", "0", "1000001"),
     "--version": ("1", "2", "0", "3", "+1", "02"),
+    "--slack": ("2", "c=2", "+03", "1=1,c=0", "c=1,c=1", "c", "=1", "c=", "x=1", "22=1", "21=1", "1,c=1", "c=1,", "-1", ""),
     "--seeds": ("0..1", "+3..03", "1..0", "0..", "..1", "1", "0...1", "-1..1", f"{GREATEST}..{GREATEST}"),
-    "--until": ("delivery", "S1", "withdrawn", "S4", "G10 own bbsy is low", "G14 some BR line is low", "G21", "Delivery",
+    "--until": ("delivery", "S1", "G13", "G9 own bbsy is high (profile)", "G13 own grant-in is low (profile)",
+                "withdrawn", "S4", "G10 own bbsy is low", "G14 some BR line is low", "G10", "G21", "Delivery",
                 "G5 AS* is low", ""),
+    "--of": ("c", "2", "+03", "1", "0", "22", "C", ""),
 }
 
 
@@ -36,12 +40,17 @@ def words_of(draw, edges):
     begin, files = draw.randint(1, edges + 1), FILES[:2]
     yield from (["replay", *files], ["check", *files], [], ["explain", *files])
     yield from (["explain", *files, "--edge", str(draw.randint(1, edges + 1))] for _ in range(3))
+    yield ["shrink", *files, *draw.choice([[], ["--edge", str(draw.randint(1, edges + 1))]])]
     yield ["state", *files, *draw.choice([[], ["--after", str(draw.randint(0, edges + 1))]])]
     end = begin + draw.randint(-1, 200)
     window = draw.choice([[], ["--from", str(begin)], ["--to", str(begin)], ["--from", str(begin), "--to", str(end)]])
     yield ["show", *files, *window, *draw.choice([[], ["--color"]])]
+    yield ["replay", *files, "--full"]
+    yield ["check", *FILES, *draw.choice([[], ["trace.vme"], ["none.vme", "second.vme"]])]
+    yield ["cycles", *files]
     yield ["summary", *files]
     yield ["summary", *FILES, *draw.choice([[], ["trace.vme"], ["none.vme"]])]
+    yield ["rule", *draw.choice([[], [draw.choice(list(TABLE))]])]
     yield from words_that_drive(draw)
     yield from (any_words(draw), any_words(draw))
 
@@ -53,8 +62,10 @@ def words_that_drive(draw):
     yield ["drive", *making]
     yield ["run", *making, "--turns", "30"]
     yield ["drive", *making, "--seed", str(seed)]
-    goal = draw.choice(goals(draw.choice([int(version), 2])))
-    yield ["drive", *making, "--until", goal, *draw.choice([["--seed", str(seed)], ["--seeds", f"{seed}..{seed + 5}"]])]
+    goal, seeds = draw.choice(goals(draw.choice([int(version), 2]))), f"{seed}..{seed + 5}"
+    yield ["drive", *making, "--until", goal, *draw.choice([["--seed", str(seed)], ["--seeds", seeds]])]
+    of, after = ["--of", draw.choice(["c", "1", "2", "3", "21"])], ["--after", str(draw.choice([0, 1, 5, 10, 50]))]
+    yield ["drive", *making, "--until", goal, *draw.choice([of, after, of + after]), "--seeds", seeds]
 
 
 def any_words(draw):

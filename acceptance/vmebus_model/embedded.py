@@ -1,11 +1,18 @@
 """What a program in C sees of a bus: what acceptance/header_names.c has to print of a trace."""
 
+import re
+from pathlib import Path
+
 from . import backplane
 from .bus import Bus
+from .explain import conditions
 from .faults import Fault
 from .program import MOST_BYTES
 from .traces import CONTROLLER, Trace, name_of
-from .verdicts import step
+from .verdicts import guard, hold, open_edges, refusal, settling, step
+
+# Where the program's version is written down, which the library's has to be.
+VERSION = Path(__file__).resolve().parents[2] / "crates" / "vme_command_line" / "src" / "lib.rt"
 
 # The slots of a backplane, and one that none has, which reads what the controller does.
 SLOTS = range(1, backplane.MOST_SLOTS + 2)
@@ -14,9 +21,9 @@ SLOTS = range(1, backplane.MOST_SLOTS + 2)
 LINES = {"BBSY*": "bbsy", "BCLR*": "bclr", "AS*": "as", "DS0*": "ds", "DTACK*": "dtack",
          "BERR*": "berr"}
 
-# How no edge is answered: on words that are no bus, by a line that spells none, and by a driver
-# that there is not.
-NO_EDGE = ("no bus", "no edge", "E1")
+# How no edge is answered: on words that are no bus, by a line that spells none, by a driver that
+# there is not, and by a draw on no wires.
+NO_EDGE = ("no bus", "no edge", "E1", "none open")
 
 
 def seen(scenario, trace):
@@ -34,7 +41,12 @@ def seen(scenario, trace):
     if fault:
         return [fault]
     bus = Bus(plan, edges.version)
-    return [*NO_EDGE, *bus_lines(bus), *step_lines(bus, edges)]
+    return [version_line(), *NO_EDGE, *bus_lines(bus), *step_lines(bus, edges)]
+
+
+def version_line():
+    """The program's version."""
+    return "version " + re.search(r'VERSION: &str = "vmebus ([0-9.]+)', VERSION.read_text())[1]
 
 
 def edges_of(text):
@@ -47,14 +59,43 @@ def edges_of(text):
 
 
 def step_lines(bus, edges):
-    """Each answer, with the bus behind it, up to the first line that is no edge."""
+    """Each edge, the conditions that it fails, its answer, and the bus behind it, up to the first
+    line that is no edge."""
     number = 0
     try:
         for number, edge in enumerate(edges, 1):
-            yield f"{number} {step(bus, edge, number)}"
+            yield f"{number} {edge}"
+            yield from failing_lines(bus, edge)
+            yield step(bus, edge, number)
             yield from bus_lines(bus)
+            yield from driver_lines(bus, edge.driver)
     except Fault:
         yield f"{number + 1} no edge"
+
+
+def failing_lines(bus, edge):
+    """The conditions that an edge fails, by their names and as `explain` writes them."""
+    fails = "fails "
+    texts = [it[len(fails) :] for it in conditions(bus, edge) if it.startswith(fails)]
+    yield from (f"{fails}{name}: {text}" for name, text in zip(failing(bus, edge), texts))
+
+
+def failing(bus, edge):
+    """The names of the conditions that an edge fails, with N for a level."""
+    refused = refusal(bus, edge)
+    if refused in ("E1", "E2"):
+        return ["there is the driver" if refused == "E1" else "the other state"]
+    some = settling(bus, edge) if hold(guard(bus, edge)) else guard(bus, edge)
+    return [name.partition(" by an")[0] for name, holds, _ in some if not holds]
+
+
+def driver_lines(bus, driver):
+    """What a driver could make next, which of its wires are low, and which it has."""
+    wires = bus.plan.wires[driver] if driver in bus.plan.drivers else ()
+    edges = open_edges(bus, driver) if wires else ()
+    yield f"open {', '.join(map(str, edges))}".rstrip()
+    yield " ".join(["low", *(it for it in wires if bus.is_low((driver, it)))])
+    yield " ".join(["has", *wires])
 
 
 def bus_lines(bus):

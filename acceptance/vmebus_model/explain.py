@@ -3,24 +3,40 @@
 from .bus import Bus
 from .judging import beyond
 from .readings import of_wire, readings
+from .rules import GUARDS, SETTLING, name_of_rule
+from .sources import marked
 from .traces import GRANTS, name_of
-from .verdicts import guard, hold, is_ok, refusal, settling, step
+from .verdicts import guard, hold, is_ok, refusal, settling, step, verdict_of
 
 
 def explain(plan, trace, options, console):
     """Tells of edge N, or of the first that is refused; what stands after it is not judged."""
-    bus, wanted, number = Bus(plan, trace.version), options.get("--edge"), 0
+    bus = Bus(plan, trace.version)
+    number, edge = asked_edge(bus, trace, options.get("--edge"))
+    if edge is None:
+        console.write(f"legal {number}\n")
+        return 0
+    verdict = verdict_of(bus, edge)
+    console.write("\n".join([f"{number} {edge} {verdict}", *conditions(bus, edge), ""]))
+    return 0 if is_ok(verdict) else 2
+
+
+def asked_edge(bus, trace, wanted):
+    """The edge of the number that is wanted, or the first that is refused, after its number; the bus is brought to just
+    before it. If no edge is refused, the number of all edges, and None."""
+    number = 0
     for number, edge in enumerate(trace, 1):
         if number == wanted or wanted is None and refusal(bus, edge):
-            lines = list(conditions(bus, edge))
-            verdict = step(bus, edge, number)
-            console.write("\n".join([f"{number} {edge} {verdict}", *lines, ""]))
-            return 0 if is_ok(verdict) else 2
+            return number, edge
         step(bus, edge, number)
     if wanted is not None:
         raise beyond(number)
-    console.write(f"legal {number}\n")
-    return 0
+    return number, None
+
+
+def fails(bus, edge):
+    """The conditions of an edge that fail, as `explain` prints them."""
+    return [it for it in conditions(bus, edge) if it.startswith("fails ")]
 
 
 def conditions(bus, edge):
@@ -32,9 +48,9 @@ def conditions(bus, edge):
         yield f"fails {name_of(edge.driver)} {edge.wire} is {state_before(edge)}"
         yield "    " + of_wire(bus, (edge.driver, edge.wire))
     else:
-        yield from told(bus, edge, guard(bus, edge))
+        yield from told(bus, edge, GUARDS, guard(bus, edge))
         if hold(guard(bus, edge)):
-            yield from told(bus, edge, settling(bus, edge))
+            yield from told(bus, edge, SETTLING, settling(bus, edge))
         if verdict == "E5":
             yield "fails the trace has room"
 
@@ -46,10 +62,11 @@ def state_before(edge):
     return "high" if edge.falls else "low"
 
 
-def told(bus, edge, some):
-    """Each of some conditions, and below it what it rests on."""
+def told(bus, edge, rules, some):
+    """Each of some conditions of the edge's rule, and below it what it rests on."""
     for name, holds, rests in some:
-        yield ("holds " if holds else "fails ") + with_level(name, bus, edge)
+        mark = marked(name_of_rule(rules[edge.wire, edge.falls]), name)
+        yield ("holds " if holds else "fails ") + with_level(name, bus, edge) + mark
         yield from ("    " + it for it in readings(bus, edge, rests))
 
 

@@ -5,12 +5,16 @@ import re
 from pathlib import Path
 
 from . import backplane
+from .cycles import cycles
 from .draw import drive_drawn, drive_seeds
 from .drive import drive, run
 from .explain import explain
 from .faults import Fault, WrongWords, escaped
-from .judging import check, replay
+from .judging import check, check_all, replay
+from .order import order
 from .show import show
+from .shrink import shrink
+from .sources import rule
 from .state import state
 from .summary import summary
 from .traces import Trace
@@ -125,8 +129,12 @@ def done(job, console):
     """Does a job, and returns its status; files come first, then the scenario's text."""
     if job.command == "--version":
         return tell_version(console)
+    if job.command == "rule":
+        return rule(job.files, console)
     scenario_name, *trace_names = job.files
     scenario = scenario_of(console.open(scenario_name), scenario_name)
+    if job.command == "check" and len(trace_names) > 1:
+        return check_all(backplane.read(scenario), trace_names, console)
     first = console.open(trace_names[0]) if trace_names else None
     options = job.options
     plan = backplane.read(scenario)
@@ -138,10 +146,15 @@ def done(job, console):
         return run(plan, options, console)
     if job.command == "drive":
         return (drive_seeds if "--seeds" in options else drive_drawn if "--seed" in options else drive)(plan, options, console)
+    if job.command == "order":
+        return order(plan, first, options, console)
     trace = Trace(first)
-    if job.command in ("replay", "check"):
-        return (replay if job.command == "replay" else check)(plan, trace, console)
-    return {"explain": explain, "state": state, "show": show}[job.command](plan, trace, options, console)
+    if job.command == "replay":
+        return replay(plan, trace, console, "--full" in options)
+    if job.command in ("check", "cycles"):
+        return (check if job.command == "check" else cycles)(plan, trace, console)
+    with_options = {"explain": explain, "shrink": shrink, "state": state, "show": show}
+    return with_options[job.command](plan, trace, options, console)
 
 
 def traces_of(names, first, console):

@@ -5,7 +5,8 @@ from .judging import beyond, first
 from .traces import name_of
 from .verdicts import delivers, is_ok, step
 
-LETTERS = ".abcdefghijklmnopqrstu"
+SLOTS = ".123456789ABCDEFGHIJKL"
+LEVELS = ".abcdefg"
 RED, GREEN, PLAIN = "\x1b[31m", "\x1b[32m", "\x1b[0m"
 LABEL = 11
 
@@ -23,9 +24,9 @@ class Column:
         self.low = {wire: set(drivers) for wire, drivers in bus.low.items()}
         cycle = bus.shown()
         self.below = {
-            "grant at": LETTERS[bus.board_at_grant() or 0],
-            "holder": LETTERS[bus.holder() or 0],
-            "shown": "." if not cycle else str(cycle.number) if cycle.is_acknowledge else LETTERS[cycle.number],
+            "grant at": SLOTS[bus.board_at_grant() or 0],
+            "holder": SLOTS[bus.holder() or 0],
+            "shown": "." if not cycle else (LEVELS if cycle.is_acknowledge else SLOTS)[cycle.number],
             "verdict": "x" if not self.is_accepted else "!" if delivery else ".",
         }
 

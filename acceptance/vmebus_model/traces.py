@@ -88,15 +88,20 @@ def short(line, number):
     return line
 
 
+def version_of(lines):
+    """The version that the first line names."""
+    header = next(lines, None)
+    if header not in HEADERS:
+        raise Fault("X1 the trace does not begin with vme 1 or vme 2")
+    return HEADERS[header]
+
+
 class Trace:
     """The text of a trace: its version at once, and its edges one after the other until its end or its fault."""
 
     def __init__(self, read):
         self.lines = lines_of(read)
-        header = next(self.lines, None)
-        if header not in HEADERS:
-            raise Fault("X1 the trace does not begin with vme 1 or vme 2")
-        self.version = HEADERS[header]
+        self.version = version_of(self.lines)
 
     def __iter__(self):
         for number, line in enumerate(self.lines, 2):

@@ -47,16 +47,20 @@ def delivers(bus, edge):
     return edge.wire == "dtack" and edge.falls and bus.acknowledge() is not None
 
 
+def verdict_of(bus, edge):
+    """The verdict of an edge: the first refusal, or that it is accepted, and what it delivers."""
+    refused = refusal(bus, edge)
+    if refused or not delivers(bus, edge):
+        return refused or "ok"
+    status = bus.plan.interrupters[edge.driver].status
+    return f"ok irq {bus.acknowledge()} to {bus.owner_of_cycle()} from {edge.driver} status {status}"
+
+
 def step(bus, edge, number):
     """The verdict of an edge, which is added to the history if it is accepted."""
-    refused = refusal(bus, edge)
-    if refused:
-        return refused
-    verdict = "ok"
-    if delivers(bus, edge):
-        status = bus.plan.interrupters[edge.driver].status
-        verdict = f"ok irq {bus.acknowledge()} to {bus.owner_of_cycle()} from {edge.driver} status {status}"
-    bus.accept(edge, number)
+    verdict = verdict_of(bus, edge)
+    if is_ok(verdict):
+        bus.accept(edge, number)
     return verdict
 
 

@@ -4,8 +4,10 @@ import re
 from dataclasses import dataclass, field
 from typing import Dict, List
 
-from .draw import goals
+from .draw import goals, why_no_goal
 from .faults import Fault, WrongWords
+from .sources import TABLE, unmarked
+from .traces import name_of
 
 GREATEST = 2**64 - 1
 MOST = 1_048_576
@@ -15,17 +17,21 @@ NUMBER = re.compile(r"\+?0*([0-9]{1,20})")
 
 # For each command: how many operands it has, at least and at most, and the options that it takes.
 COMMANDS = {
-    "replay": (2, 2, ()),
-    "check": (2, 2, ()),
+    "replay": (2, 2, ("--full",)),
+    "check": (2, None, ()),
     "explain": (2, 2, ("--edge",)),
+    "shrink": (2, 2, ("--edge",)),
     "state": (2, 2, ("--after",)),
     "show": (2, 2, ("--from", "--to", "--color")),
+    "cycles": (2, 2, ()),
     "summary": (2, None, ()),
-    "drive": (1, 1, ("--edges", "--version", "--seed", "--seeds", "--until", "--progress")),
+    "order": (2, 2, ("--slack", "--where")),
+    "rule": (0, 1, ()),
+    "drive": (1, 1, ("--edges", "--version", "--seed", "--seeds", "--until", "--of", "--after", "--progress")),
     "run": (1, 1, ("--edges", "--turns", "--version")),
 }
 NEEDED = {"drive": ("--edges",), "run": ("--edges", "--turns")}
-FLAGS = ("--color", "--progress")
+FLAGS = ("--color", "--full", "--progress", "--where")
 VERSION = ("--version", "-V")
 RANGES = {
     "--edges": (1, MOST),
@@ -36,7 +42,11 @@ RANGES = {
     "--to": (1, GREATEST),
     "--after": (0, GREATEST),
     "--seed": (0, GREATEST),
+    "--slack": (0, GREATEST),
 }
+
+# The drivers as a list of slacks names them.
+DRIVERS = {name_of(driver): driver for driver in range(22)}
 
 
 @dataclass
@@ -77,7 +87,7 @@ def job_of(words):
     demand(least <= len(job.files) <= (most or len(job.files)), "the number of files")
     demand(all(it in job.options for it in NEEDED.get(job.command, ())), "an option is missing")
     job.options.setdefault("--version", 1)
-    return drive_of(job) if job.command == "drive" else window_of(job) if job.command == "show" else job
+    return DEMANDS[job.command](job) if job.command in DEMANDS else job
 
 
 def read_words(job, texts):
@@ -104,7 +114,7 @@ def read_option(job, name, sign, value, waiting):
         return
     demand(sign or waiting, "an option without value")
     text = value if sign else waiting.pop(0)
-    job.options[name] = text if name == "--until" else seeds(text) if name == "--seeds" else number(text, *RANGES[name])
+    job.options[name] = VALUES[name](text) if name in VALUES else number(text, *RANGES[name])
 
 
 def number(text, least, most):
@@ -122,6 +132,28 @@ def seeds(text):
     return bounds
 
 
+def slack(text):
+    """A number for all drivers, or a list of some of them, each with a number: by driver."""
+    if "=" not in text:
+        return number(text, *RANGES["--slack"])
+    listed = {}
+    for item in text.split(","):
+        name, _, value = item.partition("=")
+        demand(name in DRIVERS, "no driver")
+        demand(DRIVERS[name] not in listed, "a driver twice")
+        listed[DRIVERS[name]] = number(value, *RANGES["--slack"])
+    return listed
+
+
+def driver(text):
+    """The controller, or a slot, which is a number like others."""
+    return DRIVERS["c"] if text == "c" else number(text, 1, 21)
+
+
+# Options whose values are no mere numbers.
+VALUES = {"--until": str, "--of": driver, "--seeds": seeds, "--slack": slack}
+
+
 def drive_of(job):
     """A drive, if its options go together."""
     options = job.options
@@ -129,7 +161,11 @@ def drive_of(job):
     demand("--until" not in options or "--seed" in options or "--seeds" in options, "an event without a seed")
     demand("--seeds" not in options or "--until" in options, "seeds without an event")
     demand("--progress" not in options or "--seeds" in options, "progress without seeds")
-    demand("--until" not in options or options["--until"] in goals(options["--version"]), "no such event")
+    demand("--until" in options or not {"--of", "--after"} & set(options), "a driver or a place without an event")
+    if "--until" in options:
+        options["--until"] = unmarked(options["--until"])
+        name, version = options["--until"], options["--version"]
+        demand(name in goals(version), why_no_goal(name, version))
     return job
 
 
@@ -141,3 +177,13 @@ def window_of(job):
     options.setdefault("--to", min(GREATEST, options["--from"] + (SHOWN - 1)))
     demand(0 <= options["--to"] - options["--from"] < WINDOW, "the window")
     return job
+
+
+def rule_of(job):
+    """A rule, if there is one of that name."""
+    demand(all(it in TABLE for it in job.files), "no such rule")
+    return job
+
+
+# What a command demands of its words beside the ranges of its options.
+DEMANDS = {"drive": drive_of, "show": window_of, "rule": rule_of}

@@ -18,13 +18,23 @@
 extern "C" {
 #endif
 
+/* The version of this header, 1.0.0, a byte for each number. vmebus_build returns that of the library. */
+#define VMEBUS_VERSION 0x10000u
+
 #define VMEBUS_WORDS 165
 
 /* A bus. Its words are the library's own, with no byte between them that is not written: two buses on which the same calls
- * were made are equal by memcmp. Words that are no bus, such as zeros, are answered VMEBUS_NO_BUS by vmebus_step and
- * vmebus_line, and 0 by those that only read. */
+ * were made are equal by memcmp. Words that are no bus, such as zeros, are answered VMEBUS_NO_BUS by vmebus_step,
+ * vmebus_line and vmebus_draw, and 0 by the others. */
 struct vmebus {
     uint32_t words[VMEBUS_WORDS];
+};
+
+#define VMEBUS_DRAWS_WORDS 37
+
+/* The draws of a seed. Its words are the library's own, too. */
+struct vmebus_draws {
+    uint32_t words[VMEBUS_DRAWS_WORDS];
 };
 
 /* The driver that is the controller, in slot 1. Any other is the board of a slot, 1 to 21. */
@@ -60,11 +70,72 @@ enum vmebus_wire {
 #define VMEBUS_NO_EDGE 0x500u
 #define VMEBUS_NO_BUS 0xffffffffu
 
+/* vmebus_draw found no open edge. */
+#define VMEBUS_NONE_OPEN 1u
+
 /* Each other answer is a refusal: VMEBUS_ERROR is 1 to 4 for E1 to E4, and VMEBUS_RULE the number of the rule, of G1 to G26
  * at E3 and of S1 to S4 at E4. */
 #define VMEBUS_IS_REFUSED(answer) ((answer) != VMEBUS_ACCEPTED && (answer) < VMEBUS_NO_EDGE)
 #define VMEBUS_ERROR(answer) ((answer) >> 8)
 #define VMEBUS_RULE(answer) ((answer) & 0xffu)
+
+/* The conditions of the rules, as vmebus_failing writes them. vmebus_why writes their texts, and docs/COMMANDS.md lists
+ * them. */
+enum vmebus_condition {
+    VMEBUS_CONDITION_GRANTS_HIGH,
+    VMEBUS_CONDITION_PICKED,
+    VMEBUS_CONDITION_ARBITER_IS_PRI,
+    VMEBUS_CONDITION_HIGHER_ASKED,
+    VMEBUS_CONDITION_CLEAR_NOT_DUE,
+    VMEBUS_CONDITION_BUSY_HIGH,
+    VMEBUS_CONDITION_BUSY_LOW,
+    VMEBUS_CONDITION_ADDRESS_STROBE_HIGH,
+    VMEBUS_CONDITION_ADDRESS_STROBE_LOW,
+    VMEBUS_CONDITION_DATA_STROBE_HIGH,
+    VMEBUS_CONDITION_DATA_STROBE_LOW,
+    VMEBUS_CONDITION_DTACK_HIGH,
+    VMEBUS_CONDITION_BERR_HIGH,
+    VMEBUS_CONDITION_ANSWERED,
+    VMEBUS_CONDITION_ACKNOWLEDGE_SHOWN,
+    VMEBUS_CONDITION_CYCLE_SHOWN,
+    VMEBUS_CONDITION_OWN_SLOT_SHOWN,
+    VMEBUS_CONDITION_GRANT_IN_HIGH,
+    VMEBUS_CONDITION_GRANT_IN_LOW,
+    VMEBUS_CONDITION_ACKNOWLEDGE_IN_LOW,
+    VMEBUS_CONDITION_OWN_REQUEST_HIGH,
+    VMEBUS_CONDITION_OWN_REQUEST_LOW,
+    VMEBUS_CONDITION_OWN_GRANT_OUT_HIGH,
+    VMEBUS_CONDITION_OWN_BUSY_HIGH,
+    VMEBUS_CONDITION_OWN_BUSY_LOW,
+    VMEBUS_CONDITION_OWN_ADDRESS_ON,
+    VMEBUS_CONDITION_OWN_ADDRESS_OFF,
+    VMEBUS_CONDITION_ADDRESS_FREE,
+    VMEBUS_CONDITION_OWN_ADDRESS_STROBE_LOW,
+    VMEBUS_CONDITION_OWN_DATA_STROBE_HIGH,
+    VMEBUS_CONDITION_OWN_ACKNOWLEDGE_OUT_HIGH,
+    VMEBUS_CONDITION_OWN_DTACK_HIGH,
+    VMEBUS_CONDITION_ASKED,
+    VMEBUS_CONDITION_WITHIN_BURST,
+    VMEBUS_CONDITION_HANDLED,
+    VMEBUS_CONDITION_INTERRUPT_LOW,
+    VMEBUS_CONDITION_STROBED,
+    VMEBUS_CONDITION_NOT_STROBED,
+    VMEBUS_CONDITION_SERVED,
+    VMEBUS_CONDITION_PENDING,
+    VMEBUS_CONDITION_NOT_PENDING,
+    VMEBUS_CONDITION_CHAIN_HIGH,
+    VMEBUS_CONDITION_NOBODY_CAN_ANSWER,
+    VMEBUS_CONDITION_PASSED_THE_LAST_BOARD,
+    VMEBUS_CONDITION_GRANTS_THROUGH,
+    VMEBUS_CONDITION_HAS_DRIVER,
+    VMEBUS_CONDITION_OTHER_STATE
+};
+
+/* An edge in one word, as vmebus_open_edges writes it, with the numbers of vmebus_step. */
+#define VMEBUS_DRIVER(edge) ((edge) >> 24)
+#define VMEBUS_WIRE(edge) ((edge) >> 16 & 0xffu)
+#define VMEBUS_FALL(edge) ((edge) >> 8 & 0xffu)
+#define VMEBUS_VALUE(edge) ((edge) & 0xffu)
 
 /* A delivery, where it is not 0: the status byte that went from an interrupter to a handler. */
 #define VMEBUS_LEVEL(delivered) ((delivered) >> 24 & 0x7fu)
@@ -111,6 +182,53 @@ uint32_t vmebus_grant_at(const struct vmebus *bus);
 
 /* What a driver reads on its pins. A driver that the backplane does not have reads what the controller does. */
 uint32_t vmebus_pins(const struct vmebus *bus, uint32_t driver);
+
+/* What follows looks at an edge or a bus, and changes no bus. Each list is written into a room of the caller's, and the
+ * answer is how long it is, whatever the room: of numbers as many are written as there is room for, and a text is written
+ * as a whole or not at all. No byte is written behind the list. On words that are no bus the answer is 0, and nothing is
+ * written. */
+
+/* The conditions that an edge fails, of the first of E1 to E4 that applies, in the order of its rule: at most 5, and 0 if it
+ * would be accepted. Numbers that name no edge fail VMEBUS_CONDITION_HAS_DRIVER. */
+uint32_t vmebus_failing(const struct vmebus *bus, uint32_t driver, uint32_t wire, uint32_t fall, uint32_t value,
+                        uint32_t *conditions, size_t room);
+
+/* The text of the condition at a place of that list, from 0, as `vmebus explain` prints it: at most 58 bytes, and 0 if there
+ * are not as many conditions, or if the numbers name no edge. No zero byte ends it. */
+uint32_t vmebus_why(const struct vmebus *bus, uint32_t driver, uint32_t wire, uint32_t fall, uint32_t value,
+                    uint32_t place, uint8_t *text, size_t room);
+
+/* The line of an edge, as in a trace, without its line feed: at most 12 bytes, and 0 if the numbers name no edge. No zero
+ * byte ends it. */
+uint32_t vmebus_spell(uint32_t driver, uint32_t wire, uint32_t fall, uint32_t value, uint8_t *line, size_t room);
+
+/* All edges that a driver could make now, in the order in which `vmebus state` prints them: at most 36. */
+uint32_t vmebus_open_edges(const struct vmebus *bus, uint32_t driver, uint32_t *edges, size_t room);
+
+/* 1 if a driver holds a wire low, or has its address group on, and otherwise 0. */
+uint32_t vmebus_low(const struct vmebus *bus, uint32_t driver, uint32_t wire);
+
+/* 1 if the backplane has the driver with such a wire, and otherwise 0. */
+uint32_t vmebus_has(const struct vmebus *bus, uint32_t driver, uint32_t wire);
+
+/* What the library was built as: its version, and its words of a bus and of draws, which should be VMEBUS_VERSION,
+ * VMEBUS_WORDS and VMEBUS_DRAWS_WORDS. */
+uint32_t vmebus_build(uint32_t *numbers, size_t room);
+
+/* A seed that plays wires. Draws are moved by each draw, and the bus by none; each thread has its own.
+ *
+ * Makes the draws of a seed. `vmebus drive --seed` draws by the same numbers and weights. */
+void vmebus_draws(struct vmebus_draws *draws, uint64_t seed);
+
+/* Draws the next edge among all open edges of the wires that the library plays, writes it in one word, and counts it. The bus
+ * is not stepped: make the edge in the design, and step it as any other.
+ *
+ * The masks are 22, of the controller and of each slot. The bit of a wire's number is set if the library plays it; a mask
+ * that is missing plays none. Answers 0; VMEBUS_NONE_OPEN if none of these wires has an open edge, with 0 in *edge; and
+ * VMEBUS_NO_BUS for words that are no bus, or that are the draws of no seed, such as zeros. Draws move with each answer but
+ * the last. */
+uint32_t vmebus_draw(const struct vmebus *bus, struct vmebus_draws *draws, const uint32_t *wires, size_t masks,
+                     uint32_t *edge);
 
 #ifdef __cplusplus
 }

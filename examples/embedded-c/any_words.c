@@ -78,10 +78,68 @@ static void look_at(uint32_t answer, uint32_t told, const struct vmebus *bus,
     if (memcmp(bus, before, sizeof *bus) != 0) fail("a refusal that changed a bus", round);
 }
 
+/* Whether a room of numbers holds a list of as many, and behind it what it was filled with. */
+static bool is_within(const uint32_t *room, size_t words, uint32_t count, uint32_t fill) {
+    for (size_t at = 0; at < words; at++)
+        if (at >= count && room[at] != fill) return false;
+    return true;
+}
+
+/* Asks for lists of a drawn length: the failing conditions of an edge, and a driver's open edges. Returns how many these are. */
+static uint32_t ask_lists(const struct vmebus *bus, unsigned long round) {
+    uint32_t room[40], driver = draw_near(24), fill = draw() | 0x80000000u;
+    size_t words = draw() % 40;
+    for (size_t at = 0; at < 40; at++) room[at] = fill;
+    uint32_t open = vmebus_open_edges(bus, driver, room, words);
+    if (open > 36) fail("more open edges than there can be", round);
+    if (!is_within(room, 40, open < words ? open : (uint32_t)words, fill)) fail("open edges beyond their room", round);
+    for (size_t at = 0; at < 40; at++) room[at] = fill;
+    words = draw() % 8;
+    uint32_t failing = vmebus_failing(bus, driver, draw_near(18), draw_near(2), draw_near(56), room, words);
+    if (failing > 5) fail("more failing conditions than there can be", round);
+    if (!is_within(room, 40, failing < words ? failing : (uint32_t)words, fill)) fail("conditions beyond their room", round);
+    return open | failing;
+}
+
+/* Asks for texts in a room of a drawn length: why an edge is refused, and how it is spelled. Returns how long the first is. */
+static uint32_t ask_texts(const struct vmebus *bus, unsigned long round) {
+    uint8_t room[80];
+    uint32_t driver = draw_near(24), wire = draw_near(18), fall = draw_near(2), value = draw_near(56);
+    size_t bytes = draw() % 64;
+    memset(room, 0, sizeof room);
+    uint32_t why = vmebus_why(bus, driver, wire, fall, value, draw_near(5), room, bytes);
+    for (size_t at = 0; at < sizeof room; at++)
+        if ((room[at] != 0) != (why <= bytes && at < why)) fail("a text that is not in its room", round);
+    memset(room, 0, sizeof room);
+    uint32_t line = vmebus_spell(driver, wire, fall, value, room, bytes);
+    for (size_t at = 0; at < sizeof room; at++)
+        if ((room[at] != 0) != (line <= bytes && at < line)) fail("a line that is not in its room", round);
+    return why;
+}
+
+/* Draws by the draws of a seed, some or all of whose words are drawn, on masks that are drawn. */
+static void draw_edge(const struct vmebus *bus, bool is_bus, unsigned long round) {
+    struct vmebus_draws draws;
+    uint32_t masks[24], edge = 1;
+    vmebus_draws(&draws, draw());
+    for (uint32_t left = draw() % 40; left > 0; left--) draws.words[draw() % VMEBUS_DRAWS_WORDS] = draw();
+    if (draw() % 8 == 0) memset(&draws, 0, sizeof draws);
+    for (size_t at = 0; at < 24; at++) masks[at] = draw();
+    struct vmebus_draws before = draws;
+    uint32_t answer = vmebus_draw(bus, &draws, masks, draw() % 25, &edge);
+    if (answer != 0 && answer != VMEBUS_NONE_OPEN && answer != VMEBUS_NO_BUS) fail("a draw with an answer that is none", round);
+    if (!is_bus && answer != VMEBUS_NO_BUS) fail("a draw on words that are no bus", round);
+    if (answer != 0 && edge != 0) fail("no edge that is drawn", round);
+    if (answer == VMEBUS_NO_BUS && memcmp(&draws, &before, sizeof draws) != 0) fail("no draw that moves draws", round);
+}
+
 /* Looks at all that a bus shows. Words that are no bus, as an answer to an edge said, show 0. */
 static void look_around(const struct vmebus *bus, bool is_bus, unsigned long round) {
     struct vmebus before = *bus;
     uint32_t seen = vmebus_holder(bus) | vmebus_grant_at(bus) | vmebus_pins(bus, draw_near(24));
+    seen |= vmebus_low(bus, draw_near(24), draw_near(18)) | vmebus_has(bus, draw_near(24), draw_near(18));
+    seen |= ask_lists(bus, round) | ask_texts(bus, round);
+    draw_edge(bus, is_bus, round);
     if (memcmp(bus, &before, sizeof *bus) != 0) fail("a look that changed a bus", round);
     if (!is_bus && seen != 0) fail("words that are no bus and show more than 0", round);
 }

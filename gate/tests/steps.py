@@ -23,8 +23,9 @@ def test_all(count, room):
         ran = steps(f"{room}/{number}", [command])
         is_well = ran.stdout.endswith(f"\n{total}\n") and said in ran.stdout and ran.returncode == (" 0 failed" not in total)
         count.tell(f"a step of {command!r}", is_well, ran.stdout[-500:])
-    ran = steps(f"{room}/both", ["echo '3 passed, 0 failed'", "echo '4 passed, 1 failed'"])
-    count.tell("two steps", ran.returncode == 1 and ran.stdout.endswith("\n7 passed, 1 failed\n"), ran.stdout[-500:])
+    ran = steps(f"{room}/both", ["echo '3 passed, 0 failed'", "echo one: as it should be; echo 'FAILED two'; echo '4 passed, 1 failed'"])
+    wanted = "\ncheck: it1: 4 passed, 1 failed; its log ends with\n    FAILED two\n    4 passed, 1 failed\n7 passed, 1 failed\n"
+    count.tell("two steps", ran.returncode == 1 and ran.stdout.endswith(wanted), ran.stdout[-500:])
 
 
 def steps(room, commands):

@@ -18,7 +18,7 @@ use Rattle.vme_model.specs.Signals.{is_grant, is_grant_wire, grant_level, has_wi
 use Rattle.vme_model.specs.Sets.{has_bus_level}
 use Rattle.vme_model.specs.History.{last_level}
 use Rattle.vme_model.specs.Readings.{Readings}
-use Rattle.vme_model.specs.Rules.{pick, is_pick, is_highest, guard}
+use Rattle.vme_model.specs.Rules.{pick, is_pick, is_highest}
 use Rattle.vme_model.proofs.Picks.{one_pick}
 use Rattle.vme_model.specs.Verdict.{ruling}
 use Rattle.vme_model.specs.declared.signals.Driver.TheVariants.{Controller}
@@ -135,30 +135,3 @@ pick_alone last e picked is grant =
     is
     ∙ ap (λ g. g && option_map_or (λ m. m == grant_level e.wire) picked false) grant
     ∙ sym (lone_pick picked last (grant_level e.wire))
-
--- a guard by the state is the guard by the list
-guards_by_parts : (kind asked : ArbiterKind) (request : ℕ → Bool) (version : Version) (noted : List Edge) (pins : Pins) (w : Wire) (f : Bool) (v : Option Cycle) → has_wire Controller w ≡ true →
-    (guard version (as_asked (local (controller_of kind version noted) pins) request asked) w f v).1 ≡ (guard version (as_asked (over kind noted pins) request asked) w f v).1
-guards_by_parts kind asked request version noted pins (Bg n) true v own = refl
-guards_by_parts kind asked request version noted pins (Bg n) false v own = refl
-guards_by_parts kind asked request version noted pins Bclr true v own = refl
-guards_by_parts kind asked request version noted pins Bclr false v own = refl
-guards_by_parts kind asked request version noted pins Iack true v own = refl
-guards_by_parts kind asked request version noted pins Iack false v own = refl
-guards_by_parts kind asked request version noted pins Berr true v own = refl
-guards_by_parts kind asked request version noted pins Berr false v own = refl
-guards_by_parts kind asked request version noted pins w f v own = absurd (cc)
-
-pub guards_over : (kind : ArbiterKind) (version : Version) (noted : List Edge) (state : ControllerState) (pins : Pins) (e : Edge) → state ≡ controller_of kind version noted → has_wire Controller e.wire ≡ true →
-    (guard state.version (local state pins) e.wire e.fall e.value).1 ≡ (guard version (over kind noted pins) e.wire e.fall e.value).1
-guards_over kind version noted state pins e same own =
-    let P : ControllerState → Type 0 = λ c. (guard c.version (local c pins) e.wire e.fall e.value).1 ≡ (guard version (over kind noted pins) e.wire e.fall e.value).1 in
-    subst P (sym same) (guards_by_parts kind kind (has_bus_level pins.requests) version noted pins e.wire e.fall e.value own)
-
--- the guards of a state that comes from a list are those over the list, for a grant by a policy's
--- pick for the level last granted
-pub grant_guards_over : (kind : ArbiterKind) (version : Version) (noted : List Edge) (state : ControllerState) (pins : Pins) (e : Edge) (picked : ℕ → Option ℕ) → state ≡ controller_of kind version noted → has_wire Controller e.wire ≡ true →
-    (guard state.version (as_asked (local state pins) (alone (picked state.last_level)) Pri) e.wire e.fall e.value).1 ≡ (guard version (over_pick (picked (last_level noted)) noted pins) e.wire e.fall e.value).1
-grant_guards_over kind version noted state pins e picked same own =
-    let P : ControllerState → Type 0 = λ c. (guard c.version (as_asked (local c pins) (alone (picked c.last_level)) Pri) e.wire e.fall e.value).1 ≡ (guard version (over_pick (picked (last_level noted)) noted pins) e.wire e.fall e.value).1 in
-    subst P (sym same) (guards_by_parts kind Pri (alone (picked (last_level noted))) version noted pins e.wire e.fall e.value own)

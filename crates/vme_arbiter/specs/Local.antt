@@ -77,7 +77,7 @@ over_pick picked noted pins =
     record (over Pri noted pins) { request = λ n. option_map_or (λ m. m == n) picked false }
 
 -- readings that agree with what a controller reads, whatever else they say
-pub record SayWhatIsTold
+pub record SayThePins
     (kind : ArbiterKind) (own : Wire → Bool) (last_level : ℕ) (pins : Pins) (r : Readings)
     : Type 0 where
   pub own_wires : (w : Wire) → has_wire Controller w ≡ true → r.own w ≡ own w

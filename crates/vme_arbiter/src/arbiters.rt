@@ -11,20 +11,17 @@ ghost use Rattle.vme_model.specs.Signals.{is_grant, grant_level, is_acknowledge,
 ghost use Rattle.vme_model.specs.Sets.{has_bus_level};
 ghost use Rattle.vme_model.specs.Guards.{holds};
 ghost use Rattle.vme_model.specs.History.{last_level};
-ghost use Rattle.vme_model.specs.Readings.{Readings};
-ghost use Rattle.vme_model.specs.Rules.{bus_numbers, pick, is_pick, are_grants_high, clear_guard, bg_falls, iack_falls, failing, guard};
+ghost use Rattle.vme_model.specs.Rules.{bus_numbers, pick, is_pick, are_grants_high, is_bus_clear_due, bg_falls, iack_falls, rule};
 ghost use Rattle.vme_model.specs.Verdict.{ruling};
 ghost use Rattle.vme_arbiter.specs.Local.{controller_of, low, local, over, over_pick};
 
 use crate::policies::Policy;
-use arrayvec::ArrayVec;
 use std::marker::Model;
-use vme_model::{ArbiterKind, BusLevels, Condition, Driver, Edge, Pins, Refused, Version, Wire};
+use vme_model::{ArbiterKind, BusLevels, Driver, Edge, Pins, Refused, Version, Wire};
+use vme_rules::allowed;
 use vme_rules::controllers::{
     bclr_falls, bclr_rises, berr_falls, berr_rises, bg_falls, bg_rises, iack_falls, iack_rises,
 };
-use vme_rules::laws::five_have_room;
-use vme_rules::{Outcome, allowed};
 
 /// What a controller keeps of its own edges: which of its wires are low, and the level that it last
 /// granted.
@@ -130,48 +127,43 @@ impl Controller {
             .any(|level| last < *level && requests.has(*level))
     }
 
-    /// What the guard of a falling bus clear answers (G3): the policy is priority, and a higher
-    /// level waits. A rising bus clear reads it too (G4).
+    /// Whether bus clear is due: it may fall then (G3), and may not rise (G4). It is due if the
+    /// arbiter is PRI, BBSY* is low, all grants are high, and a higher level waits.
     #[inline(always)]
-    fn clear_guard<A: Outcome>(&self, pins: Pins) -> A
-        ensures { A.tells result (clear_guard (local self.now pins)) }
+    fn is_bus_clear_due(&self, pins: Pins) -> bool
+        ensures { result ≡ is_bus_clear_due (local self.now pins) }
     {
         let is_pri = matches!(self.kind, ArbiterKind::Pri);
         let is_outranked = self.is_outranked(pins.requests);
         bclr_falls(is_pri, pins.bbsy, self.are_grants_high(pins), is_outranked)
     }
 
-    /// What the guard of a falling `iack` answers (G5).
+    /// Whether the guard of a falling `iack` holds (G5).
     #[inline(always)]
-    fn acknowledge_guard<A: Outcome>(&self, pins: Pins) -> A
-        ensures { A.tells result
+    fn may_acknowledge(&self, pins: Pins) -> bool
+        ensures { result ≡ holds
             (iack_falls pins.address_strobe pins.data_strobe (is_acknowledge pins.shown)) }
     {
         let is_acknowledged = pins.shown.is_some_and(|cycle| cycle.is_acknowledge());
         iack_falls(pins.address_strobe, pins.data_strobe, is_acknowledged)
     }
 
-    /// The number of the rule that names an edge of the controller's own wires, and what the rule's
-    /// guard answers. `is_picked` says whether the policy picks the level of a grant.
+    /// The number of the rule that names an edge of the controller's own wires, and whether the
+    /// rule's guard holds. `is_picked` says whether the policy picks the level of a grant.
     #[inline(always)]
-    fn rule<A: Outcome>(&self, edge: Edge, pins: Pins, is_picked: bool) -> (u8, A)
-        ensures number { (r : Readings) → has_wire Driver.Controller edge.wire ≡ true →
-            result.0 ≡ (guard self.now.version r edge.wire edge.fall edge.value).0 }
-        ensures picked { is_grant edge ≡ true →
-            A.tells result.1
+    fn rule(&self, edge: Edge, pins: Pins, is_picked: bool) -> (u8, bool)
+        ensures picked { is_grant edge ≡ true → result.1 ≡ holds
             (bg_falls (are_grants_high (local self.now pins)) pins.bbsy is_picked) }
         ensures rows { has_wire Driver.Controller edge.wire ≡ true →
             (is_grant edge ≡ true → is_picked ≡ is_pick self.now.kind (has_bus_level pins.requests)
             self.now.last_level (grant_level edge.wire)) →
-            A.tells result.1
-            (guard self.now.version (local self.now pins) edge.wire edge.fall edge.value).1 }
+            result ≡ rule self.now.version (local self.now pins) edge.wire edge.fall edge.value }
         ensures grants { (kind : KindValue) (request : ℕ → Bool) →
             has_wire Driver.Controller edge.wire ≡ true → is_grant edge ≡ true →
             is_picked ≡ is_pick kind request self.now.last_level (grant_level edge.wire) →
-            A.tells result.1
-            (guard self.now.version
+            result ≡ rule self.now.version
             (record (local self.now pins) { request = request; arbiter = kind })
-            edge.wire edge.fall edge.value).1 }
+            edge.wire edge.fall edge.value }
     {
         match (edge.wire, edge.fall) {
             (Wire::Bg(_), true) => (
@@ -179,9 +171,9 @@ impl Controller {
                 bg_falls(self.are_grants_high(pins), pins.bbsy, is_picked),
             ),
             (Wire::Bg(_), false) => (2, bg_rises(self.version, pins.bbsy)),
-            (Wire::Bclr, true) => (3, self.clear_guard(pins)),
-            (Wire::Bclr, false) => (4, bclr_rises(self.clear_guard(pins))),
-            (Wire::Iack, true) => (5, self.acknowledge_guard(pins)),
+            (Wire::Bclr, true) => (3, self.is_bus_clear_due(pins)),
+            (Wire::Bclr, false) => (4, bclr_rises(self.is_bus_clear_due(pins))),
+            (Wire::Iack, true) => (5, self.may_acknowledge(pins)),
             (Wire::Iack, false) => (6, iack_rises(pins.address_strobe)),
             (_, true) => (7, berr_falls(pins.data_strobe, pins.dtack)),
             (_, false) => (8, berr_rises(pins.data_strobe)),
@@ -337,50 +329,6 @@ impl<P: Policy> Arbiter<P> {
     {
         let is_picked = self.picks(edge, pins.requests);
         self.controller.judge(edge, pins, is_picked)
-    }
-
-    /// What the guard of the rule that names an edge of the controller's wires answers, given what
-    /// the controller reads on its pins. For a grant the policy's own pick stands in place of the
-    /// pick of its kind. Source: G1 to G8 of docs/RULES.md.
-    pub fn told<A: Outcome>(&self, edge: Edge, pins: Pins) -> A
-        ensures rows { (kind : KindValue) (version : VersionValue) (noted : List EdgeValue) →
-            self.now.1 ≡ controller_of kind version noted →
-            has_wire Driver.Controller edge.wire ≡ true →
-            (is_grant edge ≡ true → P.picked self.now.0 pins.requests (last_level noted)
-            ≡ pick kind (has_bus_level pins.requests) (last_level noted)) →
-            A.tells result
-            (guard version (over kind noted pins) edge.wire edge.fall edge.value).1 }
-        ensures grants { (kind : KindValue) (version : VersionValue) (noted : List EdgeValue) →
-            self.now.1 ≡ controller_of kind version noted →
-            has_wire Driver.Controller edge.wire ≡ true → is_grant edge ≡ true →
-            A.tells result (guard version
-            (over_pick (P.picked self.now.0 pins.requests (last_level noted)) noted pins)
-            edge.wire edge.fall edge.value).1 }
-    {
-        let is_picked = self.picks(edge, pins.requests);
-        self.controller.rule(edge, pins, is_picked).1
-    }
-
-    /// The conditions that fail in the rule that names an edge of the controller's wires, in the
-    /// order of its guard, given what the controller reads on its pins. For a grant the policy's
-    /// own pick stands in place of the pick of its kind. Source: G1 to G8 of docs/RULES.md.
-    pub fn failing(&self, edge: Edge, pins: Pins) -> ArrayVec<Condition, 5>
-        ensures rows { (kind : KindValue) (version : VersionValue) (noted : List EdgeValue) →
-            self.now.1 ≡ controller_of kind version noted →
-            has_wire Driver.Controller edge.wire ≡ true →
-            (is_grant edge ≡ true → P.picked self.now.0 pins.requests (last_level noted)
-            ≡ pick kind (has_bus_level pins.requests) (last_level noted)) →
-            result.items ≡
-            failing version (over kind noted pins) edge.wire edge.fall edge.value }
-        ensures grants { (kind : KindValue) (version : VersionValue) (noted : List EdgeValue) →
-            self.now.1 ≡ controller_of kind version noted →
-            has_wire Driver.Controller edge.wire ≡ true → is_grant edge ≡ true →
-            result.items ≡ failing version
-            (over_pick (P.picked self.now.0 pins.requests (last_level noted)) noted pins)
-            edge.wire edge.fall edge.value }
-    {
-        five_have_room();
-        self.told(edge, pins)
     }
 
     /// Takes in an edge that was made. An edge of another driver changes no wire of the

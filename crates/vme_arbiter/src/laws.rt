@@ -12,7 +12,7 @@ ghost use Rattle.vme_model.specs.Rules.{is_pick, pick};
 ghost use Rattle.vme_model.specs.Verdict.{ruling_on};
 ghost use Rattle.vme_model.specs.Signals.{has_wire};
 ghost use Rattle.vme_model.specs.declared.signals.Driver.TheVariants.{Controller};
-ghost use Rattle.vme_arbiter.specs.Local.{controller_readings, SayWhatIsTold};
+ghost use Rattle.vme_arbiter.specs.Local.{controller_readings, SayThePins};
 
 /// A level passes the rule's test exactly if it is the level that is picked, so two never do.
 /// Source: Std 1014, chapter 3.
@@ -24,10 +24,10 @@ pub fn picks_one()
 /// The rules of a controller read its own wires, the request lines, BBSY*, AS*, DS0*, DTACK*, what
 /// is shown, its arbiter's kind and the level last granted, and nothing else. Any readings that
 /// agree on these have the same answer.
-pub fn reads_what_it_is_told()
+pub fn reads_its_pins()
     ensures { (version : Version) (kind : ArbiterKind) (own : Wire → Bool) (last_level : ℕ)
         (pins : Pins) (r : Readings) (w : Wire) (fall : Bool) (value : Option Cycle) →
-        SayWhatIsTold kind own last_level pins r → has_wire Controller w ≡ true →
+        SayThePins kind own last_level pins r → has_wire Controller w ≡ true →
         ruling_on version (controller_readings kind own last_level pins) w fall value ≡
         ruling_on version r w fall value }
 {}

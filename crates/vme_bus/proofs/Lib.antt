@@ -30,7 +30,7 @@ pub mod Stays
 pub mod Places
 -- the state after an edge is that of the longer history: `BusState::move_requester` and its like, `move_controller`
 pub mod LongerHistory
--- what the sets say of one slot: `BusState::outputs`, `is_driven_low`, `row`, `told_by_rule`
+-- what the sets say of one slot: `BusState::outputs`, `is_driven_low`, `row`, `outcome_by_rule`
 pub mod OneSlot
 -- where a grant stops, it travels: `BusState::grant_at`, `Bus::grant_at`
 pub mod Standing
@@ -42,5 +42,7 @@ pub mod Ready
 pub mod Room
 -- each refusal has a number of its own: `BusState::step_requester` and its like
 pub mod Numbers
--- what an edge fails with the end of the trace, from what it fails without it: `Bus::told`, `failing`
+-- what a state is of that was given the kind of another: `BusState::set_kind`
+pub mod OneKind
+-- what an edge fails with the end of the trace, from what it fails without it: `Bus::outcome`, `failing`
 pub mod Failing

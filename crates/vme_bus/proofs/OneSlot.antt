@@ -1,4 +1,4 @@
--- What the sets say of one slot: `BusState::outputs`, `is_driven_low`, `row`, `told_by_rule`.
+-- What the sets say of one slot: `BusState::outputs`, `is_driven_low`, `row`, `outcome_by_rule`.
 use Rattle.std.proofs.Common.{◌≡◌, ◌⊎◌, inl, inr, ◌∙◌, refl, sym, ap, ℕ, true, false, List, ◌≤◌, arith}
 use Rattle.std.specs.Prelude.{Option, Some, None, option_map, is_none, not}
 use Rattle.std.specs.Option.{option_map_or}

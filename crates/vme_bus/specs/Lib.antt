@@ -18,3 +18,5 @@ pub mod Arms
 pub mod Answers
 -- words: which parts of the boards have no edge to make
 pub mod Choices
+-- words: what of a state the answers to later edges may depend on
+pub mod Kinds

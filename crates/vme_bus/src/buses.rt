@@ -158,20 +158,20 @@ impl Bus {
     }
 
     /// What is tested of an edge, but for the end of the trace.
-    fn told_but_full<A: Outcome>(&self, edge: Edge) -> A
-        ensures { A.tells result
+    fn outcome_but_full<A: Outcome>(&self, edge: Edge) -> A
+        ensures { A.reports result
             (tested_but_full self.now.version self.now.plan self.now.history edge) }
     {
-        self.state.told(edge)
+        self.state.outcome(edge)
     }
 
     /// What is tested of an edge, as far as the answer to it comes: the one condition that fails at
     /// E1 and E2, else those of its rule, and where they hold, that of its settling rule; behind
     /// them, at E5, that of the room.
-    pub fn told<A: Outcome>(&self, edge: Edge) -> A
-        ensures { A.tells result (tested self.now edge) }
+    pub fn outcome<A: Outcome>(&self, edge: Edge) -> A
+        ensures { A.reports result (tested self.now edge) }
     {
-        let tested: A = self.told_but_full(edge);
+        let tested: A = self.outcome_but_full(edge);
         if self.lacks_room(edge) {
             tested.and(A::asks(Condition::HasRoom, false))
         } else {
@@ -340,7 +340,7 @@ impl Bus {
         let _edge = edge;
     }
 
-    /// Makes an edge that would be accepted, as `verdict` tells.
+    /// Makes an edge that would be accepted, as `verdict` says.
     #[inline(always)]
     pub fn make(&mut self, edge: Edge)
         requires { verdict self.old edge ≡ Ok tt }

@@ -24,7 +24,7 @@ pub struct Seat {
 
 /// A cycle, if there is one.
 #[repr(C)]
-#[derive(Clone, Copy)]
+#[derive(Clone, Copy, PartialEq, Eq)]
 pub struct CycleRecord {
     /// 1 an acknowledge, 2 an access, any other none.
     pub kind: u8,

@@ -86,7 +86,7 @@ impl BusState {
     #[inline(always)]
     fn clearing<A: Outcome>(&self) -> A
         ensures { OfHistory self.now (λ _ p h.
-            A.tells result (clear_guard (readings p h Controller))) }
+            A.reports result (clear_guard (readings p h Controller))) }
     {
         let is_pri = matches!(kind_in(self.kind), ArbiterKind::Pri);
         bclr_falls(
@@ -111,7 +111,7 @@ impl BusState {
         ensures number { IsNumbered result.0 wire fall (has_wire Controller wire) }
         ensures answer { OfHistory self.now (λ version p h. (v : OptionValue CycleValue)
             → has_wire Controller wire ≡ true
-            → A.tells result.1 (guard version (readings p h Controller) wire fall v).1) }
+            → A.reports result.1 (guard version (readings p h Controller) wire fall v).1) }
     {
         match (wire, fall) {
             (Wire::Bg(level), true) => {
@@ -172,7 +172,7 @@ impl BusState {
     #[inline(always)]
     fn releasing<A: Outcome>(&self, slot: u8) -> A
         ensures { OfBoard self.now slot (λ _ p h r. is_some r.requester ≡ true
-            → A.tells result (release_guard (readings p h (Slot slot)))) }
+            → A.reports result (release_guard (readings p h (Slot slot)))) }
     {
         released(self.is_asked(), self.release(slot))
     }
@@ -182,7 +182,7 @@ impl BusState {
     fn giving_up<A: Outcome>(&self, slot: u8) -> A
         ensures { OfBoard self.now slot (λ version p h r. (v : OptionValue CycleValue)
             → is_some r.requester ≡ true
-            → A.tells result (guard version (readings p h (Slot slot)) wire.Bbsy false v).1) }
+            → A.reports result (guard version (readings p h (Slot slot)) wire.Bbsy false v).1) }
     {
         let releasing: A = self.releasing(slot);
         let (br, grant_in) = (self.br.has(slot), self.grant_in(slot));
@@ -196,7 +196,7 @@ impl BusState {
         ensures number { IsNumbered result.0 wire fall (is_of parts.Requester wire) }
         ensures answer { OfBoard self.now slot (λ version p h r. (v : OptionValue CycleValue)
             → is_of parts.Requester wire ≡ true → is_some r.requester ≡ true
-            → A.tells result.1 (guard version (readings p h (Slot slot)) wire fall v).1) }
+            → A.reports result.1 (guard version (readings p h (Slot slot)) wire fall v).1) }
     {
         match (wire, fall) {
             (Wire::Br, true) => (9, br_falls(self.bbsy.has(slot))),
@@ -220,7 +220,7 @@ impl BusState {
     fn bursting<A: Outcome>(&self, slot: u8) -> A
         requires { slot < 22 }
         ensures { OfBoard self.now slot (λ _ p h r. is_some r.requester ≡ true
-            → A.tells result (burst_guard (readings p h (Slot slot)))) }
+            → A.reports result (burst_guard (readings p h (Slot slot)))) }
     {
         below_burst(self.cycles[usize::from(slot)], self.release(slot))
     }
@@ -229,7 +229,7 @@ impl BusState {
     #[inline(always)]
     fn showing<A: Outcome>(&self, slot: u8, value: Option<Cycle>) -> A
         ensures { OfBoard self.now slot (λ _ p h _. has_value wire.Addr true value ≡ true
-            → A.tells result (show_guard (readings p h (Slot slot)) value)) }
+            → A.reports result (show_guard (readings p h (Slot slot)) value)) }
     {
         shows(self.handler(slot), self.interrupt_asked(value), value)
     }
@@ -240,7 +240,7 @@ impl BusState {
         requires { slot < 22 }
         ensures { OfBoard self.now slot (λ version p h r.
             is_some r.requester ≡ true → has_value wire.Addr true value ≡ true
-            → A.tells result (guard version (readings p h (Slot slot)) wire.Addr true value).1) }
+            → A.reports result (guard version (readings p h (Slot slot)) wire.Addr true value).1) }
     {
         let free: A = addr_is_free(self.bbsy.has(slot), self.address_strobe());
         // Most edges that are refused fail here, and the rest takes longer.
@@ -266,7 +266,7 @@ impl BusState {
         ensures answer { OfBoard self.now slot (λ version p h r.
             is_of parts.Master wire ≡ true → is_some r.requester ≡ true
             → has_value wire fall value ≡ true
-            → A.tells result.1 (guard version (readings p h (Slot slot)) wire fall value).1) }
+            → A.reports result.1 (guard version (readings p h (Slot slot)) wire fall value).1) }
     {
         match (wire, fall) {
             (Wire::Addr, true) => (15, self.going_on(slot, value)),
@@ -340,7 +340,7 @@ impl BusState {
     #[inline(always)]
     fn passing<A: Outcome>(&self, slot: u8) -> A
         ensures { OfHistory self.now (λ _ p h.
-            A.tells result (pass_guard (readings p h (Slot slot)) (shown p h))) }
+            A.reports result (pass_guard (readings p h (Slot slot)) (shown p h))) }
     {
         passes(self.asks(slot), self.shown())
     }
@@ -350,7 +350,7 @@ impl BusState {
     fn answering<A: Outcome>(&self, slot: u8) -> A
         requires { slot < 22 }
         ensures { OfBoard self.now slot (λ _ p h _.
-            A.tells result (answer_guard (readings p h (Slot slot)) (shown p h))) }
+            A.reports result (answer_guard (readings p h (Slot slot)) (shown p h))) }
     {
         let (iack_in, iackout) = (self.iack_in(slot), self.acknowledges.has(slot));
         let (is_pending, is_accessed) = (self.asks(slot), self.is_accessed(slot));
@@ -364,7 +364,7 @@ impl BusState {
         ensures number { IsNumbered result.0 wire fall (is_of parts.Interrupter wire) }
         ensures answer { OfBoard self.now slot (λ version p h _. (v : OptionValue CycleValue)
             → is_of parts.Interrupter wire ≡ true
-            → A.tells result.1 (guard version (readings p h (Slot slot)) wire fall v).1) }
+            → A.reports result.1 (guard version (readings p h (Slot slot)) wire fall v).1) }
     {
         match (wire, fall) {
             (Wire::Irq, true) => (21, irq_falls()),
@@ -403,7 +403,7 @@ impl BusState {
         ensures number { (r : RowValue) → IsNumbered result.0 wire fall (drives wire r) }
         ensures answer { OfBoard self.now slot (λ version p h r. drives wire r ≡ true
             → has_value wire fall value ≡ true
-            → A.tells result.1 (guard version (readings p h (Slot slot)) wire fall value).1) }
+            → A.reports result.1 (guard version (readings p h (Slot slot)) wire fall value).1) }
     {
         match wire.part() {
             Part::Requester => self.requester_rule(slot, wire, fall),

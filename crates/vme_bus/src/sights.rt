@@ -252,9 +252,9 @@ impl BusState {
         }
     }
 
-    /// The row of the driver's board.
+    /// The row of the driver's board: none for the controller, and for a slot without a board.
     #[inline]
-    fn row(&self, driver: Driver) -> Option<Row>
+    pub fn row(&self, driver: Driver) -> Option<Row>
         ensures { OfHistory self.now (λ _ p _. result ≡ board_of p driver) }
     {
         match driver {

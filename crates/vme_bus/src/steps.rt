@@ -53,7 +53,7 @@ impl BusState {
     /// Comparisons lead to the arm, since a processor foretells most of them, and may not foretell
     /// where a jump by a table goes. No more than three in a row single out one wire, as the
     /// compiler makes such a jump of four. None asks who drives the edge: of a well-formed one the
-    /// wire tells whether the controller does.
+    /// wire says whether the controller does.
     #[inline(always)]
     pub(crate) fn step_formed(&mut self, edge: Edge, delivery: &mut Delivery) -> u8
         requires formed { is_well_formed edge ≡ true }

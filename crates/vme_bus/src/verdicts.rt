@@ -59,7 +59,7 @@ impl BusState {
 
     /// Whether the backplane has the driver, with such a wire.
     #[inline(always)]
-    pub(crate) fn has_driver(&self, driver: Driver, wire: Wire) -> bool
+    pub fn has_driver(&self, driver: Driver, wire: Wire) -> bool
         ensures { OfHistory self.now (λ _ p _. result ≡ has_driver p driver wire) }
     {
         match driver {
@@ -161,7 +161,7 @@ impl BusState {
         ensures number { OfHistory self.now (λ version p h.
             result.0 ≡ (settling_guard version p h wire fall).0) }
         ensures answer { OfHistory self.now (λ version p h.
-            A.tells result.1 (settling_guard version p h wire fall).1) }
+            A.reports result.1 (settling_guard version p h wire fall).1) }
     {
         match (wire, fall) {
             (Wire::AddressStrobe, true) => (1, as_settles(self.is_acknowledge_clear())),

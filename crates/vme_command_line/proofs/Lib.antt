@@ -6,3 +6,9 @@ pub mod Operands
 pub mod NoJobs
 -- src/lib.rt: a text that names seeds
 pub mod Parting
+-- src/slacks.rt: a text names a driver with its slack
+pub mod NamedDrivers
+-- src/slacks.rt: a text names drivers with a slack each
+pub mod ListedDrivers
+-- src/aims.rt: a text that names no driver
+pub mod NamedBoards

@@ -5,7 +5,8 @@ use Rattle.std.proofs.Math.Seq.{drop-append-add, drop-append_seam, take-append_s
 use Rattle.std.specs.Str.Parse.{AllDigits, without_leading_plus}
 use Rattle.std.specs.Str.Pattern.{FindsText, LacksTextAt, SplitsAroundMatch}
 use Rattle.clap.specs.Words.{Text}
-use Rattle.vme_command_line.specs.Asked.{AreSeeds, IsSeed, NamesNoSeeds}
+use Rattle.vme_command_line.specs.Asked.{AreSeeds, NamesNoSeeds}
+use Rattle.vme_command_line.specs.Numbers.{IsSeed}
 
 abbrev dots : Text
 dots = codes ".."

@@ -4,9 +4,9 @@ use Rattle.vme_model.specs.declared.Condition.{Condition}
 use Rattle.vme_model.specs.declared.Condition.TheVariants as condition
 use Rattle.vme_model.specs.declared.Version.{Version}
 use Rattle.vme_goals.specs.declared.misses.Miss.TheVariants as miss
-use Rattle.vme_goals.specs.declared.goals.Goal.{Goal}
-use Rattle.vme_goals.specs.declared.goals.Goal.TheVariants as goal
-use Rattle.vme_goals.specs.Goals.{goal_of}
+use Rattle.vme_goals.specs.declared.goals.Aim.{Aim}
+use Rattle.vme_goals.specs.declared.goals.Aim.TheVariants as aim
+use Rattle.vme_goals.specs.Goals.{aim_of}
 
 -- If this condition of that rule fails, another condition of the rule fails too. The data strobe is
 -- low only within its own cycle, whose address is shown and whose address strobe is low (G5, G25).
@@ -21,17 +21,18 @@ is_never_alone k condition.AcknowledgeShown = k == 23
 is_never_alone k condition.CycleShown = k == 25
 is_never_alone k _ = false
 
--- some trace can reach the goal
-abbrev pub can_come : Goal → Bool
-can_come (goal.Event e) = true
-can_come (goal.Miss (miss.Rule k c)) = not (is_never_alone k c)
-can_come (goal.Miss (miss.Unserved kind)) = true
-can_come (goal.Miss (miss.Settling k)) = true
+-- some trace can reach the aim
+abbrev pub can_come : Aim → Bool
+can_come (aim.Event e) = true
+can_come (aim.Miss (miss.Rule k c)) = not (is_never_alone k c)
+can_come (aim.Miss (miss.Unserved kind)) = true
+can_come (aim.Miss (miss.Settling k)) = true
+can_come (aim.Miss (miss.AnyOf r)) = true
 
-abbrev pub reached : Option Goal → Option Goal
+abbrev pub reached : Option Aim → Option Aim
 reached None = None
-reached (Some g) = if can_come g then Some g else None
+reached (Some a) = if can_come a then Some a else None
 
--- the goal that words name, among all that a trace can reach in that version
-abbrev pub aim_of : List ℕ → Version → Option Goal
-aim_of named version = reached (goal_of named version)
+-- the aim that words name, among all that a trace can reach in that version
+abbrev pub aim_named : List ℕ → Version → Option Aim
+aim_named named version = reached (aim_of named version)

@@ -1,17 +1,25 @@
 -- The job for which the words after the program's name ask.
-use Rattle.std.specs.Prelude.{◌≡◌, ◌≢◌, ◌↔◌, ◌⊎◌, ◌+◌, ◌-◌, ◌^◌, ◌<◌, ◌≤◌, ◌++◌, ℕ, Bool, true, false, IsTrue, List, [], ◌∷◌, Option, Some, None, codes, length, map, max, min, option_map, IsSomeAnd}
+use Rattle.std.specs.Prelude.{◌≡◌, ◌≢◌, ◌↔◌, ◌⊎◌, ◌+◌, ◌-◌, ◌^◌, ◌≤◌, ◌++◌, ℕ, Bool, true, false, IsTrue, List, [], ◌∷◌, Option, Some, None, codes, length, map, max, min, option_map, unwrap_or, IsSomeAnd}
 use Rattle.std.specs.Borrow.{Bor}
-use Rattle.std.specs.Str.Parse.{IsNumeral, digits_value, without_leading_plus}
+use Rattle.std.specs.Str.Parse.{digits_value, without_leading_plus}
 use Rattle.clap.specs.Words.{IsAmong, Row, Text, all_of, fault_of, first_of, one_of, subcommand_of}
 use Rattle.clap.specs.declared.error.kind.ErrorKind.TheVariants.{DisplayVersion}
 use Rattle.vme_model.specs.declared.Version.{Version}
 use Rattle.vme_model.specs.declared.Version.TheVariants.{One, Two}
+use Rattle.vme_model.specs.declared.Rule.{Rule}
+use Rattle.vme_model.specs.Sentences.{rule_named}
+use Rattle.vme_model.specs.declared.Driver.{Driver}
+use Rattle.vme_goals.specs.declared.goals.Aim.{Aim}
 use Rattle.vme_goals.specs.declared.goals.Goal.{Goal}
-use Rattle.vme_command_line.specs.Alone.{aim_of}
+use Rattle.vme_command_line.specs.Aims.{IsNameOf, NamesNobody}
+use Rattle.vme_command_line.specs.Alone.{aim_named}
 use Rattle.vme_command_line.specs.Commands.{commands}
 use Rattle.vme_command_line.specs.declared.Job.{Job}
-use Rattle.vme_command_line.specs.declared.Job.TheVariants.{Joined, OwnVersion, Replay, Check, Explain, State, Show, Summary, Sums, Drive, Draw, Search, Run}
+use Rattle.vme_command_line.specs.declared.Job.TheVariants.{Joined, OwnVersion, Replay, Check, Checks, Explain, Shrink, Rules, State, Show, Cycles, Summary, Sums, Order, Drive, Draw, Search, Run}
 use Rattle.vme_command_line.specs.Limits.{IsNoWindow}
+use Rattle.vme_moments.specs.declared.slacks.Slacks.{Slacks}
+use Rattle.vme_command_line.specs.Numbers.{IsSeed}
+use Rattle.vme_command_line.specs.Slacks.{AreAll, AreSlacks, NameNoSlacks}
 
 -- the words that are lent, as texts
 abbrev pub texts_of : List (Bor Text) → List Text
@@ -21,9 +29,14 @@ texts_of words = map (λ word. word.now) words
 abbrev pub IsFile : Text → List Row → Text → Type 0
 IsFile name rows file = first_of name rows ≡ Some file
 
--- the operands of this name are these files
-abbrev pub AreFiles : Text → List Row → List Text → Type 0
-AreFiles name rows files = all_of name rows ≡ Some files
+-- one trace is given, which is this file
+abbrev pub IsOne : List Row → Text → Type 0
+IsOne rows file = all_of (codes "TRACE") rows ≡ Some (file ∷ [])
+
+-- two traces or more are given, which are these files in this order
+abbrev pub AreSeveral : List Row → List (Bor Text) → Type 0
+AreSeveral rows files =
+    (all_of (codes "TRACE") rows ≡ Some (texts_of files)) × (2 ≤ length files)
 
 -- the number that the option of this name spells, in decimal digits; none if the option is not
 -- given
@@ -63,16 +76,25 @@ first_of_window rows = first_shown (spelled (codes "from") rows) (spelled (codes
 abbrev pub last_of_window : List Row → ℕ
 last_of_window rows = last_shown (spelled (codes "to") rows) (first_of_window rows)
 
--- the goal that `--until` names, among all that a trace can reach in that version
-abbrev pub IsAim : List Row → Version → Option Goal → Type 0
+-- the aim that `--until` names, among all that a trace can reach in that version
+abbrev pub IsAim : List Row → Version → Option Aim → Type 0
 IsAim rows version None = first_of (codes "until") rows ≡ None
-IsAim rows version (Some goal) = (named : Text) × (first_of (codes "until") rows ≡ Some named)
-    × (aim_of named version ≡ Some goal)
+IsAim rows version (Some aim) = (named : Text) × (first_of (codes "until") rows ≡ Some named)
+    × (aim_named named version ≡ Some aim)
 
--- a text spells this seed, in decimal digits
-abbrev pub IsSeed : Text → ℕ → Type 0
-IsSeed text n = IsNumeral 10 (without_leading_plus text)
-    × (digits_value 10 (without_leading_plus text) ≡ n) × (n < 2 ^ 64)
+-- the driver that `--of` names
+abbrev pub IsOnly : List Row → Option Driver → Type 0
+IsOnly rows None = first_of (codes "of") rows ≡ None
+IsOnly rows (Some d) = (named : Text) × (first_of (codes "of") rows ≡ Some named)
+    × IsNameOf named d
+
+-- the goal of a drive: what `--until` names, of the driver of `--of` and after as many edges as
+-- `--after` spells, or after none; without `--until` neither is given
+abbrev pub IsGoal : List Row → Version → Option Goal → Type 0
+IsGoal rows version None = IsAim rows version None
+    × (first_of (codes "of") rows ≡ None) × (spelled (codes "after") rows ≡ None)
+IsGoal rows version (Some goal) = IsAim rows version (Some goal.aim)
+    × IsOnly rows goal.driver × (goal.after ≡ unwrap_or (spelled (codes "after") rows) 0)
 
 -- a text names the seeds from this one to that one: two dots stand between them
 abbrev pub AreSeeds : Text → ℕ → ℕ → Type 0
@@ -89,20 +111,43 @@ AreTried rows first last = (named : Text) × (first_of (codes "seeds") rows ≡ 
     × AreSeeds named first last
 
 -- the flag `--progress`
-abbrev pub IsTold : List Row → Bool → Type 0
-IsTold rows progress = IsFlag (codes "progress") rows progress
+abbrev pub IsProgress : List Row → Bool → Type 0
+IsProgress rows progress = IsFlag (codes "progress") rows progress
+
+-- the rule that the operand NAME names; none if it is not given
+abbrev pub IsRule : List Row → Option Rule → Type 0
+IsRule rows None = first_of (codes "NAME") rows ≡ None
+IsRule rows (Some rule) = (named : Text) × (first_of (codes "NAME") rows ≡ Some named)
+    × (rule_named named ≡ Some rule)
+
+-- the operand NAME names no rule
+abbrev pub IsNoRule : List Row → Type 0
+IsNoRule rows = (named : Text) × (first_of (codes "NAME") rows ≡ Some named)
+    × (rule_named named ≡ None)
+
+-- the slacks that `--slack` names; no driver has slack if it is not given
+abbrev pub AreTheSlacks : List Row → Slacks → Type 0
+AreTheSlacks rows x = ((first_of (codes "slack") rows ≡ None) × AreAll 0 x)
+    ⊎ ((named : Text) × (first_of (codes "slack") rows ≡ Some named) × AreSlacks named x)
 
 -- a command of this name, with these operands, is this job
 abbrev pub AsksFor : Text → List Row → Job → Type 0
 AsksFor name rows Joined = ⊥
 AsksFor name rows OwnVersion = ⊥
-AsksFor name rows (Replay scenario trace) = (name ≡ codes "replay")
+AsksFor name rows (Replay scenario trace full) = (name ≡ codes "replay")
     × IsFile (codes "SCENARIO") rows scenario.now × IsFile (codes "TRACE") rows trace.now
+    × IsFlag (codes "full") rows full
 AsksFor name rows (Check scenario trace) = (name ≡ codes "check")
-    × IsFile (codes "SCENARIO") rows scenario.now × IsFile (codes "TRACE") rows trace.now
+    × IsFile (codes "SCENARIO") rows scenario.now × IsOne rows trace.now
+AsksFor name rows (Checks scenario traces) = (name ≡ codes "check")
+    × IsFile (codes "SCENARIO") rows scenario.now × AreSeveral rows traces.items
 AsksFor name rows (Explain scenario trace edge) = (name ≡ codes "explain")
     × IsFile (codes "SCENARIO") rows scenario.now × IsFile (codes "TRACE") rows trace.now
     × (spelled (codes "edge") rows ≡ edge)
+AsksFor name rows (Shrink scenario trace edge) = (name ≡ codes "shrink")
+    × IsFile (codes "SCENARIO") rows scenario.now × IsFile (codes "TRACE") rows trace.now
+    × (spelled (codes "edge") rows ≡ edge)
+AsksFor name rows (Rules rule) = (name ≡ codes "rule") × IsRule rows rule
 AsksFor name rows (State scenario trace after) = (name ≡ codes "state")
     × IsFile (codes "SCENARIO") rows scenario.now × IsFile (codes "TRACE") rows trace.now
     × (spelled (codes "after") rows ≡ after)
@@ -110,24 +155,27 @@ AsksFor name rows (Show scenario trace from to color) = (name ≡ codes "show")
     × IsFile (codes "SCENARIO") rows scenario.now × IsFile (codes "TRACE") rows trace.now
     × (from ≡ first_of_window rows) × (to ≡ last_of_window rows)
     × IsFlag (codes "color") rows color
+AsksFor name rows (Cycles scenario trace) = (name ≡ codes "cycles")
+    × IsFile (codes "SCENARIO") rows scenario.now × IsFile (codes "TRACE") rows trace.now
 AsksFor name rows (Summary scenario trace) = (name ≡ codes "summary")
-    × IsFile (codes "SCENARIO") rows scenario.now
-    × AreFiles (codes "TRACE") rows (trace.now ∷ [])
+    × IsFile (codes "SCENARIO") rows scenario.now × IsOne rows trace.now
 AsksFor name rows (Sums scenario traces) = (name ≡ codes "summary")
-    × IsFile (codes "SCENARIO") rows scenario.now
-    × AreFiles (codes "TRACE") rows (texts_of traces.items) × (2 ≤ length traces.items)
+    × IsFile (codes "SCENARIO") rows scenario.now × AreSeveral rows traces.items
+AsksFor name rows (Order scenario moments slacks places) = (name ≡ codes "order")
+    × IsFile (codes "SCENARIO") rows scenario.now × IsFile (codes "MOMENTS") rows moments.now
+    × AreTheSlacks rows slacks × IsFlag (codes "where") rows places
 AsksFor name rows (Drive scenario edges version) = (name ≡ codes "drive")
     × IsFile (codes "SCENARIO") rows scenario.now × AreOptions rows edges version
     × (spelled (codes "seed") rows ≡ None) × (first_of (codes "seeds") rows ≡ None)
-    × IsAim rows version None × IsTold rows false
+    × IsGoal rows version None × IsProgress rows false
 AsksFor name rows (Draw scenario edges seed until version) = (name ≡ codes "drive")
     × IsFile (codes "SCENARIO") rows scenario.now × AreOptions rows edges version
     × (spelled (codes "seed") rows ≡ Some seed) × (first_of (codes "seeds") rows ≡ None)
-    × IsAim rows version until × IsTold rows false
+    × IsGoal rows version until × IsProgress rows false
 AsksFor name rows (Search scenario edges first last goal version progress) = (name ≡ codes "drive")
     × IsFile (codes "SCENARIO") rows scenario.now × AreOptions rows edges version
     × (spelled (codes "seed") rows ≡ None) × AreTried rows first last
-    × IsAim rows version (Some goal) × IsTold rows progress
+    × IsGoal rows version (Some goal) × IsProgress rows progress
 AsksFor name rows (Run scenario edges turns version) = (name ≡ codes "run")
     × IsFile (codes "SCENARIO") rows scenario.now × AreOptions rows edges version
     × (spelled (codes "turns") rows ≡ Some turns)
@@ -148,7 +196,7 @@ abbrev pub IsNoAim : List Row → Type 0
 IsNoAim rows = (named : Text) × (first_of (codes "until") rows ≡ Some named)
     × (((spelled (codes "seed") rows ≡ None) × (first_of (codes "seeds") rows ≡ None))
     ⊎ ((version : Version) × (spelled (codes "version") rows ≡ Some (version_number version))
-    × (aim_of named version ≡ None)))
+    × (aim_named named version ≡ None)))
 
 -- `--seeds` is given together with `--seed` or without `--until`, or does not name seeds
 abbrev pub AreNotTried : List Row → Type 0
@@ -158,13 +206,26 @@ AreNotTried rows = (named : Text) × (first_of (codes "seeds") rows ≡ Some nam
 
 -- `--progress` is given without `--seeds`
 abbrev pub IsIdle : List Row → Type 0
-IsIdle rows = IsTold rows true × (first_of (codes "seeds") rows ≡ None)
+IsIdle rows = IsProgress rows true × (first_of (codes "seeds") rows ≡ None)
+
+-- `--of` or `--after` is given without `--until`, or `--of` names no driver
+abbrev pub IsUnaimed : List Row → Type 0
+IsUnaimed rows = ((first_of (codes "until") rows ≡ None)
+    × ((first_of (codes "of") rows ≢ None) ⊎ (spelled (codes "after") rows ≢ None)))
+    ⊎ ((named : Text) × (first_of (codes "of") rows ≡ Some named) × NamesNobody named)
+
+-- `--slack` names no slacks
+abbrev pub IsNoSlack : List Row → Type 0
+IsNoSlack rows = (named : Text) × (first_of (codes "slack") rows ≡ Some named) × NameNoSlacks named
 
 -- a command of this name is no job with these operands
 abbrev pub IsNoJob : Text → List Row → Type 0
 IsNoJob name rows =
     ((name ≡ codes "show") × IsNoWindow (first_of_window rows) (last_of_window rows))
     ⊎ ((name ≡ codes "drive") × ((IsNoAim rows ⊎ IsIdle rows) ⊎ AreNotTried rows))
+    ⊎ ((name ≡ codes "rule") × IsNoRule rows)
+    ⊎ ((name ≡ codes "order") × IsNoSlack rows)
+    ⊎ ((name ≡ codes "drive") × IsUnaimed rows)
 
 abbrev pub AskForNoJob : List Text → Type 0
 AskForNoJob words = IsSomeAnd (subcommand_of commands words) (λ met. IsNoJob met.0 met.1)

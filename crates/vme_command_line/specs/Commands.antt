@@ -14,6 +14,10 @@ use Rattle.clap.specs.declared.builder.value_parser.ValueParser.TheVariants.{Sig
 abbrev pub file : Text → Rule
 file name = record (new_rule name) { action = Some Set; required = true }
 
+-- a word that may be left out
+abbrev pub word : Text → Rule
+word name = record (new_rule name) { action = Some Set }
+
 -- words, of which at least one is required
 abbrev pub files : Text → Rule
 files name = record (file name) {
@@ -74,15 +78,29 @@ texted name = record (new_rule name) { long = Some name; action = Some Set; valu
 abbrev pub seeds : Rule
 seeds = texted (codes "seeds")
 
+abbrev pub slack : Rule
+slack = texted (codes "slack")
+
 abbrev pub until : Rule
 until = texted (codes "until")
+
+-- `--of`
+abbrev pub only : Rule
+only = texted (codes "of")
 
 -- `--NAME` without a value
 abbrev pub flag : Text → Rule
 flag name = record (new_rule name) { long = Some name; action = Some SetTrue }
 
+abbrev pub full : Rule
+full = flag (codes "full")
+
 abbrev pub color : Rule
 color = flag (codes "color")
+
+-- the flag `--where`
+abbrev pub places : Rule
+places = flag (codes "where")
 
 abbrev pub progress : Rule
 progress = flag (codes "progress")
@@ -95,13 +113,20 @@ leaf name operands = record {
 }
 
 abbrev pub replay : Shape
-replay = (leaf (codes "replay") (file (codes "TRACE") ∷ [])).top
+replay = (leaf (codes "replay") (file (codes "TRACE") ∷ full ∷ [])).top
 
 abbrev pub check : Shape
-check = (leaf (codes "check") (file (codes "TRACE") ∷ [])).top
+check = (leaf (codes "check") (files (codes "TRACE") ∷ [])).top
 
 abbrev pub explain : Shape
 explain = (leaf (codes "explain") (file (codes "TRACE") ∷ edge ∷ [])).top
+
+abbrev pub shrink : Shape
+shrink = (leaf (codes "shrink") (file (codes "TRACE") ∷ edge ∷ [])).top
+
+-- `rule` takes no scenario
+abbrev pub rule : Shape
+rule = record (new_shape (codes "rule")) { rules = word (codes "NAME") ∷ [] }
 
 abbrev pub state : Shape
 state = (leaf (codes "state") (file (codes "TRACE") ∷ after ∷ [])).top
@@ -109,11 +134,19 @@ state = (leaf (codes "state") (file (codes "TRACE") ∷ after ∷ [])).top
 abbrev pub show : Shape
 show = (leaf (codes "show") (file (codes "TRACE") ∷ from ∷ to ∷ color ∷ [])).top
 
+abbrev pub cycles : Shape
+cycles = (leaf (codes "cycles") (file (codes "TRACE") ∷ [])).top
+
 abbrev pub summary : Shape
 summary = (leaf (codes "summary") (files (codes "TRACE") ∷ [])).top
 
+abbrev pub order : Shape
+order = (leaf (codes "order") (file (codes "MOMENTS") ∷ slack ∷ places ∷ [])).top
+
 abbrev pub drive : Shape
-drive = (leaf (codes "drive") (edges ∷ seed ∷ seeds ∷ until ∷ progress ∷ version ∷ [])).top
+drive =
+    (leaf (codes "drive")
+    (edges ∷ seed ∷ seeds ∷ until ∷ only ∷ after ∷ progress ∷ version ∷ [])).top
 
 abbrev pub run : Shape
 run = (leaf (codes "run") (edges ∷ turns ∷ version ∷ [])).top
@@ -125,5 +158,7 @@ commands = record {
     no_binary_name = true;
     has_version = true;
   };
-  subs = replay ∷ check ∷ explain ∷ state ∷ show ∷ summary ∷ drive ∷ run ∷ [];
+  subs =
+      replay ∷ check ∷ explain ∷ shrink ∷ rule ∷ state ∷ show ∷ cycles ∷ summary ∷ order ∷ drive
+      ∷ run ∷ [];
 }

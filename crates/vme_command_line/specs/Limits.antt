@@ -2,7 +2,7 @@
 use Rattle.std.specs.Prelude.{◌≤◌, ◌<◌, ◌+◌, ◌⊎◌, ℕ, IfSome}
 use Rattle.vme_model.specs.Report.{trace_limit}
 use Rattle.vme_command_line.specs.declared.Job.{Job}
-use Rattle.vme_command_line.specs.declared.Job.TheVariants.{Joined, OwnVersion, Replay, Check, Explain, State, Show, Summary, Sums, Drive, Draw, Search, Run}
+use Rattle.vme_command_line.specs.declared.Job.TheVariants.{Joined, OwnVersion, Replay, Check, Checks, Explain, Shrink, Rules, State, Show, Cycles, Summary, Sums, Order, Drive, Draw, Search, Run}
 
 abbrev pub most_turns : ℕ
 most_turns = 1000000
@@ -24,12 +24,17 @@ IsWithin (Search scenario edges first last goal version progress) =
     (1 ≤ edges) × (edges ≤ trace_limit) × (first ≤ last)
 IsWithin Joined = Unit {0}
 IsWithin OwnVersion = Unit {0}
-IsWithin (Replay scenario trace) = Unit {0}
+IsWithin (Replay scenario trace full) = Unit {0}
 IsWithin (Check scenario trace) = Unit {0}
+IsWithin (Checks scenario traces) = Unit {0}
 IsWithin (Explain scenario trace edge) = IfSome edge (λ n. 1 ≤ n)
+IsWithin (Shrink scenario trace edge) = IfSome edge (λ n. 1 ≤ n)
+IsWithin (Rules rule) = Unit {0}
 IsWithin (State scenario trace after) = Unit {0}
 IsWithin (Show scenario trace from to color) = (1 ≤ from) × IsWindow from to
+IsWithin (Cycles scenario trace) = Unit {0}
 IsWithin (Summary scenario trace) = Unit {0}
 IsWithin (Sums scenario traces) = Unit {0}
+IsWithin (Order scenario moments slacks places) = Unit {0}
 IsWithin (Run scenario edges turns version) =
     (1 ≤ edges) × (edges ≤ trace_limit) × (1 ≤ turns) × (turns ≤ most_turns)

@@ -2,7 +2,7 @@
 ghost use Rattle.std.specs.Prelude.{◌≡◌};
 ghost use Rattle.vme_command_line.specs.Alone as spec;
 
-use vme_goals::{Goal, Miss, goal_of};
+use vme_goals::{Aim, Miss, aim_of};
 use vme_model::{Condition, Version};
 
 /// Whether another condition of that rule always fails together with this one.
@@ -19,21 +19,20 @@ fn is_never_alone(rule: u8, condition: Condition) -> bool
     }
 }
 
-/// Whether some trace can reach the goal. None can if the goal is a condition that never fails
-/// alone.
-fn can_come(goal: Goal) -> bool
-    ensures { result ≡ spec.can_come goal }
+/// Whether some trace can reach the aim. None can if the aim is a condition that never fails alone.
+fn can_come(aim: Aim) -> bool
+    ensures { result ≡ spec.can_come aim }
 {
-    match goal {
-        Goal::Miss(Miss::Rule(rule, condition)) => !is_never_alone(rule, condition),
+    match aim {
+        Aim::Miss(Miss::Rule(rule, condition)) => !is_never_alone(rule, condition),
         _ => true,
     }
 }
 
-/// The goal that words name, among all that a trace can reach in that version of the rules.
-pub(crate) fn aim_named(named: &str, version: Version) -> Option<Goal>
-    ensures { result ≡ spec.aim_of named.now version }
+/// The aim that words name, among all that a trace can reach in that version of the rules.
+pub(crate) fn aim_named(named: &str, version: Version) -> Option<Aim>
+    ensures { result ≡ spec.aim_named named.now version }
 {
-    let goal = goal_of(named, version)?;
-    if can_come(goal) { Some(goal) } else { None }
+    let aim = aim_of(named, version)?;
+    if can_come(aim) { Some(aim) } else { None }
 }

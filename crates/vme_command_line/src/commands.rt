@@ -10,78 +10,123 @@ use clap::{Arg, ArgAction, Command, value_parser};
 use std::alloc::{AllocError, Global};
 
 const ABOUT: &str =
-    "Simulates and checks the arbitration bus and the interrupt bus of a VMEbus backplane, edge by edge.";
+    "Simulates and checks the arbitration bus and the interrupt bus of a VMEbus backplane, edge by \
+     edge.";
 
 const OVERVIEW: &str =
-    "Without a command, a scenario and after it a trace are read from standard input, and the trace is
-replayed:
+    "Without a command, a scenario and after it a trace are read from standard input, and the trace
+is replayed:
   cat board.toml tenure.vme | vmebus
 
-A scenario is a TOML file that says which boards stand in which slots. A trace is the line `vme 1`
-or `vme 2`, and then one edge a line, as `1 br-` or `c bg3-`. docs/RULES.md has the rules,
-docs/FORMATS.md has scenarios, traces, reports and faults to the byte, and examples/ has some of
-each.
+A scenario is a TOML file that says which boards stand in which slots. A trace is the line
+`vme 1` or `vme 2`, and then one edge per line, such as `1 br-` or `c bg3-`. docs/RULES.md has
+the rules, docs/TRACES.md has scenarios and traces, docs/COMMANDS.md has what each command
+prints, byte for byte, docs/FAULTS.md has the faults, and examples/ has scenarios and traces to
+start from.
 
-Exit status: 0 done, 1 a fault (one line on standard error) or a text as this one,
-2 some edge was refused, 3 the limit of edges was reached, or `--until` did not come to its event (so
-mind `set -e` in a script).";
+Exit status: 0 done; 1 a fault (one line on standard error) or a text such as this one;
+2 some edge was refused, or no order of moments is legal; 3 the limit of edges was reached, or
+`--until` did not come to its event. So mind `set -e` in a script.";
 
 const REPLAY: &str =
-    "Writes the verdict on each edge of a trace, and how many were accepted and refused";
+    "Prints the verdict on each edge of a trace, and how many were accepted and refused";
 
-const REPLAY_USAGE: &str = "vmebus replay <SCENARIO> <TRACE>";
+const REPLAY_USAGE: &str = "vmebus replay <SCENARIO> <TRACE> [--full]";
 
-const REPLAY_EXAMPLE: &str = "Each edge has a line with its number and its verdict, as `5 E3 G13`:
+const REPLAY_EXAMPLE: &str =
+    "Each edge has a line with its number and its verdict, such as `5 E3 G13`:
   ok      accepted; `ok irq ..` says which status byte it delivers
-  E1      no such driver on this backplane
-  E2      the driver is in that state already
+  E1      there is no such board, or it has no such wire
+  E2      the wire is already in that state
   E3 Gk   the guard of rule Gk does not hold
   E4 Sk   settling rule Sk does not hold
   E5      the trace is full
-The rules G1 to G26 and S1 to S4 stand in docs/RULES.md. A refused edge changes nothing, and the
-replay goes on after it. `vmebus explain` tells why an edge is refused, `vmebus show` draws edges,
-and `vmebus summary` counts them. The exit status is 2 where an edge was refused.
+With --full each line has the edge as well: `5 3 bbsy- E3 G13`. The rules G1 to G26 and S1 to
+S4 stand in docs/RULES.md. A refused edge changes nothing, and the replay goes on after it.
+`vmebus explain` says why an edge is refused, `vmebus show` draws edges, and `vmebus summary`
+counts them. The exit status is 2 if an edge was refused.
 
-Example:
-  vmebus replay board.toml tenure.vme";
+Examples:
+  vmebus replay board.toml tenure.vme
+  vmebus replay board.toml tenure.vme --full";
 
 const CHECK: &str =
-    "Writes whether every edge of a trace is allowed, or which is the first that is not";
+    "Prints whether every edge of each trace is allowed, or which is the first that is not";
 
-const CHECK_USAGE: &str = "vmebus check <SCENARIO> <TRACE>";
+const CHECK_USAGE: &str = "vmebus check <SCENARIO> <TRACE>...";
 
 const CHECK_EXAMPLE: &str =
-    "It writes `legal N`, with the number of edges, or `illegal N VERDICT` at the first refused edge, and
-reads no further. `vmebus replay --help` tells the verdicts, docs/RULES.md the rules that they name,
-and `vmebus explain` why that edge is refused. The exit status is 2 where an edge was refused.
+    "It prints `legal N`, with the number of edges, or `illegal N VERDICT` for the first refused
+edge, and reads no further. `vmebus replay --help` lists the verdicts, docs/RULES.md has the
+rules that they name, and `vmebus explain` says why that edge is refused. The exit status is 2
+if an edge was refused.
 
-Example:
-  vmebus check board.toml tenure.vme";
+If there are several traces, each begins at power-up, and each has such a line, which begins
+with the name of its file: `tenure.vme: legal 94`. If one of them has a fault, the fault is
+reported, and the others are still checked. The exit status is 1 then, even if an edge was
+refused.
 
-const EXPLAIN: &str = "Tells why an edge of a trace is accepted or refused";
+Examples:
+  vmebus check board.toml tenure.vme
+  vmebus check board.toml drawn-1.vme drawn-2.vme drawn-3.vme";
+
+const EXPLAIN: &str = "Says why an edge of a trace is accepted or refused";
 
 const EXPLAIN_USAGE: &str = "vmebus explain <SCENARIO> <TRACE> [--edge <N>]";
 
 const EXPLAIN_EXAMPLE: &str =
-    "It writes the number of the edge, the edge and its verdict, and then each condition that was tested
-of it: `holds ..` or `fails ..`, and under it the wires that it speaks of, since which edge they are
-so. N counts refused edges too. Without --edge it tells the first edge that is refused, or `legal N`
-where none is. It reads no further than that edge. The exit status is 0 where the edge is accepted,
-2 where it is refused, and 1 at a fault. docs/FORMATS.md has each line, and docs/RULES.md the rules.
+    "It prints the number of the edge, the edge and its verdict, and then each condition that was
+tested: `holds ..` or `fails ..`, and below it the wires that it depends on, with the edge that
+moved each of them last. ` (profile)` follows a condition that is not the standard's;
+`vmebus rule` says why. N counts refused edges too. Without --edge it explains the first edge
+that is refused, or prints `legal N` if none is. It reads no further than that edge. The exit
+status is 0 if the edge is accepted, 2 if it is refused, and 1 at a fault. docs/COMMANDS.md has
+each line, and docs/RULES.md the rules.
 
 Example:
   vmebus explain board.toml tenure.vme --edge 8";
 
-const STATE: &str = "Tells where the bus stands after a trace, or after its first edges";
+const SHRINK: &str =
+    "Prints a short trace in which an edge of a trace is accepted or refused in the same way";
+
+const SHRINK_USAGE: &str = "vmebus shrink <SCENARIO> <TRACE> [--edge <N>]";
+
+const SHRINK_EXAMPLE: &str =
+    "It leaves out edges before edge N as long as edge N has the same answer: its verdict, with the
+conditions that fail if it is refused, or the events that it brings if it is accepted. The
+trace that it prints ends with edge N, and every edge before that is needed. There may be a
+shorter one with the same answer. N counts refused edges too. Without --edge it takes the first
+edge that is refused, or prints `legal N` if none is. It reads no further than that edge. The
+exit status is 0 if the edge is accepted, 2 if it is refused, and 1 at a fault.
+docs/COMMANDS.md says which edges are left out.
+
+Example:
+  vmebus shrink board.toml tenure.vme --edge 8 > short.vme";
+
+const RULE: &str = "Prints the rules, or where the conditions of one rule come from";
+
+const RULE_USAGE: &str = "vmebus rule [NAME]";
+
+const RULE_EXAMPLE: &str =
+    "It prints a line for each rule: its name, its edge, and the rule in a sentence. With NAME it
+prints the line of that rule, and a line for each of its conditions: the chapter of the
+standard that asks for it, or `profile` if it is stricter than the standard, and why. NAME is
+E1, E2, G1 to G26, S1 to S4 or E5. docs/RULES.md has the guards, and docs/COMMANDS.md each
+line.
+
+Example:
+  vmebus rule G13";
+
+const STATE: &str = "Prints where the bus stands after a trace, or after its first edges";
 
 const STATE_USAGE: &str = "vmebus state <SCENARIO> <TRACE> [--after <N>]";
 
 const STATE_EXAMPLE: &str =
-    "It writes who holds the bus, where a grant stands, what the address lines show, who asks for the
-bus, which interrupts are pending, the wires that each driver holds low, and all edges that would be
-accepted next. `since N` is the number of an edge in the trace. With --after it reads no further
-than the N-th edge; N counts refused edges too, and 0 is power-up. The exit status is 0, or 1 at a
-fault. docs/FORMATS.md has each line.
+    "It prints who holds the bus, where a grant stands, what the address lines show, who requests
+the bus, which interrupts are pending, the wires that each driver holds low, and all edges that
+would be accepted next. `since N` is the number of an edge in the trace. With --after it reads
+no further than the N-th edge; N counts refused edges too, and 0 is power-up. The exit status
+is 0, or 1 at a fault. docs/COMMANDS.md has each line.
 
 Example:
   vmebus state board.toml tenure.vme --after 4";
@@ -92,83 +137,147 @@ const SHOW: &str =
 const SHOW_USAGE: &str = "vmebus show <SCENARIO> <TRACE> [--from <A>] [--to <B>] [--color]";
 
 const SHOW_EXAMPLE: &str =
-    "Each wire that an edge of A to B moves, or tries to move, has a row, as `2 bbsy  --\\__x_/-`:
+    "Each wire that an edge of A to B moves, or tries to move, has a row, such as
+`2 bbsy  --\\__x_/-`:
   \\ /     an accepted fall, an accepted rise
   x       a refused edge of this wire
   _ -     another edge, while the wire is low, while it is high
-Four rows under them tell how it is after each edge: `grant at` is the slot at which a grant waits,
-`holder` the slot that drives BBSY* low, `shown` the target of an access or the level of an
-acknowledge, and `verdict` is `x` refused, `!` a status byte delivered, or `.` accepted. A slot is a
-letter, `a` for 1 to `u` for 21. It reads no further than edge B. The exit status is 2 where one of
-the edges 1 to B is refused, 0 where none is, and 1 at a fault. docs/FORMATS.md has each line.
+Four rows below them show the state after each edge: `grant at` is the slot at which a grant
+waits, `holder` the slot that drives BBSY* low, `shown` the target of an access or the level of
+an acknowledge, and `verdict` is `x` refused, `!` a status byte delivered, or `.` accepted.
+Slots are `1` to `9`, then `A` for 10 to `L` for 21; the levels of an acknowledge are `a` for 1
+to `g` for 7. It reads no further than edge B. The exit status is 2 if one of the edges 1 to B
+is refused, 0 if none is, and 1 at a fault. docs/COMMANDS.md has each line.
 
 Example:
   vmebus show board.toml tenure.vme --from 1 --to 8";
+
+const CYCLES: &str = "Prints a line for each cycle, each tenure and each refused edge of a trace";
+
+const CYCLES_USAGE: &str = "vmebus cycles <SCENARIO> <TRACE>";
+
+const CYCLES_EXAMPLE: &str =
+    "A cycle or a tenure goes from edge A to edge Z, and S is the slot of its board:
+  A..Z S access T answered at I
+          it accessed slot T, which answered with edge I
+  A..Z S acknowledge L status B from Q asked I
+          it acknowledged level L, and slot Q, which had requested that with edge I, answered B
+  A..Z S access T bus error, A..Z S acknowledge L bus error
+          nobody answered, and the bus timer ended the cycle
+  A..Z S tenure asked R cycles C
+          it requested the bus with edge R, held it from A to Z, and began C cycles
+  N refused EDGE VERDICT
+          edge N was refused, with the verdict of `vmebus replay`
+All these numbers count refused edges too. A line is printed at edge Z. What has not ended by
+the end of the trace has `A..` in place of `A..Z`. The last line,
+`cycles C tenures T refused R`, counts the lines of each kind that ended. The exit status is 2
+if an edge was refused, 0 if none was, and 1 at a fault. docs/COMMANDS.md has each line.
+
+Example:
+  vmebus cycles board.toml tenure.vme";
 
 const SUMMARY: &str = "Counts what traces exercised, who waited for the bus and who held it";
 
 const SUMMARY_USAGE: &str = "vmebus summary <SCENARIO> <TRACE>...";
 
 const SUMMARY_EXAMPLE: &str =
-    "It writes how many edges were accepted and refused, in all and by each rule, by which rules none was
-accepted, and which events came, how often, and which never did. For each board it writes how often
-it asked for the bus, how many edges it waited for it and held it, and how often it answered.
-`first N` and `since N` are numbers of edges in the trace; N counts refused edges too. The exit
-status is 2 where an edge was refused, 0 where none was, and 1 at a fault, where nothing is written.
+    "It prints how many edges were accepted and refused, in all and by each rule, by which rules
+none was accepted, and which events came, how often, and which never did. For each board it
+prints how often it requested the bus, how many edges it waited for it and held it, and how
+often it answered. `first N` and `since N` are numbers of edges in the trace; N counts refused
+edges too. The exit status is 2 if an edge was refused, 0 if none was, and 1 at a fault, and
+then nothing is printed.
 
-Of several traces, each of which begins at power-up, it writes the sums, and of the longest waits and
-holds the greatest. Then no edge is told by its number.
-docs/FORMATS.md has each line.
+If there are several traces, each begins at power-up. It prints the sums over all of them, and
+the greatest of their longest waits and holds. No number of an edge is printed then.
+docs/COMMANDS.md has each line.
 
 Examples:
   vmebus summary board.toml tenure.vme
   vmebus summary board.toml drawn-1.vme drawn-2.vme drawn-3.vme";
 
+const ORDER: &str =
+    "Prints a legal order of edges that were seen at the same moments, if there is one";
+
+const ORDER_USAGE: &str = "vmebus order <SCENARIO> <MOMENTS> [--slack <S>] [--where]";
+
+const ORDER_EXAMPLE: &str =
+    "A clocked design moves several wires at once, and does not say in which order. MOMENTS is a
+trace with lines `@N` between its edges. An edge was seen at the moment of the last `@N` above
+it, such as the number of the clock. Edges of one moment may have been made in any order; those
+of a later moment were made after them.
+
+With --slack an edge may have been made up to S moments before it was seen. S is a number for
+all drivers, or a list of drivers with a number each, such as `c=2,5=1`; the others have 0.
+Edges that one board made at different moments keep their order. So do those of the arbiter, of
+the IACK driver, and of the bus timer.
+
+If the rules allow some order of all edges, the first of these is printed as a trace, and the
+exit status is 0. It leaves the edges as they are listed as far as the rules let them. If no
+order is allowed, the longest beginning that is allowed is printed, and after it each edge that
+could come next. All of these are refused there, and `vmebus explain` says why the first of
+them is. The exit status is 2 then, and 1 at a fault. With --where each edge of that trace has
+a line with its number, its line in MOMENTS and its moment. docs/COMMANDS.md has each line, and
+docs/RTL.md says how to print moments.
+
+Example:
+  vmebus order board.toml seen.vme --slack c=2 > tenure.vme";
+
 const DRIVE: &str =
-    "Writes a trace that the drivers of a scenario make in turn, or one that is drawn by lot";
+    "Prints a trace that the drivers of a scenario make in turn, or one that is drawn at random";
 
 const DRIVE_USAGE: &str =
-    "vmebus drive <SCENARIO> --edges <N> [--seed <S> [--until <EVENT>]] [--version <V>]
-       vmebus drive <SCENARIO> --edges <N> --seeds <S..T> --until <EVENT> [--progress] [--version <V>]";
+    "vmebus drive <SCENARIO> --edges <N> [--seed <S> [--until <EVENT> [--of <D>] [--after <N>]]] \
+     [--version <V>]
+       vmebus drive <SCENARIO> --edges <N> --seeds <S..T> --until <EVENT> [--of <D>] [--after <N>] \
+     [--progress] [--version <V>]";
 
 const DRIVE_EXAMPLE: &str =
-    "In each round the controller and then each board makes one of the edges that are open to it. It ends
-with the given number of edges, and then the exit status is 3, or after a round in which nobody
-could make one, and then it is 0.
+    "In each round the controller and then each board makes one of the edges that are open to it.
+The trace ends with the given number of edges, and then the exit status is 3, or after a round
+in which nobody could make one, and then it is 0.
 
-With --seed there are no rounds: each edge is drawn by lot from all edges that would be accepted, of
-all drivers. A seed always draws the same trace. The exit status is 3 after the given number of
-edges, and 0 where nobody could make a further one.
+With --seed there are no rounds: each edge is drawn at random from all edges that would be
+accepted, of all drivers. A seed always draws the same trace. The exit status is 3 after the
+given number of edges, and 0 if nobody could make another one.
 
-With --until the trace ends as soon as EVENT comes, and the exit status is 0 where it came, else 3.
-EVENT is a situation that an accepted edge brings about,
+With --until the trace ends as soon as EVENT comes. The exit status is 0 if it came, and
+otherwise 3. EVENT is a situation that an accepted edge brings about,
   grant-passed late-request overtaken early-release overlap full-burst bus-clear rivals delivery
   iack-passed answered-again spurious bus-error, and in version 2 withdrawn grant-timeout
-or what alone refuses an edge, which is then the last of the trace: a rule and one of its conditions
-as `vmebus explain` writes it, with N for a level, or a settling rule, as S2. docs/FORMATS.md tells
-what each event is, and has all conditions; six of them never refuse an edge alone, and are no EVENT.
+or what alone refuses an edge, which is then the last of the trace: a rule and one of its
+conditions as `vmebus explain` prints it, with N for a level, a rule such as G13 for any of its
+conditions, or a settling rule such as S2. `vmebus rule G13` prints the conditions of G13.
+docs/COMMANDS.md says what each event is, and which six conditions never refuse an edge alone,
+so that they are no EVENT.
 
-With --seeds it tries the seeds S to T in order. The first with which EVENT comes within the given
-number of edges is told on standard error as `seed S`, its trace is written, and the exit status is
-0. Where it comes with none, `no seed` is told, nothing is written, and the exit status is 3. With
---progress it tells on standard error which seed it tries, as `trying seed S`, once a second at most,
-and of a long one how many edges it has drawn.
+With --of only edges of that driver count, and with --after only those with at least N edges
+before them. So you get tests of one board, and not all of them from power-up.
+
+With --seeds it tries the seeds S to T in order. The first that reaches EVENT within the given
+number of edges is printed on standard error, as `seed S`, and its trace on standard output.
+The exit status is 0 then. If no seed reaches it, `no seed` is printed on standard error,
+nothing on standard output, and the exit status is 3. With --progress it reports on standard
+error which seed it tries, as `trying seed S`, at most once a second, and how many edges it has
+drawn of a long one.
 
 Examples:
   vmebus drive board.toml --edges 1000 > tenure.vme
   vmebus drive board.toml --edges 1000 --seed 7 > drawn.vme
   vmebus drive board.toml --edges 1000 --seed 7 --until \"G13 own br is low\" > refused.vme
-  vmebus drive board.toml --edges 60 --seeds 0..1000 --until bus-error > error.vme";
+  vmebus drive board.toml --edges 60 --seeds 0..1000 --until bus-error > error.vme
+  vmebus drive board.toml --edges 200 --seeds 0..99 --until G13 --of 2 --after 20 > refused.vme";
 
-const RUN: &str = "Writes a trace that the drivers of a scenario make at once, a thread for each";
+const RUN: &str =
+    "Prints a trace that the drivers of a scenario make at the same time, a thread for each";
 
 const RUN_USAGE: &str = "vmebus run <SCENARIO> --edges <N> --turns <T> [--version <V>]";
 
 const RUN_EXAMPLE: &str =
-    "Each driver gets the given number of turns, and in a turn it tries one of the edges that are open to
-it. The exit status is 3 where as many edges were made as were asked for, and 0 where all turns were
-spent before: then the run is done, too.
-Two runs may differ; what each writes is legal.
+    "Each driver gets the given number of turns, and in a turn it tries one of the edges that are
+open to it. The exit status is 3 if as many edges were made as were asked for, and 0 if all
+turns were spent before that, which is not an error. Two runs may differ; what each prints is
+legal.
 
 Example:
   vmebus run board.toml --edges 1000 --turns 100000 > tenure.vme";
@@ -192,7 +301,23 @@ fn scenario_file<'a>(alloc: Global) -> Arg<'a>
 fn trace_file<'a>(alloc: Global) -> Arg<'a>
     ensures { rule_of result ≡ said.file (codes "TRACE") }
 {
-    file(alloc, "TRACE", "The edges, one a line")
+    file(alloc, "TRACE", "The edges, one per line")
+}
+
+fn moments_file<'a>(alloc: Global) -> Arg<'a>
+    ensures { rule_of result ≡ said.file (codes "MOMENTS") }
+{
+    let help = "The edges, one per line, below the moments at which they were seen";
+    file(alloc, "MOMENTS", help)
+}
+
+/// The argument for the name of a rule, which may be left out.
+fn rule_name<'a>(alloc: Global) -> Arg<'a>
+    ensures { rule_of result ≡ said.word (codes "NAME") }
+{
+    Arg::new(alloc, "NAME")
+        .action(ArgAction::Set)
+        .help("Which rule, such as G13 [default: all]")
 }
 
 /// The argument for the files of traces, of which at least one is required.
@@ -298,7 +423,7 @@ fn to_option<'a>(alloc: Global) -> Arg<'a>
 fn seed_option<'a>(alloc: Global) -> Arg<'a>
     ensures { rule_of result ≡ said.seed }
 {
-    let help = "Draws the edges by lot from this seed, 0 to 18446744073709551615";
+    let help = "Draws the edges at random from this seed, 0 to 18446744073709551615";
     whole_option(alloc, "seed", "S", 0, help)
 }
 
@@ -312,6 +437,23 @@ fn until_option<'a>(alloc: Global) -> Arg<'a>
         .help("Ends with the first edge that brings this about; needs --seed or --seeds")
 }
 
+fn of_option<'a>(alloc: Global) -> Arg<'a>
+    ensures { rule_of result ≡ said.only }
+{
+    Arg::new(alloc, "of")
+        .long("of")
+        .value_name("D")
+        .action(ArgAction::Set)
+        .help("Counts only edges of this driver, c or a slot; needs --until")
+}
+
+fn behind_option<'a>(alloc: Global) -> Arg<'a>
+    ensures { rule_of result ≡ said.after }
+{
+    let help = "Counts only edges after this many [default: 0]; needs --until";
+    whole_option(alloc, "after", "N", 0, help)
+}
+
 fn seeds_option<'a>(alloc: Global) -> Arg<'a>
     ensures { rule_of result ≡ said.seeds }
 {
@@ -319,7 +461,17 @@ fn seeds_option<'a>(alloc: Global) -> Arg<'a>
         .long("seeds")
         .value_name("S..T")
         .action(ArgAction::Set)
-        .help("Tries these seeds in order until one comes to EVENT; needs --until")
+        .help("Tries these seeds in order until one reaches EVENT; needs --until")
+}
+
+fn slack_option<'a>(alloc: Global) -> Arg<'a>
+    ensures { rule_of result ≡ said.slack }
+{
+    Arg::new(alloc, "slack")
+        .long("slack")
+        .value_name("S")
+        .action(ArgAction::Set)
+        .help("By how many moments edges may be seen late, such as 2 or c=2,5=1 [default: 0]")
 }
 
 /// An option without a value.
@@ -332,6 +484,13 @@ fn flag<'a>(alloc: Global, name: &'a str, help: &'a str) -> Arg<'a>
         .help(help)
 }
 
+fn full_option<'a>(alloc: Global) -> Arg<'a>
+    ensures { rule_of result ≡ said.full }
+{
+    let help = "Prints each edge as well, between its number and its verdict";
+    flag(alloc, "full", help)
+}
+
 fn color_option<'a>(alloc: Global) -> Arg<'a>
     ensures { rule_of result ≡ said.color }
 {
@@ -342,8 +501,16 @@ fn color_option<'a>(alloc: Global) -> Arg<'a>
 fn progress_option<'a>(alloc: Global) -> Arg<'a>
     ensures { rule_of result ≡ said.progress }
 {
-    let help = "Tells on standard error which seed it tries, once a second at most; needs --seeds";
+    let help =
+        "Reports on standard error which seed it tries, at most once a second; needs --seeds";
     flag(alloc, "progress", help)
+}
+
+fn where_option<'a>(alloc: Global) -> Arg<'a>
+    ensures { rule_of result ≡ said.places }
+{
+    let help = "Prints where each edge was seen, in place of the trace";
+    flag(alloc, "where", help)
 }
 
 /// A command that takes a scenario.
@@ -392,16 +559,34 @@ fn command_on_trace<'a>(
     )
 }
 
+/// A command that takes a scenario, and one trace or more.
+fn command_on_traces<'a>(
+    alloc: Global,
+    name: &'a str,
+    about: &'a str,
+    usage: &'a str,
+    example: &'a str,
+) -> Result<Command<'a>, AllocError>
+    ensures { IfOk result (λ c.
+        app_of c ≡ said.leaf name.entry.now (said.files (codes "TRACE") ∷ [])) }
+{
+    taking(
+        command(alloc, name, about, usage, example),
+        trace_files(alloc),
+    )
+}
+
 fn replay<'a>(alloc: Global) -> Result<Command<'a>, AllocError>
     ensures { IfOk result (λ c. shape_of c ≡ said.replay) }
 {
-    command_on_trace(alloc, "replay", REPLAY, REPLAY_USAGE, REPLAY_EXAMPLE)
+    let command = command_on_trace(alloc, "replay", REPLAY, REPLAY_USAGE, REPLAY_EXAMPLE);
+    taking(command, full_option(alloc))
 }
 
 fn check<'a>(alloc: Global) -> Result<Command<'a>, AllocError>
     ensures { IfOk result (λ c. shape_of c ≡ said.check) }
 {
-    command_on_trace(alloc, "check", CHECK, CHECK_USAGE, CHECK_EXAMPLE)
+    command_on_traces(alloc, "check", CHECK, CHECK_USAGE, CHECK_EXAMPLE)
 }
 
 fn explain<'a>(alloc: Global) -> Result<Command<'a>, AllocError>
@@ -409,6 +594,24 @@ fn explain<'a>(alloc: Global) -> Result<Command<'a>, AllocError>
 {
     let command = command_on_trace(alloc, "explain", EXPLAIN, EXPLAIN_USAGE, EXPLAIN_EXAMPLE);
     taking(command, edge_option(alloc))
+}
+
+fn shrink<'a>(alloc: Global) -> Result<Command<'a>, AllocError>
+    ensures { IfOk result (λ c. shape_of c ≡ said.shrink) }
+{
+    let command = command_on_trace(alloc, "shrink", SHRINK, SHRINK_USAGE, SHRINK_EXAMPLE);
+    taking(command, edge_option(alloc))
+}
+
+/// The command `rule`, which takes no scenario.
+pub(crate) fn rule<'a>(alloc: Global) -> Result<Command<'a>, AllocError>
+    ensures { IfOk result (λ c. shape_of c ≡ said.rule) }
+{
+    Command::new(alloc, "rule")
+        .about(RULE)
+        .override_usage(RULE_USAGE)
+        .after_help(RULE_EXAMPLE)
+        .arg(rule_name(alloc))
 }
 
 fn state<'a>(alloc: Global) -> Result<Command<'a>, AllocError>
@@ -428,11 +631,26 @@ pub(crate) fn show<'a>(alloc: Global) -> Result<Command<'a>, AllocError>
     taking(command, color_option(alloc))
 }
 
+fn cycles<'a>(alloc: Global) -> Result<Command<'a>, AllocError>
+    ensures { IfOk result (λ c. shape_of c ≡ said.cycles) }
+{
+    command_on_trace(alloc, "cycles", CYCLES, CYCLES_USAGE, CYCLES_EXAMPLE)
+}
+
 fn summary<'a>(alloc: Global) -> Result<Command<'a>, AllocError>
     ensures { IfOk result (λ c. shape_of c ≡ said.summary) }
 {
-    let command = command(alloc, "summary", SUMMARY, SUMMARY_USAGE, SUMMARY_EXAMPLE);
-    taking(command, trace_files(alloc))
+    command_on_traces(alloc, "summary", SUMMARY, SUMMARY_USAGE, SUMMARY_EXAMPLE)
+}
+
+/// The command `order`.
+pub(crate) fn order<'a>(alloc: Global) -> Result<Command<'a>, AllocError>
+    ensures { IfOk result (λ c. shape_of c ≡ said.order) }
+{
+    let command = command(alloc, "order", ORDER, ORDER_USAGE, ORDER_EXAMPLE);
+    let command = taking(command, moments_file(alloc));
+    let command = taking(command, slack_option(alloc));
+    taking(command, where_option(alloc))
 }
 
 /// The command `drive`.
@@ -444,6 +662,8 @@ pub(crate) fn drive<'a>(alloc: Global) -> Result<Command<'a>, AllocError>
     let command = taking(command, seed_option(alloc));
     let command = taking(command, seeds_option(alloc));
     let command = taking(command, until_option(alloc));
+    let command = taking(command, of_option(alloc));
+    let command = taking(command, behind_option(alloc));
     let command = taking(command, progress_option(alloc));
     taking(command, version_option(alloc))
 }
@@ -491,9 +711,13 @@ pub(crate) fn commands<'a>(alloc: Global) -> Result<Command<'a>, AllocError>
     let program = offering(program(alloc), replay(alloc));
     let program = offering(program, check(alloc));
     let program = offering(program, explain(alloc));
+    let program = offering(program, shrink(alloc));
+    let program = offering(program, rule(alloc));
     let program = offering(program, state(alloc));
     let program = offering(program, show(alloc));
+    let program = offering(program, cycles(alloc));
     let program = offering(program, summary(alloc));
+    let program = offering(program, order(alloc));
     let program = offering(program, drive(alloc));
     offering(program, run(alloc))
 }

@@ -3,22 +3,31 @@
 #![tactic(auto)]
 
 ghost use Rattle.std.specs.Prelude.{◌≡◌, ◌≢◌, ◌≤◌, ◌↔◌, ◌⊎◌, ℕ, [], ◌∷◌, IfErr, IfOk, IfSome, IsSomeAnd, MatchOption, Err, Ok, Some, codes, false, length, option_map, true};
-ghost use Rattle.clap.specs.Words.{FailsBy, IsAmong, all_of, fault_of, first_of as first_text, found_of, kind_of, rows_of, subcommand_of, subcommand_rows_of};
-ghost use Rattle.vme_command_line.specs.Asked.{AreSeeds, Ask, AskForNoJob, AsksFor, IsAim, IsFile, IsFlag, IsSeed, NamesNoSeeds, first_shown, last_shown, spelled, texts_of, version_number};
+ghost use Rattle.clap.specs.Words.{FailsBy, IsAmong, Text, all_of, fault_of, first_of as first_text, found_of, kind_of, rows_of, subcommand_of, subcommand_rows_of};
+ghost use Rattle.vme_command_line.specs.Asked.{AreSeeds, Ask, AskForNoJob, AsksFor, AreTheSlacks, IsFile, IsFlag, IsNoSlack, NamesNoSeeds, first_shown, last_shown, spelled, texts_of, version_number};
 ghost use Rattle.vme_command_line.specs.Commands.{commands as commands_said};
 ghost use Rattle.vme_command_line.specs.Limits.{IsWithin};
+ghost use Rattle.vme_command_line.specs.Numbers.{IsSeed};
+ghost use Rattle.vme_command_line.specs.Traces.{AreTraces};
 ghost use Rattle.vme_command_line.specs.Unfits.{IsUnfit};
 
+mod aims;
 mod alone;
 mod commands;
+mod errors;
+mod mistakes;
+mod slacks;
 
-use alone::aim_named;
+use aims::goal_of;
 use clap::error::ErrorKind;
 use clap::{ArgMatches, Error};
-use commands::{commands, drive, show};
-use std::alloc::{AllocError, Global};
-use vme_goals::{Goal, goal_of};
-use vme_model::{TRACE_LIMIT, Version};
+use commands::commands;
+use errors::error_of;
+use slacks::slacks_in;
+use std::alloc::Global;
+use vme_goals::Goal;
+use vme_model::{Rule, TRACE_LIMIT, Version};
+use vme_moments::Slacks;
 
 /// The program's name and its version, as the line that `--version` prints. The version stands only
 /// here.
@@ -36,6 +45,9 @@ pub const MOST_SHOWN: u64 = 200;
 /// How many edges a picture shows if its first and last edge are not both given.
 const SHOWN: u64 = 60;
 
+/// The option for several seeds, as a usage error names it.
+const SEEDS: &str = "--seeds <S..T>";
+
 /// What the program is to do. Files have the names that the user gave. docs/COMMANDS.md describes
 /// each command.
 #[derive(PartialEq, Eq, Debug, Drop)]
@@ -50,6 +62,8 @@ pub enum Job<'a> {
         scenario: &'a str,
         /// The file of the trace.
         trace: &'a str,
+        /// Whether each edge is printed beside its verdict.
+        full: bool,
     },
     /// Check a trace.
     Check {
@@ -57,6 +71,13 @@ pub enum Job<'a> {
         scenario: &'a str,
         /// The file of the trace.
         trace: &'a str,
+    },
+    /// Check several traces.
+    Checks {
+        /// The file of the scenario.
+        scenario: &'a str,
+        /// The files of the traces, two or more.
+        traces: Vec<&'a str>,
     },
     /// Explain why an edge of a trace has its verdict.
     Explain {
@@ -66,6 +87,20 @@ pub enum Job<'a> {
         trace: &'a str,
         /// The edge, counted from 1. If it is not given, it is the first edge that is refused.
         edge: Option<u64>,
+    },
+    /// Find a short trace in which an edge has the same answer.
+    Shrink {
+        /// The file of the scenario.
+        scenario: &'a str,
+        /// The file of the trace.
+        trace: &'a str,
+        /// The edge, counted from 1. If it is not given, it is the first edge that is refused.
+        edge: Option<u64>,
+    },
+    /// Print the rules.
+    Rules {
+        /// The rule whose conditions are printed. Without it, all rules are, a sentence each.
+        rule: Option<Rule>,
     },
     /// Report where the bus stands in a trace.
     State {
@@ -90,6 +125,13 @@ pub enum Job<'a> {
         /// Whether refused edges and deliveries are coloured.
         color: bool,
     },
+    /// Print the cycles, tenures and refused edges of a trace.
+    Cycles {
+        /// The file of the scenario.
+        scenario: &'a str,
+        /// The file of the trace.
+        trace: &'a str,
+    },
     /// Count what a trace exercised.
     Summary {
         /// The file of the scenario.
@@ -103,6 +145,17 @@ pub enum Job<'a> {
         scenario: &'a str,
         /// The files of the traces, two or more.
         traces: Vec<&'a str>,
+    },
+    /// Find a legal order of edges that were seen at moments.
+    Order {
+        /// The file of the boards.
+        scenario: &'a str,
+        /// The file of the edges with their moments.
+        moments: &'a str,
+        /// By how many moments at most the edges of each driver were seen late.
+        slacks: Slacks,
+        /// Whether to print where each edge was seen, in place of the trace.
+        places: bool,
     },
     /// Let the drivers make edges in turn.
     Drive {
@@ -156,9 +209,18 @@ pub enum Job<'a> {
     },
 }
 
+/// The traces of a command that takes one or more. Files have the names that the user gave.
+#[derive(PartialEq, Eq, Debug, Drop)]
+enum Traces<'a> {
+    /// There is one.
+    One { trace: &'a str },
+    /// There are two or more.
+    Several { traces: Vec<&'a str> },
+}
+
 /// Why words that the command line accepts ask for no job.
 #[derive(Clone, Copy, PartialEq, Eq, Debug)]
-enum Unfit<'a> {
+pub(crate) enum Unfit<'a> {
     /// They name no command, or a command without one of its required operands.
     Missing,
     /// There is no memory for the names of the files.
@@ -172,18 +234,24 @@ enum Unfit<'a> {
     Event { named: &'a str, version: Version },
     /// There is a goal, but no seed.
     Seedless,
-    /// There are seeds to try, but no goal.
-    Aimless,
+    /// An option that needs a goal is given, but there is no goal.
+    Aimless { option: &'a str },
+    /// The text names no driver.
+    Driver { named: &'a str },
     /// There are both a seed and seeds to try.
     Seeded,
     /// The text does not name seeds to try.
     Seeds { named: &'a str },
     /// Progress is to be reported, but there are no seeds to try.
     Idle,
+    /// No rule has this name.
+    Rule { named: &'a str },
+    /// The text does not name slacks.
+    Slack { named: &'a str },
 }
 
 /// The text of the operand of that name, if it is given.
-fn text_of<'a>(operands: &ArgMatches<'a>, name: &str) -> Option<&'a str>
+pub(crate) fn text_of<'a>(operands: &ArgMatches<'a>, name: &str) -> Option<&'a str>
     ensures { option_map (λ text. text.now) result
         ≡ first_text name.now (rows_of (found_of operands.now)) }
 {
@@ -225,7 +293,11 @@ fn number_of<'a>(operands: &ArgMatches<'a>, name: &str, most: u32) -> Result<u32
 
 /// The whole number of 64 bits that the option of that name spells, if it is `least` or more; none
 /// if the option is not given.
-fn whole_of<'a>(operands: &ArgMatches<'a>, name: &str, least: u64) -> Result<Option<u64>, Unfit<'a>>
+pub(crate) fn whole_of<'a>(
+    operands: &ArgMatches<'a>,
+    name: &str,
+    least: u64,
+) -> Result<Option<u64>, Unfit<'a>>
     ensures within { IfOk result (λ whole. IfSome whole (λ n. least ≤ n)) }
     ensures spelled { IfOk result (λ whole.
         spelled name.now (rows_of (found_of operands.now)) ≡ whole) }
@@ -251,21 +323,49 @@ fn version_of<'a>(operands: &ArgMatches<'a>) -> Result<Version, Unfit<'a>>
     }
 }
 
-/// The goal that `--until` names, among all that a trace can reach in that version of the rules;
-/// none if the option is not given.
-fn aim_of<'a>(operands: &ArgMatches<'a>, version: Version) -> Result<Option<Goal>, Unfit<'a>>
-    ensures aim { IfOk result (IsAim (rows_of (found_of operands.now)) version) }
-    ensures unfit { spelled (codes "version") (rows_of (found_of operands.now))
-        ≡ Some (version_number version)
-        → IfErr result (IsUnfit (codes "drive") (rows_of (found_of operands.now))) }
+/// The traces that are given.
+fn traces_of<'a>(alloc: Global, operands: &ArgMatches<'a>) -> Result<Traces<'a>, Unfit<'a>>
+    ensures traces { IfOk result (AreTraces (rows_of (found_of operands.now))) }
+    ensures unfit { (name : Text) → IfErr result (IsUnfit name (rows_of (found_of operands.now))) }
 {
-    match text_of(operands, "until") {
-        None => Ok(None),
-        Some(named) => match aim_named(named, version) {
-            Some(goal) => Ok(Some(goal)),
-            None if goal_of(named, version).is_some() => Err(Unfit::Beside { named }),
-            None => Err(Unfit::Event { named, version }),
+    match files_of(operands, "TRACE") {
+        None | Some([]) => Err(Unfit::Missing),
+        Some([trace]) => Ok(Traces::One { trace }),
+        Some(traces) => match traces.to_vec(alloc) {
+            Ok(traces) => Ok(Traces::Several { traces }),
+            Err(_) => Err(Unfit::NoMemory),
         },
+    }
+}
+
+/// A replay of the scenario's trace, with its other operands.
+fn replay_of<'a>(scenario: &'a str, operands: &ArgMatches<'a>) -> Result<Job<'a>, Unfit<'a>>
+    ensures within { IfOk result IsWithin }
+    ensures asked { IsFile (codes "SCENARIO") (rows_of (found_of operands.now)) scenario.now
+        → IfOk result (AsksFor (codes "replay") (rows_of (found_of operands.now))) }
+    ensures unfit { IfErr result (IsUnfit (codes "replay") (rows_of (found_of operands.now))) }
+{
+    Ok(Job::Replay {
+        scenario,
+        trace: file_of(operands, "TRACE")?,
+        full: is_flagged(operands, "full"),
+    })
+}
+
+/// A check of one trace of the scenario, or of several.
+fn check_of<'a>(
+    alloc: Global,
+    scenario: &'a str,
+    operands: &ArgMatches<'a>,
+) -> Result<Job<'a>, Unfit<'a>>
+    ensures within { IfOk result IsWithin }
+    ensures asked { IsFile (codes "SCENARIO") (rows_of (found_of operands.now)) scenario.now
+        → IfOk result (AsksFor (codes "check") (rows_of (found_of operands.now))) }
+    ensures unfit { IfErr result (IsUnfit (codes "check") (rows_of (found_of operands.now))) }
+{
+    match traces_of(alloc, operands)? {
+        Traces::One { trace } => Ok(Job::Check { scenario, trace }),
+        Traces::Several { traces } => Ok(Job::Checks { scenario, traces }),
     }
 }
 
@@ -280,13 +380,9 @@ fn summary_of<'a>(
         → IfOk result (AsksFor (codes "summary") (rows_of (found_of operands.now))) }
     ensures unfit { IfErr result (IsUnfit (codes "summary") (rows_of (found_of operands.now))) }
 {
-    match files_of(operands, "TRACE") {
-        None | Some([]) => Err(Unfit::Missing),
-        Some([trace]) => Ok(Job::Summary { scenario, trace }),
-        Some(traces) => match traces.to_vec(alloc) {
-            Ok(traces) => Ok(Job::Sums { scenario, traces }),
-            Err(_) => Err(Unfit::NoMemory),
-        },
+    match traces_of(alloc, operands)? {
+        Traces::One { trace } => Ok(Job::Summary { scenario, trace }),
+        Traces::Several { traces } => Ok(Job::Sums { scenario, traces }),
     }
 }
 
@@ -302,6 +398,37 @@ fn explain_of<'a>(scenario: &'a str, operands: &ArgMatches<'a>) -> Result<Job<'a
         trace: file_of(operands, "TRACE")?,
         edge: whole_of(operands, "edge", 1)?,
     })
+}
+
+/// A shorter trace for the scenario, with its other operands.
+fn shrink_of<'a>(scenario: &'a str, operands: &ArgMatches<'a>) -> Result<Job<'a>, Unfit<'a>>
+    ensures within { IfOk result IsWithin }
+    ensures asked { IsFile (codes "SCENARIO") (rows_of (found_of operands.now)) scenario.now
+        → IfOk result (AsksFor (codes "shrink") (rows_of (found_of operands.now))) }
+    ensures unfit { IfErr result (IsUnfit (codes "shrink") (rows_of (found_of operands.now))) }
+{
+    let trace = file_of(operands, "TRACE")?;
+    let edge = whole_of(operands, "edge", 1)?;
+    Ok(Job::Shrink {
+        scenario,
+        trace,
+        edge,
+    })
+}
+
+/// The rules, with the name of one if it is given.
+fn rules_of<'a>(operands: &ArgMatches<'a>) -> Result<Job<'a>, Unfit<'a>>
+    ensures within { IfOk result IsWithin }
+    ensures asked { IfOk result (AsksFor (codes "rule") (rows_of (found_of operands.now))) }
+    ensures unfit { IfErr result (IsUnfit (codes "rule") (rows_of (found_of operands.now))) }
+{
+    match text_of(operands, "NAME") {
+        None => Ok(Job::Rules { rule: None }),
+        Some(named) => match Rule::named(named.as_bytes()) {
+            Some(rule) => Ok(Job::Rules { rule: Some(rule) }),
+            None => Err(Unfit::Rule { named }),
+        },
+    }
 }
 
 /// The state of the scenario's bus, with its other operands.
@@ -368,8 +495,38 @@ fn show_of<'a>(scenario: &'a str, operands: &ArgMatches<'a>) -> Result<Job<'a>, 
     })
 }
 
+/// The slacks that `--slack` names. No driver has slack if it is not given.
+fn slacks_of<'a>(operands: &ArgMatches<'a>) -> Result<Slacks, Unfit<'a>>
+    ensures slacks { IfOk result (AreTheSlacks (rows_of (found_of operands.now))) }
+    ensures unfit { IfErr result (λ unfit. IsNoSlack (rows_of (found_of operands.now))
+        × (unfit ≢ Unfit.Missing)) }
+{
+    match text_of(operands, "slack") {
+        None => Ok(Slacks::all(0)),
+        Some(named) => match slacks_in(named) {
+            Some(slacks) => Ok(slacks),
+            None => Err(Unfit::Slack { named }),
+        },
+    }
+}
+
+/// An order of moments on the scenario, with its other operands.
+fn order_of<'a>(scenario: &'a str, operands: &ArgMatches<'a>) -> Result<Job<'a>, Unfit<'a>>
+    ensures within { IfOk result IsWithin }
+    ensures asked { IsFile (codes "SCENARIO") (rows_of (found_of operands.now)) scenario.now
+        → IfOk result (AsksFor (codes "order") (rows_of (found_of operands.now))) }
+    ensures unfit { IfErr result (IsUnfit (codes "order") (rows_of (found_of operands.now))) }
+{
+    Ok(Job::Order {
+        scenario,
+        moments: file_of(operands, "MOMENTS")?,
+        slacks: slacks_of(operands)?,
+        places: is_flagged(operands, "where"),
+    })
+}
+
 /// The seed that a text spells.
-fn seed_in(text: &str) -> Option<u64>
+pub(crate) fn seed_in(text: &str) -> Option<u64>
     ensures { MatchOption result ((n : ℕ) → ¬ (IsSeed text.now n)) (λ n. IsSeed text.now n) }
 {
     text.parse().ok()
@@ -391,9 +548,9 @@ fn seeds_in(text: &str) -> Option<(u64, u64)>
 
 /// The job, unless its progress is to be reported: that is possible only if several seeds are
 /// tried.
-fn untold(progress: bool, job: Job<'_>) -> Result<Job<'_>, Unfit<'_>>
-    ensures untold { progress ≡ false → result ≡ Ok job.entry }
-    ensures told { progress ≡ true → result ≡ Err Unfit.Idle }
+fn without_progress(progress: bool, job: Job<'_>) -> Result<Job<'_>, Unfit<'_>>
+    ensures silent { progress ≡ false → result ≡ Ok job.entry }
+    ensures idle { progress ≡ true → result ≡ Err Unfit.Idle }
 {
     if progress { Err(Unfit::Idle) } else { Ok(job) }
 }
@@ -408,12 +565,12 @@ fn drive_of<'a>(scenario: &'a str, operands: &ArgMatches<'a>) -> Result<Job<'a>,
 {
     let edges = number_of(operands, "edges", MOST_EDGES)?;
     let version = version_of(operands)?;
-    let until = aim_of(operands, version)?;
+    let until = goal_of(operands, version)?;
     let seed = whole_of(operands, "seed", 0)?;
     let progress = is_flagged(operands, "progress");
     match (seed, text_of(operands, "seeds"), until) {
         (Some(_), Some(_), _) => Err(Unfit::Seeded),
-        (None, Some(_), None) => Err(Unfit::Aimless),
+        (None, Some(_), None) => Err(Unfit::Aimless { option: SEEDS }),
         (None, Some(named), Some(goal)) => match seeds_in(named) {
             Some((first, last)) => Ok(Job::Search {
                 scenario,
@@ -435,7 +592,7 @@ fn drive_of<'a>(scenario: &'a str, operands: &ArgMatches<'a>) -> Result<Job<'a>,
                 until,
                 version,
             };
-            untold(progress, job)
+            without_progress(progress, job)
         }
         (None, None, None) => {
             let job = Job::Drive {
@@ -443,7 +600,7 @@ fn drive_of<'a>(scenario: &'a str, operands: &ArgMatches<'a>) -> Result<Job<'a>,
                 edges,
                 version,
             };
-            untold(progress, job)
+            without_progress(progress, job)
         }
     }
 }
@@ -463,29 +620,45 @@ fn run_of<'a>(scenario: &'a str, operands: &ArgMatches<'a>) -> Result<Job<'a>, U
     })
 }
 
-/// The job for a command's name, with its operands.
-fn job_of<'a>(alloc: Global, name: &str, operands: &ArgMatches<'a>) -> Result<Job<'a>, Unfit<'a>>
+/// The job for the name of a command that takes a scenario, with its operands.
+fn job_on_scenario<'a>(
+    alloc: Global,
+    name: &str,
+    operands: &ArgMatches<'a>,
+) -> Result<Job<'a>, Unfit<'a>>
     ensures within { IfOk result IsWithin }
     ensures asked { IfOk result (AsksFor name.now (rows_of (found_of operands.now))) }
     ensures unfit { IfErr result (IsUnfit name.now (rows_of (found_of operands.now))) }
 {
     let scenario = file_of(operands, "SCENARIO")?;
     match name {
-        "replay" => Ok(Job::Replay {
-            scenario,
-            trace: file_of(operands, "TRACE")?,
-        }),
-        "check" => Ok(Job::Check {
-            scenario,
-            trace: file_of(operands, "TRACE")?,
-        }),
+        "replay" => replay_of(scenario, operands),
+        "check" => check_of(alloc, scenario, operands),
         "explain" => explain_of(scenario, operands),
+        "shrink" => shrink_of(scenario, operands),
         "state" => state_of(scenario, operands),
         "show" => show_of(scenario, operands),
+        "cycles" => Ok(Job::Cycles {
+            scenario,
+            trace: file_of(operands, "TRACE")?,
+        }),
         "summary" => summary_of(alloc, scenario, operands),
+        "order" => order_of(scenario, operands),
         "drive" => drive_of(scenario, operands),
         "run" => run_of(scenario, operands),
         _ => Err(Unfit::Missing),
+    }
+}
+
+/// The job for a command's name, with its operands.
+fn job_of<'a>(alloc: Global, name: &str, operands: &ArgMatches<'a>) -> Result<Job<'a>, Unfit<'a>>
+    ensures within { IfOk result IsWithin }
+    ensures asked { IfOk result (AsksFor name.now (rows_of (found_of operands.now))) }
+    ensures unfit { IfErr result (IsUnfit name.now (rows_of (found_of operands.now))) }
+{
+    match name {
+        "rule" => rules_of(operands),
+        _ => job_on_scenario(alloc, name, operands),
     }
 }
 
@@ -526,115 +699,12 @@ fn asked<'a>(alloc: Global, words: &'a [&'a str]) -> Result<Result<Job<'a>, Unfi
     Ok(job_in(alloc, &parsed(alloc, words)?))
 }
 
-/// The usage error if no command is given.
-fn missing(alloc: Global) -> Result<Error, AllocError>
-    ensures { IfOk result (λ error. kind_of error ≡ ErrorKind.MissingSubcommand) }
-{
-    commands(alloc)?.error(ErrorKind::MissingSubcommand, "a command is missing")
-}
-
-/// The usage error if a picture cannot end with the edge that is given.
-fn no_window(alloc: Global, from: u64, to: u64) -> Result<Error, AllocError>
-    ensures { IfOk result (λ error. kind_of error ≡ ErrorKind.ValueValidation) }
-{
-    let most = from.saturating_add(MOST_SHOWN - 1);
-    let text = format!(in alloc;
-        "invalid value '{to}' for '--to <B>': {to} is not in {from}..={most}"
-    )?;
-    show(alloc)?.error(ErrorKind::ValueValidation, &text)
-}
-
-/// The usage error if the version of the rules has no goal of that name.
-fn no_event(alloc: Global, named: &str, version: Version) -> Result<Error, AllocError>
-    ensures { IfOk result (λ error. kind_of error ≡ ErrorKind.ValueValidation) }
-{
-    let number = if version.is_two() { 2 } else { 1 };
-    let text = format!(in alloc;
-        "invalid value '{named}' for '--until <EVENT>': version {number} has no such event"
-    )?;
-    drive(alloc)?.error(ErrorKind::ValueValidation, &text)
-}
-
-/// The usage error if the condition of that name never fails alone.
-fn no_miss(alloc: Global, named: &str) -> Result<Error, AllocError>
-    ensures { IfOk result (λ error. kind_of error ≡ ErrorKind.ValueValidation) }
-{
-    let text = format!(in alloc;
-        "invalid value '{named}' for '--until <EVENT>': wherever this condition fails, another \
-         one of the rule fails too, so that it never refuses an edge alone"
-    )?;
-    drive(alloc)?.error(ErrorKind::ValueValidation, &text)
-}
-
-/// The usage error if there is no seed.
-fn no_seed(alloc: Global) -> Result<Error, AllocError>
-    ensures { IfOk result (λ error. kind_of error ≡ ErrorKind.ValueValidation) }
-{
-    let text = "the option '--until <EVENT>' needs '--seed <S>' or '--seeds <S..T>'";
-    drive(alloc)?.error(ErrorKind::ValueValidation, text)
-}
-
-/// The usage error if there is no goal.
-fn no_aim(alloc: Global) -> Result<Error, AllocError>
-    ensures { IfOk result (λ error. kind_of error ≡ ErrorKind.ValueValidation) }
-{
-    let text = "the option '--seeds <S..T>' needs '--until <EVENT>'";
-    drive(alloc)?.error(ErrorKind::ValueValidation, text)
-}
-
-/// The usage error if there are both a seed and seeds to try.
-fn seeded(alloc: Global) -> Result<Error, AllocError>
-    ensures { IfOk result (λ error. kind_of error ≡ ErrorKind.ValueValidation) }
-{
-    let text = "the options '--seed <S>' and '--seeds <S..T>' exclude each other";
-    drive(alloc)?.error(ErrorKind::ValueValidation, text)
-}
-
-/// The usage error if a text does not name seeds to try.
-fn no_seeds(alloc: Global, named: &str) -> Result<Error, AllocError>
-    ensures { IfOk result (λ error. kind_of error ≡ ErrorKind.ValueValidation) }
-{
-    let text = format!(in alloc;
-        "invalid value '{named}' for '--seeds <S..T>': S and T are 0 to {}, and T is not below S",
-        u64::MAX
-    )?;
-    drive(alloc)?.error(ErrorKind::ValueValidation, &text)
-}
-
-/// The usage error if progress is to be reported and there are no seeds to try.
-fn no_progress(alloc: Global) -> Result<Error, AllocError>
-    ensures { IfOk result (λ error. kind_of error ≡ ErrorKind.ValueValidation) }
-{
-    let text = "the option '--progress' needs '--seeds <S..T>'";
-    drive(alloc)?.error(ErrorKind::ValueValidation, text)
-}
-
-/// The usage error that says why words ask for no job.
-fn error_of(alloc: Global, unfit: Unfit<'_>) -> Result<Error, AllocError>
-    ensures { IfOk result (λ error. (kind_of error ≡ ErrorKind.MissingSubcommand)
-        ⊎ ((kind_of error ≡ ErrorKind.ValueValidation)
-        × (unfit.entry ≢ Unfit.Missing) × (unfit.entry ≢ Unfit.NoMemory))) }
-{
-    match unfit {
-        Unfit::Missing => missing(alloc),
-        Unfit::NoMemory => Err(AllocError),
-        Unfit::Window { from, to } => no_window(alloc, from, to),
-        Unfit::Beside { named } => no_miss(alloc, named),
-        Unfit::Event { named, version } => no_event(alloc, named, version),
-        Unfit::Seedless => no_seed(alloc),
-        Unfit::Aimless => no_aim(alloc),
-        Unfit::Seeded => seeded(alloc),
-        Unfit::Seeds { named } => no_seeds(alloc, named),
-        Unfit::Idle => no_progress(alloc),
-    }
-}
-
 /// The job if the command line ended with this error. A request for the version is not an error.
 fn job_at<'a>(error: Error) -> Result<Job<'a>, Error>
     ensures version { IfOk result (λ job.
         (kind_of error ≡ ErrorKind.DisplayVersion) × (job ≡ Job.OwnVersion)) }
-    ensures other { IfErr result (λ told.
-        (kind_of error ≢ ErrorKind.DisplayVersion) × (told ≡ error)) }
+    ensures other { IfErr result (λ printed.
+        (kind_of error ≢ ErrorKind.DisplayVersion) × (printed ≡ error)) }
 {
     match error.kind() {
         ErrorKind::DisplayVersion => Ok(Job::OwnVersion),

@@ -75,12 +75,12 @@ bounded One rest left short few = let n = length-append (header One ++ 10 ∷ []
 bounded Two rest left short few = let n = length-append (header Two ++ 10 ∷ []) rest in omega (arith, n)
 
 -- what `start` answered, as a first read
-pub came_start : (v : Version) (from at : Option (List ℕ)) (before rest : List ℕ) (left : ℕ) (reader : trace.ReaderState) (es : List Edge) (first : Result Bool Fault)
-    → Consumes from at (before ++ ((header v ++ 10 ∷ []) ++ rest)) → length rest ≤ 512 → left < 16777216 → Starts ((header v ++ 10 ∷ []) ++ rest) reader es first
-    → Comes from at before (header v ++ 10 ∷ []) left reader es first
-came_start v from at before rest left reader es (Ok true) taken short few h = (rest, taken, bounded v rest left short few, h)
-came_start v from at before rest left reader es (Ok false) taken short few h = absurd h
-came_start v from at before rest left reader es (Err f) taken short few h = (rest, taken, inr (h (unwrap_or at [])))
+pub came_start : (v : Version) (from at : Option (List ℕ)) (rest : List ℕ) (left : ℕ) (reader : trace.ReaderState) (es : List Edge) (first : Result Bool Fault)
+    → Consumes from at ((header v ++ 10 ∷ []) ++ rest) → length rest ≤ 512 → left < 16777216 → Starts ((header v ++ 10 ∷ []) ++ rest) reader es first
+    → Comes from at (header v ++ 10 ∷ []) left reader es first
+came_start v from at rest left reader es (Ok true) taken short few h = (rest, taken, bounded v rest left short few, h)
+came_start v from at rest left reader es (Ok false) taken short few h = absurd h
+came_start v from at rest left reader es (Err f) taken short few h = (rest, taken, inr (h (unwrap_or at [])))
 
 pub counted_start : (v : Version) (rest : List ℕ) (left : ℕ) (reader : trace.ReaderState) (es : List Edge) (first : Result Bool Fault)
     → Starts ((header v ++ 10 ∷ []) ++ rest) reader es first → first ≡ Ok true → length rest ≤ 512 → left < 16777216 → IsCounted reader left (length es)
@@ -92,4 +92,5 @@ counted_start v rest left reader es first starts is short few =
 pub input_behind : (v : Version) (from at : Option (List ℕ)) (before rest : List ℕ) → Consumes from at (before ++ ((header v ++ 10 ∷ []) ++ rest))
     → IsInput from (before ++ ((header v ++ 10 ∷ []) ++ (rest ++ unwrap_or at [])))
 input_behind v from at before rest taken =
-    subst (λ (l : List ℕ). IsInput from (before ++ l)) (append_assoc (header v ++ 10 ∷ []) rest (unwrap_or at [])) (whole_input from at before ((header v ++ 10 ∷ []) ++ rest) taken)
+    subst (IsInput from) (append_assoc before ((header v ++ 10 ∷ []) ++ rest) (unwrap_or at []) ∙ ap (λ l. before ++ l) (append_assoc (header v ++ 10 ∷ []) rest (unwrap_or at [])))
+    (whole_input from at (before ++ ((header v ++ 10 ∷ []) ++ rest)) taken)

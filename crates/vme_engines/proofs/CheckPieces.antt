@@ -1,10 +1,10 @@
--- A check, read by read.
-use Rattle.std.proofs.Common.{◌≡◌, ℕ, ◌+◌, ◌≤◌, List, [], ◌∷◌, ◌++◌, length, Bool, true, false, Option, Some, None, Result, Ok, Err, refl, sym, ◌∙◌, ap, append_assoc, append-nil, subst, arith, reverse}
+-- A check of a trace: src/checks.rt.
+use Rattle.std.proofs.Common.{◌≡◌, inl, inr, ℕ, ◌+◌, ◌≤◌, List, [], ◌∷◌, ◌++◌, length, Bool, true, false, Option, Some, None, Result, Ok, Err, refl, sym, ◌∙◌, ap, append_assoc, append-nil, subst, arith, reverse}
 use Rattle.std.proofs.Math.ListN.{length-append}
 use mathlib.Core.List.{reverse-cons}
 use Rattle.std.proofs.lemmas.List.{length-reverse}
 use Rattle.std.specs.Prelude.{◌-◌, if◌then◌else◌, is_ok}
-use Rattle.std.specs.Io.KnownBytes.{Keeps}
+use Rattle.std.specs.Io.KnownBytes.{Appends, Keeps}
 use Rattle.vme_model.specs.declared.signals.Version.{Version}
 use Rattle.vme_model.specs.declared.signals.Edge.{Edge}
 use Rattle.vme_model.specs.declared.deliveries.Delivery.{Delivery}
@@ -16,21 +16,26 @@ use Rattle.vme_bus.specs.Answers.{answers}
 use Rattle.vme_model.specs.Text.{Reading, read_of}
 use Rattle.vme_model.specs.Report.{trace_limit}
 use Rattle.vme_trace.specs.declared.Fault.{Fault}
+use Rattle.vme_trace.specs.Writing.{AppendsFront}
 use Rattle.vme_trace.specs.declared.Fault.TheVariants.{Header, Line, TooLong, CutOff, Read, Memory, Failed, Write}
+use Rattle.vme_engines.specs.declared.Status.{Status}
+use Rattle.vme_engines.specs.declared.EngineFault.{EngineFault}
+use Rattle.vme_engines.specs.declared.EngineFault.TheVariants as fault
 use Rattle.vme_engines.specs.declared.checks.Finding.{Finding}
 use Rattle.vme_engines.specs.declared.checks.Finding.TheVariants.{Legal, Illegal}
-use Rattle.vme_engines.specs.Streams.{Streams, streams, WroteNothing}
-use Rattle.vme_engines.specs.Outcomes.{bench}
-use Rattle.vme_engines.specs.Checking.{or_refusal, first_refusal, refusal_of, IsLegalTrace, FindsNothing}
-use Rattle.vme_engines.specs.Steps.{Begins, ChecksPiece, Finds, FindsInput}
+use Rattle.vme_engines.specs.Streams.{Streams, streams, ReadNothing, WroteNothing}
+use Rattle.vme_engines.specs.Outcomes.{Answer, LentAsking, bench}
+use Rattle.vme_engines.specs.Checking.{or_refusal, first_refusal, refusal_of, finding_line, finding_status, IsFound, IsLegalTrace, FindsNothing, Finds, ChecksInput}
+use Rattle.vme_engines.specs.Steps.{AreAccepted}
 use Rattle.vme_engines.specs.Recorded.{first_refused_of}
 use Rattle.vme_engines.proofs.WrittenLines.{kept_append}
 use Rattle.vme_engines.proofs.RecordedLines.{refusals_are}
-use Rattle.vme_engines.specs.Pieces.{Stopped, Came, Answers, answered}
-use Rattle.vme_engines.specs.Begun.{IsUnbegun}
+use Rattle.vme_engines.specs.Pieces.{Came}
+use Rattle.vme_engines.specs.Begun.{IsUnread}
 use Rattle.vme_engines.specs.Waiting.{StopsWaiting}
+use Rattle.vme_engines.specs.Readings.{LeavesNow, ReadsInput, ReadsLent}
 use Rattle.vme_engines.proofs.ReadOn.{came_begins}
-use Rattle.vme_engines.proofs.Waits.{stops_waiting, waits_unbegun}
+use Rattle.vme_engines.proofs.Waits.{stops_unread, waits_now}
 
 -- ---- the first refusal
 
@@ -116,28 +121,6 @@ module _ (first now : State) (n m : ℕ) (es rest chunk behind : List Edge) (spl
     state = run.state ∙ ap (kept now) split ∙ kept_append now chunk behind ∙ ap (λ s. kept s behind) (sym stepped);
   }
 
--- ---- pieces
-
--- two pieces, one behind the other
-module _ (b mid_b next : State) (judged mid_n now : ℕ) (es fs : List Edge) (more : Result Bool Fault) (first : ChecksPiece b judged es (Ok true) mid_b mid_n (Ok None)) where
-  count : judged + length (es ++ fs) ≡ mid_n + length fs
-  count = let is = length-append es fs in let here : mid_n ≡ judged + length es = first.3 in omega (arith, is)
-
-  state : kept b (es ++ fs) ≡ kept mid_b fs
-  state = kept_append b es fs ∙ ap (λ s. kept s fs) (sym first.2)
-
-  -- the first refusal in the second is that of both
-  refusal_is : first_refusal (judged + 1) b (es ++ fs) ≡ first_refusal (mid_n + 1) mid_b fs
-  refusal_is =
-      let from_here : (judged + 1) + length es ≡ mid_n + 1 = let here : mid_n ≡ judged + length es = first.3 in omega arith in
-      refusal_behind (judged + 1) b es fs first.1 ∙ ap (λ s. first_refusal ((judged + 1) + length es) s fs) (sym first.2) ∙ ap (λ n. first_refusal n mid_b fs) from_here
-
-  pub checks_more : (answer : Result (Option Finding) Fault) → ChecksPiece mid_b mid_n fs more next now answer → ChecksPiece b judged (es ++ fs) more next now answer
-  checks_more (Ok None) h = (h.0, refusal_is ∙ h.1, h.2 ∙ sym state, h.3 ∙ sym count)
-  checks_more (Ok (Some (Illegal n refused))) h = refusal_is ∙ h
-  checks_more (Ok (Some (Legal edges))) h = (h.0, refusal_is ∙ h.1, h.2 ∙ sym state, h.3 ∙ sym count, h.4, h.5, h.6)
-  checks_more (Err f) h = (h.0, refusal_is ∙ h.1)
-
 -- ---- a whole check
 
 refusal_known : (p : Plan) (v : Version) (es : List Edge) (w : Option Version) → w ≡ Some v → refusal_of p w es ≡ first_refusal 1 (bench p v) es
@@ -154,61 +137,96 @@ found_none p all s Memory h = h
 found_none p all s Failed h = h
 found_none p all s Write h = h
 
--- what is found in a whole trace
-module _ (p : Plan) (v : Version) (trace : List ℕ) (from to : Option (List ℕ)) (es : List Edge) (next : State) where
-  -- all edges are legal
-  legal_trace : (r : Reading) → r.version ≡ Some v → r.edges ≡ es → r.fault ≡ None → first_refusal 1 (bench p v) es ≡ None → next ≡ kept (bench p v) es
-      → IsLegal next.version next.plan next.history → IsSafe next.plan next.history → length next.history ≤ next.max → IsLegalTrace p r
-  legal_trace r named edges whole none stepped legal safe fits =
-      let is : next ≡ record (bench p v) { history = reverse r.edges } =
-      stepped ∙ all_kept 1 (bench p v) es none ∙ ap (λ l. record (bench p v) { history = l }) (append-nil (reverse es))
+module _ (p : Plan) (v : Version) (before es : List Edge) (b : State) (n : ℕ) (run : AreAccepted p v before b n) where
+  -- the first refusal in a piece is that of all edges
+  refusal_is : first_refusal 1 (bench p v) (before ++ es) ≡ first_refusal (n + 1) b es
+  refusal_is =
+      refusal_behind 1 (bench p v) before es run.unrefused
+      ∙ ap (λ s. first_refusal (1 + length before) s es) (sym run.bus) ∙ ap (λ m. first_refusal m b es) (let is = run.judged in omega (arith, is))
+
+  pub all_accepted : (next : State) (m : ℕ) → None ≡ first_refusal (n + 1) b es → next ≡ kept b es → m ≡ n + length es → AreAccepted p v (before ++ es) next m
+  all_accepted next m none stepped count = record {
+    unrefused = refusal_is ∙ sym none;
+    bus = stepped ∙ ap (λ s. kept s es) run.bus ∙ sym (kept_append (bench p v) before es);
+    judged = count ∙ ap (λ k. k + length es) run.judged ∙ sym (length-append before es);
+  }
+
+  -- an edge of the piece is the first that is refused
+  pub finds_refused : (more : Result Bool Fault) (old new : Option (List ℕ)) (k : ℕ) (refused : Refused) → Some (k, refused) ≡ first_refusal (n + 1) b es → LeavesNow (Finds p) v (before ++ es) more old new (Ok (Illegal k refused))
+  finds_refused more old new k refused is = λ trace from to came.
+      let begins = came_begins v trace from to (before ++ es) more came in
+      refusal_known p v (read_of trace).edges (read_of trace).version begins.version ∙ ap (first_refusal 1 (bench p v)) begins.edges
+      ∙ refusal_stays 1 (bench p v) (before ++ es) begins.others (k, refused) (refusal_is ∙ sym is)
+
+module _ (p : Plan) (v : Version) (es : List Edge) (more : Result Bool Fault) (old new : Option (List ℕ)) (b : State) (n : ℕ) (run : AreAccepted p v es b n) where
+  -- at the end of the trace all edges are legal
+  legal_trace : (r : Reading) → r.version ≡ Some v → r.edges ≡ es → r.fault ≡ None → IsLegal b.version b.plan b.history → IsSafe b.plan b.history → length b.history ≤ b.max → IsLegalTrace p r
+  legal_trace r named edges whole legal safe fits =
+      let is : b ≡ record (bench p v) { history = reverse r.edges } =
+      run.bus ∙ all_kept 1 (bench p v) es run.unrefused ∙ ap (λ l. record (bench p v) { history = l }) (append-nil (reverse es))
       ∙ ap (λ l. record (bench p v) { history = reverse l }) (sym edges) in
       let few : length (reverse r.edges) ≤ trace_limit = subst (λ (s : State). length s.history ≤ s.max) is fits in
       record {
         version = v;
         named = named;
         whole = whole;
-        unrefused = refusal_known p v r.edges r.version named ∙ ap (first_refusal 1 (bench p v)) edges ∙ none;
+        unrefused = refusal_known p v r.edges r.version named ∙ ap (first_refusal 1 (bench p v)) edges ∙ run.unrefused;
         legal = subst (λ (s : State). IsLegal s.version s.plan s.history) is legal;
         safe = subst (λ (s : State). IsSafe s.plan s.history) is safe;
         fits = rw (length-reverse r.edges) at few;
       }
 
-  none_found : Begins (read_of trace) v es → (f : Fault) → Stopped v [] trace from to es f → first_refusal 1 (bench p v) es ≡ None → FindsNothing p trace (streams from to None None) f
-  none_found begins f h none = found_none p trace (streams from to None None) f (stops_waiting (λ w gs. refusal_of p w gs ≡ None) v trace (streams from to None None) es begins none f h)
+  pub finds_legal : more ≡ Ok false → IsLegal b.version b.plan b.history → IsSafe b.plan b.history → length b.history ≤ b.max → LeavesNow (Finds p) v es more old new (Ok (Legal n))
+  finds_legal is legal safe fits = λ trace from to came.
+      let end : Came v trace from to es (Ok false) = subst (Came v trace from to es) is came in
+      (legal_trace (read_of trace) end.0.version end.1 end.2 legal safe fits, run.judged ∙ ap length (sym end.1), end.3)
 
-  -- What the loop leaves is what is to be found in the whole trace.
-  pub finds_it : (more : Result Bool Fault) (now : ℕ) (answer : Result Finding Fault) → Came v [] trace from to es more → ChecksPiece (bench p v) 0 es more next now (answered answer) → Finds p trace from to answer
-  finds_it more now (Ok (Illegal n refused)) came h =
-      let begins = came_begins v [] trace from to es more came in
-      refusal_known p v (read_of trace).edges (read_of trace).version begins.version ∙ ap (first_refusal 1 (bench p v)) begins.edges ∙ refusal_stays 1 (bench p v) es begins.others (n, refused) h
-  finds_it more now (Ok (Legal edges)) came h =
-      let end : Came v [] trace from to es (Ok false) = subst (Came v [] trace from to es) h.0 came in
-      let count : edges ≡ length es = let is : edges ≡ 0 + length es = h.3 in omega arith in
-      (legal_trace (read_of trace) end.0.version end.1 end.2 h.1 h.2 h.4 h.5 h.6, count ∙ ap length (sym end.1), end.3)
-  finds_it more now (Err f) came h =
-      let end : Came v [] trace from to es (Err f) = subst (Came v [] trace from to es) h.0 came in none_found end.0 f end.1 h.1
+  -- a fault of the trace
+  pub finds_stop : (f : Fault) → more ≡ Err f → LeavesNow (Finds p) v es more old new (Err f)
+  finds_stop f is = λ trace from to came.
+      found_none p trace (streams from to old new) f (waits_now (λ w fs. refusal_of p w fs ≡ None) v trace (streams from to old new) es more came run.unrefused f is)
 
-pub finds_all : {S : Type 0} (state : S → State) (count : S → ℕ) (p : Plan) (v : Version) (trace : List ℕ) (s : Streams) (b : State) (judged : ℕ) (answer : Result Finding Fault) → b ≡ bench p v → judged ≡ 0
-    → Answers (λ es more old new (now : S) a. Keeps old new × ChecksPiece b judged es more (state now) (count now) a) v [] trace s answer → Finds p trace s.from s.to answer × WroteNothing s
-finds_all state count p v trace s b judged answer is none h =
-    let took : ChecksPiece (bench p v) 0 h.0 h.1 (state h.2) (count h.2) (answered answer) = rw (is, none) at h.4.1 in
-    (finds_it p v trace s.from s.to h.0 (state h.2) h.1 (count h.2) answer h.3 took, h.4.0)
+-- without a header line
+pub finds_unbegun : (p : Plan) (trace : List ℕ) (s : Streams) (f : Fault) → StopsWaiting IsUnread trace (streams s.from s.to None None) f → Finds p trace s (Err f)
+finds_unbegun p trace s f h = found_none p trace s f (stops_unread (λ w es. refusal_of p w es ≡ None) refl trace s f h)
 
--- ---- without a header line
+-- ---- what was found is written
 
-pub finds_unbegun : (p : Plan) (from to : Option (List ℕ)) (f : Fault) → IsUnbegun from to f → FindsInput p from to (Err f)
-finds_unbegun p from to f h =
-    let t = waits_unbegun (λ w es. refusal_of p w es ≡ None) refl (streams from to None None) f h in (t.0, t.1, found_none p t.0 (streams from to None None) f t.2)
+-- nothing that is found depends on the writer
+module _ (p : Plan) (trace : List ℕ) (from to old new : Option (List ℕ)) where
+  found_so : (found : Finding) → IsFound p (read_of trace) (streams from to None None) found → IsFound p (read_of trace) (streams from to old new) found
+  found_so (Legal edges) h = h
+  found_so (Illegal n refused) h = h
 
--- ---- without a writer
+  nothing_so : (f : Fault) → FindsNothing p trace (streams from to None None) f → FindsNothing p trace (streams from to old new) f
+  nothing_so Header h = h
+  nothing_so (Line n) h = h
+  nothing_so (TooLong n) h = h
+  nothing_so CutOff h = h
+  nothing_so Read h = h
+  nothing_so Memory h = h
+  nothing_so Failed h = h
+  nothing_so Write h = h
 
-pub nothing_found : (p : Plan) (all : List ℕ) (from to old new : Option (List ℕ)) (f : Fault) → FindsNothing p all (streams from to None None) f → FindsNothing p all (streams from to old new) f
-nothing_found p all from to old new Header h = h
-nothing_found p all from to old new (Line n) h = h
-nothing_found p all from to old new (TooLong n) h = h
-nothing_found p all from to old new CutOff h = h
-nothing_found p all from to old new Read h = h
-nothing_found p all from to old new Memory h = h
-nothing_found p all from to old new Failed h = h
-nothing_found p all from to old new Write h = h
+module _ (text : List ℕ) (from to old new : Option (List ℕ)) where
+  abbrev FindsIn : Result Finding EngineFault → Type 0
+  FindsIn r = ReadsLent text (ReadNothing (streams from to None None)) (λ p. ReadsInput (Finds p) (streams from to None None)) r
+
+  abbrev ChecksIn : Answer → Type 0
+  ChecksIn r = LentAsking text (ReadNothing (streams from to old new) × WroteNothing (streams from to old new)) (ChecksInput (streams from to old new)) r
+
+  -- nothing is found, and nothing is written
+  pub check_unfound : (f : EngineFault) → Keeps old new → FindsIn (Err f) → ChecksIn (Err f)
+  check_unfound fault.TooLong kept_so h = (h.0, (h.1, kept_so))
+  check_unfound (fault.Scenario e) kept_so h = (h.0, h.1, (h.2, kept_so))
+  check_unfound (fault.Trace f) kept_so h = (h.0, h.1, h.2, (h.3.0, h.3.1, inl (nothing_so h.0 h.3.0 from to old new f h.3.2, kept_so)))
+  check_unfound fault.CannotRead kept_so h = absurd h
+  check_unfound fault.NoMemory kept_so h = (h.0, h.1, h.2, (h.3, kept_so))
+  check_unfound (fault.Beyond n) kept_so h = absurd h
+
+  -- the line is written, or a front of it
+  pub check_done : (found : Finding) (status : Status) → FindsIn (Ok found) → status ≡ finding_status found → Appends old new (finding_line found) → ChecksIn (Ok status)
+  check_done found status h ends wrote = (h.0, h.1, h.2, (h.3.0, h.3.1, (found, found_so h.0 h.3.0 from to old new found h.3.2, ends, wrote)))
+
+  pub check_cut : (found : Finding) (f : Fault) → FindsIn (Ok found) → f ≡ Write → AppendsFront old new (finding_line found) → ChecksIn (Err (fault.Trace f))
+  check_cut found f h write wrote = (h.0, h.1, h.2, (h.3.0, h.3.1, inr (write, found, found_so h.0 h.3.0 from to old new found h.3.2, wrote)))

@@ -1,24 +1,24 @@
 -- Up to the header line of a trace that stands alone, and up to a plan.
-use Rattle.std.proofs.Common.{◌≡◌, ◌≢◌, ◌≤◌, inl, inr, ℕ, List, [], ◌++◌, length, Bool, true, Option, None, unwrap_or, Result, Ok, Err, refl, sym, ◌∙◌, subst}
+use Rattle.std.proofs.Common.{◌≡◌, ◌≢◌, inl, inr, ℕ, List, [], ◌++◌, length, Bool, true, Option, None, unwrap_or, Result, Ok, Err, refl, sym, ◌∙◌, subst}
 use Rattle.std.proofs.KnownBytes.{Appends-nil}
 use Rattle.vme_model.specs.declared.signals.Version.{Version}
 use Rattle.vme_model.specs.declared.signals.Edge.{Edge}
 use Rattle.vme_model.specs.Plan.{Plan}
 use Rattle.vme_model.specs.Text.{Reading, read_of}
-use Rattle.vme_model.specs.Report.{report_of}
 use Rattle.vme_trace.specs.declared.Fault.{Fault}
 use Rattle.vme_trace.specs.declared.Fault.TheVariants.{Header, Line, TooLong, CutOff, Read, Memory, Failed, Write}
 use Rattle.vme_trace.specs.Reading as trace
 use Rattle.vme_engines.specs.declared.EngineFault.{EngineFault}
 use Rattle.vme_engines.specs.declared.EngineFault.TheVariants as fault
-use Rattle.vme_engines.specs.Streams.{Streams, streams}
-use Rattle.vme_scenario.specs.Format.{scenario}
-use Rattle.vme_engines.specs.Outcomes.{Answer, scenario_limit, Lent, LentAsking, lines_of, HasFault, ReplayStops, ReplaysInput}
+use Rattle.vme_engines.specs.Streams.{Streams, streams, Wrote, WroteNothing}
+use Rattle.vme_engines.specs.declared.LineForm.{LineForm}
+use Rattle.vme_engines.specs.Outcomes.{Answer, Lent, LentAsking, lines_of, report_of, HasFault, ReplayStops, Replays}
 use Rattle.vme_engines.specs.Steps.{IsNoPlan, IsCounted, ReadFails, Comes, Opens}
 use Rattle.vme_engines.specs.Waiting.{StopsWaiting}
 use Rattle.vme_engines.specs.Begun.{IsUnread, IsUnbegun}
 use Rattle.vme_engines.proofs.TraceSoFar.{unknown_version}
 use Rattle.vme_engines.proofs.TraceReads.{no_such, whole_input}
+use Rattle.vme_engines.proofs.WrittenLines.{appends_behind}
 
 -- ---- a plan
 
@@ -43,16 +43,12 @@ asks text nothing Runs (Err (fault.Beyond n)) h = h
 pub no_plan_asking : (text : List ℕ) (nothing : Type 0) (Runs : Plan → Answer → Type 0) (f : EngineFault) → IsNoPlan text f → nothing → LentAsking text nothing Runs (Err f)
 no_plan_asking text nothing Runs f h done = asks text nothing Runs (Err f) (no_plan text nothing Runs f h done)
 
--- no memory for what it asks for
-pub no_room : (text : List ℕ) (nothing : Type 0) (Runs : Plan → Answer → Type 0) (p : Plan) (f : EngineFault) → length text ≤ scenario_limit → scenario text ≡ Ok p → nothing → f ≡ fault.NoMemory → LentAsking text nothing Runs (Err f)
-no_room text nothing Runs p f short read done is = subst (λ (e : EngineFault). LentAsking text nothing Runs (Err e)) (sym is) (p, short, read, done)
-
 -- ---- the first reads
 
-pub counted_first : (from to : Option (List ℕ)) (text head : List ℕ) (reader : trace.ReaderState) (es : List Edge) (first : Result Bool Fault) (left : ℕ)
-    → Comes from to text head left reader es first → first ≡ Ok true → IsCounted reader left (length es)
-counted_first from to text head reader es first left came is =
-    let h = subst (λ (a : Result Bool Fault). Comes from to text head left reader es a) is came in
+pub counted_first : (from to : Option (List ℕ)) (head : List ℕ) (reader : trace.ReaderState) (es : List Edge) (first : Result Bool Fault) (left : ℕ)
+    → Comes from to head left reader es first → first ≡ Ok true → IsCounted reader left (length es)
+counted_first from to head reader es first left came is =
+    let h = subst (λ (a : Result Bool Fault). Comes from to head left reader es a) is came in
     record { bytes = head ++ h.0; es = es; read = h.3; bounded = h.2; count = refl }
 
 -- ---- a fault before the header line
@@ -78,7 +74,7 @@ module _ (from to : Option (List ℕ)) (reader : trace.ReaderState) (es : List E
   pub unbegun : (f : Fault) → Opens from to reader es (Err f, left) → IsUnbegun from to f
   unbegun f h = (
     h.0.0 ++ unwrap_or to [],
-    whole_input from to [] h.0.0 h.0.1,
+    whole_input from to h.0.0 h.0.1,
     elim h.0.2 [
       | inl failed ↦ subst (StopsWaiting IsUnread (h.0.0 ++ unwrap_or to []) (streams from to None None)) (sym failed.0) (h.0.0, h.0.1, failed.1.goes_on, failed_unread h.0.0 failed.1)
       | inr stopped ↦ stops_unread (h.0.0 ++ unwrap_or to []) (streams from to None None) es f
@@ -87,22 +83,25 @@ module _ (from to : Option (List ℕ)) (reader : trace.ReaderState) (es : List E
   )
 
 -- without a version, nothing is written
-report_unknown : (p : Plan) (r : Reading) (w : Option Version) → w ≡ None → report_of w p r ≡ []
-report_unknown p r w e = rw e refl
+report_unknown : (form : LineForm) (p : Plan) (r : Reading) (w : Option Version) → w ≡ None → report_of form p w r ≡ []
+report_unknown form p r w e = rw e refl
 
-lines_unknown : (p : Plan) (es : List Edge) (w : Option Version) → w ≡ None → lines_of p w es ≡ []
-lines_unknown p es w e = rw e refl
+lines_unknown : (form : LineForm) (p : Plan) (es : List Edge) (w : Option Version) → w ≡ None → lines_of form p w es ≡ []
+lines_unknown form p es w e = rw e refl
 
-module _ (p : Plan) (from to old : Option (List ℕ)) where
-  stops_unknown : (all : List ℕ) (f : Fault) → StopsWaiting IsUnread all (streams from to None None) f → ReplayStops p [] all (streams from to old old) f
-  stops_unknown all Header h = (h.0, rw (report_unknown p (read_of all) (read_of all).version h.1.0) (Appends-nil old))
-  stops_unknown all (Line n) h = (h.0, rw (report_unknown p (read_of all) (read_of all).version h.1.0) (Appends-nil old))
-  stops_unknown all (TooLong n) h = (h.0, rw (report_unknown p (read_of all) (read_of all).version h.1.0) (Appends-nil old))
-  stops_unknown all CutOff h = (h.0, rw (report_unknown p (read_of all) (read_of all).version h.1.0) (Appends-nil old))
-  stops_unknown all Read h = (h.0, h.1, h.2, rw (lines_unknown p (read_of h.0).edges (read_of h.0).version h.3.0) (Appends-nil old))
-  stops_unknown all Memory h = (h.0, h.1, h.2, rw (lines_unknown p h.0 (read_of all).version h.3.0) (Appends-nil old))
-  stops_unknown all Failed h = absurd h
-  stops_unknown all Write h = absurd h
+module _ (form : LineForm) (p : Plan) (all : List ℕ) (s : Streams) (kept : WroteNothing s) where
+  nothing : Wrote s []
+  nothing = appends_behind s.old s.new s.new [] kept (Appends-nil s.new)
 
-  pub replay_unbegun : (f : Fault) → IsUnbegun from to f → ReplaysInput (streams from to old old) p (Err (fault.Trace f))
-  replay_unbegun f h = (h.0, h.1, stops_unknown h.0 f h.2)
+  stops_unknown : (f : Fault) → StopsWaiting IsUnread all (streams s.from s.to None None) f → ReplayStops form p [] all s f
+  stops_unknown Header h = (h.0, rw (report_unknown form p (read_of all) (read_of all).version h.1.0) nothing)
+  stops_unknown (Line n) h = (h.0, rw (report_unknown form p (read_of all) (read_of all).version h.1.0) nothing)
+  stops_unknown (TooLong n) h = (h.0, rw (report_unknown form p (read_of all) (read_of all).version h.1.0) nothing)
+  stops_unknown CutOff h = (h.0, rw (report_unknown form p (read_of all) (read_of all).version h.1.0) nothing)
+  stops_unknown Read h = (h.0, h.1, h.2, rw (lines_unknown form p (read_of h.0).edges (read_of h.0).version h.3.0) nothing)
+  stops_unknown Memory h = (h.0, h.1, h.2, rw (lines_unknown form p h.0 (read_of all).version h.3.0) nothing)
+  stops_unknown Failed h = absurd h
+  stops_unknown Write h = absurd h
+
+pub replay_unbegun : (form : LineForm) (p : Plan) (all : List ℕ) (s : Streams) (f : Fault) → WroteNothing s → StopsWaiting IsUnread all (streams s.from s.to None None) f → Replays form p [] all s (Err (fault.Trace f))
+replay_unbegun form p all s f kept h = stops_unknown form p all s kept f h

@@ -1,24 +1,26 @@
 -- A trace that is followed edge by edge.
-use Rattle.std.proofs.Common.{◌≡◌, ℕ, ◌+◌, ◌<◌, List, [], ◌∷◌, ◌++◌, length, Bool, true, false, Option, Some, None, Result, Ok, Err, is_ok, get_or, take, drop, if◌then◌else◌, refl, sym, ◌∙◌, ap, subst, arith, take-append-drop}
+use Rattle.std.proofs.Common.{◌≡◌, ℕ, ◌+◌, ◌<◌, List, [], ◌∷◌, ◌++◌, length, Bool, true, false, Option, Some, None, Result, Ok, Err, OnErr, is_ok, get_or, take, drop, if◌then◌else◌, refl, sym, ◌∙◌, ap, subst, arith, append_assoc, take-append-drop}
 use Rattle.std.proofs.Math.ListN.{length-append}
 use Rattle.std.proofs.lemmas.List.{take_more, drop_more, length-take-le}
 use Rattle.vme_model.specs.declared.deliveries.Delivery.{Delivery}
 use Rattle.vme_model.specs.declared.refusals.Refused.{Refused}
 use Rattle.vme_model.specs.declared.signals.Cycle.{Cycle}
 use Rattle.vme_model.specs.declared.signals.Edge.{Edge}
+use Rattle.vme_model.specs.declared.signals.Version.{Version}
 use Rattle.vme_model.specs.declared.signals.Wire.{Wire}
 use Rattle.vme_model.specs.declared.signals.Wire.TheVariants.{Dtack}
 use Rattle.vme_model.specs.Plan.{Plan}
 use Rattle.vme_model.specs.History.{shown}
 use Rattle.vme_model.specs.Verdict.{State, Judgement, verdict, made, after, kept}
 use Rattle.vme_model.specs.Deliveries.{answer, with_delivery}
-use Rattle.vme_model.specs.Numbered.{Numbered, edges_in, numbered_with, numbered_on}
+use Rattle.vme_model.specs.Numbered.{Numbered, edges_in, numbered_with, numbered_on, numbered}
 use Rattle.vme_explain.specs.declared.marks.Marks.{Marks}
 use Rattle.vme_explain.specs.Marked.{IsMarksOf}
-use Rattle.vme_engines.specs.declared.following.Following.{Following}
-use Rattle.vme_engines.specs.Checking.{or_refusal, first_refusal}
 use Rattle.vme_explain.specs.Traced.{OfTrace}
-use Rattle.vme_engines.specs.Followed.{Follows, ComesTo}
+use Rattle.vme_engines.specs.declared.following.Following.{Following}
+use Rattle.vme_engines.specs.Outcomes.{bench}
+use Rattle.vme_engines.specs.Checking.{or_refusal, first_refusal}
+use Rattle.vme_engines.specs.Followed.{IsAfter, OfAfter, OfUnasked, ComesTo, counted, printed_behind}
 use Rattle.vme_engines.proofs.WrittenLines.{kept_append}
 use Rattle.vme_engines.proofs.CheckPieces.{refusal_behind}
 
@@ -46,42 +48,6 @@ numbered_append b n k (e ∷ es) fs =
     numbered_append (after b e) (n + 1) (numbered_with b (n + 1) e k) es fs
     ∙ ap (λ m. numbered_on (kept (after b e) es) m (numbered_on (after b e) (n + 1) (numbered_with b (n + 1) e k) es) fs) (omega arith)
 
--- ---- edges behind others
-
-module _ (first mid : Following) (es : List Edge) (one : Follows first es mid) where
-  mid_plan : mid.bus.plan ≡ first.bus.plan
-  mid_plan = ap (λ s. s.plan) one.bus ∙ kept_plan first.bus es
-
-  -- what holds of the numbered edges behind these
-  pub of_trace_behind : (P : Numbered → Type 0) → OfTrace mid.bus mid.marks P → OfTrace first.bus first.marks (λ k. P (numbered_on first.bus first.judged k es))
-  of_trace_behind P h =
-      λ k is of.
-      h (numbered_on first.bus first.judged k es)
-      (edges_on first.bus first.judged k es is ∙ ap (λ s. s.history) (sym one.bus))
-      (subst (λ (p : Plan). IsMarksOf p (numbered_on first.bus first.judged k es) mid.marks) (sym mid_plan) (one.marks k is of))
-
-  pub kept_behind : (fs : List Edge) → kept first.bus (es ++ fs) ≡ kept mid.bus fs
-  kept_behind fs = kept_append first.bus es fs ∙ ap (λ s. kept s fs) (sym one.bus)
-
-  pub numbered_behind : (k : Numbered) (fs : List Edge) → numbered_on first.bus first.judged k (es ++ fs) ≡ numbered_on mid.bus mid.judged (numbered_on first.bus first.judged k es) fs
-  numbered_behind k fs =
-      numbered_append first.bus first.judged k es fs
-      ∙ ap (λ s. numbered_on s (first.judged + length es) (numbered_on first.bus first.judged k es) fs) (sym one.bus)
-      ∙ ap (λ n. numbered_on mid.bus n (numbered_on first.bus first.judged k es) fs) (sym one.judged)
-
-  pub count_behind : (fs : List Edge) → first.judged + length (es ++ fs) ≡ mid.judged + length fs
-  count_behind fs = let is = length-append es fs in let here = one.judged in omega (arith, is, here)
-
-  pub follows_more : (fs : List Edge) (now : Following) → Follows mid fs now → Follows first (es ++ fs) now
-  follows_more fs now two = record {
-    bus = two.bus ∙ sym (kept_behind fs);
-    judged = two.judged ∙ sym (count_behind fs);
-    marks = λ k is of.
-        subst (λ (p : Plan). IsMarksOf p (numbered_on first.bus first.judged k (es ++ fs)) now.marks) mid_plan
-        (subst (λ (m : Numbered). IsMarksOf mid.bus.plan m now.marks) (sym (numbered_behind k fs))
-        (of_trace_behind (λ m. IsMarksOf mid.bus.plan (numbered_on mid.bus mid.judged m fs) now.marks) two.marks k is of));
-  }
-
 -- ---- one edge
 
 pub ok_with : (j : Judgement) (d : Option Delivery) → is_ok (with_delivery j d) ≡ is_ok j
@@ -108,79 +74,91 @@ noted b now n e old new v accepted is shows h =
     subst (λ (m : Numbered). IsMarksOf b.plan m new) (sym (with_by (is_ok (verdict b e)) n e k accepted))
     (h b.plan k of (λ dtack. shows dtack ∙ ap (λ s. shown s.plan s.history) behind ∙ shown_stays b.plan b.history e dtack ∙ ap (shown b.plan) (sym edges)))
 
-pub follows_one : (first now : Following) (e : Edge) → now.bus ≡ after first.bus e → now.judged ≡ first.judged + 1
-    → OfTrace first.bus first.marks (λ k. IsMarksOf first.bus.plan (numbered_with first.bus (first.judged + 1) e k) now.marks) → Follows first (e ∷ []) now
-follows_one first now e is count marks = record { bus = is; judged = omega (arith, count); marks = marks }
-
-after_refused : (t : Bool) (b : State) (e : Edge) → t ≡ false → (if t then made b e else b) ≡ b
-after_refused t b e is = rw is refl
-
 numbered_refused : (t : Bool) (n : ℕ) (e : Edge) (k : Numbered) → t ≡ false → (if t then (n, e) ∷ k else k) ≡ k
 numbered_refused t n e k is = rw is refl
 
--- a refused edge leaves what was followed
-pub follows_refused : (first mid now : Following) (es : List Edge) (e : Edge) → Follows first es mid → is_ok (verdict mid.bus e) ≡ false
-    → now.bus ≡ after mid.bus e → now.judged ≡ mid.judged
-    → OfTrace mid.bus mid.marks (λ k. IsMarksOf mid.bus.plan (numbered_with mid.bus (mid.judged + 1) e k) now.marks) → Follows first es now
-follows_refused first mid now es e one refused is count marks = record {
-  bus = is ∙ after_refused (is_ok (verdict mid.bus e)) mid.bus e refused ∙ one.bus;
-  judged = count ∙ one.judged;
-  marks = λ k edges of.
-      subst (λ (p : Plan). IsMarksOf p (numbered_on first.bus first.judged k es) now.marks) (mid_plan first mid es one)
-      (of_trace_behind first mid es one (λ m. IsMarksOf mid.bus.plan m now.marks)
-      (λ m e2 of2. subst (λ (l : Numbered). IsMarksOf mid.bus.plan l now.marks) (numbered_refused (is_ok (verdict mid.bus e)) (mid.judged + 1) e m refused) (marks m e2 of2)) k edges of);
-}
+-- ---- what was followed
+
+-- what a text says of the numbered edges
+pub of_after : (f : Following) (T : ℕ → State → Numbered → List ℕ) (W : List ℕ → Type 0) → OfTrace f.bus f.marks (λ k. W (T f.judged f.bus k)) → OfAfter f (λ p v es. W (printed_behind T p v es))
+of_after f T W h =
+    λ p v es is.
+    let k = numbered (bench p v) es in
+    let edges : edges_in k ≡ f.bus.history = edges_on (bench p v) 0 [] es refl ∙ ap (λ s. s.history) (sym is.bus) in
+    let plan : f.bus.plan ≡ p = ap (λ s. s.plan) is.bus ∙ kept_plan (bench p v) es in
+    subst (λ (b : State). W (T (length es) b k)) is.bus
+    (subst (λ (n : ℕ). W (T n f.bus k)) is.judged (h k edges (subst (λ (q : Plan). IsMarksOf q k f.marks) (sym plan) is.marks)))
+
+-- the next edge was made if it is accepted, and noted
+pub after_next : (p : Plan) (v : Version) (es : List Edge) (e : Edge) (old now : Following) → IsAfter p v es old → now.bus ≡ after old.bus e → now.judged ≡ old.judged
+    → OfTrace old.bus old.marks (λ k. IsMarksOf old.bus.plan (numbered_with old.bus (old.judged + 1) e k) now.marks) → IsAfter p v (es ++ e ∷ []) (counted now)
+after_next p v es e old now is made_so same noted_so =
+    let k = numbered (bench p v) es in
+    let edges : edges_in k ≡ old.bus.history = edges_on (bench p v) 0 [] es refl ∙ ap (λ s. s.history) (sym is.bus) in
+    let plan : old.bus.plan ≡ p = ap (λ s. s.plan) is.bus ∙ kept_plan (bench p v) es in
+    let n = is.judged in
+    let count : old.judged + 1 ≡ (0 + length es) + 1 = omega (arith, n) in
+    record {
+      bus = made_so ∙ ap (λ s. after s e) is.bus ∙ sym (kept_append (bench p v) es (e ∷ []));
+      judged = (let more = length-append es (e ∷ []) in omega (arith, n, same, more));
+      marks =
+          subst (λ (q : Plan). IsMarksOf q (numbered (bench p v) (es ++ e ∷ [])) now.marks) plan
+          (subst (λ (m : Numbered). IsMarksOf old.bus.plan m now.marks)
+          (ap (λ i. numbered_with old.bus i e k) count ∙ ap (λ s. numbered_with s ((0 + length es) + 1) e k) is.bus ∙ sym (numbered_append (bench p v) 0 [] es (e ∷ [])))
+          (noted_so k edges (subst (λ (q : Plan). IsMarksOf q k old.marks) (sym plan) is.marks)));
+    }
+
+-- a refused edge is not noted
+pub after_next_refused : (p : Plan) (v : Version) (es : List Edge) (e : Edge) (old now : Following) → IsAfter p v es old → now.bus ≡ after old.bus e → now.judged ≡ old.judged → now.marks ≡ old.marks → is_ok (verdict old.bus e) ≡ false
+    → IsAfter p v (es ++ e ∷ []) (counted now)
+after_next_refused p v es e old now is made_so same marks refused =
+    after_next p v es e old now is made_so same
+    (λ k edges of. subst (λ (m : Marks). IsMarksOf old.bus.plan (numbered_with old.bus (old.judged + 1) e k) m) (sym marks)
+    (subst (λ (l : Numbered). IsMarksOf old.bus.plan l old.marks) (sym (numbered_refused (is_ok (verdict old.bus e)) (old.judged + 1) e k refused)) of))
 
 -- ---- in the loops over edges
 
-pub followed_more : (first mid now : Following) (es : List Edge) (i : ℕ) (d : Edge) → i < length es → Follows first (take i es) mid
-    → now.bus ≡ after mid.bus (get_or es i d) → now.judged ≡ mid.judged + 1
-    → OfTrace mid.bus mid.marks (λ k. IsMarksOf mid.bus.plan (numbered_with mid.bus (mid.judged + 1) (get_or es i d) k) now.marks)
-    → Follows first (take (i + 1) es) now
-followed_more first mid now es i d h one is count marks =
-    subst (λ (l : List Edge). Follows first l now) (sym (take_more es i d h))
-    (follows_more first mid (take i es) one (get_or es i d ∷ []) now (follows_one mid now (get_or es i d) is count marks))
+pub next_list : (before es : List Edge) (i : ℕ) (d : Edge) → i < length es → (before ++ take i es) ++ (get_or es i d ∷ []) ≡ before ++ take (i + 1) es
+next_list before es i d h = append_assoc before (take i es) (get_or es i d ∷ []) ∙ ap (λ l. before ++ l) (sym (take_more es i d h))
 
 ok_none : (n : ℕ) (j : Judgement) → is_ok j ≡ true → or_refusal n j None ≡ None
 ok_none n (Ok u) h = refl
 ok_none n (Err r) h = absurd cc
 
 -- none is refused, with the next one
-pub none_more : (first mid : Following) (es : List Edge) (i : ℕ) (d : Edge) → i < length es → Follows first (take i es) mid
-    → first_refusal (first.judged + 1) first.bus (take i es) ≡ None → is_ok (verdict mid.bus (get_or es i d)) ≡ true
-    → first_refusal (first.judged + 1) first.bus (take (i + 1) es) ≡ None
-none_more first mid es i d h one none accepted =
-    ap (first_refusal (first.judged + 1) first.bus) (take_more es i d h)
-    ∙ refusal_behind (first.judged + 1) first.bus (take i es) (get_or es i d ∷ []) none
-    ∙ ap (λ s. first_refusal ((first.judged + 1) + length (take i es)) s (get_or es i d ∷ [])) (sym one.bus)
-    ∙ ok_none ((first.judged + 1) + length (take i es)) (verdict mid.bus (get_or es i d)) accepted
+pub none_more : (p : Plan) (v : Version) (es : List Edge) (e : Edge) (mid : Following) → IsAfter p v es mid → first_refusal 1 (bench p v) es ≡ None → is_ok (verdict mid.bus e) ≡ true → first_refusal 1 (bench p v) (es ++ e ∷ []) ≡ None
+none_more p v es e mid is none accepted =
+    refusal_behind 1 (bench p v) es (e ∷ []) none ∙ ap (λ s. first_refusal (1 + length es) s (e ∷ [])) (sym is.bus) ∙ ok_none (1 + length es) (verdict mid.bus e) accepted
 
 split_at : (es : List Edge) (i : ℕ) (d : Edge) → i < length es → es ≡ take i es ++ (get_or es i d ∷ drop (i + 1) es)
 split_at es i d h = sym (take-append-drop i es) ∙ ap (λ l. take i es ++ l) (drop_more es i d h)
 
+pub refused_same : {A E : Type 0} (r : Result A E) (now mid : Following) → is_ok r ≡ false → OnErr r (now ≡ mid) → now ≡ mid
+refused_same (Ok a) now mid is h = absurd cc
+refused_same (Err e) now mid is h = h
+
 -- the first that is refused
-pub comes_to_refused : (first mid now : Following) (es : List Edge) (i : ℕ) (d : Edge) (r : Result (Option Delivery) Refused) → i < length es → Follows first (take i es) mid
-    → first_refusal (first.judged + 1) first.bus (take i es) ≡ None → is_ok (verdict mid.bus (get_or es i d)) ≡ false → r ≡ answer mid.bus (get_or es i d)
-    → now.bus ≡ after mid.bus (get_or es i d) → now.judged ≡ mid.judged
-    → OfTrace mid.bus mid.marks (λ k. IsMarksOf mid.bus.plan (numbered_with mid.bus (mid.judged + 1) (get_or es i d) k) now.marks)
-    → ComesTo None first es (record { edge = get_or es i d; answer = r }) now
-comes_to_refused first mid now es i d r h one none refused answered is count marks = record {
+pub comes_to_refused : (first mid now : Following) (es : List Edge) (i : ℕ) (d : Edge) (r : Result (Option Delivery) Refused) → i < length es → mid.judged ≡ first.judged + i
+    → OfUnasked None first (λ p v before. (first_refusal 1 (bench p v) (before ++ take i es) ≡ None) × IsAfter p v (before ++ take i es) mid)
+    → is_ok (verdict mid.bus (get_or es i d)) ≡ false → r ≡ answer mid.bus (get_or es i d) → now ≡ mid → ComesTo None first es (record { edge = get_or es i d; answer = r }) now
+comes_to_refused first mid now es i d r h count after_so refused answered same = record {
   front = take i es;
   rest = drop (i + 1) es;
   split = split_at es i d h;
-  asked = (none, ap (λ s. is_ok (verdict s (get_or es i d))) (sym one.bus) ∙ refused);
-  follows = follows_refused first mid now (take i es) (get_or es i d) one refused is count marks;
-  answered = answered ∙ ap (λ s. answer s (get_or es i d)) (sym (is ∙ after_refused (is_ok (verdict mid.bus (get_or es i d))) mid.bus (get_or es i d) refused));
+  answered = answered ∙ ap (λ (f : Following). answer f.bus (get_or es i d)) (sym same);
+  count = ap (λ (f : Following). f.judged) same ∙ count ∙ ap (λ n. first.judged + n) (sym (length-take-le i es (omega arith)));
+  asked = λ p v before is none. let at = after_so p v before is none in
+      ((at.0, ap (λ s. is_ok (verdict s (get_or es i d))) (sym at.1.bus) ∙ refused), subst (IsAfter p v (before ++ take i es)) (sym same) at.1);
 }
 
 -- the n-th of the trace
-pub comes_to_number : (n : ℕ) (first now : Following) (es : List Edge) (i : ℕ) (e : Edge) (r : Result (Option Delivery) Refused) → i < length es → e ≡ get_or es i e → n ≡ (first.judged + i) + 1 → Follows first (take i es) now
-    → r ≡ answer now.bus e → ComesTo (Some n) first es (record { edge = e; answer = r }) now
-comes_to_number n first now es i e r h at is one answered = record {
+pub comes_to_number : (n : ℕ) (first now : Following) (es : List Edge) (i : ℕ) (e : Edge) (r : Result (Option Delivery) Refused) → i < length es → e ≡ get_or es i e → n ≡ now.judged + 1 → now.judged ≡ first.judged + i
+    → OfAfter first (λ p v before. IsAfter p v (before ++ take i es) now) → r ≡ answer now.bus e → ComesTo (Some n) first es (record { edge = e; answer = r }) now
+comes_to_number n first now es i e r h at is count after_so answered = record {
   front = take i es;
   rest = drop (i + 1) es;
   split = split_at es i e h ∙ ap (λ x. take i es ++ (x ∷ drop (i + 1) es)) (sym at);
-  asked = is ∙ ap (λ m. (first.judged + m) + 1) (sym (length-take-le i es (omega arith)));
-  follows = one;
   answered = answered;
+  count = count ∙ ap (λ m. first.judged + m) (sym (length-take-le i es (omega arith)));
+  asked = λ p v before was unasked. let one = after_so p v before was in (is ∙ ap (λ m. m + 1) one.judged, one);
 }

@@ -70,11 +70,11 @@ formed_piece at to bytes next es new (Err f) h = elim h [
   | inr stops ↦ (let all = stops.5.1.front in rw stops.4 (formed_both es stops.1 (formed_front ((bytes ++ stops.0) ++ unwrap_or to []) _ (es ++ stops.1) all.0 refl all.1)).1)
 ]
 
-pub formed_first : (from to : Option (List ℕ)) (text head : List ℕ) (left : ℕ) (reader : trace.ReaderState) (es : List Edge) (more : Result Bool Fault)
-    → Comes from to text head left reader es more → AreWellFormed es
-formed_first from to text head left reader es (Ok true) h = formed_read_by reader (head ++ h.0) es h.3
-formed_first from to text head left reader es (Ok false) h = subst AreWellFormed h.4 (formed_read (head ++ h.0))
-formed_first from to text head left reader es (Err f) h = elim h.2 [
+pub formed_first : (from to : Option (List ℕ)) (head : List ℕ) (left : ℕ) (reader : trace.ReaderState) (es : List Edge) (more : Result Bool Fault)
+    → Comes from to head left reader es more → AreWellFormed es
+formed_first from to head left reader es (Ok true) h = formed_read_by reader (head ++ h.0) es h.3
+formed_first from to head left reader es (Ok false) h = subst AreWellFormed h.4 (formed_read (head ++ h.0))
+formed_first from to head left reader es (Err f) h = elim h.2 [
   | inl failed ↦ subst AreWellFormed failed.1.edges (formed_read (head ++ h.0))
   | inr stops ↦ formed_front ((head ++ h.0) ++ unwrap_or to []) _ es stops.front.0 refl stops.front.1
 ]

@@ -8,19 +8,21 @@ pub mod NextNumber
 pub mod TraceSoFar
 -- what a reader has read can go on, as X5 has it: `TraceReads`, `ReadOn`
 pub mod CanGoOn
--- a trace, read by read: `traces::open`, `pieces::read_on`
+-- a trace, read by read: `traces::open`, `readings::read_on`
 pub mod TraceReads
--- every edge of a trace is well formed: `pieces::read_on` and its callers
+-- every edge of a trace is well formed: `readings::read_on` and its callers
 pub mod FormedEdges
--- the loop over the pieces of a trace: `pieces::read_on`
+-- what is known of a trace at a read: `readings::read_on`
 pub mod ReadOn
+-- the one reading of a trace: src/readings.rt
+pub mod ReadTraces
 -- a replay, piece by piece: src/replays.rt, `joins::replay_behind`
 pub mod ReplayPieces
 -- where the first header line of an input is: `Fronts`
 pub mod FirstHeader
 -- the input before its trace, byte by byte: `Front::take` and `find`, `joins::joined`
 pub mod Fronts
--- where there is no plan, or no header line: `Input::begin`, `replays::replay_trace`
+-- where there is no plan, or no header line: `Input::begin`, `readings::read`
 pub mod FirstReads
 -- a trace whose header line was found after a scenario: `joins::start`, `joins::replay_behind`
 pub mod AfterScenario
@@ -30,13 +32,11 @@ pub mod Waits
 pub mod CheckPieces
 -- a trace that is followed edge by edge: src/following.rt
 pub mod FollowedEdges
--- what is told of a trace, piece by piece: src/explains.rt, src/states.rt
-pub mod ToldPieces
--- what is told of the whole trace: `explains::explain_trace`, `states::state_trace`
-pub mod ToldTraces
+-- what is printed about a trace: src/explains.rt, src/states.rt
+pub mod Printed
 -- what is shown of a trace, edge by edge and piece by piece: src/shows.rt
 pub mod ShownPieces
--- what is shown of the whole trace: `shows::show_trace`
+-- what is shown of the whole trace: src/shows.rt
 pub mod ShownTraces
 -- the trace of a legal list is what a check calls legal: src/laws.rt, `drives::drive`
 pub mod LegalTrace
@@ -62,7 +62,5 @@ pub mod Sums
 pub mod FoundSeeds
 -- the ends of verdict lines in a table
 pub mod VerdictEnds
--- what the edges of one trace of several come to, piece by piece
-pub mod TalliedTraces
 -- the words of edges that stand in tables: `push_driver`, `push_word`, `push_last_word`
 pub mod EdgeWords

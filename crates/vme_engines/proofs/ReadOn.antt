@@ -1,5 +1,5 @@
--- The loop over the pieces of a trace.
-use Rattle.std.proofs.Common.{◌≡◌, ◌≢◌, inl, inr, ℕ, List, [], ◌++◌, Bool, true, false, Option, Some, None, unwrap_or, Result, Ok, Err, refl, sym, ◌∙◌, append_assoc, append-nil, subst}
+-- What is known of a trace at a read.
+use Rattle.std.proofs.Common.{◌≡◌, ◌≢◌, inl, inr, ℕ, List, [], ◌++◌, Bool, true, false, Option, Some, unwrap_or, Result, Ok, Err, refl, sym, ◌∙◌, append_assoc, append-nil, subst}
 use Rattle.std.specs.Io.KnownBytes.{Consumes}
 use Rattle.vme_model.specs.declared.signals.Version.{Version}
 use Rattle.vme_model.specs.declared.signals.Edge.{Edge}
@@ -7,26 +7,24 @@ use Rattle.vme_model.specs.Text.{read_of}
 use Rattle.vme_trace.specs.declared.Fault.{Fault}
 use Rattle.vme_trace.specs.declared.Fault.TheVariants.{Header, Line, TooLong, CutOff, Read, Memory, Failed, Write}
 use Rattle.vme_trace.specs.Reading as trace
-use Rattle.vme_engines.specs.Streams.{streams, IsInput}
+use Rattle.vme_engines.specs.Streams.{IsInput}
 use Rattle.vme_engines.specs.Steps.{Begins, Faults, Comes}
-use Rattle.vme_engines.specs.Pieces.{IsFaulty, Stopped, Came, Taking, Answers, answered}
-use Rattle.vme_engines.proofs.TraceReads.{IsReading, reading_of, begins_more, whole_input, read_out, no_such}
+use Rattle.vme_engines.specs.Pieces.{IsFaulty, Stopped, Came}
+use Rattle.vme_engines.proofs.TraceReads.{IsReading, begins_more, whole_input, read_out, no_such}
 use Rattle.vme_engines.proofs.CanGoOn.{can_go_on}
 
--- ---- what is known of a trace at a read
-
-module _ (v : Version) (from to : Option (List ℕ)) (text head : List ℕ) (left : ℕ) (reader : trace.ReaderState) (es : List Edge) (known : reader.version ≡ Some v) where
+module _ (v : Version) (from to : Option (List ℕ)) (head : List ℕ) (left : ℕ) (reader : trace.ReaderState) (es : List Edge) (known : reader.version ≡ Some v) where
   all_is : (later : List ℕ) → (head ++ later) ++ unwrap_or to [] ≡ head ++ (later ++ unwrap_or to [])
   all_is later = append_assoc head later (unwrap_or to [])
 
-  is_input : (later : List ℕ) → Consumes from to (text ++ (head ++ later)) → IsInput from (text ++ (head ++ (later ++ unwrap_or to [])))
-  is_input later taken = subst (λ (l : List ℕ). IsInput from (text ++ l)) (all_is later) (whole_input from to text (head ++ later) taken)
+  is_input : (later : List ℕ) → Consumes from to (head ++ later) → IsInput from (head ++ (later ++ unwrap_or to []))
+  is_input later taken = subst (IsInput from) (all_is later) (whole_input from to (head ++ later) taken)
 
   -- a fault of the trace
   faulty : (all : List ℕ) (f : Fault) → f ≢ Memory → trace.HasFaultAfter (read_of all) reader.version es f → IsFaulty all es f
   faulty all f ne h = (h.fault_is ne, h.edges_are ne)
 
-  stopped : (all : List ℕ) (f : Fault) → trace.HasFaultAfter (read_of all) reader.version es f → Stopped v text all from to es f
+  stopped : (all : List ℕ) (f : Fault) → trace.HasFaultAfter (read_of all) reader.version es f → Stopped v all from to es f
   stopped all Header h = faulty all Header (λ e. cc) h
   stopped all (Line n) h = faulty all (Line n) (λ e. cc) h
   stopped all (TooLong n) h = faulty all (TooLong n) (λ e. cc) h
@@ -42,17 +40,17 @@ module _ (v : Version) (from to : Option (List ℕ)) (text head : List ℕ) (lef
     | inr stops ↦ record { version = stops.version_is ∙ known; others = stops.front.0; edges = stops.front.1 }
   ]
 
-  stopped_so : (later : List ℕ) (f : Fault) → Consumes from to (text ++ (head ++ later)) → Faults to (head ++ later) reader es f
-      → Stopped v text (head ++ (later ++ unwrap_or to [])) from to es f
+  stopped_so : (later : List ℕ) (f : Fault) → Consumes from to (head ++ later) → Faults to (head ++ later) reader es f
+      → Stopped v (head ++ (later ++ unwrap_or to [])) from to es f
   stopped_so later f taken which = elim which [
-    | inl failed ↦ subst (Stopped v text (head ++ (later ++ unwrap_or to [])) from to es) (sym failed.0)
+    | inl failed ↦ subst (Stopped v (head ++ (later ++ unwrap_or to [])) from to es) (sym failed.0)
         (head ++ later, taken, failed.1.goes_on, sym failed.1.version ∙ known, failed.1.edges)
     | inr stops ↦ stopped (head ++ (later ++ unwrap_or to [])) f
         (subst (λ (l : List ℕ). trace.HasFaultAfter (read_of l) reader.version es f) (all_is later) stops)
   ]
 
-  pub came_is : (more : Result Bool Fault) → Comes from to text head left reader es more
-      → (rest : List ℕ) × IsInput from (text ++ (head ++ rest)) × Came v text (head ++ rest) from to es more
+  pub came_is : (more : Result Bool Fault) → Comes from to head left reader es more
+      → (rest : List ℕ) × IsInput from (head ++ rest) × Came v (head ++ rest) from to es more
   came_is (Ok true) h = (
     h.0 ++ unwrap_or to [],
     is_input h.0 h.1,
@@ -60,7 +58,7 @@ module _ (v : Version) (from to : Option (List ℕ)) (text head : List ℕ) (lef
   )
   came_is (Ok false) h = (
     h.0,
-    read_out from to (text ++ (head ++ h.0)) h.1 h.2,
+    read_out from to (head ++ h.0) h.1 h.2,
     (record { version = sym h.3 ∙ known; others = []; edges = h.4 ∙ sym (append-nil es) }, h.4, h.5, h.2),
   )
   came_is (Err f) h = (
@@ -69,9 +67,9 @@ module _ (v : Version) (from to : Option (List ℕ)) (text head : List ℕ) (lef
     (subst (λ (l : List ℕ). Begins (read_of l) v es) (all_is h.0) (begins h.0 f h.2), stopped_so h.0 f h.1 h.2),
   )
 
-  -- a fault of reading that is told without a read
-  pub unread : IsReading text head from to reader left es
-      → (rest : List ℕ) × IsInput from (text ++ (head ++ rest)) × Came v text (head ++ rest) from to es (Err Read)
+  -- a fault of reading that is reported without a read
+  pub unread : IsReading head from to reader left es
+      → (rest : List ℕ) × IsInput from (head ++ rest) × Came v (head ++ rest) from to es (Err Read)
   unread r = (
     r.later ++ unwrap_or to [],
     is_input r.later r.taken,
@@ -81,40 +79,7 @@ module _ (v : Version) (from to : Option (List ℕ)) (text head : List ℕ) (lef
     ),
   )
 
-pub came_begins : (v : Version) (text trace : List ℕ) (from to : Option (List ℕ)) (es : List Edge) (more : Result Bool Fault) → Came v text trace from to es more → Begins (read_of trace) v es
-came_begins v text trace from to es (Ok true) h = h
-came_begins v text trace from to es (Ok false) h = h.0
-came_begins v text trace from to es (Err f) h = h.0
-
--- ---- the loop
-
--- The engine goes on: it has taken the edges of the trace so far.
-pub record IsUnderWay {S A : Type 0} (takes : Taking S A) (v : Version) (text head : List ℕ) (from at old mid : Option (List ℕ)) (judge : S) (reader : trace.ReaderState) (left : ℕ) : Type 0 where
-  pub es : List Edge
-  pub reading : IsReading text head from at reader left es
-  pub known : reader.version ≡ Some v
-  pub taken : takes es (Ok true) old mid judge (Ok None)
-
-module _ {S A : Type 0} (takes : Taking S A) (v : Version) (text head : List ℕ) (from to old new : Option (List ℕ)) (left : ℕ) (reader : trace.ReaderState) (es : List Edge) (known : reader.version ≡ Some v) where
-  -- what it answers is of the whole trace
-  pub answers_so : (more : Result Bool Fault) (now : S) (answer : Result A Fault) → Comes from to text head left reader es more → takes es more old new now (answered answer)
-      → (rest : List ℕ) × IsInput from (text ++ (head ++ rest)) × Answers takes v text (head ++ rest) (streams from to old new) answer
-  answers_so more now answer came took =
-      let all = came_is v from to text head left reader es known more came in (all.0, all.1, (es, more, now, all.2, took))
-
-  -- no read is left
-  pub answers_unread : (now : S) (answer : Result A Fault) → IsReading text head from to reader left es → takes es (Err Read) old new now (answered answer)
-      → (rest : List ℕ) × IsInput from (text ++ (head ++ rest)) × Answers takes v text (head ++ rest) (streams from to old new) answer
-  answers_unread now answer reading took =
-      let all = unread v from to text head left reader es known reading in (all.0, all.1, (es, Err Read, now, all.2, took))
-
-  pub goes_on : (more : Result Bool Fault) (now : S) → more ≡ Ok true → Comes from to text head left reader es more → takes es more old new now (Ok None)
-      → IsUnderWay takes v text head from to old new now reader left
-  goes_on more now is came took =
-      let going : Comes from to text head left reader es (Ok true) = subst (λ (a : Result Bool Fault). Comes from to text head left reader es a) is came in
-      record {
-        es = es;
-        reading = reading_of text head from to reader left es going;
-        known = known;
-        taken = subst (λ (a : Result Bool Fault). takes es a old new now (Ok None)) is took;
-      }
+pub came_begins : (v : Version) (trace : List ℕ) (from to : Option (List ℕ)) (es : List Edge) (more : Result Bool Fault) → Came v trace from to es more → Begins (read_of trace) v es
+came_begins v trace from to es (Ok true) h = h
+came_begins v trace from to es (Ok false) h = h.0
+came_begins v trace from to es (Err f) h = h.0

@@ -1,158 +1,211 @@
 -- A replay, piece by piece.
 use Rattle.std.proofs.Common.{◌≡◌, inl, inr, ℕ, ◌+◌, ◌-◌, List, [], ◌++◌, length, Bool, true, false, Option, Some, None, Result, Ok, Err, refl, sym, ◌∙◌, ap, append_assoc, append-nil, subst, arith, option_map}
 use Rattle.std.proofs.Math.ListN.{length-append}
-use Rattle.std.specs.Io.KnownBytes.{Appends}
-use Rattle.std.proofs.KnownBytes.{Appends-trans}
+use Rattle.std.specs.Io.KnownBytes.{Appends, Consumes}
+use Rattle.std.proofs.KnownBytes.{Appends-nil, Appends-trans, Consumes-trans}
 use Rattle.vme_model.specs.declared.signals.Version.{Version}
 use Rattle.vme_model.specs.declared.signals.Edge.{Edge}
 use Rattle.vme_model.specs.Plan.{Plan}
 use Rattle.vme_model.specs.Verdict.{State, kept}
 use Rattle.vme_model.specs.Text.{Reading, TextFault, read_of}
-use Rattle.vme_model.specs.Report.{report, report_of, verdict_lines, closing_text, closing}
+use Rattle.vme_model.specs.Report.{closing_text, closing}
 use Rattle.vme_trace.specs.declared.Fault.{Fault}
 use Rattle.vme_trace.specs.declared.Fault.TheVariants.{Header, Line, TooLong, CutOff, Read, Memory, Failed, Write}
 use Rattle.vme_trace.specs.Reading as trace
 use Rattle.vme_trace.specs.Writing.{AppendsFront}
+use Rattle.vme_engines.specs.declared.LineForm.{LineForm}
+use Rattle.vme_engines.specs.declared.LineForm.TheVariants.{Short, Full}
 use Rattle.vme_engines.specs.declared.Status.{Status}
-use Rattle.vme_engines.specs.Streams.{Streams, Wrote}
-use Rattle.vme_engines.specs.Outcomes.{bench, lines_of, refused_count, status_with, HasFault, ReplayStops, Replays}
+use Rattle.vme_engines.specs.Streams.{Streams, streams, IsInput, Wrote}
+use Rattle.vme_engines.specs.Outcomes.{bench, form_lines, lines_of, report, report_of, refused_count, status_with, HasFault, ReplayStops, Replays}
 use Rattle.vme_engines.specs.Steps.{Begins, ending, piece_text, TakesPiece, traced}
-use Rattle.vme_engines.specs.Pieces.{Stopped, Came, Answers}
+use Rattle.vme_engines.specs.declared.replays.Replaying.{Replaying}
+use Rattle.vme_engines.specs.Pieces.{Stopped, Came}
+use Rattle.vme_engines.specs.Readings.{GoesOn, Takes}
 use Rattle.vme_engines.proofs.ReadOn.{came_begins}
-use Rattle.vme_engines.proofs.WrittenLines.{front_of_more, front_behind, lines_append, kept_append}
+use Rattle.vme_engines.proofs.WrittenLines.{front_of_more, front_behind, form_append, kept_append}
 
--- ---- pieces
+-- before the first piece nothing is written
+pub piece_none : (form : LineForm) (b : State) (a : Option (List ℕ)) → Appends a a (piece_text form b 0 [] (Ok true))
+piece_none Short b a = Appends-nil a
+piece_none Full b a = Appends-nil a
 
--- two pieces, one behind the other
-module _ (b mid_b next : State) (judged mid_n now : ℕ) (es fs : List Edge) (more : Result Bool Fault) (old mid new : Option (List ℕ))
-    (first : TakesPiece b judged es (Ok true) old mid mid_b mid_n (Ok None)) where
-  count : judged + length (es ++ fs) ≡ mid_n + length fs
-  count = let is = length-append es fs in let now : mid_n ≡ judged + length es = first.3 in omega (arith, is)
+-- for lines of one form
+module _ (form : LineForm) where
+  -- ---- pieces
 
-  state : kept b (es ++ fs) ≡ kept mid_b fs
-  state = kept_append b es fs ∙ ap (λ s. kept s fs) (sym first.2)
+  -- two pieces, one behind the other
+  module _ (b mid_b next : State) (judged mid_n now : ℕ) (es fs : List Edge) (more : Result Bool Fault) (old mid new : Option (List ℕ))
+      (first : TakesPiece form b judged es (Ok true) old mid mid_b mid_n (Ok None)) where
+    count : judged + length (es ++ fs) ≡ mid_n + length fs
+    count = let is = length-append es fs in let now : mid_n ≡ judged + length es = first.3 in omega (arith, is)
 
-  lines : verdict_lines b (judged + 1) (es ++ fs) ≡ verdict_lines b (judged + 1) es ++ verdict_lines mid_b (mid_n + 1) fs
-  lines =
-      let from_here : (judged + 1) + length es ≡ mid_n + 1 = let now : mid_n ≡ judged + length es = first.3 in omega arith in
-      lines_append b (judged + 1) es fs
-      ∙ ap (λ s. verdict_lines b (judged + 1) es ++ verdict_lines s ((judged + 1) + length es) fs) (sym first.2)
-      ∙ ap (λ n. verdict_lines b (judged + 1) es ++ verdict_lines mid_b n fs) from_here
+    state : kept b (es ++ fs) ≡ kept mid_b fs
+    state = kept_append b es fs ∙ ap (λ s. kept s fs) (sym first.2)
 
-  -- the text of both
-  text_is : piece_text b judged (es ++ fs) more ≡ piece_text b judged es (Ok true) ++ piece_text mid_b mid_n fs more
-  text_is =
-      ap (λ n. verdict_lines b (judged + 1) (es ++ fs) ++ ending more n (length (kept b (es ++ fs)).history)) count
-      ∙ ap (λ s. verdict_lines b (judged + 1) (es ++ fs) ++ ending more (mid_n + length fs) (length s.history)) state
-      ∙ ap (λ l. l ++ ending more (mid_n + length fs) (length (kept mid_b fs).history)) lines
-      ∙ append_assoc (verdict_lines b (judged + 1) es) (verdict_lines mid_b (mid_n + 1) fs) _
-      ∙ ap (λ l. l ++ piece_text mid_b mid_n fs more) (sym (append-nil (verdict_lines b (judged + 1) es)))
+    lines : form_lines form b (judged + 1) (es ++ fs) ≡ form_lines form b (judged + 1) es ++ form_lines form mid_b (mid_n + 1) fs
+    lines =
+        let from_here : (judged + 1) + length es ≡ mid_n + 1 = let now : mid_n ≡ judged + length es = first.3 in omega arith in
+        form_append form b (judged + 1) es fs
+        ∙ ap (λ s. form_lines form b (judged + 1) es ++ form_lines form s ((judged + 1) + length es) fs) (sym first.2)
+        ∙ ap (λ n. form_lines form b (judged + 1) es ++ form_lines form mid_b n fs) from_here
 
-  wrote : Appends mid new (piece_text mid_b mid_n fs more) → Appends old new (piece_text b judged (es ++ fs) more)
-  wrote w = rw text_is (Appends-trans old mid new (piece_text b judged es (Ok true)) (piece_text mid_b mid_n fs more) first.1 w)
+    -- the text of both
+    text_is : piece_text form b judged (es ++ fs) more ≡ piece_text form b judged es (Ok true) ++ piece_text form mid_b mid_n fs more
+    text_is =
+        ap (λ n. form_lines form b (judged + 1) (es ++ fs) ++ ending more n (length (kept b (es ++ fs)).history)) count
+        ∙ ap (λ s. form_lines form b (judged + 1) (es ++ fs) ++ ending more (mid_n + length fs) (length s.history)) state
+        ∙ ap (λ l. l ++ ending more (mid_n + length fs) (length (kept mid_b fs).history)) lines
+        ∙ append_assoc (form_lines form b (judged + 1) es) (form_lines form mid_b (mid_n + 1) fs) _
+        ∙ ap (λ l. l ++ piece_text form mid_b mid_n fs more) (sym (append-nil (form_lines form b (judged + 1) es)))
 
-  front : AppendsFront mid new (piece_text mid_b mid_n fs more) → AppendsFront old new (piece_text b judged (es ++ fs) more)
-  front w = rw text_is (front_behind old mid new (piece_text b judged es (Ok true)) (piece_text mid_b mid_n fs more) first.1 w)
+    wrote : Appends mid new (piece_text form mid_b mid_n fs more) → Appends old new (piece_text form b judged (es ++ fs) more)
+    wrote w = rw text_is (Appends-trans old mid new (piece_text form b judged es (Ok true)) (piece_text form mid_b mid_n fs more) first.1 w)
 
-  pub replays_more : (answer : Result (Option Status) Fault) → TakesPiece mid_b mid_n fs more mid new next now answer → TakesPiece b judged (es ++ fs) more old new next now answer
-  replays_more (Ok None) h = (h.0, wrote h.1, h.2 ∙ sym state, h.3 ∙ sym count)
-  replays_more (Ok (Some status)) h =
-      (h.0, wrote h.1, h.2 ∙ ap (λ n. status_with (n - length (kept mid_b fs).history)) (sym count) ∙ ap (λ s. status_with (judged + length (es ++ fs) - length s.history)) (sym state))
-  replays_more (Err f) h = elim h [ inl all ↦ inl (all.0, wrote all.1) | inr part ↦ inr (part.0, front part.1) ]
+    front : AppendsFront mid new (piece_text form mid_b mid_n fs more) → AppendsFront old new (piece_text form b judged (es ++ fs) more)
+    front w = rw text_is (front_behind old mid new (piece_text form b judged es (Ok true)) (piece_text form mid_b mid_n fs more) first.1 w)
 
--- ---- the report
+    pub replays_more : (answer : Result (Option Status) Fault) → TakesPiece form mid_b mid_n fs more mid new next now answer → TakesPiece form b judged (es ++ fs) more old new next now answer
+    replays_more (Ok None) h = (h.0, wrote h.1, h.2 ∙ sym state, h.3 ∙ sym count)
+    replays_more (Ok (Some status)) h =
+        (h.0, wrote h.1, h.2 ∙ ap (λ n. status_with (n - length (kept mid_b fs).history)) (sym count) ∙ ap (λ s. status_with (judged + length (es ++ fs) - length s.history)) (sym state))
+    replays_more (Err f) h = elim h [ inl all ↦ inl (all.0, wrote all.1) | inr part ↦ inr (part.0, front part.1) ]
 
-report_known : (p : Plan) (v : Version) (r : Reading) (w : Option Version) → w ≡ Some v → report_of w p r ≡ verdict_lines (bench p v) 1 r.edges ++ closing r.fault (bench p v) r.edges
-report_known p v r w e = rw e refl
+  -- ---- the report
 
-lines_known : (p : Plan) (v : Version) (es : List Edge) (w : Option Version) → w ≡ Some v → lines_of p w es ≡ verdict_lines (bench p v) 1 es
-lines_known p v es w e = rw e refl
+  report_known : (p : Plan) (v : Version) (r : Reading) (w : Option Version) → w ≡ Some v → report_of form p w r ≡ form_lines form (bench p v) 1 r.edges ++ closing r.fault (bench p v) r.edges
+  report_known p v r w e = rw e refl
 
--- a report begins with the lines of the first edges
-tail_of : (p : Plan) (v : Version) (r : Reading) (es : List Edge) → Begins r v es → List ℕ
-tail_of p v r es b = verdict_lines (kept (bench p v) es) (1 + length es) b.others ++ closing r.fault (bench p v) r.edges
+  lines_known : (p : Plan) (v : Version) (es : List Edge) (w : Option Version) → w ≡ Some v → lines_of form p w es ≡ form_lines form (bench p v) 1 es
+  lines_known p v es w e = rw e refl
 
-report_begins : (p : Plan) (v : Version) (r : Reading) (es : List Edge) (b : Begins r v es) → report_of r.version p r ≡ verdict_lines (bench p v) 1 es ++ tail_of p v r es b
-unfolding tail_of
-report_begins p v r es b =
-    report_known p v r r.version b.version
-    ∙ ap (λ l. l ++ closing r.fault (bench p v) r.edges) (ap (verdict_lines (bench p v) 1) b.edges ∙ lines_append (bench p v) 1 es b.others)
-    ∙ append_assoc (verdict_lines (bench p v) 1 es) (verdict_lines (kept (bench p v) es) (1 + length es) b.others) (closing r.fault (bench p v) r.edges)
+  -- a report begins with the lines of the first edges
+  tail_of : (p : Plan) (v : Version) (r : Reading) (es : List Edge) → Begins r v es → List ℕ
+  tail_of p v r es b = form_lines form (kept (bench p v) es) (1 + length es) b.others ++ closing r.fault (bench p v) r.edges
 
-closing_none : (t : Option TextFault) (f : Fault) (b : State) (es : List Edge) → option_map trace.fault_of t ≡ Some f → closing t b es ≡ []
-closing_none None f b es h = absurd cc
-closing_none (Some x) f b es h = refl
+  report_begins : (p : Plan) (v : Version) (r : Reading) (es : List Edge) (b : Begins r v es) → report_of form p r.version r ≡ form_lines form (bench p v) 1 es ++ tail_of p v r es b
+  unfolding tail_of
+  report_begins p v r es b =
+      report_known p v r r.version b.version
+      ∙ ap (λ l. l ++ closing r.fault (bench p v) r.edges) (ap (form_lines form (bench p v) 1) b.edges ∙ form_append form (bench p v) 1 es b.others)
+      ∙ append_assoc (form_lines form (bench p v) 1 es) (form_lines form (kept (bench p v) es) (1 + length es) b.others) (closing r.fault (bench p v) r.edges)
 
--- ---- a whole replay
+  closing_none : (t : Option TextFault) (f : Fault) (b : State) (es : List Edge) → option_map trace.fault_of t ≡ Some f → closing t b es ≡ []
+  closing_none None f b es h = absurd cc
+  closing_none (Some x) f b es h = refl
 
-module _ (p : Plan) (v : Version) (text trace : List ℕ) (s : Streams) (es : List Edge) (begins : Begins (read_of trace) v es) where
-  -- the lines of these edges, with nothing behind them
-  bare : (more : Result Bool Fault) → ending more (0 + length es) (length (kept (bench p v) es).history) ≡ [] → piece_text (bench p v) 0 es more ≡ verdict_lines (bench p v) 1 es
-  bare more none = ap (λ l. verdict_lines (bench p v) 1 es ++ l) none ∙ append-nil (verdict_lines (bench p v) 1 es)
+  -- ---- a whole replay
 
-  -- the lines up to a fault of the trace are its report
-  report_at : (f : Fault) → HasFault trace f → (read_of trace).edges ≡ es → report p trace ≡ verdict_lines (bench p v) 1 es
-  report_at f fault edges =
-      report_known p v (read_of trace) (read_of trace).version begins.version
-      ∙ ap (λ l. verdict_lines (bench p v) 1 l ++ closing (read_of trace).fault (bench p v) (read_of trace).edges) edges
-      ∙ ap (λ l. verdict_lines (bench p v) 1 es ++ l) (closing_none (read_of trace).fault f (bench p v) (read_of trace).edges fault)
-      ∙ append-nil (verdict_lines (bench p v) 1 es)
+  module _ (p : Plan) (v : Version) (trace : List ℕ) (s : Streams) (es : List Edge) (begins : Begins (read_of trace) v es) where
+    -- the lines of these edges, with nothing behind them
+    bare : (more : Result Bool Fault) → ending more (0 + length es) (length (kept (bench p v) es).history) ≡ [] → piece_text form (bench p v) 0 es more ≡ form_lines form (bench p v) 1 es
+    bare more none = ap (λ l. form_lines form (bench p v) 1 es ++ l) none ∙ append-nil (form_lines form (bench p v) 1 es)
 
-  at_fault : (f : Fault) → HasFault trace f × ((read_of trace).edges ≡ es) → Wrote s (verdict_lines (bench p v) 1 es) → HasFault trace f × Wrote s (report p trace)
-  at_fault f h w = (h.0, rw (report_at f h.0 h.1) w)
+    -- the lines up to a fault of the trace are its report
+    report_at : (f : Fault) → HasFault trace f → (read_of trace).edges ≡ es → report form p trace ≡ form_lines form (bench p v) 1 es
+    report_at f fault edges =
+        report_known p v (read_of trace) (read_of trace).version begins.version
+        ∙ ap (λ l. form_lines form (bench p v) 1 l ++ closing (read_of trace).fault (bench p v) (read_of trace).edges) edges
+        ∙ ap (λ l. form_lines form (bench p v) 1 es ++ l) (closing_none (read_of trace).fault f (bench p v) (read_of trace).edges fault)
+        ∙ append-nil (form_lines form (bench p v) 1 es)
 
-  stops : (f : Fault) → Stopped v text trace s.from s.to es f → Wrote s (verdict_lines (bench p v) 1 es) → ReplayStops p text trace s f
-  stops Header h w = at_fault Header h w
-  stops (Line n) h w = at_fault (Line n) h w
-  stops (TooLong n) h w = at_fault (TooLong n) h w
-  stops CutOff h w = at_fault CutOff h w
-  stops Read h w = (h.0, h.1, h.2, rw (lines_known p v (read_of h.0).edges (read_of h.0).version h.3) (rw h.4 w))
-  stops Memory h w = (es, begins.others, begins.edges, rw (lines_known p v es (read_of trace).version begins.version) w)
-  stops Failed h w = absurd h
-  stops Write h w = absurd h
+    at_fault : (f : Fault) → HasFault trace f × ((read_of trace).edges ≡ es) → Wrote s (form_lines form (bench p v) 1 es) → HasFault trace f × Wrote s (report form p trace)
+    at_fault f h w = (h.0, rw (report_at f h.0 h.1) w)
 
-  -- the counts of the closing line
-  closing_is : (read_of trace).edges ≡ es → (read_of trace).fault ≡ None
-      → closing (read_of trace).fault (bench p v) (read_of trace).edges ≡ ending (Ok false) (0 + length es) (length (kept (bench p v) es).history)
-  closing_is edges whole =
-      let accepted : length (kept (bench p v) es).history - 0 ≡ length (kept (bench p v) es).history = omega arith in
-      let count : 0 + length es ≡ length es = omega arith in
-      rw (whole, edges) (ap (λ n. closing_text n (length es - n)) accepted ∙ ap (λ n. closing_text (length (kept (bench p v) es).history) (n - length (kept (bench p v) es).history)) (sym count))
+    stops : (f : Fault) → Stopped v trace s.from s.to es f → Wrote s (form_lines form (bench p v) 1 es) → ReplayStops form p [] trace s f
+    stops Header h w = at_fault Header h w
+    stops (Line n) h w = at_fault (Line n) h w
+    stops (TooLong n) h w = at_fault (TooLong n) h w
+    stops CutOff h w = at_fault CutOff h w
+    stops Read h w = (h.0, h.1, h.2, rw (lines_known p v (read_of h.0).edges (read_of h.0).version h.3) (rw h.4 w))
+    stops Memory h w = (es, begins.others, begins.edges, rw (lines_known p v es (read_of trace).version begins.version) w)
+    stops Failed h w = absurd h
+    stops Write h w = absurd h
 
-  whole_text : (read_of trace).edges ≡ es → (read_of trace).fault ≡ None → report p trace ≡ piece_text (bench p v) 0 es (Ok false)
-  whole_text edges whole =
-      report_known p v (read_of trace) (read_of trace).version begins.version
-      ∙ ap (λ l. verdict_lines (bench p v) 1 l ++ closing (read_of trace).fault (bench p v) (read_of trace).edges) edges
-      ∙ ap (λ l. verdict_lines (bench p v) 1 es ++ l) (closing_is edges whole)
+    -- the counts of the closing line
+    closing_is : (read_of trace).edges ≡ es → (read_of trace).fault ≡ None
+        → closing (read_of trace).fault (bench p v) (read_of trace).edges ≡ ending (Ok false) (0 + length es) (length (kept (bench p v) es).history)
+    closing_is edges whole =
+        let accepted : length (kept (bench p v) es).history - 0 ≡ length (kept (bench p v) es).history = omega arith in
+        let count : 0 + length es ≡ length es = omega arith in
+        rw (whole, edges) (ap (λ n. closing_text n (length es - n)) accepted ∙ ap (λ n. closing_text (length (kept (bench p v) es).history) (n - length (kept (bench p v) es).history)) (sym count))
 
-  status_is : (w : Option Version) → w ≡ Some v → (read_of trace).edges ≡ es → status_with (0 + length es - length (kept (bench p v) es).history) ≡ status_with (refused_count p w (read_of trace).edges)
-  status_is w e edges =
-      let accepted : length (kept (bench p v) es).history - 0 ≡ length (kept (bench p v) es).history = omega arith in
-      let count : 0 + length es ≡ length es = omega arith in
-      rw (e, edges) (ap (λ n. status_with (n - length (kept (bench p v) es).history)) count ∙ ap (λ n. status_with (length es - n)) (sym accepted))
+    whole_text : (read_of trace).edges ≡ es → (read_of trace).fault ≡ None → report form p trace ≡ piece_text form (bench p v) 0 es (Ok false)
+    whole_text edges whole =
+        report_known p v (read_of trace) (read_of trace).version begins.version
+        ∙ ap (λ l. form_lines form (bench p v) 1 l ++ closing (read_of trace).fault (bench p v) (read_of trace).edges) edges
+        ∙ ap (λ l. form_lines form (bench p v) 1 es ++ l) (closing_is edges whole)
 
-  -- only a front of the text was written
-  cut_short : (more : Result Bool Fault) → Came v text trace s.from s.to es more → AppendsFront s.old s.new (piece_text (bench p v) 0 es more) → AppendsFront s.old s.new (report p trace)
-  cut_short (Ok true) h w = rw (report_begins p v (read_of trace) es begins) (front_of_more s.old s.new _ (tail_of p v (read_of trace) es begins) (rw (bare (Ok true) refl) at w))
-  cut_short (Ok false) h w = rw (whole_text h.1 h.2) w
-  cut_short (Err f) h w = rw (report_begins p v (read_of trace) es begins) (front_of_more s.old s.new _ (tail_of p v (read_of trace) es begins) (rw (bare (Err f) refl) at w))
+    status_is : (w : Option Version) → w ≡ Some v → (read_of trace).edges ≡ es → status_with (0 + length es - length (kept (bench p v) es).history) ≡ status_with (refused_count p w (read_of trace).edges)
+    status_is w e edges =
+        let accepted : length (kept (bench p v) es).history - 0 ≡ length (kept (bench p v) es).history = omega arith in
+        let count : 0 + length es ≡ length es = omega arith in
+        rw (e, edges) (ap (λ n. status_with (n - length (kept (bench p v) es).history)) count ∙ ap (λ n. status_with (length es - n)) (sym accepted))
 
--- What the loop leaves is the replay of the whole trace.
-pub replays_all : {S : Type 0} (state : S → State) (count : S → ℕ) (p : Plan) (v : Version) (text trace : List ℕ) (s : Streams) (b : State) (judged : ℕ) (answer : Result Status Fault) → b ≡ bench p v → judged ≡ 0
-    → Answers (λ es more old new (now : S) a. TakesPiece b judged es more old new (state now) (count now) a) v text trace s answer → Replays p text trace s (traced answer)
-replays_all state count p v text trace s b judged (Ok status) is none h =
-    let took : TakesPiece (bench p v) 0 h.0 h.1 s.old s.new (state h.2) (count h.2) (Ok (Some status)) = rw (is, none) at h.4 in
-    let came : Came v text trace s.from s.to h.0 (Ok false) = subst (Came v text trace s.from s.to h.0) took.0 h.3 in
-    let wrote : Wrote s (piece_text (bench p v) 0 h.0 (Ok false)) = subst (λ (m : Result Bool Fault). Wrote s (piece_text (bench p v) 0 h.0 m)) took.0 took.1 in (
-      came.2,
-      came.3,
-      rw (whole_text p v text trace s h.0 came.0 came.1 came.2) wrote,
-      took.2 ∙ status_is p v text trace s h.0 came.0 (read_of trace).version came.0.version came.1,
-    )
-replays_all state count p v text trace s b judged (Err f) is none h =
-    let took : TakesPiece (bench p v) 0 h.0 h.1 s.old s.new (state h.2) (count h.2) (Err f) = rw (is, none) at h.4 in
-    elim took [
-      | inl all ↦ (let came : Came v text trace s.from s.to h.0 (Err f) = subst (Came v text trace s.from s.to h.0) all.0 h.3 in
-          stops p v text trace s h.0 came.0 f came.1 (rw (bare p v text trace s h.0 came.0 (Err f) refl) at (subst (λ (m : Result Bool Fault). Wrote s (piece_text (bench p v) 0 h.0 m)) all.0 all.1)))
-      | inr part ↦ subst (λ (g : Fault). ReplayStops p text trace s g) (sym part.0) (cut_short p v text trace s h.0 (came_begins v text trace s.from s.to h.0 h.1 h.3) h.1 h.3 part.1)
-    ]
+    -- only a front of the text was written
+    cut_short : (more : Result Bool Fault) → Came v trace s.from s.to es more → AppendsFront s.old s.new (piece_text form (bench p v) 0 es more) → AppendsFront s.old s.new (report form p trace)
+    cut_short (Ok true) h w = rw (report_begins p v (read_of trace) es begins) (front_of_more s.old s.new _ (tail_of p v (read_of trace) es begins) (rw (bare (Ok true) refl) at w))
+    cut_short (Ok false) h w = rw (whole_text h.1 h.2) w
+    cut_short (Err f) h w = rw (report_begins p v (read_of trace) es begins) (front_of_more s.old s.new _ (tail_of p v (read_of trace) es begins) (rw (bare (Err f) refl) at w))
+
+  -- by what the last read answered
+  module _ (p : Plan) (v : Version) (trace : List ℕ) (s : Streams) (es : List Edge) (more : Result Bool Fault) (came : Came v trace s.from s.to es more) where
+    replays_end : (status : Status) → more ≡ Ok false → Wrote s (piece_text form (bench p v) 0 es more) → status ≡ status_with (0 + length es - length (kept (bench p v) es).history) → Replays form p [] trace s (Ok status)
+    replays_end status is wrote ends =
+        let end : Came v trace s.from s.to es (Ok false) = subst (Came v trace s.from s.to es) is came in (
+          end.2,
+          end.3,
+          rw (whole_text p v trace s es end.0 end.1 end.2) (subst (λ (m : Result Bool Fault). Wrote s (piece_text form (bench p v) 0 es m)) is wrote),
+          ends ∙ status_is p v trace s es end.0 (read_of trace).version end.0.version end.1,
+        )
+
+    replays_stop : (f : Fault) → more ≡ Err f → Wrote s (piece_text form (bench p v) 0 es more) → ReplayStops form p [] trace s f
+    replays_stop f is wrote =
+        let end : Came v trace s.from s.to es (Err f) = subst (Came v trace s.from s.to es) is came in
+        stops p v trace s es end.0 f end.1 (rw (bare p v trace s es end.0 (Err f) refl) at (subst (λ (m : Result Bool Fault). Wrote s (piece_text form (bench p v) 0 es m)) is wrote))
+
+    replays_cut : (f : Fault) → f ≡ Write → AppendsFront s.old s.new (piece_text form (bench p v) 0 es more) → ReplayStops form p [] trace s f
+    replays_cut f is wrote = subst (λ (g : Fault). ReplayStops form p [] trace s g) (sym is) (cut_short p v trace s es (came_begins v trace s.from s.to es more came) more came wrote)
+
+  -- What a piece leaves, or how far it came.
+  pub replay_takes : (p : Plan) (v : Version) (es : List Edge) (more : Result Bool Fault) (old new : Option (List ℕ)) (now : Replaying) (answer : Result (Option Status) Fault) → now.form ≡ form → TakesPiece form (bench p v) 0 es more old new now.bus now.judged answer
+      → Takes (λ fs x y (s : Replaying). (s.form ≡ form) × TakesPiece form (bench p v) 0 fs (Ok true) x y s.bus s.judged (Ok None)) (λ trace s a. Replays form p [] trace s (traced a)) v es more old new now answer
+  replay_takes p v es more old new now (Ok None) same h = (same, subst (λ (m : Result Bool Fault). TakesPiece form (bench p v) 0 es m old new now.bus now.judged (Ok None)) h.0 h)
+  replay_takes p v es more old new now (Ok (Some status)) same h = λ trace from to came. replays_end p v trace (streams from to old new) es more came status h.0 h.1 h.2
+  replay_takes p v es more old new now (Err f) same h = λ trace from to came. elim h [
+    | inl all ↦ replays_stop p v trace (streams from to old new) es more came f all.0 all.1
+    | inr part ↦ replays_cut p v trace (streams from to old new) es more came f part.0 part.1
+  ]
+
+  pub replay_goes_on : (b next : State) (judged now : ℕ) (es : List Edge) (more : Result Bool Fault) (old new : Option (List ℕ)) (answer : Result (Option Status) Fault) → TakesPiece form b judged es more old new next now answer → GoesOn more now (judged + length es) answer
+  replay_goes_on b next judged now es more old new (Ok None) h = (h.0, h.3)
+  replay_goes_on b next judged now es more old new (Ok (Some status)) h = tt
+  replay_goes_on b next judged now es more old new (Err f) h = tt
+
+-- ---- behind a text
+
+-- what was read is the text, and what stands behind it
+pub behind_text : (from at : Option (List ℕ)) (text bytes : List ℕ) → Consumes from at (text ++ bytes) → (mid : Option (List ℕ)) × Consumes from mid text × Consumes mid at bytes
+behind_text None at text bytes h = (None, tt, tt)
+behind_text (Some all) None text bytes h = absurd h
+behind_text (Some all) (Some rest) text bytes h = (Some (bytes ++ rest), h ∙ append_assoc text bytes rest, refl)
+
+pub input_of : (from mid : Option (List ℕ)) (text trace : List ℕ) → Consumes from mid text → IsInput mid trace → IsInput from (text ++ trace)
+input_of None mid text trace h is = tt
+input_of (Some all) None text trace h is = absurd h
+input_of (Some all) (Some rest) text trace h is = h ∙ ap (λ l. text ++ l) is
+
+module _ (form : LineForm) (p : Plan) (text trace : List ℕ) (from mid to old new : Option (List ℕ)) (taken : Consumes from mid text) where
+  stops_behind : (f : Fault) → ReplayStops form p [] trace (streams mid to old new) f → ReplayStops form p text trace (streams from to old new) f
+  stops_behind Header h = h
+  stops_behind (Line n) h = h
+  stops_behind (TooLong n) h = h
+  stops_behind CutOff h = h
+  stops_behind Read h = (h.0, Consumes-trans from mid to text h.0 taken h.1, h.2, h.3)
+  stops_behind Memory h = h
+  stops_behind Failed h = h
+  stops_behind Write h = h
+
+  pub replays_behind : (answer : Result Status Fault) → Replays form p [] trace (streams mid to old new) (traced answer) → Replays form p text trace (streams from to old new) (traced answer)
+  replays_behind (Ok status) h = h
+  replays_behind (Err f) h = stops_behind f h

@@ -1,5 +1,5 @@
 -- What is shown of a trace, edge by edge and piece by piece.
-use Rattle.std.proofs.Common.{◌≡◌, ◌⊎◌, inl, inr, ℕ, ◌+◌, ◌-◌, ◌<◌, ◌≤◌, List, [], ◌∷◌, ◌++◌, length, take, drop, map, Bool, true, false, Option, Some, None, Result, Ok, Err, OnErr, refl, sym, ◌∙◌, ap, subst, arith, append_assoc, append-nil, take-append-drop}
+use Rattle.std.proofs.Common.{◌≡◌, ◌⊎◌, inl, inr, ℕ, ◌+◌, ◌-◌, ◌<◌, ◌≤◌, List, [], ◌∷◌, ◌++◌, length, take, drop, map, Bool, false, Option, Some, None, Result, Ok, Err, OnErr, refl, sym, ◌∙◌, ap, subst, arith, append_assoc, append-nil, take-append-drop}
 use Rattle.std.proofs.lemmas.List.{length-append, length-take-le, take_all, take-take, take-append-le, drop-append-le, drop_all, map_push, nil_from_length, take_at}
 use Rattle.std.specs.Io.KnownBytes.{Keeps, Appends}
 use Rattle.std.proofs.KnownBytes.{Keeps-trans}
@@ -10,15 +10,14 @@ use Rattle.vme_show.specs.Picture.{columns, picture}
 use Rattle.vme_show.specs.Columns.{Seen, IsWindowOf, column_of, with_column}
 use Rattle.vme_trace.specs.declared.Fault.{Fault}
 use Rattle.vme_trace.specs.Writing.{AppendsFront}
-use Rattle.vme_engines.specs.declared.following.Told.{Told}
-use Rattle.vme_engines.specs.declared.following.Told.TheVariants.{Block, Beyond}
+use Rattle.vme_engines.specs.declared.following.Printed.{Printed}
+use Rattle.vme_engines.specs.declared.following.Printed.TheVariants.{Block, Beyond}
 use Rattle.vme_engines.specs.declared.shows.Stretch.{Stretch}
 use Rattle.vme_engines.specs.Outcomes.{status_with}
 use Rattle.vme_engines.specs.Stretches.{Stage}
-use Rattle.vme_engines.specs.Shown.{Ends, EndsStretch, GoesOn, IsBefore, IsKept, IsShown, ShowsPiece, stretch_text}
+use Rattle.vme_engines.specs.Shown.{Ends, EndsStretch, IsBefore, IsKept, IsShown, stretch_text}
 use Rattle.vme_engines.specs.Pieces.{answered}
-use Rattle.vme_engines.proofs.WrittenLines.{kept_append, on_err}
-use Rattle.vme_engines.proofs.ToldPieces.{appends_behind, front_after, front_then}
+use Rattle.vme_engines.proofs.WrittenLines.{kept_append, on_err, appends_behind, front_after, front_kept}
 
 -- ---- edges before the stretch
 
@@ -114,7 +113,7 @@ flushed r s w x y z wrote kept_so within first same =
     on_err r ((b : State) (es : List Edge) → IsShown b es s → AppendsFront x z (stretch_text s.stretch b es))
     (λ b es h.
     let window : IsKept b es s.stretch.from (Some w) = subst (λ (o : Option Seen). IsKept b es s.stretch.from o) same h.window in
-    front_then x y z (stretch_text s.stretch b es)
+    front_kept x y z (stretch_text s.stretch b es)
     (subst (Appends x y) (window_text b es s w within first h)
     (wrote (kept b (take (s.stretch.from - 1) es)) (drop (s.stretch.from - 1) es) (subst (λ n. IsWindowOf (kept b (take (s.stretch.from - 1) es)) n (drop (s.stretch.from - 1) es) w) (sym first) window.1))) kept_so)
 
@@ -129,7 +128,7 @@ no_text s b es low =
 -- ---- the end of a piece
 
 -- the stretch is through
-pub ends_at_last : (s : Stretch) (b : State) (es : List Edge) (more : Result Bool Fault) (old new : Option (List ℕ)) (now : Stage) (r : Result Told Fault) → s.from ≤ s.to → s.to ≤ length es
+pub ends_at_last : (s : Stretch) (b : State) (es : List Edge) (more : Result Bool Fault) (old new : Option (List ℕ)) (now : Stage) (r : Result Printed Fault) → s.from ≤ s.to → s.to ≤ length es
     → EndsStretch s b (take s.to es) old new r → Ends s b es more old new now (answered r)
 ends_at_last s b es more old new now (Ok (Block status)) order long h = (
   (let least = order in omega (arith, least, long)),
@@ -147,7 +146,7 @@ here_is es fs n to few sum =
     ∙ take_at (es ++ take n fs) (drop n fs) to (let all = length-append es (take n fs) in let part = length-take-le n fs few in omega (arith, all, part, sum)))
 
 -- it came to its last edge within this piece
-pub ends_then : (s : Stretch) (b : State) (es fs : List Edge) (more : Result Bool Fault) (old new : Option (List ℕ)) (now mid : Stage) (r : Result Told Fault) (n : ℕ) → s.from ≤ s.to → mid.stretch ≡ s → n ≤ length fs → mid.judged ≡ s.to
+pub ends_then : (s : Stretch) (b : State) (es fs : List Edge) (more : Result Bool Fault) (old new : Option (List ℕ)) (now mid : Stage) (r : Result Printed Fault) (n : ℕ) → s.from ≤ s.to → mid.stretch ≡ s → n ≤ length fs → mid.judged ≡ s.to
     → IsShown b (es ++ take n fs) mid → ((c : State) (gs : List Edge) → IsShown c gs mid → EndsStretch mid.stretch c gs old new r) → Ends s b (es ++ fs) more old new now (answered r)
 ends_then s b es fs more old new now mid r n order same few last shown ends =
     let all = length-append es (take n fs) in
@@ -159,7 +158,7 @@ ends_then s b es fs more old new now mid r n order same few last shown ends =
     (subst (λ l. EndsStretch s b l old new r) (here_is es fs n s.to few sum) (subst (λ (t : Stretch). EndsStretch t b (es ++ take n fs) old new r) same (ends b (es ++ take n fs) shown)))
 
 -- the trace is
-pub ends_at_end : (s : Stretch) (b : State) (es : List Edge) (more : Result Bool Fault) (old new : Option (List ℕ)) (now : Stage) (r : Result Told Fault) → more ≡ Ok false
+pub ends_at_end : (s : Stretch) (b : State) (es : List Edge) (more : Result Bool Fault) (old new : Option (List ℕ)) (now : Stage) (r : Result Printed Fault) → more ≡ Ok false
     → EndsStretch s b es old new r → Ends s b es more old new now (answered r)
 ends_at_end s b es more old new now (Ok (Block status)) is h = (h.0, inr is, h.1, h.2)
 ends_at_end s b es more old new now (Ok (Beyond n)) is h = (is, h.0, h.1, h.2)
@@ -167,7 +166,7 @@ ends_at_end s b es more old new now (Err f) is h = inr (h.0, inr (inl is), h.1)
 
 -- ---- pieces, one behind the other
 
-ends_behind : (s : Stretch) (b : State) (es : List Edge) (more : Result Bool Fault) (old at new : Option (List ℕ)) (now : Stage) (answer : Result (Option Told) Fault) → Keeps old at
+pub ends_behind : (s : Stretch) (b : State) (es : List Edge) (more : Result Bool Fault) (old at new : Option (List ℕ)) (now : Stage) (answer : Result (Option Printed) Fault) → Keeps old at
     → Ends s b es more at new now answer → Ends s b es more old new now answer
 ends_behind s b es more old at new now (Ok None) keeps h = (Keeps-trans old at new keeps h.0, h.1, h.2)
 ends_behind s b es more old at new now (Ok (Some (Block status))) keeps h = (h.0, h.1, appends_behind old at new (stretch_text s b es) keeps h.2, h.3)
@@ -176,20 +175,3 @@ ends_behind s b es more old at new now (Err f) keeps h = elim h [
   | inl stops ↦ inl (stops.0, stops.1, appends_behind old at new (stretch_text s b es) keeps stops.2)
   | inr cut ↦ inr (cut.0, cut.1, front_after old at new (stretch_text s b es) keeps cut.2)
 ]
-
-goes_behind : (more : Result Bool Fault) (m n k : ℕ) (first mid now : Stage) (answer : Result (Option Told) Fault) → k ≡ m + n → mid.judged ≡ first.judged + m → GoesOn more n mid now answer → GoesOn more k first now answer
-goes_behind more m n k first mid now (Ok None) sum before h = (h.0, let is = h.1 in omega (arith, sum, before, is))
-goes_behind more m n k first mid now (Ok (Some told)) sum before h = tt
-goes_behind more m n k first mid now (Err f) sum before h = tt
-
-pub shows_more : (first mid now : Stage) (es fs : List Edge) (more : Result Bool Fault) (old at new : Option (List ℕ)) (answer : Result (Option Told) Fault) → ShowsPiece first es (Ok true) old at mid (Ok None)
-    → GoesOn more (length fs) mid now answer → now.stretch ≡ mid.stretch
-    → ((b : State) (gs : List Edge) → IsShown b gs mid → length gs < mid.stretch.to → Ends mid.stretch b (gs ++ fs) more at new now answer) → ShowsPiece first (es ++ fs) more old new now answer
-shows_more first mid now es fs more old at new answer before goes same ends = (
-  goes_behind more (length es) (length fs) (length (es ++ fs)) first mid now answer (length-append es fs) before.0.1 goes,
-  same ∙ before.1,
-  λ fresh. let h = before.2 fresh in
-      ends_behind first.stretch first.bus (es ++ fs) more old at new now answer h.0
-      (subst (λ (s : Stretch). Ends s first.bus (es ++ fs) more at new now answer) before.1
-      (ends first.bus es h.2 (subst (λ (s : Stretch). length es < s.to) (sym before.1) h.1))),
-)

@@ -2,6 +2,7 @@
 use Rattle.std.proofs.Common.{◌≡◌, ◌∙◌, refl, sym, ap, subst, length, ◌+◌, Ok, ℕ, zero, suc, Bool, true, false, List, [], ◌∷◌}
 use Rattle.std.specs.Prelude.{◌&&◌, Option, Some, None, find, if◌then◌else◌}
 use Rattle.std.specs.Option.{option_map_or}
+use Rattle.vme_model.specs.declared.conditions.Condition.{Condition}
 use Rattle.vme_model.specs.declared.refusals.Refused.TheVariants.{NoSuchDriver}
 use Rattle.vme_model.specs.declared.signals.Edge.{Edge}
 use Rattle.vme_model.specs.declared.signals.Version.{Version}
@@ -9,14 +10,17 @@ use Rattle.vme_model.specs.Plan.{Plan, has_driver}
 use Rattle.vme_model.specs.Signals.{is_well_formed}
 use Rattle.vme_model.specs.Verdict.{State, Judgement, check, verdict}
 use Rattle.vme_model.specs.declared.signals.Cycle.{Cycle}
+use Rattle.vme_model.specs.Failing.{unmet}
 use Rattle.vme_model.specs.History.{shown}
 use Rattle.vme_model.specs.Numbered.{Numbered, edges_in}
 use Rattle.vme_model.proofs.AllowedEdges.{checked}
-use Rattle.vme_model.proofs.Bools.{and_left}
+use Rattle.vme_model.proofs.Bools.{and_left, and_right}
 use Rattle.vme_seeds.specs.Walks.{Walk, next_edge, drawn, with_edge}
 use Rattle.vme_seeds.proofs.Walked.{IsOn, stays_on}
 use Rattle.vme_goals.specs.declared.goals.Goal.{Goal}
-use Rattle.vme_goals.specs.declared.goals.Goal.TheVariants as goal
+use Rattle.vme_goals.specs.declared.goals.Aim.{Aim}
+use Rattle.vme_goals.specs.declared.goals.Aim.TheVariants as aim
+use Rattle.vme_goals.specs.Goals.{counts, is_due}
 use Rattle.vme_goals.specs.declared.misses.Miss.{Miss}
 use Rattle.vme_goals.specs.declared.misses.Miss.TheVariants as miss
 use Rattle.vme_goals.specs.declared.events.Event.{Event}
@@ -26,11 +30,11 @@ use Rattle.vme_events.specs.Places.{by_place}
 use Rattle.vme_events.proofs.Places.{places_below, edges_placed}
 use Rattle.vme_explain.specs.declared.marks.Marks.{Marks}
 use Rattle.vme_explain.specs.Marked.{IsMarksOf}
-use Rattle.vme_events.specs.Misses.{all_moves, fails_rule, fails_settling, refuses}
+use Rattle.vme_events.specs.Misses.{all_moves, fails_rule, fails_settling, is_edge_of, is_lone, is_missed, misses, refuses}
 use Rattle.vme_engines.specs.declared.seeks.Ending.{Ending}
 use Rattle.vme_engines.specs.declared.seeks.Ending.TheVariants.{Over, Came, Missed}
-use Rattle.vme_engines.specs.Seeking.{Ended, missed_by, brings, ends_by, ends_at, drawn_on, turned, sought, walk_to}
-use Rattle.vme_engines.specs.Drawing.{IsRefusedBy, IsWellFormed}
+use Rattle.vme_engines.specs.Seeking.{Ended, is_counted, missed_by, missed_for, brings, ends_by, ends_at, drawn_on, turned, sought, walk_to}
+use Rattle.vme_engines.specs.Drawing.{IsRefusedBy, IsRefusedFor, IsWellFormed}
 
 -- ---- a turn
 
@@ -136,9 +140,22 @@ found_passes : {X : Type 0} (test : X → Bool) (xs : List X) (x : X) → find t
 found_passes test [] x is = absurd (cc)
 found_passes test (y ∷ ys) x is = found_by test y (test y) ys x refl is (found_passes test ys x)
 
+both : (a b : Bool) → a ≡ true → b ≡ true → (a && b) ≡ true
+both a b x y = ap (λ t. t && b) x ∙ y
+
+refused_when : (g : Goal) (m : Miss) (b : State) (e : Edge) (due : Bool) → is_due g (length b.history) ≡ due → (if due then misses b g.driver m else None) ≡ Some e
+    → (is_counted g b e ≡ true) × (refuses b m e ≡ true)
+refused_when g m b e true due is =
+    let passes : (counts g.driver e.driver && refuses b m e) ≡ true = found_passes (is_missed b g.driver m) (all_moves b) e is in
+    (both (counts g.driver e.driver) (is_due g (length b.history)) (and_left (counts g.driver e.driver) (refuses b m e) passes) due, and_right (counts g.driver e.driver) (refuses b m e) passes)
+refused_when g m b e false due is = absurd (cc)
+
+refused_for : (g : Goal) (a : Aim) (b : State) (e : Edge) → missed_for g a b ≡ Some e → (is_counted g b e ≡ true) × IsRefusedFor a b e
+refused_for g (aim.Event v) b e is = absurd (cc)
+refused_for g (aim.Miss m) b e is = refused_when g m b e (is_due g (length b.history)) refl is
+
 is_refused : (g : Goal) (b : State) (e : Edge) → missed_by g b ≡ Some e → IsRefusedBy (Some g) b e
-is_refused (goal.Event v) b e is = absurd (cc)
-is_refused (goal.Miss m) b e is = found_passes (refuses b m) (all_moves b) e is
+is_refused g b e is = refused_for g g.aim b e is
 
 -- ---- an edge that is missed is well formed
 
@@ -150,6 +167,10 @@ formed_settling : (k : ℕ) (a : Bool) (rest : Judgement) → fails_settling k (
 formed_settling k true rest fails = refl
 formed_settling k false rest fails = absurd (cc)
 
+formed_lone : (a : Bool) (rest : Judgement) (cs : List Condition) → is_lone (check a NoSuchDriver rest) cs ≡ true → a ≡ true
+formed_lone true rest cs fails = refl
+formed_lone false rest cs fails = absurd (cc)
+
 module _ (b : State) (e : Edge) where
   abbrev exists : Bool
   exists = is_well_formed e && has_driver b.plan e.driver e.wire
@@ -158,6 +179,7 @@ module _ (b : State) (e : Edge) where
   formed (miss.Rule k c) is = formed_rule k exists _ (and_left (fails_rule k (verdict b e)) _ is)
   formed (miss.Unserved kind) is = formed_rule 22 exists _ (and_left (fails_rule 22 (verdict b e)) _ is)
   formed (miss.Settling k) is = formed_settling k exists _ is
+  formed (miss.AnyOf r) is = formed_lone exists _ (unmet b e) (and_right (is_edge_of r e) _ is)
 
   pub is_formed : (m : Miss) → refuses b m e ≡ true → is_well_formed e ≡ true
   is_formed m is = and_left (is_well_formed e) (has_driver b.plan e.driver e.wire) (formed m is)
@@ -167,10 +189,13 @@ pub refused_end : (g : Option Goal) (n : ℕ) (w : Walk) (e : Edge) → (walk_to
 refused_end None n w e is = absurd (cc)
 refused_end (Some g) n w e is = is_refused g (sought g n w).walk.state e (sought_missed g n w e is)
 
+formed_for : (a : Aim) (b : State) (e : Edge) → IsRefusedFor a b e → is_well_formed e ≡ true
+formed_for (aim.Event v) b e is = absurd is
+formed_for (aim.Miss m) b e is = is_formed b e m is
+
 formed_by : (g : Option Goal) (b : State) (e : Edge) → IsRefusedBy g b e → is_well_formed e ≡ true
 formed_by None b e is = absurd is
-formed_by (Some (goal.Event v)) b e is = absurd is
-formed_by (Some (goal.Miss m)) b e is = is_formed b e m is
+formed_by (Some g) b e is = formed_for g.aim b e is.1
 
 formed_ending : (g : Option Goal) (n : ℕ) (w : Walk) (x : Ending) → (walk_to g n w).ending ≡ x → IsWellFormed x
 formed_ending g n w Over is = tt
@@ -182,9 +207,9 @@ formed_end g n w = formed_ending g n w (walk_to g n w).ending refl
 
 -- ---- the marks of a walk, by the places of its edges
 
-pub told_comes : (b s : State) (m : Marks) (e : Edge) (v : Event) (r : Bool) → b ≡ s → IsMarksOf s.plan (by_place s.history) m → OfOrdered b m (λ _. r ≡ comes b.plan b.history e v) → r ≡ comes s.plan s.history e v
-told_comes b s m e v r same marked told =
-    told (by_place s.history) (length s.history + 1) (edges_placed s.history ∙ sym (ap (λ (x : State). x.history) same))
+pub printed_comes : (b s : State) (m : Marks) (e : Edge) (v : Event) (r : Bool) → b ≡ s → IsMarksOf s.plan (by_place s.history) m → OfOrdered b m (λ _. r ≡ comes b.plan b.history e v) → r ≡ comes s.plan s.history e v
+printed_comes b s m e v r same marked printed =
+    printed (by_place s.history) (length s.history + 1) (edges_placed s.history ∙ sym (ap (λ (x : State). x.history) same))
     (subst (λ (p : Plan). IsMarksOf p (by_place s.history) m) (sym (ap (λ (x : State). x.plan) same)) marked) (places_below s.history)
     ∙ ap (λ (x : State). comes x.plan x.history e v) same
 

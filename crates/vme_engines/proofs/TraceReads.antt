@@ -17,42 +17,31 @@ use Rattle.vme_engines.proofs.CanGoOn.{can_go_on}
 
 -- ---- reading
 
--- A trace that is being read: it stands in the input behind a text, begins with a head, and these are its edges so far.
-pub record IsReading (text head : List ℕ) (from at : Option (List ℕ)) (reader : trace.ReaderState) (left : ℕ) (es : List Edge) : Type 0 where
+-- A trace that is being read: it begins with a head, and these are its edges so far.
+pub record IsReading (head : List ℕ) (from at : Option (List ℕ)) (reader : trace.ReaderState) (left : ℕ) (es : List Edge) : Type 0 where
   pub later : List ℕ
-  pub taken : Consumes from at (text ++ (head ++ later))
+  pub taken : Consumes from at (head ++ later)
   pub bounded : IsBounded (head ++ later) left
   pub read : trace.HasRead reader (head ++ later) es
 
-pub reading_of : (text head : List ℕ) (from to : Option (List ℕ)) (reader : trace.ReaderState) (left : ℕ) (es : List Edge)
-    → Comes from to text head left reader es (Ok true) → IsReading text head from to reader left es
-reading_of text head from to reader left es h = record { later = h.0; taken = h.1; bounded = h.2; read = h.3 }
-
--- the edges of a trace that is being read are few
-pub few : (text head : List ℕ) (from at : Option (List ℕ)) (reader : trace.ReaderState) (left : ℕ) (es : List Edge)
-    → IsReading text head from at reader left es → length es ≤ 2 ^ 41
-few text head from at reader left es r =
-    let bound : length (read_of (head ++ r.later)).edges ≤ length (head ++ r.later) = few_edges (head ++ r.later) in
-    let all : length (read_of (head ++ r.later)).edges ≡ length es = ap length r.read.edges in
-    let bounded : length (head ++ r.later) + 69632 * left ≤ 2 ^ 41 = r.bounded in
-    omega arith
+pub reading_of : (head : List ℕ) (from to : Option (List ℕ)) (reader : trace.ReaderState) (left : ℕ) (es : List Edge)
+    → Comes from to head left reader es (Ok true) → IsReading head from to reader left es
+reading_of head from to reader left es h = record { later = h.0; taken = h.1; bounded = h.2; read = h.3 }
 
 pub begins_more : (v : Version) (r : trace.ReaderState) (bytes : List ℕ) (es : List Edge) → trace.HasRead r bytes es → r.version ≡ Some v → (more : List ℕ) → Begins (read_of (bytes ++ more)) v es
 begins_more v r bytes es h known more =
     let on = reads_on v r bytes es h known more in record { version = on.2; others = on.0; edges = on.1 }
 
 -- what one more read brings
-module _ (text head : List ℕ) (from at to : Option (List ℕ)) (reader next : trace.ReaderState) (left : ℕ) (es new : List Edge)
-    (r : IsReading text head from at reader (left + 1) es) where
-  joined : (piece : List ℕ) → Consumes at to piece → Consumes from to (text ++ (head ++ (r.later ++ piece)))
-  joined piece h =
-      let both : Consumes from to ((text ++ (head ++ r.later)) ++ piece) = Consumes-trans from at to (text ++ (head ++ r.later)) piece r.taken h in
-      subst (Consumes from to) (append_assoc text (head ++ r.later) piece ∙ ap (λ l. text ++ l) (append_assoc head r.later piece)) both
+module _ (head : List ℕ) (from at to : Option (List ℕ)) (reader next : trace.ReaderState) (left : ℕ) (es new : List Edge)
+    (r : IsReading head from at reader (left + 1) es) where
+  joined : (piece : List ℕ) → Consumes at to piece → Consumes from to (head ++ (r.later ++ piece))
+  joined piece h = subst (Consumes from to) (append_assoc head r.later piece) (Consumes-trans from at to (head ++ r.later) piece r.taken h)
 
   behind : (piece : List ℕ) → (head ++ r.later) ++ piece ≡ head ++ (r.later ++ piece)
   behind piece = append_assoc head r.later piece
 
-  came_true : PumpedUpTo 69632 at to (head ++ r.later) es [] new next (Ok true) → Comes from to text head left next (es ++ new) (Ok true)
+  came_true : PumpedUpTo 69632 at to (head ++ r.later) es [] new next (Ok true) → Comes from to head left next (es ++ new) (Ok true)
   came_true h =
       let same : new ≡ h.4.0 = h.4.1 in
       let read : trace.HasRead next ((head ++ r.later) ++ h.0) (es ++ new) = rw same h.4.2 in
@@ -61,16 +50,16 @@ module _ (text head : List ℕ) (from at to : Option (List ℕ)) (reader next : 
       let short : length h.0 ≤ 69632 = h.2 in
       (r.later ++ h.0, joined h.0 h.3, omega arith, subst (λ (l : List ℕ). trace.HasRead next l (es ++ new)) (behind h.0) read)
 
-  came_false : PumpedUpTo 69632 at to (head ++ r.later) es [] new next (Ok false) → Comes from to text head left next (es ++ new) (Ok false)
+  came_false : PumpedUpTo 69632 at to (head ++ r.later) es [] new next (Ok false) → Comes from to head left next (es ++ new) (Ok false)
   came_false h =
-      (r.later, Consumes-kept from at to (text ++ (head ++ r.later)) r.taken h.1, h.0, h.4, r.read.edges ∙ sym (append-nil es) ∙ ap (λ l. es ++ l) (sym h.2), h.5)
+      (r.later, Consumes-kept from at to (head ++ r.later) r.taken h.1, h.0, h.4, r.read.edges ∙ sym (append-nil es) ∙ ap (λ l. es ++ l) (sym h.2), h.5)
 
-  came_read : (f : Fault) → trace.FailsToRead at to (head ++ r.later) [] new next f → Comes from to text head left next (es ++ new) (Err f)
+  came_read : (f : Fault) → trace.FailsToRead at to (head ++ r.later) [] new next f → Comes from to head left next (es ++ new) (Err f)
   came_read f h =
       let same : es ++ new ≡ es = ap (λ l. es ++ l) h.2 ∙ append-nil es in
       let stays : next.version ≡ reader.version = h.4 ∙ r.read.version in (
         r.later,
-        Consumes-kept from at to (text ++ (head ++ r.later)) r.taken h.1,
+        Consumes-kept from at to (head ++ r.later) r.taken h.1,
         inl (
           h.0,
           record {
@@ -82,7 +71,7 @@ module _ (text head : List ℕ) (from at to : Option (List ℕ)) (reader next : 
         ),
       )
 
-  came_fault : (f : Fault) → StopsUpTo 69632 at to (head ++ r.later) es [] new next f → Comes from to text head left next (es ++ new) (Err f)
+  came_fault : (f : Fault) → StopsUpTo 69632 at to (head ++ r.later) es [] new next f → Comes from to head left next (es ++ new) (Err f)
   came_fault f h =
       let same : new ≡ h.1 = h.4 in
       let stops : trace.HasFaultAfter (read_of (((head ++ r.later) ++ h.0) ++ unwrap_or to [])) next.version (es ++ new) f = rw same h.5.1 in (
@@ -91,7 +80,7 @@ module _ (text head : List ℕ) (from at to : Option (List ℕ)) (reader next : 
         inr (subst (λ (l : List ℕ). trace.HasFaultAfter (read_of (l ++ unwrap_or to [])) next.version (es ++ new) f) (behind h.0) stops),
       )
 
-  pub came : (answer : Result Bool Fault) → PumpedUpTo 69632 at to (head ++ r.later) es [] new next answer → Comes from to text head left next (es ++ new) answer
+  pub came : (answer : Result Bool Fault) → PumpedUpTo 69632 at to (head ++ r.later) es [] new next answer → Comes from to head left next (es ++ new) answer
   came (Ok true) h = came_true h
   came (Ok false) h = came_false h
   came (Err f) h = elim h [ inl failed ↦ came_read f failed | inr stopped ↦ came_fault f stopped ]
@@ -126,20 +115,20 @@ counted_more at to reader next left judged new r h =
     record { bytes = r.bytes ++ h.0; es = r.es ++ new; read = rw same h.4.2; bounded = omega (arith, longer); count = omega (arith, more) }
 
 -- a read before the header line
-pub opens_more : (from at to : Option (List ℕ)) (reader next : trace.ReaderState) (left : ℕ) (new : List Edge) (r : IsReading [] [] from at reader (left + 1) [])
-    → PumpedUpTo 69632 at to r.later [] [] new next (Ok true) → next.version ≡ None → IsReading [] [] from to next left [] × (new ≡ [])
+pub opens_more : (from at to : Option (List ℕ)) (reader next : trace.ReaderState) (left : ℕ) (new : List Edge) (r : IsReading [] from at reader (left + 1) [])
+    → PumpedUpTo 69632 at to r.later [] [] new next (Ok true) → next.version ≡ None → IsReading [] from to next left [] × (new ≡ [])
 opens_more from at to reader next left new r h unknown =
-    let all : IsReading [] [] from to next left new = reading_of [] [] from to next left new (came [] [] from at to reader next left [] new r (Ok true) h) in
+    let all : IsReading [] from to next left new = reading_of [] from to next left new (came [] from at to reader next left [] new r (Ok true) h) in
     let none : new ≡ [] = sym all.read.edges ∙ (unknown_version all.later (all.read.version ∙ unknown)).0 in
-    (subst (IsReading [] [] from to next left) none all, none)
+    (subst (IsReading [] from to next left) none all, none)
 
 -- ---- the input
 
 -- what was taken and what is left is all
-pub whole_input : (from to : Option (List ℕ)) (text bytes : List ℕ) → Consumes from to (text ++ bytes) → IsInput from (text ++ (bytes ++ unwrap_or to []))
-whole_input None to text bytes h = tt
-whole_input (Some xs) None text bytes h = absurd h
-whole_input (Some xs) (Some ys) text bytes h = h ∙ append_assoc text bytes ys
+pub whole_input : (from to : Option (List ℕ)) (bytes : List ℕ) → Consumes from to bytes → IsInput from (bytes ++ unwrap_or to [])
+whole_input None to bytes h = tt
+whole_input (Some xs) None bytes h = absurd h
+whole_input (Some xs) (Some ys) bytes h = h
 
 pub read_out : (from to : Option (List ℕ)) (all : List ℕ) → Consumes from to all → IsAtEnd to → IsInput from all
 read_out None to all h end = tt

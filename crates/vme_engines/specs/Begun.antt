@@ -1,14 +1,13 @@
--- A trace that stands alone, up to its header line, and what an engine answers by all of it.
-use Rattle.std.specs.Prelude.{◌≡◌, [], ℕ, List, length, true, Option, Some, None, Result, Ok}
+-- A trace that stands alone, up to its header line.
+use Rattle.std.specs.Prelude.{◌≡◌, [], ℕ, List, length, true, Option, Some, None, Ok}
 use Rattle.vme_model.specs.declared.signals.Version.{Version}
 use Rattle.vme_model.specs.declared.signals.Edge.{Edge}
 use Rattle.vme_model.specs.Locality.{AreWellFormed}
 use Rattle.vme_trace.specs.declared.Fault.{Fault}
 use Rattle.vme_trace.specs.Reading.{HasRead}
 use Rattle.vme_engines.specs.declared.traces.Input.{Input}
-use Rattle.vme_engines.specs.Streams.{Streams, streams, IsInput}
+use Rattle.vme_engines.specs.Streams.{streams, IsInput}
 use Rattle.vme_engines.specs.Steps.{IsCounted, Comes}
-use Rattle.vme_engines.specs.Pieces.{Taking, Answers}
 use Rattle.vme_engines.specs.Waiting.{StopsWaiting}
 
 -- nothing was read
@@ -25,7 +24,7 @@ pub record IsReady (input : Input) : Type 0 where
 -- The trace was read up to there, and its header line names this version.
 pub record HasBegun (from at : Option (List ℕ)) (version : Version) (input : Input) : Type 0 where
   pub known : input.reader.version ≡ Some version
-  pub came : Comes from at [] [] input.reads input.reader input.edges.items input.first
+  pub came : Comes from at [] input.reads input.reader input.edges.items input.first
 
 -- no header line was read, and so no edge
 abbrev pub IsUnread : Option Version → List Edge → Type 0
@@ -36,8 +35,3 @@ abbrev pub IsUnbegun : Option (List ℕ) → Option (List ℕ) → Fault → Typ
 IsUnbegun from to f =
     (trace : List ℕ) × IsInput from trace
     × StopsWaiting IsUnread trace (streams from to None None) f
-
--- an engine answers this, by the whole of a trace that is all of the input
-abbrev pub AnswersInput : {S A : Type 0} → Taking S A → Version → Streams → Result A Fault → Type 0
-AnswersInput takes version s answer =
-    (trace : List ℕ) × IsInput s.from trace × Answers takes version [] trace s answer

@@ -1,5 +1,5 @@
 -- What a check of a trace finds, writes and answers.
-use Rattle.std.specs.Prelude.{◌≡◌, ◌≤◌, ◌⊎◌, ◌+◌, ◌++◌, ◌∷◌, [], ℕ, List, length, reverse, codes, decimal, Option, Some, None, Ok, Err}
+use Rattle.std.specs.Prelude.{◌≡◌, ◌≤◌, ◌⊎◌, ◌+◌, ◌++◌, ◌∷◌, [], ℕ, List, length, reverse, codes, decimal, Option, Some, None, Result, Ok, Err}
 use Rattle.vme_model.specs.declared.refusals.Refused.{Refused}
 use Rattle.vme_model.specs.declared.signals.Version.{Version}
 use Rattle.vme_model.specs.declared.signals.Edge.{Edge}
@@ -79,6 +79,11 @@ FindsNothing p trace s Memory =
     × (refusal_of p (read_of trace).version es ≡ None)
 FindsNothing p trace s Failed = ⊥
 FindsNothing p trace s Write = ⊥
+
+-- What is found in a trace on a plan, or why nothing is.
+abbrev pub Finds : Plan → List ℕ → Streams → Result Finding Fault → Type 0
+Finds p trace s (Ok found) = IsFound p (read_of trace) s found
+Finds p trace s (Err f) = FindsNothing p trace s f
 
 -- What a check of a trace on a plan leaves: the line of what it found, at X8 a prefix of it; where
 -- it finds nothing, nothing.

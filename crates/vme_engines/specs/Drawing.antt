@@ -13,8 +13,9 @@ use Rattle.vme_scenario.specs.Format.{scenario}
 use Rattle.vme_trace.specs.declared.Fault.TheVariants.{Write}
 use Rattle.vme_trace.specs.Writing.{AppendsFront}
 use Rattle.vme_seeds.specs.Walks.{at_start}
+use Rattle.vme_goals.specs.declared.goals.Aim.{Aim}
+use Rattle.vme_goals.specs.declared.goals.Aim.TheVariants as aim
 use Rattle.vme_goals.specs.declared.goals.Goal.{Goal}
-use Rattle.vme_goals.specs.declared.goals.Goal.TheVariants as goal
 use Rattle.vme_events.specs.Misses.{refuses}
 use Rattle.vme_engines.specs.declared.Status.{Status}
 use Rattle.vme_engines.specs.declared.Status.TheVariants.{Done, Limit}
@@ -23,7 +24,7 @@ use Rattle.vme_engines.specs.declared.seeks.Ending.{Ending}
 use Rattle.vme_engines.specs.declared.seeks.Ending.TheVariants.{Over, Missed}
 use Rattle.vme_engines.specs.Outcomes.{Answer, bench}
 use Rattle.vme_engines.specs.Checking.{IsLegalTrace}
-use Rattle.vme_engines.specs.Seeking.{Ended, walk_to}
+use Rattle.vme_engines.specs.Seeking.{Ended, is_counted, walk_to}
 
 -- the walk of a seed on a plan: n edges at most, or up to the goal
 abbrev pub walk : Plan → Version → ℕ → ℕ → Option Goal → Ended
@@ -46,10 +47,15 @@ ended_text version x = text version (in_order x.walk.state.history ++ missed_of 
 abbrev pub walk_text : Plan → Version → ℕ → ℕ → Option Goal → List ℕ
 walk_text p version seed n g = ended_text version (walk p version seed n g)
 
--- the condition that is the goal alone refuses the edge
+-- the condition that is the aim alone refuses the edge
+abbrev pub IsRefusedFor : Aim → State → Edge → Type 0
+IsRefusedFor (aim.Event v) b e = ⊥
+IsRefusedFor (aim.Miss m) b e = refuses b m e ≡ true
+
+-- the edge counts, and the condition that is the goal alone refuses it
 abbrev pub IsRefusedBy : Option Goal → State → Edge → Type 0
-IsRefusedBy (Some (goal.Miss m)) b e = refuses b m e ≡ true
-IsRefusedBy _ b e = ⊥
+IsRefusedBy None b e = ⊥
+IsRefusedBy (Some g) b e = (is_counted g b e ≡ true) × IsRefusedFor g.aim b e
 
 -- What is written without an edge that was missed, `check` calls legal; an edge that was missed is
 -- refused by the goal alone.

@@ -32,7 +32,7 @@ IsUnasked None p version es = refusal_of p version es ≡ None
 abbrev pub edge_status : State → Edge → Status
 edge_status b e = if is_ok (verdict b e) then Done else SomeRefused
 
--- The edge that is asked for is told by its block, judged on what was kept of the edges before it.
+-- The edge that is asked for is named by its block, judged on what was kept of the edges before it.
 pub record IsExplained
     (edge : Option ℕ) (p : Plan) (r : Reading) (status : Status) (text : List ℕ)
     : Type 0 where
@@ -58,19 +58,19 @@ pub record IsAllLegal
   pub ends : status ≡ Done
   pub line : text ≡ finding_line (Legal (length r.edges))
 
-abbrev pub IsTold : Option ℕ → Plan → Reading → Streams → Status → List ℕ → Type 0
-IsTold edge p r s status text = IsExplained edge p r status text ⊎ IsAllLegal edge p r s status text
+abbrev pub IsPrinted : Option ℕ → Plan → Reading → Streams → Status → List ℕ → Type 0
+IsPrinted edge p r s status text = IsExplained edge p r status text ⊎ IsAllLegal edge p r s status text
 
 -- What an explanation of an edge of a trace on a plan leaves: the block of the edge, or that all
 -- are legal, at X8 a prefix of it; where there is neither, nothing. X9: of a whole trace with so
 -- many edges.
 abbrev pub Explains : Option ℕ → Plan → List ℕ → Streams → Answer → Type 0
 Explains edge p trace s (Ok status) =
-    (text : List ℕ) × IsTold edge p (read_of trace) s status text × Wrote s text
+    (text : List ℕ) × IsPrinted edge p (read_of trace) s status text × Wrote s text
 Explains edge p trace s (Err (fault.Trace f)) =
     (StopsWaiting (IsUnasked edge p) trace s f × WroteNothing s)
     ⊎ ((f ≡ Write) × (status : Status) × (text : List ℕ)
-    × IsTold edge p (read_of trace) s status text × WroteFront s text)
+    × IsPrinted edge p (read_of trace) s status text × WroteFront s text)
 Explains edge p trace s (Err (fault.Beyond edges)) =
     (asked : ℕ) × (edge ≡ Some asked) × (0 < asked → edges < asked)
     × ((read_of trace).fault ≡ None) × (edges ≡ length (read_of trace).edges)

@@ -5,7 +5,6 @@ use Rattle.vme_model.specs.declared.signals.Version.{Version}
 use Rattle.vme_model.specs.Plan.{Plan}
 use Rattle.vme_goals.specs.declared.goals.Goal.{Goal}
 use Rattle.vme_engines.specs.declared.EngineFault.{EngineFault}
-use Rattle.vme_engines.specs.declared.EngineFault.TheVariants as fault
 use Rattle.vme_engines.specs.declared.Status.TheVariants.{Done, Limit}
 use Rattle.vme_engines.specs.declared.seeks.Ending.TheVariants.{Over}
 use Rattle.vme_engines.specs.Outcomes.{Answer}

@@ -14,6 +14,7 @@ use Rattle.vme_engines.specs.declared.Status.{Status}
 use Rattle.vme_engines.specs.declared.joins.Found.{Found}
 use Rattle.vme_engines.specs.declared.joins.Front.{Front}
 use Rattle.vme_engines.specs.Streams.{streams, IsInput, WroteNothing}
+use Rattle.vme_engines.specs.declared.LineForm.TheVariants.{Short}
 use Rattle.vme_engines.specs.Outcomes.{Answer, scenario_limit, LentAsking, Replays}
 use Rattle.vme_engines.specs.Joining.{cut}
 use Rattle.vme_engines.specs.Steps.{traced}
@@ -89,7 +90,7 @@ ReplaysBehind p version rest at to old new answer =
     (from : Option (List ℕ)) (before : List ℕ)
     → Consumes from at (before ++ (header_line version ++ rest))
     → (others : List ℕ) × IsInput from (before ++ (header_line version ++ others))
-    × Replays p before (header_line version ++ others) (streams from to old new) (traced answer)
+    × Replays Short p before (header_line version ++ others) (streams from to old new) (traced answer)
 
 -- What stands after the text of a scenario was replayed: its header line, what was read after it,
 -- and the rest.
@@ -103,4 +104,4 @@ JoinsBehind f version rest at to old new answer =
     → Consumes from at (before ++ (header_line version ++ rest))
     → (others : List ℕ) × IsInput from (before ++ (header_line version ++ others))
     × LentAsking before (WroteNothing (streams from to old new))
-    (λ p r. Replays p before (header_line version ++ others) (streams from to old new) r) answer
+    (λ p r. Replays Short p before (header_line version ++ others) (streams from to old new) r) answer

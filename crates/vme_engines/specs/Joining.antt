@@ -3,6 +3,7 @@ use Rattle.std.specs.Prelude.{◌≡◌, ◌==◌, ◌&&◌, ◌||◌, ◌⊎◌
 use Rattle.std.specs.Str.{bytes_eq}
 use Rattle.vme_trace.specs.declared.Fault.TheVariants.{Header, Read}
 use Rattle.vme_engines.specs.declared.EngineFault.TheVariants as fault
+use Rattle.vme_engines.specs.declared.LineForm.TheVariants.{Short}
 use Rattle.vme_engines.specs.Streams.{Streams, IsInput, HasConsumed, IsReadOut, WroteNothing}
 use Rattle.vme_engines.specs.Outcomes.{Answer, LentAsking, Replays}
 
@@ -28,11 +29,11 @@ FindsNoTrace s bytes (Err fault.CannotRead) = cut true bytes ≡ None
 FindsNoTrace s bytes (Err fault.NoMemory) = Unit {0}
 FindsNoTrace s bytes _ = ⊥
 
--- What `joined` leaves: a replay of the trace on the scenario before it, or nothing where there is
--- no trace.
+-- What `joined` leaves: a replay of the trace, in short lines, on the scenario before it, or nothing
+-- where there is no trace.
 abbrev pub Joins : Streams → Answer → Type 0
 Joins s answer =
     ((text : List ℕ) × (trace : List ℕ) × IsInput s.from (text ++ trace)
     × (cut true (text ++ trace) ≡ Some (text, trace))
-    × LentAsking text (WroteNothing s) (λ p r. Replays p text trace s r) answer)
+    × LentAsking text (WroteNothing s) (λ p r. Replays Short p text trace s r) answer)
     ⊎ ((bytes : List ℕ) × HasConsumed s bytes × WroteNothing s × FindsNoTrace s bytes answer)

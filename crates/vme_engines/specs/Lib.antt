@@ -13,13 +13,13 @@ pub mod Checking
 pub mod Waiting
 -- believe, for `explain` alone: which edge is explained, and what that leaves
 pub mod Explaining
--- believe, for `state` alone: which place is told, and what that leaves
+-- believe, for `state` alone: which place is printed, and what that leaves
 pub mod Stating
 -- believe, for `show` alone: which edges are shown, and what that leaves
 pub mod Showing
 -- believe, for `summary` alone: what that leaves
 pub mod Summing
--- believe, for `add_trace` and `tell_sums`: what several traces come to together
+-- believe, for `add_trace` and `print_sums`: what several traces come to together
 pub mod Totals
 -- believe, for `drive` alone: what the drivers make, and what is written of it
 pub mod Driving
@@ -34,8 +34,10 @@ pub mod Found
 -- words, but for `IsNoPlan`, which `plan_of` answers by: what the reads and the pieces of a trace
 -- do to an engine
 pub mod Steps
--- words: what the one loop over a trace leaves
+-- words: what is known of a trace at a read
 pub mod Pieces
+-- words: what the one reading of a trace leaves
+pub mod Readings
 -- words: a trace that stands alone, up to its header line
 pub mod Begun
 -- words: what the edges of a trace do to `explain` and `state`
@@ -46,8 +48,6 @@ pub mod Stretches
 pub mod Shown
 -- words: what the edges of a trace do to `summary`
 pub mod Summed
--- words: what the edges of one trace of several do to `add_trace`
-pub mod Added
 -- words: the input before its trace, byte by byte
 pub mod Front
 -- words: a number as it stands in a verdict line

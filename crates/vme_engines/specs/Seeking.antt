@@ -1,11 +1,14 @@
 -- A walk that seeks a goal, and how it ends. (Profile.)
-use Rattle.std.specs.Prelude.{ℕ, zero, suc, Bool, true, false, Option, Some, None, if◌then◌else◌}
+use Rattle.std.specs.Prelude.{◌&&◌, ℕ, zero, suc, Bool, true, false, Option, Some, None, if◌then◌else◌, length}
 use Rattle.std.specs.Option.{option_map_or}
 use Rattle.vme_model.specs.declared.signals.Edge.{Edge}
 use Rattle.vme_model.specs.Verdict.{State}
 use Rattle.vme_seeds.specs.Walks.{Walk, next_edge, drawn, with_edge, walked}
+use Rattle.vme_goals.specs.declared.goals.Aim.{Aim}
+use Rattle.vme_goals.specs.declared.goals.Aim.TheVariants as aim
 use Rattle.vme_goals.specs.declared.goals.Goal.{Goal}
-use Rattle.vme_goals.specs.declared.goals.Goal.TheVariants as goal
+use Rattle.vme_goals.specs.declared.misses.Miss.{Miss}
+use Rattle.vme_goals.specs.Goals.{counts, is_due}
 use Rattle.vme_events.specs.Events.{comes}
 use Rattle.vme_events.specs.Misses.{misses}
 use Rattle.vme_engines.specs.declared.seeks.Ending.{Ending}
@@ -21,15 +24,30 @@ abbrev pub is_over : Ending → Bool
 is_over Over = true
 is_over _ = false
 
--- the first edge that the goal's condition alone refuses, where the goal is one
+-- the first edge that this alone refuses, of the driver that counts, once enough edges are made
+abbrev pub missed_once_due : Goal → Miss → State → Option Edge
+missed_once_due g m b = if is_due g (length b.history) then misses b g.driver m else None
+
+-- the same by the goal's aim: none if that is an event
+abbrev pub missed_for : Goal → Aim → State → Option Edge
+missed_for g (aim.Event v) b = None
+missed_for g (aim.Miss m) b = missed_once_due g m b
+
 abbrev pub missed_by : Goal → State → Option Edge
-missed_by (goal.Event v) b = None
-missed_by (goal.Miss m) b = misses b m
+missed_by g b = missed_for g g.aim b
+
+-- the edge, which is about to be made, brings the aim about
+abbrev pub fulfils : Aim → State → Edge → Bool
+fulfils (aim.Event v) b e = comes b.plan b.history e v
+fulfils (aim.Miss m) b e = false
+
+-- the edge counts: it is one of the driver that does, and enough edges are before it
+abbrev pub is_counted : Goal → State → Edge → Bool
+is_counted g b e = counts g.driver e.driver && is_due g (length b.history)
 
 -- the edge, which is about to be made, brings the goal about
 abbrev pub brings : Goal → State → Edge → Bool
-brings (goal.Event v) b e = comes b.plan b.history e v
-brings (goal.Miss m) b e = false
+brings g b e = is_counted g b e && fulfils g.aim b e
 
 -- how the edge that is drawn ends the walk, if it does
 abbrev pub ends_by : Goal → State → Option Edge → Option Ending

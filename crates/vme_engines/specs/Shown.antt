@@ -1,5 +1,5 @@
 -- What the edges of a trace do to `show`.
-use Rattle.std.specs.Prelude.{◌≡◌, ◌⊎◌, ◌+◌, ◌-◌, ◌<◌, ◌≤◌, ℕ, Bool, true, false, List, [], length, take, drop, Option, Some, None, Result, Ok, Err}
+use Rattle.std.specs.Prelude.{◌≡◌, ◌⊎◌, ◌+◌, ◌-◌, ◌<◌, ◌≤◌, ℕ, Bool, false, List, [], length, take, drop, Option, Some, None, Result, Ok, Err}
 use Rattle.std.specs.Io.KnownBytes.{Appends, Keeps}
 use Rattle.vme_model.specs.declared.signals.Edge.{Edge}
 use Rattle.vme_model.specs.Verdict.{State, kept}
@@ -8,8 +8,8 @@ use Rattle.vme_trace.specs.declared.Fault.{Fault}
 use Rattle.vme_trace.specs.declared.Fault.TheVariants.{Write}
 use Rattle.vme_trace.specs.Writing.{AppendsFront}
 use Rattle.vme_engines.specs.declared.Status.{Status}
-use Rattle.vme_engines.specs.declared.following.Told.{Told}
-use Rattle.vme_engines.specs.declared.following.Told.TheVariants.{Block, Beyond}
+use Rattle.vme_engines.specs.declared.following.Printed.{Printed}
+use Rattle.vme_engines.specs.declared.following.Printed.TheVariants.{Block, Beyond}
 use Rattle.vme_engines.specs.declared.shows.Stretch.{Stretch}
 use Rattle.vme_engines.specs.Stretches.{Stage, IsStretch}
 use Rattle.vme_engines.specs.Outcomes.{status_with}
@@ -49,7 +49,7 @@ status_to to b es = status_with (length (take to es) - length (kept b (take to e
 
 -- at the end of the stretch, or of the trace
 abbrev pub EndsStretch :
-    Stretch → State → List Edge → Option (List ℕ) → Option (List ℕ) → Result Told Fault → Type 0
+    Stretch → State → List Edge → Option (List ℕ) → Option (List ℕ) → Result Printed Fault → Type 0
 EndsStretch s b es old new (Ok (Block status)) =
     (s.from ≤ length es) × Appends old new (stretch_text s b es) × (status ≡ status_to s.to b es)
 EndsStretch s b es old new (Ok (Beyond n)) = (n ≡ length es) × (n < s.from) × Keeps old new
@@ -63,7 +63,7 @@ IsEnd to es more =
 -- What edges came to: `more` is what the read of the last of them answered.
 abbrev pub Ends :
     Stretch → State → List Edge → Result Bool Fault → Option (List ℕ) → Option (List ℕ)
-    → Stage → Result (Option Told) Fault → Type 0
+    → Stage → Result (Option Printed) Fault → Type 0
 Ends s b es more old new now (Ok None) = Keeps old new × (length es < s.to) × IsShown b es now
 Ends s b es more old new now (Ok (Some (Block status))) =
     (s.from ≤ length es) × ((s.to ≤ length es) ⊎ (more ≡ Ok false))
@@ -73,18 +73,3 @@ Ends s b es more old new now (Ok (Some (Beyond n))) =
 Ends s b es more old new now (Err f) =
     ((more ≡ Err f) × (length es < s.to) × Appends old new (stretch_text s b es))
     ⊎ ((f ≡ Write) × IsEnd s.to es more × AppendsFront old new (stretch_text s b es))
-
--- the trace goes on, and all of so many edges were judged
-abbrev pub GoesOn :
-    Result Bool Fault → ℕ → Stage → Stage → Result (Option Told) Fault → Type 0
-GoesOn more n first now (Ok None) = (more ≡ Ok true) × (now.judged ≡ first.judged + n)
-GoesOn more n first now answer = Unit {0}
-
--- the same of an engine since it began
-abbrev pub ShowsPiece :
-    Stage → List Edge → Result Bool Fault → Option (List ℕ) → Option (List ℕ)
-    → Stage → Result (Option Told) Fault → Type 0
-ShowsPiece first es more old new now answer =
-    GoesOn more (length es) first now answer
-    × (now.stretch ≡ first.stretch)
-    × (IsFresh first → Ends first.stretch first.bus es more old new now answer)

@@ -29,7 +29,7 @@ IsAhead after version es = Unit {0}
 abbrev pub stands_behind : State → List Edge → ℕ → List ℕ
 stands_behind b es n = stands_text n (kept b (take n es)) (numbered b (take n es))
 
--- The place that is asked for is told by its block.
+-- The place that is asked for is named by its block.
 pub record IsStated
     (after : Option ℕ) (p : Plan) (r : Reading) (s : Streams) (text : List ℕ)
     : Type 0 where

@@ -4,24 +4,21 @@ use Rattle.std.specs.Io.KnownBytes.{Appends, Consumes, IsAtEnd}
 use Rattle.vme_model.specs.declared.signals.Version.{Version}
 use Rattle.vme_model.specs.declared.signals.Edge.{Edge}
 use Rattle.vme_model.specs.Plan.{Plan}
-use Rattle.vme_model.specs.Verdict.{State, kept, IsLegal}
-use Rattle.vme_model.specs.Safe.{IsSafe}
+use Rattle.vme_model.specs.Verdict.{State, kept}
 use Rattle.vme_model.specs.Text.{Reading, read_of}
-use Rattle.vme_model.specs.Report.{verdict_lines, closing_text}
+use Rattle.vme_model.specs.Report.{closing_text}
 use Rattle.vme_scenario.specs.Format.{scenario}
 use Rattle.vme_scenario.specs.Errors.{IsErrorOf}
 use Rattle.vme_trace.specs.declared.Fault.{Fault}
 use Rattle.vme_trace.specs.declared.Fault.TheVariants.{Read, Write}
 use Rattle.vme_trace.specs.Reading as trace
 use Rattle.vme_trace.specs.Writing.{AppendsFront}
+use Rattle.vme_engines.specs.declared.LineForm.{LineForm}
 use Rattle.vme_engines.specs.declared.Status.{Status}
 use Rattle.vme_engines.specs.declared.EngineFault.{EngineFault}
 use Rattle.vme_engines.specs.declared.EngineFault.TheVariants as fault
-use Rattle.vme_engines.specs.Streams.{streams, IsInput}
-use Rattle.vme_engines.specs.declared.checks.Finding.{Finding}
-use Rattle.vme_engines.specs.declared.checks.Finding.TheVariants.{Legal, Illegal}
-use Rattle.vme_engines.specs.Outcomes.{Answer, scenario_limit, status_with, CanGoOn}
-use Rattle.vme_engines.specs.Checking.{first_refusal, IsFound, FindsNothing}
+use Rattle.vme_engines.specs.Outcomes.{Answer, bench, form_lines, scenario_limit, status_with, CanGoOn}
+use Rattle.vme_engines.specs.Checking.{first_refusal}
 
 -- why there is no plan
 abbrev pub IsNoPlan : List ℕ → EngineFault → Type 0
@@ -57,20 +54,19 @@ Faults to bytes reader es f =
     ((f ≡ Read) × ReadFails to bytes reader es)
     ⊎ trace.HasFaultAfter (read_of (bytes ++ unwrap_or to [])) reader.version es f
 
--- A read came, and what it answered. The trace stands in the input behind a text, and begins with
--- a head; `es` are its edges up to here.
+-- A read came, and what it answered. The trace begins with a head; `es` are its edges up to here.
 abbrev pub Comes :
-    Option (List ℕ) → Option (List ℕ) → List ℕ → List ℕ → ℕ
+    Option (List ℕ) → Option (List ℕ) → List ℕ → ℕ
     → trace.ReaderState → List Edge → Result Bool Fault → Type 0
-Comes from to text head left reader es (Ok true) =
-    (later : List ℕ) × Consumes from to (text ++ (head ++ later))
+Comes from to head left reader es (Ok true) =
+    (later : List ℕ) × Consumes from to (head ++ later)
     × IsBounded (head ++ later) left × trace.HasRead reader (head ++ later) es
-Comes from to text head left reader es (Ok false) =
-    (later : List ℕ) × Consumes from to (text ++ (head ++ later)) × IsAtEnd to
+Comes from to head left reader es (Ok false) =
+    (later : List ℕ) × Consumes from to (head ++ later) × IsAtEnd to
     × (reader.version ≡ (read_of (head ++ later)).version)
     × ((read_of (head ++ later)).edges ≡ es) × ((read_of (head ++ later)).fault ≡ None)
-Comes from to text head left reader es (Err f) =
-    (later : List ℕ) × Consumes from to (text ++ (head ++ later))
+Comes from to head left reader es (Err f) =
+    (later : List ℕ) × Consumes from to (head ++ later)
     × Faults to (head ++ later) reader es f
 
 -- The reader has read a trace whose edges are few enough to be counted while so many reads are
@@ -87,7 +83,7 @@ abbrev pub Opens :
     Option (List ℕ) → Option (List ℕ) → trace.ReaderState → List Edge
     → Result Bool Fault × ℕ → Type 0
 Opens from to reader es (answer, left) =
-    Comes from to [] [] left reader es answer × (answer ≡ Ok true → reader.version ≢ None)
+    Comes from to [] left reader es answer × (answer ≡ Ok true → reader.version ≢ None)
 
 -- ---- replay
 
@@ -98,24 +94,24 @@ ending (Ok false) judged accepted = closing_text accepted (judged - accepted)
 ending (Err f) judged accepted = []
 
 -- what is written for the edges of a piece
-abbrev pub piece_text : State → ℕ → List Edge → Result Bool Fault → List ℕ
-piece_text b judged es more =
-    verdict_lines b (judged + 1) es
+abbrev pub piece_text : LineForm → State → ℕ → List Edge → Result Bool Fault → List ℕ
+piece_text form b judged es more =
+    form_lines form b (judged + 1) es
     ++ ending more (judged + length es) (length (kept b es).history)
 
 -- What the edges of a piece do to a replay: `more` is what the read answered.
 abbrev pub TakesPiece :
-    State → ℕ → List Edge → Result Bool Fault → Option (List ℕ) → Option (List ℕ)
+    LineForm → State → ℕ → List Edge → Result Bool Fault → Option (List ℕ) → Option (List ℕ)
     → State → ℕ → Result (Option Status) Fault → Type 0
-TakesPiece b judged es more old new b' judged' (Ok None) =
-    (more ≡ Ok true) × Appends old new (piece_text b judged es more)
+TakesPiece form b judged es more old new b' judged' (Ok None) =
+    (more ≡ Ok true) × Appends old new (piece_text form b judged es more)
     × (b' ≡ kept b es) × (judged' ≡ judged + length es)
-TakesPiece b judged es more old new b' judged' (Ok (Some status)) =
-    (more ≡ Ok false) × Appends old new (piece_text b judged es more)
+TakesPiece form b judged es more old new b' judged' (Ok (Some status)) =
+    (more ≡ Ok false) × Appends old new (piece_text form b judged es more)
     × (status ≡ status_with (judged + length es - length (kept b es).history))
-TakesPiece b judged es more old new b' judged' (Err f) =
-    ((more ≡ Err f) × Appends old new (piece_text b judged es more))
-    ⊎ ((f ≡ Write) × AppendsFront old new (piece_text b judged es more))
+TakesPiece form b judged es more old new b' judged' (Err f) =
+    ((more ≡ Err f) × Appends old new (piece_text form b judged es more))
+    ⊎ ((f ≡ Write) × AppendsFront old new (piece_text form b judged es more))
 
 -- an engine's answer, its fault as one of the trace
 abbrev pub traced : Result Status Fault → Answer
@@ -124,28 +120,8 @@ traced (Err f) = Err (fault.Trace f)
 
 -- ---- check
 
--- What the edges of a piece do to a check: `more` is what the read answered.
-abbrev pub ChecksPiece :
-    State → ℕ → List Edge → Result Bool Fault → State → ℕ
-    → Result (Option Finding) Fault → Type 0
-ChecksPiece b judged es more b' judged' (Ok None) =
-    (more ≡ Ok true) × (first_refusal (judged + 1) b es ≡ None)
-    × (b' ≡ kept b es) × (judged' ≡ judged + length es)
-ChecksPiece b judged es more b' judged' (Ok (Some (Illegal n refused))) =
-    first_refusal (judged + 1) b es ≡ Some (n, refused)
-ChecksPiece b judged es more b' judged' (Ok (Some (Legal edges))) =
-    (more ≡ Ok false) × (first_refusal (judged + 1) b es ≡ None)
-    × (b' ≡ kept b es) × (edges ≡ judged + length es)
-    × IsLegal b'.version b'.plan b'.history × IsSafe b'.plan b'.history
-    × (length b'.history ≤ b'.max)
-ChecksPiece b judged es more b' judged' (Err f) =
-    (more ≡ Err f) × (first_refusal (judged + 1) b es ≡ None)
-
--- What a check finds in a trace, or why nothing.
-abbrev pub Finds : Plan → List ℕ → Option (List ℕ) → Option (List ℕ) → Result Finding Fault → Type 0
-Finds p trace from to (Ok found) = IsFound p (read_of trace) (streams from to None None) found
-Finds p trace from to (Err f) = FindsNothing p trace (streams from to None None) f
-
--- a check of the whole input
-abbrev pub FindsInput : Plan → Option (List ℕ) → Option (List ℕ) → Result Finding Fault → Type 0
-FindsInput p from to result = (trace : List ℕ) × IsInput from trace × Finds p trace from to result
+-- These edges of a trace of this version were judged, and all are accepted.
+pub record AreAccepted (p : Plan) (v : Version) (es : List Edge) (b : State) (n : ℕ) : Type 0 where
+  pub unrefused : first_refusal 1 (bench p v) es ≡ None
+  pub bus : b ≡ kept (bench p v) es
+  pub judged : n ≡ length es

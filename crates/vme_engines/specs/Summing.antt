@@ -19,7 +19,7 @@ pub record IsSummedUp (p : Plan) (r : Reading) (text : List ℕ) : Type 0 where
   pub whole : r.fault ≡ None
   pub lines : text ≡ summary_text p (answered (bench p version) r.edges)
 
--- an engine that tells nothing before the end waits, wherever it stands
+-- an engine that prints nothing before the end waits, wherever it stands
 abbrev pub IsWaiting : Option Version → List Edge → Type 0
 IsWaiting version es = Unit {0}
 

@@ -39,9 +39,9 @@ AddsInput s old new p answer =
 
 -- What is written of the sums: their lines, at X8 a prefix of them. The status says whether some
 -- edge was refused in some trace.
-abbrev pub Tells : Sums → Option (List ℕ) → Option (List ℕ) → Plan → Answer → Type 0
-Tells sums old new p (Ok status) =
+abbrev pub PrintsSums : Sums → Option (List ℕ) → Option (List ℕ) → Plan → Answer → Type 0
+PrintsSums sums old new p (Ok status) =
     OfSums sums (λ ts. Appends old new (sums_text p ts) × (status ≡ status_with (total refused ts)))
-Tells sums old new p (Err (fault.Trace f)) =
+PrintsSums sums old new p (Err (fault.Trace f)) =
     (f ≡ Write) × OfSums sums (λ ts. AppendsFront old new (sums_text p ts))
-Tells sums old new p (Err _) = ⊥
+PrintsSums sums old new p (Err _) = ⊥

@@ -1,32 +1,30 @@
 //! Checking a trace: the first edge that is refused, or that all of them are legal.
-ghost use Rattle.std.specs.Prelude.{◌≡◌, ◌+◌, ◌<◌, ◌≤◌, ◌^◌, None, length, map, refl};
-ghost use Rattle.std.proofs.Common.{arith};
-ghost use Rattle.std.specs.Io.KnownBytes.{Keeps};
-ghost use Rattle.std.proofs.KnownBytes.{Keeps-refl};
+ghost use Rattle.std.specs.Prelude.{◌≡◌, ◌+◌, ◌<◌, ◌≤◌, ◌^◌, None, length, map, OnOk, OnErr, IfOk, IfErr};
+ghost use Rattle.std.specs.Io.KnownBytes.{Appends};
 ghost use Rattle.vme_model.specs.Locality.{AreWellFormed};
 ghost use Rattle.vme_model.specs.Verdict.{kept};
 ghost use Rattle.vme_bus.specs.Answers.{answer_of, answers};
+ghost use Rattle.vme_trace.specs.Writing.{AppendsFront};
 ghost use Rattle.vme_engines.specs.Streams.{streams, ReadNothing, WroteNothing};
 ghost use Rattle.vme_engines.specs.Outcomes.{LentAsking};
-ghost use Rattle.vme_engines.specs.Checking.{ChecksInput, first_refusal, finding_status};
+ghost use Rattle.vme_engines.specs.Checking.{ChecksInput, Finds, first_refusal, finding_line, finding_status};
 ghost use Rattle.vme_engines.specs.Recorded.{first_refused_of};
-ghost use Rattle.vme_engines.specs.Steps.{ChecksPiece, FindsInput};
+ghost use Rattle.vme_engines.specs.Readings.{ReadsInput, ReadsLent};
+ghost use Rattle.vme_engines.specs.Steps.{AreAccepted};
 
 use crate::lines::write_finding;
-use crate::pieces::{JUDGED_AT_ONCE, Judge, buffer_of};
-use crate::plans::plan_of;
-use crate::traces::Input;
+use crate::pieces::JUDGED_AT_ONCE;
+use crate::readings::{Judge, read};
 use crate::{EngineFault, Status};
 use std::alloc::Global;
-use std::io::{Read, Write};
+use std::io::{Read, Sink, Write, sink};
 use vme_bus::{AnswerRecord, Bus};
 use vme_model::{Edge, Refused};
-use vme_slots::Plan;
 use vme_trace::Fault;
 
 /// What a check finds in a trace.
 #[derive(Clone, Copy, PartialEq, Eq, Debug)]
-pub(crate) enum Finding {
+pub enum Finding {
     /// All edges are accepted: so many.
     Legal { edges: u64 },
     /// The n-th edge, counted from 1, is the first that is refused.
@@ -35,7 +33,7 @@ pub(crate) enum Finding {
 
 impl Finding {
     /// The status of a check that finds this.
-    fn status(self) -> Status
+    pub fn status(self) -> Status
         ensures { result ≡ finding_status self }
     {
         match self {
@@ -111,52 +109,49 @@ fn first_refused(bus: &mut Bus, judged: u64, edges: &[Edge]) -> Option<(u64, Ref
     None
 }
 
-/// Judges the edges of a piece, and says what is found once that is known.
-///
-/// `more` is what the read of the piece answered. None where the trace goes on.
-fn check_piece(
-    bus: &mut Bus,
-    judged: &mut u64,
-    edges: &[Edge],
-    more: Result<bool, Fault>,
-) -> Result<Option<Finding>, Fault>
-    requires well_formed { AreWellFormed edges.now }
-    requires count { judged.old + length edges.now < 2 ^ 64 }
-    ensures { ChecksPiece bus.old judged.old edges.now more bus.new judged.new result }
+/// Writes what a check finds, and has the writer hand on what it holds back. The status says whether
+/// an edge is refused.
+fn report<W: Write>(finding: Finding, out: &mut W) -> Result<Status, Fault>
+    ensures status { IfOk result (λ status. status ≡ finding_status finding) }
+    ensures ok { OnOk result
+        (Appends (W.contents out.old) (W.contents out.new) (finding_line finding)) }
+    ensures front { OnErr result
+        (AppendsFront (W.contents out.old) (W.contents out.new) (finding_line finding)) }
+    ensures fault { IfErr result (λ fault. fault ≡ Fault.Write) }
 {
-    match first_refused(bus, *judged, edges) {
-        Some((n, refused)) => return Ok(Some(Finding::Illegal { n, refused })),
-        None => {}
-    }
-    *judged += edges.len() as u64;
-    match more {
-        Ok(true) => Ok(None),
-        Ok(false) => {
-            bus.laws();
-            bus.safety();
-            Ok(Some(Finding::Legal { edges: *judged }))
-        }
-        Err(fault) => Err(fault),
-    }
+    write_finding(finding, out)?;
+    Ok(finding.status())
 }
 
 /// A check under way.
 #[derive(Drop)]
-pub(crate) struct Checking {
+struct Checking {
     bus: Bus,
     /// How many edges were judged.
     judged: u64,
 }
 
 impl Judge for Checking {
+    type Task = ();
+
     type Answer = Finding;
+
+    ghost can = { λ _. Unit {0} };
 
     ghost count = { λ now. now.judged };
 
-    ghost takes = { λ first es more old new now answer.
-        Keeps old new
-        × ChecksPiece first.bus first.judged es more now.bus now.judged answer };
+    ghost stands = { λ _ p v es old new now. AreAccepted p v es now.bus now.judged };
 
+    ghost leaves = { λ _ p trace s answer. Finds p trace s answer };
+
+    fn begin(_task: &(), bus: Bus) -> Checking {
+        Checking { bus, judged: 0 }
+    }
+
+    fn unbegun(_task: &()) {}
+
+    /// Judges the edges, up to the first that is refused. At the end of a trace without one, all are
+    /// legal.
     fn take<W: Write>(
         &mut self,
         edges: &[Edge],
@@ -164,34 +159,38 @@ impl Judge for Checking {
         _paused: bool,
         _out: &mut W,
     ) -> Result<Option<Finding>, Fault> {
-        check_piece(&mut self.bus, &mut self.judged, edges, more)
+        match first_refused(&mut self.bus, self.judged, edges) {
+            Some((n, refused)) => return Ok(Some(Finding::Illegal { n, refused })),
+            None => {}
+        }
+        self.judged += edges.len() as u64;
+        match more {
+            Ok(true) => Ok(None),
+            Ok(false) => {
+                self.bus.laws();
+                self.bus.safety();
+                let edges = self.judged;
+                Ok(Some(Finding::Legal { edges }))
+            }
+            Err(fault) => Err(fault),
+        }
     }
-
-    ghost begins = { λ first old. (Keeps-refl old, (refl, refl, refl, omega arith)) };
-
-    ghost goes_on = { λ first es more old new now h. (h.1.0, h.1.3) };
 }
 
-/// Checks a trace that stands alone, on a plan.
-#[inline(never)]
-fn find<R: Read, W: Write>(
+/// What a check finds in a trace, on the plan of a scenario: the first edge that is refused, behind
+/// which it reads no further, or that all are legal. It makes at most 16,777,216 reads.
+///
+/// Errors: F2, the faults of the scenario and F3, before anything is read; those of the trace, where
+/// no edge before them is refused.
+pub fn finding_of<R: Read>(
     alloc: Global,
-    plan: Plan,
-    buffer: &mut [u8],
+    scenario: &[u8],
     trace: &mut R,
-    out: &mut W,
-) -> Result<Finding, Fault>
-    requires room { length buffer.old ≡ 69632 }
-    ensures finds { FindsInput plan (R.remaining trace.old) (R.remaining trace.new) result }
-    ensures kept { Keeps (W.contents out.old) (W.contents out.new) }
+) -> Result<Finding, EngineFault>
+    ensures { let s = streams (R.remaining trace.old) (R.remaining trace.new) None None in
+        ReadsLent scenario.now (ReadNothing s) (λ p. ReadsInput (Finds p) s) result }
 {
-    let mut input = Input::new(alloc);
-    let version = input.begin(buffer, trace)?;
-    let mut check = Checking {
-        bus: Bus::new(plan, version),
-        judged: 0,
-    };
-    input.read_on(&mut check, buffer, trace, out)
+    read::<Checking, R, Sink>(alloc, scenario, &(), trace, &mut sink())
 }
 
 /// Checks a trace on the plan of a scenario.
@@ -211,14 +210,9 @@ pub fn check<R: Read, W: Write>(
         (W.contents out.old) (W.contents out.new) in
         LentAsking scenario.now (ReadNothing s × WroteNothing s) (ChecksInput s) result }
 {
-    let plan = plan_of(alloc, scenario)?;
-    let mut buffer = buffer_of(alloc)?;
-    let finding = match find(alloc, plan, &mut buffer, trace, out) {
-        Ok(finding) => finding,
-        Err(fault) => return Err(EngineFault::Trace(fault)),
-    };
-    match write_finding(finding, out) {
-        Ok(()) => Ok(finding.status()),
+    let finding = finding_of(alloc, scenario, trace)?;
+    match report(finding, out) {
+        Ok(status) => Ok(status),
         Err(fault) => Err(EngineFault::Trace(fault)),
     }
 }

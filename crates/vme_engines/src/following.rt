@@ -1,16 +1,15 @@
 //! A trace that is followed edge by edge, up to the one that an engine waits for.
-ghost use Rattle.std.specs.Prelude.{◌≡◌, ◌+◌, ◌<◌, ◌≤◌, ◌^◌, ◌∷◌, [], ℕ, length, is_ok, Some, Ok, IfSome, IfNone};
+ghost use Rattle.std.specs.Prelude.{◌≡◌, ◌+◌, ◌<◌, ◌≤◌, ◌^◌, ◌++◌, ◌∷◌, [], ℕ, length, is_ok, Some, None, Ok, OnErr, IfSome, IfNone};
 ghost use Rattle.vme_model.specs.Plan.{Plan};
+ghost use Rattle.vme_model.specs.declared.signals.Version.{Version};
 ghost use Rattle.vme_model.specs.declared.signals.Wire.TheVariants.{Dtack};
 ghost use Rattle.vme_model.specs.History.{shown};
-ghost use Rattle.vme_model.specs.Verdict.{verdict, after};
+ghost use Rattle.vme_model.specs.Verdict.{verdict};
 ghost use Rattle.vme_model.specs.Deliveries.{answer};
-ghost use Rattle.vme_model.specs.Numbered.{numbered_with};
-ghost use Rattle.vme_explain.specs.Marked.{IsMarksOf};
-ghost use Rattle.vme_explain.specs.Traced.{OfTrace};
 ghost use Rattle.vme_events.specs.Events.{events_of};
 ghost use Rattle.vme_events.specs.Ordered.{OfOrdered};
-ghost use Rattle.vme_engines.specs.Followed.{Follows, IsMissing, ComesTo, Reaches, told_answer};
+ghost use Rattle.vme_engines.specs.Outcomes.{bench};
+ghost use Rattle.vme_engines.specs.Followed.{IsAfter, OfAfter, Reaches, Seeks, counted, printed_status};
 
 use crate::{EngineFault, Status};
 use arrayvec::ArrayVec;
@@ -21,9 +20,9 @@ use vme_goals::Event;
 use vme_model::{Cycle, Delivery, Driver, Edge, Refused, Wire};
 use vme_trace::Fault;
 
-/// What an engine answers that tells one block.
+/// What an engine answers that prints one block.
 #[derive(Clone, Copy, PartialEq, Eq, Debug)]
-pub(crate) enum Told {
+pub(crate) enum Printed {
     /// The block was written.
     Block(Status),
     /// The whole trace has so many edges, too few.
@@ -39,21 +38,21 @@ pub(crate) struct Found {
 
 /// A trace under way: the bus, and the numbers of the edges that it accepted.
 #[derive(Drop)]
-pub(crate) struct Following {
-    pub(crate) bus: Bus,
-    pub(crate) marks: Marks,
+pub struct Following {
+    pub bus: Bus,
+    pub marks: Marks,
     /// How many edges were judged.
-    pub(crate) judged: u64,
+    pub judged: u64,
 }
 
-/// The answer of an engine that is to tell a block of a trace.
-pub(crate) fn answer_of(told: Result<Told, Fault>) -> Result<Status, EngineFault>
-    ensures { result ≡ told_answer told }
+/// The status of a command that is to print a block of a trace.
+pub(crate) fn status_of(printed: Result<Printed, EngineFault>) -> Result<Status, EngineFault>
+    ensures { result ≡ printed_status printed }
 {
-    match told {
-        Ok(Told::Block(status)) => Ok(status),
-        Ok(Told::Beyond(edges)) => Err(EngineFault::Beyond(edges)),
-        Err(fault) => Err(EngineFault::Trace(fault)),
+    match printed {
+        Ok(Printed::Block(status)) => Ok(status),
+        Ok(Printed::Beyond(count)) => Err(EngineFault::Beyond(count)),
+        Err(fault) => Err(fault),
     }
 }
 
@@ -73,10 +72,9 @@ fn count_up_to(n: Option<u64>, judged: u64, len: usize) -> Option<usize>
 
 impl Following {
     /// Before the first edge.
-    pub(crate) fn new(bus: Bus) -> Following
-        ensures bus { result.bus ≡ bus }
-        ensures marks { (p : Plan) → IsMarksOf p [] result.marks }
+    pub fn new(bus: Bus) -> Following
         ensures judged { result.judged ≡ 0 }
+        ensures after { (p : Plan) (v : Version) → bus ≡ bench p v → IsAfter p v [] result }
     {
         Following {
             bus,
@@ -98,7 +96,7 @@ impl Following {
     }
 
     /// The situations that an edge brings about that is about to be made.
-    pub(crate) fn events(&self, edge: &Edge) -> ArrayVec<Event, 2>
+    pub fn events(&self, edge: &Edge) -> ArrayVec<Event, 2>
         ensures { OfOrdered self.now.bus self.now.marks (λ _. result.items
             ≡ events_of self.now.bus.plan self.now.bus.history edge.now) }
     {
@@ -107,15 +105,14 @@ impl Following {
 
     /// Makes the next edge where it is accepted, and gives the answer to it. It is not yet counted.
     #[inline(always)]
-    pub(crate) fn step(&mut self, edge: &Edge) -> Result<Option<Delivery>, Refused>
+    pub fn step(&mut self, edge: &Edge) -> Result<Option<Delivery>, Refused>
         requires { self.old.judged + 1 < 2 ^ 64 }
         ensures answer { result ≡ answer self.old.bus edge.now }
         ensures accepted { is_ok result ≡ is_ok (verdict self.old.bus edge.now) }
-        ensures bus { self.new.bus ≡ after self.old.bus edge.now }
         ensures judged { self.new.judged ≡ self.old.judged }
-        ensures marks { OfTrace self.old.bus self.old.marks
-            (λ k. IsMarksOf self.old.bus.plan
-            (numbered_with self.old.bus (self.old.judged + 1) edge.now k) self.new.marks) }
+        ensures refused { OnErr result (self.new ≡ self.old) }
+        ensures after { OfAfter self.old (λ p v es.
+            IsAfter p v (es ++ edge.now ∷ []) (counted self.new)) }
     {
         match self.bus.step(*edge) {
             Ok(delivery) => {
@@ -131,7 +128,8 @@ impl Following {
     /// Follows all the edges, past those that are refused.
     fn follow(&mut self, edges: &[Edge])
         requires { self.old.judged + length edges.now < 2 ^ 64 }
-        ensures { Follows self.old edges.now self.new }
+        ensures judged { self.new.judged ≡ self.old.judged + length edges.now }
+        ensures after { OfAfter self.old (λ p v es. IsAfter p v (es ++ edges.now) self.new) }
     {
         for edge in edges {
             let _ = self.step(edge);
@@ -142,10 +140,7 @@ impl Following {
     /// Follows the edges up to the first that is refused, which it gives.
     fn follow_to_refused(&mut self, edges: &[Edge]) -> Option<Found>
         requires { self.old.judged + length edges.now < 2 ^ 64 }
-        ensures some { IfSome result (λ found. ComesTo None self.old edges.now found self.new) }
-        ensures none { IfNone result
-            (IsMissing None self.old.bus self.old.judged edges.now
-            × Follows self.old edges.now self.new) }
+        ensures { Seeks None self.old edges.now self.new result }
     {
         for edge in edges {
             let answer = self.step(edge);
@@ -163,10 +158,7 @@ impl Following {
     /// Follows the edges up to the n-th of the trace, which it gives.
     fn follow_to_number(&mut self, n: u64, edges: &[Edge]) -> Option<Found>
         requires { self.old.judged + length edges.now < 2 ^ 64 }
-        ensures some { IfSome result (λ found. ComesTo (Some n) self.old edges.now found self.new) }
-        ensures none { IfNone result
-            (IsMissing (Some n) self.old.bus self.old.judged edges.now
-            × Follows self.old edges.now self.new) }
+        ensures { Seeks (Some n) self.old edges.now self.new result }
     {
         let place = self.follow_through(n.checked_sub(1), edges)?;
         let edge = *edges.get(place)?;
@@ -177,10 +169,7 @@ impl Following {
     /// Follows the edges up to the one that is asked for, which it gives: that of a number, or the first that is refused.
     pub(crate) fn follow_to(&mut self, edge: Option<u64>, edges: &[Edge]) -> Option<Found>
         requires { self.old.judged + length edges.now < 2 ^ 64 }
-        ensures some { IfSome result (λ found. ComesTo edge self.old edges.now found self.new) }
-        ensures none { IfNone result
-            (IsMissing edge self.old.bus self.old.judged edges.now
-            × Follows self.old edges.now self.new) }
+        ensures { Seeks edge self.old edges.now self.new result }
     {
         match edge {
             Some(n) => self.follow_to_number(n, edges),

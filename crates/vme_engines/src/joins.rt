@@ -6,10 +6,11 @@ ghost use Rattle.vme_engines.specs.Streams.{streams};
 ghost use Rattle.vme_engines.specs.Joining.{Joins};
 ghost use Rattle.vme_engines.specs.Front.{header_line, IsHeld, IsFront, IsTextOf, Takes, Finds, Starts, JoinsBehind, ReplaysBehind};
 
-use crate::pieces::{buffer_of, read_on};
+use crate::pieces::buffer_of;
 use crate::plans::plan_of;
+use crate::readings::{Judge, read_on};
 use crate::replays::Replaying;
-use crate::{EngineFault, READS, SCENARIO_LIMIT, Status};
+use crate::{EngineFault, LineForm, READS, SCENARIO_LIMIT, Status};
 use arrayvec::ArrayVec;
 use std::alloc::{AllocError, Global};
 use std::io::{Read, Write};
@@ -168,7 +169,7 @@ fn replay_rest<R: Read, W: Write>(
     let mut reader = Reader::new();
     let mut edges = Vec::new(alloc);
     let first = start(&mut reader, version, rest, &mut edges);
-    let mut replay = Replaying::new(Bus::new(plan, version));
+    let mut replay = Replaying::begin(&LineForm::Short, Bus::new(plan, version));
     read_on(
         &mut replay,
         &mut reader,
@@ -208,7 +209,7 @@ fn replay_behind<R: Read, W: Write>(
 
 /// Replays what stands in one input: a scenario, and from the first header line on a trace.
 ///
-/// Writes and answers what [`replay`](crate::replay) does. Errors: X1 where no line is a header line; F1 where a read
+/// Writes and answers what [`replay`](crate::replay) does in the short form. Errors: X1 where no line is a header line; F1 where a read
 /// fails before one was read; F2 where more than 1,048,576 bytes stand before it.
 pub fn joined<R: Read, W: Write>(
     alloc: Global,

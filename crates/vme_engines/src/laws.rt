@@ -18,7 +18,8 @@ pub fn the_trace_of_a_legal_list_is_legal()
         → IsLegalTrace plan (read_of (text version (in_order history))) }
 {}
 
-/// A walk that seeks an event ends with the first edge that brings it, and says that it came; else no edge of it does.
+/// A walk whose goal is an event ends with the first edge that counts and brings it, and says that
+/// it came; otherwise no edge of it does.
 /// `drive --until` writes the edges of such a walk.
 pub fn a_walk_ends_with_its_event()
     ensures { EndsWithItsEvent }

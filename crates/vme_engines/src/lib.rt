@@ -10,12 +10,14 @@ mod drives;
 mod edges;
 mod explains;
 mod following;
+mod forms;
 mod joins;
 pub mod laws;
 mod lines;
 mod listening;
 mod pieces;
 mod plans;
+mod readings;
 mod replays;
 mod seeds;
 mod seeks;
@@ -26,20 +28,23 @@ mod tails;
 mod totals;
 mod traces;
 
-pub use checks::check;
+pub use checks::{Finding, check, finding_of};
 pub use draws::drive_drawn;
 pub use drives::{drive, status_of};
 pub use explains::explain;
+pub use following::Following;
 pub use joins::joined;
+pub use lines::write_finding;
 pub use listening::Progress;
 pub use plans::plan_of;
+pub use readings::{Judge, read};
 pub use replays::replay;
 pub use seeds::drive_found;
 pub use shows::show;
 pub use states::state;
 pub use summaries::summary;
 use thiserror::Error;
-pub use totals::{add_trace, tell_sums};
+pub use totals::{add_trace, print_sums};
 use vme_scenario::ScenarioError;
 use vme_trace::Fault;
 
@@ -62,6 +67,15 @@ pub enum Status {
     SomeRefused,
     /// As many edges were made as were asked for.
     Limit,
+}
+
+/// What a replay writes of each edge.
+#[derive(Clone, Copy, PartialEq, Eq, Debug)]
+pub enum LineForm {
+    /// Its number and its verdict.
+    Short,
+    /// Its number, the edge, and its verdict.
+    Full,
 }
 
 /// Why an engine gave up, by the numbers that users see.

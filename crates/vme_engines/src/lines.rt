@@ -196,7 +196,7 @@ pub(crate) fn close<W: Write>(accepted: u64, refused: u64, out: &mut W) -> Resul
 }
 
 /// Writes the line of a finding, and has the writer hand on what it holds back.
-pub(crate) fn write_finding<W: Write>(finding: Finding, out: &mut W) -> Result<(), Fault>
+pub fn write_finding<W: Write>(finding: Finding, out: &mut W) -> Result<(), Fault>
     ensures ok { OnOk result
         (Appends (W.contents out.old) (W.contents out.new) (finding_line finding)) }
     ensures front { OnErr result

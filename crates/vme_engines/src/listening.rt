@@ -2,7 +2,7 @@
 
 use std::io::{Result, Write};
 
-/// After how many edges of a seed each it is told how many were made.
+/// After how many edges of a seed each it reports how many were made.
 const STRETCH: u64 = 1_024;
 
 /// Who hears how far a search came.

@@ -1,22 +1,18 @@
 //! Replaying a trace: a verdict on each edge, and the closing line.
-ghost use Rattle.std.specs.Prelude.{◌≡◌, ◌+◌, ◌<◌, ◌^◌, length, refl};
-ghost use Rattle.std.proofs.Common.{arith};
-ghost use Rattle.std.proofs.KnownBytes.{Appends-nil};
+ghost use Rattle.std.specs.Prelude.{◌≡◌, ◌+◌, ◌<◌, ◌^◌, [], length, None, Ok, true};
 ghost use Rattle.vme_model.specs.Locality.{AreWellFormed};
 ghost use Rattle.vme_engines.specs.Streams.{streams, ReadNothing, WroteNothing};
-ghost use Rattle.vme_engines.specs.Outcomes.{LentAsking, ReplaysInput, status_with};
+ghost use Rattle.vme_engines.specs.Outcomes.{LentAsking, Replays, ReplaysInput, bench, status_with};
 ghost use Rattle.vme_engines.specs.Steps.{TakesPiece, traced};
 
-use crate::lines::{close, write_verdicts};
-use crate::pieces::{Judge, buffer_of};
-use crate::plans::plan_of;
-use crate::traces::Input;
-use crate::{EngineFault, Status};
+use crate::forms::write_form;
+use crate::lines::close;
+use crate::readings::{Judge, read};
+use crate::{EngineFault, LineForm, Status};
 use std::alloc::Global;
 use std::io::{Read, Write};
 use vme_bus::Bus;
 use vme_model::Edge;
-use vme_slots::Plan;
 use vme_text::Text;
 use vme_trace::{Fault, flush};
 
@@ -31,11 +27,12 @@ pub(crate) fn status_of(refused: u64) -> Status
     }
 }
 
-/// Writes the verdicts on the edges of a piece, and at the end of the trace the closing line.
+/// Writes the lines of the edges of a piece, and at the end of the trace the closing line.
 ///
 /// `more` is what the read of the piece answered. None where the trace goes on; where its writer has `paused`, `out`
 /// hands on what it holds back.
 fn take_piece<W: Write>(
+    form: LineForm,
     bus: &mut Bus,
     judged: &mut u64,
     edges: &[Edge],
@@ -46,10 +43,10 @@ fn take_piece<W: Write>(
 ) -> Result<Option<Status>, Fault>
     requires well_formed { AreWellFormed edges.now }
     requires count { judged.old + length edges.now < 2 ^ 64 }
-    ensures { TakesPiece bus.old judged.old edges.now more
+    ensures { TakesPiece form bus.old judged.old edges.now more
         (W.contents out.old) (W.contents out.new) bus.new judged.new result }
 {
-    write_verdicts(bus, *judged, edges, text, out)?;
+    write_form(form, bus, *judged, edges, text, out)?;
     *judged += edges.len() as u64;
     match more {
         Ok(true) => {
@@ -74,34 +71,38 @@ fn take_piece<W: Write>(
 /// A replay under way.
 #[derive(Drop)]
 pub(crate) struct Replaying {
+    form: LineForm,
     bus: Bus,
     /// How many edges were judged.
     judged: u64,
-    /// Where verdict lines are put together.
+    /// Where lines are put together.
     text: Text,
 }
 
-impl Replaying {
-    /// Before the first edge.
-    pub(crate) fn new(bus: Bus) -> Replaying
-        ensures bus { result.bus ≡ bus }
-        ensures judged { result.judged ≡ 0 }
-    {
+impl Judge for Replaying {
+    type Task = LineForm;
+
+    type Answer = Status;
+
+    ghost can = { λ _. Unit {0} };
+
+    ghost count = { λ now. now.judged };
+
+    ghost stands = { λ form p v es old new now. (now.form ≡ form)
+        × TakesPiece form (bench p v) 0 es (Ok true) old new now.bus now.judged (Ok None) };
+
+    ghost leaves = { λ form p trace s answer. Replays form p [] trace s (traced answer) };
+
+    fn begin(task: &LineForm, bus: Bus) -> Replaying {
         Replaying {
+            form: *task,
             bus,
             judged: 0,
             text: Text::new(),
         }
     }
-}
 
-impl Judge for Replaying {
-    type Answer = Status;
-
-    ghost count = { λ now. now.judged };
-
-    ghost takes = { λ first es more old new now answer.
-        TakesPiece first.bus first.judged es more old new now.bus now.judged answer };
+    fn unbegun(_task: &LineForm) {}
 
     fn take<W: Write>(
         &mut self,
@@ -111,6 +112,7 @@ impl Judge for Replaying {
         out: &mut W,
     ) -> Result<Option<Status>, Fault> {
         take_piece(
+            self.form,
             &mut self.bus,
             &mut self.judged,
             edges,
@@ -120,38 +122,14 @@ impl Judge for Replaying {
             out,
         )
     }
-
-    ghost begins = { λ first old. (refl, Appends-nil old, refl, omega arith) };
-
-    ghost goes_on = { λ first es more old new now h. (h.0, h.3) };
-}
-
-/// Replays a trace that stands alone, on a plan.
-#[inline(never)]
-fn replay_trace<R: Read, W: Write>(
-    alloc: Global,
-    plan: Plan,
-    buffer: &mut [u8],
-    trace: &mut R,
-    out: &mut W,
-) -> Result<Status, Fault>
-    requires room { length buffer.old ≡ 69632 }
-    ensures { ReplaysInput
-        (streams (R.remaining trace.old) (R.remaining trace.new)
-        (W.contents out.old) (W.contents out.new))
-        plan (traced result) }
-{
-    let mut input = Input::new(alloc);
-    let version = input.begin(buffer, trace)?;
-    let mut replay = Replaying::new(Bus::new(plan, version));
-    input.read_on(&mut replay, buffer, trace, out)
 }
 
 /// Replays a trace on the plan of a scenario.
 ///
-/// Writes `n VERDICT` for the n-th edge, past those that are refused, and at the end of the trace
-/// `accepted A refused R`. It makes at most 16,777,216 reads. Where one gave fewer bytes than were asked for, the writer
-/// hands on what it holds back before the next.
+/// Writes a line for each edge, past those that are refused, and at the end of the trace
+/// `accepted A refused R`. The line of the n-th edge is `n VERDICT`, or in the full form
+/// `n EDGE VERDICT`, which takes more time. It makes at most 16,777,216 reads. If one gave fewer
+/// bytes than were asked for, the writer hands on what it holds back before the next.
 ///
 /// Errors: F2, the faults of the scenario and F3, before anything is read or written; those of the trace, after the
 /// verdicts on the edges before them; X8 where the output cannot be written.
@@ -159,16 +137,12 @@ pub fn replay<R: Read, W: Write>(
     alloc: Global,
     scenario: &[u8],
     trace: &mut R,
+    form: LineForm,
     out: &mut W,
 ) -> Result<Status, EngineFault>
     ensures { let s = streams (R.remaining trace.old) (R.remaining trace.new)
         (W.contents out.old) (W.contents out.new) in
-        LentAsking scenario.now (ReadNothing s × WroteNothing s) (ReplaysInput s) result }
+        LentAsking scenario.now (ReadNothing s × WroteNothing s) (ReplaysInput form s) result }
 {
-    let plan = plan_of(alloc, scenario)?;
-    let mut buffer = buffer_of(alloc)?;
-    match replay_trace(alloc, plan, &mut buffer, trace, out) {
-        Ok(status) => Ok(status),
-        Err(fault) => Err(EngineFault::Trace(fault)),
-    }
+    read::<Replaying, R, W>(alloc, scenario, &form, trace, out)
 }

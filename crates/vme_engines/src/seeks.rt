@@ -4,7 +4,7 @@ ghost use Rattle.vme_model.specs.Verdict.{verdict};
 ghost use Rattle.vme_seeds.specs.Walks.{with_edge};
 ghost use Rattle.vme_events.specs.Places.{by_place};
 ghost use Rattle.vme_explain.specs.Marked.{IsMarksOf};
-ghost use Rattle.vme_engines.specs.Seeking.{brings, ends_at, is_over, missed_by, sought, turned};
+ghost use Rattle.vme_engines.specs.Seeking.{brings, ends_at, fulfils, is_counted, is_over, missed_by, missed_once_due, sought, turned};
 ghost use Rattle.vme_engines.specs.Texts.{ListsOn};
 
 use crate::drives::put_line;
@@ -12,7 +12,7 @@ use std::io::Write;
 use vme_bus::Bus;
 use vme_events::{comes, miss};
 use vme_explain::Marks;
-use vme_goals::Goal;
+use vme_goals::{Aim, Goal, Miss, counts};
 use vme_model::{Driver, Edge};
 use vme_seeds::Walk;
 use vme_text::Text;
@@ -38,14 +38,43 @@ impl Ending {
     }
 }
 
-/// The first edge that the goal's condition alone refuses, where the goal is one.
+/// The first edge that this alone refuses, of the driver that counts, once enough edges are made.
+fn missed_once_due(bus: &Bus, goal: Goal, condition: Miss) -> Option<Edge>
+    ensures { result ≡ missed_once_due goal condition bus.now }
+{
+    if goal.is_due(u64::from(bus.len())) {
+        miss(bus, goal.driver, condition)
+    } else {
+        None
+    }
+}
+
+/// The first edge that the goal's condition alone refuses and that counts, if the goal is one.
 fn missed_by(bus: &Bus, goal: Goal) -> Option<Edge>
     ensures { result ≡ missed_by goal bus.now }
 {
-    match goal {
-        Goal::Event(_) => None,
-        Goal::Miss(condition) => miss(bus, condition),
+    match goal.aim {
+        Aim::Event(_) => None,
+        Aim::Miss(condition) => missed_once_due(bus, goal, condition),
     }
+}
+
+/// Whether the edge, which is about to be made, brings the aim about.
+fn fulfils(walk: &Walk, marks: &Marks, edge: &Edge, aim: Aim) -> bool
+    requires { IsMarksOf walk.now.state.plan (by_place walk.now.state.history) marks.now }
+    ensures { result ≡ fulfils aim walk.now.state edge.now }
+{
+    match aim {
+        Aim::Event(event) => comes(walk.bus(), marks, edge, event),
+        Aim::Miss(_) => false,
+    }
+}
+
+/// Whether an edge that is about to be made counts.
+fn is_counted(walk: &Walk, edge: &Edge, goal: Goal) -> bool
+    ensures { result ≡ is_counted goal walk.now.state edge.now }
+{
+    counts(goal.driver, edge.driver) && goal.is_due(u64::from(walk.bus().len()))
 }
 
 /// Whether the edge, which is about to be made, brings the goal about.
@@ -53,10 +82,7 @@ fn brings(walk: &Walk, marks: &Marks, edge: &Edge, goal: Goal) -> bool
     requires { IsMarksOf walk.now.state.plan (by_place walk.now.state.history) marks.now }
     ensures { result ≡ brings goal walk.now.state edge.now }
 {
-    match goal {
-        Goal::Event(event) => comes(walk.bus(), marks, edge, event),
-        Goal::Miss(_) => false,
-    }
+    is_counted(walk, edge, goal) && fulfils(walk, marks, edge, goal.aim)
 }
 
 /// Makes an edge that would be accepted, and marks it by its place.

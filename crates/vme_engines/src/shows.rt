@@ -1,23 +1,20 @@
 //! Showing a stretch of a trace as a picture.
-ghost use Rattle.std.specs.Prelude.{◌≡◌, ◌+◌, ◌-◌, ◌<◌, ◌≤◌, ◌++◌, ◌∷◌, [], List, length, min, refl, IfErr, OnOk, OnErr};
-ghost use Rattle.std.specs.Io.KnownBytes.{Appends};
+ghost use Rattle.std.specs.Prelude.{◌≡◌, ◌+◌, ◌-◌, ◌<◌, ◌≤◌, ◌++◌, ◌∷◌, [], List, length, min, IfErr, OnOk, OnErr};
+ghost use Rattle.std.specs.Io.KnownBytes.{Appends, Keeps};
 ghost use Rattle.vme_model.specs.declared.signals.Edge.{Edge as EdgeValue};
 ghost use Rattle.vme_model.specs.Verdict.{State};
 ghost use Rattle.vme_trace.specs.Writing.{AppendsFront};
 ghost use Rattle.vme_engines.specs.Streams.{streams, ReadNothing, WroteNothing};
-ghost use Rattle.vme_engines.specs.Outcomes.{LentAsking};
-ghost use Rattle.vme_engines.specs.Showing.{ShowsInput};
+ghost use Rattle.vme_engines.specs.Outcomes.{LentAsking, bench};
+ghost use Rattle.vme_engines.specs.Readings.{GoesOn};
+ghost use Rattle.vme_engines.specs.Showing.{Shows, ShowsInput};
 ghost use Rattle.vme_engines.specs.Stretches.{IsStretch};
-ghost use Rattle.vme_engines.specs.Shown.{Ends, EndsStretch, GoesOn, IsBefore, IsFresh, IsShown, ShowsPiece, status_to, stretch_text};
-ghost use Rattle.vme_engines.specs.Followed.{told_answer};
-ghost use Rattle.std.proofs.Common.{arith};
-ghost use Rattle.std.proofs.KnownBytes.{Keeps-refl};
+ghost use Rattle.vme_engines.specs.Shown.{Ends, EndsStretch, IsBefore, IsFresh, IsShown, status_to, stretch_text};
+ghost use Rattle.vme_engines.specs.Followed.{printed_answer};
 
-use crate::following::{Told, answer_of};
-use crate::pieces::{Judge, buffer_of};
-use crate::plans::plan_of;
+use crate::following::{self, Printed};
+use crate::readings::{Judge, read};
 use crate::replays::status_of;
-use crate::traces::Input;
 use crate::{EngineFault, Status};
 use std::alloc::Global;
 use std::io::{Read, Write};
@@ -25,7 +22,6 @@ use std::marker::Model;
 use vme_bus::Bus;
 use vme_model::Edge;
 use vme_show::Window;
-use vme_slots::Plan;
 use vme_trace::{Fault, flush};
 
 /// How many of `len` edges after the first `judged` are among the first `n`.
@@ -174,15 +170,15 @@ impl Showing {
     }
 
     /// Ends a stretch, or a trace: what is kept of the stretch is drawn, unless the trace ends before it.
-    fn end<W: Write>(&self, out: &mut W) -> Result<Told, Fault>
+    fn end<W: Write>(&self, out: &mut W) -> Result<Printed, Fault>
         ensures { (b : State) (es : List EdgeValue) → IsShown b es self.now
             → EndsStretch self.now.stretch b es (W.contents out.old) (W.contents out.new) result }
     {
         if self.window.is_none() {
-            return Ok(Told::Beyond(self.judged));
+            return Ok(Printed::Beyond(self.judged));
         }
         self.draw(out)?;
-        Ok(Told::Block(self.status()))
+        Ok(Printed::Block(self.status()))
     }
 
     /// Takes the edges of a piece, and draws the stretch once its end is reached, or the trace's.
@@ -193,9 +189,9 @@ impl Showing {
         edges: &[Edge],
         more: Result<bool, Fault>,
         out: &mut W,
-    ) -> Result<Option<Told>, Fault>
+    ) -> Result<Option<Printed>, Fault>
         ensures stretch { self.new.stretch ≡ self.old.stretch }
-        ensures goes_on { GoesOn more (length edges.now) self.old self.new result }
+        ensures goes_on { GoesOn more self.new.judged (self.old.judged + length edges.now) result }
         ensures ends { (b : State) (es : List EdgeValue)
             → IsShown b es self.old → length es < self.old.stretch.to
             → Ends self.old.stretch b (es ++ edges.now) more
@@ -218,12 +214,26 @@ impl Showing {
 }
 
 impl Judge for Showing {
-    type Answer = Told;
+    type Task = Stretch;
+
+    type Answer = Printed;
+
+    ghost can = { λ stretch. IsStretch stretch };
 
     ghost count = { λ now. now.judged };
 
-    ghost takes = { λ first es more old new now answer.
-        ShowsPiece first es more old new now answer };
+    ghost stands = { λ stretch p v es old new now.
+        (now.stretch ≡ stretch) × IsStretch stretch × Keeps old new
+        × (length es < stretch.to) × IsShown (bench p v) es now };
+
+    ghost leaves = { λ stretch p trace s answer.
+        Shows stretch.from stretch.to stretch.color p trace s (printed_answer answer) };
+
+    fn begin(task: &Stretch, bus: Bus) -> Showing {
+        Showing::new(bus, *task)
+    }
+
+    fn unbegun(_task: &Stretch) {}
 
     fn take<W: Write>(
         &mut self,
@@ -231,44 +241,9 @@ impl Judge for Showing {
         more: Result<bool, Fault>,
         _paused: bool,
         out: &mut W,
-    ) -> Result<Option<Told>, Fault> {
+    ) -> Result<Option<Printed>, Fault> {
         self.take_piece(edges, more, out)
     }
-
-    ghost begins = { λ first old. (
-      (refl, omega arith),
-      refl,
-      λ fresh. (
-        Keeps-refl old,
-        omega (arith, fresh.stretch.some, fresh.stretch.order),
-        fresh.none,
-      ),
-    ) };
-
-    ghost goes_on = { λ first es more old new now h. h.0 };
-}
-
-/// Shows a stretch of a trace that stands alone, on a plan.
-#[inline(never)]
-fn show_trace<R: Read, W: Write>(
-    alloc: Global,
-    plan: Plan,
-    buffer: &mut [u8],
-    trace: &mut R,
-    stretch: Stretch,
-    out: &mut W,
-) -> Result<Told, Fault>
-    requires room { length buffer.old ≡ 69632 }
-    requires stretch { IsStretch stretch }
-    ensures { ShowsInput stretch.from stretch.to stretch.color
-        (streams (R.remaining trace.old) (R.remaining trace.new)
-        (W.contents out.old) (W.contents out.new))
-        plan (told_answer result) }
-{
-    let mut input = Input::new(alloc);
-    let version = input.begin(buffer, trace)?;
-    let mut showing = Showing::new(Bus::new(plan, version), stretch);
-    input.read_on(&mut showing, buffer, trace, out)
 }
 
 /// Shows the edges with the numbers `from` to `to` of a trace, on the plan of a scenario, as a picture: a row for each wire
@@ -297,8 +272,6 @@ pub fn show<R: Read, W: Write>(
         (W.contents out.old) (W.contents out.new) in
         LentAsking scenario.now (ReadNothing s × WroteNothing s) (ShowsInput from to color s) result }
 {
-    let plan = plan_of(alloc, scenario)?;
-    let mut buffer = buffer_of(alloc)?;
     let stretch = Stretch { from, to, color };
-    answer_of(show_trace(alloc, plan, &mut buffer, trace, stretch, out))
+    following::status_of(read::<Showing, R, W>(alloc, scenario, &stretch, trace, out))
 }

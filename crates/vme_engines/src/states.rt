@@ -1,80 +1,36 @@
 //! Telling where the bus stands after a trace, or after a prefix of it.
-ghost use Rattle.std.specs.Prelude.{◌≡◌, ◌+◌, ◌<◌, ◌^◌, length, refl, OnOk, OnErr, IfOk, IfErr};
-ghost use Rattle.std.specs.Io.KnownBytes.{Appends};
+ghost use Rattle.std.specs.Prelude.{◌≡◌, OnOk, OnErr, IfOk, IfErr};
+ghost use Rattle.std.specs.Io.KnownBytes.{Appends, Keeps};
 ghost use Rattle.vme_model.specs.Stands.{stands_text};
 ghost use Rattle.vme_trace.specs.Writing.{AppendsFront};
 ghost use Rattle.vme_engines.specs.Streams.{streams, ReadNothing, WroteNothing};
 ghost use Rattle.vme_engines.specs.Outcomes.{LentAsking};
-ghost use Rattle.vme_engines.specs.Stating.{StatesInput};
-ghost use Rattle.vme_engines.specs.Followed.{EndsBehind, StatesPiece, told_answer};
-ghost use Rattle.vme_explain.specs.Traced.{OfTrace};
-ghost use Rattle.std.proofs.Common.{arith};
-ghost use Rattle.std.proofs.KnownBytes.{Keeps-refl};
+ghost use Rattle.vme_engines.specs.Stating.{States, StatesInput};
+ghost use Rattle.vme_engines.specs.Followed.{IsAfter, IsNotBefore, OfAfter, printed_answer, printed_behind};
 
-use crate::following::{Following, Told, answer_of};
-use crate::pieces::{Judge, buffer_of};
-use crate::plans::plan_of;
-use crate::traces::Input;
+use crate::following::{Following, Printed, status_of};
+use crate::readings::{Judge, read};
 use crate::{EngineFault, Status};
 use std::alloc::Global;
 use std::io::{Read, Write};
 use vme_bus::Bus;
 use vme_explain::write_stands;
 use vme_model::Edge;
-use vme_slots::Plan;
 use vme_trace::{Fault, flush};
 
 /// Writes where the bus stands, and has the writer hand on what it holds back.
-fn tell_place<W: Write>(following: &Following, out: &mut W) -> Result<Told, Fault>
-    ensures told { IfOk result (λ told. told ≡ Told.Block Status.Done) }
-    ensures ok { OnOk result (OfTrace following.now.bus following.now.marks
-        (λ k. Appends (W.contents out.old) (W.contents out.new)
-        (stands_text following.now.judged following.now.bus k))) }
-    ensures front { OnErr result (OfTrace following.now.bus following.now.marks
-        (λ k. AppendsFront (W.contents out.old) (W.contents out.new)
-        (stands_text following.now.judged following.now.bus k))) }
+fn write_place<W: Write>(following: &Following, out: &mut W) -> Result<Printed, Fault>
+    ensures printed { IfOk result (λ printed. printed ≡ Printed.Block Status.Done) }
+    ensures ok { OnOk result (OfAfter following.now (λ p v es.
+        Appends (W.contents out.old) (W.contents out.new) (printed_behind stands_text p v es))) }
+    ensures front { OnErr result (OfAfter following.now (λ p v es.
+        AppendsFront (W.contents out.old) (W.contents out.new)
+        (printed_behind stands_text p v es))) }
     ensures fault { IfErr result (λ fault. fault ≡ Fault.Write) }
 {
     write_stands(following.judged, &following.bus, &following.marks, out)?;
     flush(out)?;
-    Ok(Told::Block(Status::Done))
-}
-
-/// Ends a trace that was followed and has not the place that is asked for; where that is its end, where the bus stands is
-/// told.
-fn end<W: Write>(following: &Following, after: Option<u64>, out: &mut W) -> Result<Told, Fault>
-    ensures { EndsBehind after following.now
-        (W.contents out.old) (W.contents out.new) result }
-{
-    match after {
-        Some(_) => Ok(Told::Beyond(following.judged)),
-        None => tell_place(following, out),
-    }
-}
-
-/// Follows the edges of a piece, and tells where the bus stands once the place that is asked for is reached.
-///
-/// `more` is what the read of the piece answered. None where the trace goes on.
-fn state_piece<W: Write>(
-    following: &mut Following,
-    after: Option<u64>,
-    edges: &[Edge],
-    more: Result<bool, Fault>,
-    out: &mut W,
-) -> Result<Option<Told>, Fault>
-    requires { following.old.judged + length edges.now < 2 ^ 64 }
-    ensures { StatesPiece after following.old edges.now more
-        (W.contents out.old) (W.contents out.new) following.new result }
-{
-    match following.follow_through(after, edges) {
-        Some(_) => return Ok(Some(tell_place(following, out)?)),
-        None => {}
-    }
-    match more {
-        Ok(true) => Ok(None),
-        Ok(false) => Ok(Some(end(following, after, out)?)),
-        Err(fault) => Err(fault),
-    }
+    Ok(Printed::Block(Status::Done))
 }
 
 /// A trace on the way to the place that is asked for.
@@ -86,61 +42,52 @@ struct Stating {
 }
 
 impl Judge for Stating {
-    type Answer = Told;
+    type Task = Option<u64>;
+
+    type Answer = Printed;
+
+    ghost can = { λ _. Unit {0} };
 
     ghost count = { λ now. now.following.judged };
 
-    ghost takes = { λ first es more old new now answer.
-        (now.after ≡ first.after)
-        × StatesPiece first.after first.following es more old new now.following answer };
+    ghost stands = { λ after p v es old new now.
+        (now.after ≡ after) × Keeps old new
+        × IsNotBefore after es × IsAfter p v es now.following };
 
+    ghost leaves = { λ after p trace s answer. States after p trace s (printed_answer answer) };
+
+    fn begin(task: &Option<u64>, bus: Bus) -> Stating {
+        let following = Following::new(bus);
+        Stating {
+            following,
+            after: *task,
+        }
+    }
+
+    fn unbegun(_task: &Option<u64>) {}
+
+    /// Prints where the bus stands once the place that is asked for is reached.
     fn take<W: Write>(
         &mut self,
         edges: &[Edge],
         more: Result<bool, Fault>,
         _paused: bool,
         out: &mut W,
-    ) -> Result<Option<Told>, Fault> {
-        state_piece(&mut self.following, self.after, edges, more, out)
+    ) -> Result<Option<Printed>, Fault> {
+        match self.following.follow_through(self.after, edges) {
+            Some(_) => return Ok(Some(write_place(&self.following, out)?)),
+            None => {}
+        }
+        match (more, self.after) {
+            (Ok(true), _) => Ok(None),
+            (Ok(false), Some(_)) => Ok(Some(Printed::Beyond(self.following.judged))),
+            (Ok(false), None) => Ok(Some(write_place(&self.following, out)?)),
+            (Err(fault), _) => Err(fault),
+        }
     }
-
-    ghost begins = { λ first old. (
-      refl,
-      (
-        refl,
-        Keeps-refl old,
-        λ wanted is low. omega arith,
-        record { bus = refl; judged = omega arith; marks = λ k is of. of },
-      ),
-    ) };
-
-    ghost goes_on = { λ first es more old new now h. (h.1.0, h.1.3.judged) };
 }
 
-/// Tells where the bus stands after a trace that stands alone, on a plan.
-#[inline(never)]
-fn state_trace<R: Read, W: Write>(
-    alloc: Global,
-    plan: Plan,
-    buffer: &mut [u8],
-    trace: &mut R,
-    after: Option<u64>,
-    out: &mut W,
-) -> Result<Told, Fault>
-    requires room { length buffer.old ≡ 69632 }
-    ensures { StatesInput after
-        (streams (R.remaining trace.old) (R.remaining trace.new)
-        (W.contents out.old) (W.contents out.new))
-        plan (told_answer result) }
-{
-    let mut input = Input::new(alloc);
-    let version = input.begin(buffer, trace)?;
-    let following = Following::new(Bus::new(plan, version));
-    let mut state = Stating { following, after };
-    input.read_on(&mut state, buffer, trace, out)
-}
-
-/// Tells where the bus stands after the first `after` edges of a trace, or after all, on the plan of a scenario.
+/// Prints where the bus stands after the first `after` edges of a trace, or after all, on the plan of a scenario.
 ///
 /// Writes how many edges were accepted, who holds the bus, where the grant stands, what is shown, who asks, which
 /// interrupts are pending, which wires are low and which edges are open. The status is `Done`. Behind the first `after`
@@ -160,7 +107,5 @@ pub fn state<R: Read, W: Write>(
         (W.contents out.old) (W.contents out.new) in
         LentAsking scenario.now (ReadNothing s × WroteNothing s) (StatesInput after s) result }
 {
-    let plan = plan_of(alloc, scenario)?;
-    let mut buffer = buffer_of(alloc)?;
-    answer_of(state_trace(alloc, plan, &mut buffer, trace, after, out))
+    status_of(read::<Stating, R, W>(alloc, scenario, &after, trace, out))
 }

@@ -1,31 +1,24 @@
 //! Summing a trace up: what it exercised, and what each board did.
-ghost use Rattle.std.specs.Prelude.{◌≡◌, ◌+◌, ◌<◌, ◌^◌, ◌++◌, ◌∷◌, [], length, refl, IsTrue, OnOk, OnErr, IfOk, IfErr};
-ghost use Rattle.std.specs.Io.KnownBytes.{Appends};
+ghost use Rattle.std.specs.Prelude.{◌≡◌, ◌+◌, ◌<◌, ◌^◌, ◌++◌, ◌∷◌, [], length, IsTrue, OnOk, OnErr, IfOk, IfErr};
+ghost use Rattle.std.specs.Io.KnownBytes.{Appends, Keeps};
 ghost use Rattle.vme_model.specs.Signals.{is_well_formed};
 ghost use Rattle.vme_model.specs.Locality.{AreWellFormed};
 ghost use Rattle.vme_trace.specs.Writing.{AppendsFront};
 ghost use Rattle.vme_summary.specs.Tally.{answered, refused};
-ghost use Rattle.vme_summary.specs.Summary.{summary_text};
 ghost use Rattle.vme_engines.specs.Streams.{streams, ReadNothing, WroteNothing};
-ghost use Rattle.vme_engines.specs.Outcomes.{LentAsking, status_with};
+ghost use Rattle.vme_engines.specs.Outcomes.{LentAsking, bench, status_with};
 ghost use Rattle.vme_engines.specs.Steps.{traced};
-ghost use Rattle.vme_engines.specs.Summing.{SumsInput};
-ghost use Rattle.vme_engines.specs.Summed.{IsSumOf, OfSum, SumsPiece};
-ghost use Rattle.std.proofs.Common.{append-nil, arith, subst, sym, List};
-ghost use Rattle.std.proofs.KnownBytes.{Keeps-refl};
-ghost use Rattle.vme_model.specs.declared.signals.Edge.{Edge as EdgeValue};
+ghost use Rattle.vme_engines.specs.Summing.{Sums, SumsInput};
+ghost use Rattle.vme_engines.specs.Summed.{IsSumOf, OfSum, sum_text};
 
 use crate::following::Following;
-use crate::pieces::{Judge, buffer_of};
-use crate::plans::plan_of;
+use crate::readings::{Judge, read};
 use crate::replays::status_of;
-use crate::traces::Input;
 use crate::{EngineFault, Status};
 use std::alloc::Global;
 use std::io::{Read, Write};
 use vme_bus::Bus;
 use vme_model::Edge;
-use vme_slots::Plan;
 use vme_summary::{Tally, write_summary};
 use vme_trace::{Fault, flush};
 
@@ -42,7 +35,7 @@ impl Summing {
         requires room { self.old.following.judged + 1 < 2 ^ 64 }
         requires well_formed { IsTrue (is_well_formed edge.now) }
         ensures judged { self.new.following.judged ≡ self.old.following.judged + 1 }
-        ensures sum { OfSum self.old (λ b es. IsSumOf b (es ++ edge.now ∷ []) self.new) }
+        ensures sum { OfSum self.old (λ p v es. IsSumOf p v (es ++ edge.now ∷ []) self.new) }
     {
         let events = self.following.events(edge);
         let answer = self.following.step(edge);
@@ -56,7 +49,7 @@ impl Summing {
         requires well_formed { AreWellFormed edges.now }
         ensures judged { self.new.following.judged
             ≡ self.old.following.judged + length edges.now }
-        ensures sum { OfSum self.old (λ b es. IsSumOf b (es ++ edges.now) self.new) }
+        ensures sum { OfSum self.old (λ p v es. IsSumOf p v (es ++ edges.now) self.new) }
     {
         for edge in edges {
             self.take_edge(edge);
@@ -65,15 +58,15 @@ impl Summing {
 
     /// Writes what the edges came to, and has the writer hand on what it holds back. The status says
     /// whether some edge was refused.
-    fn tell<W: Write>(&self, out: &mut W) -> Result<Status, Fault>
-        ensures status { IfOk result (λ status. OfSum self.now (λ b es.
-            status ≡ status_with (refused (answered b es)))) }
-        ensures ok { OnOk result (OfSum self.now (λ b es.
+    fn print_summary<W: Write>(&self, out: &mut W) -> Result<Status, Fault>
+        ensures status { IfOk result (λ status. OfSum self.now (λ p v es.
+            status ≡ status_with (refused (answered (bench p v) es)))) }
+        ensures ok { OnOk result (OfSum self.now (λ p v es.
             Appends (W.contents out.old) (W.contents out.new)
-            (summary_text b.plan (answered b es)))) }
-        ensures front { OnErr result (OfSum self.now (λ b es.
+            (sum_text p v es))) }
+        ensures front { OnErr result (OfSum self.now (λ p v es.
             AppendsFront (W.contents out.old) (W.contents out.new)
-            (summary_text b.plan (answered b es)))) }
+            (sum_text p v es))) }
         ensures fault { IfErr result (λ fault. fault ≡ Fault.Write) }
     {
         write_summary(self.following.bus.plan(), &self.tally, out)?;
@@ -82,36 +75,28 @@ impl Summing {
     }
 }
 
-/// Takes in the edges of a piece, and tells what all came to at the end of the trace.
-///
-/// `more` is what the read of the piece answered. None where the trace goes on.
-fn sum_piece<W: Write>(
-    summing: &mut Summing,
-    edges: &[Edge],
-    more: Result<bool, Fault>,
-    out: &mut W,
-) -> Result<Option<Status>, Fault>
-    requires room { summing.old.following.judged + length edges.now < 2 ^ 64 }
-    requires well_formed { AreWellFormed edges.now }
-    ensures { SumsPiece summing.old edges.now more
-        (W.contents out.old) (W.contents out.new) summing.new result }
-{
-    summing.take_edges(edges);
-    match more {
-        Ok(true) => Ok(None),
-        Ok(false) => Ok(Some(summing.tell(out)?)),
-        Err(fault) => Err(fault),
-    }
-}
-
 impl Judge for Summing {
+    type Task = ();
+
     type Answer = Status;
+
+    ghost can = { λ _. Unit {0} };
 
     ghost count = { λ now. now.following.judged };
 
-    ghost takes = { λ first es more old new now answer.
-        SumsPiece first es more old new now answer };
+    ghost stands = { λ _ p v es old new now. Keeps old new × IsSumOf p v es now };
 
+    ghost leaves = { λ _ p trace s answer. Sums p trace s (traced answer) };
+
+    fn begin(_task: &(), bus: Bus) -> Summing {
+        let following = Following::new(bus);
+        let tally = Tally::new();
+        Summing { following, tally }
+    }
+
+    fn unbegun(_task: &()) {}
+
+    /// Takes in the edges, and prints the summary at the end of the trace.
     fn take<W: Write>(
         &mut self,
         edges: &[Edge],
@@ -119,40 +104,13 @@ impl Judge for Summing {
         _paused: bool,
         out: &mut W,
     ) -> Result<Option<Status>, Fault> {
-        sum_piece(self, edges, more, out)
+        self.take_edges(edges);
+        match more {
+            Ok(true) => Ok(None),
+            Ok(false) => Ok(Some(self.print_summary(out)?)),
+            Err(fault) => Err(fault),
+        }
     }
-
-    ghost begins = { λ first old. (
-      refl,
-      Keeps-refl old,
-      omega arith,
-      λ b es is. subst (λ (l : List EdgeValue). IsSumOf b l first) (sym (append-nil es)) is,
-    ) };
-
-    ghost goes_on = { λ first es more old new now h. (h.0, h.2) };
-}
-
-/// Sums up a trace that stands alone, on a plan.
-#[inline(never)]
-fn summary_of_trace<R: Read, W: Write>(
-    alloc: Global,
-    plan: Plan,
-    buffer: &mut [u8],
-    trace: &mut R,
-    out: &mut W,
-) -> Result<Status, Fault>
-    requires room { length buffer.old ≡ 69632 }
-    ensures { SumsInput
-        (streams (R.remaining trace.old) (R.remaining trace.new)
-        (W.contents out.old) (W.contents out.new))
-        plan (traced result) }
-{
-    let mut input = Input::new(alloc);
-    let version = input.begin(buffer, trace)?;
-    let following = Following::new(Bus::new(plan, version));
-    let tally = Tally::new();
-    let mut summing = Summing { following, tally };
-    input.read_on(&mut summing, buffer, trace, out)
 }
 
 /// Sums a trace up, on the plan of a scenario.
@@ -174,10 +132,5 @@ pub fn summary<R: Read, W: Write>(
         (W.contents out.old) (W.contents out.new) in
         LentAsking scenario.now (ReadNothing s × WroteNothing s) (SumsInput s) result }
 {
-    let plan = plan_of(alloc, scenario)?;
-    let mut buffer = buffer_of(alloc)?;
-    match summary_of_trace(alloc, plan, &mut buffer, trace, out) {
-        Ok(status) => Ok(status),
-        Err(fault) => Err(EngineFault::Trace(fault)),
-    }
+    read::<Summing, R, W>(alloc, scenario, &(), trace, out)
 }

@@ -1,28 +1,22 @@
 //! Adding up what several traces come to, each from power-up on.
-ghost use Rattle.std.specs.Prelude.{◌≡◌, ◌+◌, ◌<◌, ◌^◌, ◌++◌, None, List, length, refl, IfOk, IfErr, OnOk, OnErr};
+ghost use Rattle.std.specs.Prelude.{◌≡◌, None, IfOk, IfErr, OnOk, OnErr};
 ghost use Rattle.std.specs.Io.KnownBytes.{Appends, Keeps};
-ghost use Rattle.vme_model.specs.Locality.{AreWellFormed};
 ghost use Rattle.vme_trace.specs.Writing.{AppendsFront};
-ghost use Rattle.vme_summary.specs.Tally.{refused};
 ghost use Rattle.vme_summary.specs.Summed.{OfSums};
 ghost use Rattle.vme_summary.specs.Sums.{sums_text, total};
-ghost use Rattle.vme_engines.specs.Added.{TalliesInput, TalliesPiece};
+ghost use Rattle.vme_summary.specs.Tally.{refused};
 ghost use Rattle.vme_engines.specs.Outcomes.{Lent, LentAsking, status_with};
 ghost use Rattle.vme_engines.specs.Streams.{streams, ReadNothing};
-ghost use Rattle.vme_engines.specs.Summed.{IsSumOf};
-ghost use Rattle.vme_engines.specs.Totals.{AddsInput, Tells};
-ghost use Rattle.std.proofs.Common.{append-nil, arith, subst, sym};
-ghost use Rattle.vme_model.specs.declared.signals.Edge.{Edge as EdgeValue};
+ghost use Rattle.vme_engines.specs.Summed.{IsSumOf, Tallies};
+ghost use Rattle.vme_engines.specs.Totals.{AddsInput, PrintsSums};
 
-use crate::following::Following;
-use crate::pieces::{Judge, buffer_of};
 use crate::plans::plan_of;
+use crate::readings::{Judge, read};
 use crate::replays::status_of;
 use crate::summaries::Summing;
-use crate::traces::Input;
 use crate::{EngineFault, Status};
 use std::alloc::Global;
-use std::io::{Read, Write, sink};
+use std::io::{Read, Sink, Write, sink};
 use std::mem::replace;
 use vme_bus::Bus;
 use vme_model::Edge;
@@ -36,34 +30,28 @@ pub(crate) struct Tallying {
     pub(crate) summing: Summing,
 }
 
-/// Takes in the edges of a piece, and gives what all came to at the end of the trace.
-///
-/// `more` is what the read of the piece answered. None where the trace goes on.
-fn tally_piece(
-    summing: &mut Summing,
-    edges: &[Edge],
-    more: Result<bool, Fault>,
-) -> Result<Option<Tally>, Fault>
-    requires room { summing.old.following.judged + length edges.now < 2 ^ 64 }
-    requires well_formed { AreWellFormed edges.now }
-    ensures { TalliesPiece summing.old edges.now more summing.new result }
-{
-    summing.take_edges(edges);
-    match more {
-        Ok(true) => Ok(None),
-        Ok(false) => Ok(Some(replace(&mut summing.tally, Tally::new()))),
-        Err(fault) => Err(fault),
-    }
-}
-
 impl Judge for Tallying {
+    type Task = ();
+
     type Answer = Tally;
+
+    ghost can = { λ _. Unit {0} };
 
     ghost count = { λ now. now.summing.following.judged };
 
-    ghost takes = { λ first es more old new now answer.
-        TalliesPiece first.summing es more now.summing answer };
+    ghost stands = { λ _ p v es old new now. IsSumOf p v es now.summing };
 
+    ghost leaves = { λ _ p trace s answer. Tallies p trace s answer };
+
+    fn begin(task: &(), bus: Bus) -> Tallying {
+        Tallying {
+            summing: Summing::begin(task, bus),
+        }
+    }
+
+    fn unbegun(_task: &()) {}
+
+    /// Takes in the edges, and gives what all came to at the end of the trace.
     fn take<W: Write>(
         &mut self,
         edges: &[Edge],
@@ -71,38 +59,13 @@ impl Judge for Tallying {
         _paused: bool,
         _out: &mut W,
     ) -> Result<Option<Tally>, Fault> {
-        tally_piece(&mut self.summing, edges, more)
+        self.summing.take_edges(edges);
+        match more {
+            Ok(true) => Ok(None),
+            Ok(false) => Ok(Some(replace(&mut self.summing.tally, Tally::new()))),
+            Err(fault) => Err(fault),
+        }
     }
-
-    ghost begins = { λ first old. (
-      refl,
-      omega arith,
-      λ b es is. subst (λ (l : List EdgeValue). IsSumOf b l first.summing) (sym (append-nil es)) is,
-    ) };
-
-    ghost goes_on = { λ first es more old new now h. (h.0, h.1) };
-}
-
-/// What the edges of a trace that stands alone come to, on a plan.
-#[inline(never)]
-fn tally_of_trace<R: Read>(
-    alloc: Global,
-    plan: Plan,
-    buffer: &mut [u8],
-    trace: &mut R,
-) -> Result<Tally, Fault>
-    requires room { length buffer.old ≡ 69632 }
-    ensures { TalliesInput (streams (R.remaining trace.old) (R.remaining trace.new) None None)
-        plan result }
-{
-    let mut input = Input::new(alloc);
-    let version = input.begin(buffer, trace)?;
-    let following = Following::new(Bus::new(plan, version));
-    let tally = Tally::new();
-    let mut tallying = Tallying {
-        summing: Summing { following, tally },
-    };
-    input.read_on(&mut tallying, buffer, trace, &mut sink())
 }
 
 /// Adds what a trace comes to, on the plan of a scenario, to the sums of those before it.
@@ -122,20 +85,14 @@ pub fn add_trace<R: Read>(
         LentAsking scenario.now (ReadNothing s) (AddsInput s sums.old sums.new) result }
     ensures kept { IfErr result (λ _. sums.new ≡ sums.old) }
 {
-    let plan = plan_of(alloc, scenario)?;
-    let mut buffer = buffer_of(alloc)?;
-    match tally_of_trace(alloc, plan, &mut buffer, trace) {
-        Ok(tally) => {
-            sums.add(&tally);
-            Ok(status_of(tally.refused()))
-        }
-        Err(fault) => Err(EngineFault::Trace(fault)),
-    }
+    let tally = read::<Tallying, R, Sink>(alloc, scenario, &(), trace, &mut sink())?;
+    sums.add(&tally);
+    Ok(status_of(tally.refused()))
 }
 
 /// Writes what traces came to together, on a plan, and has the writer hand on what it holds back.
 #[inline(never)]
-fn tell<W: Write>(plan: &Plan, sums: &Sums, out: &mut W) -> Result<Status, Fault>
+fn print_totals<W: Write>(plan: &Plan, sums: &Sums, out: &mut W) -> Result<Status, Fault>
     ensures status { IfOk result (λ status. OfSums sums.now (λ ts.
         status ≡ status_with (total refused ts))) }
     ensures ok { OnOk result (OfSums sums.now (λ ts.
@@ -155,17 +112,17 @@ fn tell<W: Write>(plan: &Plan, sums: &Sums, out: &mut W) -> Result<Status, Fault
 ///
 /// Errors: F2 and the faults of the scenario, before anything is written; X8 where the output cannot
 /// be written.
-pub fn tell_sums<W: Write>(
+pub fn print_sums<W: Write>(
     alloc: Global,
     scenario: &[u8],
     sums: &Sums,
     out: &mut W,
 ) -> Result<Status, EngineFault>
     ensures { Lent scenario.now (Keeps (W.contents out.old) (W.contents out.new))
-        (Tells sums.now (W.contents out.old) (W.contents out.new)) result }
+        (PrintsSums sums.now (W.contents out.old) (W.contents out.new)) result }
 {
     let plan = plan_of(alloc, scenario)?;
-    match tell(&plan, sums, out) {
+    match print_totals(&plan, sums, out) {
         Ok(status) => Ok(status),
         Err(fault) => Err(EngineFault::Trace(fault)),
     }

@@ -4,10 +4,12 @@ ghost use Rattle.vme_model.specs.declared.signals.Version.{Version as VersionVal
 ghost use Rattle.vme_trace.specs.Reading.{HasRead};
 ghost use Rattle.vme_engines.specs.Streams.{streams};
 ghost use Rattle.vme_engines.specs.Steps.{Opens};
-ghost use Rattle.vme_engines.specs.Begun.{IsUntouched, IsReady, HasBegun, IsUnbegun, AnswersInput};
+ghost use Rattle.vme_engines.specs.Readings.{ReadsInput};
+ghost use Rattle.vme_model.specs.Plan.{Plan as PlanValue};
+ghost use Rattle.vme_engines.specs.Begun.{IsUntouched, IsReady, HasBegun, IsUnbegun};
 
 use crate::READS;
-use crate::pieces::{Judge, read_on};
+use crate::readings::{Judge, read_on};
 use std::alloc::Global;
 use std::io::{Read, Write};
 use vme_model::{Edge, Version};
@@ -65,7 +67,7 @@ impl Input {
         }
     }
 
-    /// Has an engine take the edges of the trace, piece by piece, and gives what it answers.
+    /// Has a judge take the edges of the trace, piece by piece, and gives what it answers.
     pub(crate) fn read_on<J: Judge, R: Read, W: Write>(
         &mut self,
         judge: &mut J,
@@ -76,9 +78,10 @@ impl Input {
         requires room { length buffer.old ≡ 69632 }
         requires ready { IsReady self.old }
         requires begun { J.count judge.old ≡ 0 }
-        ensures { (from : Option (List ℕ)) (version : VersionValue)
-            → HasBegun from (R.remaining trace.old) version self.old
-            → AnswersInput (J.takes judge.old) version
+        ensures { (task : J.Task) (p : PlanValue) (v : VersionValue) (from : Option (List ℕ))
+            → J.stands task p v [] (W.contents out.old) (W.contents out.old) judge.old
+            → HasBegun from (R.remaining trace.old) v self.old
+            → ReadsInput (J.leaves task p)
             (streams from (R.remaining trace.new) (W.contents out.old) (W.contents out.new))
             result }
     {

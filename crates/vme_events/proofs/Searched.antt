@@ -8,6 +8,7 @@ use Rattle.std.specs.Option.{option_or}
 use Rattle.std.proofs.lemmas.List.{drop_more}
 use Rattle.std.proofs.Math.ListN.{drop_of_length-le}
 use Rattle.std.proofs.lemmas.List.Folds.{find-append}
+use Rattle.vme_model.specs.declared.conditions.Condition.{Condition}
 use Rattle.vme_model.specs.declared.deliveries.Delivery.{Delivery}
 use Rattle.vme_model.specs.declared.refusals.Refused.TheVariants.{NoSuchDriver, AlreadyThere, Rule, NotSettled, TraceFull}
 use Rattle.vme_model.specs.declared.signals.Driver.{Driver}
@@ -23,9 +24,10 @@ use Rattle.vme_model.specs.Plan.{board_of}
 use Rattle.vme_model.specs.Failing.{unmet}
 use Rattle.vme_model.specs.Verdict.{State, Judgement, check, is_other_state}
 use Rattle.vme_goals.specs.declared.misses.Miss.{Miss}
+use Rattle.vme_goals.specs.Goals.{counts}
 use Rattle.vme_goals.specs.declared.misses.Miss.TheVariants as miss
-use Rattle.vme_events.specs.Misses.{fails_rule, fails_settling, has_kind, is_alone, refuses}
-use Rattle.vme_events.specs.Turned.{is_rule, is_settling, refusal, turned_to}
+use Rattle.vme_events.specs.Misses.{fails_rule, fails_settling, has_kind, is_alone, is_edge_of, is_lone, is_missed, refuses}
+use Rattle.vme_events.specs.Turned.{is_by_one, is_rule, is_settling, refusal, turned_to}
 
 pub refused_alike : (v : Judgement) (d : Option Delivery) → result_err (with_delivery v d) ≡ refusal v
 refused_alike (Ok u) d = refl
@@ -47,6 +49,14 @@ settling_alike k (Err (Rule n)) = refl
 settling_alike k (Err (NotSettled n)) = refl
 settling_alike k (Err TraceFull) = refl
 
+pub lone_alike : (v : Judgement) (cs : List Condition) → is_by_one (refusal v) cs ≡ is_lone v cs
+lone_alike (Ok u) cs = refl
+lone_alike (Err NoSuchDriver) cs = refl
+lone_alike (Err AlreadyThere) cs = refl
+lone_alike (Err (Rule n)) cs = refl
+lone_alike (Err (NotSettled n)) cs = refl
+lone_alike (Err TraceFull) cs = refl
+
 same_state : (fall : Bool) → is_other_state fall fall ≡ false
 same_state true = refl
 same_state false = refl
@@ -61,14 +71,28 @@ no_settling k false s rest e = refl
 no_settling k true false rest e = refl
 no_settling k true true rest e = absurd (cc)
 
+no_lone : (g s : Bool) (rest : Judgement) (cs : List Condition) → s ≡ false → is_lone (check g NoSuchDriver (check s AlreadyThere rest)) cs ≡ false
+no_lone false s rest cs e = refl
+no_lone true false rest cs e = refl
+no_lone true true rest cs e = absurd (cc)
+
+and_false : (b : Bool) → (b && false) ≡ false
+and_false true = refl
+and_false false = refl
+
 stays : (b : State) (e : Edge) → drive b.history e.driver e.wire ≡ e.fall → is_other_state (drive b.history e.driver e.wire) e.fall ≡ false
 stays b e low = ap (λ x. is_other_state x e.fall) low ∙ same_state e.fall
 
 -- an edge to the state that its wire is in
-pub not_moved : (b : State) (m : Miss) (e : Edge) → drive b.history e.driver e.wire ≡ e.fall → refuses b m e ≡ false
+not_moved : (b : State) (m : Miss) (e : Edge) → drive b.history e.driver e.wire ≡ e.fall → refuses b m e ≡ false
 not_moved b (miss.Rule k c) e low = ap (λ t. t && is_alone c (unmet b e)) (no_rule k _ _ _ (stays b e low))
 not_moved b (miss.Unserved kind) e low = ap (λ t. t && has_kind kind (board_of b.plan e.driver)) (no_rule 22 _ _ _ (stays b e low))
 not_moved b (miss.Settling k) e low = no_settling k _ _ _ (stays b e low)
+not_moved b (miss.AnyOf r) e low = ap (λ t. is_edge_of r e && t) (no_lone _ _ _ (unmet b e) (stays b e low)) ∙ and_false (is_edge_of r e)
+
+-- whichever driver counts
+not_missed : (b : State) (o : Option Driver) (m : Miss) (e : Edge) → drive b.history e.driver e.wire ≡ e.fall → is_missed b o m e ≡ false
+not_missed b o m e low = ap (λ t. counts o e.driver && t) (not_moved b m e low) ∙ and_false (counts o e.driver)
 
 never : {A : Type 0} (x : Bool) → x ≡ true → x ≡ false → A
 never x t f = absurd (let e : true ≡ false = sym t ∙ f in cc)
@@ -80,26 +104,26 @@ one_missed : (test : Edge → Bool) (e : Edge) → test e ≡ false → find tes
 one_missed test e h = ap (λ (t : Bool). if t then Some e else None) h
 
 -- of the two edges of a wire only the one that moves it can be refused by this alone
-pub fall_found : (b : State) (m : Miss) (d : Driver) (w : Wire) → refuses b m (turned_to d w true) ≡ true → find (refuses b m) (turned b.history d w ∷ []) ≡ Some (turned_to d w true)
-fall_found b m d w h = at (drive b.history d w) refl
+pub fall_found : (b : State) (o : Option Driver) (m : Miss) (d : Driver) (w : Wire) → is_missed b o m (turned_to d w true) ≡ true → find (is_missed b o m) (turned b.history d w ∷ []) ≡ Some (turned_to d w true)
+fall_found b o m d w h = at (drive b.history d w) refl
   where
-    at : (low : Bool) → drive b.history d w ≡ low → find (refuses b m) (turned b.history d w ∷ []) ≡ Some (turned_to d w true)
-    at true p = never (refuses b m (turned_to d w true)) h (not_moved b m (turned_to d w true) p)
-    at false p = ap (λ low. find (refuses b m) (turned_to d w (not low) ∷ [])) p ∙ one_found (refuses b m) (turned_to d w true) h
+    at : (low : Bool) → drive b.history d w ≡ low → find (is_missed b o m) (turned b.history d w ∷ []) ≡ Some (turned_to d w true)
+    at true p = never (is_missed b o m (turned_to d w true)) h (not_missed b o m (turned_to d w true) p)
+    at false p = ap (λ low. find (is_missed b o m) (turned_to d w (not low) ∷ [])) p ∙ one_found (is_missed b o m) (turned_to d w true) h
 
-pub rise_found : (b : State) (m : Miss) (d : Driver) (w : Wire) → refuses b m (turned_to d w false) ≡ true → find (refuses b m) (turned b.history d w ∷ []) ≡ Some (turned_to d w false)
-rise_found b m d w h = at (drive b.history d w) refl
+pub rise_found : (b : State) (o : Option Driver) (m : Miss) (d : Driver) (w : Wire) → is_missed b o m (turned_to d w false) ≡ true → find (is_missed b o m) (turned b.history d w ∷ []) ≡ Some (turned_to d w false)
+rise_found b o m d w h = at (drive b.history d w) refl
   where
-    at : (low : Bool) → drive b.history d w ≡ low → find (refuses b m) (turned b.history d w ∷ []) ≡ Some (turned_to d w false)
-    at false p = never (refuses b m (turned_to d w false)) h (not_moved b m (turned_to d w false) p)
-    at true p = ap (λ low. find (refuses b m) (turned_to d w (not low) ∷ [])) p ∙ one_found (refuses b m) (turned_to d w false) h
+    at : (low : Bool) → drive b.history d w ≡ low → find (is_missed b o m) (turned b.history d w ∷ []) ≡ Some (turned_to d w false)
+    at false p = never (is_missed b o m (turned_to d w false)) h (not_missed b o m (turned_to d w false) p)
+    at true p = ap (λ low. find (is_missed b o m) (turned_to d w (not low) ∷ [])) p ∙ one_found (is_missed b o m) (turned_to d w false) h
 
-pub neither_found : (b : State) (m : Miss) (d : Driver) (w : Wire) → refuses b m (turned_to d w true) ≡ false → refuses b m (turned_to d w false) ≡ false → find (refuses b m) (turned b.history d w ∷ []) ≡ None
-neither_found b m d w fall rise = at (drive b.history d w) refl
+pub neither_found : (b : State) (o : Option Driver) (m : Miss) (d : Driver) (w : Wire) → is_missed b o m (turned_to d w true) ≡ false → is_missed b o m (turned_to d w false) ≡ false → find (is_missed b o m) (turned b.history d w ∷ []) ≡ None
+neither_found b o m d w fall rise = at (drive b.history d w) refl
   where
-    at : (low : Bool) → drive b.history d w ≡ low → find (refuses b m) (turned b.history d w ∷ []) ≡ None
-    at true p = ap (λ low. find (refuses b m) (turned_to d w (not low) ∷ [])) p ∙ one_missed (refuses b m) (turned_to d w false) rise
-    at false p = ap (λ low. find (refuses b m) (turned_to d w (not low) ∷ [])) p ∙ one_missed (refuses b m) (turned_to d w true) fall
+    at : (low : Bool) → drive b.history d w ≡ low → find (is_missed b o m) (turned b.history d w ∷ []) ≡ None
+    at true p = ap (λ low. find (is_missed b o m) (turned_to d w (not low) ∷ [])) p ∙ one_missed (is_missed b o m) (turned_to d w false) rise
+    at false p = ap (λ low. find (is_missed b o m) (turned_to d w (not low) ∷ [])) p ∙ one_missed (is_missed b o m) (turned_to d w true) fall
 
 -- the same of the address group, which can show many cycles
 abbrev cycles : List Cycle
@@ -113,27 +137,27 @@ find-map test f (x ∷ xs) = first (test (f x)) (find-map test f xs)
     first true e = refl
     first false e = e
 
-none_shown : (b : State) (m : Miss) (d : Driver) (cs : List Cycle) → drive b.history d Addr ≡ true → find (λ c. refuses b m (showing d c)) cs ≡ None
-none_shown b m d [] low = refl
-none_shown b m d (c ∷ cs) low = ap (λ (t : Bool). if t then Some c else find (λ c. refuses b m (showing d c)) cs) (not_moved b m (showing d c) low) ∙ none_shown b m d cs low
+none_shown : (b : State) (o : Option Driver) (m : Miss) (d : Driver) (cs : List Cycle) → drive b.history d Addr ≡ true → find (λ c. is_missed b o m (showing d c)) cs ≡ None
+none_shown b o m d [] low = refl
+none_shown b o m d (c ∷ cs) low = ap (λ (t : Bool). if t then Some c else find (λ c. is_missed b o m (showing d c)) cs) (not_missed b o m (showing d c) low) ∙ none_shown b o m d cs low
 
 address_moves : (h : List Edge) (d : Driver) (low : Bool) → drive h d Addr ≡ low → moves h d Addr ≡ (if low then turned_to d Addr false ∷ [] else map (showing d) cycles)
 address_moves h d true p = ap (λ (t : Bool). if t then turned_to d Addr (not t) ∷ [] else map (showing d) cycles) p
 address_moves h d false p = ap (λ (t : Bool). if t then turned_to d Addr (not t) ∷ [] else map (showing d) cycles) p
 
-pub off_found : (b : State) (m : Miss) (d : Driver) → refuses b m (turned_to d Addr false) ≡ true → find (refuses b m) (moves b.history d Addr) ≡ Some (turned_to d Addr false)
-off_found b m d h = at (drive b.history d Addr) refl
+pub off_found : (b : State) (o : Option Driver) (m : Miss) (d : Driver) → is_missed b o m (turned_to d Addr false) ≡ true → find (is_missed b o m) (moves b.history d Addr) ≡ Some (turned_to d Addr false)
+off_found b o m d h = at (drive b.history d Addr) refl
   where
-    at : (low : Bool) → drive b.history d Addr ≡ low → find (refuses b m) (moves b.history d Addr) ≡ Some (turned_to d Addr false)
-    at false p = never (refuses b m (turned_to d Addr false)) h (not_moved b m (turned_to d Addr false) p)
-    at true p = ap (find (refuses b m)) (address_moves b.history d true p) ∙ one_found (refuses b m) (turned_to d Addr false) h
+    at : (low : Bool) → drive b.history d Addr ≡ low → find (is_missed b o m) (moves b.history d Addr) ≡ Some (turned_to d Addr false)
+    at false p = never (is_missed b o m (turned_to d Addr false)) h (not_missed b o m (turned_to d Addr false) p)
+    at true p = ap (find (is_missed b o m)) (address_moves b.history d true p) ∙ one_found (is_missed b o m) (turned_to d Addr false) h
 
-pub on_found : (b : State) (m : Miss) (d : Driver) → refuses b m (turned_to d Addr false) ≡ false → find (refuses b m) (moves b.history d Addr) ≡ option_map (showing d) (find (λ c. refuses b m (showing d c)) cycles)
-on_found b m d h = at (drive b.history d Addr) refl
+pub on_found : (b : State) (o : Option Driver) (m : Miss) (d : Driver) → is_missed b o m (turned_to d Addr false) ≡ false → find (is_missed b o m) (moves b.history d Addr) ≡ option_map (showing d) (find (λ c. is_missed b o m (showing d c)) cycles)
+on_found b o m d h = at (drive b.history d Addr) refl
   where
-    at : (low : Bool) → drive b.history d Addr ≡ low → find (refuses b m) (moves b.history d Addr) ≡ option_map (showing d) (find (λ c. refuses b m (showing d c)) cycles)
-    at false p = ap (find (refuses b m)) (address_moves b.history d false p) ∙ find-map (refuses b m) (showing d) cycles
-    at true p = ap (find (refuses b m)) (address_moves b.history d true p) ∙ one_missed (refuses b m) (turned_to d Addr false) h ∙ sym (ap (option_map (showing d)) (none_shown b m d cycles p))
+    at : (low : Bool) → drive b.history d Addr ≡ low → find (is_missed b o m) (moves b.history d Addr) ≡ option_map (showing d) (find (λ c. is_missed b o m (showing d c)) cycles)
+    at false p = ap (find (is_missed b o m)) (address_moves b.history d false p) ∙ find-map (is_missed b o m) (showing d) cycles
+    at true p = ap (find (is_missed b o m)) (address_moves b.history d true p) ∙ one_missed (is_missed b o m) (turned_to d Addr false) h ∙ sym (ap (option_map (showing d)) (none_shown b o m d cycles p))
 
 -- a search of lists one after another, as far as it has come
 pub one_more : {X : Type 0} (test : Edge → Bool) (f : X → List Edge) (xs : List X) (i : ℕ) (x : X) → i < length xs

@@ -1,5 +1,6 @@
 -- Edges to either state of a wire, and what refuses an edge.
-use Rattle.std.specs.Prelude.{◌==◌, ℕ, Bool, false, Option, Some, None, Ok, Err}
+use Rattle.std.specs.Prelude.{◌==◌, ℕ, Bool, true, false, List, Option, Some, None, Ok, Err, length}
+use Rattle.vme_model.specs.declared.conditions.Condition.{Condition}
 use Rattle.vme_model.specs.declared.refusals.Refused.{Refused}
 use Rattle.vme_model.specs.declared.refusals.Refused.TheVariants.{Rule, NotSettled}
 use Rattle.vme_model.specs.declared.signals.Driver.{Driver}
@@ -22,3 +23,9 @@ is_rule k _ = false
 abbrev pub is_settling : ℕ → Option Refused → Bool
 is_settling k (Some (NotSettled n)) = n == k
 is_settling k _ = false
+
+-- a settling rule refuses, or a rule by the only condition that fails
+abbrev pub is_by_one : Option Refused → List Condition → Bool
+is_by_one (Some (Rule n)) cs = length cs == 1
+is_by_one (Some (NotSettled n)) cs = true
+is_by_one _ cs = false

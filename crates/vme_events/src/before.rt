@@ -3,7 +3,7 @@ ghost use Rattle.std.specs.Prelude.{◌≡◌, true, Some, is_some, unwrap_or};
 ghost use Rattle.std.specs.List.{list_any};
 ghost use Rattle.std.specs.Option.{option_and_then};
 ghost use Rattle.vme_model.specs.declared.boards.Row.{Row as RowValue};
-ghost use Rattle.vme_explain.specs.Told.{is_driver};
+ghost use Rattle.vme_explain.specs.Witnessed.{is_driver};
 ghost use Rattle.vme_model.specs.Plan.{board_of, up_to};
 ghost use Rattle.vme_model.specs.History.{drive, served_since_request};
 ghost use Rattle.vme_model.specs.Numbered.{since as since_in};

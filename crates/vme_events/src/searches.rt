@@ -4,15 +4,16 @@ ghost use Rattle.std.specs.List.{flat_map};
 ghost use Rattle.std.specs.Option.{option_and_then};
 ghost use Rattle.vme_model.specs.Offers.{turned, wires};
 ghost use Rattle.vme_model.specs.Open.{accesses, acknowledges, moves, showing};
+ghost use Rattle.vme_model.specs.Failing.{unmet};
 ghost use Rattle.vme_model.specs.Plan.{board_of};
 ghost use Rattle.vme_model.specs.Verdict.{verdict};
-ghost use Rattle.vme_events.specs.Misses.{fails_rule, fails_settling, has_kind, is_alone, is_same_kind, misses, refuses};
-ghost use Rattle.vme_events.specs.Turned.{is_rule, is_settling, refusal, turned_to};
+ghost use Rattle.vme_events.specs.Misses.{fails_rule, fails_settling, has_kind, is_alone, is_edge_of, is_lone, is_missed, is_same_kind, misses, refuses};
+ghost use Rattle.vme_events.specs.Turned.{is_by_one, is_rule, is_settling, refusal, turned_to};
 
 use crate::before::interrupter_of;
 use vme_bus::Bus;
-use vme_goals::Miss;
-use vme_model::{Condition, Cycle, Driver, Edge, IrqKind, Refused, Wire};
+use vme_goals::{Miss, counts};
+use vme_model::{Condition, Cycle, Driver, Edge, IrqKind, Refused, Rule, Wire};
 
 /// All that an address group can show: the acknowledges, then the accesses.
 const CYCLES: [Cycle; 28] = [
@@ -105,6 +106,32 @@ fn has_kind(bus: &Bus, driver: Driver, kind: IrqKind) -> bool
     }
 }
 
+/// Whether the rule guards the edge.
+fn is_edge_of(edge: Edge, rule: Rule) -> bool
+    ensures { result ≡ is_edge_of rule edge }
+{
+    Rule::of_edge(edge.wire, edge.fall) == rule
+}
+
+/// Whether a settling rule refuses, or a rule by one of its conditions alone, if these fail.
+fn is_by_one(refused: Option<Refused>, failing: &[Condition]) -> bool
+    ensures { result ≡ is_by_one refused failing.now }
+{
+    match refused {
+        Some(Refused::Rule(_)) => failing.len() == 1,
+        Some(Refused::NotSettled(_)) => true,
+        _ => false,
+    }
+}
+
+/// Whether one condition of the edge's rule refuses the edge, and no other does, or its settling rule
+/// does.
+fn is_lone(bus: &Bus, edge: Edge) -> bool
+    ensures { result ≡ is_lone (verdict bus.now edge) (unmet bus.now edge) }
+{
+    is_by_one(refusal(bus, edge), bus.failing(edge).as_slice())
+}
+
 /// Whether this alone refuses the edge.
 fn refuses(bus: &Bus, miss: Miss, edge: Edge) -> bool
     ensures { result ≡ refuses bus.now miss edge }
@@ -115,7 +142,15 @@ fn refuses(bus: &Bus, miss: Miss, edge: Edge) -> bool
         }
         Miss::Unserved(kind) => { fails_rule(bus, edge, 22) && has_kind(bus, edge.driver, kind) }
         Miss::Settling(rule) => fails_settling(bus, edge, rule),
+        Miss::AnyOf(rule) => is_edge_of(edge, rule) && is_lone(bus, edge),
     }
+}
+
+/// Whether this alone refuses the edge, and the edge counts: if only one driver's do, it is its.
+fn is_missed(bus: &Bus, only: Option<Driver>, miss: Miss, edge: Edge) -> bool
+    ensures { result ≡ is_missed bus.now only miss edge }
+{
+    counts(only, edge.driver) && refuses(bus, miss, edge)
 }
 
 /// An edge without a value.
@@ -143,65 +178,74 @@ fn showing(driver: Driver, cycle: Cycle) -> Edge
 }
 
 /// The first of these cycles that the driver is refused to show by this alone.
-fn shown(bus: &Bus, miss: Miss, driver: Driver, cycles: &[Cycle]) -> Option<Cycle>
-    ensures { result ≡ find (λ c. refuses bus.now miss (showing driver c)) cycles.now }
+fn shown(
+    bus: &Bus,
+    only: Option<Driver>,
+    miss: Miss,
+    driver: Driver,
+    cycles: &[Cycle],
+) -> Option<Cycle>
+    ensures { result ≡ find (λ c. is_missed bus.now only miss (showing driver c)) cycles.now }
 {
-    cycles
-        .iter()
-        .copied()
-        .find(|cycle| refuses(bus, miss, showing(driver, *cycle)))
+    cycles.iter().copied().find(|cycle| is_missed(bus, only, miss, showing(driver, *cycle)))
 }
 
 /// The edge that moves the driver's address group, where this alone refuses it.
 ///
 /// One to the state that the group is in is refused by E2, and never by this.
-fn on_address(bus: &Bus, miss: Miss, driver: Driver) -> Option<Edge>
-    ensures { result ≡ find (refuses bus.now miss)
+fn on_address(bus: &Bus, only: Option<Driver>, miss: Miss, driver: Driver) -> Option<Edge>
+    ensures { result ≡ find (is_missed bus.now only miss)
         (moves bus.now.history driver Wire.Addr) }
 {
     let off = turned(driver, Wire::Addr, false);
-    if refuses(bus, miss, off) {
+    if is_missed(bus, only, miss, off) {
         return Some(off);
     }
-    match shown(bus, miss, driver, &CYCLES) {
+    match shown(bus, only, miss, driver, &CYCLES) {
         Some(cycle) => Some(showing(driver, cycle)),
         None => None,
     }
 }
 
 /// The edge that moves another wire of the driver, where this alone refuses it.
-fn on_other(bus: &Bus, miss: Miss, driver: Driver, wire: Wire) -> Option<Edge>
-    ensures { result ≡ find (refuses bus.now miss)
+fn on_other(bus: &Bus, only: Option<Driver>, miss: Miss, driver: Driver, wire: Wire) -> Option<Edge>
+    ensures { result ≡ find (is_missed bus.now only miss)
         (turned bus.now.history driver wire ∷ []) }
 {
     let fall = turned(driver, wire, true);
-    if refuses(bus, miss, fall) {
+    if is_missed(bus, only, miss, fall) {
         return Some(fall);
     }
     let rise = turned(driver, wire, false);
-    if refuses(bus, miss, rise) {
+    if is_missed(bus, only, miss, rise) {
         return Some(rise);
     }
     None
 }
 
 /// The first edge that moves the driver's wire and that this alone refuses.
-fn on_wire(bus: &Bus, miss: Miss, driver: Driver, wire: Wire) -> Option<Edge>
-    ensures { result ≡ find (refuses bus.now miss) (moves bus.now.history driver wire) }
+fn on_wire(bus: &Bus, only: Option<Driver>, miss: Miss, driver: Driver, wire: Wire) -> Option<Edge>
+    ensures { result ≡ find (is_missed bus.now only miss) (moves bus.now.history driver wire) }
 {
     match wire {
-        Wire::Addr => on_address(bus, miss, driver),
-        _ => on_other(bus, miss, driver, wire),
+        Wire::Addr => on_address(bus, only, miss, driver),
+        _ => on_other(bus, only, miss, driver, wire),
     }
 }
 
 /// The first edge of these wires of the driver.
-fn on_wires(bus: &Bus, miss: Miss, driver: Driver, wires: &[Wire]) -> Option<Edge>
-    ensures { result ≡ find (refuses bus.now miss)
+fn on_wires(
+    bus: &Bus,
+    only: Option<Driver>,
+    miss: Miss,
+    driver: Driver,
+    wires: &[Wire],
+) -> Option<Edge>
+    ensures { result ≡ find (is_missed bus.now only miss)
         (flat_map (moves bus.now.history driver) wires.now) }
 {
     for wire in wires {
-        let edge = on_wire(bus, miss, driver, *wire);
+        let edge = on_wire(bus, only, miss, driver, *wire);
         if edge.is_some() {
             return edge;
         }
@@ -210,20 +254,20 @@ fn on_wires(bus: &Bus, miss: Miss, driver: Driver, wires: &[Wire]) -> Option<Edg
 }
 
 /// The first edge of the driver.
-fn of_driver(bus: &Bus, miss: Miss, driver: Driver) -> Option<Edge>
-    ensures { result ≡ find (refuses bus.now miss)
+fn of_driver(bus: &Bus, only: Option<Driver>, miss: Miss, driver: Driver) -> Option<Edge>
+    ensures { result ≡ find (is_missed bus.now only miss)
         (flat_map (moves bus.now.history driver) (wires driver)) }
 {
-    on_wires(bus, miss, driver, driver.wires())
+    on_wires(bus, only, miss, driver, driver.wires())
 }
 
 /// The first edge of these drivers.
-fn of_drivers(bus: &Bus, miss: Miss, drivers: &[Driver]) -> Option<Edge>
-    ensures { result ≡ find (refuses bus.now miss)
+fn of_drivers(bus: &Bus, only: Option<Driver>, miss: Miss, drivers: &[Driver]) -> Option<Edge>
+    ensures { result ≡ find (is_missed bus.now only miss)
         (flat_map (λ d. flat_map (moves bus.now.history d) (wires d)) drivers.now) }
 {
     for driver in drivers {
-        let edge = of_driver(bus, miss, *driver);
+        let edge = of_driver(bus, only, miss, *driver);
         if edge.is_some() {
             return edge;
         }
@@ -231,13 +275,14 @@ fn of_drivers(bus: &Bus, miss: Miss, drivers: &[Driver]) -> Option<Edge>
     None
 }
 
-/// The first edge that this alone refuses, of all that move a wire to its other state: by driver,
-/// the controller first, then by slot; by wire in the order of offers; of an address group that
-/// goes on by acknowledges, then by accesses. None where there is none.
+/// The first edge that this alone refuses, of all that move a wire to its other state, or of those of
+/// one driver alone: by driver, the controller first, then by slot; by wire in the order of offers;
+/// of an address group that goes on by acknowledges, then by accesses. None if there is none, or if
+/// the one driver is none of the plan.
 ///
 /// It tries some 800 edges at most.
-pub fn miss(bus: &Bus, miss: Miss) -> Option<Edge>
-    ensures { result ≡ misses bus.now miss }
+pub fn miss(bus: &Bus, only: Option<Driver>, miss: Miss) -> Option<Edge>
+    ensures { result ≡ misses bus.now only miss }
 {
-    of_drivers(bus, miss, bus.plan().drivers().as_slice())
+    of_drivers(bus, only, miss, bus.plan().drivers().as_slice())
 }

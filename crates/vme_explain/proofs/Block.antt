@@ -1,4 +1,4 @@
--- The whole block is what is told of the bus and of the drivers.
+-- The whole block is what is printed about the bus and of the drivers.
 use Rattle.std.proofs.Common.{◌≡◌, ◌∙◌, ℕ, List, ◌++◌, Option, sym, ap, subst, append_assoc}
 use Rattle.std.specs.Io.KnownBytes.{Appends}
 use Rattle.std.proofs.KnownBytes.{Appends-trans}

@@ -1,4 +1,4 @@
--- The groups together are all that is told of a condition.
+-- The groups together are all that is printed for a condition.
 use Rattle.std.proofs.Common.{◌≡◌, refl, sym, true, false, append_assoc, append-nil, ◌++◌, ◌∷◌, []}
 use Rattle.vme_model.specs.declared.conditions.Condition.{Condition}
 use Rattle.vme_model.specs.declared.conditions.Condition.TheVariants as condition
@@ -7,9 +7,9 @@ use Rattle.vme_model.specs.declared.signals.Wire.TheVariants.{Bbsy}
 use Rattle.vme_model.specs.Verdict.{State}
 use Rattle.vme_model.specs.Numbered.{Numbered}
 use Rattle.vme_model.specs.Witnesses.{witnesses_of, low, low_grants, requests, granted}
-use Rattle.vme_explain.specs.Grouped.{is_of_askers, askers_told, others_told}
+use Rattle.vme_explain.specs.Grouped.{is_of_askers, askers_witnesses, other_witnesses}
 
-pub askers_are : (b : State) (k : Numbered) (e : Edge) (c : Condition) → is_of_askers c ≡ true → askers_told b k e c ≡ witnesses_of b k e c
+pub askers_are : (b : State) (k : Numbered) (e : Edge) (c : Condition) → is_of_askers c ≡ true → askers_witnesses b k e c ≡ witnesses_of b k e c
 askers_are b k e condition.GrantsHigh h = refl
 askers_are b k e condition.Picked h = refl
 askers_are b k e condition.ArbiterIsPri h = absurd (cc)
@@ -59,7 +59,7 @@ askers_are b k e condition.HasDriver h = absurd (cc)
 askers_are b k e condition.OtherState h = absurd (cc)
 askers_are b k e condition.HasRoom h = absurd (cc)
 
-pub others_are : (b : State) (k : Numbered) (e : Edge) (c : Condition) → is_of_askers c ≡ false → others_told b k e c ≡ witnesses_of b k e c
+pub others_are : (b : State) (k : Numbered) (e : Edge) (c : Condition) → is_of_askers c ≡ false → other_witnesses b k e c ≡ witnesses_of b k e c
 others_are b k e condition.GrantsHigh h = absurd (cc)
 others_are b k e condition.Picked h = absurd (cc)
 others_are b k e condition.ArbiterIsPri h = refl

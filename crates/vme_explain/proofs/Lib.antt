@@ -2,13 +2,13 @@
 pub mod Fresh
 -- the slots of an accepted plan
 pub mod OnPlan
--- what is told of a wire, of a grant, of a strobe
-pub mod Told
+-- what is printed about a wire, of a grant, of a strobe
+pub mod Witnessed
 -- lists that grow by what passes a test
 pub mod Grown
--- the groups together are all that is told
+-- the groups together are all that is printed
 pub mod Grouped
--- every wire that is told of a condition has a word: `blocks::write_reason`
+-- every wire that is named for a condition has a word: `blocks::write_reason`
 pub mod SpokenWitnesses
 -- pieces of a text that are written one after another: src/blocks.rt
 pub mod WrittenPieces
@@ -20,9 +20,9 @@ pub mod SixTested
 pub mod NoSuchWire
 -- `drivers`: an interrupter is pending while its request is low and was not served
 pub mod Pending
--- `stands`: the words of a line, as far as they were told
+-- `stands`: the words of a line, as far as they were printed
 pub mod Listed
 -- `stands`: texts that are written one after the other
 pub mod Written
--- `stands`: the whole block is what is told of the bus and of the drivers
+-- `stands`: the whole block is what is printed about the bus and of the drivers
 pub mod Block

@@ -1,4 +1,4 @@
--- The words of a line, as far as they were told.
+-- The words of a line, as far as they were printed.
 use Rattle.std.proofs.Common.{◌≡◌, ◌∙◌, ℕ, ◌+◌, ◌<◌, ◌≤◌, Bool, true, false, List, [], ◌∷◌, ◌++◌, length, take, drop, map, get_or, Ok, sym, ap, arith, append-nil, take-append-drop}
 use Rattle.std.specs.Prelude.{◌==◌, if◌then◌else◌, filter, nat_lt}
 use Rattle.std.specs.List.{flat_map}
@@ -69,7 +69,7 @@ pub open_has_word : (b : State) (e : Edge) → verdict b e ≡ Ok tt → HasWord
 open_has_word b e ok =
     has_word e.driver e.wire (and_left (has_wire e.driver e.wire) (has_value e.wire e.fall e.value) (and_left (is_well_formed e) (has_driver b.plan e.driver e.wire) (checked _ NoSuchDriver _ ok).0))
 
--- the lines of some drivers, from one of which there is something to tell
+-- the lines of some drivers, from one of which there is something to push_witness
 lines-append : (text : Driver → List ℕ) (ds es : List Driver) → lines_for text (ds ++ es) ≡ lines_for text ds ++ lines_for text es
 lines-append text ds es =
     ap (flat_map (λ d. text d ++ 10 ∷ [])) (filter-append (λ d. nat_lt 0 (length (text d))) ds es)

@@ -12,7 +12,7 @@ use Rattle.vme_model.specs.declared.signals.Driver.TheVariants.{Slot}
 use Rattle.vme_model.specs.Signals.{is_slot}
 use Rattle.vme_model.specs.Plan.{Plan, board, up_to, active, is_active, upstream, last_active}
 use Rattle.vme_model.specs.Accepted.{IsAccepted}
-use Rattle.vme_explain.specs.Told.{is_driver}
+use Rattle.vme_explain.specs.Witnessed.{is_driver}
 use Rattle.vme_bus.proofs.PlanSlots.{all_slots, found_holds, slot_of_board}
 
 pub driver_of_board : (p : Plan) → IsAccepted p → (d : Driver) (s : ℕ) (r : Row) → d ≡ Slot s → board p s ≡ Some r → is_driver d ≡ true

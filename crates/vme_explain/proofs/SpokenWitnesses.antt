@@ -1,4 +1,4 @@
--- Every wire that is told of a condition has a word.
+-- Every wire that is named for a condition has a word.
 use Rattle.std.proofs.Common.{◌≡◌, ◌<◌, ℕ, Bool, true, false, List, [], ◌∷◌, ◌++◌, map, filter, get_or, arith}
 use Rattle.std.specs.Prelude.{◌&&◌, if◌then◌else◌, Option, Some, None, option_map, nat_lt}
 use Rattle.std.specs.Option.{option_map_or, option_and_then, option_to_list}

@@ -35,11 +35,11 @@ module _ (b : State) (m : Marks) (e : Edge) (t : Tested) (first mid : Option (Li
   abbrev lines : Numbered → List ℕ
   lines k = reason_lines b e (reason b k e t)
 
-  abbrev told : Numbered → List ℕ
-  told k = witness_lines (witnesses_of b k e t.condition)
+  abbrev witnesses : Numbered → List ℕ
+  witnesses k = witness_lines (witnesses_of b k e t.condition)
 
   line_front : AppendsFront first mid line → WritesFront b m first mid lines
-  line_front w k of made = first_front first mid (condition_line b e t) (told k) (rw is at w)
+  line_front w k of made = first_front first mid (condition_line b e t) (witnesses k) (rw is at w)
 
   pub reason_line_fails : {A E : Type 0} (r : Result A E) → AppendsFront first mid line → OnErr r (WritesFront b m first mid lines)
   reason_line_fails r w = on_err r (WritesFront b m first mid lines) (line_front w)
@@ -51,10 +51,10 @@ module _ (b : State) (m : Marks) (e : Edge) (t : Tested) (first mid : Option (Li
         subst P is_found (f (subst (All IsSpoken) (sym is_found) (spoken b k e t.condition well)))
 
     whole : (All IsSpoken found → Appends mid last (witness_lines found)) → Writes b m first last lines
-    whole f k of made = Appends-trans first mid last (condition_line b e t) (told k) (rw is at wrote) (all_found (λ ws. Appends mid last (witness_lines ws)) f k of made)
+    whole f k of made = Appends-trans first mid last (condition_line b e t) (witnesses k) (rw is at wrote) (all_found (λ ws. Appends mid last (witness_lines ws)) f k of made)
 
     front : (All IsSpoken found → AppendsFront mid last (witness_lines found)) → WritesFront b m first last lines
-    front f k of made = second_front first mid last (condition_line b e t) (told k) (rw is at wrote) (all_found (λ ws. AppendsFront mid last (witness_lines ws)) f k of made)
+    front f k of made = second_front first mid last (condition_line b e t) (witnesses k) (rw is at wrote) (all_found (λ ws. AppendsFront mid last (witness_lines ws)) f k of made)
 
     pub reason_written : {A E : Type 0} (r : Result A E) → OnOk r (All IsSpoken found → Appends mid last (witness_lines found)) → OnOk r (Writes b m first last lines)
     reason_written r h = on_ok_map r (All IsSpoken found → Appends mid last (witness_lines found)) (Writes b m first last lines) whole h

@@ -7,6 +7,7 @@ use Rattle.vme_model.specs.declared.witnesses.Witness.{Witness}
 use Rattle.vme_model.specs.declared.witnesses.Witness.TheVariants.{Wire}
 use Rattle.vme_model.specs.Plan.{board_of}
 use Rattle.vme_model.specs.History.{shown}
+use Rattle.vme_model.specs.Sources.{is_ours, profile_mark}
 use Rattle.vme_model.specs.Spoken.{condition_text}
 use Rattle.vme_model.specs.Text.{HasWord}
 use Rattle.vme_model.specs.Verdict.{State}
@@ -26,11 +27,12 @@ witness_line w = (codes "    " ++ witness_text w) ++ 10 ∷ []
 -- the line of a tested condition of an edge
 abbrev pub condition_line : State → Edge → Tested → List ℕ
 condition_line b e t =
-    (outcome_text t.holds
+    ((outcome_text t.holds
     ++ condition_text t.condition e (board_of b.plan e.driver) (shown b.plan b.history))
+    ++ profile_mark (is_ours e.wire e.fall t.condition))
     ++ 10 ∷ []
 
--- a tested condition of an edge, with what is told of it
+-- a tested condition of an edge, with what is printed about it
 abbrev pub reason : State → Numbered → Edge → Tested → Reason
 reason b k e t = record { tested = t; witnesses = witnesses_of b k e t.condition }
 

@@ -1,4 +1,4 @@
--- What is told of a condition, by groups of conditions.
+-- What is printed about a condition, by groups of conditions.
 use Rattle.std.specs.Prelude.{◌++◌, ◌∷◌, if◌then◌else◌, Bool, true, false, Option, Some, None, List, []}
 use Rattle.std.specs.Option.{option_map_or}
 use Rattle.vme_model.specs.declared.conditions.Condition.{Condition}
@@ -16,9 +16,9 @@ use Rattle.vme_model.specs.Spoken.{level_of}
 use Rattle.vme_model.specs.Verdict.{State}
 use Rattle.vme_model.specs.Numbered.{Numbered}
 use Rattle.vme_model.specs.Witnesses.{seen, own, low, low_grants, requests, granted, picked, interrupts, grant_input, acknowledge_input, last_segment, addressed, bursts, strobe, service}
-use Rattle.vme_explain.specs.Told.{request_told}
+use Rattle.vme_explain.specs.Witnessed.{request_witness}
 
--- told by who asks for something, or what they are granted
+-- shown by who asks for something, or what they are granted
 abbrev pub is_of_askers : Condition → Bool
 is_of_askers condition.GrantsHigh = true
 is_of_askers condition.Picked = true
@@ -27,14 +27,14 @@ is_of_askers condition.ClearNotDue = true
 is_of_askers condition.InterruptLow = true
 is_of_askers _ = false
 
-abbrev pub askers_told : State → Numbered → Edge → Condition → List Witness
-askers_told b k e condition.GrantsHigh = low_grants b k
-askers_told b k e condition.Picked = requests b k ++ granted b k ∷ picked b ∷ []
-askers_told b k e condition.HigherAsked = requests b k ++ granted b k ∷ []
-askers_told b k e condition.ClearNotDue =
+abbrev pub askers_witnesses : State → Numbered → Edge → Condition → List Witness
+askers_witnesses b k e condition.GrantsHigh = low_grants b k
+askers_witnesses b k e condition.Picked = requests b k ++ granted b k ∷ picked b ∷ []
+askers_witnesses b k e condition.HigherAsked = requests b k ++ granted b k ∷ []
+askers_witnesses b k e condition.ClearNotDue =
     (low b k Bbsy ++ low_grants b k) ++ (requests b k ++ granted b k ∷ [])
-askers_told b k e condition.InterruptLow = interrupts b k (level_of e.value)
-askers_told b k e _ = []
+askers_witnesses b k e condition.InterruptLow = interrupts b k (level_of e.value)
+askers_witnesses b k e _ = []
 
 -- the line that a condition speaks of, or the first of two
 abbrev pub first_line : Condition → Option Wire
@@ -57,24 +57,24 @@ second_line condition.Answered = Some Dtack
 second_line condition.ChainHigh = Some IackOut
 second_line _ = None
 
-abbrev pub line_told : State → Numbered → Option Wire → List Witness
-line_told b k line = option_map_or (λ w. low b k w) line []
+abbrev pub line_witnesses : State → Numbered → Option Wire → List Witness
+line_witnesses b k line = option_map_or (λ w. low b k w) line []
 
 -- the last segment that an acknowledge has to pass
-abbrev pub last_told : State → Numbered → List Witness
-last_told b k =
+abbrev pub last_witness : State → Numbered → List Witness
+last_witness b k =
     if is_acknowledge (shown b.plan b.history) then last_segment b k chain.Iack ∷ [] else []
 
 -- what is shown, a last segment, or the edge's own wire
-abbrev pub places_told : State → Numbered → Edge → Condition → List Witness
-places_told b k e condition.AcknowledgeShown = addressed b k
-places_told b k e condition.CycleShown = addressed b k
-places_told b k e condition.OwnSlotShown = addressed b k
-places_told b k e condition.NobodyCanAnswer = addressed b k ++ last_told b k
-places_told b k e condition.PassedTheLastBoard =
+abbrev pub place_witnesses : State → Numbered → Edge → Condition → List Witness
+place_witnesses b k e condition.AcknowledgeShown = addressed b k
+place_witnesses b k e condition.CycleShown = addressed b k
+place_witnesses b k e condition.OwnSlotShown = addressed b k
+place_witnesses b k e condition.NobodyCanAnswer = addressed b k ++ last_witness b k
+place_witnesses b k e condition.PassedTheLastBoard =
     last_segment b k (grant_chain (grant_level e.wire)) ∷ []
-places_told b k e condition.OtherState = seen b k e.driver e.wire ∷ []
-places_told b k e _ = []
+place_witnesses b k e condition.OtherState = seen b k e.driver e.wire ∷ []
+place_witnesses b k e _ = []
 
 -- the board's own wire that a condition speaks of, or the first of two
 abbrev pub own_wire : Condition → Option Wire
@@ -94,8 +94,8 @@ own_wire condition.Served = Some Irq
 own_wire _ = None
 
 abbrev pub own_first : State → Numbered → Driver → Condition → List Witness
-own_first b k d condition.Pending = request_told b k d
-own_first b k d condition.NotPending = request_told b k d
+own_first b k d condition.Pending = request_witness b k d
+own_first b k d condition.NotPending = request_witness b k d
 own_first b k d c = option_map_or (λ w. own b k d w) (own_wire c) []
 
 -- what else of the board a condition speaks of
@@ -112,9 +112,9 @@ own_second b k d condition.Pending = service b k d
 own_second b k d condition.NotPending = service b k d
 own_second b k d _ = []
 
--- what is told of a condition that is not of those that ask
-abbrev pub others_told : State → Numbered → Edge → Condition → List Witness
-others_told b k e c =
-    (((line_told b k (first_line c) ++ line_told b k (second_line c)) ++ places_told b k e c)
+-- what is printed about a condition that is not of those that ask
+abbrev pub other_witnesses : State → Numbered → Edge → Condition → List Witness
+other_witnesses b k e c =
+    (((line_witnesses b k (first_line c) ++ line_witnesses b k (second_line c)) ++ place_witnesses b k e c)
     ++ own_first b k e.driver c)
     ++ own_second b k e.driver c

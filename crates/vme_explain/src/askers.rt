@@ -1,19 +1,19 @@
-//! What is told of those that ask for the bus or for an interrupt, and of what they are granted.
+//! What is printed about those that ask for the bus or for an interrupt, and of what they are granted.
 ghost use Rattle.std.specs.Prelude.{◌≡◌, ◌≤◌, ◌+◌, ◌++◌, ◌∷◌, [], length};
 ghost use Rattle.vme_model.specs.Spoken.{level_of};
 ghost use Rattle.vme_model.specs.Witnesses.{requests, granted, picked};
 ghost use Rattle.vme_explain.specs.Traced.{OfTrace};
-ghost use Rattle.vme_explain.specs.Grouped.{is_of_askers, askers_told};
+ghost use Rattle.vme_explain.specs.Grouped.{is_of_askers, askers_witnesses};
 
 use crate::lines::{
-    ROOM, granted, picked, tell_interrupts, tell_low, tell_low_grants, tell_requests,
+    ROOM, granted, picked, push_interrupts, push_low, push_low_grants, push_requests,
 };
 use crate::marks::Marks;
 use arrayvec::ArrayVec;
 use vme_bus::Bus;
 use vme_model::{Condition, Cycle, Edge, Wire, Witness};
 
-/// Whether a condition is told by who asks for something, or what they are granted.
+/// Whether a condition is shown by those who asks for something, or what they are granted.
 pub(crate) fn is_of_askers(condition: Condition) -> bool
     ensures { result ≡ is_of_askers condition }
 {
@@ -38,30 +38,30 @@ fn level_of(cycle: Option<Cycle>) -> u8
 }
 
 /// Puts who requests the bus and the level last granted behind the others.
-fn tell_asked(bus: &Bus, marks: &Marks, told: &mut ArrayVec<Witness, ROOM>)
-    requires { length told.old.items + 23 ≤ 64 }
-    ensures told { OfTrace bus.now marks.now (λ k. told.new.items ≡ told.old.items
+fn push_asked(bus: &Bus, marks: &Marks, witnesses: &mut ArrayVec<Witness, ROOM>)
+    requires { length witnesses.old.items + 23 ≤ 64 }
+    ensures witnesses { OfTrace bus.now marks.now (λ k. witnesses.new.items ≡ witnesses.old.items
         ++ (requests bus.now k ++ granted bus.now k ∷ [])) }
-    ensures few { length told.new.items ≤ length told.old.items + 23 }
+    ensures few { length witnesses.new.items ≤ length witnesses.old.items + 23 }
 {
-    tell_requests(bus, marks, told);
-    told.push(granted(bus, marks));
+    push_requests(bus, marks, witnesses);
+    witnesses.push(granted(bus, marks));
 }
 
 /// Puts who requests the bus, the level last granted and the one that the policy picks behind the
 /// others.
-fn tell_picked(bus: &Bus, marks: &Marks, told: &mut ArrayVec<Witness, ROOM>)
-    requires { length told.old.items + 24 ≤ 64 }
-    ensures told { OfTrace bus.now marks.now (λ k. told.new.items ≡ told.old.items
+fn push_picked(bus: &Bus, marks: &Marks, witnesses: &mut ArrayVec<Witness, ROOM>)
+    requires { length witnesses.old.items + 24 ≤ 64 }
+    ensures witnesses { OfTrace bus.now marks.now (λ k. witnesses.new.items ≡ witnesses.old.items
         ++ (requests bus.now k ++ granted bus.now k ∷ picked bus.now ∷ [])) }
-    ensures few { length told.new.items ≤ length told.old.items + 24 }
+    ensures few { length witnesses.new.items ≤ length witnesses.old.items + 24 }
 {
-    tell_requests(bus, marks, told);
-    told.push(granted(bus, marks));
-    told.push(picked(bus));
+    push_requests(bus, marks, witnesses);
+    witnesses.push(granted(bus, marks));
+    witnesses.push(picked(bus));
 }
 
-/// What is told of a condition of those that ask.
+/// What is printed about a condition of those that ask.
 pub(crate) fn askers(
     bus: &Bus,
     marks: &Marks,
@@ -69,22 +69,22 @@ pub(crate) fn askers(
     condition: Condition,
 ) -> ArrayVec<Witness, ROOM>
     ensures { OfTrace bus.now marks.now (λ k.
-        result.items ≡ askers_told bus.now k edge.now condition) }
+        result.items ≡ askers_witnesses bus.now k edge.now condition) }
 {
-    let mut told = ArrayVec::new();
+    let mut witnesses = ArrayVec::new();
     match condition {
-        Condition::GrantsHigh => tell_low_grants(bus, marks, &mut told),
-        Condition::Picked => tell_picked(bus, marks, &mut told),
-        Condition::HigherAsked => tell_asked(bus, marks, &mut told),
+        Condition::GrantsHigh => push_low_grants(bus, marks, &mut witnesses),
+        Condition::Picked => push_picked(bus, marks, &mut witnesses),
+        Condition::HigherAsked => push_asked(bus, marks, &mut witnesses),
         Condition::ClearNotDue => {
-            tell_low(bus, marks, Wire::Bbsy, &mut told);
-            tell_low_grants(bus, marks, &mut told);
-            tell_asked(bus, marks, &mut told);
+            push_low(bus, marks, Wire::Bbsy, &mut witnesses);
+            push_low_grants(bus, marks, &mut witnesses);
+            push_asked(bus, marks, &mut witnesses);
         }
         Condition::InterruptLow => {
-            tell_interrupts(bus, marks, level_of(edge.value), &mut told);
+            push_interrupts(bus, marks, level_of(edge.value), &mut witnesses);
         }
         _ => {}
     }
-    told
+    witnesses
 }

@@ -1,4 +1,4 @@
-//! The block that tells why an edge has its verdict.
+//! The block that says why an edge has its verdict.
 ghost use Rattle.std.specs.Prelude.{◌≡◌, ◌++◌, IsTrue, IfErr, OnOk, OnErr, All};
 ghost use Rattle.std.specs.Io.KnownBytes.{Appends};
 ghost use Rattle.vme_model.specs.Deliveries.{answer as answer_to};
@@ -17,12 +17,12 @@ use crate::texts::{LINE, push_verdict, witness_line};
 use arrayvec::ArrayVec;
 use std::io::Write;
 use vme_bus::Bus;
-use vme_model::{Delivery, Edge, Refused, Tested, Witness};
+use vme_model::{Delivery, Edge, Refused, Tested, Witness, profile_mark};
 use vme_text::{push, push_number};
 use vme_trace::{Fault, put, spelling_of};
 
-/// The first line: the number of the edge, the edge, and its verdict.
-fn verdict_line(
+/// The first line of a block: the number of the edge, the edge, its verdict and a line feed.
+pub fn verdict_line(
     n: u64,
     edge: &Edge,
     answer: &Result<Option<Delivery>, Refused>,
@@ -41,7 +41,7 @@ fn verdict_line(
     line
 }
 
-/// The line of a condition.
+/// The line of a condition, with its mark if it is the profile's.
 fn condition_line(bus: &Bus, edge: &Edge, tested: Tested) -> ArrayVec<u8, LINE>
     requires { IsTrue (is_well_formed edge.now) }
     ensures { result.items ≡ condition_line bus.now edge.now tested }
@@ -52,6 +52,8 @@ fn condition_line(bus: &Bus, edge: &Edge, tested: Tested) -> ArrayVec<u8, LINE>
     let mut line = ArrayVec::new();
     push(&mut line, if tested.holds { b"holds " } else { b"fails " });
     push(&mut line, text.as_slice());
+    let ours = tested.condition.is_ours(edge.wire, edge.fall);
+    push(&mut line, profile_mark(ours).as_bytes());
     push(&mut line, b"\n");
     line
 }
@@ -98,19 +100,19 @@ fn write_reasons<W: Write>(
     bus: &Bus,
     marks: &Marks,
     edge: &Edge,
-    told: &[Tested],
+    witnesses: &[Tested],
     out: &mut W,
 ) -> Result<(), Fault>
     requires { IsTrue (is_well_formed edge.now) }
     ensures ok { OnOk result (OfTrace bus.now marks.now
         (λ k. Appends (W.contents out.old) (W.contents out.new)
-        (reasons_text bus.now k edge.now told.now))) }
+        (reasons_text bus.now k edge.now witnesses.now))) }
     ensures front { OnErr result (OfTrace bus.now marks.now
         (λ k. AppendsFront (W.contents out.old) (W.contents out.new)
-        (reasons_text bus.now k edge.now told.now))) }
+        (reasons_text bus.now k edge.now witnesses.now))) }
     ensures fault { IfErr result (λ fault. fault ≡ Fault.Write) }
 {
-    for tested in told {
+    for tested in witnesses {
         write_reason(bus, marks, edge, *tested, out)?;
     }
     Ok(())
@@ -143,6 +145,6 @@ pub fn write_why<W: Write>(
     ensures fault { IfErr result (λ fault. fault ≡ Fault.Write) }
 {
     put(out, verdict_line(n, edge, answer).as_slice())?;
-    let told: Conditions = bus.told(*edge);
-    write_reasons(bus, marks, edge, told.as_slice(), out)
+    let witnesses: Conditions = bus.outcome(*edge);
+    write_reasons(bus, marks, edge, witnesses.as_slice(), out)
 }

@@ -3,7 +3,7 @@ ghost use Rattle.std.specs.Prelude.{◌≡◌, Some, true};
 ghost use Rattle.vme_model.specs.declared.boards.Row.{Row as RowValue};
 ghost use Rattle.vme_model.specs.Plan.{board_of, interrupts_on};
 ghost use Rattle.vme_model.specs.Witnesses.{requester_of, interrupter_of};
-ghost use Rattle.vme_explain.specs.Told.{is_driver};
+ghost use Rattle.vme_explain.specs.Witnessed.{is_driver};
 
 use vme_bus::Bus;
 use vme_model::{Driver, InterrupterRow, RequesterRow, Row};

@@ -1,14 +1,14 @@
-//! What is told of a condition of an edge.
+//! What is printed about a condition of an edge.
 ghost use Rattle.std.specs.Prelude.{◌≡◌, ◌≤◌, ◌+◌, ◌++◌, length, IsTrue, true};
 ghost use Rattle.std.specs.Option.{option_to_list};
 ghost use Rattle.vme_model.specs.Signals.{is_well_formed};
 ghost use Rattle.vme_model.specs.Witnesses.{witnesses_of};
 ghost use Rattle.vme_explain.specs.Traced.{OfTrace};
-ghost use Rattle.vme_explain.specs.Grouped.{first_line, second_line, line_told, last_told, places_told, others_told};
+ghost use Rattle.vme_explain.specs.Grouped.{first_line, second_line, line_witnesses, last_witness, place_witnesses, other_witnesses};
 
 use crate::askers::{askers, is_of_askers};
 use crate::chains::last_segment;
-use crate::lines::{ROOM, tell_low};
+use crate::lines::{ROOM, push_low};
 use crate::marks::Marks;
 use crate::owns::{own_first, own_second};
 use crate::parts::addressed;
@@ -18,13 +18,13 @@ use vme_bus::Bus;
 use vme_model::{ChainId, Condition, Edge, Wire, Witness};
 
 /// Puts one more behind the others, where there is one.
-fn tell(witness: Option<Witness>, told: &mut ArrayVec<Witness, ROOM>)
-    requires { length told.old.items + 1 ≤ 64 }
-    ensures told { told.new.items ≡ told.old.items ++ option_to_list witness }
-    ensures few { length told.new.items ≤ length told.old.items + 1 }
+fn push_witness(witness: Option<Witness>, witnesses: &mut ArrayVec<Witness, ROOM>)
+    requires { length witnesses.old.items + 1 ≤ 64 }
+    ensures witnesses { witnesses.new.items ≡ witnesses.old.items ++ option_to_list witness }
+    ensures few { length witnesses.new.items ≤ length witnesses.old.items + 1 }
 {
     if let Some(witness) = witness {
-        told.push(witness);
+        witnesses.push(witness);
     }
 }
 
@@ -57,21 +57,21 @@ fn second_line(condition: Condition) -> Option<Wire>
 }
 
 /// Puts who holds a line low behind the others, where there is a line.
-fn tell_line(bus: &Bus, marks: &Marks, line: Option<Wire>, told: &mut ArrayVec<Witness, ROOM>)
-    requires { length told.old.items + 22 ≤ 64 }
-    ensures told { OfTrace bus.now marks.now (λ k.
-        told.new.items ≡ told.old.items ++ line_told bus.now k line) }
-    ensures few { length told.new.items ≤ length told.old.items + 22 }
+fn push_line(bus: &Bus, marks: &Marks, line: Option<Wire>, witnesses: &mut ArrayVec<Witness, ROOM>)
+    requires { length witnesses.old.items + 22 ≤ 64 }
+    ensures witnesses { OfTrace bus.now marks.now (λ k.
+        witnesses.new.items ≡ witnesses.old.items ++ line_witnesses bus.now k line) }
+    ensures few { length witnesses.new.items ≤ length witnesses.old.items + 22 }
 {
     if let Some(wire) = line {
-        tell_low(bus, marks, wire, told);
+        push_low(bus, marks, wire, witnesses);
     }
 }
 
 /// The segment of the acknowledge chain that an acknowledge has to pass last.
 fn last_acknowledge(bus: &Bus, marks: &Marks) -> Option<Witness>
     ensures { OfTrace bus.now marks.now (λ k.
-        option_to_list result ≡ last_told bus.now k) }
+        option_to_list result ≡ last_witness bus.now k) }
 {
     let cycle = bus.shown()?;
     if cycle.is_acknowledge() {
@@ -82,52 +82,58 @@ fn last_acknowledge(bus: &Bus, marks: &Marks) -> Option<Witness>
 }
 
 /// Puts what is shown, a last segment, or the edge's own wire behind the others.
-fn tell_place(
+fn push_place(
     bus: &Bus,
     marks: &Marks,
     edge: &Edge,
     condition: Condition,
-    told: &mut ArrayVec<Witness, ROOM>,
+    witnesses: &mut ArrayVec<Witness, ROOM>,
 )
     requires formed { is_well_formed edge.now ≡ true }
-    requires room { length told.old.items + 2 ≤ 64 }
-    ensures told { OfTrace bus.now marks.now (λ k. told.new.items ≡ told.old.items
-        ++ places_told bus.now k edge.now condition) }
-    ensures few { length told.new.items ≤ length told.old.items + 2 }
+    requires room { length witnesses.old.items + 2 ≤ 64 }
+    ensures witnesses { OfTrace bus.now marks.now (λ k. witnesses.new.items ≡ witnesses.old.items
+        ++ place_witnesses bus.now k edge.now condition) }
+    ensures few { length witnesses.new.items ≤ length witnesses.old.items + 2 }
 {
     match condition {
         Condition::AcknowledgeShown | Condition::CycleShown | Condition::OwnSlotShown => {
-            tell(addressed(bus, marks), told);
+            push_witness(addressed(bus, marks), witnesses);
         }
         Condition::NobodyCanAnswer => {
-            tell(addressed(bus, marks), told);
-            tell(last_acknowledge(bus, marks), told);
+            push_witness(addressed(bus, marks), witnesses);
+            push_witness(last_acknowledge(bus, marks), witnesses);
         }
         Condition::PassedTheLastBoard => {
             let chain = ChainId::of_grant(edge.wire.grant_level());
-            told.push(last_segment(bus, marks, chain));
+            witnesses.push(last_segment(bus, marks, chain));
         }
-        Condition::OtherState => told.push(seen(bus, marks, edge.driver, edge.wire)),
+        Condition::OtherState => witnesses.push(seen(bus, marks, edge.driver, edge.wire)),
         _ => {}
     }
 }
 
-/// What is told of a condition that is not of those that ask.
+/// What is printed about a condition that is not of those that ask.
 fn others(bus: &Bus, marks: &Marks, edge: &Edge, condition: Condition) -> ArrayVec<Witness, ROOM>
     requires { is_well_formed edge.now ≡ true }
     ensures { OfTrace bus.now marks.now (λ k.
-        result.items ≡ others_told bus.now k edge.now condition) }
+        result.items ≡ other_witnesses bus.now k edge.now condition) }
 {
-    let mut told = ArrayVec::new();
-    tell_line(bus, marks, first_line(condition), &mut told);
-    tell_line(bus, marks, second_line(condition), &mut told);
-    tell_place(bus, marks, edge, condition, &mut told);
-    tell(own_first(bus, marks, edge.driver, condition), &mut told);
-    tell(own_second(bus, marks, edge.driver, condition), &mut told);
-    told
+    let mut witnesses = ArrayVec::new();
+    push_line(bus, marks, first_line(condition), &mut witnesses);
+    push_line(bus, marks, second_line(condition), &mut witnesses);
+    push_place(bus, marks, edge, condition, &mut witnesses);
+    push_witness(
+        own_first(bus, marks, edge.driver, condition),
+        &mut witnesses,
+    );
+    push_witness(
+        own_second(bus, marks, edge.driver, condition),
+        &mut witnesses,
+    );
+    witnesses
 }
 
-/// What is told of a condition of an edge that is well formed and not yet made: the wires that the
+/// What is printed about a condition of an edge that is well formed and not yet made: the wires that the
 /// condition speaks of, or that hold its line low, since which edges they are so, and what it
 /// counts.
 ///

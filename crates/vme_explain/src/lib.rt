@@ -1,5 +1,5 @@
-//! The edges of a trace since which a bus is as it is, by their numbers, what is told of a condition
-//! by them, the block that tells why an edge has its verdict, and that of where the bus stands.
+//! The edges of a trace since which a bus is as it is, by their numbers, what is printed about a condition
+//! by them, the block that says why an edge has its verdict, and that of where the bus stands.
 #![tactic(auto)]
 
 mod askers;
@@ -20,7 +20,7 @@ mod tested;
 pub mod texts;
 mod wires;
 
-pub use blocks::write_why;
+pub use blocks::{verdict_line, write_why};
 pub use conditions::witnesses;
 pub use drivers::since;
 pub use marks::Marks;

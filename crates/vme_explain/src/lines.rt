@@ -7,7 +7,7 @@ ghost use Rattle.vme_model.specs.Signals.{has_wire};
 ghost use Rattle.vme_model.specs.History.{drive};
 ghost use Rattle.vme_model.specs.Witnesses.{seen, wire_at, holds_low, low, low_grants, requester_of, requests, granted, picked, interrupts};
 ghost use Rattle.vme_explain.specs.Traced.{OfTrace};
-ghost use Rattle.vme_explain.specs.Told.{asks_at};
+ghost use Rattle.vme_explain.specs.Witnessed.{asks_at};
 
 use crate::boards::{board_of, interrupts_on, requester_of};
 use crate::marks::Marks;
@@ -17,92 +17,97 @@ use vme_arbiter::{AnyPolicy, Policy};
 use vme_bus::Bus;
 use vme_model::{Driver, Wire, Witness};
 
-/// Room for what is told of any condition: of bus clear 22 that hold BBSY* low, four grants, 22
+/// Room for what is printed about any condition: of bus clear 22 that hold BBSY* low, four grants, 22
 /// requests and the level last granted; of two lines at most 22 each, and four more.
 pub(crate) const ROOM: usize = 64;
 
 /// Puts the driver's wire behind the others where it is low.
-fn tell_holder(
+fn push_holder(
     bus: &Bus,
     marks: &Marks,
     wire: Wire,
     driver: Driver,
-    told: &mut ArrayVec<Witness, ROOM>,
+    witnesses: &mut ArrayVec<Witness, ROOM>,
 )
-    requires { length told.old.items < 64 }
-    ensures told { OfTrace bus.now marks.now (λ k. told.new.items ≡ told.old.items
+    requires { length witnesses.old.items < 64 }
+    ensures witnesses { OfTrace bus.now marks.now (λ k. witnesses.new.items ≡ witnesses.old.items
         ++ map (λ d. seen bus.now k d wire)
         (filter (holds_low bus.now wire) (driver ∷ []))) }
-    ensures few { length told.new.items ≤ length told.old.items + 1 }
+    ensures few { length witnesses.new.items ≤ length witnesses.old.items + 1 }
 {
     if holds_low(bus, wire, driver) {
-        told.push(seen(bus, marks, driver, wire));
+        witnesses.push(seen(bus, marks, driver, wire));
     }
 }
 
 /// Puts who holds the wire low behind the others, the controller first, then by slot.
-pub(crate) fn tell_low(bus: &Bus, marks: &Marks, wire: Wire, told: &mut ArrayVec<Witness, ROOM>)
-    requires { length told.old.items + 22 ≤ 64 }
-    ensures told { OfTrace bus.now marks.now (λ k.
-        told.new.items ≡ told.old.items ++ low bus.now k wire) }
-    ensures few { length told.new.items ≤ length told.old.items + 22 }
+pub(crate) fn push_low(
+    bus: &Bus,
+    marks: &Marks,
+    wire: Wire,
+    witnesses: &mut ArrayVec<Witness, ROOM>,
+)
+    requires { length witnesses.old.items + 22 ≤ 64 }
+    ensures witnesses { OfTrace bus.now marks.now (λ k.
+        witnesses.new.items ≡ witnesses.old.items ++ low bus.now k wire) }
+    ensures few { length witnesses.new.items ≤ length witnesses.old.items + 22 }
 {
     for driver in bus.plan().drivers().as_slice() {
-        tell_holder(bus, marks, wire, *driver, told);
+        push_holder(bus, marks, wire, *driver, witnesses);
     }
 }
 
 /// Puts the controller's grant of that level behind the others where it is low.
-fn tell_grant(bus: &Bus, marks: &Marks, level: u8, told: &mut ArrayVec<Witness, ROOM>)
+fn push_grant(bus: &Bus, marks: &Marks, level: u8, witnesses: &mut ArrayVec<Witness, ROOM>)
     requires level { level < 4 }
-    requires room { length told.old.items < 64 }
-    ensures told { OfTrace bus.now marks.now (λ k. told.new.items ≡ told.old.items
+    requires room { length witnesses.old.items < 64 }
+    ensures witnesses { OfTrace bus.now marks.now (λ k. witnesses.new.items ≡ witnesses.old.items
         ++ map (λ n. seen bus.now k Controller (Bg n))
         (filter (λ n. drive bus.now.history Controller (Bg n)) (level ∷ []))) }
-    ensures few { length told.new.items ≤ length told.old.items + 1 }
+    ensures few { length witnesses.new.items ≤ length witnesses.old.items + 1 }
 {
     if bus.is_low(Driver::Controller, Wire::Bg(level)) {
-        told.push(seen(bus, marks, Driver::Controller, Wire::Bg(level)));
+        witnesses.push(seen(bus, marks, Driver::Controller, Wire::Bg(level)));
     }
 }
 
 /// Puts the controller's grants that are low behind the others.
-pub(crate) fn tell_low_grants(bus: &Bus, marks: &Marks, told: &mut ArrayVec<Witness, ROOM>)
-    requires { length told.old.items + 4 ≤ 64 }
-    ensures told { OfTrace bus.now marks.now (λ k.
-        told.new.items ≡ told.old.items ++ low_grants bus.now k) }
-    ensures few { length told.new.items ≤ length told.old.items + 4 }
+pub(crate) fn push_low_grants(bus: &Bus, marks: &Marks, witnesses: &mut ArrayVec<Witness, ROOM>)
+    requires { length witnesses.old.items + 4 ≤ 64 }
+    ensures witnesses { OfTrace bus.now marks.now (λ k.
+        witnesses.new.items ≡ witnesses.old.items ++ low_grants bus.now k) }
+    ensures few { length witnesses.new.items ≤ length witnesses.old.items + 4 }
 {
-    tell_grant(bus, marks, 0, told);
-    tell_grant(bus, marks, 1, told);
-    tell_grant(bus, marks, 2, told);
-    tell_grant(bus, marks, 3, told);
+    push_grant(bus, marks, 0, witnesses);
+    push_grant(bus, marks, 1, witnesses);
+    push_grant(bus, marks, 2, witnesses);
+    push_grant(bus, marks, 3, witnesses);
 }
 
 /// Puts the driver's bus request with its level behind the others where it is low.
-fn tell_request(bus: &Bus, marks: &Marks, driver: Driver, told: &mut ArrayVec<Witness, ROOM>)
-    requires { length told.old.items < 64 }
-    ensures told { OfTrace bus.now marks.now (λ k. told.new.items ≡ told.old.items
+fn push_request(bus: &Bus, marks: &Marks, driver: Driver, witnesses: &mut ArrayVec<Witness, ROOM>)
+    requires { length witnesses.old.items < 64 }
+    ensures witnesses { OfTrace bus.now marks.now (λ k. witnesses.new.items ≡ witnesses.old.items
         ++ map (λ d. wire_at bus.now k d Br
         (option_map (λ q. q.level) (requester_of bus.now d)))
         (filter (holds_low bus.now Br) (driver ∷ []))) }
-    ensures few { length told.new.items ≤ length told.old.items + 1 }
+    ensures few { length witnesses.new.items ≤ length witnesses.old.items + 1 }
 {
     if holds_low(bus, Wire::Br, driver) {
         let level = requester_of(bus, driver).map(|requester| requester.level);
-        told.push(wire_at(bus, marks, driver, Wire::Br, level));
+        witnesses.push(wire_at(bus, marks, driver, Wire::Br, level));
     }
 }
 
 /// Puts who requests the bus behind the others, each with its level.
-pub(crate) fn tell_requests(bus: &Bus, marks: &Marks, told: &mut ArrayVec<Witness, ROOM>)
-    requires { length told.old.items + 22 ≤ 64 }
-    ensures told { OfTrace bus.now marks.now (λ k.
-        told.new.items ≡ told.old.items ++ requests bus.now k) }
-    ensures few { length told.new.items ≤ length told.old.items + 22 }
+pub(crate) fn push_requests(bus: &Bus, marks: &Marks, witnesses: &mut ArrayVec<Witness, ROOM>)
+    requires { length witnesses.old.items + 22 ≤ 64 }
+    ensures witnesses { OfTrace bus.now marks.now (λ k.
+        witnesses.new.items ≡ witnesses.old.items ++ requests bus.now k) }
+    ensures few { length witnesses.new.items ≤ length witnesses.old.items + 22 }
 {
     for driver in bus.plan().drivers().as_slice() {
-        tell_request(bus, marks, *driver, told);
+        push_request(bus, marks, *driver, witnesses);
     }
 }
 
@@ -139,37 +144,37 @@ fn asks_at(bus: &Bus, level: u8, driver: Driver) -> bool
 }
 
 /// Puts the driver's interrupt request behind the others where it asks for that level.
-fn tell_interrupt(
+fn push_interrupt(
     bus: &Bus,
     marks: &Marks,
     level: u8,
     driver: Driver,
-    told: &mut ArrayVec<Witness, ROOM>,
+    witnesses: &mut ArrayVec<Witness, ROOM>,
 )
-    requires { length told.old.items < 64 }
-    ensures told { OfTrace bus.now marks.now (λ k. told.new.items ≡ told.old.items
+    requires { length witnesses.old.items < 64 }
+    ensures witnesses { OfTrace bus.now marks.now (λ k. witnesses.new.items ≡ witnesses.old.items
         ++ map (λ d. seen bus.now k d Irq)
         (filter (asks_at bus.now level) (driver ∷ []))) }
-    ensures few { length told.new.items ≤ length told.old.items + 1 }
+    ensures few { length witnesses.new.items ≤ length witnesses.old.items + 1 }
 {
     if asks_at(bus, level, driver) {
-        told.push(seen(bus, marks, driver, Wire::Irq));
+        witnesses.push(seen(bus, marks, driver, Wire::Irq));
     }
 }
 
 /// Puts who asks for that interrupt level behind the others.
-pub(crate) fn tell_interrupts(
+pub(crate) fn push_interrupts(
     bus: &Bus,
     marks: &Marks,
     level: u8,
-    told: &mut ArrayVec<Witness, ROOM>,
+    witnesses: &mut ArrayVec<Witness, ROOM>,
 )
-    requires { length told.old.items + 22 ≤ 64 }
-    ensures told { OfTrace bus.now marks.now (λ k.
-        told.new.items ≡ told.old.items ++ interrupts bus.now k level) }
-    ensures few { length told.new.items ≤ length told.old.items + 22 }
+    requires { length witnesses.old.items + 22 ≤ 64 }
+    ensures witnesses { OfTrace bus.now marks.now (λ k.
+        witnesses.new.items ≡ witnesses.old.items ++ interrupts bus.now k level) }
+    ensures few { length witnesses.new.items ≤ length witnesses.old.items + 22 }
 {
     for driver in bus.plan().drivers().as_slice() {
-        tell_interrupt(bus, marks, level, *driver, told);
+        push_interrupt(bus, marks, level, *driver, witnesses);
     }
 }

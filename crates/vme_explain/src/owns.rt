@@ -1,7 +1,7 @@
-//! What is told of the board's own wires and parts.
+//! What is printed about the board's own wires and parts.
 ghost use Rattle.std.specs.Prelude.{◌≡◌, true};
 ghost use Rattle.std.specs.Option.{option_to_list};
-ghost use Rattle.vme_explain.specs.Told.{is_driver};
+ghost use Rattle.vme_explain.specs.Witnessed.{is_driver};
 ghost use Rattle.vme_explain.specs.Traced.{OfTrace};
 ghost use Rattle.vme_explain.specs.Grouped.{own_wire, own_first, own_second};
 

@@ -6,7 +6,7 @@ ghost use Rattle.vme_model.specs.declared.signals.Driver.TheVariants.{Slot};
 ghost use Rattle.vme_model.specs.History.{cycles};
 ghost use Rattle.vme_model.specs.Witnesses.{addressed, bursts, strobe, service};
 ghost use Rattle.vme_explain.specs.Traced.{OfTrace};
-ghost use Rattle.vme_explain.specs.Told.{is_driver, request_told};
+ghost use Rattle.vme_explain.specs.Witnessed.{is_driver, request_witness};
 
 use crate::boards::{interrupter_of, requester_of};
 use crate::marks::Marks;
@@ -85,7 +85,7 @@ pub(crate) fn service(bus: &Bus, marks: &Marks, driver: Driver) -> Option<Witnes
 pub(crate) fn request(bus: &Bus, marks: &Marks, driver: Driver) -> Option<Witness>
     requires { is_driver driver ≡ true }
     ensures { OfTrace bus.now marks.now (λ k.
-        option_to_list result ≡ request_told bus.now k driver) }
+        option_to_list result ≡ request_witness bus.now k driver) }
 {
     let interrupter = interrupter_of(bus, driver)?;
     Some(wire_at(bus, marks, driver, Wire::Irq, Some(interrupter.level)))

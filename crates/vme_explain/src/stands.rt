@@ -1,4 +1,4 @@
-//! Where a bus stands, and the block that tells it.
+//! Where a bus stands, and the block that says it.
 ghost use Rattle.std.specs.Prelude.{◌≡◌, ◌+◌, ◌<◌, ◌≤◌, ◌++◌, ◌∷◌, [], ℕ, List, decimal, length, max, IfErr, OnOk, OnErr};
 ghost use Rattle.std.specs.Io.KnownBytes.{Appends};
 ghost use Rattle.arrayvec.specs.ArrayVec.{array_vec_len};
@@ -32,7 +32,7 @@ type Line = ArrayVec<u8, LINE>;
 /// Room for the word of an edge: the longest has 13 bytes.
 const WORD: usize = 16;
 
-/// What a line tells of a driver.
+/// What a line says of a driver.
 #[derive(Clone, Copy)]
 enum Topic {
     /// It requests the bus.
@@ -199,7 +199,7 @@ fn word_of(edge: &Edge) -> ArrayVec<u8, WORD>
     word
 }
 
-/// The wires that the driver holds low; of its address group `shown` tells.
+/// The wires that the driver holds low; `shown` says what its address group shows.
 fn low_line(bus: &Bus, driver: Driver) -> Line
     ensures { result.items ≡ low_text bus.now driver }
 {
@@ -232,7 +232,7 @@ fn open_line(bus: &Bus, driver: Driver) -> Line
     line
 }
 
-/// What is told of a driver; nothing, where there is nothing to tell.
+/// What is printed about a driver; nothing, where there is nothing to push_witness.
 fn topic_line(bus: &Bus, marks: &Marks, topic: Topic, driver: Driver) -> Line
     ensures { OfTrace bus.now marks.now (λ k. result.items
         ≡ topic_text topic bus.now k driver) }
@@ -257,7 +257,7 @@ fn write_line<W: Write>(line: &Line, out: &mut W) -> Result<(), Fault>
     put(out, b"\n")
 }
 
-/// Writes what is told of the whole bus.
+/// Writes what is printed about the whole bus.
 fn write_bus<W: Write>(n: u64, bus: &Bus, marks: &Marks, out: &mut W) -> Result<(), Fault>
     ensures ok { OnOk result (OfTrace bus.now marks.now (λ k.
         Appends (W.contents out.old) (W.contents out.new) (bus_text n bus.now k))) }
@@ -271,7 +271,7 @@ fn write_bus<W: Write>(n: u64, bus: &Bus, marks: &Marks, out: &mut W) -> Result<
     write_line(&shown_line(bus, marks), out)
 }
 
-/// Writes a line for each driver of which there is something to tell.
+/// Writes a line for each driver of which there is something to push_witness.
 fn write_lines<W: Write>(bus: &Bus, marks: &Marks, topic: Topic, out: &mut W) -> Result<(), Fault>
     ensures ok { OnOk result (OfTrace bus.now marks.now (λ k.
         Appends (W.contents out.old) (W.contents out.new)
@@ -291,7 +291,7 @@ fn write_lines<W: Write>(bus: &Bus, marks: &Marks, topic: Topic, out: &mut W) ->
     Ok(())
 }
 
-/// Writes what is told of the drivers.
+/// Writes what is printed about the drivers.
 fn write_drivers<W: Write>(bus: &Bus, marks: &Marks, out: &mut W) -> Result<(), Fault>
     ensures ok { OnOk result (OfTrace bus.now marks.now (λ k.
         Appends (W.contents out.old) (W.contents out.new) (drivers_text bus.now k))) }

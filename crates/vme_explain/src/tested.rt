@@ -27,7 +27,7 @@ impl Conditions {
 
 /// All conditions of the guard, where it has at most six.
 impl Outcome for Conditions {
-    ghost tells = { λ result g. most g ≤ 6 → result.list.items ≡ conditions g };
+    ghost reports = { λ result g. most g ≤ 6 → result.list.items ≡ conditions g };
 
     fn free() -> Conditions {
         Conditions {

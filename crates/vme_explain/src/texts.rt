@@ -13,7 +13,7 @@ use vme_text::{push, push_byte, push_number};
 
 /// Room for any line: the longest has a number of 20 digits, an edge of 12 bytes, and a verdict of
 /// 37.
-pub(crate) const LINE: usize = 80;
+pub const LINE: usize = 80;
 
 /// Appends what is written of a delivery.
 fn push_delivery<const N: usize>(line: &mut ArrayVec<u8, N>, delivery: &Delivery)
@@ -100,7 +100,7 @@ pub(crate) fn push_argument<const N: usize>(line: &mut ArrayVec<u8, N>, value: O
     }
 }
 
-/// Appends a level, where one is told: at most 10 bytes.
+/// Appends a level, if one is printed: at most 10 bytes.
 fn push_level<const N: usize>(line: &mut ArrayVec<u8, N>, level: Option<u8>)
     requires { array_vec_len line.old + 10 ≤ N }
     ensures items { line.new.items ≡ line.old.items ++ level_text level }

@@ -1,20 +1,20 @@
-//! Wires as they are told.
+//! Wires as they are printed.
 ghost use Rattle.std.specs.Prelude.{◌≡◌, IsTrue, true};
 ghost use Rattle.std.specs.Option.{option_to_list};
 ghost use Rattle.vme_model.specs.Signals.{has_wire};
 ghost use Rattle.vme_model.specs.History.{shown};
 ghost use Rattle.vme_model.specs.Witnesses.{wire_at, seen, own, holds_low};
 ghost use Rattle.vme_explain.specs.Traced.{OfTrace};
-ghost use Rattle.vme_explain.specs.Told.{value_told};
+ghost use Rattle.vme_explain.specs.Witnessed.{value_shown};
 
 use crate::marks::Marks;
 use vme_bus::Bus;
 use vme_model::{Cycle, Driver, Wire, Witness};
 
 /// What an address group that is on shows.
-fn value_told(bus: &Bus, wire: Wire, low: bool) -> Option<Cycle>
+fn value_shown(bus: &Bus, wire: Wire, low: bool) -> Option<Cycle>
     ensures { result
-        ≡ value_told wire low (shown bus.now.plan bus.now.history) }
+        ≡ value_shown wire low (shown bus.now.plan bus.now.history) }
 {
     match wire {
         Wire::Addr if low => bus.shown(),
@@ -22,7 +22,7 @@ fn value_told(bus: &Bus, wire: Wire, low: bool) -> Option<Cycle>
     }
 }
 
-/// A driver's wire, the level told with it.
+/// A driver's wire, with the level that is printed beside it.
 pub(crate) fn wire_at(
     bus: &Bus,
     marks: &Marks,
@@ -39,7 +39,7 @@ pub(crate) fn wire_at(
         driver,
         wire,
         low,
-        value: value_told(bus, wire, low),
+        value: value_shown(bus, wire, low),
         level,
         since: marks.since(driver, wire),
     }

@@ -1,4 +1,4 @@
--- `goal_of`: the first of all goals is the first event, or the first miss if there is no event
+-- `aim_of`: the first of all aims is the first event, or the first miss if there is no event
 pub mod Named
 -- `event_index`: the number of the variant, since the list has all events in that order
 pub mod Placed

@@ -1,5 +1,6 @@
 //! What a trace can be drawn to reach, and its words: events that an accepted edge brings about,
-//! and misses, which are edges that one condition alone refuses. docs/COMMANDS.md describes both.
+//! and misses, which are edges that one condition alone refuses. A goal is one of these, of one
+//! driver or of any, after some number of edges. docs/COMMANDS.md describes all of it.
 #![tactic(auto)]
 
 mod events;
@@ -7,5 +8,5 @@ mod goals;
 mod misses;
 
 pub use events::Event;
-pub use goals::{Goal, goal_of};
+pub use goals::{Aim, Goal, aim_of, counts};
 pub use misses::Miss;

@@ -1,11 +1,10 @@
 //! Misses: edges that one condition alone refuses.
 ghost use Rattle.std.specs.Prelude.{◌≡◌, ◌≤◌, ◌+◌, ◌++◌, decimal, length};
 ghost use Rattle.arrayvec.specs.ArrayVec.{array_vec_len};
-ghost use Rattle.vme_model.specs.Spoken.{kind_text};
-ghost use Rattle.vme_goals.specs.Goals.{has_miss, pattern, miss_text};
+ghost use Rattle.vme_goals.specs.Goals.{has_miss, is_withdrawal, miss_mark, miss_text};
 
 use arrayvec::ArrayVec;
-use vme_model::{Condition, IrqKind, Version};
+use vme_model::{Condition, IrqKind, Rule, Version, profile_mark};
 use vme_text::{push, push_byte};
 
 /// Room for the words of any goal, in bytes: the longest have 50.
@@ -20,38 +19,22 @@ pub enum Miss {
     Unserved(IrqKind),
     /// The guard of the rule holds, and this settling rule, S1 to S4, does not.
     Settling(u8),
+    /// In the guard of this edge rule one condition fails and no other does, whichever it is, or the
+    /// guard holds and the edge's settling rule does not.
+    AnyOf(Rule),
 }
 
-/// The text of a condition, with N for a level.
-fn pattern(condition: Condition) -> &'static str
-    ensures text { result.now ≡ pattern condition }
-    ensures short { length result.now ≤ 48 }
+/// Whether this is the rule of a request that is withdrawn.
+fn is_withdrawal(rule: Rule) -> bool
+    ensures { result ≡ is_withdrawal rule }
 {
-    match condition {
-        Condition::Picked => "the arbiter picks level N",
-        Condition::Handled => "the board handles level N",
-        Condition::InterruptLow => "IRQN* is low",
-        Condition::Pending => "pending at level N",
-        Condition::NotPending => "not pending at level N",
-        _ => condition.fixed_text().unwrap_or(""),
-    }
-}
-
-/// The text for what serves an interrupter of this kind.
-fn kind_text(kind: IrqKind) -> &'static str
-    ensures text { result.now ≡ kind_text kind }
-    ensures short { length result.now ≤ 48 }
-{
-    match kind {
-        IrqKind::Roak => "the request was served by an acknowledge",
-        IrqKind::Rora => "the request was served by an access",
-    }
+    rule == Rule::G10
 }
 
 impl Miss {
-    /// All misses that have words: the conditions of G1 to G26 in the order of their guards, and
-    /// then S1 to S4.
-    pub const ALL: [Miss; 66] = [
+    /// All misses that have words: the conditions of G1 to G26 in the order of their guards, then S1
+    /// to S4, and then G1 to G26 without a condition, but not G21, which asks for nothing.
+    pub const ALL: [Miss; 91] = [
         Miss::Rule(1, Condition::GrantsHigh),
         Miss::Rule(1, Condition::BusyHigh),
         Miss::Rule(1, Condition::Picked),
@@ -118,6 +101,31 @@ impl Miss {
         Miss::Settling(2),
         Miss::Settling(3),
         Miss::Settling(4),
+        Miss::AnyOf(Rule::G1),
+        Miss::AnyOf(Rule::G2),
+        Miss::AnyOf(Rule::G3),
+        Miss::AnyOf(Rule::G4),
+        Miss::AnyOf(Rule::G5),
+        Miss::AnyOf(Rule::G6),
+        Miss::AnyOf(Rule::G7),
+        Miss::AnyOf(Rule::G8),
+        Miss::AnyOf(Rule::G9),
+        Miss::AnyOf(Rule::G10),
+        Miss::AnyOf(Rule::G11),
+        Miss::AnyOf(Rule::G12),
+        Miss::AnyOf(Rule::G13),
+        Miss::AnyOf(Rule::G14),
+        Miss::AnyOf(Rule::G15),
+        Miss::AnyOf(Rule::G16),
+        Miss::AnyOf(Rule::G17),
+        Miss::AnyOf(Rule::G18),
+        Miss::AnyOf(Rule::G19),
+        Miss::AnyOf(Rule::G20),
+        Miss::AnyOf(Rule::G22),
+        Miss::AnyOf(Rule::G23),
+        Miss::AnyOf(Rule::G24),
+        Miss::AnyOf(Rule::G25),
+        Miss::AnyOf(Rule::G26),
     ];
 
     /// Whether the version of the rules has such a condition.
@@ -128,31 +136,58 @@ impl Miss {
             Miss::Rule(2 | 10, _) => !version.is_two(),
             Miss::Rule(..) | Miss::Unserved(_) => true,
             Miss::Settling(rule) => version.is_two() || rule <= 2,
+            Miss::AnyOf(rule) => !(version.is_two() && is_withdrawal(rule)),
         }
     }
 
-    /// The words of the miss: a rule and the text of its condition, with N for a level, or a
-    /// settling rule.
-    pub fn text(self) -> ArrayVec<u8, WORDS>
-        ensures { result.items ≡ miss_text self }
+    /// Appends the words of the miss, at most 53 bytes.
+    fn push_text(self, words: &mut ArrayVec<u8, WORDS>)
+        requires { array_vec_len words.old + 53 ≤ 80 }
+        ensures items { words.new.items ≡ words.old.items ++ miss_text self }
+        ensures len { array_vec_len words.new ≤ array_vec_len words.old + 53 }
     {
-        let mut words = ArrayVec::new();
         match self {
             Miss::Rule(rule, condition) => {
-                push(&mut words, b"G");
-                push_byte(&mut words, rule);
-                push(&mut words, b" ");
-                push(&mut words, pattern(condition).as_bytes());
+                push(words, b"G");
+                push_byte(words, rule);
+                push(words, b" ");
+                push(words, condition.pattern().as_bytes());
             }
             Miss::Unserved(kind) => {
-                push(&mut words, b"G22 ");
-                push(&mut words, kind_text(kind).as_bytes());
+                push(words, b"G22 ");
+                push(words, kind.service_text().as_bytes());
             }
             Miss::Settling(rule) => {
-                push(&mut words, b"S");
-                push_byte(&mut words, rule);
+                push(words, b"S");
+                push_byte(words, rule);
             }
+            Miss::AnyOf(rule) => push(words, rule.name().as_bytes()),
         }
+    }
+
+    /// The words of the miss: a rule and the text of its condition, with N for a level, a settling
+    /// rule, or an edge rule alone. At most 53 bytes.
+    pub fn text(self) -> ArrayVec<u8, WORDS>
+        ensures items { result.items ≡ miss_text self }
+        ensures short { array_vec_len result ≤ 53 }
+    {
+        let mut words = ArrayVec::new();
+        self.push_text(&mut words);
         words
+    }
+
+    /// The mark that `explain` writes after the condition, if it is the profile's; a rule alone has
+    /// none.
+    pub(crate) fn mark(self) -> &'static str
+        ensures text { result.now ≡ miss_mark self }
+        ensures short { length result.now ≤ 10 }
+    {
+        match self {
+            Miss::Rule(number, condition) => match Rule::numbered(number) {
+                Some(rule) => profile_mark(rule.is_profile(condition)),
+                None => "",
+            },
+            Miss::Unserved(_) | Miss::Settling(_) | Miss::AnyOf(_) => "",
+        }
     }
 }

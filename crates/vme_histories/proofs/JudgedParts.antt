@@ -91,11 +91,11 @@ module _ (version : Version) (p : Plan) (h : List Edge) (e : Edge) where
   -- what a board answers if it has the part that drives the wire, and if it does not
   pub board_asked : (b : Bool) → exists ≡ b → (answer : Judgement) → (b ≡ false → answer ≡ Err NoSuchDriver) → (b ≡ true → answer ≡ asked version p h e)
       → answer ≡ check exists NoSuchDriver (asked version p h e)
-  board_asked b is answer lacks told = by_part b refl ∙ sym (ap (λ x. check x NoSuchDriver (asked version p h e)) is)
+  board_asked b is answer lacks known = by_part b refl ∙ sym (ap (λ x. check x NoSuchDriver (asked version p h e)) is)
     where
       by_part : (x : Bool) → b ≡ x → answer ≡ check b NoSuchDriver (asked version p h e)
       by_part false none = lacks none ∙ sym (ap (λ x. check x NoSuchDriver (asked version p h e)) none)
-      by_part true some = told some ∙ sym (ap (λ x. check x NoSuchDriver (asked version p h e)) some)
+      by_part true some = known some ∙ sym (ap (λ x. check x NoSuchDriver (asked version p h e)) some)
 
   pub passed_asked : check exists NoSuchDriver (asked version p h e) ≡ Ok tt → last ≡ verdict_but_full version p h e
   passed_asked is =

@@ -1,3 +1,3 @@
 pub mod Over
 pub mod Seen
-pub mod Told
+pub mod ReadPins

@@ -14,9 +14,7 @@ use Rattle.vme_model.specs.declared.signals.Cycle.TheVariants.{Acknowledge, Acce
 use Rattle.vme_model.specs.declared.refusals.Refused.TheVariants.{AlreadyThere, Rule}
 use Rattle.vme_model.specs.declared.signals.Edge.{Edge}
 use Rattle.vme_model.specs.History.{drive}
-use Rattle.vme_model.specs.declared.conditions.Condition.TheVariants.{AcknowledgeInLow, OwnDtackHigh, DataStrobeLow, AddressStrobeLow}
-use Rattle.vme_model.specs.Guards.{asks, ◌⊓◌}
-use Rattle.vme_model.specs.Rules.{guard, pass_guard, answer_guard, is_passed_by, may_answer}
+use Rattle.vme_model.specs.Rules.{is_passed_by, may_answer}
 use Rattle.vme_model.specs.Verdict.{Judgement, check, is_other_state, ruling, ruling_on}
 use Rattle.vme_model.specs.declared.signals.Part.TheVariants as parts
 use Rattle.vme_model.specs.Signals.{is_of}
@@ -68,36 +66,3 @@ pub rules_over : (version : Version) (state : InterrupterState) (noted : List No
 rules_over version state noted pins d w x f v same is own =
     answers_over version state noted pins (edge d x f v) same own
     ∙ ap (λ y. ruling_on version (over state.slot state.row noted pins) y f v) (sym is)
-
--- the guards that read what is shown
-pass_guards : (s : ℕ) (row : Option InterrupterRow) (noted : List Noted) (pins : Pins) (shown : Option Cycle) →
-    pass_guard (local (interrupter_of s row noted) pins) shown ≡ pass_guard (over s row noted pins) shown
-pass_guards s row noted pins None = refl
-pass_guards s row noted pins (Some (Acknowledge level)) = refl
-pass_guards s row noted pins (Some (Access t)) = refl
-
-answer_guards : (s : ℕ) (row : Option InterrupterRow) (noted : List Noted) (pins : Pins) (shown : Option Cycle) →
-    answer_guard (local (interrupter_of s row noted) pins) shown ≡ answer_guard (over s row noted pins) shown
-answer_guards s row noted pins None = refl
-answer_guards s row noted pins (Some (Acknowledge level)) = refl
-answer_guards s row noted pins (Some (Access t)) = refl
-
-guards_by_parts : (version : Version) (s : ℕ) (row : Option InterrupterRow) (noted : List Noted) (pins : Pins) (w : Wire) (f : Bool) (v : Option Cycle) → is_of parts.Interrupter w ≡ true →
-    (guard One (local (interrupter_of s row noted) pins) w f v).1 ≡ (guard version (over s row noted pins) w f v).1
-guards_by_parts version s row noted pins Irq true v own = refl
-guards_by_parts version s row noted pins Irq false v own = refl
-guards_by_parts version s row noted pins IackOut true v own =
-    ap (λ g. asks AcknowledgeInLow pins.iack_in ⊓ asks OwnDtackHigh (not (drive (edges noted) (Slot s) Dtack)) ⊓ asks DataStrobeLow pins.data_strobe ⊓ g) (pass_guards s row noted pins pins.shown)
-guards_by_parts version s row noted pins IackOut false v own = refl
-guards_by_parts version s row noted pins Dtack true v own =
-    ap (λ g. asks DataStrobeLow pins.data_strobe ⊓ asks AddressStrobeLow pins.address_strobe ⊓ g) (answer_guards s row noted pins pins.shown)
-guards_by_parts version s row noted pins Dtack false v own = refl
-guards_by_parts version s row noted pins w f v own = absurd (cc)
-
--- the guards by the state are those over the list
-pub guards_over : (version : Version) (state : InterrupterState) (noted : List Noted) (pins : Pins) (w x : Wire) (f : Bool) (v : Option Cycle) → state ≡ interrupter_of state.slot state.row noted → w ≡ x → is_of parts.Interrupter x ≡ true →
-    (guard One (local state pins) x f v).1 ≡ (guard version (over state.slot state.row noted pins) w f v).1
-guards_over version state noted pins w x f v same is own =
-    let P : InterrupterState → Type 0 = λ i. (guard One (local i pins) x f v).1 ≡ (guard version (over state.slot state.row noted pins) x f v).1 in
-    subst P (sym same) (guards_by_parts version state.slot state.row noted pins x f v own)
-    ∙ ap (λ y. (guard version (over state.slot state.row noted pins) y f v).1) (sym is)

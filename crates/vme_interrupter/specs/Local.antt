@@ -81,7 +81,7 @@ over s row noted pins =
     interrupter_readings s row (drive (edges noted) (Slot s)) (served noted (Slot s) row) pins
 
 -- readings that agree with what an interrupter reads, whatever else they say
-pub record SayWhatIsTold (s : ℕ) (row : Option InterrupterRow) (own : Wire → Bool)
+pub record SayThePins (s : ℕ) (row : Option InterrupterRow) (own : Wire → Bool)
     (is_served : Bool) (pins : Pins) (r : Readings) : Type 0 where
   pub own_wires : (w : Wire) → is_of parts.Interrupter w ≡ true → r.own w ≡ own w
   pub served : r.served_since_request ≡ is_served

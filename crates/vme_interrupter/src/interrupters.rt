@@ -8,21 +8,19 @@ ghost use Rattle.vme_model.specs.declared.signals.Cycle.{Cycle as CycleValue};
 ghost use Rattle.vme_model.specs.declared.signals.Version.{Version};
 ghost use Rattle.vme_model.specs.declared.signals.Version.TheVariants.{One};
 ghost use Rattle.vme_model.specs.Readings.{is_pending};
-ghost use Rattle.vme_model.specs.Rules.{failing, guard};
+ghost use Rattle.vme_model.specs.Rules.{rule};
 ghost use Rattle.vme_model.specs.Verdict.{ruling, ruling_on};
 ghost use Rattle.vme_model.specs.declared.signals.Part.TheVariants as parts;
 ghost use Rattle.vme_model.specs.Signals.{is_of};
 ghost use Rattle.vme_interrupter.specs.Local.{Noted, interrupter_of, serves_board, low, local, over};
 ghost use Rattle.vme_interrupter.specs.Address.{asks_at, is_accessed};
 
-use arrayvec::ArrayVec;
 use std::marker::Model;
-use vme_model::{Condition, Cycle, Driver, Edge, InterrupterRow, IrqKind, Pins, Refused, Wire};
+use vme_model::{Cycle, Driver, Edge, InterrupterRow, IrqKind, Pins, Refused, Wire};
+use vme_rules::allowed;
 use vme_rules::interrupters::{
     answers, dtack_falls, dtack_rises, iackout_falls, iackout_rises, irq_falls, irq_rises, passes,
 };
-use vme_rules::laws::five_have_room;
-use vme_rules::{Outcome, allowed};
 
 /// A board's interrupter with its data transfer acknowledge, as what its own edges left: which of
 /// its wires are low, and whether its request was served. Source: Std 1014, chapters 2 and 4.
@@ -151,14 +149,12 @@ impl Interrupter {
         }
     }
 
-    /// The number of the rule that names an edge of its `irq`, and what the rule's guard answers
+    /// The number of the rule that names an edge of its `irq`, and whether the rule's guard holds
     /// (G21, G22).
     #[inline(always)]
-    fn request_rule<A: Outcome>(&self, fall: bool) -> (u8, A)
-        ensures number { (pins : PinsValue) (value : OptionValue CycleValue) →
-            result.0 ≡ (guard One (local self.now pins) Wire.Irq fall value).0 }
-        ensures answer { (pins : PinsValue) (value : OptionValue CycleValue) →
-            A.tells result.1 (guard One (local self.now pins) Wire.Irq fall value).1 }
+    fn request_rule(&self, fall: bool) -> (u8, bool)
+        ensures { (pins : PinsValue) (value : OptionValue CycleValue) →
+            result ≡ rule One (local self.now pins) Wire.Irq fall value }
     {
         if fall {
             (21, irq_falls())
@@ -167,16 +163,13 @@ impl Interrupter {
         }
     }
 
-    /// The number of the rule that names an edge of its `iackout`, and what the rule's guard
-    /// answers (G23, G24).
+    /// The number of the rule that names an edge of its `iackout`, and whether the rule's guard
+    /// holds (G23, G24).
     #[inline(always)]
-    fn pass_rule<A: Outcome>(&self, fall: bool, pins: &Pins, iack_in: bool) -> (u8, A)
-        ensures number { (value : OptionValue CycleValue) → result.0
-            ≡ (guard One (local self.now (record pins.now { iack_in = iack_in }))
-            Wire.IackOut fall value).0 }
-        ensures answer { (value : OptionValue CycleValue) → A.tells result.1
-            (guard One (local self.now (record pins.now { iack_in = iack_in }))
-            Wire.IackOut fall value).1 }
+    fn pass_rule(&self, fall: bool, pins: &Pins, iack_in: bool) -> (u8, bool)
+        ensures { (value : OptionValue CycleValue) → result
+            ≡ rule One (local self.now (record pins.now { iack_in = iack_in }))
+            Wire.IackOut fall value }
     {
         if !fall {
             return (24, iackout_rises(pins.address_strobe));
@@ -186,16 +179,13 @@ impl Interrupter {
         (23, guard)
     }
 
-    /// The number of the rule that names an edge of its `dtack`, and what the rule's guard answers
+    /// The number of the rule that names an edge of its `dtack`, and whether the rule's guard holds
     /// (G25, G26).
     #[inline(always)]
-    fn answer_rule<A: Outcome>(&self, fall: bool, pins: &Pins, iack_in: bool) -> (u8, A)
-        ensures number { (value : OptionValue CycleValue) → result.0
-            ≡ (guard One (local self.now (record pins.now { iack_in = iack_in }))
-            Wire.Dtack fall value).0 }
-        ensures answer { (value : OptionValue CycleValue) → A.tells result.1
-            (guard One (local self.now (record pins.now { iack_in = iack_in }))
-            Wire.Dtack fall value).1 }
+    fn answer_rule(&self, fall: bool, pins: &Pins, iack_in: bool) -> (u8, bool)
+        ensures { (value : OptionValue CycleValue) → result
+            ≡ rule One (local self.now (record pins.now { iack_in = iack_in }))
+            Wire.Dtack fall value }
     {
         if !fall {
             return (26, dtack_rises(pins.data_strobe));
@@ -278,36 +268,6 @@ impl Interrupter {
             Wire::Dtack => self.may_answer(edge.fall, &pins, pins.iack_in),
             _ => Err(Refused::NoSuchDriver),
         }
-    }
-
-    /// What the guard of the rule that names an edge of the interrupter's own wires answers, given
-    /// its pins. Source: G21 to G26 of docs/RULES.md.
-    pub fn told<A: Outcome>(&self, edge: Edge, pins: Pins) -> A
-        ensures { (version : Version) (noted : List Noted) →
-            self.now ≡ interrupter_of self.now.slot self.now.row noted →
-            is_of parts.Interrupter edge.wire ≡ true →
-            A.tells result (guard version (over self.now.slot self.now.row noted pins)
-            edge.wire edge.fall edge.value).1 }
-    {
-        match edge.wire {
-            Wire::Irq => self.request_rule(edge.fall).1,
-            Wire::IackOut => self.pass_rule(edge.fall, &pins, pins.iack_in).1,
-            Wire::Dtack => self.answer_rule(edge.fall, &pins, pins.iack_in).1,
-            _ => A::free(),
-        }
-    }
-
-    /// The conditions that fail in the rule that names an edge of the interrupter's own wires, in
-    /// the order of its guard, given its pins. Source: G21 to G26 of docs/RULES.md.
-    pub fn failing(&self, edge: Edge, pins: Pins) -> ArrayVec<Condition, 5>
-        ensures { (version : Version) (noted : List Noted) →
-            self.now ≡ interrupter_of self.now.slot self.now.row noted →
-            is_of parts.Interrupter edge.wire ≡ true →
-            result.items ≡ failing version (over self.now.slot self.now.row noted pins)
-            edge.wire edge.fall edge.value }
-    {
-        five_have_room();
-        self.told(edge, pins)
     }
 
     /// Whether an answer while this is shown serves the board's interrupter.

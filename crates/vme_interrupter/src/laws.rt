@@ -17,7 +17,7 @@ ghost use Rattle.vme_model.specs.Plan.{Plan, board_of};
 ghost use Rattle.vme_model.specs.Readings.{Readings, is_served};
 ghost use Rattle.vme_model.specs.Verdict.{ruling_on};
 ghost use Rattle.std.specs.Prelude.{Some};
-ghost use Rattle.vme_interrupter.specs.Local.{Noted, edges, served, interrupter_of, seen, interrupter_readings, SayWhatIsTold};
+ghost use Rattle.vme_interrupter.specs.Local.{Noted, edges, served, interrupter_of, seen, interrupter_readings, SayThePins};
 
 /// If each edge is noted as it is made, the noted edges are the history.
 pub fn notes_history()
@@ -43,11 +43,11 @@ pub fn reads_shown_at_answers()
 /// The rules of an interrupter read its own wires, whether it was served, AS*, DS0*, what is shown,
 /// its iackin, its slot and its row, and nothing else. Any readings that agree on these have the
 /// same answer.
-pub fn reads_what_it_is_told()
+pub fn reads_its_pins()
     ensures { (version : Version) (s : ℕ) (row : Option InterrupterRow) (own : Wire → Bool)
         (is_served : Bool) (pins : Pins) (r : Readings) (w : Wire) (fall : Bool)
         (value : Option Cycle) →
-        SayWhatIsTold s row own is_served pins r →
+        SayThePins s row own is_served pins r →
         is_of parts.Interrupter w ≡ true →
         ruling_on version (interrupter_readings s row own is_served pins) w fall value
         ≡ ruling_on version r w fall value }

@@ -30,7 +30,7 @@ pub(crate) struct News {
     /// edge.
     edges: AtomicU32,
     /// Notified at each edge, and at the end of each worker.
-    told: Condvar,
+    changed: Condvar,
     has_ended: AtomicBool,
 }
 
@@ -39,7 +39,7 @@ impl News {
     pub(crate) fn new(edges: u32) -> News {
         News {
             edges: AtomicU32::new(edges),
-            told: Condvar::new(),
+            changed: Condvar::new(),
             has_ended: AtomicBool::new(false),
         }
     }
@@ -54,7 +54,7 @@ impl News {
     /// them. So a later hold never shows fewer edges than were announced, and whoever reads the
     /// number after a hold finds the edge of that hold too.
     #[inline(always)]
-    pub(crate) fn tell_edges(&self, edges: u32) {
+    pub(crate) fn post_edges(&self, edges: u32) {
         self.edges.store(edges, Ordering::SeqCst);
     }
 
@@ -62,13 +62,13 @@ impl News {
     /// that wakes need not wait for it.
     #[inline(always)]
     pub(crate) fn wake(&self) {
-        self.told.notify_all();
+        self.changed.notify_all();
     }
 
     /// Announces that a worker has ended.
-    pub(crate) fn tell_end(&self) {
+    pub(crate) fn post_end(&self) {
         self.has_ended.store(true, Ordering::SeqCst);
-        self.told.notify_all();
+        self.changed.notify_all();
     }
 }
 
@@ -107,10 +107,10 @@ impl Idle {
         if self.is_nap() && !news.has_ended.load(Ordering::SeqCst) {
             // This is read before the edges are, so that what is announced between the two ends the
             // sleep.
-            let told = news.told.notifications();
+            let waiting = news.changed.notifications();
             if self.is_still(news.edges()) {
                 let nap = Duration::from_millis(NAP_MILLIS);
-                news.told.sleep(rt, told, nap);
+                news.changed.sleep(rt, waiting, nap);
             }
         } else if self.turns % TURNS_TO_A_YIELD == 0 {
             yield_now();

@@ -176,7 +176,7 @@ fn try_offer<L: Rig, R: Wait>(
 }
 
 /// Calls the gate at the end of a turn, before which the seat had made `before` edges.
-fn tell_gate<L: Rig, G: Gate>(gate: &G, seat: &Seat<L>, turn: u32, before: u32, accepted: bool)
+fn notify_gate<L: Rig, G: Gate>(gate: &G, seat: &Seat<L>, turn: u32, before: u32, accepted: bool)
     requires { MatchBool accepted (seat.now.made ≡ before + 1) (seat.now.made ≡ before) }
 {
     gate.after(seat.driver(), turn, accepted);
@@ -240,7 +240,7 @@ fn take_turn<L: Rig, G: Gate, R: Wait>(
             tried.made
         }
     };
-    tell_gate(gate, seat, turn, before, accepted);
+    notify_gate(gate, seat, turn, before, accepted);
     *turns += 1;
     Ok(())
 }
@@ -308,7 +308,7 @@ pub fn work_board<'r, L: Rig, G: Gate, R: Wait>(
         idle: None,
     };
     let spent = take_turns(rt, shared, &mut seat, gate, bounds, &mut work);
-    shared.news.tell_end();
+    shared.news.post_end();
     work.pages.copy_to(&mut log);
     (seat, Log::new(log), spent)
 }

@@ -1,3 +1,3 @@
 pub mod Counts
 pub mod Over
-pub mod Told
+pub mod ReadPins

@@ -13,8 +13,7 @@ use Rattle.vme_model.specs.declared.signals.Wire.TheVariants.{Addr, AddressStrob
 use Rattle.vme_model.specs.declared.signals.Cycle.{Cycle}
 use Rattle.vme_model.specs.declared.signals.Edge.{Edge}
 use Rattle.vme_model.specs.History.{cycles}
-use Rattle.vme_master.proofs.Counts.{below_burst, burst_guard}
-use Rattle.vme_model.specs.Rules.{guard}
+use Rattle.vme_master.proofs.Counts.{below_burst}
 use Rattle.vme_model.specs.Verdict.{ruling, ruling_on}
 use Rattle.vme_model.specs.declared.signals.Part.TheVariants as parts
 use Rattle.vme_model.specs.Signals.{is_of}
@@ -46,21 +45,3 @@ pub rules_over : (version : Version) (state : MasterState) (noted : List Edge) (
 rules_over version state noted pins holds_bus d w x f v same is own =
     answers_over version state noted pins holds_bus (edge d x f v) same own
     ∙ ap (λ y. ruling_on version (over state.slot state.row state.handler noted pins holds_bus) y f v) (sym is)
-
-guards_by_parts : (version : Version) (s : ℕ) (row : RequesterRow) (handler : Levels) (noted : List Edge) (pins : Pins) (holds_bus : Bool) (w : Wire) (f : Bool) (v : Option Cycle) → is_of parts.Master w ≡ true →
-    (guard One (local (master_of s row handler noted) pins holds_bus) w f v).1 ≡ (guard version (over s row handler noted pins holds_bus) w f v).1
-guards_by_parts version s row handler noted pins holds_bus Addr true v own = rw (burst_guard (cycles noted (Slot s)) row.release) refl
-guards_by_parts version s row handler noted pins holds_bus Addr false v own = refl
-guards_by_parts version s row handler noted pins holds_bus AddressStrobe true v own = refl
-guards_by_parts version s row handler noted pins holds_bus AddressStrobe false v own = refl
-guards_by_parts version s row handler noted pins holds_bus DataStrobe true v own = refl
-guards_by_parts version s row handler noted pins holds_bus DataStrobe false v own = refl
-guards_by_parts version s row handler noted pins holds_bus w f v own = absurd (cc)
-
--- the guards of a state that comes from a list are those over the list
-pub guards_over : (version : Version) (state : MasterState) (noted : List Edge) (pins : Pins) (holds_bus : Bool) (w x : Wire) (f : Bool) (v : Option Cycle) → state ≡ master_of state.slot state.row state.handler noted → w ≡ x → is_of parts.Master x ≡ true →
-    (guard One (local state pins holds_bus) x f v).1 ≡ (guard version (over state.slot state.row state.handler noted pins holds_bus) w f v).1
-guards_over version state noted pins holds_bus w x f v same is own =
-    let P : MasterState → Type 0 = λ m. (guard One (local m pins holds_bus) x f v).1 ≡ (guard version (over state.slot state.row state.handler noted pins holds_bus) x f v).1 in
-    subst P (sym same) (guards_by_parts version state.slot state.row state.handler noted pins holds_bus x f v own)
-    ∙ ap (λ y. (guard version (over state.slot state.row state.handler noted pins holds_bus) y f v).1) (sym is)

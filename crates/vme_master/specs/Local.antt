@@ -56,9 +56,9 @@ low m DataStrobe = m.data_strobe
 low m _ = false
 
 -- of its requester's wires a master is given one thing: whether its board drives BBSY* low
-abbrev pub told : (Wire → Bool) → Bool → Wire → Bool
-told own holds_bus Bbsy = holds_bus
-told own holds_bus w = own w
+abbrev pub own_lines : (Wire → Bool) → Bool → Wire → Bool
+own_lines own holds_bus Bbsy = holds_bus
+own_lines own holds_bus w = own w
 
 -- what its rules read: its own wires, its pins, its board, its cycles, its data strobe, and what it
 -- is given of its requester
@@ -66,7 +66,7 @@ abbrev pub master_readings :
     ℕ → RequesterRow → Levels → (Wire → Bool) → ℕ → Bool → Pins → Bool → Readings
 master_readings s row handler own cycles has_strobed pins holds_bus =
     record (readings_of_pins pins) {
-      own = told own holds_bus;
+      own = own_lines own holds_bus;
       cycles = cycles;
       has_strobed = has_strobed;
       board = Some (record {
@@ -89,7 +89,7 @@ over s row handler noted pins holds_bus =
     (has_strobed noted (Slot s)) pins holds_bus
 
 -- readings that agree with what a master reads, whatever else they say
-pub record SayWhatIsTold (row : RequesterRow) (handler : Levels) (own : Wire → Bool)
+pub record SayThePins (row : RequesterRow) (handler : Levels) (own : Wire → Bool)
     (cycles : ℕ) (has_strobed : Bool) (pins : Pins) (holds_bus : Bool) (r : Readings) : Type 0 where
   pub own_wires : (w : Wire) → is_of parts.Master w ≡ true → r.own w ≡ own w
   pub bbsy : r.own Bbsy ≡ holds_bus

@@ -6,23 +6,19 @@ ghost use Rattle.vme_model.specs.declared.signals.Version.{Version};
 ghost use Rattle.vme_model.specs.declared.signals.Version.TheVariants.{One};
 ghost use Rattle.vme_model.specs.declared.signals.Cycle.{Cycle as CycleValue};
 ghost use Rattle.vme_model.specs.declared.signals.Edge.{Edge as EdgeValue};
-ghost use Rattle.vme_model.specs.Rules.{failing, guard};
+ghost use Rattle.vme_model.specs.Rules.{rule};
 ghost use Rattle.vme_model.specs.Verdict.{ruling, ruling_on};
 ghost use Rattle.vme_model.specs.declared.signals.Part.TheVariants as parts;
 ghost use Rattle.vme_model.specs.Signals.{is_of};
 ghost use Rattle.vme_master.specs.Local.{master_of, most_cycles, low, local, over};
 
-use arrayvec::ArrayVec;
 use std::marker::Model;
-use vme_model::{
-    Condition, Cycle, Driver, Edge, Levels, Pins, Refused, Release, RequesterRow, Wire,
-};
-use vme_rules::laws::five_have_room;
+use vme_model::{Cycle, Driver, Edge, Levels, Pins, Refused, Release, RequesterRow, Wire};
+use vme_rules::allowed;
 use vme_rules::masters::{
     addr_goes_off, addr_goes_on, addr_is_free, as_falls, as_rises, below_burst, ds_falls, ds_rises,
     shows,
 };
-use vme_rules::{Outcome, allowed};
 
 /// A master, as what its own edges left: which of its wires are low, and how far its cycle and its
 /// tenure have come. Source: Std 1014, chapter 2.
@@ -123,20 +119,17 @@ impl Master {
         }
     }
 
-    /// The number of the rule that names an edge of its address group, and what the rule's guard
-    /// answers (G15, G19).
+    /// The number of the rule that names an edge of its address group, and whether the rule's guard
+    /// holds (G15, G19).
     #[inline(always)]
-    fn address_rule<A: Outcome>(
+    fn address_rule(
         &self,
         fall: bool,
         value: Option<Cycle>,
         pins: &Pins,
         holds_bus: bool,
-    ) -> (u8, A)
-        ensures number { result.0 ≡
-            (guard One (local self.now pins.now holds_bus) Wire.Addr fall value).0 }
-        ensures answer { A.tells result.1
-            (guard One (local self.now pins.now holds_bus) Wire.Addr fall value).1 }
+    ) -> (u8, bool)
+        ensures { result ≡ rule One (local self.now pins.now holds_bus) Wire.Addr fall value }
     {
         if !fall {
             let guard = addr_goes_off(self.address_strobe, self.data_strobe, self.has_strobed);
@@ -149,16 +142,12 @@ impl Master {
         (15, guard)
     }
 
-    /// The number of the rule that names an edge of its address strobe, and what the rule's guard
-    /// answers (G16, G20).
+    /// The number of the rule that names an edge of its address strobe, and whether the rule's
+    /// guard holds (G16, G20).
     #[inline(always)]
-    fn address_strobe_rule<A: Outcome>(&self, fall: bool, pins: &Pins) -> (u8, A)
-        ensures number { (holds_bus : Bool) (value : OptionValue CycleValue) →
-            result.0 ≡
-            (guard One (local self.now pins.now holds_bus) Wire.AddressStrobe fall value).0 }
-        ensures answer { (holds_bus : Bool) (value : OptionValue CycleValue) →
-            A.tells result.1
-            (guard One (local self.now pins.now holds_bus) Wire.AddressStrobe fall value).1 }
+    fn address_strobe_rule(&self, fall: bool, pins: &Pins) -> (u8, bool)
+        ensures { (holds_bus : Bool) (value : OptionValue CycleValue) →
+            result ≡ rule One (local self.now pins.now holds_bus) Wire.AddressStrobe fall value }
     {
         if fall {
             (16, as_falls(self.addr, pins.address_strobe))
@@ -167,16 +156,12 @@ impl Master {
         }
     }
 
-    /// The number of the rule that names an edge of its data strobe, and what the rule's guard
-    /// answers (G17, G18).
+    /// The number of the rule that names an edge of its data strobe, and whether the rule's guard
+    /// holds (G17, G18).
     #[inline(always)]
-    fn data_strobe_rule<A: Outcome>(&self, fall: bool, pins: &Pins) -> (u8, A)
-        ensures number { (holds_bus : Bool) (value : OptionValue CycleValue) →
-            result.0 ≡
-            (guard One (local self.now pins.now holds_bus) Wire.DataStrobe fall value).0 }
-        ensures answer { (holds_bus : Bool) (value : OptionValue CycleValue) →
-            A.tells result.1
-            (guard One (local self.now pins.now holds_bus) Wire.DataStrobe fall value).1 }
+    fn data_strobe_rule(&self, fall: bool, pins: &Pins) -> (u8, bool)
+        ensures { (holds_bus : Bool) (value : OptionValue CycleValue) →
+            result ≡ rule One (local self.now pins.now holds_bus) Wire.DataStrobe fall value }
     {
         if !fall {
             return (18, ds_rises(pins.dtack, pins.berr));
@@ -271,39 +256,6 @@ impl Master {
             Wire::DataStrobe => self.may_strobe_data(edge.fall, &pins),
             _ => Err(Refused::NoSuchDriver),
         }
-    }
-
-    /// What the guard of the rule that names an edge of the master's own wires answers. It is given
-    /// its pins, and whether its board drives BBSY* low. Source: G15 to G20 of docs/RULES.md.
-    pub fn told<A: Outcome>(&self, edge: Edge, pins: Pins, holds_bus: bool) -> A
-        ensures { (version : Version) (noted : List EdgeValue) →
-            self.now ≡ master_of self.now.slot self.now.row self.now.handler noted →
-            is_of parts.Master edge.wire ≡ true →
-            A.tells result (guard version
-            (over self.now.slot self.now.row self.now.handler noted pins holds_bus)
-            edge.wire edge.fall edge.value).1 }
-    {
-        match edge.wire {
-            Wire::Addr => self.address_rule(edge.fall, edge.value, &pins, holds_bus).1,
-            Wire::AddressStrobe => self.address_strobe_rule(edge.fall, &pins).1,
-            Wire::DataStrobe => self.data_strobe_rule(edge.fall, &pins).1,
-            _ => A::free(),
-        }
-    }
-
-    /// The conditions that fail in the rule that names an edge of the master's own wires, in the
-    /// order of its guard. It is given its pins, and whether its board drives BBSY* low. Source:
-    /// G15 to G20 of docs/RULES.md.
-    pub fn failing(&self, edge: Edge, pins: Pins, holds_bus: bool) -> ArrayVec<Condition, 5>
-        ensures { (version : Version) (noted : List EdgeValue) →
-            self.now ≡ master_of self.now.slot self.now.row self.now.handler noted →
-            is_of parts.Master edge.wire ≡ true →
-            result.items ≡ failing version
-            (over self.now.slot self.now.row self.now.handler noted pins holds_bus)
-            edge.wire edge.fall edge.value }
-    {
-        five_have_room();
-        self.told(edge, pins, holds_bus)
     }
 
     /// Takes in an edge that was made: its own, or its board's `bbsy-`, which begins a tenure. Any

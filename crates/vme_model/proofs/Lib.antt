@@ -44,9 +44,13 @@ pub mod Picks
 pub mod PinSets
 -- `numbered_edges_are_kept` and `what_is_so_has_its_edge`
 pub mod Numbers
--- `why_tells_the_verdict`
+-- `why_states_the_verdict`
 pub mod Reasons
--- `bus_stands_where_it_is_told` and `accesses_are_open_alike`
+-- `bus_stands_where_the_block_says` and `accesses_are_open_alike`
 pub mod Standing
 -- what is reported of edges and of a bus, to the byte: examples, computed
 pub mod TextExamples
+-- `sources_have_the_rules_of_the_guards`
+pub mod NamedRules
+-- `every_condition_has_a_source`
+pub mod SourcedGuards

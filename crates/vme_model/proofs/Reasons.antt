@@ -25,7 +25,7 @@ tested_holds b e =
     (λ ok. (fails_by_conditions (tested b e)).0 (fails_of_tested b e ∙ (none_met b e).1 ok))
     (λ held. (none_met b e).0 (sym (fails_of_tested b e) ∙ (fails_by_conditions (tested b e)).1 held))
 
-pub why_tells_verdict : (b : State) (k : Numbered) (e : Edge) → is_ok (verdict b e) ≡ list_all (λ r. r.tested.holds) (why b k e)
-why_tells_verdict b k e =
+pub why_states_verdict : (b : State) (k : Numbered) (e : Edge) → is_ok (verdict b e) ≡ list_all (λ r. r.tested.holds) (why b k e)
+why_states_verdict b k e =
     tested_holds b e ∙ all_conditions (tested b e)
     ∙ sym (list_all-map (λ r. r.tested.holds) (λ t. record { tested = t; witnesses = witnesses_of b k e t.condition }) (conditions (tested b e)))

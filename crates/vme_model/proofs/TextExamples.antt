@@ -1,6 +1,7 @@
 -- What is reported of edges and of a bus, to the byte: examples, computed.
 use Rattle.std.proofs.Common.{◌≡◌, ℕ, true, false, List, [], ◌∷◌, ◌++◌, Some, None, refl, codes}
 use Rattle.std.specs.Fmt.{digits}
+use Rattle.vme_model.specs.Sentences.{all_rules}
 use Rattle.vme_model.specs.declared.boards.Row.{Row}
 use Rattle.vme_model.specs.declared.boards.IrqKind.{IrqKind}
 use Rattle.vme_model.specs.declared.boards.IrqKind.TheVariants.{Roak, Rora}
@@ -89,11 +90,11 @@ takes_after_a_pass : told four_slots 8 before_takes_after_a_pass (fall (Slot 2) 
     codes "8 2 bbsy- E3 G13\n"
     ++ codes "holds own grant-in is low\n"
     ++ codes "    c bg3 low since 2\n"
-    ++ codes "fails own bgout is high\n"
+    ++ codes "fails own bgout is high (profile)\n"
     ++ codes "    2 bgout low since 3\n"
-    ++ codes "holds own br is low\n"
+    ++ codes "holds own br is low (profile)\n"
     ++ codes "    2 br low since 4\n"
-unfolding digits
+unfolding digits all_rules
 takes_after_a_pass = refl
 
 -- slot 3 leaves before slot 2 has let its part of the chain rise
@@ -105,14 +106,14 @@ before_leaves_under_a_grant =
 
 leaves_under_a_grant : told four_slots 12 before_leaves_under_a_grant (rise (Slot 3) Bbsy) ≡
     codes "12 3 bbsy+ E3 G14\n"
-    ++ codes "holds own br is high\n"
+    ++ codes "holds own br is high (profile)\n"
     ++ codes "    3 br high since 10\n"
-    ++ codes "fails own grant-in is high\n"
+    ++ codes "fails own grant-in is high (profile)\n"
     ++ codes "    2 bgout low since 3\n"
     ++ codes "holds own addr is off or own as is low\n"
     ++ codes "    3 addr off\n"
     ++ codes "    3 as high\n"
-unfolding digits
+unfolding digits all_rules
 leaves_under_a_grant = refl
 
 -- the bus timer ends an acknowledge that a board can answer
@@ -131,7 +132,7 @@ times_out_an_acknowledge : told nine_slots 13 before_times_out_an_acknowledge (f
     ++ codes "fails nobody can answer\n"
     ++ codes "    1 addr on i4 since 7\n"
     ++ codes "    9 iackout high\n"
-unfolding digits
+unfolding digits all_rules
 times_out_an_acknowledge = refl
 
 -- slot 3 lets go of a request that was acknowledged and not accessed
@@ -149,7 +150,7 @@ leaves_unserved : told nine_slots 25 before_leaves_unserved (rise (Slot 3) Irq) 
     codes "25 3 irq+ E3 G22\n"
     ++ codes "fails the request was served by an access\n"
     ++ codes "    3 irq low since 1\n"
-unfolding digits
+unfolding digits all_rules
 leaves_unserved = refl
 
 -- the grant has passed slot 3 and stands at slot 4

@@ -20,6 +20,10 @@ pub mod Guards
 pub mod Rules
 -- believe: the settling rules S1 to S4
 pub mod Settling
+-- believe, for `rule`: the rules in words
+pub mod Sentences
+-- believe, for `explain` and `rule`: where each condition comes from
+pub mod Sources
 -- believe: the refusals E1 to E5 in their order, and which lists are legal
 pub mod Verdict
 -- believe, for what is reported of a refusal: the conditions that an edge fails

@@ -58,6 +58,15 @@ moved_text e =
     (((driver_name e.driver ++ codes " ") ++ wire_text e.wire) ++ codes " is ")
     ++ state_text e.wire (not e.fall)
 
+-- the text of a condition for any edge, with N for a level
+abbrev pub pattern : Condition → List ℕ
+pattern condition.Picked = codes "the arbiter picks level N"
+pattern condition.Handled = codes "the board handles level N"
+pattern condition.InterruptLow = codes "IRQN* is low"
+pattern condition.Pending = codes "pending at level N"
+pattern condition.NotPending = codes "not pending at level N"
+pattern c = unwrap_or (fixed_text c) []
+
 -- the text of a condition for an edge, by the board in the edge's slot and by what is shown
 abbrev pub condition_text : Condition → Edge → Option Row → Option Cycle → List ℕ
 condition_text condition.Picked e board shown =

@@ -8,6 +8,7 @@ use Rattle.vme_model.specs.declared.witnesses.Witness.TheVariants.{Wire as wire_
 use Rattle.vme_model.specs.Plan.{board_of}
 use Rattle.vme_model.specs.History.{shown}
 use Rattle.vme_model.specs.Guards.{conditions}
+use Rattle.vme_model.specs.Sources.{is_ours, profile_mark}
 use Rattle.vme_model.specs.Verdict.{State}
 use Rattle.vme_model.specs.Failing.{tested}
 use Rattle.vme_model.specs.Deliveries.{answer}
@@ -65,8 +66,9 @@ outcome_text holds = if holds then codes "holds " else codes "fails "
 -- a line for a condition of an edge, and one for each of its readings
 abbrev pub reason_lines : State → Edge → Reason → List ℕ
 reason_lines b e r =
-    ((outcome_text r.tested.holds
+    (((outcome_text r.tested.holds
     ++ condition_text r.tested.condition e (board_of b.plan e.driver) (shown b.plan b.history))
+    ++ profile_mark (is_ours e.wire e.fall r.tested.condition))
     ++ 10 ∷ [])
     ++ witness_lines r.witnesses
 

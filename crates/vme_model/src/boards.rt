@@ -1,9 +1,8 @@
 //! What stands in the slots of a backplane.
 ghost use Rattle.std.specs.Prelude.{◌≡◌};
-ghost use Rattle.vme_model.specs.Plan.{requests_on, works, drives};
+ghost use Rattle.vme_model.specs.Plan.{requests_on, works};
 
 use crate::sets::{ChainId, Chains, Levels};
-use crate::signals::Wire;
 
 /// When a requester gives up the bus. Source: Std 1014, chapter 3; the bound on a burst is profile.
 #[derive(Clone, Copy, PartialEq, Eq, Debug)]
@@ -94,25 +93,6 @@ impl Row {
             ChainId::Bg2 => self.requests_on(2),
             ChainId::Bg3 => self.requests_on(3),
             ChainId::Iack => self.interrupter.is_some(),
-        }
-    }
-
-    /// Whether the board has the part that drives the wire. Every board has a `dtack`, and none
-    /// drives a wire of the controller. Source: profile.
-    #[inline(always)]
-    pub fn drives(&self, wire: Wire) -> bool
-        ensures { result ≡ drives wire self.now }
-    {
-        match wire {
-            Wire::Bg(_) | Wire::Bclr | Wire::Iack | Wire::Berr => false,
-            Wire::Br
-            | Wire::BgOut
-            | Wire::Bbsy
-            | Wire::Addr
-            | Wire::AddressStrobe
-            | Wire::DataStrobe => self.requester.is_some(),
-            Wire::Irq | Wire::IackOut => self.interrupter.is_some(),
-            Wire::Dtack => true,
         }
     }
 }

@@ -3,8 +3,9 @@
 //! These functions do nothing and cost nothing. Each states a theorem over the definitions by its
 //! contract, and a call of it gives the theorem to the prover. The claims are profile;
 //! docs/SAFETY.md explains them.
-ghost use Rattle.std.specs.Prelude.{◌≡◌, ◌↔◌, ℕ, Some, None, true, not, Bool, List, [], Ok, Option, map, filter, is_ok, is_some, slice_get, false};
+ghost use Rattle.std.specs.Prelude.{◌≡◌, ◌↔◌, ◌++◌, codes, decimal, ℕ, Some, None, true, false, not, Bool, List, [], Ok, Option, map, filter, is_ok, is_some, slice_get};
 ghost use Rattle.std.specs.List.{All, list_all};
+ghost use Rattle.std.specs.Option.{option_map_or, option_to_list};
 ghost use Rattle.vme_model.specs.Accepted.{IsAccepted};
 ghost use Rattle.vme_model.specs.Failing.{all_asked, first_failed, tested, tested_but_full, unmet, unmet_but_full};
 ghost use Rattle.vme_model.specs.GrantSafety.{Holds, Travels};
@@ -15,10 +16,12 @@ ghost use Rattle.vme_model.specs.Numbered.{Numbered, IsNth, edges_in, numbered, 
 ghost use Rattle.vme_model.specs.Open.{open_edges, showing, IsAllThatIsAllowed};
 ghost use Rattle.vme_model.specs.Plan.{Plan};
 ghost use Rattle.vme_model.specs.Readings.{Readings};
-ghost use Rattle.vme_model.specs.Rules.{failing, rule};
+ghost use Rattle.vme_model.specs.Rules.{failing, guard, rule};
 ghost use Rattle.vme_model.specs.Safe.{IsOrderly, IsSafe};
-ghost use Rattle.vme_model.specs.Settling.{settling, unsettled};
+ghost use Rattle.vme_model.specs.Sentences.{rule_name};
+ghost use Rattle.vme_model.specs.Settling.{settling, settling_guard, unsettled};
 ghost use Rattle.vme_model.specs.Signals.{has_wire, is_of, is_slot, wire_number};
+ghost use Rattle.vme_model.specs.Sources.{has_condition, rule_of, settling_of};
 ghost use Rattle.vme_model.specs.Stands.{grant_at, holder};
 ghost use Rattle.vme_model.specs.Text.{HasWord, all_wires};
 ghost use Rattle.vme_model.specs.Verdict.{IsLegal, State, kept, verdict, verdict_but_full};
@@ -125,7 +128,7 @@ pub fn what_is_so_has_its_edge()
 {}
 
 /// An edge is accepted exactly if every condition that is reported for it holds.
-pub fn why_tells_the_verdict()
+pub fn why_states_the_verdict()
     ensures { (b : State) (k : Numbered) (e : Edge) →
         is_ok (verdict b e) ≡ list_all (λ r. r.tested.holds) (why b k e) }
 {}
@@ -133,7 +136,7 @@ pub fn why_tells_the_verdict()
 /// The slot that is reported as the holder holds the bus. The grant that is reported stands at its
 /// slot, which has neither passed it on nor taken it. If no grant is reported, none stands
 /// anywhere.
-pub fn bus_stands_where_it_is_told()
+pub fn bus_stands_where_the_block_says()
     ensures holder { (p : Plan) (h : List Edge) (s : ℕ) → holder p h ≡ Some s → Holds h s }
     ensures grant { (p : Plan) (h : List Edge) (n s : ℕ) →
         grant_at p h ≡ Some (n, s) → Travels p h n s }
@@ -160,4 +163,26 @@ pub fn wires_are_of_one_part()
 /// A wire's number is its place among all wires, so no two wires have one number.
 pub fn wires_stand_at_their_numbers()
     ensures { (w : Wire) → HasWord w → slice_get all_wires (wire_number w) ≡ Some w }
+{}
+
+/// The table of the sources has the rules of the table of guards: each edge has the rule of the
+/// same number there, and the settling rule of the same number.
+pub fn sources_have_the_rules_of_the_guards()
+    ensures edge { (version : Version) (r : Readings) (w : Wire) (fall : Bool) (v : Option Cycle) →
+        rule_name (rule_of w fall) ≡ codes "G" ++ decimal (guard version r w fall v).0 }
+    ensures settling { (version : Version) (p : Plan) (h : List Edge) (w : Wire) (fall : Bool) →
+        All (λ r. rule_name r
+        ≡ codes "S" ++ decimal (settling_guard version p h w fall).0)
+        (option_to_list (settling_of w fall)) }
+{}
+
+/// Every condition of a guard is in the table of the sources, as one of the rule of its edge, and
+/// that of a settling guard as one of the settling rule.
+pub fn every_condition_has_a_source()
+    ensures edge { (version : Version) (r : Readings) (w : Wire) (fall : Bool) (v : Option Cycle) →
+        list_all (λ t. has_condition (rule_of w fall) t.condition)
+        (conditions (guard version r w fall v).1) ≡ true }
+    ensures settling { (version : Version) (p : Plan) (h : List Edge) (w : Wire) (fall : Bool) →
+        list_all (λ t. option_map_or (λ r. has_condition r t.condition) (settling_of w fall) false)
+        (conditions (settling_guard version p h w fall).1) ≡ true }
 {}

@@ -14,8 +14,10 @@ mod deliveries;
 pub mod laws;
 mod pins;
 mod refusals;
+mod sentences;
 mod sets;
 mod signals;
+mod sources;
 mod spoken;
 mod witnesses;
 
@@ -24,8 +26,11 @@ pub use conditions::{Condition, Tested};
 pub use deliveries::Delivery;
 pub use pins::Pins;
 pub use refusals::{Field, PlanError, Refused};
+pub use sentences::Rule;
 pub use sets::{BusLevels, ChainId, Chains, Levels};
 pub use signals::{Cycle, Driver, Edge, Part, Version, Wire};
+pub use sources::{Chapter, Reason, Source, Sourced, profile_mark};
+pub use spoken::board_text;
 pub use witnesses::Witness;
 
 /// The most edges that a trace can hold; the next one is refused as E5. Source: profile.

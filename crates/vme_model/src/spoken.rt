@@ -2,7 +2,7 @@
 ghost use Rattle.std.specs.Prelude.{◌≡◌, ◌+◌, ◌≤◌, ◌++◌, length, decimal, IsTrue};
 ghost use Rattle.arrayvec.specs.ArrayVec.{array_vec_len};
 ghost use Rattle.vme_model.specs.Signals.{is_well_formed};
-ghost use Rattle.vme_model.specs.Spoken.{level_of, service_text, board_text, moved_text, condition_text};
+ghost use Rattle.vme_model.specs.Spoken.{level_of, service_text, board_text, kind_text, moved_text, part_text, pattern, condition_text};
 
 use crate::boards::{IrqKind, Row};
 use crate::conditions::Condition;
@@ -45,6 +45,19 @@ fn level_of(value: Option<Cycle>) -> u8
     }
 }
 
+impl IrqKind {
+    /// The text that says that an interrupter of this kind was served.
+    pub fn service_text(self) -> &'static str
+        ensures text { result.now ≡ kind_text self }
+        ensures short { length result.now ≤ 48 }
+    {
+        match self {
+            IrqKind::Roak => "the request was served by an acknowledge",
+            IrqKind::Rora => "the request was served by an access",
+        }
+    }
+}
+
 /// The text that says what serves the board's interrupter; empty if it has none.
 fn service_text(board: Option<Row>) -> &'static str
     ensures text { result.now ≡ service_text board }
@@ -56,23 +69,32 @@ fn service_text(board: Option<Row>) -> &'static str
                 interrupter: Some(interrupter),
                 ..
             },
-        ) => match interrupter.kind {
-            IrqKind::Roak => "the request was served by an acknowledge",
-            IrqKind::Rora => "the request was served by an access",
-        },
+        ) => interrupter.kind.service_text(),
         _ => "",
     }
 }
 
+impl Wire {
+    /// The text that says which part of a board drives the wire.
+    pub fn part_text(self) -> &'static str
+        ensures text { result.now ≡ part_text self }
+        ensures short { length result.now ≤ 48 }
+    {
+        match self {
+            Wire::Irq | Wire::IackOut => "the board has an interrupter",
+            _ => "the board has a requester",
+        }
+    }
+}
+
 /// The text that says what the wire needs in its slot: a board, or one of its parts.
-fn board_text(wire: Wire, board: Option<Row>) -> &'static str
+pub fn board_text(wire: Wire, board: Option<Row>) -> &'static str
     ensures text { result.now ≡ board_text wire board }
     ensures short { length result.now ≤ 48 }
 {
-    match (board, wire) {
-        (None, _) => "the slot has a board",
-        (Some(_), Wire::Irq | Wire::IackOut) => "the board has an interrupter",
-        (Some(_), _) => "the board has a requester",
+    match board {
+        None => "the slot has a board",
+        Some(_) => wire.part_text(),
     }
 }
 
@@ -94,6 +116,22 @@ fn moved_text(edge: &Edge) -> ArrayVec<u8, TEXT>
 }
 
 impl Condition {
+    /// The condition's text for any edge, with N for a level. It is empty if the text depends on
+    /// more: on what serves an interrupter, on which board there is, or on the edge's wire.
+    pub fn pattern(self) -> &'static str
+        ensures text { result.now ≡ pattern self }
+        ensures short { length result.now ≤ 48 }
+    {
+        match self {
+            Condition::Picked => "the arbiter picks level N",
+            Condition::Handled => "the board handles level N",
+            Condition::InterruptLow => "IRQN* is low",
+            Condition::Pending => "pending at level N",
+            Condition::NotPending => "not pending at level N",
+            _ => self.fixed_text().unwrap_or(""),
+        }
+    }
+
     /// The condition's text for a well-formed edge. The text depends on the board in the edge's
     /// slot and on what is shown before the edge. docs/COMMANDS.md lists the texts.
     pub fn text(self, edge: &Edge, board: Option<Row>, shown: Option<Cycle>) -> ArrayVec<u8, TEXT>

@@ -18,54 +18,58 @@ use Rattle.vme_engines.specs.Joining.{Joins}
 use Rattle.vme_run.specs.declared.RunFault.{RunFault}
 use Rattle.vme_run.specs.declared.RunFault.TheVariants as run
 use Rattle.vme_run.specs.Running.{Runs}
+use Rattle.vme_moments.specs.declared.slacks.Slacks.{Slacks}
+use Rattle.vme_order.specs.declared.Form.{Form}
+use Rattle.vme_order.specs.declared.OrderingFault.TheVariants as order
+use Rattle.vme_order.specs.Ordering.{Answer as OrderAnswer, LentText, OrdersInput}
 use Rattle.vme_command_line.specs.declared.Job.{Job}
-use Rattle.vme_command_line.specs.declared.Job.TheVariants.{Joined, Drive, Draw, Search, Run}
+use Rattle.vme_command_line.specs.declared.Job.TheVariants.{Joined, Order, Drive, Draw, Search, Run}
 use Rattle.vme_program.specs.declared.faults.ProgramFault.{ProgramFault}
 use Rattle.vme_program.specs.declared.faults.ProgramFault.TheVariants.{CannotRead, TooLong, Engine}
 use Rattle.vme_program.specs.Done.{Alone, Hands, IsDone, Known, OnTrace}
-use Rattle.vme_program.specs.Names.{told_answer, told_run_answer}
+use Rattle.vme_program.specs.Names.{form_of, answer_named, order_answer_named, run_answer_named}
 
-pub handed : (Stops : List ℕ → Fault → Type 0) (Does : Answer → Type 0) (nothing : Type 0) (name : Bor (List ℕ)) (answer : Answer) → Does answer
-    → (Does (Err fault.CannotRead) → nothing) → (Does (Err fault.TooLong) → nothing) → Hands (Alone Does) Stops nothing (told_answer name answer)
-handed Stops Does nothing name (Ok status) does unread long = does
-handed Stops Does nothing name (Err fault.CannotRead) does unread long = unread does
-handed Stops Does nothing name (Err fault.TooLong) does unread long = long does
-handed Stops Does nothing name (Err (fault.Scenario e)) does unread long = inl does
-handed Stops Does nothing name (Err (fault.Trace f)) does unread long = inl does
-handed Stops Does nothing name (Err (fault.Beyond edges)) does unread long = inl does
-handed Stops Does nothing name (Err fault.NoMemory) does unread long = inl does
+pub handed : (Stops : List ℕ → Fault → Type 0) (Fails : ProgramFault → Type 0) (Does : Answer → Type 0) (nothing : Type 0) (name : Bor (List ℕ)) (answer : Answer) → Does answer
+    → (Does (Err fault.CannotRead) → nothing) → (Does (Err fault.TooLong) → nothing) → Hands (Alone Does) Stops Fails nothing (answer_named name answer)
+handed Stops Fails Does nothing name (Ok status) does unread long = does
+handed Stops Fails Does nothing name (Err fault.CannotRead) does unread long = unread does
+handed Stops Fails Does nothing name (Err fault.TooLong) does unread long = long does
+handed Stops Fails Does nothing name (Err (fault.Scenario e)) does unread long = inl does
+handed Stops Fails Does nothing name (Err (fault.Trace f)) does unread long = inl does
+handed Stops Fails Does nothing name (Err (fault.Beyond edges)) does unread long = inl does
+handed Stops Fails Does nothing name (Err fault.NoMemory) does unread long = inl does
 
 pub joined_done : (name : Bor (List ℕ)) (from to old new : Known) (answer : Answer) → Joins (streams from to old new) answer
-    → IsDone Joined old new (told_answer name answer)
+    → IsDone Joined old new (answer_named name answer)
 joined_done name from to old new answer does =
-    handed _ (λ a. (x : Known) × (y : Known) × Joins (streams x y old new) a) (Keeps old new) name answer (from, to, does)
+    handed _ (λ f. ⊥) (λ a. (x : Known) × (y : Known) × Joins (streams x y old new) a) (Keeps old new) name answer (from, to, does)
     (λ h. elim h.2 [ inl found ↦ absurd found.4 | inr none ↦ none.2 ])
     (λ h. elim h.2 [ inl found ↦ found.4.1 | inr none ↦ absurd none.3 ])
 
 -- an engine on a scenario and a trace
 pub on_trace : (Stops : List ℕ → Fault → Type 0) (Ends : Streams → Plan → Answer → Type 0) (name : Bor (List ℕ)) (text : List ℕ) (from to old new : Known) (answer : Answer)
     → LentAsking text (ReadNothing (streams from to old new) × WroteNothing (streams from to old new)) (Ends (streams from to old new)) answer
-    → Hands (Alone (OnTrace Ends old new)) Stops (Keeps old new) (told_answer name answer)
+    → Hands (Alone (OnTrace Ends old new)) Stops (λ f. ⊥) (Keeps old new) (answer_named name answer)
 on_trace Stops Ends name text from to old new answer does =
-    handed Stops (OnTrace Ends old new) (Keeps old new) name answer (text, from, to, does) (λ h. absurd h.3) (λ h. h.3.1.1)
+    handed Stops (λ f. ⊥) (OnTrace Ends old new) (Keeps old new) name answer (text, from, to, does) (λ h. absurd h.3) (λ h. h.3.1.1)
 
 pub drive_done : (scenario : Bor (List ℕ)) (text : List ℕ) (edges : ℕ) (version : Version) (old new : Known) (answer : Answer)
-    → Lent text (Keeps old new) (Drives version edges old new) answer → IsDone (Drive scenario edges version) old new (told_answer scenario answer)
+    → Lent text (Keeps old new) (Drives version edges old new) answer → IsDone (Drive scenario edges version) old new (answer_named scenario answer)
 drive_done scenario text edges version old new answer does =
-    handed _ (λ a. (t : List ℕ) × Lent t (Keeps old new) (Drives version edges old new) a)
+    handed _ (λ f. ⊥) (λ a. (t : List ℕ) × Lent t (Keeps old new) (Drives version edges old new) a)
     (Keeps old new) scenario answer (text, does) (λ h. absurd h.1) (λ h. h.1.1)
 
 pub draw_done : (scenario : Bor (List ℕ)) (text : List ℕ) (edges seed : ℕ) (until : Option Goal) (version : Version) (old new : Known) (answer : Answer)
-    → Lent text (Keeps old new) (Draws version seed edges until old new) answer → IsDone (Draw scenario edges seed until version) old new (told_answer scenario answer)
+    → Lent text (Keeps old new) (Draws version seed edges until old new) answer → IsDone (Draw scenario edges seed until version) old new (answer_named scenario answer)
 draw_done scenario text edges seed until version old new answer does =
-    handed _ (λ a. (t : List ℕ) × Lent t (Keeps old new) (Draws version seed edges until old new) a)
+    handed _ (λ f. ⊥) (λ a. (t : List ℕ) × Lent t (Keeps old new) (Draws version seed edges until old new) a)
     (Keeps old new) scenario answer (text, does) (λ h. absurd h.1) (λ h. h.1.1)
 
 pub search_done : (scenario : Bor (List ℕ)) (text : List ℕ) (edges first last : ℕ) (goal : Goal) (version : Version) (progress : Bool) (old new : Known) (found : Found)
     → Lent text (Keeps old new) (Finds version edges first last goal old new found) (found_answer found)
-    → IsDone (Search scenario edges first last goal version progress) old new (told_answer scenario (found_answer found))
+    → IsDone (Search scenario edges first last goal version progress) old new (answer_named scenario (found_answer found))
 search_done scenario text edges first last goal version progress old new found does =
-    handed _ (λ a. (t : List ℕ) × (f : Found) × (a ≡ found_answer f) × Lent t (Keeps old new) (Finds version edges first last goal old new f) a)
+    handed _ (λ f. ⊥) (λ a. (t : List ℕ) × (f : Found) × (a ≡ found_answer f) × Lent t (Keeps old new) (Finds version edges first last goal old new f) a)
     (Keeps old new) scenario (found_answer found) (text, found, refl, does) (λ h. absurd h.3) (λ h. h.3.1)
 
 -- a file that cannot be read, or a scenario that is too long, or no memory, before an engine begins
@@ -85,7 +89,7 @@ pub unbuffered : (job : Job) (held : Known) (f : ProgramFault) → f ≡ Engine 
 unbuffered job held f is = subst (λ (g : ProgramFault). IsDone job held held (Err g)) (sym is) (inr (refl, Keeps-refl held))
 
 pub run_done : (scenario : Bor (List ℕ)) (text : List ℕ) (edges turns : ℕ) (version : Version) (old new : Known) (answer : Result Status RunFault)
-    → Runs text version edges turns old new answer → IsDone (Run scenario edges turns version) old new (told_run_answer scenario answer)
+    → Runs text version edges turns old new answer → IsDone (Run scenario edges turns version) old new (run_answer_named scenario answer)
 run_done scenario text edges turns version old new (Ok status) does = (text, does)
 run_done scenario text edges turns version old new (Err (run.Engine fault.CannotRead)) does = absurd does
 run_done scenario text edges turns version old new (Err (run.Engine fault.TooLong)) does = does.1
@@ -96,3 +100,26 @@ run_done scenario text edges turns version old new (Err (run.Engine fault.NoMemo
 run_done scenario text edges turns version old new (Err run.NotStarted) does = (text, does)
 run_done scenario text edges turns version old new (Err (run.LogDiffers driver at)) does = (text, does)
 run_done scenario text edges turns version old new (Err (run.NotReplayed at)) does = absurd does
+
+-- an engine on a scenario and moments
+order_done : (scenario moments : Bor (List ℕ)) (text : List ℕ) (slacks : Slacks) (places : Bool) (from to old new : Known) (answer : OrderAnswer)
+    → LentText text (ReadNothing (streams from to old new) × WroteNothing (streams from to old new)) (OrdersInput (form_of places) slacks (streams from to old new)) answer
+    → IsDone (Order scenario moments slacks places) old new (order_answer_named scenario answer)
+order_done scenario moments text slacks places from to old new (Ok status) does = (text, from, to, does)
+order_done scenario moments text slacks places from to old new (Err (order.Engine fault.CannotRead)) does = absurd does.3.2
+order_done scenario moments text slacks places from to old new (Err (order.Engine fault.TooLong)) does = does.1.1
+order_done scenario moments text slacks places from to old new (Err (order.Engine (fault.Scenario e))) does = inl (text, from, to, does)
+order_done scenario moments text slacks places from to old new (Err (order.Engine (fault.Trace f))) does = inl (text, from, to, does)
+order_done scenario moments text slacks places from to old new (Err (order.Engine (fault.Beyond n))) does = inl (text, from, to, does)
+order_done scenario moments text slacks places from to old new (Err (order.Engine fault.NoMemory)) does = inl (text, from, to, does)
+order_done scenario moments text slacks places from to old new (Err (order.Moments f)) does = (text, from, to, does)
+order_done scenario moments text slacks places from to old new (Err (order.NoBoard slot)) does = (text, from, to, does)
+order_done scenario moments text slacks places from to old new (Err order.TooManyOrders) does = (text, from, to, does)
+
+-- the same of what is written in a form that is that of the job
+pub order_formed : (scenario moments : Bor (List ℕ)) (text : List ℕ) (slacks : Slacks) (places : Bool) (form : Form) (from to old new : Known) (answer : OrderAnswer) → form ≡ form_of places
+    → LentText text (ReadNothing (streams from to old new) × WroteNothing (streams from to old new)) (OrdersInput form slacks (streams from to old new)) answer
+    → IsDone (Order scenario moments slacks places) old new (order_answer_named scenario answer)
+order_formed scenario moments text slacks places form from to old new answer is does =
+    order_done scenario moments text slacks places from to old new answer
+    (subst (λ (f : Form). LentText text (ReadNothing (streams from to old new) × WroteNothing (streams from to old new)) (OrdersInput f slacks (streams from to old new)) answer) is does)

@@ -4,3 +4,7 @@ pub mod Fronts
 pub mod Handing
 -- src/jobs.rt: traces that are added up, file by file
 pub mod Adding
+-- src/escapes.rt: a name on one line, character by character
+pub mod EscapedNames
+-- src/checks.rt: traces that are checked, file by file
+pub mod CheckedFiles

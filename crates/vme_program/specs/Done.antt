@@ -1,7 +1,9 @@
 -- What a job leaves on its output, and returns.
-use Rattle.std.specs.Prelude.{◌≡◌, ◌⊎◌, ℕ, List, length, Option, Result, Ok, Err}
+use Rattle.std.specs.Prelude.{◌≡◌, ◌⊎◌, ℕ, List, length, Option, Some, None, Result, Ok, Err}
 use Rattle.std.specs.Io.KnownBytes.{Appends, Keeps}
+use Rattle.vme_model.specs.declared.Rule.{Rule}
 use Rattle.vme_model.specs.Plan.{Plan}
+use Rattle.vme_rulebook.specs.Pages.{list, page}
 use Rattle.vme_scenario.specs.Format.{scenario as read}
 use Rattle.vme_trace.specs.declared.Fault.{Fault}
 use Rattle.vme_trace.specs.declared.Fault.TheVariants.{Write}
@@ -20,17 +22,25 @@ use Rattle.vme_engines.specs.Driving.{Drives}
 use Rattle.vme_engines.specs.Drawing.{Draws}
 use Rattle.vme_engines.specs.Found.{Found, Finds, found_answer}
 use Rattle.vme_engines.specs.Joining.{Joins}
+use Rattle.vme_cycles.specs.Outcomes.{ReportsInput}
 use Rattle.vme_run.specs.declared.RunFault.{RunFault}
 use Rattle.vme_run.specs.declared.RunFault.TheVariants as run
 use Rattle.vme_run.specs.Running.{Runs}
+use Rattle.vme_shrink.specs.Shrinking.{ShrinksInput}
+use Rattle.vme_moments.specs.declared.slacks.Slacks.{Slacks}
+use Rattle.vme_order.specs.declared.Form.{Form}
+use Rattle.vme_order.specs.declared.OrderingFault.TheVariants as order
+use Rattle.vme_order.specs.Ordering.{Answer as OrderAnswer, LentText, OrdersInput}
 use Rattle.vme_command_line.specs.declared.Job.{Job}
-use Rattle.vme_command_line.specs.declared.Job.TheVariants.{Joined, OwnVersion, Replay, Check, Explain, State, Show, Summary, Sums, Drive, Draw, Search, Run}
+use Rattle.vme_command_line.specs.declared.Job.TheVariants.{Joined, OwnVersion, Replay, Check, Checks, Cycles, Explain, Shrink, Rules, State, Show, Summary, Sums, Order, Drive, Draw, Search, Run}
 use Rattle.vme_command_line.specs.Asked.{Ask, texts_of}
 use Rattle.vme_command_line.specs.declared.TheConstants.{VERSION}
+use Rattle.vme_program.specs.CheckedFiles.{ChecksFiles, HasFaulty}
+use Rattle.vme_program.specs.Names.{form_of, line_form}
 use Rattle.vme_program.specs.Statuses.{exit_code}
 use Rattle.vme_program.specs.Together.{StopsAt, SumsUp}
 use Rattle.vme_program.specs.declared.faults.ProgramFault.{ProgramFault}
-use Rattle.vme_program.specs.declared.faults.ProgramFault.TheVariants.{CannotRead, TooLong, Engine, InTrace, Boards}
+use Rattle.vme_program.specs.declared.faults.ProgramFault.TheVariants.{CannotRead, TooLong, Engine, InTrace, SomeTraces, Boards, Ordering}
 
 abbrev pub Known : Type 0
 Known = Option (List ℕ)
@@ -47,11 +57,28 @@ OnTrace Ends old new answer = (text : List ℕ) × (from : Known) × (to : Known
     × (let s = streams from to old new in
     LentAsking text (ReadNothing s × WroteNothing s) (Ends s) answer)
 
--- the line of the program's version is written, or at X8 a prefix of it
-abbrev pub TellsVersion : Known → Known → Answer → Type 0
-TellsVersion old new (Ok status) = Appends old new VERSION.now × (status ≡ ends.Done)
-TellsVersion old new (Err (fault.Trace f)) = (f ≡ Write) × AppendsFront old new VERSION.now
-TellsVersion old new (Err _) = ⊥
+-- a text is written, or at X8 a prefix of it
+abbrev pub PrintsText : List ℕ → Known → Known → Answer → Type 0
+PrintsText text old new (Ok status) = Appends old new text × (status ≡ ends.Done)
+PrintsText text old new (Err (fault.Trace f)) = (f ≡ Write) × AppendsFront old new text
+PrintsText text old new (Err _) = ⊥
+
+-- one rule with its conditions, or all rules in a sentence each
+abbrev pub rules_text : Option Rule → List ℕ
+rules_text (Some rule) = page rule
+rules_text None = list
+
+-- what the engine `order` does on a plan and moments
+abbrev pub OnMoments : Form → Slacks → Known → Known → OrderAnswer → Type 0
+OnMoments form slacks old new answer = (text : List ℕ) × (from : Known) × (to : Known)
+    × (let s = streams from to old new in
+    LentText text (ReadNothing s × WroteNothing s) (OrdersInput form slacks s) answer)
+
+-- the answer of `order`, without the faults that it has alone
+abbrev pub Ordered : (OrderAnswer → Type 0) → Result Status RunFault → Type 0
+Ordered Ends (Ok status) = Ends (Ok status)
+Ordered Ends (Err (run.Engine f)) = Ends (Err (order.Engine f))
+Ordered Ends (Err _) = ⊥
 
 -- What the engine of a job does, by what the output held before and holds now, on some text of a
 -- scenario, and on some input, given the bytes that it had left before and has left now. (No clause
@@ -59,16 +86,25 @@ TellsVersion old new (Err _) = ⊥
 abbrev pub Does : Job → Known → Known → Result Status RunFault → Type 0
 Does Joined old new =
     Alone (λ answer. (from : Known) × (to : Known) × Joins (streams from to old new) answer)
-Does OwnVersion old new = Alone (TellsVersion old new)
-Does (Replay scenario trace) old new = Alone (OnTrace ReplaysInput old new)
+Does OwnVersion old new = Alone (PrintsText VERSION.now old new)
+Does (Rules rule) old new = Alone (PrintsText (rules_text rule) old new)
+Does (Replay scenario trace full) old new =
+    Alone (OnTrace (ReplaysInput (line_form full)) old new)
 Does (Check scenario trace) old new = Alone (OnTrace ChecksInput old new)
+Does (Checks scenario traces) old new = Alone (λ answer.
+    (text : List ℕ)
+    × Lent text (Keeps old new) (ChecksFiles (texts_of traces.items) old new) answer)
+Does (Cycles scenario trace) old new = Alone (OnTrace ReportsInput old new)
 Does (Explain scenario trace edge) old new = Alone (OnTrace (ExplainsInput edge) old new)
+Does (Shrink scenario trace edge) old new = Alone (OnTrace (ShrinksInput edge) old new)
 Does (State scenario trace after) old new = Alone (OnTrace (StatesInput after) old new)
 Does (Show scenario trace from to color) old new =
     Alone (OnTrace (ShowsInput from to color) old new)
 Does (Summary scenario trace) old new = Alone (OnTrace SumsInput old new)
 Does (Sums scenario traces) old new = Alone (λ answer.
     (text : List ℕ) × Lent text (Keeps old new) (SumsUp (length traces.items) old new) answer)
+Does (Order scenario moments slacks places) old new =
+    Ordered (OnMoments (form_of places) slacks old new)
 Does (Drive scenario edges version) old new = Alone (λ answer.
     (text : List ℕ) × Lent text (Keeps old new) (Drives version edges old new) answer)
 Does (Draw scenario edges seed until version) old new = Alone (λ answer.
@@ -85,22 +121,32 @@ Stops (Sums scenario traces) name f =
     (text : List ℕ) × (p : Plan) × (read text ≡ Ok p) × StopsAt (texts_of traces.items) name f p
 Stops job name f = ⊥
 
+-- a job ends with a fault that it has alone
+abbrev pub Fails : Job → Known → Known → ProgramFault → Type 0
+Fails (Checks scenario traces) old new SomeTraces = HasFaulty (texts_of traces.items) old new
+Fails (Order scenario moments slacks places) old new (Ordering f) =
+    OnMoments (form_of places) slacks old new (Err f)
+Fails job old new f = ⊥
+
 -- The answer is an engine's. Or a file could not be read, there was no memory for what is passed to
 -- the engine, or one of several traces has a fault; then nothing was written.
 abbrev pub Hands :
-    (Result Status RunFault → Type 0) → (List ℕ → Fault → Type 0) → Type 0
-    → Result Status ProgramFault → Type 0
-Hands Ends Stops nothing (Ok status) = Ends (Ok status)
-Hands Ends Stops nothing (Err (CannotRead name)) = nothing
-Hands Ends Stops nothing (Err (TooLong name)) = nothing
-Hands Ends Stops nothing (Err (Engine f)) =
+    (Result Status RunFault → Type 0) → (List ℕ → Fault → Type 0) → (ProgramFault → Type 0)
+    → Type 0 → Result Status ProgramFault → Type 0
+Hands Ends Stops Fails nothing (Ok status) = Ends (Ok status)
+Hands Ends Stops Fails nothing (Err (CannotRead name)) = nothing
+Hands Ends Stops Fails nothing (Err (TooLong name)) = nothing
+Hands Ends Stops Fails nothing (Err (Engine f)) =
     Ends (Err (run.Engine f)) ⊎ ((f ≡ fault.NoMemory) × nothing)
-Hands Ends Stops nothing (Err (InTrace name f)) = Stops name.now f × nothing
-Hands Ends Stops nothing (Err (Boards f)) = Ends (Err f)
+Hands Ends Stops Fails nothing (Err (InTrace name f)) = Stops name.now f × nothing
+Hands Ends Stops Fails nothing (Err (Boards f)) = Ends (Err f)
+Hands Ends Stops Fails nothing (Err SomeTraces) = Fails SomeTraces
+Hands Ends Stops Fails nothing (Err (Ordering f)) = Fails (Ordering f)
 
 -- the job is done in this way
 abbrev pub IsDone : Job → Known → Known → Result Status ProgramFault → Type 0
-IsDone job old new result = Hands (Does job old new) (Stops job) (Keeps old new) result
+IsDone job old new result =
+    Hands (Does job old new) (Stops job) (Fails job old new) (Keeps old new) result
 
 -- The output at a fault: nothing was written, or a job for which the words ask ended with the
 -- fault.

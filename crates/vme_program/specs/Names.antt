@@ -1,29 +1,40 @@
 -- The names that a fault may print.
-use Rattle.std.specs.Prelude.{◌≡◌, ◌⊎◌, ℕ, List, [], codes, Result, Ok, Err}
+use Rattle.std.specs.Prelude.{◌≡◌, ◌⊎◌, ℕ, Bool, true, false, List, [], codes, Result, Ok, Err}
 use Rattle.std.specs.List.{Contains}
 use Rattle.std.specs.Borrow.{Bor}
+use Rattle.vme_engines.specs.declared.LineForm.{LineForm}
+use Rattle.vme_engines.specs.declared.LineForm.TheVariants.{Short, Full}
 use Rattle.vme_engines.specs.declared.Status.{Status}
 use Rattle.vme_engines.specs.declared.EngineFault.{EngineFault}
 use Rattle.vme_engines.specs.declared.EngineFault.TheVariants as fault
 use Rattle.vme_run.specs.declared.RunFault.{RunFault}
 use Rattle.vme_run.specs.declared.RunFault.TheVariants as run
+use Rattle.vme_order.specs.declared.Form.{Form}
+use Rattle.vme_order.specs.declared.Form.TheVariants.{Trace, Places}
+use Rattle.vme_order.specs.declared.OrderingFault.{OrderingFault}
+use Rattle.vme_order.specs.declared.OrderingFault.TheVariants as order
 use Rattle.vme_command_line.specs.Asked.{texts_of}
 use Rattle.vme_command_line.specs.declared.Job.{Job}
-use Rattle.vme_command_line.specs.declared.Job.TheVariants.{Joined, OwnVersion, Replay, Check, Explain, State, Show, Summary, Sums, Drive, Draw, Search, Run}
+use Rattle.vme_command_line.specs.declared.Job.TheVariants.{Joined, OwnVersion, Replay, Check, Checks, Cycles, Explain, Shrink, Rules, State, Show, Summary, Sums, Order, Drive, Draw, Search, Run}
 use Rattle.vme_program.specs.declared.faults.ProgramFault.{ProgramFault}
-use Rattle.vme_program.specs.declared.faults.ProgramFault.TheVariants.{CannotRead, TooLong, Engine, InTrace, Boards}
+use Rattle.vme_program.specs.declared.faults.ProgramFault.TheVariants.{CannotRead, TooLong, Engine, InTrace, SomeTraces, Boards, Ordering}
 
 -- the name of the scenario of a job: standard input is `-`, and the version has none
 abbrev pub scenario_name : Job → List ℕ
 scenario_name Joined = codes "-"
 scenario_name OwnVersion = []
-scenario_name (Replay scenario trace) = scenario.now
+scenario_name (Replay scenario trace full) = scenario.now
 scenario_name (Check scenario trace) = scenario.now
+scenario_name (Checks scenario traces) = scenario.now
+scenario_name (Cycles scenario trace) = scenario.now
 scenario_name (Explain scenario trace edge) = scenario.now
+scenario_name (Shrink scenario trace edge) = scenario.now
+scenario_name (Rules rule) = []
 scenario_name (State scenario trace after) = scenario.now
 scenario_name (Show scenario trace from to color) = scenario.now
 scenario_name (Summary scenario trace) = scenario.now
 scenario_name (Sums scenario traces) = scenario.now
+scenario_name (Order scenario moments slacks places) = scenario.now
 scenario_name (Drive scenario edges version) = scenario.now
 scenario_name (Draw scenario edges seed until version) = scenario.now
 scenario_name (Search scenario edges first last goal version progress) = scenario.now
@@ -33,49 +44,74 @@ scenario_name (Run scenario edges turns version) = scenario.now
 abbrev pub IsFileOf : Job → List ℕ → Type 0
 IsFileOf Joined name = name ≡ codes "-"
 IsFileOf OwnVersion name = ⊥
-IsFileOf (Replay scenario trace) name = (name ≡ scenario.now) ⊎ (name ≡ trace.now)
+IsFileOf (Replay scenario trace full) name = (name ≡ scenario.now) ⊎ (name ≡ trace.now)
 IsFileOf (Check scenario trace) name = (name ≡ scenario.now) ⊎ (name ≡ trace.now)
+IsFileOf (Checks scenario traces) name =
+    (name ≡ scenario.now) ⊎ Contains (texts_of traces.items) name
+IsFileOf (Cycles scenario trace) name = (name ≡ scenario.now) ⊎ (name ≡ trace.now)
 IsFileOf (Explain scenario trace edge) name = (name ≡ scenario.now) ⊎ (name ≡ trace.now)
+IsFileOf (Shrink scenario trace edge) name = (name ≡ scenario.now) ⊎ (name ≡ trace.now)
+IsFileOf (Rules rule) name = ⊥
 IsFileOf (State scenario trace after) name = (name ≡ scenario.now) ⊎ (name ≡ trace.now)
 IsFileOf (Show scenario trace from to color) name = (name ≡ scenario.now) ⊎ (name ≡ trace.now)
 IsFileOf (Summary scenario trace) name = (name ≡ scenario.now) ⊎ (name ≡ trace.now)
 IsFileOf (Sums scenario traces) name =
     (name ≡ scenario.now) ⊎ Contains (texts_of traces.items) name
+IsFileOf (Order scenario moments slacks places) name =
+    (name ≡ scenario.now) ⊎ (name ≡ moments.now)
 IsFileOf (Drive scenario edges version) name = name ≡ scenario.now
 IsFileOf (Draw scenario edges seed until version) name = name ≡ scenario.now
 IsFileOf (Search scenario edges first last goal version progress) name = name ≡ scenario.now
 IsFileOf (Run scenario edges turns version) name = name ≡ scenario.now
 
 -- an engine's fault, given the name of the scenario
-abbrev pub told_fault : Bor (List ℕ) → EngineFault → ProgramFault
-told_fault name fault.CannotRead = CannotRead name
-told_fault name fault.TooLong = TooLong name
-told_fault name (fault.Scenario e) = Engine (fault.Scenario e)
-told_fault name (fault.Trace f) = Engine (fault.Trace f)
-told_fault name (fault.Beyond edges) = Engine (fault.Beyond edges)
-told_fault name fault.NoMemory = Engine fault.NoMemory
+abbrev pub fault_named : Bor (List ℕ) → EngineFault → ProgramFault
+fault_named name fault.CannotRead = CannotRead name
+fault_named name fault.TooLong = TooLong name
+fault_named name (fault.Scenario e) = Engine (fault.Scenario e)
+fault_named name (fault.Trace f) = Engine (fault.Trace f)
+fault_named name (fault.Beyond edges) = Engine (fault.Beyond edges)
+fault_named name fault.NoMemory = Engine fault.NoMemory
 
-abbrev pub told_answer : Bor (List ℕ) → Result Status EngineFault → Result Status ProgramFault
-told_answer name (Ok status) = Ok status
-told_answer name (Err f) = Err (told_fault name f)
+abbrev pub answer_named : Bor (List ℕ) → Result Status EngineFault → Result Status ProgramFault
+answer_named name (Ok status) = Ok status
+answer_named name (Err f) = Err (fault_named name f)
 
 -- an engine's fault, given the name of the scenario and that of the trace, which is one of several
-abbrev pub told_trace_fault : Bor (List ℕ) → Bor (List ℕ) → EngineFault → ProgramFault
-told_trace_fault scenario trace (fault.Trace f) = InTrace trace f
-told_trace_fault scenario trace f = told_fault scenario f
+abbrev pub trace_fault_named : Bor (List ℕ) → Bor (List ℕ) → EngineFault → ProgramFault
+trace_fault_named scenario trace (fault.Trace f) = InTrace trace f
+trace_fault_named scenario trace f = fault_named scenario f
 
-abbrev pub told_trace_answer :
-    Bor (List ℕ) → Bor (List ℕ) → Result Status EngineFault → Result Status ProgramFault
-told_trace_answer scenario trace (Ok status) = Ok status
-told_trace_answer scenario trace (Err f) = Err (told_trace_fault scenario trace f)
+abbrev pub trace_answer_named :
+    {A : Type 0} → Bor (List ℕ) → Bor (List ℕ) → Result A EngineFault → Result A ProgramFault
+trace_answer_named scenario trace (Ok answer) = Ok answer
+trace_answer_named scenario trace (Err f) = Err (trace_fault_named scenario trace f)
 
-abbrev pub told_run_answer :
+abbrev pub run_answer_named :
     Bor (List ℕ) → Result Status RunFault → Result Status ProgramFault
-told_run_answer name (Ok status) = Ok status
-told_run_answer name (Err (run.Engine f)) = Err (told_fault name f)
-told_run_answer name (Err run.NotStarted) = Err (Boards run.NotStarted)
-told_run_answer name (Err (run.LogDiffers driver at)) = Err (Boards (run.LogDiffers driver at))
-told_run_answer name (Err (run.NotReplayed at)) = Err (Boards (run.NotReplayed at))
+run_answer_named name (Ok status) = Ok status
+run_answer_named name (Err (run.Engine f)) = Err (fault_named name f)
+run_answer_named name (Err run.NotStarted) = Err (Boards run.NotStarted)
+run_answer_named name (Err (run.LogDiffers driver at)) = Err (Boards (run.LogDiffers driver at))
+run_answer_named name (Err (run.NotReplayed at)) = Err (Boards (run.NotReplayed at))
+
+-- what a replay writes of each edge, with `--full` and without
+abbrev pub line_form : Bool → LineForm
+line_form true = Full
+line_form false = Short
+
+-- what is written of an order, with `--where` and without
+abbrev pub form_of : Bool → Form
+form_of true = Places
+form_of false = Trace
+
+abbrev pub order_answer_named :
+    Bor (List ℕ) → Result Status OrderingFault → Result Status ProgramFault
+order_answer_named name (Ok status) = Ok status
+order_answer_named name (Err (order.Engine f)) = Err (fault_named name f)
+order_answer_named name (Err (order.Moments f)) = Err (Ordering (order.Moments f))
+order_answer_named name (Err (order.NoBoard slot)) = Err (Ordering (order.NoBoard slot))
+order_answer_named name (Err order.TooManyOrders) = Err (Ordering order.TooManyOrders)
 
 -- a file of this name cannot be read, or there is no memory for it
 abbrev pub IsFileFault : Bor (List ℕ) → ProgramFault → Type 0
@@ -91,4 +127,6 @@ IsFaultOf job (CannotRead name) = IsFileOf job name.now
 IsFaultOf job (TooLong name) = name.now ≡ scenario_name job
 IsFaultOf job (Engine fault) = Unit {0}
 IsFaultOf job (InTrace name fault) = IsFileOf job name.now
+IsFaultOf job SomeTraces = Unit {0}
 IsFaultOf job (Boards fault) = Unit {0}
+IsFaultOf job (Ordering fault) = Unit {0}

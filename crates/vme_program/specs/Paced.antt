@@ -7,7 +7,7 @@ use Rattle.std.specs.declared.time.Instant.{Instant}
 -- from now. None is due: there is a last one, and no second has passed since; it stays.
 abbrev pub IsPaced : Option Instant → Option Instant → Instant → Bool → Type 0
 IsPaced old new now true = (new ≡ Some now)
-    × IfSome old (λ told. instant_nanos told + 1_000_000_000 ≤ instant_nanos now)
+    × IfSome old (λ last. instant_nanos last + 1_000_000_000 ≤ instant_nanos now)
 IsPaced None new now false = ⊥
-IsPaced (Some told) new now false = (new ≡ Some told)
-    × (instant_nanos now < instant_nanos told + 1_000_000_000)
+IsPaced (Some last) new now false = (new ≡ Some last)
+    × (instant_nanos now < instant_nanos last + 1_000_000_000)

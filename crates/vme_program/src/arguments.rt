@@ -4,7 +4,7 @@ ghost use Rattle.std.specs.Process.{exit_status};
 ghost use Rattle.vme_program.specs.Words.{IsPlaced, outcome};
 ghost use Rattle.vme_program.specs.declared.arguments.WordsFault.TheVariants.{NoMemory};
 
-use crate::faults::tell;
+use crate::faults::report;
 use crate::lines::Lines;
 use std::alloc::{AllocError, AllocFailed};
 use std::env::{Env, FillError};
@@ -116,7 +116,7 @@ fn has_line_feed(words: &[&str]) -> bool {
 
 /// Prints what is wrong with the words, or how they are used. It is one line if a word goes over
 /// several. The exit status is 1.
-pub(crate) fn tell_words<D: fmt::Display + Drop>(
+pub(crate) fn report_words<D: fmt::Display + Drop>(
     rt: &HostRuntime,
     words: &[&str],
     error: D,
@@ -124,7 +124,7 @@ pub(crate) fn tell_words<D: fmt::Display + Drop>(
     ensures { exit_status result ≡ 1 }
 {
     if has_line_feed(words) {
-        return tell(rt, error);
+        return report(rt, error);
     }
     let text = Lines(error);
     let _ = eprint!(rt; "{text}");

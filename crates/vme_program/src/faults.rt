@@ -2,7 +2,7 @@
 ghost use Rattle.std.specs.Prelude.{◌≡◌, ◌≢◌};
 ghost use Rattle.std.specs.IoError.{error_kind};
 ghost use Rattle.std.specs.Process.{exit_status};
-ghost use Rattle.vme_program.specs.Names.{told_fault, told_trace_fault};
+ghost use Rattle.vme_program.specs.Names.{fault_named, trace_fault_named};
 
 use crate::lines::OneLine;
 use std::fmt;
@@ -10,6 +10,7 @@ use std::io::{self, ErrorKind};
 use std::process::ExitCode;
 use thiserror::Error;
 use vme_engines::EngineFault;
+use vme_order::OrderingFault;
 use vme_run::RunFault;
 use vme_trace::Fault;
 
@@ -34,9 +35,15 @@ pub enum ProgramFault<'a> {
         /// What is wrong with it.
         fault: Fault,
     },
+    /// Some of several traces have faults, each of which was printed when it came.
+    #[error("some traces have faults")]
+    SomeTraces,
     /// A fault of `run`, whose boards run in threads.
     #[error("{0}")]
     Boards(RunFault),
+    /// A fault of the moments of `order`, of their orders, or of the slacks.
+    #[error("{0}")]
+    Ordering(OrderingFault),
 }
 
 impl<'a> ProgramFault<'a> {
@@ -55,7 +62,7 @@ impl<'a> ProgramFault<'a> {
 
     /// An engine's fault, given the name of the scenario.
     pub fn of_engine(name: &'a str, fault: EngineFault) -> Self
-        ensures { result ≡ told_fault name.entry fault }
+        ensures { result ≡ fault_named name.entry fault }
     {
         match fault {
             EngineFault::CannotRead => ProgramFault::CannotRead(name),
@@ -67,7 +74,7 @@ impl<'a> ProgramFault<'a> {
     /// An engine's fault, given the name of the scenario and that of the trace, which is one of
     /// several.
     pub fn of_trace(scenario: &'a str, trace: &'a str, fault: EngineFault) -> Self
-        ensures { result ≡ told_trace_fault scenario.entry trace.entry fault }
+        ensures { result ≡ trace_fault_named scenario.entry trace.entry fault }
     {
         match fault {
             EngineFault::Trace(fault) => ProgramFault::InTrace { name: trace, fault },
@@ -77,11 +84,16 @@ impl<'a> ProgramFault<'a> {
 }
 
 /// Prints the one line of a fault. Control characters and backslashes are escaped as in a TOML
-/// string. The exit status is 1.
-pub fn tell<D: fmt::Display + Drop>(rt: &HostRuntime, fault: D) -> ExitCode
-    ensures { exit_status result ≡ 1 }
-{
+/// string.
+pub(crate) fn print_fault<D: fmt::Display + Drop>(rt: &HostRuntime, fault: D) {
     let line = OneLine(fault);
     let _ = eprintln!(rt; "vmebus: {line}");
+}
+
+/// Prints the one line of a fault. The exit status is 1.
+pub fn report<D: fmt::Display + Drop>(rt: &HostRuntime, fault: D) -> ExitCode
+    ensures { exit_status result ≡ 1 }
+{
+    print_fault(rt, fault);
     ExitCode::FAILURE
 }

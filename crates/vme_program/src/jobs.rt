@@ -1,37 +1,52 @@
 //! The engine of each job, on the files that the words name.
-ghost use Rattle.std.specs.Prelude.{◌≡◌, ◌≤◌, IfErr, OnErr, OnOk};
+ghost use Rattle.std.specs.Prelude.{◌≡◌, ◌≤◌, Ok, length, IfErr, IfOk, OnErr, OnOk};
 ghost use Rattle.std.specs.Io.KnownBytes.{Appends};
 ghost use Rattle.std.specs.Process.{exit_status};
+ghost use Rattle.vme_model.specs.Plan.{Plan as PlanValue};
 ghost use Rattle.vme_model.specs.Report.{trace_limit};
+ghost use Rattle.vme_scenario.specs.Format.{scenario as read};
 ghost use Rattle.vme_command_line.specs.Limits.{IsWindow, IsWithin, most_turns};
 ghost use Rattle.vme_trace.specs.Writing.{AppendsFront};
-ghost use Rattle.vme_program.specs.Done.{IsDone};
+ghost use Rattle.vme_program.specs.Done.{IsDone, rules_text};
 ghost use Rattle.vme_engines.specs.Found.{found_answer};
-ghost use Rattle.vme_program.specs.Names.{IsFaultOf, told_answer, told_run_answer, told_trace_answer};
+ghost use Rattle.vme_engines.specs.Outcomes.{scenario_limit};
+ghost use Rattle.vme_engines.specs.Steps.{IsNoPlan};
+ghost use Rattle.vme_engines.specs.declared.EngineFault.{EngineFault as EngineFaultValue};
+ghost use Rattle.vme_program.specs.Names.{IsFaultOf, form_of, line_form, answer_named, fault_named, order_answer_named, run_answer_named, trace_answer_named};
 ghost use Rattle.vme_program.specs.Statuses.{exit_code};
 ghost use Rattle.vme_program.specs.Adding.{AddsFile, AddsFiles};
 
+use crate::checks::check_files;
 use crate::faults::ProgramFault;
 use crate::files::{buffered, open, read_scenario};
-use crate::tellers::Teller;
+use crate::reporters::Reporter;
 use std::io::Write;
 use std::process::ExitCode;
 use std::sync::Wait;
 use std::thread::Threads;
 use vme_command_line::{Job, VERSION};
+use vme_cycles::cycles;
 use vme_engines::{
-    EngineFault, Status, add_trace, check, drive, drive_drawn, drive_found, explain, joined,
-    replay, show, state, summary, tell_sums,
+    EngineFault, LineForm, Status, add_trace, check, drive, drive_drawn, drive_found, explain,
+    joined, plan_of, print_sums, replay, show, state, summary,
 };
 use vme_goals::Goal;
-use vme_model::Version;
+use vme_model::{Rule, Version};
+use vme_moments::Slacks;
+use vme_order::{Form, OrderingFault, order};
+use vme_rulebook::{all_rules, one_rule};
 use vme_run::{RunFault, run as run_scenario};
+use vme_shrink::shrink;
 use vme_summary::Sums;
+use vme_text::Text;
 use vme_trace::{Fault, flush, put};
 
 /// An engine's answer, given the name of the scenario.
-fn told<'a>(name: &'a str, answer: Result<Status, EngineFault>) -> Result<Status, ProgramFault<'a>>
-    ensures { result ≡ told_answer name.entry answer }
+fn answer_of<'a>(
+    name: &'a str,
+    answer: Result<Status, EngineFault>,
+) -> Result<Status, ProgramFault<'a>>
+    ensures { result ≡ answer_named name.entry answer }
 {
     match answer {
         Ok(status) => Ok(status),
@@ -40,12 +55,12 @@ fn told<'a>(name: &'a str, answer: Result<Status, EngineFault>) -> Result<Status
 }
 
 /// A search's answer, given the name of the scenario. It prints the seed that was found.
-fn told_seed<'a>(
+fn answer_of_seeds<'a>(
     rt: &HostRuntime,
     name: &'a str,
     found: Result<Option<u64>, EngineFault>,
 ) -> Result<Status, ProgramFault<'a>>
-    ensures { result ≡ told_answer name.entry (found_answer found) }
+    ensures { result ≡ answer_named name.entry (found_answer found) }
 {
     match found {
         Ok(Some(seed)) => {
@@ -62,27 +77,44 @@ fn told_seed<'a>(
 
 /// An engine's answer, given the name of the scenario and that of the trace, which is one of
 /// several.
-fn told_trace<'a>(
+pub(crate) fn answer_of_trace<'a, A>(
     scenario: &'a str,
     trace: &'a str,
-    answer: Result<Status, EngineFault>,
-) -> Result<Status, ProgramFault<'a>>
-    ensures { result ≡ told_trace_answer scenario.entry trace.entry answer }
+    answer: Result<A, EngineFault>,
+) -> Result<A, ProgramFault<'a>>
+    ensures { result ≡ trace_answer_named scenario.entry trace.entry answer }
 {
     match answer {
-        Ok(status) => Ok(status),
+        Ok(answer) => Ok(answer),
         Err(fault) => Err(ProgramFault::of_trace(scenario, trace, fault)),
     }
 }
 
 /// The answer of `run`, given the name of the scenario.
-fn told_run<'a>(name: &'a str, answer: Result<Status, RunFault>) -> Result<Status, ProgramFault<'a>>
-    ensures { result ≡ told_run_answer name.entry answer }
+fn answer_of_run<'a>(
+    name: &'a str,
+    answer: Result<Status, RunFault>,
+) -> Result<Status, ProgramFault<'a>>
+    ensures { result ≡ run_answer_named name.entry answer }
 {
     match answer {
         Ok(status) => Ok(status),
         Err(RunFault::Engine(fault)) => Err(ProgramFault::of_engine(name, fault)),
         Err(fault) => Err(ProgramFault::Boards(fault)),
+    }
+}
+
+/// The answer of `order`, given the name of the scenario.
+fn answer_of_order<'a>(
+    name: &'a str,
+    answer: Result<Status, OrderingFault>,
+) -> Result<Status, ProgramFault<'a>>
+    ensures { result ≡ order_answer_named name.entry answer }
+{
+    match answer {
+        Ok(status) => Ok(status),
+        Err(OrderingFault::Engine(fault)) => Err(ProgramFault::of_engine(name, fault)),
+        Err(fault) => Err(ProgramFault::Ordering(fault)),
     }
 }
 
@@ -93,21 +125,36 @@ fn run_joined<W: Write>(rt: &HostRuntime, out: &mut W) -> Result<Status, Program
     ensures done { IsDone Job.Joined (W.contents out.old) (W.contents out.new) result }
 {
     let mut input = buffered(rt, rt.stdin())?;
-    told("-", joined(rt.alloc(), &mut input, out))
+    answer_of("-", joined(rt.alloc(), &mut input, out))
 }
 
-/// Writes the program's version, and makes the writer pass on what it has buffered.
+/// Writes a text, and makes the writer pass on what it has buffered.
 ///
 /// # Errors
-/// X8 if the output cannot be written; then a prefix of the line was written.
-fn tell_version<W: Write>(out: &mut W) -> Result<(), Fault>
-    ensures ok { OnOk result (Appends (W.contents out.old) (W.contents out.new) VERSION.now) }
+/// X8 if the output cannot be written; then a prefix of the text was written.
+fn report_text<W: Write>(text: &[u8], out: &mut W) -> Result<(), Fault>
+    ensures ok { OnOk result (Appends (W.contents out.old) (W.contents out.new) text.now) }
     ensures front { OnErr result
-        (AppendsFront (W.contents out.old) (W.contents out.new) VERSION.now) }
+        (AppendsFront (W.contents out.old) (W.contents out.new) text.now) }
     ensures fault { IfErr result (λ fault. fault ≡ Fault.Write) }
 {
-    put(out, VERSION.as_bytes())?;
+    put(out, text)?;
     flush(out)
+}
+
+/// Prints a text.
+fn run_text<W: Write>(text: &[u8], out: &mut W) -> Result<Status, ProgramFault<'static>>
+    ensures ok { IfOk result (λ status. (status ≡ Status.Done)
+        × Appends (W.contents out.old) (W.contents out.new) text.now) }
+    ensures front { OnErr result
+        (AppendsFront (W.contents out.old) (W.contents out.new) text.now) }
+    ensures fault { IfErr result (λ fault.
+        fault ≡ ProgramFault.Engine (EngineFault.Trace Fault.Write)) }
+{
+    match report_text(text, out) {
+        Ok(()) => Ok(Status::Done),
+        Err(fault) => Err(ProgramFault::Engine(EngineFault::Trace(fault))),
+    }
 }
 
 /// Prints the program's version.
@@ -116,9 +163,54 @@ fn run_version<W: Write>(out: &mut W) -> Result<Status, ProgramFault<'static>>
     ensures fault { IfErr result (IsFaultOf Job.OwnVersion) }
     ensures done { IsDone Job.OwnVersion (W.contents out.old) (W.contents out.new) result }
 {
-    match tell_version(out) {
-        Ok(()) => Ok(Status::Done),
-        Err(fault) => Err(ProgramFault::Engine(EngineFault::Trace(fault))),
+    run_text(VERSION.as_bytes(), out)
+}
+
+/// One rule with its conditions, or all rules in a sentence each.
+fn rules_text(rule: Option<Rule>) -> Text
+    ensures { result ≡ rules_text rule }
+{
+    match rule {
+        Some(rule) => one_rule(rule),
+        None => all_rules(),
+    }
+}
+
+/// Shrinks a trace to the edges that the answer to one of them depends on.
+#[inline(never)]
+fn run_shrink<'a, W: Write>(
+    rt: &HostRuntime,
+    scenario: &'a str,
+    trace: &'a str,
+    edge: Option<u64>,
+    out: &mut W,
+) -> Result<Status, ProgramFault<'a>>
+    ensures fault { IfErr result (IsFaultOf (Job.Shrink scenario.entry trace.entry edge)) }
+    ensures done { IsDone (Job.Shrink scenario.entry trace.entry edge)
+        (W.contents out.old) (W.contents out.new) result }
+{
+    let text = read_scenario(rt, scenario)?;
+    let mut input = open(rt, trace)?;
+    answer_of(scenario, shrink(rt.alloc(), &text, &mut input, edge, out))
+}
+
+/// Prints the rules.
+#[inline(never)]
+fn run_rules<W: Write>(rule: Option<Rule>, out: &mut W) -> Result<Status, ProgramFault<'static>>
+    ensures fault { IfErr result (IsFaultOf (Job.Rules rule)) }
+    ensures done { IsDone (Job.Rules rule) (W.contents out.old) (W.contents out.new) result }
+{
+    run_text(rules_text(rule).as_slice(), out)
+}
+
+/// What a replay writes of each edge, with `--full` and without.
+fn line_form(full: bool) -> LineForm
+    ensures { result ≡ line_form full }
+{
+    if full {
+        LineForm::Full
+    } else {
+        LineForm::Short
     }
 }
 
@@ -128,15 +220,17 @@ fn run_replay<'a, W: Write>(
     rt: &HostRuntime,
     scenario: &'a str,
     trace: &'a str,
+    full: bool,
     out: &mut W,
 ) -> Result<Status, ProgramFault<'a>>
-    ensures fault { IfErr result (IsFaultOf (Job.Replay scenario.entry trace.entry)) }
-    ensures done { IsDone (Job.Replay scenario.entry trace.entry)
+    ensures fault { IfErr result (IsFaultOf (Job.Replay scenario.entry trace.entry full)) }
+    ensures done { IsDone (Job.Replay scenario.entry trace.entry full)
         (W.contents out.old) (W.contents out.new) result }
 {
     let text = read_scenario(rt, scenario)?;
     let mut input = open(rt, trace)?;
-    told(scenario, replay(rt.alloc(), &text, &mut input, out))
+    let form = line_form(full);
+    answer_of(scenario, replay(rt.alloc(), &text, &mut input, form, out))
 }
 
 /// Checks a trace.
@@ -153,7 +247,60 @@ fn run_check<'a, W: Write>(
 {
     let text = read_scenario(rt, scenario)?;
     let mut input = open(rt, trace)?;
-    told(scenario, check(rt.alloc(), &text, &mut input, out))
+    answer_of(scenario, check(rt.alloc(), &text, &mut input, out))
+}
+
+/// Tests whether the text of a scenario has a plan.
+///
+/// # Errors
+/// The scenario's.
+fn test_plan<'a>(rt: &HostRuntime, name: &'a str, text: &[u8]) -> Result<(), ProgramFault<'a>>
+    ensures ok { OnOk result
+        ((p : PlanValue) × (length text.now ≤ scenario_limit) × (read text.now ≡ Ok p)) }
+    ensures fault { IfErr result (λ fault. (f : EngineFaultValue) × IsNoPlan text.now f
+        × (fault ≡ fault_named name.entry f)) }
+{
+    match plan_of(rt.alloc(), text) {
+        Ok(_) => Ok(()),
+        Err(fault) => Err(ProgramFault::of_engine(name, fault)),
+    }
+}
+
+/// Checks several traces, each whatever the others are.
+#[inline(never)]
+fn run_checks<'a, W: Write>(
+    rt: &HostRuntime,
+    scenario: &'a str,
+    traces: Vec<&'a str>,
+    out: &mut W,
+) -> Result<Status, ProgramFault<'a>>
+    ensures fault { IfErr result (IsFaultOf (Job.Checks scenario.entry traces.entry)) }
+    ensures done { IsDone (Job.Checks scenario.entry traces.entry)
+        (W.contents out.old) (W.contents out.new) result }
+{
+    let text = read_scenario(rt, scenario)?;
+    test_plan(rt, scenario, &text)?;
+    match check_files(rt, &text, scenario, &traces, out) {
+        Ok(seen) => seen.status(),
+        Err(fault) => Err(ProgramFault::Engine(EngineFault::Trace(fault))),
+    }
+}
+
+/// Prints a trace by its transactions.
+#[inline(never)]
+fn run_cycles<'a, W: Write>(
+    rt: &HostRuntime,
+    scenario: &'a str,
+    trace: &'a str,
+    out: &mut W,
+) -> Result<Status, ProgramFault<'a>>
+    ensures fault { IfErr result (IsFaultOf (Job.Cycles scenario.entry trace.entry)) }
+    ensures done { IsDone (Job.Cycles scenario.entry trace.entry)
+        (W.contents out.old) (W.contents out.new) result }
+{
+    let text = read_scenario(rt, scenario)?;
+    let mut input = open(rt, trace)?;
+    answer_of(scenario, cycles(rt.alloc(), &text, &mut input, out))
 }
 
 /// Explains why an edge of a trace has its verdict.
@@ -171,7 +318,7 @@ fn run_explain<'a, W: Write>(
 {
     let text = read_scenario(rt, scenario)?;
     let mut input = open(rt, trace)?;
-    told(scenario, explain(rt.alloc(), &text, &mut input, edge, out))
+    answer_of(scenario, explain(rt.alloc(), &text, &mut input, edge, out))
 }
 
 /// Reports where the bus stands in a trace.
@@ -189,7 +336,7 @@ fn run_state<'a, W: Write>(
 {
     let text = read_scenario(rt, scenario)?;
     let mut input = open(rt, trace)?;
-    told(scenario, state(rt.alloc(), &text, &mut input, after, out))
+    answer_of(scenario, state(rt.alloc(), &text, &mut input, after, out))
 }
 
 /// Draws a picture of some edges of a trace.
@@ -210,7 +357,7 @@ fn run_show<'a, W: Write>(
 {
     let text = read_scenario(rt, scenario)?;
     let mut input = open(rt, trace)?;
-    told(
+    answer_of(
         scenario,
         show(rt.alloc(), &text, &mut input, from, to, color, out),
     )
@@ -230,7 +377,7 @@ fn run_summary<'a, W: Write>(
 {
     let text = read_scenario(rt, scenario)?;
     let mut input = open(rt, trace)?;
-    told(scenario, summary(rt.alloc(), &text, &mut input, out))
+    answer_of(scenario, summary(rt.alloc(), &text, &mut input, out))
 }
 
 /// Adds to the sums what the trace of that name exercised. It is one of several on the scenario.
@@ -244,7 +391,7 @@ fn add_file<'a>(
     ensures { AddsFile text.now scenario.entry trace.entry sums.old sums.new result }
 {
     let mut input = open(rt, trace)?;
-    told_trace(
+    answer_of_trace(
         scenario,
         trace,
         add_trace(rt.alloc(), text, &mut input, sums),
@@ -281,7 +428,38 @@ fn run_sums<'a, W: Write>(
 {
     let text = read_scenario(rt, scenario)?;
     let sums = add_files(rt, &text, scenario, &traces)?;
-    told(scenario, tell_sums(rt.alloc(), &text, &sums, out))
+    answer_of(scenario, print_sums(rt.alloc(), &text, &sums, out))
+}
+
+/// What is written of an order, with `--where` and without.
+fn form_of(places: bool) -> Form
+    ensures { result ≡ form_of places }
+{
+    if places { Form::Places } else { Form::Trace }
+}
+
+/// Finds a legal order of edges that were seen at moments.
+#[inline(never)]
+fn run_order<'a, W: Write>(
+    rt: &HostRuntime,
+    scenario: &'a str,
+    moments: &'a str,
+    slacks: &Slacks,
+    places: bool,
+    out: &mut W,
+) -> Result<Status, ProgramFault<'a>>
+    ensures fault { IfErr result
+        (IsFaultOf (Job.Order scenario.entry moments.entry slacks.now places)) }
+    ensures done { IsDone (Job.Order scenario.entry moments.entry slacks.now places)
+        (W.contents out.old) (W.contents out.new) result }
+{
+    let text = read_scenario(rt, scenario)?;
+    let mut input = open(rt, moments)?;
+    let form = form_of(places);
+    answer_of_order(
+        scenario,
+        order(rt.alloc(), &text, &mut input, slacks, form, out),
+    )
 }
 
 /// Lets the drivers of a scenario make edges in turn.
@@ -298,7 +476,7 @@ fn run_drive<'a, W: Write>(
         (W.contents out.old) (W.contents out.new) result }
 {
     let text = read_scenario(rt, scenario)?;
-    told(scenario, drive(rt.alloc(), &text, edges, out, version))
+    answer_of(scenario, drive(rt.alloc(), &text, edges, out, version))
 }
 
 /// Draws edges at random from all that are open to the drivers of a scenario.
@@ -317,7 +495,7 @@ fn run_draw<'a, W: Write>(
         (W.contents out.old) (W.contents out.new) result }
 {
     let text = read_scenario(rt, scenario)?;
-    told(
+    answer_of(
         scenario,
         drive_drawn(rt.alloc(), &text, edges, seed, until, out, version),
     )
@@ -344,9 +522,11 @@ fn run_search<'a, W: Write>(
 {
     let text = read_scenario(rt, scenario)?;
     let alloc = rt.alloc();
-    let teller = &mut Teller::new(rt, progress);
-    let found = drive_found(alloc, &text, edges, first, last, goal, out, version, teller);
-    told_seed(rt, scenario, found)
+    let reporter = &mut Reporter::new(rt, progress);
+    let found = drive_found(
+        alloc, &text, edges, first, last, goal, out, version, reporter,
+    );
+    answer_of_seeds(rt, scenario, found)
 }
 
 /// Lets each driver of a scenario make edges in a thread of its own. It may wait for other threads.
@@ -366,7 +546,7 @@ fn run_run<'a, R: Threads + Wait + Sync, W: Write>(
         (W.contents out.old) (W.contents out.new) result }
 {
     let text = read_scenario(rt, scenario)?;
-    told_run(
+    answer_of_run(
         scenario,
         run_scenario(threads, rt.alloc(), &text, edges, turns, out, version),
     )
@@ -389,13 +569,25 @@ pub fn run<'a, R: Threads + Wait + Sync, W: Write>(
     match job {
         Job::Joined => run_joined(rt, out),
         Job::OwnVersion => run_version(out),
-        Job::Replay { scenario, trace } => run_replay(rt, scenario, trace, out),
+        Job::Replay {
+            scenario,
+            trace,
+            full,
+        } => run_replay(rt, scenario, trace, full, out),
         Job::Check { scenario, trace } => run_check(rt, scenario, trace, out),
+        Job::Checks { scenario, traces } => run_checks(rt, scenario, traces, out),
+        Job::Cycles { scenario, trace } => run_cycles(rt, scenario, trace, out),
         Job::Explain {
             scenario,
             trace,
             edge,
         } => run_explain(rt, scenario, trace, edge, out),
+        Job::Shrink {
+            scenario,
+            trace,
+            edge,
+        } => run_shrink(rt, scenario, trace, edge, out),
+        Job::Rules { rule } => run_rules(rule, out),
         Job::State {
             scenario,
             trace,
@@ -410,6 +602,12 @@ pub fn run<'a, R: Threads + Wait + Sync, W: Write>(
         } => run_show(rt, scenario, trace, from, to, color, out),
         Job::Summary { scenario, trace } => run_summary(rt, scenario, trace, out),
         Job::Sums { scenario, traces } => run_sums(rt, scenario, traces, out),
+        Job::Order {
+            scenario,
+            moments,
+            slacks,
+            places,
+        } => run_order(rt, scenario, moments, &slacks, places, out),
         Job::Drive {
             scenario,
             edges,

@@ -7,15 +7,17 @@ ghost use Rattle.std.specs.Process.{exit_status};
 ghost use Rattle.vme_program.specs.Done.{IsObeyed};
 
 mod arguments;
+mod checks;
+mod escapes;
 mod faults;
 mod files;
 mod jobs;
 mod lines;
-mod tellers;
+mod reporters;
 
-use arguments::tell_words;
+use arguments::report_words;
 pub use arguments::{WordsFault, given};
-pub use faults::{ProgramFault, tell};
+pub use faults::{ProgramFault, report};
 pub use files::output;
 use jobs::{code_of, run};
 use std::io::Write;
@@ -38,8 +40,9 @@ pub fn obey<R: Threads + Wait + Sync, W: Write>(
     match words(rt.alloc(), given) {
         Ok(job) => match run(rt, threads, job, out) {
             Ok(status) => code_of(status),
-            Err(fault) => tell(rt, fault),
+            Err(ProgramFault::SomeTraces) => ExitCode::FAILURE,
+            Err(fault) => report(rt, fault),
         },
-        Err(error) => tell_words(rt, given, error),
+        Err(error) => report_words(rt, given, error),
     }
 }

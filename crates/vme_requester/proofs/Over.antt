@@ -10,7 +10,6 @@ use Rattle.vme_model.specs.declared.signals.Wire.TheVariants.{Br, BgOut, Bbsy}
 use Rattle.vme_model.specs.declared.signals.Cycle.{Cycle}
 use Rattle.vme_model.specs.declared.signals.Edge.{Edge}
 use Rattle.vme_model.specs.History.{drive}
-use Rattle.vme_model.specs.Rules.{guard}
 use Rattle.vme_model.specs.Verdict.{ruling_on}
 use Rattle.vme_model.specs.declared.signals.Part.TheVariants as parts
 use Rattle.vme_model.specs.Signals.{is_of}
@@ -33,21 +32,3 @@ answers_over state noted pins free w x f v same is own =
     let P : RequesterState → Type 0 = λ q. ruling_on state.version (requester_readings state.slot state.row (low q) pins free) x f v ≡ ruling_on state.version (requester_readings state.slot state.row (drive noted (Slot state.slot)) pins free) x f v in
     subst P (sym same) (by_parts state.slot state.row state.version noted pins free x f v own)
     ∙ ap (λ y. ruling_on state.version (requester_readings state.slot state.row (drive noted (Slot state.slot)) pins free) y f v) (sym is)
-
-guards_by_parts : (s : ℕ) (row : RequesterRow) (version : Version) (noted : List Edge) (pins : Pins) (free : Bool) (w : Wire) (f : Bool) (v : Option Cycle) → is_of parts.Requester w ≡ true →
-    (guard version (requester_readings s row (low (requester_of s row version noted)) pins free) w f v).1 ≡ (guard version (requester_readings s row (drive noted (Slot s)) pins free) w f v).1
-guards_by_parts s row version noted pins free Br true v own = refl
-guards_by_parts s row version noted pins free Br false v own = refl
-guards_by_parts s row version noted pins free BgOut true v own = refl
-guards_by_parts s row version noted pins free BgOut false v own = refl
-guards_by_parts s row version noted pins free Bbsy true v own = refl
-guards_by_parts s row version noted pins free Bbsy false v own = refl
-guards_by_parts s row version noted pins free w f v own = absurd (cc)
-
--- the guards of a state that comes from a list are those over the list
-pub guards_over : (state : RequesterState) (noted : List Edge) (pins : Pins) (free : Bool) (w x : Wire) (f : Bool) (v : Option Cycle) → state ≡ requester_of state.slot state.row state.version noted → w ≡ x → is_of parts.Requester x ≡ true →
-    (guard state.version (requester_readings state.slot state.row (low state) pins free) x f v).1 ≡ (guard state.version (requester_readings state.slot state.row (drive noted (Slot state.slot)) pins free) w f v).1
-guards_over state noted pins free w x f v same is own =
-    let P : RequesterState → Type 0 = λ q. (guard state.version (requester_readings state.slot state.row (low q) pins free) x f v).1 ≡ (guard state.version (requester_readings state.slot state.row (drive noted (Slot state.slot)) pins free) x f v).1 in
-    subst P (sym same) (guards_by_parts state.slot state.row state.version noted pins free x f v own)
-    ∙ ap (λ y. (guard state.version (requester_readings state.slot state.row (drive noted (Slot state.slot)) pins free) y f v).1) (sym is)

@@ -3,7 +3,6 @@
 use Rattle.std.specs.Prelude.{◌≡◌, ◌||◌, ℕ, Bool, true, false, not, Some, None, List}
 use Rattle.vme_model.specs.declared.boards.RequesterRow.{RequesterRow}
 use Rattle.std.specs.Option.{option_and_then}
-use Rattle.vme_model.specs.declared.conditions.Condition.{Condition}
 use Rattle.vme_model.specs.declared.pins.Pins.{Pins}
 use Rattle.vme_model.specs.declared.signals.Version.{Version}
 use Rattle.vme_model.specs.declared.signals.Driver.TheVariants.{Slot}
@@ -13,8 +12,6 @@ use Rattle.vme_model.specs.declared.signals.Edge.{Edge}
 use Rattle.vme_model.specs.Sets.{no_levels, has_bus_level}
 use Rattle.vme_model.specs.History.{drive}
 use Rattle.vme_model.specs.Readings.{Readings, readings_of_pins}
-use Rattle.vme_model.specs.Guards.{Guard, failed}
-use Rattle.vme_model.specs.Rules.{guard}
 use Rattle.vme_model.specs.Verdict.{Judgement, ruling}
 use Rattle.vme_model.specs.declared.signals.Part.TheVariants as parts
 use Rattle.vme_model.specs.Signals.{is_of}
@@ -48,15 +45,15 @@ low r _ = false
 
 -- of its master's wires a requester is given one thing: whether the address group is off or its
 -- address strobe low
-abbrev pub told : (Wire → Bool) → Bool → Wire → Bool
-told own is_address_free Addr = not is_address_free
-told own is_address_free AddressStrobe = is_address_free
-told own is_address_free w = own w
+abbrev pub own_lines : (Wire → Bool) → Bool → Wire → Bool
+own_lines own is_address_free Addr = not is_address_free
+own_lines own is_address_free AddressStrobe = is_address_free
+own_lines own is_address_free w = own w
 
 -- what its rules read: its own wires, its pins, its row, and what it is given of its master
 abbrev pub requester_readings : ℕ → RequesterRow → (Wire → Bool) → Pins → Bool → Readings
 requester_readings s row own pins is_address_free = record (readings_of_pins pins) {
-  own = told own is_address_free;
+  own = own_lines own is_address_free;
   board = Some (record { slot = s; requester = Some row; interrupter = None; handler = no_levels });
 }
 
@@ -65,7 +62,7 @@ abbrev pub local : RequesterState → Pins → Bool → Readings
 local r pins is_address_free = requester_readings r.slot r.row (low r) pins is_address_free
 
 -- readings that agree with what a requester reads, whatever else they say
-pub record SayWhatIsTold (row : RequesterRow) (own : Wire → Bool) (pins : Pins)
+pub record SayThePins (row : RequesterRow) (own : Wire → Bool) (pins : Pins)
     (is_address_free : Bool) (r : Readings) : Type 0 where
   pub own_wires : (w : Wire) → is_of parts.Requester w ≡ true → r.own w ≡ own w
   pub address_free : (not (r.own Addr) || r.own AddressStrobe) ≡ is_address_free
@@ -77,15 +74,3 @@ pub record SayWhatIsTold (row : RequesterRow) (own : Wire → Bool) (pins : Pins
 abbrev pub answer_over : ℕ → RequesterRow → Version → List Edge → Pins → Bool → Edge → Judgement
 answer_over s row version noted pins is_address_free e =
     ruling version (requester_readings s row (drive noted (Slot s)) pins is_address_free) e
-
--- the guard of the rule that names an edge of its own, read over the edges that were noted
-abbrev pub guard_over : ℕ → RequesterRow → Version → List Edge → Pins → Bool → Edge → Guard
-guard_over s row version noted pins is_address_free e =
-    (guard version (requester_readings s row (drive noted (Slot s)) pins is_address_free)
-    e.wire e.fall e.value).1
-
--- the conditions of that guard that fail
-abbrev pub failing_over : ℕ → RequesterRow → Version → List Edge → Pins → Bool → Edge →
-    List Condition
-failing_over s row version noted pins is_address_free e =
-    failed (guard_over s row version noted pins is_address_free e)

@@ -9,18 +9,16 @@ ghost use Rattle.vme_model.specs.declared.signals.Edge.{Edge as EdgeValue};
 ghost use Rattle.vme_model.specs.declared.signals.Part.TheVariants as parts;
 ghost use Rattle.vme_model.specs.Signals.{is_two, is_of};
 ghost use Rattle.vme_model.specs.Sets.{has_bus_level};
-ghost use Rattle.vme_model.specs.Rules.{bus_numbers, guard};
+ghost use Rattle.vme_model.specs.Rules.{bus_numbers, rule};
 ghost use Rattle.vme_model.specs.Verdict.{ruling_on};
-ghost use Rattle.vme_requester.specs.Local.{requester_of, low, local, answer_over, guard_over, failing_over};
+ghost use Rattle.vme_requester.specs.Local.{requester_of, low, local, answer_over};
 
-use arrayvec::ArrayVec;
 use std::marker::Model;
-use vme_model::{BusLevels, Condition, Driver, Edge, Pins, Refused, RequesterRow, Version, Wire};
-use vme_rules::laws::five_have_room;
+use vme_model::{BusLevels, Driver, Edge, Pins, Refused, RequesterRow, Version, Wire};
+use vme_rules::allowed;
 use vme_rules::requesters::{
     bbsy_falls, bbsy_rises, bgout_falls, bgout_rises, br_falls, br_rises, released,
 };
-use vme_rules::{Outcome, allowed};
 
 /// A requester, as what its own edges left: which of its wires are low. Source: Std 1014, chapter
 /// 3.
@@ -95,18 +93,13 @@ impl Requester {
         }
     }
 
-    /// The number of the rule that names an edge of its `br`, and what the rule's guard answers
+    /// The number of the rule that names an edge of its `br`, and whether the rule's guard holds
     /// (G9, G10).
     #[inline(always)]
-    fn request_rule<A: Outcome>(&self, fall: bool) -> (u8, A)
-        ensures number { (pins : PinsValue) (is_address_free : Bool)
-            (value : OptionValue CycleValue) →
-            result.0 ≡ (guard self.now.version
-            (local self.now pins is_address_free) Wire.Br fall value).0 }
-        ensures answer { (pins : PinsValue) (is_address_free : Bool)
-            (value : OptionValue CycleValue) →
-            A.tells result.1 (guard self.now.version
-            (local self.now pins is_address_free) Wire.Br fall value).1 }
+    fn request_rule(&self, fall: bool) -> (u8, bool)
+        ensures { (pins : PinsValue) (is_address_free : Bool) (value : OptionValue CycleValue) →
+            result ≡ rule self.now.version
+            (local self.now pins is_address_free) Wire.Br fall value }
     {
         if fall {
             (9, br_falls(self.bbsy))
@@ -115,19 +108,14 @@ impl Requester {
         }
     }
 
-    /// The number of the rule that names an edge of its `bgout`, and what the rule's guard answers
+    /// The number of the rule that names an edge of its `bgout`, and whether the rule's guard holds
     /// (G11, G12).
     #[inline(always)]
-    fn pass_rule<A: Outcome>(&self, fall: bool, grant_in: bool) -> (u8, A)
-        ensures number { (pins : PinsValue) (is_address_free : Bool)
-            (value : OptionValue CycleValue) →
-            result.0 ≡ (guard self.now.version
-            (local self.now pins is_address_free) Wire.BgOut fall value).0 }
-        ensures answer { (pins : PinsValue) (is_address_free : Bool)
-            (value : OptionValue CycleValue) →
+    fn pass_rule(&self, fall: bool, grant_in: bool) -> (u8, bool)
+        ensures { (pins : PinsValue) (is_address_free : Bool) (value : OptionValue CycleValue) →
             pins.grant_in ≡ grant_in →
-            A.tells result.1 (guard self.now.version
-            (local self.now pins is_address_free) Wire.BgOut fall value).1 }
+            result ≡ rule self.now.version
+            (local self.now pins is_address_free) Wire.BgOut fall value }
     {
         if fall {
             (11, bgout_falls(grant_in, self.br, self.bbsy))
@@ -136,24 +124,20 @@ impl Requester {
         }
     }
 
-    /// The number of the rule that names an edge of its `bbsy`, and what the rule's guard answers
+    /// The number of the rule that names an edge of its `bbsy`, and whether the rule's guard holds
     /// (G13, G14).
     #[inline(always)]
-    fn hold_rule<A: Outcome>(
+    fn hold_rule(
         &self,
         fall: bool,
         pins: &Pins,
         grant_in: bool,
         is_address_free: bool,
-    ) -> (u8, A)
-        ensures number { (value : OptionValue CycleValue) →
-            result.0 ≡ (guard self.now.version
+    ) -> (u8, bool)
+        ensures { (value : OptionValue CycleValue) →
+            result ≡ rule self.now.version
             (local self.now (record pins.now { grant_in = grant_in }) is_address_free)
-            Wire.Bbsy fall value).0 }
-        ensures answer { (value : OptionValue CycleValue) →
-            A.tells result.1 (guard self.now.version
-            (local self.now (record pins.now { grant_in = grant_in }) is_address_free)
-            Wire.Bbsy fall value).1 }
+            Wire.Bbsy fall value }
     {
         if fall {
             return (13, bbsy_falls(grant_in, self.bgout, self.br));
@@ -248,44 +232,6 @@ impl Requester {
             Wire::Bbsy => self.may_hold(edge.fall, &pins, pins.grant_in, is_address_free),
             _ => Err(Refused::NoSuchDriver),
         }
-    }
-
-    /// What the guard of the rule that names an edge of the requester's own wires answers. Source:
-    /// G9 to G14 of docs/RULES.md.
-    ///
-    /// It is given its pins, and whether its master's address group is off or the master's address
-    /// strobe low.
-    pub fn told<A: Outcome>(&self, edge: Edge, pins: Pins, is_address_free: bool) -> A
-        ensures { (noted : List EdgeValue) →
-            self.now ≡ requester_of self.now.slot self.now.row self.now.version noted →
-            is_of parts.Requester edge.wire ≡ true →
-            A.tells result (guard_over self.now.slot self.now.row self.now.version noted pins
-            is_address_free edge) }
-    {
-        match edge.wire {
-            Wire::Br => self.request_rule(edge.fall).1,
-            Wire::BgOut => self.pass_rule(edge.fall, pins.grant_in).1,
-            Wire::Bbsy => self
-                .hold_rule(edge.fall, &pins, pins.grant_in, is_address_free)
-                .1,
-            _ => A::free(),
-        }
-    }
-
-    /// The conditions that fail in the rule that names an edge of the requester's own wires, in the
-    /// order of its guard. Source: G9 to G14 of docs/RULES.md.
-    ///
-    /// It is given its pins, and whether its master's address group is off or the master's address
-    /// strobe low.
-    pub fn failing(&self, edge: Edge, pins: Pins, is_address_free: bool) -> ArrayVec<Condition, 5>
-        ensures { (noted : List EdgeValue) →
-            self.now ≡ requester_of self.now.slot self.now.row self.now.version noted →
-            is_of parts.Requester edge.wire ≡ true →
-            result.items ≡ failing_over self.now.slot self.now.row self.now.version noted pins
-            is_address_free edge }
-    {
-        five_have_room();
-        self.told(edge, pins, is_address_free)
     }
 
     /// Takes in an edge that was made. An edge of another driver or wire changes nothing.

@@ -1,4 +1,4 @@
 pub mod Moves
 pub mod Room
--- `five_have_room`, for all that is tested for an edge
+-- all that is tested for an edge fits a list of five
 pub mod TestedRoom

@@ -7,14 +7,14 @@ use vme_model::{Condition, Cycle};
 
 /// G21, a board requests an interrupt: at any time. Source: Std 1014, chapter 4.
 pub fn irq_falls<A: Outcome>() -> A
-    ensures { A.tells result irq_falls }
+    ensures { A.reports result irq_falls }
 {
     A::free()
 }
 
 /// G22, an interrupt request ends: it was served in its own way. Source: Std 1014, chapter 4.
 pub fn irq_rises<A: Outcome>(is_served: bool) -> A
-    ensures { A.tells result (irq_rises is_served) }
+    ensures { A.reports result (irq_rises is_served) }
 {
     A::asks(Condition::Served, is_served)
 }
@@ -22,7 +22,7 @@ pub fn irq_rises<A: Outcome>(is_served: bool) -> A
 /// Part of G23: an acknowledge is shown, and the board is not pending at its level. Source: Std
 /// 1014, chapter 4.
 pub fn passes<A: Outcome>(is_pending: bool, shown: Option<Cycle>) -> A
-    ensures { A.tells result (passes (λ _. is_pending) shown) }
+    ensures { A.reports result (passes (λ _. is_pending) shown) }
 {
     match shown {
         Some(Cycle::Acknowledge(_)) => A::asks(Condition::NotPending, !is_pending),
@@ -33,8 +33,8 @@ pub fn passes<A: Outcome>(is_pending: bool, shown: Option<Cycle>) -> A
 /// G23, a board passes an acknowledge on: its IACKIN* is low, its own `dtack` is high, DS0* is low,
 /// and `passing` holds. Source: Std 1014, chapter 4.
 pub fn iackout_falls<A: Outcome>(iack_in: bool, dtack: bool, data_strobe: bool, passing: A) -> A
-    ensures { (g : Guard) → A.tells passing g →
-        A.tells result (iackout_falls iack_in dtack data_strobe g) }
+    ensures { (g : Guard) → A.reports passing g →
+        A.reports result (iackout_falls iack_in dtack data_strobe g) }
 {
     A::asks(Condition::AcknowledgeInLow, iack_in)
         .and(A::asks(Condition::OwnDtackHigh, !dtack))
@@ -44,7 +44,7 @@ pub fn iackout_falls<A: Outcome>(iack_in: bool, dtack: bool, data_strobe: bool, 
 
 /// G24, a board passes the end of an acknowledge on: AS* is high. Source: Std 1014, chapter 4.
 pub fn iackout_rises<A: Outcome>(address_strobe: bool) -> A
-    ensures { A.tells result (iackout_rises address_strobe) }
+    ensures { A.reports result (iackout_rises address_strobe) }
 {
     A::asks(Condition::AddressStrobeHigh, !address_strobe)
 }
@@ -58,7 +58,7 @@ pub fn answers<A: Outcome>(
     is_own_slot: bool,
     shown: Option<Cycle>,
 ) -> A
-    ensures { A.tells result (answers iack_in iackout (λ _. is_pending) (λ _. is_own_slot) shown) }
+    ensures { A.reports result (answers iack_in iackout (λ _. is_pending) (λ _. is_own_slot) shown) }
 {
     match shown {
         Some(Cycle::Acknowledge(_)) => A::asks(Condition::AcknowledgeInLow, iack_in)
@@ -72,8 +72,8 @@ pub fn answers<A: Outcome>(
 /// G25, the board answers: DS0* and AS* are low, and `answering` holds. Source: Std 1014, chapters
 /// 2 and 4.
 pub fn dtack_falls<A: Outcome>(data_strobe: bool, address_strobe: bool, answering: A) -> A
-    ensures { (g : Guard) → A.tells answering g →
-        A.tells result (dtack_falls data_strobe address_strobe g) }
+    ensures { (g : Guard) → A.reports answering g →
+        A.reports result (dtack_falls data_strobe address_strobe g) }
 {
     A::asks(Condition::DataStrobeLow, data_strobe)
         .and(A::asks(Condition::AddressStrobeLow, address_strobe))
@@ -82,7 +82,7 @@ pub fn dtack_falls<A: Outcome>(data_strobe: bool, address_strobe: bool, answerin
 
 /// G26, the answer ends: DS0* is high. Source: Std 1014, chapter 2.
 pub fn dtack_rises<A: Outcome>(data_strobe: bool) -> A
-    ensures { A.tells result (dtack_rises data_strobe) }
+    ensures { A.reports result (dtack_rises data_strobe) }
 {
     A::asks(Condition::DataStrobeHigh, !data_strobe)
 }

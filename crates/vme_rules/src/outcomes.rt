@@ -5,40 +5,41 @@ ghost use Rattle.vme_model.specs.Verdict.{check};
 ghost use Rattle.vme_rules.specs.Room.{most};
 
 use arrayvec::ArrayVec;
-use vme_model::{Condition, Refused, Tested};
+use vme_model::{Condition, Refused};
 
-/// The answer of a guard: whether it holds, which of its conditions fail, or what each of them is.
+/// The answer of a guard: whether it holds, which of its conditions fail, or what a caller's own
+/// list says of each of them.
 ///
-/// Each rule is written once for all three. It uses a function of this trait for each way to make a
+/// Each rule is written once for all of these. It uses a function of this trait for each way to make a
 /// guard.
 pub trait Outcome {
     /// The value is the answer of that guard.
-    ghost tells: { Self → Guard → Type 0 };
+    ghost reports: { Self → Guard → Type 0 };
 
     /// The answer of the guard without a condition, which always holds.
     fn free() -> Self
-        ensures { tells result free };
+        ensures { reports result free };
 
     /// The answer of a guard that is one condition, given whether the condition holds.
     fn asks(condition: Condition, holds: bool) -> Self
-        ensures { tells result (asks condition holds) };
+        ensures { reports result (asks condition holds) };
 
     /// Whether the guard is known to fail, so that the conditions after it make no difference.
     fn is_final(&self) -> bool
-        ensures { result ≡ true → (g k : Guard) → tells self.now g → tells self.now (g ⊓ k) };
+        ensures { result ≡ true → (g k : Guard) → reports self.now g → reports self.now (g ⊓ k) };
 
     /// The answer of two guards together, with the conditions of this one first.
     fn and(self, other: Self) -> Self
-        ensures { (g k : Guard) → tells self g → tells other k → tells result (g ⊓ k) };
+        ensures { (g k : Guard) → reports self g → reports other k → reports result (g ⊓ k) };
 
     /// The answer of a guard that does not bind if `is_free` is true.
     fn unless(self, is_free: bool) -> Self
-        ensures { (g : Guard) → tells self g → tells result (unless is_free g) };
+        ensures { (g : Guard) → reports self g → reports result (unless is_free g) };
 }
 
 /// Whether the guard holds.
 impl Outcome for bool {
-    ghost tells = { λ result g. result ≡ holds g };
+    ghost reports = { λ result g. result ≡ holds g };
 
     fn free() -> bool {
         true
@@ -80,7 +81,7 @@ fn bound<T: Copy + Default>(list: ArrayVec<T, 5>, is_free: bool) -> ArrayVec<T, 
 
 /// Which of the guard's conditions fail, in the guard's order, if it has at most five.
 impl Outcome for ArrayVec<Condition, 5> {
-    ghost tells = { λ result g. most g ≤ 5 → result.items ≡ failed g };
+    ghost reports = { λ result g. most g ≤ 5 → result.items ≡ failed g };
 
     fn free() -> ArrayVec<Condition, 5> {
         ArrayVec::new()
@@ -103,34 +104,6 @@ impl Outcome for ArrayVec<Condition, 5> {
     }
 
     fn unless(self, is_free: bool) -> ArrayVec<Condition, 5> {
-        bound(self, is_free)
-    }
-}
-
-/// All conditions of the guard, each with whether it holds, in the guard's order, if it has at most
-/// five.
-impl Outcome for ArrayVec<Tested, 5> {
-    ghost tells = { λ result g. most g ≤ 5 → result.items ≡ conditions g };
-
-    fn free() -> ArrayVec<Tested, 5> {
-        ArrayVec::new()
-    }
-
-    fn asks(condition: Condition, holds: bool) -> ArrayVec<Tested, 5> {
-        let mut conditions = ArrayVec::new();
-        conditions.push(Tested { condition, holds });
-        conditions
-    }
-
-    fn is_final(&self) -> bool {
-        false
-    }
-
-    fn and(self, other: ArrayVec<Tested, 5>) -> ArrayVec<Tested, 5> {
-        joined(self, other)
-    }
-
-    fn unless(self, is_free: bool) -> ArrayVec<Tested, 5> {
         bound(self, is_free)
     }
 }

@@ -16,9 +16,9 @@ const MOST_TOLD: usize = 200;
 
 /// A key as users see it: after 200 characters a longer one ends with `..`.
 #[derive(Clone, Copy)]
-struct Told<'a>(&'a str);
+struct Quoted<'a>(&'a str);
 
-impl fmt::Display for Told<'_> {
+impl fmt::Display for Quoted<'_> {
     fn fmt<W: fmt::Write>(&self, f: &mut fmt::Formatter<W>) -> fmt::Result {
         for (count, c) in self.0.chars().enumerate() {
             if count == MOST_TOLD {
@@ -41,12 +41,12 @@ pub enum ScenarioError {
     #[error("Q1 the scenario is not TOML")]
     NotToml,
     /// Q2: the format has no such key. If a table has several, it is the least one by bytes.
-    #[error("Q2 unknown key {}", Told(.key.as_str()))]
+    #[error("Q2 unknown key {}", Quoted(.key.as_str()))]
     UnknownKey { key: String },
-    #[error("Q3 missing key {}", Told(.key.as_str()))]
+    #[error("Q3 missing key {}", Quoted(.key.as_str()))]
     Missing { key: String },
     /// Q4: the value is of another kind, is a word that is not in the list, or is out of range.
-    #[error("Q4 bad value of {}", Told(.key.as_str()))]
+    #[error("Q4 bad value of {}", Quoted(.key.as_str()))]
     BadValue { key: String },
     /// P1 to P9: the scenario can be read, but its plan is refused.
     #[error("{0}")]

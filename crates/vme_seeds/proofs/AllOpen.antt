@@ -5,7 +5,7 @@ use Rattle.std.specs.List.{flat_map, All, Contains}
 use Rattle.std.specs.Option.{option_map_or}
 use Rattle.std.proofs.Math.Nat.{pow-zero, pow-suc}
 use Rattle.std.proofs.lemmas.Bool.Decides.{nat_tests}
-use Rattle.std.proofs.lemmas.List.Elements.{Contains-append_left, Contains-push, All-nil, All-append, All-filter, All-get_or, filter_passes}
+use Rattle.std.proofs.lemmas.List.Elements.{Contains-append_left, Contains-push, All-nil, All-append, All-contains_itself, All-filter, All-get_or, filter_passes}
 use Rattle.std.proofs.lemmas.List.Sums.{sum_by-cons}
 use Rattle.std.proofs.lemmas.Option.{get_or_from_slice_get, slice_get_within, slice_get-get_or}
 use Rattle.vme_model.specs.declared.boards.Row.{Row}
@@ -29,11 +29,11 @@ use Rattle.vme_model.proofs.OpenEdges.{here, there, by_map, by_flat_map, open_ar
 use Rattle.vme_model.proofs.Ranges.{IsRowInRange, in_range}
 use Rattle.rand_pcg.specs.Lcg.{Lcg}
 use Rattle.vme_seeds.specs.declared.kinds.Kind.{Kind}
-use Rattle.vme_seeds.specs.Kinds.{kinds, number, kind_of, is_of}
-use Rattle.vme_seeds.specs.Choices.{weight, all_open, open_of, chance, chance_of, chances, falls_at, kind_at, edge_at, choices}
-use Rattle.vme_seeds.specs.Laws.{IsChosen}
+use Rattle.vme_seeds.specs.Kinds.{kinds, number, has_board, kind_of, is_of, of_kind}
+use Rattle.vme_seeds.specs.Choices.{Draw, weight, all_open, open_of, chance, chance_by, chance_of, chances, chances_by, choices, choices_by, chosen_by, edge_at, edge_by, falls_at, kind_at, kind_by}
+use Rattle.vme_seeds.specs.Laws.{IsBelow, IsChosen}
 use Rattle.vme_seeds.specs.Numbers.{scaled}
-use Rattle.vme_seeds.specs.Walks.{Walk, weights, first_draw, chosen}
+use Rattle.vme_seeds.specs.Walks.{Walk, weights, chosen}
 use Rattle.vme_seeds.proofs.KindOrder.{a_kind, kind_in, kinds_listed, kind_stands, listed_at}
 
 -- ---- what is chosen is open
@@ -56,7 +56,7 @@ module _ (b : State) where
 
   allowed_at : (k : Kind) (y : ℕ) (e : Edge) → slice_get (open_of b k) y ≡ Some e → verdict b e ≡ Ok tt
   allowed_at k y e at =
-      let all = All-filter (is_of b.plan k) IsAllowed (all_open b) (all_allowed (drivers b.plan)) in
+      let all = All-filter (is_of (has_board b.plan) k) IsAllowed (all_open b) (all_allowed (drivers b.plan)) in
       fine (verdict b e) (subst IsAllowed (get_or_from_slice_get (open_of b k) y e e at) (All-get_or IsAllowed (open_of b k) y e (slice_get_within (open_of b k) y e at) all))
 
   allowed_of : (o : Option Kind) (y : ℕ) (e : Edge) → option_map_or (λ k. slice_get (open_of b k) y) o None ≡ Some e → verdict b e ≡ Ok tt
@@ -154,14 +154,14 @@ power (suc n) = omega (arith, pow-suc 4 n, power n)
 
 module _ (g : Lcg) (b : State) (e : Edge) (accepted : IsAccepted b.plan) (ok : verdict b e ≡ Ok tt) where
   abbrev k : Kind
-  k = kind_of b.plan e
+  k = kind_of (has_board b.plan) e
 
   exists : has_driver b.plan e.driver e.wire ≡ true
   exists = and_right (has_wire e.driver e.wire && has_value e.wire e.fall e.value) (has_driver b.plan e.driver e.wire) (checked _ NoSuchDriver _ ok).0
 
   stands : Contains (open_of b k) e
   stands =
-      by_filter (is_of b.plan k) (all_open b) e (eq-eqb (number k) (number k) refl)
+      by_filter (is_of (has_board b.plan) k) (all_open b) e (eq-eqb (number k) (number k) refl)
       (by_flat_map (open_edges b) (drivers b.plan) e.driver e (is_driver b.plan accepted e.driver e.wire exists) ((open_are_all b e.driver e).0 (refl, ok)))
 
   place : ℕ
@@ -193,7 +193,7 @@ module _ (g : Lcg) (b : State) (e : Edge) (accepted : IsAccepted b.plan) (ok : v
         ∙ ap (λ x. Some x) stands.2;
   }
 
-  pub can_be_made : Contains kinds (kind_of b.plan e) × IsChosen g b e
+  pub can_be_made : Contains kinds (kind_of (has_board b.plan) e) × IsChosen g b e
   can_be_made = (a_kind k, is_chosen)
 
 -- ---- some edge is chosen
@@ -226,36 +226,77 @@ ready_if : (w made ready : ℕ) → 0 < chance w made ready → 0 < ready
 ready_if w made zero some = absurd (omega (arith, some))
 ready_if w made (suc ready) some = omega arith
 
-module _ (g : Lcg) (b : State) (x : ℕ) (below : x < sum (chances (weight g) b)) where
-  place_is : (falls_at (chances (weight g) b) x < length (chances (weight g) b)) × (0 < slice_index (chances (weight g) b) (falls_at (chances (weight g) b) x))
-  place_is = falls_on_some (chances (weight g) b) x below
+module _ (d : Draw) (x : ℕ) (below : x < sum (chances_by d)) where
+  abbrev among : Kind → List Edge
+  among k = of_kind d.boards k d.edges
+
+  place_is : (falls_at (chances_by d) x < length (chances_by d)) × (0 < slice_index (chances_by d) (falls_at (chances_by d) x))
+  place_is = falls_on_some (chances_by d) x below
 
   -- the kind that it falls on has open edges
-  one_is : (k : Kind) × (kind_at (weight g) b x ≡ Some k) × (0 < length (open_of b k))
+  one_is : (k : Kind) × (kind_by d x ≡ Some k) × (0 < length (among k))
   one_is =
-      let i = falls_at (chances (weight g) b) x in
-      let stands = kind_in i (subst (λ n. i < n) (kinds_listed (chance_of (weight g) b)) place_is.0) in
-      let at : slice_index (chances (weight g) b) i ≡ chance_of (weight g) b stands.0 = ap (slice_index (chances (weight g) b)) (sym stands.2) ∙ listed_at (chance_of (weight g) b) stands.0 in
-      (stands.0, stands.1, ready_if (weight g stands.0) _ (length (open_of b stands.0)) (subst (λ n. 0 < n) at place_is.1))
+      let i = falls_at (chances_by d) x in
+      let stands = kind_in i (subst (λ n. i < n) (kinds_listed (chance_by d)) place_is.0) in
+      let at : slice_index (chances_by d) i ≡ chance_by d stands.0 = ap (slice_index (chances_by d)) (sym stands.2) ∙ listed_at (chance_by d) stands.0 in
+      (stands.0, stands.1, ready_if (d.weight stands.0) _ (length (among stands.0)) (subst (λ n. 0 < n) at place_is.1))
 
-  choices_are : choices (weight g) b x ≡ length (open_of b one_is.0)
-  choices_are = ap (λ o. option_map_or (λ j. length (open_of b j)) o 0) one_is.1
+  choices_are : choices_by d x ≡ length (among one_is.0)
+  choices_are = ap (λ o. option_map_or (λ j. length (among j)) o 0) one_is.1
 
-  pub some_is_made : (0 < choices (weight g) b x) × ((y : ℕ) → y < choices (weight g) b x → (e : Edge) × (edge_at (weight g) b x y ≡ Some e))
-  some_is_made = (
+  pub some_is_chosen : (0 < choices_by d x) × ((y : ℕ) → y < choices_by d x → (e : Edge) × (edge_by d x y ≡ Some e))
+  some_is_chosen = (
     subst (λ n. 0 < n) (sym choices_are) one_is.2,
-    λ y among. made_at y (subst (λ n. y < n) choices_are among),
+    λ y within. made_at y (subst (λ n. y < n) choices_are within),
   )
     where
-      made_at : (y : ℕ) → y < length (open_of b one_is.0) → (e : Edge) × (edge_at (weight g) b x y ≡ Some e)
-      made_at y among = (
-        get_or (open_of b one_is.0) y no_edge,
-        ap (λ o. option_map_or (λ j. slice_get (open_of b j) y) o None) one_is.1 ∙ slice_get-get_or (open_of b one_is.0) y no_edge among,
+      made_at : (y : ℕ) → y < length (among one_is.0) → (e : Edge) × (edge_by d x y ≡ Some e)
+      made_at y within = (
+        get_or (among one_is.0) y no_edge,
+        ap (λ o. option_map_or (λ j. slice_get (among j) y) o None) one_is.1 ∙ slice_get-get_or (among one_is.0) y no_edge within,
       )
+
+-- ---- some edge is drawn of any, and it is one of them
+
+-- what is chosen is among the edges
+chosen_among : (d : Draw) (o : Option Kind) (y : ℕ) (e : Edge) → option_map_or (λ k. slice_get (of_kind d.boards k d.edges) y) o None ≡ Some e → Contains d.edges e
+chosen_among d None y e at = absurd (cc)
+chosen_among d (Some k) y e at =
+    let P : Edge → Type 0 = λ c. Contains d.edges c in
+    subst P (get_or_from_slice_get (of_kind d.boards k d.edges) y e e at)
+    (All-get_or P (of_kind d.boards k d.edges) y e (slice_get_within (of_kind d.boards k d.edges) y e at) (All-filter (is_of d.boards k) P d.edges (All-contains_itself d.edges)))
+
+pub one_of_these : (d : Draw) (x y : ℕ) (e : Edge) → edge_by d x y ≡ Some e → Contains d.edges e
+one_of_these d x y e at = chosen_among d (kind_by d x) y e at
+
+module _ (share_below : IsBelow) (d : Draw) (weighed : (k : Kind) → 0 < d.weight k) (e : Edge) (has : Contains d.edges e) where
+  abbrev its : Kind
+  its = kind_of d.boards e
+
+  its_stands : Contains (of_kind d.boards its d.edges) e
+  its_stands = by_filter (is_of d.boards its) d.edges e (eq-eqb (number its) (number its) refl) has
+
+  its_chance : 0 < slice_index (chances_by d) (number its)
+  its_chance =
+      subst (λ n. 0 < n) (sym (listed_at (chance_by d) its))
+      (chance_some (d.weight its) (d.made its) (length (of_kind d.boards its d.edges)) (weighed its) (some_in (length (of_kind d.boards its d.edges)) its_stands.0 its_stands.1))
+    where
+      some_in : (n y : ℕ) → y < n → 0 < n
+      some_in n y l = omega (arith, l)
+
+  some_sum : 0 < sum (chances_by d)
+  some_sum = omega (arith, (falls_there (chances_by d) (number its) its_chance).1)
+
+  pub some_is_drawn : (first second : ℕ) → first < 4294967296 → second < 4294967296 → (c : Edge) × (chosen_by d first second ≡ Some c) × Contains d.edges c
+  some_is_drawn first second small small_too =
+      let x = scaled first (sum (chances_by d)) in
+      let one = some_is_chosen d x (share_below (sum (chances_by d)) first some_sum small) in
+      let drew = one.1 (scaled second (choices_by d x)) (share_below (choices_by d x) second one.0 small_too) in
+      (drew.0, drew.1, one_of_these d x (scaled second (choices_by d x)) drew.0 drew.1)
 
 -- ---- what a walk draws
 
 pub accepted_choice : (w : Walk) (first second : ℕ) (o : Option Edge) → o ≡ chosen w first second → IfSome o (λ e. verdict w.state e ≡ Ok tt)
 accepted_choice w first second o is =
-    let x = first_draw w first in
+    let x = scaled first (sum (chances (weights w) w.state)) in
     accepted_if (weights w) w.state x (scaled second (choices (weights w) w.state x)) o is

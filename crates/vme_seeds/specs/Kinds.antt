@@ -48,54 +48,58 @@ number IackOutRise = 25
 number DtackFall = 26
 number DtackRise = 27
 
--- the kind of an address group that goes on, by what it shows: an acknowledge, or an access to a
--- slot with a board or without one (chapters 4 and 7); each edge that the rules allow shows one of
--- them
-abbrev pub addressing : Plan → Option Cycle → Kind
-addressing p (Some (cycle.Access s)) = if is_some (board p s) then Access else EmptyAccess
-addressing p _ = Acknowledge
+-- the slots of a plan that have a board
+abbrev pub has_board : Plan → ℕ → Bool
+has_board p s = is_some (board p s)
+
+-- the kind of an address group that goes on, by the slots that have a board and by what it shows:
+-- an acknowledge, or an access to a slot with a board or without one (chapters 4 and 7); each edge
+-- that the rules allow shows one of them
+abbrev pub addressing : (ℕ → Bool) → Option Cycle → Kind
+addressing boards (Some (cycle.Access s)) = if boards s then Access else EmptyAccess
+addressing boards _ = Acknowledge
 
 -- the kind of an edge by its wire, whether it is a fall, and its value
-abbrev pub kind_on : Plan → Wire → Bool → Option Cycle → Kind
-kind_on p (Bg level) true v = BgFall
-kind_on p (Bg level) false v = BgRise
-kind_on p Bclr true v = BclrFall
-kind_on p Bclr false v = BclrRise
-kind_on p Iack true v = IackFall
-kind_on p Iack false v = IackRise
-kind_on p Berr true v = BerrFall
-kind_on p Berr false v = BerrRise
-kind_on p Br true v = BrFall
-kind_on p Br false v = BrRise
-kind_on p BgOut true v = BgOutFall
-kind_on p BgOut false v = BgOutRise
-kind_on p Bbsy true v = BbsyFall
-kind_on p Bbsy false v = BbsyRise
-kind_on p Addr true v = addressing p v
-kind_on p Addr false v = AddrOff
-kind_on p AddressStrobe true v = AddressStrobeFall
-kind_on p AddressStrobe false v = AddressStrobeRise
-kind_on p DataStrobe true v = DataStrobeFall
-kind_on p DataStrobe false v = DataStrobeRise
-kind_on p Irq true v = IrqFall
-kind_on p Irq false v = IrqRise
-kind_on p IackOut true v = IackOutFall
-kind_on p IackOut false v = IackOutRise
-kind_on p Dtack true v = DtackFall
-kind_on p Dtack false v = DtackRise
+abbrev pub kind_on : (ℕ → Bool) → Wire → Bool → Option Cycle → Kind
+kind_on boards (Bg level) true v = BgFall
+kind_on boards (Bg level) false v = BgRise
+kind_on boards Bclr true v = BclrFall
+kind_on boards Bclr false v = BclrRise
+kind_on boards Iack true v = IackFall
+kind_on boards Iack false v = IackRise
+kind_on boards Berr true v = BerrFall
+kind_on boards Berr false v = BerrRise
+kind_on boards Br true v = BrFall
+kind_on boards Br false v = BrRise
+kind_on boards BgOut true v = BgOutFall
+kind_on boards BgOut false v = BgOutRise
+kind_on boards Bbsy true v = BbsyFall
+kind_on boards Bbsy false v = BbsyRise
+kind_on boards Addr true v = addressing boards v
+kind_on boards Addr false v = AddrOff
+kind_on boards AddressStrobe true v = AddressStrobeFall
+kind_on boards AddressStrobe false v = AddressStrobeRise
+kind_on boards DataStrobe true v = DataStrobeFall
+kind_on boards DataStrobe false v = DataStrobeRise
+kind_on boards Irq true v = IrqFall
+kind_on boards Irq false v = IrqRise
+kind_on boards IackOut true v = IackOutFall
+kind_on boards IackOut false v = IackOutRise
+kind_on boards Dtack true v = DtackFall
+kind_on boards Dtack false v = DtackRise
 
 -- the kind of an edge
-abbrev pub kind_of : Plan → Edge → Kind
-kind_of p e = kind_on p e.wire e.fall e.value
+abbrev pub kind_of : (ℕ → Bool) → Edge → Kind
+kind_of boards e = kind_on boards e.wire e.fall e.value
 
 -- the edge is of that kind
-abbrev pub is_of : Plan → Kind → Edge → Bool
-is_of p k e = number (kind_of p e) == number k
+abbrev pub is_of : (ℕ → Bool) → Kind → Edge → Bool
+is_of boards k e = number (kind_of boards e) == number k
 
 -- the edges of that kind
-abbrev pub of_kind : Plan → Kind → List Edge → List Edge
-of_kind p k es = filter (is_of p k) es
+abbrev pub of_kind : (ℕ → Bool) → Kind → List Edge → List Edge
+of_kind boards k es = filter (is_of boards k) es
 
 -- how many edges of that kind there are
-abbrev pub count : Plan → Kind → List Edge → ℕ
-count p k es = length (of_kind p k es)
+abbrev pub count : (ℕ → Bool) → Kind → List Edge → ℕ
+count boards k es = length (of_kind boards k es)

@@ -7,6 +7,8 @@ pub mod Kinds
 pub mod Numbers
 -- believe: which edge two numbers choose
 pub mod Choices
+-- believe: the draws of a seed, as numbers
+pub mod Draws
 -- believe: the walk of a seed
 pub mod Walks
 -- believe: that nothing is left out, and every number can be drawn

@@ -1,12 +1,12 @@
 -- A walk: edges that are drawn one by one, by the numbers of a seed. (Profile.)
-use Rattle.std.specs.Prelude.{ℕ, zero, suc, Option, sum}
+use Rattle.std.specs.Prelude.{ℕ, zero, suc, Option}
 use Rattle.std.specs.Option.{option_map_or}
 use Rattle.vme_model.specs.declared.signals.Edge.{Edge}
 use Rattle.vme_model.specs.Verdict.{State, made}
 use Rattle.rand_pcg.specs.Lcg.{Lcg}
 use Rattle.vme_seeds.specs.declared.kinds.Kind.{Kind}
-use Rattle.vme_seeds.specs.Numbers.{generator, after_words, word, scaled}
-use Rattle.vme_seeds.specs.Choices.{weight, chances, choices, edge_at}
+use Rattle.vme_seeds.specs.Numbers.{generator, after_words, word}
+use Rattle.vme_seeds.specs.Choices.{weight, draw_on, chosen_by}
 
 -- where a walk stands: its seed, its backplane, and its generator
 pub record Walk : Type 0 where
@@ -22,15 +22,9 @@ weights w k = weight (generator w.seed) k
 abbrev pub at_start : State → ℕ → Walk
 at_start b seed = record { seed = seed; state = b; numbers = after_words 28 (generator seed) }
 
--- the number that a word draws below the sum of the chances
-abbrev pub first_draw : Walk → ℕ → ℕ
-first_draw w first = scaled first (sum (chances (weights w) w.state))
-
--- the edge that two words choose: the first draws the kind, and the second one of its open edges
+-- the edge that two words choose among the open edges
 abbrev pub chosen : Walk → ℕ → ℕ → Option Edge
-chosen w first second =
-    let x = first_draw w first in
-    edge_at (weights w) w.state x (scaled second (choices (weights w) w.state x))
+chosen w first second = chosen_by (draw_on (weights w) w.state) first second
 
 -- the edge that the next two words choose; none if no edge is open
 abbrev pub next_edge : Walk → Option Edge

@@ -1,9 +1,10 @@
 //! The kinds of edges.
 ghost use Rattle.std.specs.Prelude.{◌≡◌, ◌==◌, ◌<◌};
+ghost use Rattle.vme_bus.specs.Sets.{has};
 ghost use Rattle.vme_seeds.specs.Kinds.{addressing, kind_of, number};
 
+use vme_bus::SlotSet;
 use vme_model::{Cycle, Edge, Wire};
-use vme_slots::Plan;
 
 /// How many kinds there are.
 pub const KIND_COUNT: usize = 28;
@@ -77,13 +78,13 @@ pub(crate) const KINDS: [Kind; KIND_COUNT] = [
     Kind::DtackRise,
 ];
 
-/// The kind of an address group that goes on, by what it shows.
-fn addressing(plan: &Plan, value: Option<Cycle>) -> Kind
-    ensures { result ≡ addressing plan.now value }
+/// The kind of an address group that goes on, by the slots with a board and by what it shows.
+fn addressing(boards: SlotSet, value: Option<Cycle>) -> Kind
+    ensures { result ≡ addressing (has boards) value }
 {
     match value {
         Some(Cycle::Access(slot)) => {
-            if plan.has_board(slot) {
+            if boards.has(slot) {
                 Kind::Access
             } else {
                 Kind::EmptyAccess
@@ -94,9 +95,9 @@ fn addressing(plan: &Plan, value: Option<Cycle>) -> Kind
 }
 
 impl Kind {
-    /// The kind of an edge on a plan. Source: profile.
-    pub fn of(plan: &Plan, edge: &Edge) -> Kind
-        ensures { result ≡ kind_of plan.now edge.now }
+    /// The kind of an edge, if these slots have a board. Source: profile.
+    pub fn of(boards: SlotSet, edge: &Edge) -> Kind
+        ensures { result ≡ kind_of (has boards) edge.now }
     {
         match (edge.wire, edge.fall) {
             (Wire::Bg(_), true) => Kind::BgFall,
@@ -113,7 +114,7 @@ impl Kind {
             (Wire::BgOut, false) => Kind::BgOutRise,
             (Wire::Bbsy, true) => Kind::BbsyFall,
             (Wire::Bbsy, false) => Kind::BbsyRise,
-            (Wire::Addr, true) => addressing(plan, edge.value),
+            (Wire::Addr, true) => addressing(boards, edge.value),
             (Wire::Addr, false) => Kind::AddrOff,
             (Wire::AddressStrobe, true) => Kind::AddressStrobeFall,
             (Wire::AddressStrobe, false) => Kind::AddressStrobeRise,

@@ -2,7 +2,9 @@
 //! docs/COMMANDS.md describes it (`drive` with a seed).
 #![tactic(auto)]
 
+mod boards;
 mod chances;
+mod draws;
 mod kinds;
 pub mod laws;
 mod numbers;
@@ -11,5 +13,7 @@ mod tallies;
 mod walks;
 mod weights;
 
+pub use boards::boards_on;
+pub use draws::Draws;
 pub use kinds::Kind;
 pub use walks::Walk;

@@ -1,14 +1,15 @@
 //! How many edges there are of each kind.
-ghost use Rattle.std.specs.Prelude.{◌≡◌, ◌<◌, ◌≤◌, ◌^◌, ◌-◌, [], length, slice_index};
-ghost use Rattle.vme_model.specs.Plan.{Plan as PlanOf};
+ghost use Rattle.std.specs.Prelude.{◌≡◌, ◌<◌, ◌≤◌, ◌^◌, ◌-◌, ℕ, Bool, [], length, slice_index};
+ghost use Rattle.vme_bus.specs.Sets.{has};
 ghost use Rattle.vme_seeds.specs.Kinds.{kind_of, number};
 ghost use Rattle.vme_seeds.specs.Tallies.{AreCounts, CountsIn};
 
 use crate::kinds::{KIND_COUNT, Kind};
+use vme_bus::SlotSet;
 use vme_model::Edge;
-use vme_slots::Plan;
 
 /// How many edges there are of each kind.
+#[repr(C)]
 #[derive(Clone, Copy)]
 pub(crate) struct Tally {
     pub(crate) counts: [u32; KIND_COUNT],
@@ -17,7 +18,7 @@ pub(crate) struct Tally {
 impl Tally {
     /// The counts of no edges.
     pub(crate) fn new() -> Tally
-        ensures { (p : PlanOf) → AreCounts p [] result.counts }
+        ensures { (boards : ℕ → Bool) → AreCounts boards [] result.counts }
     {
         Tally {
             counts: [0; KIND_COUNT],
@@ -32,22 +33,23 @@ impl Tally {
     }
 
     /// Counts one more edge.
-    pub(crate) fn add(&mut self, plan: &Plan, edge: &Edge)
-        requires { slice_index self.old.counts (number (kind_of plan.now edge.now)) < 2 ^ 32 - 1 }
-        ensures { CountsIn plan.now edge.now self.old.counts self.new.counts }
+    pub(crate) fn add(&mut self, boards: SlotSet, edge: &Edge)
+        requires { slice_index self.old.counts (number (kind_of (has boards) edge.now))
+            < 2 ^ 32 - 1 }
+        ensures { CountsIn (has boards) edge.now self.old.counts self.new.counts }
     {
-        let place = Kind::of(plan, edge).number();
+        let place = Kind::of(boards, edge).number();
         self.counts[place] += 1;
     }
 
     /// The counts of these edges.
-    pub(crate) fn of(plan: &Plan, edges: &[Edge]) -> Tally
+    pub(crate) fn of(boards: SlotSet, edges: &[Edge]) -> Tally
         requires { length edges.now ≤ 792 }
-        ensures { AreCounts plan.now edges.now result.counts }
+        ensures { AreCounts (has boards) edges.now result.counts }
     {
         let mut tally = Tally::new();
         for edge in edges {
-            tally.add(plan, edge);
+            tally.add(boards, edge);
         }
         tally
     }

@@ -11,6 +11,7 @@ use rand_core::utils::NextWord;
 use rand_pcg::Pcg32;
 
 /// A weight for each kind: 1, 4, 16 or 64. Source: profile.
+#[repr(C)]
 #[derive(Clone, Copy)]
 pub(crate) struct Weights {
     pub(crate) by_kind: [u8; KIND_COUNT],

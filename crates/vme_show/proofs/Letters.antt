@@ -30,7 +30,7 @@ use Rattle.vme_model.proofs.Standing.{holder_holds, grant_travels, none_travels}
 use Rattle.vme_slots.proofs.Slots.{find_up_to_first}
 use Rattle.vme_histories.proofs.Drivers.{never_drove}
 use Rattle.vme_show.specs.Picture.{Column, columns, slot_mark}
-use Rattle.vme_show.specs.Letters.{TellsEveryGrant, TellsEveryHolder}
+use Rattle.vme_show.specs.Letters.{ShowsEveryGrant, ShowsEveryHolder}
 
 whole : (P : List Edge → Type 0) (h : List Edge) → OnEachPrefix P h → P h
 whole P [] each = each
@@ -99,8 +99,8 @@ stays_legal b e l = by_verdict (verdict b e) refl
     by_verdict (Ok x) is = (l.0, (is_allowed b e is, l.1))
     by_verdict (Err r) is = l
 
-grant_told : (c : Column) → IsLegalOn (after c.0 c.1) → TellsEveryGrant c
-grant_told c l =
+grant_shown : (c : Column) → IsLegalOn (after c.0 c.1) → ShowsEveryGrant c
+grant_shown c l =
     let now = after c.0 c.1 in
     let one = whole (OneTravels now.plan) now.history (legal_is_safe now.version now.plan now.history l.0 l.1).one_travels in
     record {
@@ -108,8 +108,8 @@ grant_told c l =
       none = λ none. ap (λ o. slot_mark (option_map (λ at. at.1) o)) (no_grant now.plan now.history none);
     }
 
-holder_told : (c : Column) → IsLegalOn (after c.0 c.1) → TellsEveryHolder c
-holder_told c l =
+holder_shown : (c : Column) → IsLegalOn (after c.0 c.1) → ShowsEveryHolder c
+holder_shown c l =
     let now = after c.0 c.1 in
     let one = whole OneHolds now.history (legal_is_safe now.version now.plan now.history l.0 l.1).one_holder in
     record {
@@ -125,8 +125,8 @@ each_column P f b (e ∷ es) l =
     let next = stays_legal b e l in
     All-cons P (b, e) (columns (after b e) es) (f (b, e) next) (each_column P f (after b e) es next)
 
-pub every_grant : (b : State) (es : List Edge) → IsAccepted b.plan → IsLegal b.version b.plan b.history → All TellsEveryGrant (columns b es)
-every_grant b es accepted legal = each_column TellsEveryGrant grant_told b es (accepted, legal)
+pub every_grant : (b : State) (es : List Edge) → IsAccepted b.plan → IsLegal b.version b.plan b.history → All ShowsEveryGrant (columns b es)
+every_grant b es accepted legal = each_column ShowsEveryGrant grant_shown b es (accepted, legal)
 
-pub every_holder : (b : State) (es : List Edge) → IsAccepted b.plan → IsLegal b.version b.plan b.history → All TellsEveryHolder (columns b es)
-every_holder b es accepted legal = each_column TellsEveryHolder holder_told b es (accepted, legal)
+pub every_holder : (b : State) (es : List Edge) → IsAccepted b.plan → IsLegal b.version b.plan b.history → All ShowsEveryHolder (columns b es)
+every_holder b es accepted legal = each_column ShowsEveryHolder holder_shown b es (accepted, legal)

@@ -2,5 +2,5 @@
 pub mod Rows
 -- texts that are written one after another, and the whole picture: src/windows.rt
 pub mod Whole
--- whom a row tells of: src/laws.rt
+-- whom a row shows: src/laws.rt
 pub mod Letters

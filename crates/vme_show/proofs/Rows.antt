@@ -41,7 +41,7 @@ answer_cell (Ok None) = refl
 answer_cell (Ok (Some v)) = refl
 answer_cell (Err r) = refl
 
--- what a row tells of a column
+-- what a row shows of a column
 abbrev pub topic_mark : Topic → picture.Column → ℕ
 topic_mark topic.GrantAt c = grant_mark c
 topic_mark topic.Holder c = holder_mark c

@@ -51,7 +51,7 @@ verdict_cell verdict.Refused = 120
 verdict_cell verdict.Accepted = 46
 verdict_cell verdict.Delivered = 33
 
--- the mark of what a row tells
+-- the mark of what a row shows
 abbrev pub cell : Topic → Column → ℕ
 cell topic.GrantAt c = c.grant_at
 cell topic.Holder c = c.holder

@@ -1,7 +1,7 @@
 -- The picture of a stretch of a trace: a row for each wire that moves in it, a column for an edge.
 -- (The words are those of chapters 2 to 4; what is drawn, and how, is this project's profile.)
--- Characters are told by their codes.
-use Rattle.std.specs.Prelude.{◌==◌, ◌+◌, ◌-◌, ◌/◌, ◌%◌, if◌then◌else◌, ℕ, Bool, true, false, Option, Some, None, Result, Ok, Err, List, [], ◌∷◌, ◌++◌, length, map, filter, replicate, is_ok, option_map, codes, decimal}
+-- Characters are given by their codes.
+use Rattle.std.specs.Prelude.{◌==◌, ◌+◌, ◌-◌, ◌/◌, ◌%◌, if◌then◌else◌, ℕ, Bool, true, false, Option, Some, None, Result, Ok, Err, List, [], ◌∷◌, ◌++◌, length, map, filter, replicate, is_ok, option_map, codes, decimal, nat_lt}
 use Rattle.std.specs.List.{flat_map, list_any, range_with_len}
 use Rattle.std.specs.Option.{option_map_or}
 use Rattle.vme_model.specs.declared.deliveries.Delivery.{Delivery}
@@ -49,14 +49,14 @@ mark d w (b, e) =
     if is_edge_of d w e then edge_mark (is_ok (verdict b e)) e.fall
     else state_mark (drive b.history d w)
 
--- ---- the rows of what is so after an edge, `.` where there is nothing to tell
+-- ---- the rows of what is so after an edge, `.` where there is nothing to print
 
--- a slot's letter, `a` for slot 1
-abbrev pub letter : ℕ → ℕ
-letter s = 96 + s
+-- a slot's character: `1` to `9`, and `A` for slot 10 to `L` for slot 21
+abbrev pub slot_sign : ℕ → ℕ
+slot_sign s = if nat_lt s 10 then 48 + s else 55 + s
 
 abbrev pub slot_mark : Option ℕ → ℕ
-slot_mark s = option_map_or letter s 46
+slot_mark s = option_map_or slot_sign s 46
 
 -- the slot at which a grant travels (chapter 3)
 abbrev pub grant_mark : Column → ℕ
@@ -67,11 +67,12 @@ grant_mark (b, e) =
 abbrev pub holder_mark : Column → ℕ
 holder_mark (b, e) = let now = after b e in slot_mark (holder now.plan now.history)
 
--- an acknowledge by its level's digit, an access by its target's letter (chapters 2 and 4)
+-- an acknowledge by its level's letter, `a` for level 1 to `g` for level 7; an access by its target's
+-- character (chapters 2 and 4)
 abbrev pub cycle_mark : Option Cycle → ℕ
 cycle_mark None = 46
-cycle_mark (Some (Acknowledge level)) = 48 + level
-cycle_mark (Some (Access s)) = letter s
+cycle_mark (Some (Acknowledge level)) = 96 + level
+cycle_mark (Some (Access s)) = slot_sign s
 
 abbrev pub shown_mark : Column → ℕ
 shown_mark (b, e) = let now = after b e in cycle_mark (shown now.plan now.history)

@@ -19,7 +19,7 @@ pub(crate) enum Verdict {
     Delivered,
 }
 
-/// What a row tells of the time after each edge.
+/// What a row shows of the time after each edge.
 #[derive(Clone, Copy, PartialEq, Eq, Debug)]
 pub(crate) enum Topic {
     /// The slot at which a grant travels.
@@ -72,25 +72,26 @@ impl Verdict {
     }
 }
 
-/// The mark of a slot: its letter, `a` for slot 1.
+/// The mark of a slot: `1` to `9`, and `A` for slot 10 to `L` for slot 21.
 fn slot_mark(slot: Option<u8>) -> u8
     requires { IfSome slot (λ s. IsTrue (is_slot s)) }
     ensures { result ≡ slot_mark slot }
 {
     match slot {
         None => b'.',
-        Some(slot) => b'`' + slot,
+        Some(slot @ ..10) => b'0' + slot,
+        Some(slot) => b'A' + (slot - 10),
     }
 }
 
-/// The mark of what is shown: an acknowledge's level, an access's target by its letter.
+/// The mark of what is shown: an acknowledge's level, `a` for level 1, or an access's target.
 fn cycle_mark(shown: Option<Cycle>) -> u8
     requires { IfSome shown (λ c. IsTrue (is_in_range c)) }
     ensures { result ≡ cycle_mark shown }
 {
     match shown {
         None => b'.',
-        Some(Cycle::Acknowledge(level)) => b'0' + level,
+        Some(Cycle::Acknowledge(level)) => b'a' + (level - 1),
         Some(Cycle::Access(slot)) => slot_mark(Some(slot)),
     }
 }
@@ -126,7 +127,7 @@ fn granted(bus: &Bus) -> Option<u8>
 }
 
 impl Column {
-    /// Steps a bus by an edge, and tells of it and of what is so after it.
+    /// Steps a bus by an edge, and notes it and of what is so after it.
     pub(crate) fn step(bus: &mut Bus, edge: Edge) -> Column
         ensures column { result ≡ column_of (bus.old, edge) }
         ensures bus { bus.new ≡ after bus.old edge }
@@ -170,7 +171,7 @@ impl Column {
         }
     }
 
-    /// The mark of what a row tells.
+    /// The mark of what a row shows.
     pub(crate) fn mark(&self, topic: Topic) -> u8
         ensures { result ≡ cell topic self.now }
     {

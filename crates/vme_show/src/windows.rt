@@ -20,7 +20,7 @@ use vme_trace::{Fault, put};
 /// The most columns of a picture.
 pub const COLUMNS: usize = 200;
 
-/// What is told below the wires, row by row.
+/// What is printed below the wires, row by row.
 const TOPICS: [Topic; 4] = [Topic::GrantAt, Topic::Holder, Topic::Shown, Topic::Verdict];
 
 /// A stretch of at most 200 edges of a trace, as far as its picture needs it.

@@ -96,66 +96,66 @@ pub by_one_rule_each : (b : State) (es : List Edge) → sum_by (λ k. passed_by 
 by_one_rule_each = shared (λ k a. is_accepted a && a.rule == k) is_accepted (up_to 26) (λ b e.
     ap (λ n. sum_by (λ k. if is_accepted (answered_edge b e) && n == k then 1 else 0) (up_to 26)) (numbered b.version (readings b.plan b.history e.driver) e.wire e.fall e.value) ∙ one_rule (is_accepted (answered_edge b e)) e.wire e.fall)
 
--- how many of the refusals that are told an answer is
-abbrev pub told : List Refused
-told = map (λ k. Rule k) (up_to 26) ++ refusals
+-- how many of the refusals that are counted an answer is
+abbrev pub known : List Refused
+known = map (λ k. Rule k) (up_to 26) ++ refusals
 
-abbrev as_told : Answer → ℕ
-as_told x = sum_by (λ r. if is_refusal r x then 1 else 0) told
+abbrev as_counted : Answer → ℕ
+as_counted x = sum_by (λ r. if is_refusal r x then 1 else 0) known
 
-told_rule : (w : Wire) (fall : Bool) → as_told (Err (Rule (rule_number w fall))) ≡ 1
-told_rule (Bg level) true = refl
-told_rule (Bg level) false = refl
-told_rule Bclr true = refl
-told_rule Bclr false = refl
-told_rule Iack true = refl
-told_rule Iack false = refl
-told_rule Berr true = refl
-told_rule Berr false = refl
-told_rule Br true = refl
-told_rule Br false = refl
-told_rule BgOut true = refl
-told_rule BgOut false = refl
-told_rule Bbsy true = refl
-told_rule Bbsy false = refl
-told_rule Addr true = refl
-told_rule Addr false = refl
-told_rule AddressStrobe true = refl
-told_rule AddressStrobe false = refl
-told_rule DataStrobe true = refl
-told_rule DataStrobe false = refl
-told_rule Irq true = refl
-told_rule Irq false = refl
-told_rule IackOut true = refl
-told_rule IackOut false = refl
-told_rule Dtack true = refl
-told_rule Dtack false = refl
+counted_rule : (w : Wire) (fall : Bool) → as_counted (Err (Rule (rule_number w fall))) ≡ 1
+counted_rule (Bg level) true = refl
+counted_rule (Bg level) false = refl
+counted_rule Bclr true = refl
+counted_rule Bclr false = refl
+counted_rule Iack true = refl
+counted_rule Iack false = refl
+counted_rule Berr true = refl
+counted_rule Berr false = refl
+counted_rule Br true = refl
+counted_rule Br false = refl
+counted_rule BgOut true = refl
+counted_rule BgOut false = refl
+counted_rule Bbsy true = refl
+counted_rule Bbsy false = refl
+counted_rule Addr true = refl
+counted_rule Addr false = refl
+counted_rule AddressStrobe true = refl
+counted_rule AddressStrobe false = refl
+counted_rule DataStrobe true = refl
+counted_rule DataStrobe false = refl
+counted_rule Irq true = refl
+counted_rule Irq false = refl
+counted_rule IackOut true = refl
+counted_rule IackOut false = refl
+counted_rule Dtack true = refl
+counted_rule Dtack false = refl
 
 -- a settling rule that fails is S1 to S4
-told_settling : (version : Version) (p : Plan) (h : List Edge) (w : Wire) (fall : Bool) → (settling version p h w fall).1 ≡ false → as_told (Err (NotSettled (settling version p h w fall).0)) ≡ 1
-told_settling version p h AddressStrobe true fails = refl
-told_settling version p h Berr true fails = refl
-told_settling version p h (Bg n) true fails = refl
-told_settling version p h (Bg n) false fails = refl
-told_settling version p h w fall fails = cc
+counted_settling : (version : Version) (p : Plan) (h : List Edge) (w : Wire) (fall : Bool) → (settling version p h w fall).1 ≡ false → as_counted (Err (NotSettled (settling version p h w fall).0)) ≡ 1
+counted_settling version p h AddressStrobe true fails = refl
+counted_settling version p h Berr true fails = refl
+counted_settling version p h (Bg n) true fails = refl
+counted_settling version p h (Bg n) false fails = refl
+counted_settling version p h w fall fails = cc
 
-told_once : (named moves ruled settled room : Bool) (k m : ℕ) (d : Option Delivery) → as_told (Err (Rule k)) ≡ 1 → (settled ≡ false → as_told (Err (NotSettled m)) ≡ 1)
-    → as_told (with_delivery (check named NoSuchDriver (check moves AlreadyThere (check ruled (Rule k) (check settled (NotSettled m) (check room TraceFull (Ok tt)))))) d)
+counted_once : (named moves ruled settled room : Bool) (k m : ℕ) (d : Option Delivery) → as_counted (Err (Rule k)) ≡ 1 → (settled ≡ false → as_counted (Err (NotSettled m)) ≡ 1)
+    → as_counted (with_delivery (check named NoSuchDriver (check moves AlreadyThere (check ruled (Rule k) (check settled (NotSettled m) (check room TraceFull (Ok tt)))))) d)
     ≡ (if not (is_ok (with_delivery (check named NoSuchDriver (check moves AlreadyThere (check ruled (Rule k) (check settled (NotSettled m) (check room TraceFull (Ok tt)))))) d)) then 1 else 0)
-told_once false moves ruled settled room k m d rules settles = refl
-told_once true false ruled settled room k m d rules settles = refl
-told_once true true false settled room k m d rules settles = rules
-told_once true true true false room k m d rules settles = settles refl
-told_once true true true true false k m d rules settles = refl
-told_once true true true true true k m d rules settles = refl
+counted_once false moves ruled settled room k m d rules settles = refl
+counted_once true false ruled settled room k m d rules settles = refl
+counted_once true true false settled room k m d rules settles = rules
+counted_once true true true false room k m d rules settles = settles refl
+counted_once true true true true false k m d rules settles = refl
+counted_once true true true true true k m d rules settles = refl
 
-pub by_one_refusal_each : (b : State) (es : List Edge) → sum_by (λ r. refused_for r (answered b es)) told ≡ refused (answered b es)
-by_one_refusal_each = shared (λ r a. is_refusal r a.answer) (λ a. not (is_accepted a)) told (λ b e.
+pub by_one_refusal_each : (b : State) (es : List Edge) → sum_by (λ r. refused_for r (answered b es)) known ≡ refused (answered b es)
+by_one_refusal_each = shared (λ r a. is_refusal r a.answer) (λ a. not (is_accepted a)) known (λ b e.
     let own = rule b.version (readings b.plan b.history e.driver) e.wire e.fall e.value in
     let settles = settling b.version b.plan b.history e.wire e.fall in
-    told_once (holds (driver_guard b.plan e)) (holds (state_guard (drive b.history e.driver e.wire) e.fall)) own.1 settles.1 (holds (room_guard b)) own.0 settles.0 (delivery b.plan b.history e)
-    (ap (λ n. as_told (Err (Rule n))) (numbered b.version (readings b.plan b.history e.driver) e.wire e.fall e.value) ∙ told_rule e.wire e.fall)
-    (told_settling b.version b.plan b.history e.wire e.fall))
+    counted_once (holds (driver_guard b.plan e)) (holds (state_guard (drive b.history e.driver e.wire) e.fall)) own.1 settles.1 (holds (room_guard b)) own.0 settles.0 (delivery b.plan b.history e)
+    (ap (λ n. as_counted (Err (Rule n))) (numbered b.version (readings b.plan b.history e.driver) e.wire e.fall e.value) ∙ counted_rule e.wire e.fall)
+    (counted_settling b.version b.plan b.history e.wire e.fall))
 
 -- a number is one of 1 to n once, if it is there
 not_above : (s n : ℕ) → n < s → sum_by (λ k. if s == k then 1 else 0) (up_to n) ≡ 0

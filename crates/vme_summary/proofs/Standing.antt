@@ -76,7 +76,7 @@ module _ (b : State) (s : ℕ) where
     moves : (g : Bool) → is_edge_of (Slot s) Bbsy e ≡ true → e.fall ≡ g → drive b.history (Slot s) Bbsy ≡ not g
     moves g is fall = (of_bbsy g is fall).before
 
--- x and y are the request and BBSY* before an edge; r and u tell whether it is one of them, and f its fall
+-- x and y are the request and BBSY* before an edge; r and u say whether it is one of them, and f its fall
 asks_after : (r u f x y asks unasks takes : Bool) (o : Option ℕ) (n : ℕ) → asks ≡ (f && r) → unasks ≡ (not f && r) → takes ≡ (f && u) → (r && u) ≡ false
     → (r ≡ true → f ≡ true → y ≡ false) → (u ≡ true → f ≡ true → x ≡ true) → (u ≡ true → f ≡ false → x ≡ false) → is_some o ≡ (x && not y)
     → is_some (if asks then Some n else (if unasks || takes then None else o)) ≡ ((if r then f else x) && not (if u then f else y))
@@ -109,14 +109,14 @@ waits_after : (takes : Bool) (n k : ℕ) (o : Option ℕ) (ns : List ℕ) → (t
 waits_after true n k o ns asks before = one_wait n o ns (asks refl) ∙ ap (λ m. 1 + m) before
 waits_after false n k o ns asks before = omega (arith, before)
 
--- what is told of a board after a history
-pub record IsTold (s : ℕ) (h : List Edge) (t : Answers) : Type 0 where
+-- what is printed about a board after a history
+pub record IsReported (s : ℕ) (h : List Edge) (t : Answers) : Type 0 where
   pub asks : is_some (asks_since s t) ≡ (drive h (Slot s) Br && not (drive h (Slot s) Bbsy))
   pub holds : is_some (holds_since s t) ≡ drive h (Slot s) Bbsy
   pub waits : length (waits s t) ≡ fall_count Bbsy s t
 
-accepted_told : (s : ℕ) (b : State) (e : Edge) (t : Answers) → is_accepted (answered_edge b e) ≡ true → IsTold s b.history t → IsTold s (e ∷ b.history) (answered_edge b e ∷ t)
-accepted_told s b e t accepted is =
+accepted_reported : (s : ℕ) (b : State) (e : Edge) (t : Answers) → is_accepted (answered_edge b e) ≡ true → IsReported s b.history t → IsReported s (e ∷ b.history) (answered_edge b e ∷ t)
+accepted_reported s b e t accepted is =
     let a = answered_edge b e in
     let fallen : (w : Wire) → falls (Slot s) w a ≡ is_fall_of (Slot s) w e = λ w. ap (λ (o : Bool). o && is_fall_of (Slot s) w e) accepted in
     let risen : (w : Wire) → rises (Slot s) w a ≡ (not e.fall && is_edge_of (Slot s) w e) = λ w. ap (λ (o : Bool). o && (not e.fall && is_edge_of (Slot s) w e)) accepted in
@@ -132,8 +132,8 @@ accepted_told s b e t accepted is =
         let fall = and_left e.fall (is_edge_of (Slot s) Bbsy e) takes in
         is.asks ∙ rw (takes_low b s e accepted own fall, moves b s e accepted true own fall) refl
 
-refused_told : (s : ℕ) (b : State) (e : Edge) (t : Answers) → is_accepted (answered_edge b e) ≡ false → IsTold s b.history t → IsTold s b.history (answered_edge b e ∷ t)
-refused_told s b e t refused is =
+refused_reported : (s : ℕ) (b : State) (e : Edge) (t : Answers) → is_accepted (answered_edge b e) ≡ false → IsReported s b.history t → IsReported s b.history (answered_edge b e ∷ t)
+refused_reported s b e t refused is =
     let a = answered_edge b e in
     let none = refused_moves_none s a refused in
     record {
@@ -145,22 +145,22 @@ refused_told s b e t refused is =
       waits = waits_after (falls (Slot s) Bbsy a) (length (a ∷ t)) (fall_count Bbsy s t) (asks_since s t) (waits s t) (λ takes. absurd (never (sym (none Bbsy).0 ∙ takes))) is.waits ∙ sym (count_step (falls (Slot s) Bbsy) a t);
     }
 
-one_told : (s : ℕ) (b : State) (e : Edge) (t : Answers) → IsTold s b.history t → IsTold s (after b e).history (answered_edge b e ∷ t)
-one_told s b e t is = at (is_accepted (answered_edge b e)) refl (is_ok (verdict b e)) refl
+one_reported : (s : ℕ) (b : State) (e : Edge) (t : Answers) → IsReported s b.history t → IsReported s (after b e).history (answered_edge b e ∷ t)
+one_reported s b e t is = at (is_accepted (answered_edge b e)) refl (is_ok (verdict b e)) refl
   where
     same : (v : _) (d : _) → is_ok (with_delivery v d) ≡ is_ok v
     same (Ok done) d = refl
     same v d = refl
 
-    at : (x : Bool) → is_accepted (answered_edge b e) ≡ x → (y : Bool) → is_ok (verdict b e) ≡ y → IsTold s (if y then made b e else b).history (answered_edge b e ∷ t)
-    at true accepted true done = accepted_told s b e t accepted is
-    at false refused false done = refused_told s b e t refused is
+    at : (x : Bool) → is_accepted (answered_edge b e) ≡ x → (y : Bool) → is_ok (verdict b e) ≡ y → IsReported s (if y then made b e else b).history (answered_edge b e ∷ t)
+    at true accepted true done = accepted_reported s b e t accepted is
+    at false refused false done = refused_reported s b e t refused is
     at true accepted false done = absurd (never (sym done ∙ sym (same (verdict b e) _) ∙ accepted))
     at false refused true done = absurd (never (sym refused ∙ same (verdict b e) _ ∙ done))
 
-all_told : (s : ℕ) (b : State) (t : Answers) (es : List Edge) → IsTold s b.history t → IsTold s (kept b es).history (answered_on b t es)
-all_told s b t [] is = is
-all_told s b t (e ∷ es) is = all_told s (after b e) (answered_edge b e ∷ t) es (one_told s b e t is)
+all_reported : (s : ℕ) (b : State) (t : Answers) (es : List Edge) → IsReported s b.history t → IsReported s (kept b es).history (answered_on b t es)
+all_reported s b t [] is = is
+all_reported s b t (e ∷ es) is = all_reported s (after b e) (answered_edge b e ∷ t) es (one_reported s b e t is)
 
-pub told : (s : ℕ) (b : State) (es : List Edge) → b.history ≡ [] → IsTold s (kept b es).history (answered b es)
-told s b es none = all_told s b [] es (subst (λ h. IsTold s h []) (sym none) (record { asks = refl; holds = refl; waits = refl }))
+pub known : (s : ℕ) (b : State) (es : List Edge) → b.history ≡ [] → IsReported s (kept b es).history (answered b es)
+known s b es none = all_reported s b [] es (subst (λ h. IsReported s h []) (sym none) (record { asks = refl; holds = refl; waits = refl }))

@@ -44,7 +44,7 @@ word_more {X} f p xs x o n b is before after =
 pub up_to_more : (n : ℕ) → up_to n ++ (n + 1) ∷ [] ≡ up_to (n + 1)
 up_to_more n = let next : suc n ≡ n + 1 = omega arith in ap (λ m. up_to n ++ m ∷ []) (sym next) ∙ ap up_to next
 
--- what is told of the numbers from 1, and of one more
+-- what is printed about the numbers from 1, and of one more
 pub numbered_more : {X : Type 0} (f : ℕ → X) (xs : List X) (n : ℕ) → (xs ++ map f (up_to n)) ++ f (n + 1) ∷ [] ≡ xs ++ map f (up_to (n + 1))
 numbered_more f xs n =
     append_assoc xs (map f (up_to n)) (f (n + 1) ∷ [])

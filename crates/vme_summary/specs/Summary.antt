@@ -88,7 +88,7 @@ answers_text s b =
 abbrev pub requests : Plan → ℕ → Bool
 requests p s = is_some (option_and_then (λ r. r.requester) (board p s))
 
--- what is told of a topic; nothing, where there is nothing to tell
+-- what is printed about a topic; nothing, where there is nothing to print
 abbrev pub line_text : Plan → Answers → Topic → List ℕ
 line_text p t Edges = edges_text (length t) (accepted t) (refused t)
 line_text p t (Rule k) = rule_text k (passed_by k t) (refused_for (by_rule k) t)
@@ -106,7 +106,7 @@ refusals =
     NotSettled 1 ∷ NotSettled 2 ∷ NotSettled 3 ∷ NotSettled 4 ∷ NoSuchDriver ∷ AlreadyThere
     ∷ TraceFull ∷ []
 
--- the topics, in the order in which they are told; a backplane has at most 21 slots
+-- the topics, in the order in which they are printed; a backplane has at most 21 slots
 abbrev pub topics : List Topic
 topics =
     Edges ∷ (map (λ k. Rule k) (up_to 26) ++ (map (λ r. Refusal r) refusals

@@ -66,7 +66,7 @@ impl BoardTally {
         }
     }
 
-    /// What the board did in a trace and in another: no edge is told by its number any more.
+    /// What the board did in a trace and in another: no edge is named by its number any more.
     pub(crate) fn with(&self, other: &BoardTally) -> BoardTally
         ensures { result ≡ board_with self.now other.now }
     {

@@ -43,9 +43,9 @@ pub fn every_tenure_had_a_wait()
         length (waits s (answered b es)) ≡ (board_tally s (answered b es)).tenures }
 {}
 
-/// A board is told to ask exactly while its request is low and its `bbsy` high, and to hold the bus
+/// A board is reported to ask exactly while its request is low and its `bbsy` high, and to hold the bus
 /// exactly while its `bbsy` is low.
-pub fn boards_are_told_as_they_stand()
+pub fn boards_are_reported_as_they_stand()
     ensures asks { (b : State) (es : List Edge) (s : ℕ) → b.history ≡ [] →
         is_some (board_tally s (answered b es)).asks_since
         ≡ (drive (kept b es).history (Slot s) Br && not (drive (kept b es).history (Slot s) Bbsy)) }

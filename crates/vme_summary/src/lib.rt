@@ -1,5 +1,5 @@
 //! What a trace exercised: which rules let edges pass or refused them, which situations came, and
-//! what each board did; and the lines that tell it.
+//! what each board did; and the lines that report it.
 #![tactic(auto)]
 
 mod boards;

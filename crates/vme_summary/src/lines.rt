@@ -24,7 +24,7 @@ use vme_text::{push, push_byte, push_number};
 /// digits and more.
 const LINE: usize = 400;
 
-/// A line, as far as it was put together; empty where there is nothing to tell.
+/// A line, as far as it was put together; empty where there is nothing to print.
 pub(crate) type Line = ArrayVec<u8, LINE>;
 
 /// How many edges there are.
@@ -247,7 +247,7 @@ fn requests(plan: &Plan, slot: u8) -> bool
     }
 }
 
-/// What is told of a topic.
+/// What is printed about a topic.
 pub(crate) fn line(plan: &Plan, tally: &Tally, topic: Topic) -> Line
     requires { IsTopic topic }
     ensures { OfTally tally.now (λ t. result.items ≡ line_text plan.now t topic) }
@@ -271,7 +271,7 @@ pub(crate) fn line(plan: &Plan, tally: &Tally, topic: Topic) -> Line
     }
 }
 
-/// What is told of a topic of several traces together.
+/// What is printed about a topic of several traces together.
 pub(crate) fn sums_line(plan: &Plan, sums: &Sums, topic: Topic) -> Line
     requires { IsTopic topic }
     ensures { OfSums sums.now (λ ts. result.items ≡ sums_line plan.now ts topic) }

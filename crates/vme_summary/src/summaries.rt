@@ -16,7 +16,7 @@ use std::io::Write;
 use vme_slots::Plan;
 use vme_trace::{Fault, put};
 
-/// Writes what is told of the topics.
+/// Writes what is printed about the topics.
 fn write_topics<W: Write>(
     topics: &[Topic],
     plan: &Plan,
@@ -54,7 +54,7 @@ pub fn write_summary<W: Write>(plan: &Plan, tally: &Tally, out: &mut W) -> Resul
     write_topics(topics.as_slice(), plan, tally, out)
 }
 
-/// Writes what is told of the topics of several traces together.
+/// Writes what is printed about the topics of several traces together.
 fn write_sums_of<W: Write>(
     topics: &[Topic],
     plan: &Plan,
@@ -77,7 +77,7 @@ fn write_sums_of<W: Write>(
 }
 
 /// Writes what the edges of several traces on a plan came to together, in the lines of a summary.
-/// The rules and situations that never came are those that came in no trace; no edge is told by its
+/// The rules and situations that never came are those that came in no trace; no edge is named by its
 /// number.
 ///
 /// Errors: X8 where a write failed or took no byte; a prefix of the sums was then written.

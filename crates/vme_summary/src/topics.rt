@@ -1,4 +1,4 @@
-//! What the lines of a summary tell.
+//! What the lines of a summary report.
 ghost use Rattle.std.specs.Prelude.{◌≡◌, ◌+◌, ◌≤◌, ◌++◌, length, map};
 ghost use Rattle.arrayvec.specs.ArrayVec.{array_vec_len};
 ghost use Rattle.vme_model.specs.Plan.{up_to};
@@ -9,7 +9,7 @@ use arrayvec::ArrayVec;
 use vme_goals::Event;
 use vme_model::Refused;
 
-/// What a line of a summary tells. Slots are numbered from 1.
+/// What a line of a summary reports. Slots are numbered from 1.
 #[derive(Clone, Copy, PartialEq, Eq, Debug, Default)]
 pub enum Topic {
     /// How many edges there are.
@@ -37,7 +37,7 @@ use Topic::Refusal;
 /// twice, and what was never accepted and never came.
 const TOPICS: usize = 1 + 26 + REFUSALS.len() + Event::COUNT + 2 * 21 + 2;
 
-/// Topics, in the order in which they are told.
+/// Topics, in the order in which they are printed.
 pub(crate) type Topics = ArrayVec<Topic, TOPICS>;
 
 /// Refusals by settling rules, and by no rule.
@@ -106,7 +106,7 @@ fn add_answers(topics: &mut Topics)
     }
 }
 
-/// The topics, in the order in which they are told.
+/// The topics, in the order in which they are printed.
 pub(crate) fn topics() -> Topics
     ensures { result.items ≡ topics }
 {

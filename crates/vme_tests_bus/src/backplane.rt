@@ -307,7 +307,7 @@ fn assert_refused(rt: &impl Abort, backplane: &mut Backplane<'_>, cases: &[(Edge
 /// none.
 fn assert_fails(rt: &impl Abort, bus: &mut Bus, cases: &[(Edge, &[Condition])]) {
     for (edge, conditions) in cases {
-        let is_accepted: bool = bus.told(*edge);
+        let is_accepted: bool = bus.outcome(*edge);
         assert!(rt; bus.failing(*edge).as_slice() == *conditions);
         assert!(rt; is_accepted == conditions.is_empty());
         assert!(rt; bus.step(*edge).is_ok() == is_accepted);

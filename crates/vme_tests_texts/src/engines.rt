@@ -2,7 +2,7 @@
 //! before it is tried, and its edges while it is.
 use std::process::Abort;
 use vme_engines::{EngineFault, Progress, drive_found};
-use vme_goals::{Event, Goal};
+use vme_goals::{Aim, Event, Goal};
 use vme_model::Version;
 use vme_trace::Fault;
 
@@ -80,7 +80,11 @@ fn sought(rt: &impl AllocGlobal, edges: u32, last: u64, event: Event) -> (Option
         edges,
         0,
         last,
-        Goal::Event(event),
+        Goal {
+            aim: Aim::Event(event),
+            driver: None,
+            after: 0,
+        },
         &mut Vec::new(rt.alloc()),
         Version::One,
         &mut heard,

@@ -3,7 +3,7 @@ use crate::asserts::assert_same;
 use std::alloc::AllocError;
 use std::io::{self, ErrorKind, Read, Write};
 use std::process::Abort;
-use vme_engines::{EngineFault, Status, check, joined, replay};
+use vme_engines::{EngineFault, LineForm, Status, check, joined, replay};
 use vme_model::Edge;
 use vme_trace::{Fault, Patient, Reader, flush, pump, put, read_piece};
 
@@ -113,7 +113,7 @@ fn replayed_from<R: Read, W: Write>(
     trace: &mut R,
     out: &mut W,
 ) -> Result<Status, EngineFault> {
-    replay(rt.alloc(), ONE_BOARD, trace, out)
+    replay(rt.alloc(), ONE_BOARD, trace, LineForm::Short, out)
 }
 
 /// What `check` returns for a trace on the backplane of one board.

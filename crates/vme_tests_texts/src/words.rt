@@ -2,8 +2,8 @@
 //! `acceptance/words`.
 use std::process::Abort;
 use vme_command_line::{Job, words};
-use vme_goals::{Event, Goal, Miss};
-use vme_model::{Condition, IrqKind, Version};
+use vme_goals::{Aim, Event, Goal, Miss};
+use vme_model::{Condition, Driver, IrqKind, Rule, Version};
 
 /// Asserts for which job words ask.
 fn assert_job(rt: &(impl Abort + AllocGlobal), given: &[&str], wanted: Job) {
@@ -24,7 +24,16 @@ fn reads_two_files(rt: HostRuntime) {
     assert_job(
         &rt,
         &["replay", scenario, trace],
-        Job::Replay { scenario, trace },
+        Job::Replay {
+            scenario,
+            trace,
+            full: false,
+        },
+    );
+    assert_job(
+        &rt,
+        &["cycles", scenario, trace],
+        Job::Cycles { scenario, trace },
     );
     assert_job(
         &rt,
@@ -242,42 +251,52 @@ fn reads_what_to_draw(rt: HostRuntime) {
     }
 }
 
-/// With what a trace is to end: the word, the goal and the version.
-const GOALS: [(&str, Goal, &str, Version); 7] = [
+/// The goal of any driver, behind no edge.
+fn goal(aim: Aim) -> Goal {
+    Goal {
+        aim,
+        driver: None,
+        after: 0,
+    }
+}
+
+/// With what a trace is to end: the word, the aim and the version.
+const AIMS: [(&str, Aim, &str, Version); 8] = [
     (
         "iack-passed",
-        Goal::Event(Event::IackPassed),
+        Aim::Event(Event::IackPassed),
         "1",
         Version::One,
     ),
     (
         "grant-timeout",
-        Goal::Event(Event::GrantTimeout),
+        Aim::Event(Event::GrantTimeout),
         "2",
         Version::Two,
     ),
-    ("S2", Goal::Miss(Miss::Settling(2)), "1", Version::One),
+    ("S2", Aim::Miss(Miss::Settling(2)), "1", Version::One),
+    ("G13", Aim::Miss(Miss::AnyOf(Rule::G13)), "2", Version::Two),
     (
         "G13 own bgout is high",
-        Goal::Miss(Miss::Rule(13, Condition::OwnGrantOutHigh)),
+        Aim::Miss(Miss::Rule(13, Condition::OwnGrantOutHigh)),
         "1",
         Version::One,
     ),
     (
         "G1 the arbiter picks level N",
-        Goal::Miss(Miss::Rule(1, Condition::Picked)),
+        Aim::Miss(Miss::Rule(1, Condition::Picked)),
         "2",
         Version::Two,
     ),
     (
         "G2 BBSY* is low",
-        Goal::Miss(Miss::Rule(2, Condition::BusyLow)),
+        Aim::Miss(Miss::Rule(2, Condition::BusyLow)),
         "1",
         Version::One,
     ),
     (
         "G22 the request was served by an access",
-        Goal::Miss(Miss::Unserved(IrqKind::Rora)),
+        Aim::Miss(Miss::Unserved(IrqKind::Rora)),
         "1",
         Version::One,
     ),
@@ -285,7 +304,7 @@ const GOALS: [(&str, Goal, &str, Version); 7] = [
 
 #[test]
 fn reads_what_a_trace_ends_with(rt: HostRuntime) {
-    for (named, goal, version, rules) in &GOALS {
+    for (named, aim, version, rules) in &AIMS {
         let given = [
             "drive",
             "S",
@@ -300,8 +319,45 @@ fn reads_what_a_trace_ends_with(rt: HostRuntime) {
             scenario: "S",
             edges: 8,
             seed: 7,
-            until: Some(*goal),
+            until: Some(goal(*aim)),
             version: *rules,
+        };
+        assert_job(&rt, &given, wanted);
+    }
+}
+
+/// The driver and the place of a goal: the words after `--of` and `--after`, and what they name.
+const PLACES: [(&str, &str, Driver, u64); 4] = [
+    ("c", "0", Driver::Controller, 0),
+    ("2", "20", Driver::Slot(2), 20),
+    ("+021", "+07", Driver::Slot(21), 7),
+    ("1", "18446744073709551615", Driver::Slot(1), u64::MAX),
+];
+
+#[test]
+fn reads_whose_edge_a_trace_ends_with(rt: HostRuntime) {
+    for (driver, after, only, least) in &PLACES {
+        let given = [
+            "drive",
+            "S",
+            "--edges=8",
+            "--seed=7",
+            "--after",
+            *after,
+            "--until=G13",
+            "--of",
+            *driver,
+        ];
+        let wanted = Job::Draw {
+            scenario: "S",
+            edges: 8,
+            seed: 7,
+            until: Some(Goal {
+                aim: Aim::Miss(Miss::AnyOf(Rule::G13)),
+                driver: Some(*only),
+                after: *least,
+            }),
+            version: Version::One,
         };
         assert_job(&rt, &given, wanted);
     }
@@ -337,7 +393,7 @@ fn reads_which_seeds_to_try(rt: HostRuntime) {
             edges: 8,
             first: *first,
             last: *last,
-            goal: Goal::Miss(Miss::Settling(2)),
+            goal: goal(Aim::Miss(Miss::Settling(2))),
             version: Version::Two,
             progress: false,
         };
@@ -360,7 +416,7 @@ fn reads_whether_seeds_are_told(rt: HostRuntime) {
         edges: 8,
         first: 0,
         last: 9,
-        goal: Goal::Miss(Miss::Settling(2)),
+        goal: goal(Aim::Miss(Miss::Settling(2))),
         version: Version::One,
         progress: true,
     };

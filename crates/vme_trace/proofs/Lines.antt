@@ -30,7 +30,7 @@ split_line [] more h = refl
 split_line (b ∷ l) more h = rw (no_feed b h.0, split_line l more h.1) refl
 
 -- what stands before the first line feed of some bytes
-abbrev head_of : List (List ℕ) × List ℕ → List ℕ
+abbrev pub head_of : List (List ℕ) × List ℕ → List ℕ
 head_of ([], rest) = rest
 head_of (l ∷ ls, rest) = l
 
@@ -38,13 +38,13 @@ head_begun : (b : ℕ) (s : List (List ℕ) × List ℕ) → head_of (begin_line
 head_begun b ([], rest) = refl
 head_begun b (l ∷ ls, rest) = refl
 
-head_long : (x more : List ℕ) → IsOneLine x → length x ≤ length (head_of (split_lines (x ++ more)))
+pub head_long : (x more : List ℕ) → IsOneLine x → length x ≤ length (head_of (split_lines (x ++ more)))
 unfolding split_lines
 head_long [] more one = omega arith
 head_long (b ∷ x) more one =
     rw (no_feed b one.0, head_begun b (split_lines (x ++ more))) (let h = head_long x more one.1 in omega arith)
 
-over : (l : List ℕ) → 64 < length l → is_too_long l ≡ true
+pub over : (l : List ℕ) → 64 < length l → is_too_long l ≡ true
 over l h = grind (arith, nat_tests)
 
 pub within : (l : List ℕ) → length l ≤ 64 → is_too_long l ≡ false
@@ -91,7 +91,7 @@ whole_line None n l more one h = rw (append_assoc l (10 ∷ []) more, split_line
 whole_line (Some v) n l more one h = rw (append_assoc l (10 ∷ []) more, split_line l more one, within l h) refl
 
 -- the end of the input
-some_bytes : (b : ℕ) (part : List ℕ) → ltb 0 (length (b ∷ part)) ≡ true
+pub some_bytes : (b : ℕ) (part : List ℕ) → ltb 0 (length (b ∷ part)) ≡ true
 some_bytes b part = grind (arith, nat_tests)
 
 at_end : (v : Option Version) (n : ℕ) (part : List ℕ) → IsPart part → rest_of v (place n part) [] ≡ read_split v n ([], part)

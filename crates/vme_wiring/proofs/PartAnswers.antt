@@ -42,7 +42,7 @@ pub requester_ruled : (version : Version) (p : Plan) (h : List Edge) (r : Row) (
     b ≡ parts_of version p h r → b.requester ≡ Some q → IsAsked p h r pins e → e.wire ≡ x → is_of parts.Requester x ≡ true →
     answer ≡ ruling_on q.version (requester_readings q.slot q.row (requester_low q) pins (is_free b)) x e.fall e.value →
     answer ≡ asked version p h e
-requester_ruled version p h r b q pins e x answer same has told wire own is =
+requester_ruled version p h r b q pins e x answer same has known wire own is =
     let k = part (λ q. requester_of r.slot q version h) r.requester q (sym has ∙ ap (λ (b : Board). b.requester) same) in
     let some : is_some r.requester ≡ true = ap is_some k.is_row in
     let P : RequesterState → Type 0 = λ x. x ≡ requester_of x.slot x.row x.version h in
@@ -50,7 +50,7 @@ requester_ruled version p h r b q pins e x answer same has told wire own is =
     is
     ∙ requester_over q h pins (is_free b) e.wire x e.fall e.value noted wire own
     ∙ ap (λ (x : RequesterState). answer_over x.slot x.row x.version h pins (is_free b) e) k.is_part
-    ∙ requester_asked version p h r k.of pins (is_free b) e told k.is_row (free_at version p h r b same some) (ap (is_of parts.Requester) wire ∙ own)
+    ∙ requester_asked version p h r k.of pins (is_free b) e known k.is_row (free_at version p h r b same some) (ap (is_of parts.Requester) wire ∙ own)
 
 -- it does not read the acknowledge chain
 pub blind_to_acknowledge : (version : Version) (s : ℕ) (row : RequesterRow) (own : Wire → Bool) (lines : Pins) (grant iack free f : Bool) (v : Option Cycle) →
@@ -63,7 +63,7 @@ pub master_ruled : (version : Version) (p : Plan) (h : List Edge) (r : Row) (b :
     b ≡ parts_of version p h r → b.master ≡ Some m → IsAsked p h r pins e → e.wire ≡ x → is_of parts.Master x ≡ true →
     answer ≡ ruling_on One (master_local m pins (low_of b Bbsy)) x e.fall e.value →
     answer ≡ asked version p h e
-master_ruled version p h r b m pins e x answer same has told wire own is =
+master_ruled version p h r b m pins e x answer same has known wire own is =
     let k = part (λ q. master_of r.slot q r.handler h) r.requester m (sym has ∙ ap (λ (b : Board). b.master) same) in
     let some : is_some r.requester ≡ true = ap is_some k.is_row in
     let P : MasterState → Type 0 = λ x. x ≡ master_of x.slot x.row x.handler h in
@@ -71,7 +71,7 @@ master_ruled version p h r b m pins e x answer same has told wire own is =
     is
     ∙ master_rules_over version m h pins (low_of b Bbsy) e.driver e.wire x e.fall e.value noted wire own
     ∙ ap (λ (x : MasterState). ruling version (master_over x.slot x.row x.handler h pins (low_of b Bbsy)) e) k.is_part
-    ∙ master_asked version p h r k.of pins (low_of b Bbsy) e told k.is_row (low_at version p h r b Bbsy same some) (ap (is_of parts.Master) wire ∙ own)
+    ∙ master_asked version p h r k.of pins (low_of b Bbsy) e known k.is_row (low_at version p h r b Bbsy same some) (ap (is_of parts.Master) wire ∙ own)
 
 -- it reads neither chain
 pub blind_to_inputs : (m : MasterState) (lines : Pins) (grant iack holds_bus : Bool) (w : Wire) (f : Bool) (v : Option Cycle) → is_of parts.Master w ≡ true →
@@ -91,14 +91,14 @@ pub interrupter_ruled : (version : Version) (p : Plan) (h : List Edge) (r : Row)
     b ≡ parts_of version p h r → IsAsked p h r pins e → e.wire ≡ x → is_of parts.Interrupter x ≡ true →
     answer ≡ ruling_on One (interrupter_local b.interrupter pins) x e.fall e.value →
     answer ≡ asked version p h e
-interrupter_ruled version p h r b pins e x answer same told wire own is =
+interrupter_ruled version p h r b pins e x answer same known wire own is =
     let has : b.interrupter ≡ interrupter_of r.slot r.interrupter (seen p h) = ap (λ (b : Board). b.interrupter) same in
     let P : InterrupterState → Type 0 = λ x. x ≡ interrupter_of x.slot x.row (seen p h) in
     let noted : b.interrupter ≡ interrupter_of b.interrupter.slot b.interrupter.row (seen p h) = subst P (sym has) refl in
     is
     ∙ interrupter_rules_over version b.interrupter (seen p h) pins e.driver e.wire x e.fall e.value noted wire own
     ∙ ap (λ (x : InterrupterState). ruling version (interrupter_over x.slot x.row (seen p h) pins) e) has
-    ∙ interrupter_asked version p h r pins e told (ap (is_of parts.Interrupter) wire ∙ own)
+    ∙ interrupter_asked version p h r pins e known (ap (is_of parts.Interrupter) wire ∙ own)
 
 -- it does not read its grant chain
 passed_alike : (i : InterrupterState) (lines : Pins) (grant iack : Bool) (shown : Option Cycle) →

@@ -32,12 +32,12 @@ use Rattle.vme_model.specs.Views.{pins}
 use Rattle.vme_model.proofs.Picks.{laws_of}
 use Rattle.vme_model.proofs.PinSets.{has_bus, has_irq}
 use Rattle.vme_model.proofs.Bools.{and_left, and_right}
-use Rattle.vme_requester.specs.Local.{told as requester_told, requester_readings, answer_over, guard_over}
-use Rattle.vme_master.specs.Local.{told as master_told, over as master_over}
+use Rattle.vme_requester.specs.Local.{own_lines as requester_lines, requester_readings, answer_over}
+use Rattle.vme_master.specs.Local.{own_lines as master_lines, over as master_over}
 use Rattle.vme_interrupter.specs.Local.{seen, served, interrupter_readings, over as interrupter_over}
 use Rattle.vme_interrupter.proofs.Seen.{edges_seen, served_seen}
 use Rattle.vme_arbiter.specs.Local.{over as controller_over}
-use Rattle.vme_histories.specs.Asked.{asked, asked_guard}
+use Rattle.vme_histories.specs.Asked.{asked}
 use Rattle.vme_wiring.specs.Asked.{IsAsked}
 
 -- two sets of lines that agree
@@ -80,10 +80,6 @@ by_same low fall a b e = ap (λ g. by_row low fall (answered g)) e
 asked_of : (version : Version) (p : Plan) (h : List Edge) (d : Driver) (e : Edge) → e.driver ≡ d → by_row (drive h d e.wire) e.fall (rule version (readings p h d) e.wire e.fall e.value) ≡ asked version p h e
 asked_of version p h d e same = ap (λ x. by_row (drive h x e.wire) e.fall (rule version (readings p h x) e.wire e.fall e.value)) (sym same)
 
--- the guard for an edge of that driver
-guard_of : (version : Version) (p : Plan) (h : List Edge) (d : Driver) (e : Edge) → e.driver ≡ d → (guard version (readings p h d) e.wire e.fall e.value).1 ≡ asked_guard version p h e
-guard_of version p h d e same = ap (λ x. (guard version (readings p h x) e.wire e.fall e.value).1) (sym same)
-
 twice_not : (a b : Bool) → (not (not (not a || b)) || (not a || b)) ≡ (not a || b)
 twice_not true true = refl
 twice_not true false = refl
@@ -119,7 +115,7 @@ requester_row version p h s q Bbsy false v e own =
     ∙ ap (λ k. row (is_free h s) k) (released p h s q e)
 requester_row version p h s q w f v e own = absurd (cc)
 
-requester_own : (p : Plan) (h : List Edge) (s : ℕ) (q : RequesterRow) (w : Wire) → is_of parts.Requester w ≡ true → requester_told (drive h (Slot s)) (is_free h s) w ≡ drive h (Slot s) w
+requester_own : (p : Plan) (h : List Edge) (s : ℕ) (q : RequesterRow) (w : Wire) → is_of parts.Requester w ≡ true → requester_lines (drive h (Slot s)) (is_free h s) w ≡ drive h (Slot s) w
 requester_own p h s q Br own = refl
 requester_own p h s q BgOut own = refl
 requester_own p h s q Bbsy own = refl
@@ -127,22 +123,13 @@ requester_own p h s q w own = absurd (cc)
 
 pub requester_asked : (version : Version) (p : Plan) (h : List Edge) (r : Row) (q : RequesterRow) (seen : Pins) (free : Bool) (e : Edge) → IsAsked p h r seen e → r.requester ≡ Some q → free ≡ is_free h r.slot → is_of parts.Requester e.wire ≡ true →
     answer_over r.slot q version h seen free e ≡ asked version p h e
-requester_asked version p h r q seen free e k has told own =
+requester_asked version p h r q seen free e k has known own =
     let s = r.slot in
     ap (λ (x : Pins). answer_over s q version h x free e) k.pins
-    ∙ ap (λ b. answer_over s q version h (pins p h (Slot s)) b e) told
+    ∙ ap (λ b. answer_over s q version h (pins p h (Slot s)) b e) known
     ∙ ap (λ b. by_row b e.fall (rule version (requester_sees p h s q) e.wire e.fall e.value)) (requester_own p h s q e.wire own)
     ∙ by_same (drive h (Slot s) e.wire) e.fall _ _ (requester_row version p h s q e.wire e.fall e.value (part_of_board p s r q k.row has) own)
     ∙ asked_of version p h (Slot s) e k.driver
-
-pub requester_guarded : (version : Version) (p : Plan) (h : List Edge) (r : Row) (q : RequesterRow) (seen : Pins) (free : Bool) (e : Edge) → IsAsked p h r seen e → r.requester ≡ Some q → free ≡ is_free h r.slot → is_of parts.Requester e.wire ≡ true →
-    guard_over r.slot q version h seen free e ≡ asked_guard version p h e
-requester_guarded version p h r q seen free e k has told own =
-    let s = r.slot in
-    ap (λ (x : Pins). guard_over s q version h x free e) k.pins
-    ∙ ap (λ b. guard_over s q version h (pins p h (Slot s)) b e) told
-    ∙ ap (λ g. g.1) (requester_row version p h s q e.wire e.fall e.value (part_of_board p s r q k.row has) own)
-    ∙ guard_of version p h (Slot s) e k.driver
 
 -- a master
 abbrev master_sees : Plan → List Edge → Row → RequesterRow → Readings
@@ -179,7 +166,7 @@ master_row version p h r q DataStrobe true v found e formed own = refl
 master_row version p h r q DataStrobe false v found e formed own = refl
 master_row version p h r q w f v found e formed own = absurd (cc)
 
-master_own : (h : List Edge) (s : ℕ) (w : Wire) → is_of parts.Master w ≡ true → master_told (drive h (Slot s)) (drive h (Slot s) Bbsy) w ≡ drive h (Slot s) w
+master_own : (h : List Edge) (s : ℕ) (w : Wire) → is_of parts.Master w ≡ true → master_lines (drive h (Slot s)) (drive h (Slot s) Bbsy) w ≡ drive h (Slot s) w
 master_own h s Addr own = refl
 master_own h s AddressStrobe own = refl
 master_own h s DataStrobe own = refl
@@ -190,22 +177,13 @@ value_of e formed = and_right (has_wire e.driver e.wire) (has_value e.wire e.fal
 
 pub master_asked : (version : Version) (p : Plan) (h : List Edge) (r : Row) (q : RequesterRow) (seen : Pins) (holds : Bool) (e : Edge) → IsAsked p h r seen e → r.requester ≡ Some q → holds ≡ drive h (Slot r.slot) Bbsy → is_of parts.Master e.wire ≡ true →
     ruling version (master_over r.slot q r.handler h seen holds) e ≡ asked version p h e
-master_asked version p h r q seen holds e k has told own =
+master_asked version p h r q seen holds e k has known own =
     let s = r.slot in
     ap (λ (x : Pins). ruling version (master_over s q r.handler h x holds) e) k.pins
-    ∙ ap (λ b. ruling version (master_over s q r.handler h (pins p h (Slot s)) b) e) told
+    ∙ ap (λ b. ruling version (master_over s q r.handler h (pins p h (Slot s)) b) e) known
     ∙ ap (λ b. by_row b e.fall (rule version (master_sees p h r q) e.wire e.fall e.value)) (master_own h s e.wire own)
     ∙ by_same (drive h (Slot s) e.wire) e.fall _ _ (master_row version p h r q e.wire e.fall e.value k.row (part_of_board p s r q k.row has) (value_of e k.formed) own)
     ∙ asked_of version p h (Slot s) e k.driver
-
-pub master_guarded : (version : Version) (p : Plan) (h : List Edge) (r : Row) (q : RequesterRow) (seen : Pins) (holds : Bool) (e : Edge) → IsAsked p h r seen e → r.requester ≡ Some q → holds ≡ drive h (Slot r.slot) Bbsy → is_of parts.Master e.wire ≡ true →
-    (guard version (master_over r.slot q r.handler h seen holds) e.wire e.fall e.value).1 ≡ asked_guard version p h e
-master_guarded version p h r q seen holds e k has told own =
-    let s = r.slot in
-    ap (λ (x : Pins). (guard version (master_over s q r.handler h x holds) e.wire e.fall e.value).1) k.pins
-    ∙ ap (λ b. (guard version (master_over s q r.handler h (pins p h (Slot s)) b) e.wire e.fall e.value).1) told
-    ∙ ap (λ g. g.1) (master_row version p h r q e.wire e.fall e.value k.row (part_of_board p s r q k.row has) (value_of e k.formed) own)
-    ∙ guard_of version p h (Slot s) e k.driver
 
 -- an interrupter
 abbrev interrupter_sees : Plan → List Edge → Row → Readings
@@ -249,13 +227,6 @@ interrupter_asked version p h r seen_pins e k own =
     ∙ by_same (drive h (Slot r.slot) e.wire) e.fall _ _ (interrupter_row version p h r e.wire e.fall e.value k.row own)
     ∙ asked_of version p h (Slot r.slot) e k.driver
 
-pub interrupter_guarded : (version : Version) (p : Plan) (h : List Edge) (r : Row) (seen_pins : Pins) (e : Edge) → IsAsked p h r seen_pins e → is_of parts.Interrupter e.wire ≡ true →
-    (guard version (interrupter_over r.slot r.interrupter (seen p h) seen_pins) e.wire e.fall e.value).1 ≡ asked_guard version p h e
-interrupter_guarded version p h r seen_pins e k own =
-    ap (λ (x : Readings). (guard version x e.wire e.fall e.value).1) (over_seen p h r seen_pins k.row k.pins)
-    ∙ ap (λ g. g.1) (interrupter_row version p h r e.wire e.fall e.value k.row own)
-    ∙ guard_of version p h (Slot r.slot) e k.driver
-
 -- the controller
 abbrev controller_sees : Plan → List Edge → Readings
 controller_sees p h = controller_over p.arbiter h (pins p h Controller)
@@ -287,8 +258,3 @@ pub controller_asked : (version : Version) (p : Plan) (h : List Edge) (e : Edge)
 controller_asked version p h e same formed =
     by_same (drive h Controller e.wire) e.fall _ _ (controller_row version p h e.wire e.fall e.value (controllers_wire e same formed))
     ∙ asked_of version p h Controller e same
-
-pub controller_guarded : (version : Version) (p : Plan) (h : List Edge) (e : Edge) → e.driver ≡ Controller → is_well_formed e ≡ true →
-    (guard version (controller_over p.arbiter h (pins p h Controller)) e.wire e.fall e.value).1 ≡ asked_guard version p h e
-controller_guarded version p h e same formed =
-    ap (λ g. g.1) (controller_row version p h e.wire e.fall e.value (controllers_wire e same formed)) ∙ guard_of version p h Controller e same

@@ -60,7 +60,7 @@ impl Wiring {
         ensures number { OfHistory self.now (λ version p h. result.0
             ≡ (settling_guard version p h edge.wire edge.fall).0) }
         ensures answer { OfHistory self.now (λ version p h.
-            A.tells result.1 (settling_guard version p h edge.wire edge.fall).1) }
+            A.reports result.1 (settling_guard version p h edge.wire edge.fall).1) }
     {
         match (edge.wire, edge.fall) {
             (Wire::AddressStrobe, true) => (1, as_settles(self.chains.is_acknowledge_clear())),

@@ -8,7 +8,7 @@
 use std::process::ExitCode;
 use std::sync::Wait;
 use std::thread::Threads;
-use vme_program::{WordsFault, given, obey, output, tell};
+use vme_program::{WordsFault, given, obey, output, report};
 
 /// Reads the words and obeys them.
 ///
@@ -19,13 +19,13 @@ fn start<R: Threads + Wait + Sync>(rt: &HostRuntime, threads: &R) -> Result<Exit
     let words: Vec<&str> = all.iter().map(String::as_str).collect(rt.alloc())?;
     match output(rt) {
         Ok(mut out) => Ok(obey(rt, threads, &words, &mut out)),
-        Err(fault) => Ok(tell(rt, fault)),
+        Err(fault) => Ok(report(rt, fault)),
     }
 }
 
 fn main(rt: HostRuntime) -> ExitCode {
     match start(&rt, &rt) {
         Ok(code) => code,
-        Err(fault) => tell(&rt, fault),
+        Err(fault) => report(&rt, fault),
     }
 }

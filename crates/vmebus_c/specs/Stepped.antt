@@ -4,7 +4,7 @@ use Rattle.vme_model.specs.declared.signals.Version.{Version}
 use Rattle.vme_model.specs.declared.signals.Edge.{Edge}
 use Rattle.vme_model.specs.Plan.{Plan}
 use Rattle.vme_bus.specs.Steps.{answer_but_full, kept_but_full}
-use Rattle.vmebus_c.specs.Told.{answer_number, delivered_number}
+use Rattle.vmebus_c.specs.Numbers.{answer_number, delivered_number}
 
 -- the answer if the numbers name no edge: it is E1, as no driver has such an edge
 abbrev pub no_driver : ℕ
@@ -24,9 +24,9 @@ answered_or none version p h (Some e) = answer_number (answer_but_full version p
 answered_or none version p h None = none
 
 -- what is reported as delivered
-abbrev pub told_delivery : Version → Plan → List Edge → Option Edge → ℕ
-told_delivery version p h (Some e) = delivered_number (answer_but_full version p h e)
-told_delivery version p h None = 0
+abbrev pub delivery_of_edge : Version → Plan → List Edge → Option Edge → ℕ
+delivery_of_edge version p h (Some e) = delivered_number (answer_but_full version p h e)
+delivery_of_edge version p h None = 0
 
 -- the history with the edge if it is accepted, and otherwise as it was
 abbrev pub followed : Version → Plan → List Edge → Option Edge → List Edge

@@ -5,7 +5,7 @@ ghost use Rattle.vmebus_c.specs.Bits.{bit, request_bits, line_bits, interrupt_bi
 use vme_model::{BusLevels, Cycle, Levels, Pins};
 
 /// What a line adds to the bits: the value of its bit if it is low, and 0 otherwise.
-fn bit(low: bool, value: u32) -> u32
+pub(crate) fn bit(low: bool, value: u32) -> u32
     ensures value { result ≡ bit low value }
     ensures small { result ≤ value }
 {
@@ -48,7 +48,7 @@ fn interrupt_bits(levels: Levels) -> u32
 }
 
 /// What is shown, as the number that C uses for it, 0 to 63.
-fn shown_number(shown: Option<Cycle>) -> u32
+pub(crate) fn shown_number(shown: Option<Cycle>) -> u32
     ensures number { result ≡ shown_number shown }
     ensures small { result < 64 }
 {

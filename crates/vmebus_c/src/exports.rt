@@ -2,34 +2,64 @@
 //!
 //! No function has a condition on its arguments: each argument is tested, and any value has an
 //! answer.
-ghost use Rattle.std.specs.Prelude.{◌≡◌, ◌≢◌, ◌<◌, false, option_map, unwrap_or};
+ghost use Rattle.std.specs.Prelude.{◌≡◌, ◌≢◌, ◌<◌, false, true, length, option_map, unwrap_or};
+ghost use Rattle.vme_model.specs.History.{drive};
+ghost use Rattle.vme_model.specs.Plan.{has_driver};
 ghost use Rattle.vme_model.specs.Signals.{is_slot};
 ghost use Rattle.vme_model.specs.declared.signals.Driver.TheVariants.{Controller};
 ghost use Rattle.vme_model.specs.Stands.{holder, grant_at};
 ghost use Rattle.vme_model.specs.Text.{edge_of};
 ghost use Rattle.vme_model.specs.Views.{pins};
 ghost use Rattle.vme_bus.specs.States.{IsStateOf, OfHistory};
+ghost use Rattle.vmebus_c.specs.Asked.{asked_of, failed_numbers, open_numbers, spelled, why_text};
 ghost use Rattle.vmebus_c.specs.Bits.{pins_number};
-ghost use Rattle.vmebus_c.specs.Named.{version_of_number, driver_of_number, edge_of_numbers};
+ghost use Rattle.vmebus_c.specs.Built.{build_numbers};
+ghost use Rattle.vmebus_c.specs.Named.{version_of_number, driver_of_number, edge_of_numbers, wire_of_number};
 ghost use Rattle.vmebus_c.specs.Opened.{IsOpened, IsFault};
-ghost use Rattle.vmebus_c.specs.Stepped.{answered_or, told_delivery, followed, no_bus, no_driver, no_edge};
+ghost use Rattle.vme_seeds.specs.declared.kinds.Kind.{Kind as KindOf};
+ghost use Rattle.vme_seeds.specs.Choices.{weight};
+ghost use Rattle.vme_seeds.specs.Draws.{IsCountedIn, is_seeded, made_of, numbers_of, weight_of};
+ghost use Rattle.vme_seeds.specs.Kinds.{has_board};
+ghost use Rattle.vme_seeds.specs.Numbers.{after_words, generator};
+ghost use Rattle.vmebus_c.specs.Played.{drawn_answer, drawn_edge, drawn_number};
+ghost use Rattle.vmebus_c.specs.Rooms.{written, written_whole};
+ghost use Rattle.vmebus_c.specs.Stepped.{answered_or, delivery_of_edge, followed, no_bus, no_driver, no_edge};
 
+use crate::asked::{failed_numbers, open_numbers, spelled, why_text};
 use crate::bits::pins_number;
-use crate::named::{driver_of, edge_of_numbers, version_of};
+use crate::named::{driver_of, edge_of_numbers, version_of, wire_of};
+use crate::numbers::{delivery_number, edge_number, refusal_number};
 use crate::opens::{NO_VERSION, plan_of};
-use crate::told::{delivery_number, refusal_number};
+use crate::played::draw;
+use crate::rooms::{write, write_whole};
 use std::alloc::Global;
 use vme_bus::BusState;
+use vme_histories::Judges;
 use vme_model::{Driver, Edge};
+use vme_seeds::Draws;
 use vme_trace::edge_of;
 
 /// How many 32-bit words of C a bus has, as its header says.
-const WORDS: usize = 165;
+const WORDS: u32 = 165;
 
-const _: () = prove!(size_of::<BusState>() == 4 * WORDS);
+const _: () = prove!(size_of::<BusState>() == 4 * WORDS as usize);
+
+/// How many 32-bit words of C draws have.
+const DRAWS_WORDS: u32 = 37;
+
+const _: () = prove!(size_of::<Draws>() == 4 * DRAWS_WORDS as usize);
+
+/// The version of the library, 1.0.0, a byte for each number. It is that of the program.
+const VERSION: u32 = 0x1_0000;
 
 /// The answer if the record is not a bus.
 const NO_BUS: u32 = 0xffff_ffff;
+
+/// The answer if draws are those of no seed.
+const NO_SEED: u32 = NO_BUS;
+
+/// The answer if nothing is drawn, since no edge is open.
+const NONE_OPEN: u32 = 1;
 
 /// E1: no driver has such an edge.
 const NO_DRIVER: u32 = 0x100;
@@ -73,7 +103,7 @@ fn step(bus: &mut BusState, edge: Option<Edge>, none: u32, delivered: &mut u32) 
     ensures answer { OfHistory bus.old (λ version p h.
         result ≡ answered_or none version p h edge) }
     ensures delivered { OfHistory bus.old (λ version p h.
-        delivered.new ≡ told_delivery version p h edge) }
+        delivered.new ≡ delivery_of_edge version p h edge) }
     ensures state { OfHistory bus.old (λ version p h.
         IsStateOf version p (followed version p h edge) bus.new) }
     ensures unchanged { result ≢ 0 → bus.new ≡ bus.old }
@@ -123,7 +153,7 @@ pub extern "C" fn vmebus_step(
     ensures answer { OfHistory bus.old (λ version p h. result
         ≡ answered_or no_driver version p h (edge_of_numbers driver wire fall value)) }
     ensures delivered { OfHistory bus.old (λ version p h. delivered.new
-        ≡ told_delivery version p h (edge_of_numbers driver wire fall value)) }
+        ≡ delivery_of_edge version p h (edge_of_numbers driver wire fall value)) }
     ensures state { OfHistory bus.old (λ version p h. IsStateOf version p
         (followed version p h (edge_of_numbers driver wire fall value)) bus.new) }
     ensures unchanged { result ≢ 0 → bus.new ≡ bus.old }
@@ -143,7 +173,7 @@ pub extern "C" fn vmebus_line(bus: &mut BusState, line: &[u8], delivered: &mut u
     ensures answer { OfHistory bus.old (λ version p h. result
         ≡ answered_or no_edge version p h (edge_of line.now)) }
     ensures delivered { OfHistory bus.old (λ version p h. delivered.new
-        ≡ told_delivery version p h (edge_of line.now)) }
+        ≡ delivery_of_edge version p h (edge_of line.now)) }
     ensures state { OfHistory bus.old (λ version p h. IsStateOf version p
         (followed version p h (edge_of line.now)) bus.new) }
     ensures unchanged { result ≢ 0 → bus.new ≡ bus.old }
@@ -197,4 +227,213 @@ pub extern "C" fn vmebus_pins(bus: &BusState, driver: u32) -> u32
     } else {
         0
     }
+}
+
+/// Writes the numbers of the conditions that an edge fails, in the order in which `explain` prints
+/// them, and returns how many there are: at most 5, and 0 if the edge would be accepted.
+///
+/// The conditions are those of the first of E1 to E4 that applies. A condition's number is its
+/// place among those of the header, from 0. The edge is named as for `vmebus_step`; numbers that
+/// name no edge fail the one condition of E1. If there is less room, the first of the numbers are
+/// written. On a record that is not a bus nothing is written, and 0 returned.
+#[unsafe(no_mangle)]
+pub extern "C" fn vmebus_failing(
+    bus: &BusState,
+    driver: u32,
+    wire: u32,
+    fall: u32,
+    value: u32,
+    conditions: &mut [u32],
+) -> u32
+    ensures count { OfHistory bus.now (λ version p h. result
+        ≡ length (failed_numbers version p h (edge_of_numbers driver wire fall value))) }
+    ensures conditions { OfHistory bus.now (λ version p h. conditions.new ≡ written conditions.old
+        (failed_numbers version p h (edge_of_numbers driver wire fall value))) }
+    ensures no_bus { is_slot bus.now.layout.slots ≡ false → result ≡ 0 }
+    ensures unwritten { is_slot bus.now.layout.slots ≡ false → conditions.new ≡ conditions.old }
+{
+    if !bus.is_bus() {
+        return 0;
+    }
+    let numbers = failed_numbers(bus, edge_of_numbers(driver, wire, fall, value));
+    write(conditions, numbers.as_slice());
+    numbers.len() as u32
+}
+
+/// Writes the text of a condition that an edge fails, as `explain` prints it, with ` (profile)`
+/// behind what is not the standard's. The condition is that of a place, from 0, among those of
+/// `vmebus_failing`.
+///
+/// It returns how many bytes the text has, at most 58; it writes nothing if there is less room. It
+/// returns 0 if fewer conditions fail, if no backplane has the edge, or if the record is not a bus.
+#[unsafe(no_mangle)]
+pub extern "C" fn vmebus_why(
+    bus: &BusState,
+    driver: u32,
+    wire: u32,
+    fall: u32,
+    value: u32,
+    place: u32,
+    text: &mut [u8],
+) -> u32
+    ensures count { OfHistory bus.now (λ version p h. result
+        ≡ length (why_text version p h (edge_of_numbers driver wire fall value) place)) }
+    ensures text { OfHistory bus.now (λ version p h. text.new ≡ written_whole text.old
+        (why_text version p h (edge_of_numbers driver wire fall value) place)) }
+    ensures no_bus { is_slot bus.now.layout.slots ≡ false → result ≡ 0 }
+    ensures unwritten { is_slot bus.now.layout.slots ≡ false → text.new ≡ text.old }
+{
+    if !bus.is_bus() {
+        return 0;
+    }
+    let line = why_text(bus, edge_of_numbers(driver, wire, fall, value), place);
+    write_whole(text, line.as_slice());
+    line.len() as u32
+}
+
+/// Writes the line of an edge, as in a trace, without its line feed. The edge is named as for
+/// `vmebus_step`.
+///
+/// It returns how many bytes the line has, at most 12; it writes nothing if there is less room. It
+/// returns 0 if no backplane has the edge.
+#[unsafe(no_mangle)]
+pub extern "C" fn vmebus_spell(
+    driver: u32,
+    wire: u32,
+    fall: u32,
+    value: u32,
+    line: &mut [u8],
+) -> u32
+    ensures count { result ≡ length (spelled (edge_of_numbers driver wire fall value)) }
+    ensures line { line.new
+        ≡ written_whole line.old (spelled (edge_of_numbers driver wire fall value)) }
+{
+    let spelling = spelled(edge_of_numbers(driver, wire, fall, value));
+    write_whole(line, spelling.as_slice());
+    spelling.len() as u32
+}
+
+/// Writes all edges that a driver can make now, in the order in which `state` prints them, and
+/// returns how many there are: at most 36. `driver` is 0 for the controller, or the slot.
+///
+/// An edge is one word: driver << 24 | wire << 16 | fall << 8 | value, with the numbers of
+/// `vmebus_step`. If there is less room, the first of them are written. A driver that does not
+/// exist has none. On a record that is not a bus nothing is written, and 0 returned.
+#[unsafe(no_mangle)]
+pub extern "C" fn vmebus_open_edges(bus: &BusState, driver: u32, edges: &mut [u32]) -> u32
+    ensures count { OfHistory bus.now (λ version p h. result
+        ≡ length (open_numbers version p h (driver_of_number driver))) }
+    ensures edges { OfHistory bus.now (λ version p h. edges.new
+        ≡ written edges.old (open_numbers version p h (driver_of_number driver))) }
+    ensures no_bus { is_slot bus.now.layout.slots ≡ false → result ≡ 0 }
+    ensures unwritten { is_slot bus.now.layout.slots ≡ false → edges.new ≡ edges.old }
+{
+    if !bus.is_bus() {
+        return 0;
+    }
+    let numbers = open_numbers(bus, driver_of(driver));
+    write(edges, numbers.as_slice());
+    numbers.len() as u32
+}
+
+/// 1 if a driver drives a wire low, or has its address group on, and otherwise 0. It is 0 for a
+/// wire that the driver lacks, and if the record is not a bus.
+#[unsafe(no_mangle)]
+pub extern "C" fn vmebus_low(bus: &BusState, driver: u32, wire: u32) -> u32
+    ensures low { OfHistory bus.now (λ _ _ h. result
+        ≡ asked_of (drive h) (driver_of_number driver) (wire_of_number wire)) }
+    ensures no_bus { is_slot bus.now.layout.slots ≡ false → result ≡ 0 }
+{
+    match (driver_of(driver), wire_of(wire)) {
+        (Some(driver), Some(wire)) if bus.is_bus() => u32::from(bus.is_low(driver, wire)),
+        _ => 0,
+    }
+}
+
+/// 1 if the backplane has a driver with such a wire, and otherwise 0; it is 0, too, if the record
+/// is not a bus.
+#[unsafe(no_mangle)]
+pub extern "C" fn vmebus_has(bus: &BusState, driver: u32, wire: u32) -> u32
+    ensures has { OfHistory bus.now (λ _ p _. result
+        ≡ asked_of (has_driver p) (driver_of_number driver) (wire_of_number wire)) }
+    ensures no_bus { is_slot bus.now.layout.slots ≡ false → result ≡ 0 }
+{
+    match (driver_of(driver), wire_of(wire)) {
+        (Some(driver), Some(wire)) if bus.is_bus() => u32::from(bus.has_driver(driver, wire)),
+        _ => 0,
+    }
+}
+
+/// Makes the draws of a seed: by it `drive --seed` draws the same numbers and weights. No edge was
+/// drawn yet.
+#[unsafe(no_mangle)]
+pub extern "C" fn vmebus_draws(draws: &mut Draws, seed: u64)
+    ensures numbers { numbers_of draws.new ≡ after_words 28 (generator seed) }
+    ensures weights { (k : KindOf) → weight_of draws.new k ≡ weight (generator seed) k }
+    ensures made { (k : KindOf) → made_of draws.new k ≡ 0 }
+{
+    *draws = Draws::new(seed);
+}
+
+/// Draws the next edge among all open edges of the wires that the library plays, and counts it. The
+/// bus is not stepped.
+///
+/// `wires` are 22 masks, for the controller and for each slot: the bit of a wire's number is set if
+/// the library plays it; a mask that is missing is 0. The edge is one word, as `vmebus_open_edges`
+/// writes it.
+///
+/// It returns 0 if an edge was drawn, and 1 if none of the wires has an open edge; `edge` becomes 0
+/// then, and two numbers are drawn all the same. It returns 0xffffffff, and changes nothing but
+/// `edge`, if the record is not a bus, or if `draws` are those of no seed, such as zeros. Draws of
+/// a seed that are drawn on all wires, and a bus that is stepped with each edge, make the trace of
+/// `drive --seed`.
+#[unsafe(no_mangle)]
+pub extern "C" fn vmebus_draw(
+    bus: &BusState,
+    draws: &mut Draws,
+    wires: &[u32],
+    edge: &mut u32,
+) -> u32
+    ensures answer { is_seeded draws.old ≡ true
+        → OfHistory bus.now (λ version p h. result
+        ≡ drawn_answer (drawn_edge version p h wires.now draws.old)) }
+    ensures edge { is_seeded draws.old ≡ true
+        → OfHistory bus.now (λ version p h. edge.new
+        ≡ drawn_number (drawn_edge version p h wires.now draws.old)) }
+    ensures numbers { is_seeded draws.old ≡ true → OfHistory bus.now (λ _ _ _.
+        numbers_of draws.new ≡ after_words 2 (numbers_of draws.old)) }
+    ensures weights { draws.new.weights ≡ draws.old.weights }
+    ensures counts { is_seeded draws.old ≡ true → OfHistory bus.now (λ version p h.
+        IsCountedIn (has_board p) (drawn_edge version p h wires.now draws.old)
+        draws.old draws.new) }
+    ensures no_bus { is_slot bus.now.layout.slots ≡ false → result ≡ no_bus }
+    ensures no_seed { is_seeded draws.old ≡ false → result ≡ no_bus }
+    ensures unchanged { result ≡ no_bus → draws.new ≡ draws.old }
+{
+    *edge = 0;
+    if !bus.is_bus() {
+        return NO_BUS;
+    }
+    if !draws.is_seeded() {
+        return NO_SEED;
+    }
+    match draw(bus, draws, wires) {
+        Some(drawn) => {
+            *edge = edge_number(&drawn);
+            0
+        }
+        None => NONE_OPEN,
+    }
+}
+
+/// Writes what the build is, and returns how many numbers that are, 3: the version of the library,
+/// 0x10000 for 1.0.0, and how many words a bus and draws have. If there is less room, the first of
+/// them are written. A program compares them with those of its header.
+#[unsafe(no_mangle)]
+pub extern "C" fn vmebus_build(numbers: &mut [u32]) -> u32
+    ensures count { result ≡ length build_numbers }
+    ensures numbers { numbers.new ≡ written numbers.old build_numbers }
+{
+    write(numbers, &[VERSION, WORDS, DRAWS_WORDS]);
+    3
 }

@@ -2,8 +2,12 @@
 //! time on it.
 #![tactic(auto)]
 
+mod asked;
 mod bits;
 mod exports;
+pub mod laws;
 mod named;
+mod numbers;
 mod opens;
-mod told;
+mod played;
+mod rooms;

@@ -45,7 +45,7 @@ pub(crate) fn driver_of(number: u32) -> Option<Driver>
 }
 
 /// The wire, by its place among all wires, 0 to 15.
-fn wire_of(number: u32) -> Option<Wire>
+pub(crate) fn wire_of(number: u32) -> Option<Wire>
     ensures { result ≡ wire_of_number number }
 {
     let wire = match number {

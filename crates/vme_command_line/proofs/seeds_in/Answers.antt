@@ -1,5 +1,6 @@
 use Rattle.std.proofs.Common.{rules, ◌<◌}
-use Rattle.vme_command_line.specs.Asked.{IsSeed, NamesNoSeeds}
+use Rattle.vme_command_line.specs.Asked.{NamesNoSeeds}
+use Rattle.vme_command_line.specs.Numbers.{IsSeed}
 use Rattle.vme_command_line.proofs.Parting.{IsParted, no_first, no_last, turned, unparted}
 use Rattle.vme_command_line.proofs.seeds_in.Goals as goal
 

@@ -2,7 +2,7 @@ use Rattle.std.proofs.Common.{true, refl, codes}
 use Rattle.std.proofs.lemmas.Result.{IfOk-weaker}
 use Rattle.clap.specs.Words.{App, new_app, with_subcommand}
 use Rattle.clap.specs.Simple.{on_top}
-use Rattle.vme_command_line.specs.Commands.{check, drive, explain, replay, run, show, state, summary}
+use Rattle.vme_command_line.specs.Commands.{check, cycles, drive, explain, order, replay, rule, run, show, shrink, state, summary}
 use Rattle.vme_command_line.proofs.commands.commands.Goals as goal
 
 abbrev bare : App
@@ -11,19 +11,26 @@ bare = on_top (λ s. record s { no_binary_name = true; has_version = true }) (ne
 abbrev judging : App
 judging = with_subcommand (with_subcommand bare replay) check
 
-abbrev telling : App
-telling = with_subcommand (with_subcommand judging explain) state
+abbrev ruling : App
+ruling = with_subcommand (with_subcommand (with_subcommand judging explain) shrink) rule
+
+abbrev showing : App
+showing = with_subcommand (with_subcommand ruling state) show
 
 abbrev counting : App
-counting = with_subcommand (with_subcommand telling show) summary
+counting = with_subcommand (with_subcommand showing cycles) summary
 
 pub returns : goal.returns
 returns c =
     let one = IfOk-weaker c.offering-program.result _ _ (λ made adds. adds bare replay c.program.ensures c.replay.ensures refl) c.offering-program.ensures in
     let two = IfOk-weaker c.offering-program-2.result _ _ (λ made adds. adds (with_subcommand bare replay) check one c.check.ensures refl) c.offering-program-2.ensures in
     let three = IfOk-weaker c.offering-program-3.result _ _ (λ made adds. adds judging explain two c.explain.ensures refl) c.offering-program-3.ensures in
-    let four = IfOk-weaker c.offering-program-4.result _ _ (λ made adds. adds (with_subcommand judging explain) state three c.state.ensures refl) c.offering-program-4.ensures in
-    let five = IfOk-weaker c.offering-program-5.result _ _ (λ made adds. adds telling show four c.show.ensures refl) c.offering-program-5.ensures in
-    let six = IfOk-weaker c.offering-program-6.result _ _ (λ made adds. adds (with_subcommand telling show) summary five c.summary.ensures refl) c.offering-program-6.ensures in
-    let seven = IfOk-weaker c.offering-program-7.result _ _ (λ made adds. adds counting drive six c.drive.ensures refl) c.offering-program-7.ensures in
-    IfOk-weaker c.offering.result _ _ (λ made adds. adds (with_subcommand counting drive) run seven c.run.ensures refl) c.offering.ensures
+    let four = IfOk-weaker c.offering-program-4.result _ _ (λ made adds. adds (with_subcommand judging explain) shrink three c.shrink.ensures refl) c.offering-program-4.ensures in
+    let five = IfOk-weaker c.offering-program-5.result _ _ (λ made adds. adds (with_subcommand (with_subcommand judging explain) shrink) rule four c.rule.ensures refl) c.offering-program-5.ensures in
+    let six = IfOk-weaker c.offering-program-6.result _ _ (λ made adds. adds ruling state five c.state.ensures refl) c.offering-program-6.ensures in
+    let seven = IfOk-weaker c.offering-program-7.result _ _ (λ made adds. adds (with_subcommand ruling state) show six c.show.ensures refl) c.offering-program-7.ensures in
+    let eight = IfOk-weaker c.offering-program-8.result _ _ (λ made adds. adds showing cycles seven c.cycles.ensures refl) c.offering-program-8.ensures in
+    let nine = IfOk-weaker c.offering-program-9.result _ _ (λ made adds. adds (with_subcommand showing cycles) summary eight c.summary.ensures refl) c.offering-program-9.ensures in
+    let ten = IfOk-weaker c.offering-program-10.result _ _ (λ made adds. adds counting order nine c.order.ensures refl) c.offering-program-10.ensures in
+    let eleven = IfOk-weaker c.offering-program-11.result _ _ (λ made adds. adds (with_subcommand counting order) drive ten c.drive.ensures refl) c.offering-program-11.ensures in
+    IfOk-weaker c.offering.result _ _ (λ made adds. adds (with_subcommand (with_subcommand counting order) drive) run eleven c.run.ensures refl) c.offering.ensures

@@ -1,19 +1,14 @@
-use Rattle.std.proofs.Common.{inl}
-use Rattle.vme_engines.proofs.CheckPieces.{nothing_found}
+use Rattle.std.proofs.lemmas.Result.{err_from_is_err_and}
+use Rattle.std.proofs.KnownBytes.{Keeps-refl}
+use Rattle.vme_engines.proofs.CheckPieces.{check_done, check_unfound}
 use Rattle.vme_engines.proofs.checks.check.Goals as goal
 
-pub returns-in-Err : goal.returns-in-Err
-returns-in-Err g c = (
-  c.in_ok-plan.plan,
-  c.in_ok-plan.ensures.ok.0,
-  c.in_ok-plan.ensures.ok.1,
-  (
-    c.in-Err.ensures.finds.0,
-    c.in-Err.ensures.finds.1,
-    inl (
-      nothing_found c.in_ok-plan.plan c.in-Err.ensures.finds.0 (g.R.Read.remaining c.args.trace.now) (g.R.Read.remaining c.find.new.trace) (g.W.Write.contents c.args.out.now) (g.W.Write.contents c.find.new.out)
-          c.in-Err.fault c.in-Err.ensures.finds.2,
-      c.in-Err.ensures.kept,
-    ),
-  ),
-)
+pub returns-in_err-finding : goal.returns-in_err-finding
+returns-in_err-finding g c =
+    let e = err_from_is_err_and c.from_residual.result c.from_residual.ensures.1 in
+    rw (e.1, e.2)
+    (check_unfound c.args.scenario.now (g.R.Read.remaining c.args.trace.now) (g.R.Read.remaining c.finding_of.new.trace) (g.W.Write.contents c.args.out.now) (g.W.Write.contents c.args.out.now) c.in_err-finding.field-0.0 (Keeps-refl _) c.in_err-finding.ensures)
+
+pub returns-in-Ok : goal.returns-in-Ok
+returns-in-Ok g c =
+    check_done c.args.scenario.now (g.R.Read.remaining c.args.trace.now) (g.R.Read.remaining c.finding_of.new.trace) (g.W.Write.contents c.args.out.now) (g.W.Write.contents c.report.new.out) c.in_ok-finding.finding _ c.in_ok-finding.ensures c.in-Ok.ensures.status c.in-Ok.ensures.ok

@@ -4,6 +4,7 @@ use Rattle.std.proofs.KnownBytes.{Keeps-refl}
 use Rattle.vme_model.specs.Text.{header}
 use Rattle.std.specs.Io.KnownBytes.{Keeps}
 use Rattle.vme_engines.specs.Streams.{streams}
+use Rattle.vme_engines.specs.declared.LineForm.TheVariants.{Short}
 use Rattle.vme_engines.specs.Outcomes.{Replays}
 use Rattle.vme_engines.specs.Steps.{IsNoPlan}
 use Rattle.vme_engines.proofs.FirstReads.{no_plan_asking}
@@ -17,7 +18,7 @@ returns-in_err-plan g c =
     let refused = subst (λ (t : List ℕ). IsNoPlan t c.in_err-plan.field-0.0) c.deref.ensures.value c.in_err-plan.ensures.fault in (
       c.args.rest.now ++ unwrap_or (g.R.Read.remaining c.args.input.now) [],
       input_behind c.args.version from _ before c.args.rest.now taken,
-      rw (e.1, e.2) (no_plan_asking before (Keeps (g.W.Write.contents c.args.out.now) (g.W.Write.contents c.args.out.now)) (λ p r. Replays p before ((header c.args.version ++ 10 ∷ []) ++ (c.args.rest.now ++ unwrap_or (g.R.Read.remaining c.args.input.now) [])) (streams from (g.R.Read.remaining c.args.input.now) (g.W.Write.contents c.args.out.now) (g.W.Write.contents c.args.out.now)) r) c.in_err-plan.field-0.0 (no_plan_of before c.into_text-text.result.items c.in_err-plan.field-0.0 (c.into_text-text.ensures before c.args.version held) refused) (Keeps-refl _)),
+      rw (e.1, e.2) (no_plan_asking before (Keeps (g.W.Write.contents c.args.out.now) (g.W.Write.contents c.args.out.now)) (λ p r. Replays Short p before ((header c.args.version ++ 10 ∷ []) ++ (c.args.rest.now ++ unwrap_or (g.R.Read.remaining c.args.input.now) [])) (streams from (g.R.Read.remaining c.args.input.now) (g.W.Write.contents c.args.out.now) (g.W.Write.contents c.args.out.now)) r) c.in_err-plan.field-0.0 (no_plan_of before c.into_text-text.result.items c.in_err-plan.field-0.0 (c.into_text-text.ensures before c.args.version held) refused) (Keeps-refl _)),
     )
 
 pub returns-in_err-buffer : goal.returns-in_err-buffer

@@ -4,7 +4,7 @@ use Rattle.vme_model.specs.declared.boards.RequesterRow.{RequesterRow}
 use Rattle.vme_model.specs.declared.signals.Driver.TheVariants.{Slot}
 use Rattle.vme_model.specs.declared.signals.Edge.{Edge}
 use Rattle.vme_model.specs.History.{cycles}
-use Rattle.vme_explain.proofs.Told.{cycles_within}
+use Rattle.vme_explain.proofs.Witnessed.{cycles_within}
 use Rattle.vme_events.specs.Events.{is_filled}
 use Rattle.vme_events.proofs.before.fills_burst.Goals as goal
 

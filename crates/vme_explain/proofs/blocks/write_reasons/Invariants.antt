@@ -7,4 +7,4 @@ use Rattle.vme_explain.proofs.blocks.write_reasons.Given as goal
 abbrev pub invariant-loop-tested : goal.invariant-loop-tested
 invariant-loop-tested g l =
     OfTrace l.fn.bus l.fn.marks
-    (λ k. WroteTo (λ t. reason_lines l.fn.bus l.fn.edge (reason l.fn.bus k l.fn.edge t)) l.told (g.W.Write.contents l.fn.out) (g.W.Write.contents l.out) l.tested-index)
+    (λ k. WroteTo (λ t. reason_lines l.fn.bus l.fn.edge (reason l.fn.bus k l.fn.edge t)) l.witnesses (g.W.Write.contents l.fn.out) (g.W.Write.contents l.out) l.tested-index)

@@ -4,7 +4,7 @@ use Rattle.vme_model.specs.declared.boards.Row.{Row}
 use Rattle.vme_model.specs.declared.signals.Wire.TheVariants.{Irq}
 use Rattle.vme_model.specs.Plan.{board_of, interrupts_on}
 use Rattle.vme_model.specs.History.{drive}
-use Rattle.vme_explain.proofs.Told.{and_so}
+use Rattle.vme_explain.proofs.Witnessed.{and_so}
 use Rattle.vme_explain.proofs.lines.asks_at.Goals as goal
 
 pub returns-then-interrupts_on-clause-asks : goal.returns-then-interrupts_on-clause-asks

@@ -4,7 +4,7 @@ use Rattle.vme_model.specs.declared.witnesses.Witness.TheVariants as witness
 use Rattle.vme_model.specs.Sets.{bus_levels}
 use Rattle.vme_model.specs.Plan.{Plan}
 use Rattle.vme_model.specs.History.{last_level, request_line}
-use Rattle.vme_explain.proofs.Told.{pick_told}
+use Rattle.vme_explain.proofs.Witnessed.{pick_witness}
 use Rattle.vme_explain.proofs.lines.picked.Goals as goal
 
 pub returns : goal.returns
@@ -14,4 +14,4 @@ returns c =
     let requests : c.pins.result.requests ≡ bus_levels (request_line b.plan b.history) = ap (λ (x : Pins). x.requests) c.pins.ensures in
     let kind : c.from-policy.result.kind ≡ b.plan.arbiter = c.from-policy.ensures ∙ c.arbiter.ensures ∙ ap (λ (p : Plan). p.arbiter) c.plan.ensures in
     ap (λ (x : Option ℕ). witness.Picks x)
-    (pick_told c.from-policy.result.kind b.plan b.history c.pins.result.requests c.last_level.result c.pick.result c.pick.ensures kind requests level)
+    (pick_witness c.from-policy.result.kind b.plan b.history c.pins.result.requests c.last_level.result c.pick.result c.pick.ensures kind requests level)

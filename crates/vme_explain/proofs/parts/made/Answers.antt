@@ -2,7 +2,7 @@ use Rattle.std.proofs.Common.{◌∙◌, ap, sym, subst, ◌<◌, ◌≤◌, ◌
 use Rattle.vme_model.specs.declared.signals.Driver.TheVariants.{Slot}
 use Rattle.vme_model.specs.declared.signals.Edge.{Edge}
 use Rattle.vme_model.specs.History.{cycles}
-use Rattle.vme_explain.proofs.Told.{cycles_within}
+use Rattle.vme_explain.proofs.Witnessed.{cycles_within}
 use Rattle.vme_explain.proofs.OnPlan.{below_22}
 use Rattle.vme_explain.proofs.parts.made.Goals as goal
 

@@ -6,9 +6,9 @@ use Rattle.vme_program.proofs.jobs.run_sums.Goals as goal
 
 pub returns-clause-done : goal.returns-clause-done
 returns-clause-done g c =
-    rw c.told.ensures
-    (sums_done _ c.args.scenario c.in_ok-text.text.items (length c.args.traces.items) c.in_ok-sums.sums (g.W.Write.contents c.args.out.now) (g.W.Write.contents c.tell_sums.new.out) c.tell_sums.result
-    (rw (c.deref.ensures.value, c.deref-2.ensures.value) at c.in_ok-sums.ensures) (rw c.deref-3.ensures.value at c.tell_sums.ensures))
+    rw c.answer_of.ensures
+    (sums_done _ c.args.scenario c.in_ok-text.text.items (length c.args.traces.items) c.in_ok-sums.sums (g.W.Write.contents c.args.out.now) (g.W.Write.contents c.print_sums.new.out) c.print_sums.result
+    (rw (c.deref.ensures.value, c.deref-2.ensures.value) at c.in_ok-sums.ensures) (rw c.deref-3.ensures.value at c.print_sums.ensures))
 
 pub returns-in_err-sums-clause-fault : goal.returns-in_err-sums-clause-fault
 returns-in_err-sums-clause-fault g c =

@@ -17,14 +17,14 @@ loop-below-preserved c =
         | then-passed-from-eq0 w ↦
             let is : get_or passed (n + 1) 0 ≡ 0 = search rules in
             let none : (get_or passed (n + 1) 0 == 0) ≡ true = ap (λ m. m == 0) is in
-            let told = ap (λ l. l.items) w.words-is ∙ w.push_byte.ensures.items ∙ ap (λ l. l ++ decimal (n + 1)) w.push.ensures.items ∙ append_assoc old (codes " G") (decimal (n + 1)) in
-            word_more (λ k. codes " G" ++ decimal k) (λ k. get_or passed k 0 == 0) (up_to n) (n + 1) old c.if-passed-from-eq0.words.items true none c.loop-below.invariant.words told
+            let known = ap (λ l. l.items) w.words-is ∙ w.push_byte.ensures.items ∙ ap (λ l. l ++ decimal (n + 1)) w.push.ensures.items ∙ append_assoc old (codes " G") (decimal (n + 1)) in
+            word_more (λ k. codes " G" ++ decimal k) (λ k. get_or passed k 0 == 0) (up_to n) (n + 1) old c.if-passed-from-eq0.words.items true none c.loop-below.invariant.words known
             ∙ ap (λ l. flat_map (λ k. codes " G" ++ decimal k) (filter (λ k. get_or passed k 0 == 0) l)) (up_to_more n)
         | else-passed-from-eq0 w ↦
             let other : get_or passed (n + 1) 0 ≢ 0 = search rules in
             let some : (get_or passed (n + 1) 0 == 0) ≡ false = ne_eqb (get_or passed (n + 1) 0) 0 other in
-            let told = ap (λ l. l.items) w.words-is ∙ sym (append-nil old) in
-            word_more (λ k. codes " G" ++ decimal k) (λ k. get_or passed k 0 == 0) (up_to n) (n + 1) old c.if-passed-from-eq0.words.items false some c.loop-below.invariant.words told
+            let known = ap (λ l. l.items) w.words-is ∙ sym (append-nil old) in
+            word_more (λ k. codes " G" ++ decimal k) (λ k. get_or passed k 0 == 0) (up_to n) (n + 1) old c.if-passed-from-eq0.words.items false some c.loop-below.invariant.words known
             ∙ ap (λ l. flat_map (λ k. codes " G" ++ decimal k) (filter (λ k. get_or passed k 0 == 0) l)) (up_to_more n)
       ];
       room =

@@ -16,7 +16,7 @@ returns g c version p h r is found =
     let s = c.args.slot in
     let reads = readings p h (Slot s) in
     let b = c.args.self.now in
-    subst (λ k. g.A.Outcome.tells c.answers.result k)
+    subst (λ k. g.A.Outcome.reports c.answers.result k)
     (ap (λ v. answers c.iack_in-iack_in.result c.has-iackout.result (λ level. c.asks-is_pending.result) (λ t. c.is_accessed-is_accessed.result) v) c.shown.ensures
     ∙ ap (λ x. answers x c.has-iackout.result (λ level. c.asks-is_pending.result) (λ t. c.is_accessed-is_accessed.result) (cycle_in b.shown)) (c.iack_in-iack_in.ensures version p h is)
     ∙ ap (λ x. answers (iack_in p h (Slot s)) x (λ level. c.asks-is_pending.result) (λ t. c.is_accessed-is_accessed.result) (cycle_in b.shown)) (c.has-iackout.ensures ∙ is.acknowledges s c.requires)

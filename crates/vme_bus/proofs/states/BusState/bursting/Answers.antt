@@ -25,7 +25,7 @@ returns g c version p h r is found some =
     let guarded =
     ap (λ (o : Option Row). option_map_or (λ q. below_burst n q.release) (option_and_then (λ b. b.requester) o) free) found
     ∙ ap (λ (o : Option RequesterRow). option_map_or (λ q. below_burst n q.release) o free) k.1 in
-    subst (λ k. g.A.Outcome.tells c.below_burst.result k)
+    subst (λ k. g.A.Outcome.reports c.below_burst.result k)
     (ap (λ m. below_burst m c.release.result) counted
     ∙ ap (λ (x : Release). below_burst (min n (most_cycles q.release)) x) (c.release.ensures version p h is ∙ released_as p s r q found k.1)
     ∙ burst_guard n q.release ∙ sym guarded)

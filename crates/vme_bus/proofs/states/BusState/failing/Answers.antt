@@ -5,4 +5,4 @@ use Rattle.vme_bus.proofs.states.BusState.failing.Goals as goal
 
 pub returns : goal.returns
 returns c = λ version p h is.
-    c.told.ensures version p h is (five_tested version p h c.args.edge) ∙ fails_of_tested_but_full version p h c.args.edge
+    c.outcome.ensures version p h is (five_tested version p h c.args.edge) ∙ fails_of_tested_but_full version p h c.args.edge

@@ -10,7 +10,7 @@ pub returns : goal.returns
 returns g c version p h r is found v some =
     let s = c.args.slot in
     let releases = release_guard (readings p h (Slot s)) in
-    subst (λ k. g.A.Outcome.tells c.bbsy_rises.result k)
+    subst (λ k. g.A.Outcome.reports c.bbsy_rises.result k)
     (ap (λ x. bbsy_rises x c.grant_in-grant_in.result c.is_address_free.result releases) (c.has-br.ensures ∙ is.br s)
     ∙ ap (λ x. bbsy_rises (drive h (Slot s) Br) x c.is_address_free.result releases) (c.grant_in-grant_in.ensures version p h is)
     ∙ ap (λ x. bbsy_rises (drive h (Slot s) Br) (grant_in p h (Slot s)) x releases) (c.is_address_free.ensures version p h is))

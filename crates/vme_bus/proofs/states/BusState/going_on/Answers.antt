@@ -21,7 +21,7 @@ returns-then-is_final g c version p h r is found some formed =
     let shows = show_guard reads c.args.value in
     let final = c.is_final.ensures c.if-is_final.true in
     let here = free c.has.result c.address_strobe.result in
-    subst (λ k. g.A.Outcome.tells c.addr_is_free-free.result k)
+    subst (λ k. g.A.Outcome.reports c.addr_is_free-free.result k)
     (ap (λ x. addr_goes_on x c.address_strobe.result bursts shows) (c.has.ensures ∙ is.bbsy s)
     ∙ ap (λ x. addr_goes_on (drive h (Slot s) Bbsy) x bursts shows) (c.address_strobe.ensures version p h is))
     (final (here ⊓ bursts) shows (final here bursts c.addr_is_free-free.ensures))
@@ -32,7 +32,7 @@ returns g c version p h r is found some formed =
     let reads = readings p h (Slot s) in
     let bursts = burst_guard reads in
     let shows = show_guard reads c.args.value in
-    subst (λ k. g.A.Outcome.tells c.addr_goes_on.result k)
+    subst (λ k. g.A.Outcome.reports c.addr_goes_on.result k)
     (ap (λ x. addr_goes_on x c.address_strobe.result bursts shows) (c.has.ensures ∙ is.bbsy s)
     ∙ ap (λ x. addr_goes_on (drive h (Slot s) Bbsy) x bursts shows) (c.address_strobe.ensures version p h is))
     (c.addr_goes_on.ensures c.has.result c.address_strobe.result bursts shows c.addr_is_free-free.ensures (c.bursting-bursting.ensures version p h r is found some) (c.showing-showing.ensures version p h r is found formed))

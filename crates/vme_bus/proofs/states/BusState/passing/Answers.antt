@@ -10,7 +10,7 @@ use Rattle.vme_bus.proofs.states.BusState.passing.Goals as goal
 pub returns : goal.returns
 returns g c version p h is =
     let reads = readings p h (Slot c.args.slot) in
-    subst (λ k. g.A.Outcome.tells c.passes.result k)
+    subst (λ k. g.A.Outcome.reports c.passes.result k)
     (ap (λ b. passes (λ level. b) c.shown.result) (c.asks.ensures version p h is)
     ∙ ap (λ v. passes (λ level. asks_at reads (shown p h)) v) (c.shown.ensures ∙ is.shown)
     ∙ passed_by reads (shown p h))

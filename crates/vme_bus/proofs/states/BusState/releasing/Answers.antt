@@ -19,7 +19,7 @@ returns g c version p h r is found some =
     let guarded =
     ap (λ (o : Option Row). option_map_or (λ q. released asked q.release) (option_and_then (λ b. b.requester) o) free) found
     ∙ ap (λ (o : Option RequesterRow). option_map_or (λ q. released asked q.release) o free) k.1 in
-    subst (λ k. g.A.Outcome.tells c.released.result k)
+    subst (λ k. g.A.Outcome.reports c.released.result k)
     (ap (λ b. released b c.release.result) (c.is_asked.ensures version p h is)
     ∙ ap (λ (x : Release). released asked x) (c.release.ensures version p h is ∙ released_as p c.args.slot r q found k.1)
     ∙ sym guarded)

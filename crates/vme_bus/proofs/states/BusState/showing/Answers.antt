@@ -7,7 +7,7 @@ use Rattle.vme_bus.proofs.states.BusState.showing.Goals as goal
 
 pub returns : goal.returns
 returns g c version p h r is found formed =
-    subst (λ k. g.A.Outcome.tells c.shows.result k)
+    subst (λ k. g.A.Outcome.reports c.shows.result k)
     (ap (λ (x : Levels). shows (has_level x) (has_level c.interrupt_asked.result) c.args.value) (c.handler.ensures version p h r is found)
     ∙ shown_by p h c.args.slot r c.args.value c.interrupt_asked.result found formed (c.interrupt_asked.ensures version p h is))
     c.shows.ensures

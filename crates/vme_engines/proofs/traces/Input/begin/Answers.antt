@@ -7,8 +7,8 @@ use Rattle.vme_engines.proofs.traces.Input.begin.Goals as goal
 
 pub returns-in-Some-clause-ready : goal.returns-in-Some-clause-ready
 returns-in-Some-clause-ready g c = record {
-  counted = counted_first _ _ [] [] _ _ _ _ c.open-first.ensures.0;
-  well_formed = formed_first _ _ [] [] _ _ _ _ c.open-first.ensures.0;
+  counted = counted_first _ _ [] _ _ _ _ c.open-first.ensures.0;
+  well_formed = formed_first _ _ [] _ _ _ _ c.open-first.ensures.0;
 }
 
 pub returns-in-Err-clause-unbegun : goal.returns-in-Err-clause-unbegun

@@ -4,5 +4,6 @@ use Rattle.vme_interrupter.proofs.interrupters.Interrupter.may_answer.Goals as g
 
 pub returns : goal.returns
 returns c = λ value.
+    let is = c.answer_rule.ensures value in
     c.allowed.ensures
-    ∙ ruled_alone c.args.self.now.dtack c.args.fall (cc (c.if-self-fall.false, ap (λ i. i.dtack) c.self.view_is)) (c.answer_rule.ensures.number value) (c.answer_rule.ensures.answer value)
+    ∙ ruled_alone c.args.self.now.dtack c.args.fall (cc (c.if-self-fall.false, ap (λ i. i.dtack) c.self.view_is)) (ap (λ k. k.0) is) (ap (λ k. k.1) is)

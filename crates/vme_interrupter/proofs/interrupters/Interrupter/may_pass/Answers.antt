@@ -4,5 +4,6 @@ use Rattle.vme_interrupter.proofs.interrupters.Interrupter.may_pass.Goals as goa
 
 pub returns : goal.returns
 returns c = λ value.
+    let is = c.pass_rule.ensures value in
     c.allowed.ensures
-    ∙ ruled_alone c.args.self.now.iackout c.args.fall (cc (c.if-self-fall.false, ap (λ i. i.iackout) c.self.view_is)) (c.pass_rule.ensures.number value) (c.pass_rule.ensures.answer value)
+    ∙ ruled_alone c.args.self.now.iackout c.args.fall (cc (c.if-self-fall.false, ap (λ i. i.iackout) c.self.view_is)) (ap (λ k. k.0) is) (ap (λ k. k.1) is)

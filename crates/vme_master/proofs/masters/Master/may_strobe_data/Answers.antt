@@ -4,5 +4,6 @@ use Rattle.vme_master.proofs.masters.Master.may_strobe_data.Goals as goal
 
 pub returns : goal.returns
 returns c = λ holds_bus value.
+    let is = c.data_strobe_rule.ensures holds_bus value in
     c.allowed.ensures
-    ∙ ruled_alone c.args.self.now.data_strobe c.args.fall (cc (c.if-self-fall.false, ap (λ m. m.data_strobe) c.self.view_is)) (c.data_strobe_rule.ensures.number holds_bus value) (c.data_strobe_rule.ensures.answer holds_bus value)
+    ∙ ruled_alone c.args.self.now.data_strobe c.args.fall (cc (c.if-self-fall.false, ap (λ m. m.data_strobe) c.self.view_is)) (ap (λ k. k.0) is) (ap (λ k. k.1) is)

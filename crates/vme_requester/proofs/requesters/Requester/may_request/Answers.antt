@@ -4,5 +4,6 @@ use Rattle.vme_requester.proofs.requesters.Requester.may_request.Goals as goal
 
 pub returns : goal.returns
 returns c = λ pins is_address_free value.
+    let is = c.request_rule.ensures pins is_address_free value in
     c.allowed.ensures
-    ∙ ruled_alone c.args.self.now.br c.args.fall (cc (c.if-self-fall.false, ap (λ r. r.br) c.self.view_is)) (c.request_rule.ensures.number pins is_address_free value) (c.request_rule.ensures.answer pins is_address_free value)
+    ∙ ruled_alone c.args.self.now.br c.args.fall (cc (c.if-self-fall.false, ap (λ r. r.br) c.self.view_is)) (ap (λ k. k.0) is) (ap (λ k. k.1) is)

@@ -1,0 +1,104 @@
+-- The lines at edges, one after another.
+use Rattle.std.proofs.Common.{◌≡◌, ℕ, ◌+◌, ◌<◌, List, [], ◌∷◌, ◌++◌, length, take, drop, get_or, Bool, true, false, Option, is_ok, refl, sym, ◌∙◌, ap, append_assoc, subst, arith}
+use Rattle.std.specs.Prelude.{if◌then◌else◌}
+use Rattle.std.proofs.Math.ListN.{length-append}
+use Rattle.std.proofs.lemmas.List.{drop_more}
+use Rattle.std.specs.Io.KnownBytes.{Appends}
+use Rattle.vme_model.specs.declared.signals.Edge.{Edge}
+use Rattle.vme_model.specs.declared.signals.Version.{Version}
+use Rattle.vme_model.specs.Plan.{Plan}
+use Rattle.vme_model.specs.Verdict.{State, verdict, after, kept}
+use Rattle.vme_model.specs.Deliveries.{answer}
+use Rattle.vme_model.specs.Numbered.{Numbered, numbered, numbered_on, numbered_with}
+use Rattle.vme_trace.specs.Writing.{AppendsFront}
+use Rattle.vme_trace.proofs.WrittenLines.{Wrote, wrote_all, wrote_front}
+use Rattle.vme_engines.specs.Outcomes.{bench}
+use Rattle.vme_engines.proofs.FollowedEdges.{kept_plan, next_list, numbered_append}
+use Rattle.vme_engines.proofs.WrittenLines.{kept_append}
+use Rattle.vme_cycles.specs.Transactions.{ended_line, line_at, lines_on, refused_text}
+use Rattle.vme_cycles.specs.Outcomes.{lines_by}
+use Rattle.vme_cycles.specs.Kept.{next_line, next_lines}
+
+-- ---- lists of edges
+
+lines_append : (b : State) (n : ℕ) (k : Numbered) (es fs : List Edge) → lines_on b n k (es ++ fs) ≡ lines_on b n k es ++ lines_on (kept b es) (n + length es) (numbered_on b n k es) fs
+lines_append b n k [] fs = ap (λ m. lines_on b m k fs) (omega arith)
+lines_append b n k (e ∷ es) fs =
+    let others = numbered_with b (n + 1) e k in
+    ap (λ l. line_at b (n + 1) e k ++ l) (lines_append (after b e) (n + 1) others es fs)
+    ∙ ap (λ m. line_at b (n + 1) e k ++ (lines_on (after b e) (n + 1) others es ++ lines_on (kept (after b e) es) m (numbered_on (after b e) (n + 1) others es) fs)) (omega arith)
+    ∙ sym (append_assoc (line_at b (n + 1) e k) (lines_on (after b e) (n + 1) others es) _)
+
+module _ (p : Plan) (v : Version) (es : List Edge) where
+  from_start : 0 + length es ≡ length es
+  from_start = omega arith
+
+  pub edge_lines_append : (fs : List Edge) → lines_by p v (es ++ fs) ≡ lines_by p v es ++ next_lines p v es fs
+  edge_lines_append fs = lines_append (bench p v) 0 [] es fs ∙ ap (λ m. lines_by p v es ++ lines_on (kept (bench p v) es) m (numbered (bench p v) es) fs) from_start
+
+  numbered_next : (e : Edge) → numbered (bench p v) (es ++ e ∷ []) ≡ numbered_with (kept (bench p v) es) (length es + 1) e (numbered (bench p v) es)
+  numbered_next e = numbered_append (bench p v) 0 [] es (e ∷ []) ∙ ap (λ m. numbered_with (kept (bench p v) es) (m + 1) e (numbered (bench p v) es)) from_start
+
+  next_split : (e : Edge) (fs : List Edge) → next_lines p v es (e ∷ fs) ≡ next_line p v es e ++ next_lines p v (es ++ e ∷ []) fs
+  next_split e fs =
+      let b = bench p v in
+      let k = numbered b (es ++ e ∷ []) in
+      ap (λ l. next_line p v es e ++ l) (sym (ap (λ s. lines_on s (length (es ++ e ∷ [])) k fs) (kept_append b es (e ∷ []))
+      ∙ ap (λ n. lines_on (after (kept b es) e) n k fs) (length-append es (e ∷ []))
+      ∙ ap (λ m. lines_on (after (kept b es) e) (length es + 1) m fs) (numbered_next e)))
+
+-- ---- one edge
+
+then_is : {A : Type 0} (t : Bool) (x y : A) → t ≡ true → (if t then x else y) ≡ x
+then_is t x y is = rw is refl
+
+else_is : {A : Type 0} (t : Bool) (x y : A) → t ≡ false → (if t then x else y) ≡ y
+else_is t x y is = rw is refl
+
+-- the next edge, on the bus behind the edges so far
+module _ (p : Plan) (v : Version) (es : List Edge) (e : Edge) (b : State) (n : ℕ) (behind : b ≡ kept (bench p v) es) (count : n ≡ length es + 1) where
+  judged : (t : Bool) → is_ok (verdict b e) ≡ t → is_ok (verdict (kept (bench p v) es) e) ≡ t
+  judged t is = ap (λ s. is_ok (verdict s e)) (sym behind) ∙ is
+
+  pub numbered_accepted : is_ok (verdict b e) ≡ true → (n, e) ∷ numbered (bench p v) es ≡ numbered (bench p v) (es ++ e ∷ [])
+  numbered_accepted ok =
+      let k = numbered (bench p v) es in
+      ap (λ m. (m, e) ∷ k) count ∙ sym (then_is (is_ok (verdict (kept (bench p v) es) e)) ((length es + 1, e) ∷ k) k (judged true ok)) ∙ sym (numbered_next p v es e)
+
+  pub numbered_refused : is_ok (verdict b e) ≡ false → numbered (bench p v) es ≡ numbered (bench p v) (es ++ e ∷ [])
+  numbered_refused refused =
+      let k = numbered (bench p v) es in
+      sym (else_is (is_ok (verdict (kept (bench p v) es) e)) ((length es + 1, e) ∷ k) k (judged false refused)) ∙ sym (numbered_next p v es e)
+
+  pub line_accepted : (x : List ℕ) → is_ok (verdict b e) ≡ true → x ≡ ended_line p n e (numbered (bench p v) es) → x ≡ next_line p v es e
+  line_accepted x ok is =
+      let k = numbered (bench p v) es in
+      let s = kept (bench p v) es in
+      is ∙ ap (λ m. ended_line p m e k) count ∙ ap (λ q. ended_line q (length es + 1) e k) (sym (kept_plan (bench p v) es))
+      ∙ sym (then_is (is_ok (verdict s e)) (ended_line s.plan (length es + 1) e k) (refused_text (length es + 1) e (answer s e)) (judged true ok))
+
+  pub line_refused : (x : List ℕ) → is_ok (verdict b e) ≡ false → x ≡ refused_text n e (answer b e) → x ≡ next_line p v es e
+  line_refused x refused is =
+      let k = numbered (bench p v) es in
+      let s = kept (bench p v) es in
+      is ∙ ap (λ m. refused_text m e (answer b e)) count ∙ ap (λ t. refused_text (length es + 1) e (answer t e)) behind
+      ∙ sym (else_is (is_ok (verdict s e)) (ended_line s.plan (length es + 1) e k) (refused_text (length es + 1) e (answer s e)) (judged false refused))
+
+-- ---- in the loop over edges
+
+module _ (p : Plan) (v : Version) (before es : List Edge) (i : ℕ) (d : Edge) (h : i < length es) where
+  next_of : next_lines p v (before ++ take i es) (drop i es) ≡ next_line p v (before ++ take i es) (get_or es i d) ++ next_lines p v (before ++ take (i + 1) es) (drop (i + 1) es)
+  next_of =
+      ap (next_lines p v (before ++ take i es)) (drop_more es i d h)
+      ∙ next_split p v (before ++ take i es) (get_or es i d) (drop (i + 1) es)
+      ∙ ap (λ l. next_line p v (before ++ take i es) (get_or es i d) ++ next_lines p v l (drop (i + 1) es)) (next_list before es i d h)
+
+  module _ (a b c : Option (List ℕ)) (x : List ℕ) (is : x ≡ next_line p v (before ++ take i es) (get_or es i d)) (wrote : Wrote a b (next_lines p v before es) (next_lines p v (before ++ take i es) (drop i es))) where
+    rest_is : Wrote a b (next_lines p v before es) (x ++ next_lines p v (before ++ take (i + 1) es) (drop (i + 1) es))
+    rest_is = subst (Wrote a b (next_lines p v before es)) (next_of ∙ ap (λ l. l ++ next_lines p v (before ++ take (i + 1) es) (drop (i + 1) es)) (sym is)) wrote
+
+    pub one_written : Appends b c x → Wrote a c (next_lines p v before es) (next_lines p v (before ++ take (i + 1) es) (drop (i + 1) es))
+    one_written more = wrote_all a b c (next_lines p v before es) x (next_lines p v (before ++ take (i + 1) es) (drop (i + 1) es)) rest_is more
+
+    pub one_cut : AppendsFront b c x → AppendsFront a c (next_lines p v before es)
+    one_cut more = wrote_front a b c (next_lines p v before es) x (next_lines p v (before ++ take (i + 1) es) (drop (i + 1) es)) rest_is more

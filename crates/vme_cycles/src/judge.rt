@@ -1,0 +1,206 @@
+//! Reading a trace, and writing what its transactions are.
+ghost use Rattle.std.specs.Prelude.{◌≡◌, ◌++◌, IfErr, IfOk, OnErr, OnOk, Some};
+ghost use Rattle.std.specs.Io.KnownBytes.{Appends};
+ghost use Rattle.vme_model.specs.Numbered.{numbered};
+ghost use Rattle.vme_trace.specs.Writing.{AppendsFront};
+ghost use Rattle.vme_engines.specs.Streams.{ReadNothing, WroteNothing, streams};
+ghost use Rattle.vme_engines.specs.Outcomes.{LentAsking, bench, refused_count, status_with};
+ghost use Rattle.vme_engines.specs.Steps.{traced};
+ghost use Rattle.vme_cycles.specs.Transactions.{cycle_begun, open_cycle_line, open_lines, open_tenure_line, tenure_begun};
+ghost use Rattle.vme_cycles.specs.Outcomes.{Reports, ReportsInput, last_lines, lines_by};
+ghost use Rattle.vme_cycles.specs.Kept.{IsTracked, OfTracked};
+
+use crate::lines::{Line, totals_line};
+use crate::tracking::Tracking;
+use arrayvec::ArrayVec;
+use std::alloc::Global;
+use std::io::{Read, Write};
+use vme_bus::Bus;
+use vme_engines::{EngineFault, Judge, Status, read};
+use vme_model::{Driver, Edge, Wire};
+use vme_trace::{Fault, flush, put};
+
+/// The status of a trace with so many refused edges.
+fn status_of(refused: u64) -> Status
+    ensures { result ≡ status_with refused }
+{
+    if refused == 0 {
+        Status::Done
+    } else {
+        Status::SomeRefused
+    }
+}
+
+/// Writes two lines.
+fn write_both<W: Write>(first: &Line, second: &Line, out: &mut W) -> Result<(), Fault>
+    ensures ok { OnOk result (Appends (W.contents out.old) (W.contents out.new)
+        (first.now.items ++ second.now.items)) }
+    ensures front { OnErr result (AppendsFront (W.contents out.old) (W.contents out.new)
+        (first.now.items ++ second.now.items)) }
+    ensures fault { IfErr result (λ fault. fault ≡ Fault.Write) }
+{
+    put(out, first.as_slice())?;
+    put(out, second.as_slice())
+}
+
+impl Tracking {
+    /// How many edges were refused.
+    fn refused(&self) -> u64
+        ensures { OfTracked self.now (λ p v es. result ≡ refused_count p (Some v) es) }
+    {
+        let accepted = u64::from(self.following.bus.len());
+        self.following.judged.saturating_sub(accepted)
+    }
+
+    /// The line of the cycle that is under way, if one is.
+    fn open_cycle(&self) -> Line
+        ensures { OfTracked self.now (λ p v es. result.items
+            ≡ open_cycle_line p (numbered (bench p v) es)) }
+    {
+        match self.cycle.of {
+            Some(driver) => self.cycle_line(driver, None),
+            None => ArrayVec::new(),
+        }
+    }
+
+    /// The line of the tenure that is under way, if one is.
+    fn open_tenure(&self) -> Line
+        ensures { OfTracked self.now (λ p v es. result.items
+            ≡ open_tenure_line p (numbered (bench p v) es)) }
+    {
+        match self.following.bus.holder() {
+            Some(slot) => self.tenure_line(Driver::Slot(slot), None),
+            None => ArrayVec::new(),
+        }
+    }
+
+    /// The edge that began the cycle that is under way; 0 if none is.
+    fn cycle_begun(&self) -> u64
+        ensures { OfTracked self.now (λ p v es. result ≡ cycle_begun (numbered (bench p v) es)) }
+    {
+        match self.cycle.of {
+            Some(driver) => self.last_on(driver, Wire::AddressStrobe),
+            None => 0,
+        }
+    }
+
+    /// The edge that began the tenure that is under way; 0 if none is.
+    fn tenure_begun(&self) -> u64
+        ensures { OfTracked self.now (λ p v es. result ≡ tenure_begun p (numbered (bench p v) es)) }
+    {
+        match self.following.bus.holder() {
+            Some(slot) => self.last_on(Driver::Slot(slot), Wire::Bbsy),
+            None => 0,
+        }
+    }
+
+    /// Writes what is under way, in the order in which it began.
+    fn write_open<W: Write>(&self, out: &mut W) -> Result<(), Fault>
+        ensures ok { OnOk result (OfTracked self.now (λ p v es.
+            Appends (W.contents out.old) (W.contents out.new)
+            (open_lines p (numbered (bench p v) es)))) }
+        ensures front { OnErr result (OfTracked self.now (λ p v es.
+            AppendsFront (W.contents out.old) (W.contents out.new)
+            (open_lines p (numbered (bench p v) es)))) }
+        ensures fault { IfErr result (λ fault. fault ≡ Fault.Write) }
+    {
+        let cycle = self.open_cycle();
+        let tenure = self.open_tenure();
+        if self.tenure_begun() < self.cycle_begun() {
+            write_both(&tenure, &cycle, out)
+        } else {
+            write_both(&cycle, &tenure, out)
+        }
+    }
+
+    /// Writes what is under way and the last line, and has the writer hand on what it holds back.
+    /// The status says whether some edge was refused.
+    fn finish<W: Write>(&self, out: &mut W) -> Result<Status, Fault>
+        ensures status { IfOk result (λ status. OfTracked self.now (λ p v es.
+            status ≡ status_with (refused_count p (Some v) es))) }
+        ensures ok { OnOk result (OfTracked self.now (λ p v es.
+            Appends (W.contents out.old) (W.contents out.new) (last_lines p v es))) }
+        ensures front { OnErr result (OfTracked self.now (λ p v es.
+            AppendsFront (W.contents out.old) (W.contents out.new) (last_lines p v es))) }
+        ensures fault { IfErr result (λ fault. fault ≡ Fault.Write) }
+    {
+        let refused = self.refused();
+        self.write_open(out)?;
+        put(
+            out,
+            totals_line(self.cycle.ended, self.tenure.ended, refused).as_slice(),
+        )?;
+        flush(out)?;
+        Ok(status_of(refused))
+    }
+}
+
+impl Judge for Tracking {
+    type Task = ();
+
+    type Answer = Status;
+
+    ghost can = { λ _. Unit {0} };
+
+    ghost count = { λ now. now.following.judged };
+
+    ghost stands = { λ _ p v es old new now.
+        Appends old new (lines_by p v es) × IsTracked p v es now };
+
+    ghost leaves = { λ _ p trace s answer. Reports p trace s (traced answer) };
+
+    fn begin(_task: &(), bus: Bus) -> Tracking {
+        Tracking::new(bus)
+    }
+
+    fn unbegun(_task: &()) {}
+
+    /// Writes the lines at the edges. At the end of the trace it writes what is under way and the
+    /// last line.
+    fn take<W: Write>(
+        &mut self,
+        edges: &[Edge],
+        more: Result<bool, Fault>,
+        paused: bool,
+        out: &mut W,
+    ) -> Result<Option<Status>, Fault> {
+        self.take_edges(edges, out)?;
+        match more {
+            Ok(true) => {
+                if paused {
+                    flush(out)?;
+                }
+                Ok(None)
+            }
+            Ok(false) => Ok(Some(self.finish(out)?)),
+            Err(fault) => {
+                flush(out)?;
+                Err(fault)
+            }
+        }
+    }
+}
+
+/// Writes a line for each cycle and each tenure of a trace, at the edge that ends it, and for each
+/// refused edge, on the plan of a scenario.
+///
+/// At the end of the trace it writes what is still under way, and how many cycles and tenures ended
+/// and how many edges were refused. The status is that of a replay. It makes at most 16,777,216
+/// reads. If one gave fewer bytes than were asked for, the writer hands on what it holds back
+/// before the next.
+///
+/// # Errors
+/// F2, the faults of the scenario and F3, before anything is read or written; those of the trace,
+/// after the lines at the edges before them; X8 if the output cannot be written.
+pub fn cycles<R: Read, W: Write>(
+    alloc: Global,
+    scenario: &[u8],
+    trace: &mut R,
+    out: &mut W,
+) -> Result<Status, EngineFault>
+    ensures { let s = streams (R.remaining trace.old) (R.remaining trace.new)
+        (W.contents out.old) (W.contents out.new) in
+        LentAsking scenario.now (ReadNothing s × WroteNothing s) (ReportsInput s) result }
+{
+    read::<Tracking, R, W>(alloc, scenario, &(), trace, out)
+}

@@ -1,0 +1,65 @@
+use Rattle.std.proofs.Common.{◌≡◌, ◌∙◌, ◌<◌, ◌≤◌, ◌+◌, ℕ, Ok, Some, ap, refl, subst, sym, arith, length}
+use Rattle.std.specs.List.{slice_get}
+use Rattle.vme_order_search.specs.declared.layers.Layer.{Layer}
+use Rattle.vme_order_search.specs.Places.{AreUnfree}
+use Rattle.vme_order_search.specs.Searching.{IsUnderWay}
+use Rattle.vme_order_search.proofs.Next.{below_unfree}
+use Rattle.vme_order_search.proofs.Outcomes.{free_in, unfree_in}
+use Rattle.vme_order_search.proofs.Searched.{next_front, unfree_to}
+use Rattle.vme_order_search.proofs.search.Search.go_on.Goals as goal
+
+pub places-init : goal.places-init
+places-init c = (
+  c.requires.fit,
+  (refl, refl, refl),
+  λ t n m eq eqs there w. subst (λ k. IsUnderWay t n m k c.args.self.now) (sym c.least-from.ensures)
+      (unfree_to t n m 0 c.args.front.now.taken.least c.args.self.now c.args.front.now w there
+      (let e : 0 ≤ c.args.front.now.taken.least = omega arith in e)
+      (λ q takes. below_unfree t.slacks t.seen q c.args.front.now.taken takes)),
+)
+
+pub places-preserved : goal.places-preserved
+places-preserved c =
+    let same = c.in_ok-is_full.ensures.same in
+    let was = c.places.invariant.1 in (
+      c.in_ok-is_full.ensures.fit,
+      (same.0 ∙ was.0, same.1 ∙ was.1, same.2 ∙ was.2),
+      λ t n m eq eqs there w.
+          let stands : slice_get c.places.self.layer.kept.items m ≡ Some c.args.front.now =
+          ap (λ (l : Layer). slice_get l.kept.items m) was.0 ∙ there in
+          let under = c.places.invariant.2 t n m eq eqs there w in
+          let next = c.in-Some.ensures.next in
+          c.try_place.ensures.kept t n m eq stands
+          (unfree_to t n m c.places.from c.in-Some.place c.places.self c.args.front.now under stands
+          c.in-Some.ensures.behind
+          (λ q takes. unfree_in t c.args.slacks.now c.args.seen.now q c.places.from c.in-Some.place eq eqs
+          (next q takes).2))
+          (λ q takes. free_in t c.args.slacks.now c.args.seen.now q c.in-Some.place eq eqs (next q takes).1)
+          (c.in_ok-is_full.was ∙ ap Ok c.if-is_full.false),
+    )
+
+pub returns-then-is_full-clause-cut : goal.returns-then-is_full-clause-cut
+returns-then-is_full-clause-cut c t n m eq eqs there w is =
+    let was = c.places.invariant.1 in
+    let stands : slice_get c.places.self.layer.kept.items m ≡ Some c.args.front.now =
+    ap (λ (l : Layer). slice_get l.kept.items m) was.0 ∙ there in
+    let under = c.places.invariant.2 t n m eq eqs there w in
+    let next = c.in-Some.ensures.next in
+    let cut = c.try_place.ensures.cut t n m eq stands
+    (unfree_to t n m c.places.from c.in-Some.place c.places.self c.args.front.now under stands
+    c.in-Some.ensures.behind
+    (λ q takes. unfree_in t c.args.slacks.now c.args.seen.now q c.places.from c.in-Some.place eq eqs
+    (next q takes).2))
+    (λ q takes. free_in t c.args.slacks.now c.args.seen.now q c.in-Some.place eq eqs
+    (next q takes).1) (c.in_ok-is_full.was ∙ ap Ok c.if-is_full.true) in
+    ((c.in-Some.place, cut.0), cut.1)
+
+pub returns-clause-whole : goal.returns-clause-whole
+returns-clause-whole c t n m eq eqs there w is =
+    let was = c.places.invariant.1 in
+    let stands : slice_get c.places.self.layer.kept.items m ≡ Some c.args.front.now =
+    ap (λ (l : Layer). slice_get l.kept.items m) was.0 ∙ there in
+    next_front t n m c.places.from c.places.self c.args.front.now
+    (c.places.invariant.2 t n m eq eqs there w) stands
+    (λ q takes. subst (λ k. AreUnfree t.slacks t.seen q c.places.from k) (ap length (sym eq)) (unfree_in t c.args.slacks.now c.args.seen.now q
+    c.places.from (length c.args.seen.now) eq eqs (c.in_default.ensures.next q takes)))

@@ -1,0 +1,34 @@
+-- Sets of places.
+use Rattle.std.specs.Prelude.{◌≡◌, ◌==◌, ◌||◌, ◌&&◌, ◌+◌, ◌-◌, ◌*◌, ◌/◌, ◌%◌, ◌^◌, ◌<◌, ◌≤◌, ℕ, Bool, List, length, nat_lt, Option, Some, None}
+use Rattle.std.specs.Int.{bit_at}
+use Rattle.vme_moments.specs.declared.Seen.{Seen}
+use Rattle.vme_moments.specs.declared.slacks.Slacks.{Slacks}
+use Rattle.vme_moments.specs.Orders.{IsFree, has}
+use Rattle.vme_order_search.specs.declared.taken.Taken.{Taken}
+
+-- the place is in the set
+abbrev pub holds : Taken → ℕ → Bool
+holds t i = nat_lt i t.least || (nat_lt t.least i && (bit_at t.behind (i - t.least - 1) == 1))
+
+-- none of its places is greater by 128 or more than the least that is missing
+abbrev pub IsNarrow : Taken → Type 0
+IsNarrow t = t.behind < 2 ^ 127
+
+-- some number that equal sets share
+unfoldable pub bucket_of : Taken → ℕ
+bucket_of t =
+    ((t.behind % 2 ^ 64 + t.behind / 2 ^ 64) % 2 ^ 64 * 11400714819323198485) % 2 ^ 64 / 2 ^ 48
+
+-- just these places are in the set
+abbrev pub AreTaken : List ℕ → Taken → Type 0
+AreTaken places t = (i : ℕ) → holds t i ≡ has places i
+
+-- no place from the first on, and below the end, can come next
+abbrev pub AreUnfree : Slacks → List Seen → List ℕ → ℕ → ℕ → Type 0
+AreUnfree x ms places from end = (j : ℕ) → from ≤ j → j < end → IsFree x ms places j → ⊥
+
+-- the least place from that one on that can come next, if there is any
+abbrev pub IsNextFree : Slacks → List Seen → List ℕ → ℕ → Option ℕ → Type 0
+IsNextFree x ms places from None = AreUnfree x ms places from (length ms)
+IsNextFree x ms places from (Some place) =
+    (from ≤ place) × IsFree x ms places place × AreUnfree x ms places from place

@@ -1,0 +1,2 @@
+-- no rule has more than seven conditions
+pub mod Few

@@ -1,0 +1,2 @@
+-- believe: what `rule` prints
+pub mod Pages

@@ -1,0 +1,8 @@
+//! The command `shrink`: a trace with few edges, the last of which is answered as in a long one.
+#![tactic(auto)]
+
+mod fronts;
+mod shrinks;
+mod writing;
+
+pub use shrinks::shrink;

@@ -1,0 +1,12 @@
+//! Stories: short lists of edges behind which the same is said of an edge.
+//!
+//! An edge that is refused changes nothing. So edges can be left out of a list, with what is
+//! refused without them, as long as the same is said of the edge behind the list.
+#![tactic(auto)]
+
+mod behind;
+pub mod laws;
+mod replies;
+mod search;
+
+pub use search::story;

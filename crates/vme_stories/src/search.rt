@@ -1,0 +1,183 @@
+//! The search for a story.
+ghost use Rattle.std.specs.Prelude.{◌≡◌, ◌≢◌, ◌↔◌, ◌+◌, ◌<◌, ◌≤◌, ◌/◌, ◌||◌, if◌then◌else◌, nat_lt, not, Ok, OnOk, IfOk, false, true, length};
+ghost use Rattle.vme_model.specs.Report.{at_power_up, trace_limit};
+ghost use Rattle.vme_stories.specs.Replies.{reply};
+ghost use Rattle.vme_stories.specs.Stories.{IsFound, IsPart, IsTight, IsTightAt, accepted, without};
+ghost use Rattle.vme_stories.specs.Searching.{HasLeft, IsOn, IsSearch, next_size, start};
+
+use crate::behind::{Behind, go_on};
+use crate::replies::Reply;
+use std::alloc::{AllocError, Global};
+use std::mem;
+use vme_bus::Bus;
+use vme_model::Edge;
+use vme_store::Code;
+
+/// A search for a story of an edge.
+#[derive(Drop)]
+struct Search {
+    behind: Behind,
+    edge: Edge,
+    /// What is said of the edge behind the list.
+    reply: Reply,
+    /// What is left so far.
+    list: Vec<Code>,
+    /// What is left without a stretch that is tried.
+    other: Vec<Code>,
+}
+
+/// The size of the stretches after a pass: half of it, but a pass at size 1 that left something out
+/// is followed by another one.
+fn next_size(size: usize, has_left: bool) -> usize
+    ensures { result ≡ next_size size has_left }
+{
+    if size > 1 || !has_left {
+        size / 2
+    } else {
+        size
+    }
+}
+
+impl Search {
+    /// A search that begins with those of the edges that are accepted.
+    fn new(alloc: Global, bus: Bus, edges: Vec<Code>, edge: Edge) -> Result<Search, AllocError>
+        ensures search { IfOk result IsSearch }
+        ensures start { IfOk result (λ search. start search
+            ≡ at_power_up bus.version bus.plan trace_limit) }
+        ensures list { IfOk result (λ search. search.list.items
+            ≡ accepted (at_power_up bus.version bus.plan trace_limit) edges.items) }
+        ensures edge { IfOk result (λ search. search.edge ≡ edge) }
+    {
+        let mut behind = Behind::new(bus);
+        let mut list = Vec::new(alloc);
+        go_on(&mut behind, &mut list, &edges)?;
+        let reply = behind.reply(edge);
+        Ok(Search {
+            behind,
+            edge,
+            reply,
+            list,
+            other: edges,
+        })
+    }
+
+    /// Goes from power-up through the list without the places from one up to another, and says what
+    /// is said of the edge then.
+    fn reply_without(&mut self, from: usize, to: usize) -> Result<Reply, AllocError>
+        requires within { from ≤ to }
+        requires end { to ≤ length self.old.list.items }
+        ensures reply { IfOk result (λ t. t
+            ≡ reply (start self.old) (without (start self.old) self.old.list.items from to)
+            self.old.edge) }
+        ensures other { OnOk result (self.new.other.items
+            ≡ without (start self.old) self.old.list.items from to) }
+        ensures start { OnOk result (start self.new ≡ start self.old) }
+        ensures list { self.new.list ≡ self.old.list }
+        ensures edge { self.new.edge ≡ self.old.edge }
+        ensures target { self.new.reply ≡ self.old.reply }
+    {
+        self.behind.restart();
+        self.other.clear();
+        go_on(&mut self.behind, &mut self.other, &self.list[..from])?;
+        go_on(&mut self.behind, &mut self.other, &self.list[to..])?;
+        Ok(self.behind.reply(self.edge))
+    }
+
+    /// Leaves the places from one up to another out, with what is then refused, if the same is said
+    /// without them. Says whether it did.
+    fn leave_out(&mut self, from: usize, to: usize) -> Result<bool, AllocError>
+        requires search { IsSearch self.old }
+        requires within { from ≤ to }
+        requires end { to ≤ length self.old.list.items }
+        ensures on { OnOk result (IsOn self.old self.new) }
+        ensures left { result ≡ Ok true → self.new.list.items
+            ≡ without (start self.old) self.old.list.items from to }
+        ensures stays { result ≡ Ok false → self.new.list.items ≡ self.old.list.items }
+        ensures other { result ≡ Ok false →
+            reply (start self.old) (without (start self.old) self.old.list.items from to)
+            self.old.edge ≢ self.old.reply }
+    {
+        let reply = self.reply_without(from, to)?;
+        if reply.is_same(&self.reply) {
+            mem::swap(&mut self.list, &mut self.other);
+            return Ok(true);
+        }
+        Ok(false)
+    }
+
+    /// A pass: from the end on, stretch by stretch of this size, leaves each out without which the
+    /// same is said. Says whether it left any out.
+    fn pass(&mut self, size: usize) -> Result<bool, AllocError>
+        requires search { IsSearch self.old }
+        requires size { 0 < size }
+        ensures left { IfOk result (λ has_left. HasLeft self.old self.new has_left) }
+        ensures tight { IfOk result (λ has_left. (has_left ≡ false)
+            ↔ IsTightAt (start self.old) self.old.edge size self.old.list.items) }
+    {
+        let mut has_left = false;
+        let mut end = self.list.len();
+        'ends: while end > 0 {
+            let begin = end.saturating_sub(size);
+            let has_left_now = self.leave_out(begin, end)?;
+            has_left |= has_left_now;
+            end = begin;
+        }
+        Ok(has_left)
+    }
+
+    /// A run: passes at each power of two, from the least that is not below the length of the list
+    /// down to 1. Says whether it left anything out.
+    fn run(&mut self) -> Result<bool, AllocError>
+        requires search { IsSearch self.old }
+        ensures left { IfOk result (λ has_left. HasLeft self.old self.new has_left) }
+        ensures tight { IfOk result (λ has_left. (has_left ≡ false)
+            ↔ IsTight (start self.old) self.old.edge self.old.list.items) }
+    {
+        let mut has_left = false;
+        let mut size = self.list.len().next_power_of_two();
+        'sizes: while size > 0 {
+            let has_left_now = self.pass(size)?;
+            has_left |= has_left_now;
+            size = next_size(size, has_left_now);
+        }
+        Ok(has_left)
+    }
+
+    /// Runs until one leaves nothing out.
+    fn shorten(&mut self) -> Result<(), AllocError>
+        requires search { IsSearch self.old }
+        ensures on { OnOk result (IsOn self.old self.new) }
+        ensures part { OnOk result (IsPart self.new.list.items self.old.list.items) }
+        ensures tight { OnOk result
+            (IsTight (start self.old) self.old.edge self.new.list.items) }
+        ensures still { OnOk result (IsTight (start self.old) self.old.edge self.old.list.items
+            → self.new.list.items ≡ self.old.list.items) }
+    {
+        let mut has_left = true;
+        'runs: while has_left {
+            has_left = self.run()?;
+        }
+        Ok(())
+    }
+}
+
+/// A story of an edge and of those edges of a list that are accepted on a bus at power-up. The bus
+/// gives its plan and its version.
+///
+/// The same is said of the edge behind the story as behind the list: of a refused edge the verdict
+/// and the conditions that it fails, by their texts; of an accepted one what it delivers and the
+/// situations that it brings about. Without any one edge of the story something else is said. At E5
+/// the story is the whole list, since a shorter one has room.
+///
+/// Errors: no memory for two lists as long as this one.
+pub fn story(alloc: Global, bus: Bus, edges: Vec<Code>, edge: Edge) -> Result<Vec<Code>, AllocError>
+    ensures { let b = at_power_up bus.version bus.plan trace_limit in
+        IfOk result (λ list. IsFound b (accepted b edges.items) edge list.items) }
+{
+    let mut search = Search::new(alloc, bus, edges, edge)?;
+    if search.reply.is_full() {
+        return Ok(search.list);
+    }
+    search.shorten()?;
+    Ok(search.list)
+}

@@ -1,0 +1,36 @@
+use Rattle.std.proofs.Common.{◌∙◌, sym, ap, subst}
+use Rattle.std.specs.Prelude.{Option}
+use Rattle.vme_model.specs.declared.signals.Edge.{Edge}
+use Rattle.vme_seeds.specs.Draws.{IsCountedIn}
+use Rattle.vme_seeds.specs.Kinds.{has_board}
+use Rattle.vmebus_c.specs.Played.{drawn_answer, drawn_number}
+use Rattle.vmebus_c.proofs.exports.vmebus_draw.Goals as goal
+
+pub returns-then-not-is_bus-clause-answer : goal.returns-then-not-is_bus-clause-answer
+returns-then-not-is_bus-clause-answer c = λ seeded version p h at. let is = c.is_bus.ensures.bus version p h at in absurd (cc)
+
+pub returns-then-not-is_bus-clause-edge : goal.returns-then-not-is_bus-clause-edge
+returns-then-not-is_bus-clause-edge c = λ seeded version p h at. let is = c.is_bus.ensures.bus version p h at in absurd (cc)
+
+pub returns-then-not-is_bus-clause-counts : goal.returns-then-not-is_bus-clause-counts
+returns-then-not-is_bus-clause-counts c = λ seeded version p h at. let is = c.is_bus.ensures.bus version p h at in absurd (cc)
+
+pub returns-in-Some-clause-answer : goal.returns-in-Some-clause-answer
+returns-in-Some-clause-answer c = λ seeded version p h at. ap drawn_answer (sym c.in-Some.is ∙ c.draw.ensures.edge version p h at)
+
+pub returns-in-Some-clause-edge : goal.returns-in-Some-clause-edge
+returns-in-Some-clause-edge c = λ seeded version p h at. c.edge_number.ensures ∙ ap drawn_number (sym c.in-Some.is ∙ c.draw.ensures.edge version p h at)
+
+pub returns-in-Some-clause-counts : goal.returns-in-Some-clause-counts
+returns-in-Some-clause-counts c = λ seeded version p h at.
+    subst (λ (o : Option Edge). IsCountedIn (has_board p) o c.args.draws.now c.draw.new.draws) (c.draw.ensures.edge version p h at) (c.draw.ensures.counts version p h at)
+
+pub returns-in-None-clause-answer : goal.returns-in-None-clause-answer
+returns-in-None-clause-answer c = λ seeded version p h at. ap drawn_answer (sym c.in-None.is ∙ c.draw.ensures.edge version p h at)
+
+pub returns-in-None-clause-edge : goal.returns-in-None-clause-edge
+returns-in-None-clause-edge c = λ seeded version p h at. ap drawn_number (sym c.in-None.is ∙ c.draw.ensures.edge version p h at)
+
+pub returns-in-None-clause-counts : goal.returns-in-None-clause-counts
+returns-in-None-clause-counts c = λ seeded version p h at.
+    subst (λ (o : Option Edge). IsCountedIn (has_board p) o c.args.draws.now c.draw.new.draws) (c.draw.ensures.edge version p h at) (c.draw.ensures.counts version p h at)

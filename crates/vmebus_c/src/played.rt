@@ -1,0 +1,84 @@
+//! The open edges of the wires that the library plays for a bench.
+ghost use Rattle.std.specs.Prelude.{◌≡◌, ◌≤◌, ◌+◌, ◌*◌, ◌++◌, [], filter, length};
+ghost use Rattle.vme_bus.specs.States.{OfHistory};
+ghost use Rattle.vme_histories.specs.Opens.{open_but_full};
+ghost use Rattle.vme_seeds.specs.Draws.{IsCountedIn, numbers_of};
+ghost use Rattle.vme_seeds.specs.Kinds.{has_board};
+ghost use Rattle.vme_seeds.specs.Numbers.{after_words};
+ghost use Rattle.vmebus_c.specs.Played.{drawn_edge, is_played, played};
+
+use arrayvec::ArrayVec;
+use vme_bus::BusState;
+use vme_histories::open_edges_of;
+use vme_model::{Driver, Edge};
+use vme_seeds::{Draws, boards_on};
+
+/// The most open edges: 36 for each of 22 drivers.
+const OPEN_EDGES: usize = 792;
+
+/// Whether the library plays the wire of the edge, by a mask for each driver.
+fn is_played(wires: &[u32], edge: &Edge) -> bool
+    ensures { result ≡ is_played wires.now edge.now }
+{
+    let wire = edge.wire.number();
+    let mask = match wires.get(usize::from(edge.driver.number())) {
+        Some(mask) => *mask,
+        None => 0,
+    };
+    wire < 16 && (mask >> wire) % 2 == 1
+}
+
+/// Appends those of the edges whose wires are played.
+fn append_played(edges: &mut ArrayVec<Edge, OPEN_EDGES>, ready: &[Edge], wires: &[u32])
+    requires { length edges.old.items + length ready.now ≤ 792 }
+    ensures items { edges.new.items ≡ edges.old.items ++ filter (is_played wires.now) ready.now }
+    ensures few { length edges.new.items ≤ length edges.old.items + length ready.now }
+{
+    for edge in ready {
+        if is_played(wires, edge) {
+            edges.push(*edge);
+        }
+    }
+}
+
+/// Appends the open edges of a driver whose wires are played.
+fn append_of(bus: &BusState, driver: Driver, wires: &[u32], edges: &mut ArrayVec<Edge, OPEN_EDGES>)
+    requires { length edges.old.items ≤ 756 }
+    ensures items { OfHistory bus.now (λ version p h. edges.new.items ≡ edges.old.items
+        ++ filter (is_played wires.now) (open_but_full version p h driver)) }
+    ensures few { length edges.new.items ≤ length edges.old.items + 36 }
+{
+    append_played(edges, open_edges_of(bus, driver).as_slice(), wires);
+}
+
+/// Lists the open edges of the wires that are played, those of the controller first, then by slot.
+fn played(bus: &BusState, wires: &[u32]) -> ArrayVec<Edge, OPEN_EDGES>
+    ensures { OfHistory bus.now (λ version p h. result.items ≡ played version p h wires.now) }
+{
+    let mut edges = ArrayVec::new();
+    append_of(bus, Driver::Controller, wires, &mut edges);
+    for below in 0..21_u8 {
+        append_of(bus, Driver::Slot(below + 1), wires, &mut edges);
+    }
+    edges
+}
+
+/// Draws the next edge among the open edges of the wires that are played, and counts it; none if
+/// none of them has an open edge.
+pub(crate) fn draw(bus: &BusState, draws: &mut Draws, wires: &[u32]) -> Option<Edge>
+    ensures edge { OfHistory bus.now (λ version p h.
+        result ≡ drawn_edge version p h wires.now draws.old) }
+    ensures numbers { numbers_of draws.new ≡ after_words 2 (numbers_of draws.old) }
+    ensures weights { draws.new.weights ≡ draws.old.weights }
+    ensures counts { OfHistory bus.now (λ _ p _.
+        IsCountedIn (has_board p) result draws.old draws.new) }
+{
+    let boards = boards_on(bus);
+    match draws.draw(boards, played(bus, wires).as_slice()) {
+        Some(drawn) => {
+            draws.count(boards, &drawn);
+            Some(drawn)
+        }
+        None => None,
+    }
+}

@@ -1,0 +1,20 @@
+//! Lists that are written into a room of the caller's.
+ghost use Rattle.std.specs.Prelude.{◌≡◌};
+ghost use Rattle.vmebus_c.specs.Rooms.{written, written_whole};
+
+/// Writes the numbers, as many as there is room for.
+pub(crate) fn write(room: &mut [u32], numbers: &[u32])
+    ensures { room.new ≡ written room.old numbers.now }
+{
+    let count = numbers.len().min(room.len());
+    room[..count].copy_from_slice(&numbers[..count]);
+}
+
+/// Writes the text if there is room for all of it, and otherwise nothing.
+pub(crate) fn write_whole(room: &mut [u8], text: &[u8])
+    ensures { room.new ≡ written_whole room.old text.now }
+{
+    if text.len() <= room.len() {
+        room[..text.len()].copy_from_slice(text);
+    }
+}
