@@ -5,9 +5,8 @@
  * on different buses may run at once, and on one bus those that only read it (const). Only vmebus_open asks for memory,
  * and gives it back before it returns.
  *
- * No function has a condition on numbers: each is answered. A pointer has to point to what its type says, be no null
- * pointer, not even delivered, and no two of one call may overlap. How much stack a call takes stands in
- * docs/EMBEDDING.md. */
+ * Every function returns an answer for any numbers. A pointer must not be null, not even delivered. It has to point to
+ * what its type says, and no two pointers of one call may overlap. docs/EMBEDDING.md says how much stack a call takes. */
 #ifndef VMEBUS_H
 #define VMEBUS_H
 
@@ -24,8 +23,8 @@ extern "C" {
 #define VMEBUS_WORDS 165
 
 /* A bus. Its words are the library's own, with no byte between them that is not written: two buses on which the same calls
- * were made are equal by memcmp. Words that are no bus, such as zeros, are answered VMEBUS_NO_BUS by vmebus_step,
- * vmebus_line and vmebus_draw, and 0 by the others. */
+ * were made are equal by memcmp. If the words are no bus, such as zeros, then vmebus_step, vmebus_line and vmebus_draw
+ * return VMEBUS_NO_BUS, and the others return 0. */
 struct vmebus {
     uint32_t words[VMEBUS_WORDS];
 };
@@ -65,7 +64,7 @@ enum vmebus_wire {
 #define VMEBUS_ACKNOWLEDGE(level) (level)
 #define VMEBUS_ACCESS(slot) (32u + (slot))
 
-/* Answers: accepted; a line that spells no edge; words that are no bus, which are told before the edge is looked at. */
+/* Answers: accepted; the line spells no edge; the words are no bus, which is found before the edge is looked at. */
 #define VMEBUS_ACCEPTED 0u
 #define VMEBUS_NO_EDGE 0x500u
 #define VMEBUS_NO_BUS 0xffffffffu
@@ -137,7 +136,7 @@ enum vmebus_condition {
 #define VMEBUS_FALL(edge) ((edge) >> 8 & 0xffu)
 #define VMEBUS_VALUE(edge) ((edge) & 0xffu)
 
-/* A delivery, where it is not 0: the status byte that went from an interrupter to a handler. */
+/* A delivery, if it is not 0: the status byte that went from an interrupter to a handler. */
 #define VMEBUS_LEVEL(delivered) ((delivered) >> 24 & 0x7fu)
 #define VMEBUS_HANDLER(delivered) ((delivered) >> 16 & 0xffu)
 #define VMEBUS_ANSWERED_BY(delivered) ((delivered) >> 8 & 0xffu)
@@ -158,20 +157,20 @@ enum vmebus_condition {
 
 /* Opens a bus on the backplane of a scenario, as it is at power-up, under the rules of version 1 or 2.
  *
- * Answers 0, or the number of the first fault, and then the bus is as it was: 31 (X1) there is no such version; 20 (F2) the
- * scenario has more than 1048576 bytes; 1 to 9 for P1 to P9, and 11 to 14 and 16 for Q1 to Q4 and Q6. Where there is no
- * memory, 9 (P9) or 16 (Q6) may stand for any of the scenario's. */
+ * Returns 0, or the number of the first fault, and then the bus is as it was: 31 (X1) if there is no such version; 20 (F2)
+ * if the scenario has more than 1048576 bytes; 1 to 9 for P1 to P9, and 11 to 14 and 16 for Q1 to Q4 and Q6. If there is
+ * no memory, it may be 9 (P9) or 16 (Q6) in place of any fault of the scenario. */
 uint32_t vmebus_open(struct vmebus *bus, uint32_t version, const uint8_t *scenario, size_t bytes);
 
-/* Judges an edge, and takes it in where it is accepted; fall is 1, or 0 for a rise.
+/* Judges an edge, and makes it on the bus if it is accepted; fall is 1, or 0 for a rise.
  *
- * An edge that is not accepted leaves the bus as it was. Numbers that name no edge are answered as E1: a driver above 21, a
- * wire above 15, a fall that is neither 0 nor 1, a value at a rise or at another wire than addr. What is delivered is told
- * in *delivered: it is 0 if nothing is, and so after each answer but VMEBUS_ACCEPTED. */
+ * An edge that is not accepted leaves the bus as it was. Numbers that name no edge get E1: a driver above 21, a wire above
+ * 15, a fall that is neither 0 nor 1, a value at a rise or at another wire than addr. *delivered is what the edge delivers.
+ * It is 0 if the edge delivers nothing, and after each answer but VMEBUS_ACCEPTED. */
 uint32_t vmebus_step(struct vmebus *bus, uint32_t driver, uint32_t wire, uint32_t fall, uint32_t value,
                      uint32_t *delivered);
 
-/* The same for a line of a trace, without its line feed. Answers VMEBUS_NO_EDGE where it spells no edge. */
+/* The same for a line of a trace, without its line feed. Returns VMEBUS_NO_EDGE if the line spells no edge. */
 uint32_t vmebus_line(struct vmebus *bus, const uint8_t *line, size_t bytes, uint32_t *delivered);
 
 /* The slot of the board that holds BBSY* low, or 0. */
@@ -183,10 +182,10 @@ uint32_t vmebus_grant_at(const struct vmebus *bus);
 /* What a driver reads on its pins. A driver that the backplane does not have reads what the controller does. */
 uint32_t vmebus_pins(const struct vmebus *bus, uint32_t driver);
 
-/* What follows looks at an edge or a bus, and changes no bus. Each list is written into a room of the caller's, and the
- * answer is how long it is, whatever the room: of numbers as many are written as there is room for, and a text is written
- * as a whole or not at all. No byte is written behind the list. On words that are no bus the answer is 0, and nothing is
- * written. */
+/* The functions below look at an edge or a bus, and change no bus. Each list is written into a buffer of the caller's, which
+ * holds room numbers or bytes. The answer is the length of the list, however large the buffer is. Of a list of numbers, as
+ * many are written as there is room for. A text is written as a whole or not at all. No byte is written after the list. If
+ * the words are no bus, the answer is 0, and nothing is written. */
 
 /* The conditions that an edge fails, of the first of E1 to E4 that applies, in the order of its rule: at most 5, and 0 if it
  * would be accepted. Numbers that name no edge fail VMEBUS_CONDITION_HAS_DRIVER. */
@@ -194,7 +193,7 @@ uint32_t vmebus_failing(const struct vmebus *bus, uint32_t driver, uint32_t wire
                         uint32_t *conditions, size_t room);
 
 /* The text of the condition at a place of that list, from 0, as `vmebus explain` prints it: at most 58 bytes, and 0 if there
- * are not as many conditions, or if the numbers name no edge. No zero byte ends it. */
+ * is no condition at that place, or if the numbers name no edge. No zero byte ends it. */
 uint32_t vmebus_why(const struct vmebus *bus, uint32_t driver, uint32_t wire, uint32_t fall, uint32_t value,
                     uint32_t place, uint8_t *text, size_t room);
 
@@ -211,17 +210,16 @@ uint32_t vmebus_low(const struct vmebus *bus, uint32_t driver, uint32_t wire);
 /* 1 if the backplane has the driver with such a wire, and otherwise 0. */
 uint32_t vmebus_has(const struct vmebus *bus, uint32_t driver, uint32_t wire);
 
-/* What the library was built as: its version, and its words of a bus and of draws, which should be VMEBUS_VERSION,
+/* Three numbers of the library: its version, and how many words a bus and draws have in it. They should be VMEBUS_VERSION,
  * VMEBUS_WORDS and VMEBUS_DRAWS_WORDS. */
 uint32_t vmebus_build(uint32_t *numbers, size_t room);
 
-/* A seed that plays wires. Draws are moved by each draw, and the bus by none; each thread has its own.
- *
- * Makes the draws of a seed. `vmebus drive --seed` draws by the same numbers and weights. */
+/* Makes the draws of a seed. `vmebus drive --seed` draws by the same numbers and weights. Each draw moves the draws, and no
+ * draw moves the bus; each thread needs draws of its own. */
 void vmebus_draws(struct vmebus_draws *draws, uint64_t seed);
 
 /* Draws the next edge among all open edges of the wires that the library plays, writes it in one word, and counts it. The bus
- * is not stepped: make the edge in the design, and step it as any other.
+ * is not stepped: make the edge in the design, and step it like any other.
  *
  * The masks are 22, of the controller and of each slot. The bit of a wire's number is set if the library plays it; a mask
  * that is missing plays none. Answers 0; VMEBUS_NONE_OPEN if none of these wires has an open edge, with 0 in *edge; and
