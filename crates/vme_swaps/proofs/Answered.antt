@@ -47,10 +47,12 @@ module _ (version : Version) (p : Plan) (max : ℕ) (accepted : IsAccepted p) wh
   verdicts : (g h : List Edge) (e : Edge) → length g ≡ length h → StandAlike p g h → verdict (state g) e ≡ verdict (state h) e
   verdicts g h e same a = judged_alike p g h a version e (room g) ∙ (λ i. judged version p h e (check (not (same i == max)) TraceFull (Ok tt)))
 
-  alike_answers : (es g h : List Edge) → IsLegal version p g → IsLegal version p h → length g ≡ length h → StandAlike p g h → AnswerAlike p (state g) (state h) es
-  alike_answers [] g h legal also same a = record { answers = refl; stand = a }
-  alike_answers (e ∷ es) g h legal also same a =
-      let rest = by_both in
+  abbrev All : List Edge → Type 0
+  All es = (g h : List Edge) → IsLegal version p g → IsLegal version p h → length g ≡ length h → StandAlike p g h → AnswerAlike p (state g) (state h) es
+
+  one_more : (e : Edge) (es : List Edge) → All es → All (e ∷ es)
+  one_more e es all g h legal also same a =
+      let rest = subst (λ v. AnswerAlike p (after (state g) e) (if is_ok v then made (state h) e else state h) es) (verdicts g h e same a) (by_test (is_ok (verdict (state g) e)) refl) in
       record {
         answers = λ i. with_delivery (verdicts g h e same a i) (delivery_alike p g h a e i) ∷ rest.answers i;
         stand = rest.stand;
@@ -59,11 +61,12 @@ module _ (version : Version) (p : Plan) (max : ℕ) (accepted : IsAccepted p) wh
       by_test : (t : Bool) → is_ok (verdict (state g) e) ≡ t → AnswerAlike p (if t then made (state g) e else state g) (if t then made (state h) e else state h) es
       by_test true is =
           let allowed = allowed_where version p g e (room g) is in
-          alike_answers es (e ∷ g) (e ∷ h) (allowed, legal) (allowed_alike version p g h e accepted legal allowed also a, also) (ap suc same) (alike_behind version p g h e accepted legal allowed also a)
-      by_test false is = alike_answers es g h legal also same a
+          all (e ∷ g) (e ∷ h) (allowed, legal) (allowed_alike version p g h e accepted legal allowed also a, also) (ap suc same) (alike_behind version p g h e accepted legal allowed also a)
+      by_test false is = all g h legal also same a
 
-      by_both : AnswerAlike p (after (state g) e) (after (state h) e) es
-      by_both = subst (λ v. AnswerAlike p (after (state g) e) (if is_ok v then made (state h) e else state h) es) (verdicts g h e same a) (by_test (is_ok (verdict (state g) e)) refl)
+  alike_answers : (es : List Edge) → All es
+  alike_answers [] = λ g h legal also same a. record { answers = refl; stand = a }
+  alike_answers (e ∷ es) = one_more e es (alike_answers es)
 
 pub free_answers : (b : State) (first second : Edge) (later : List Edge) → IsAccepted b.plan → IsFree b.version b.plan b.history first second → answers (made (made b first) second) later ≡ answers (made (made b second) first) later
 free_answers b first second later accepted f = (alike_answers b.version b.plan b.max accepted later (second ∷ first ∷ b.history) (first ∷ second ∷ b.history) f.legal f.swapped refl f.alike).answers

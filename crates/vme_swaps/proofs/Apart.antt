@@ -18,7 +18,7 @@ use Rattle.vme_model.specs.Accepted.{IsAccepted}
 use Rattle.vme_model.specs.History.{drive, line, shown, last_value, last_level, cycles, has_strobed}
 use Rattle.vme_model.specs.Readings.{Readings, readings}
 use Rattle.vme_model.specs.Guards.{holds}
-use Rattle.vme_model.specs.Rules.{rule, are_grants_high, bus_numbers, answer_guard}
+use Rattle.vme_model.specs.Rules.{rule, are_grants_high, bus_numbers, answer_guard, burst_guard, show_guard}
 use Rattle.vme_model.specs.GrantSafety.{is_fall_on}
 use Rattle.vme_model.specs.CycleSafety.{KeepsItsAddress, OneAnswers, Answers}
 use Rattle.vme_model.specs.Safe.{OnEachPrefix}
@@ -194,11 +194,11 @@ one_grants version p h a b k is_a is_b =
     let high = grants_high version (readings p (a ∷ h) b.driver) b.wire b.fall b.value is_b pb.rule in
     let off = each_high (λ n. drive (a ∷ h) b.driver (Bg n)) high (grant_level a.wire) ga.2 in
     let own : is_edge_of b.driver (Bg (grant_level a.wire)) a ≡ true =
-        both (is_same_wire a.wire (Bg (grant_level a.wire))) (is_same_driver a.driver b.driver)
-        ((λ i. is_same_wire (ga.1 i) (Bg (grant_level a.wire))) ∙ same_level (grant_level a.wire))
-        ((λ i. is_same_driver (ga.0 i) (gb.0 i))) in
+    both (is_same_wire a.wire (Bg (grant_level a.wire))) (is_same_driver a.driver b.driver)
+    ((λ i. is_same_wire (ga.1 i) (Bg (grant_level a.wire))) ∙ same_level (grant_level a.wire))
+    ((λ i. is_same_driver (ga.0 i) (gb.0 i))) in
     let low : drive (a ∷ h) b.driver (Bg (grant_level a.wire)) ≡ true =
-        ap (λ t. if t then a.fall else drive h b.driver (Bg (grant_level a.wire))) own ∙ and_left a.fall (is_grant_wire a.wire) is_a in
+    ap (λ t. if t then a.fall else drive h b.driver (Bg (grant_level a.wire))) own ∙ and_left a.fall (is_grant_wire a.wire) is_a in
     let bad : not true ≡ true = ap not (sym low) ∙ off in cc
   where
     same_level : (n : ℕ) → (n == n) ≡ true
@@ -238,13 +238,16 @@ address_stays version p h a b k answers = is_false (is_same_wire b.wire Addr) (�
 
     by_way : is_same_wire b.wire Addr ≡ true → (fall : Bool) → b.fall ≡ fall → ⊥
     by_way on true falls =
-        let low : line p h AddressStrobe ≡ true = and_right _ _ (and_left _ _ (ruled version p h a.driver Dtack true a k.first refl wire way)) in
-        let high : not (line p h AddressStrobe) ≡ true = and_right _ _ (and_left _ _ (and_left _ _ (ruled version p h b.driver Addr true b k.second_alone refl (same_wire b.wire Addr on) falls))) in
+        let reads = readings p h b.driver in
+        let low = and_right (line p h DataStrobe) (line p h AddressStrobe) (and_left (line p h DataStrobe && line p h AddressStrobe) (holds (answer_guard (readings p h a.driver) (shown p h))) (ruled version p h a.driver Dtack true a k.first refl wire way)) in
+        let begins = and_left (drive h b.driver Bbsy && not (line p h AddressStrobe)) (holds (burst_guard reads))
+        (and_left ((drive h b.driver Bbsy && not (line p h AddressStrobe)) && holds (burst_guard reads)) (holds (show_guard reads b.value)) (ruled version p h b.driver Addr true b k.second_alone refl (same_wire b.wire Addr on) falls)) in
+        let high = and_right (drive h b.driver Bbsy) (not (line p h AddressStrobe)) begins in
         let bad : not true ≡ true = ap not (sym low) ∙ high in cc
     by_way on false rises =
         let ended : b.value ≡ None = no_value b.value ((λ i. has_value (sym (same_wire b.wire Addr on) i) (sym rises i) b.value) ∙ valued version p h b k.second_alone) in
         let nothing : shown p (b ∷ h) ≡ None = shown_by version p h b k.accepted k.legal k.second_alone on ∙ ended in
-        let answered = and_right _ _ (ruled version p (b ∷ h) a.driver Dtack true a k.first_behind refl wire way) in
+        let answered = and_right (line p (b ∷ h) DataStrobe && line p (b ∷ h) AddressStrobe) (holds (answer_guard (readings p (b ∷ h) a.driver) (shown p (b ∷ h)))) (ruled version p (b ∷ h) a.driver Dtack true a k.first_behind refl wire way) in
         let none = none_answers (readings p (b ∷ h) a.driver) (shown p (b ∷ h)) nothing in
         let bad : false ≡ true = sym none ∙ answered in cc
 
@@ -281,16 +284,16 @@ module _ (version : Version) (p : Plan) (h : List Edge) (a b : Edge) (k : AreAll
       let own_b = both _ _ (and_right b.fall (is_same_wire b.wire Dtack) is_b) (same_self b.driver) in
       let not_b = is_false (is_edge_of a.driver Dtack b) (apart version p h a b k a.driver Dtack own_a) in
       let low_a : drive (b ∷ a ∷ h) a.driver Dtack ≡ true =
-          ap (λ t. if t then b.fall else drive (a ∷ h) a.driver Dtack) not_b
-          ∙ ap (λ t. if t then a.fall else drive h a.driver Dtack) own_a
-          ∙ and_left a.fall (is_same_wire a.wire Dtack) is_a in
+      ap (λ t. if t then b.fall else drive (a ∷ h) a.driver Dtack) not_b
+      ∙ ap (λ t. if t then a.fall else drive h a.driver Dtack) own_a
+      ∙ and_left a.fall (is_same_wire a.wire Dtack) is_a in
       let low_b : drive (b ∷ a ∷ h) b.driver Dtack ≡ true =
-          ap (λ t. if t then b.fall else drive (a ∷ h) b.driver Dtack) own_b
-          ∙ and_left b.fall (is_same_wire b.wire Dtack) is_b in
+      ap (λ t. if t then b.fall else drive (a ∷ h) b.driver Dtack) own_b
+      ∙ and_left b.fall (is_same_wire b.wire Dtack) is_b in
       let legal : IsLegal version p (b ∷ a ∷ h) = (k.second, (k.first, k.legal)) in
       let one = whole OneAnswers (b ∷ a ∷ h) (legal_is_orderly version p (b ∷ a ∷ h) k.accepted legal).one_answer in
       let same : a.driver ≡ b.driver = one a.driver b.driver
-          (answers_low (b ∷ a ∷ h) a.driver (has version p h a.driver Dtack a k.first refl wire_a) low_a)
-          (answers_low (b ∷ a ∷ h) b.driver (has version p (a ∷ h) b.driver Dtack b k.second refl wire_b) low_b) in
+      (answers_low (b ∷ a ∷ h) a.driver (has version p h a.driver Dtack a k.first refl wire_a) low_a)
+      (answers_low (b ∷ a ∷ h) b.driver (has version p (a ∷ h) b.driver Dtack b k.second refl wire_b) low_b) in
       let also_b : is_edge_of a.driver Dtack b ≡ true = both _ _ (and_right b.fall (is_same_wire b.wire Dtack) is_b) ((λ i. is_same_driver b.driver (same i)) ∙ same_self b.driver) in
       apart version p h a b k a.driver Dtack own_a also_b

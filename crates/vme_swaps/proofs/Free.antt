@@ -73,14 +73,14 @@ module _ (version : Version) (p : Plan) (h : List Edge) (a b : Edge) (k : AreAll
       let of_b = serves_beside version p h b a (turned version p h a b k) d kind in
       let serve = serves kind (shown p h) in
       let left : served_since_request p (b ∷ a ∷ h) d kind ≡ (if is_fall_of d Irq b then false else (is_fall_of d Dtack b && serve) || served_since_request p (a ∷ h) d kind) =
-          λ i. if is_fall_of d Irq b then false else of_b i || served_since_request p (a ∷ h) d kind in
+      λ i. if is_fall_of d Irq b then false else of_b i || served_since_request p (a ∷ h) d kind in
       let right : served_since_request p (a ∷ b ∷ h) d kind ≡ (if is_fall_of d Irq a then false else (is_fall_of d Dtack a && serve) || served_since_request p (b ∷ h) d kind) =
-          λ i. if is_fall_of d Irq a then false else of_a i || served_since_request p (b ∷ h) d kind in
+      λ i. if is_fall_of d Irq a then false else of_a i || served_since_request p (b ∷ h) d kind in
       left
       ∙ swap_since (is_fall_of d Irq a) (is_fall_of d Dtack a && serve) (is_fall_of d Irq b) (is_fall_of d Dtack b && serve)
-        (λ e f. x e (and_left (is_fall_of d Dtack b) serve f) (and_right (is_fall_of d Dtack b) serve f))
-        (λ e f. y e (and_left (is_fall_of d Dtack a) serve f) (and_right (is_fall_of d Dtack a) serve f))
-        (served_since_request p h d kind)
+      (λ e f. x e (and_left (is_fall_of d Dtack b) serve f) (and_right (is_fall_of d Dtack b) serve f))
+      (λ e f. y e (and_left (is_fall_of d Dtack a) serve f) (and_right (is_fall_of d Dtack a) serve f))
+      (served_since_request p h d kind)
       ∙ sym right
 
   served_at : (d : Driver) (o : Option Row) → IsUnserved p h d a b (is_serving o (shown p h)) → IsUnserved p h d b a (is_serving o (shown p h)) → served_by p (b ∷ a ∷ h) d o ≡ served_by p (a ∷ b ∷ h) d o
@@ -130,10 +130,10 @@ module _ (version : Version) (p : Plan) (h : List Edge) (a b : Edge) (k : AreAll
           let stays = shown_beside version p h a b k answers in
           let self = same_self a.driver in
           let left : served_since_request p (b ∷ a ∷ h) a.driver kind ≡ false =
-              λ i. if requests i then false else (is_fall_of a.driver Dtack b && serves kind (shown p (a ∷ h))) || served_since_request p (a ∷ h) a.driver kind in
+          λ i. if requests i then false else (is_fall_of a.driver Dtack b && serves kind (shown p (a ∷ h))) || served_since_request p (a ∷ h) a.driver kind in
           let right : served_since_request p (a ∷ b ∷ h) a.driver kind ≡ (serves kind (shown p h) || served_since_request p (b ∷ h) a.driver kind) =
-              λ i. if way i && (is_same_wire (wire i) Irq && is_same_driver a.driver a.driver) then false
-              else ((way i && (is_same_wire (wire i) Dtack && self i)) && serves kind (stays i)) || served_since_request p (b ∷ h) a.driver kind in
+          λ i. if way i && (is_same_wire (wire i) Irq && is_same_driver a.driver a.driver) then false
+          else ((way i && (is_same_wire (wire i) Dtack && self i)) && serves kind (stays i)) || served_since_request p (b ∷ h) a.driver kind in
           let served : (serves kind (shown p h) || served_since_request p (b ∷ h) a.driver kind) ≡ true = λ i. serving i || served_since_request p (b ∷ h) a.driver kind in
           let bad : false ≡ true = sym left ∙ same ∙ right ∙ served in cc
 

@@ -3,3 +3,6 @@
 #![tactic(auto)]
 
 pub mod laws;
+mod swaps;
+
+pub use swaps::is_free;
