@@ -15,8 +15,8 @@ use Rattle.vme_model.specs.Verdict.{IsLegal, verdict_but_full}
 use Rattle.vme_swaps.specs.Alike.{StandAlike}
 use Rattle.vme_swaps.specs.Swaps.{IsFree, IsSwap, LeadThrough, AreOneButForSwaps}
 use Rattle.vme_swaps.proofs.Alike.{delivery_alike, allowed_alike, alike_behind, alike_refl, alike_trans}
-use Rattle.vme_swaps.proofs.Apart.{one_answers}
-use Rattle.vme_swaps.proofs.Free.{allowed, free_back}
+use Rattle.vme_swaps.proofs.Apart.{one_answers, turned}
+use Rattle.vme_swaps.proofs.Free.{allowed, delivery_beside, free_back}
 
 -- what two histories have in common
 pub record AreSame (version : Version) (p : Plan) (g h : List Edge) : Type 0 where
@@ -39,13 +39,13 @@ delivers p h e = by_test (is_fall_on Dtack e)
     by_test true some = refl
     by_test false some = absurd (cc)
 
-same_deliveries : (version : Version) (p : Plan) (h : List Edge) (a b : Edge) → IsAccepted p → IsFree version p h a b → delivered p (b ∷ a ∷ h) ≡ delivered p (a ∷ b ∷ h)
-same_deliveries version p h a b accepted f =
-    let k = allowed version p h a b accepted f.legal f.swapped in
+pub same_deliveries : (version : Version) (p : Plan) (h : List Edge) (a b : Edge) → IsAccepted p → IsLegal version p (b ∷ a ∷ h) → IsLegal version p (a ∷ b ∷ h) → delivered p (b ∷ a ∷ h) ≡ delivered p (a ∷ b ∷ h)
+same_deliveries version p h a b accepted legal swapped =
+    let k = allowed version p h a b accepted legal swapped in
     let one = λ (x : is_some (delivery p h a) ≡ true) (y : is_some (delivery p h b) ≡ true). one_answers version p h a b k (delivers p h a x) (delivers p h b y) in
-    (λ i. followed_by (followed_by (delivered p h) (delivery p h a)) (sym f.second i))
+    (λ i. followed_by (followed_by (delivered p h) (delivery p h a)) (delivery_beside version p h b a (turned version p h a b k) i))
     ∙ swap_followed (delivered p h) (delivery p h a) (delivery p h b) one
-    ∙ (λ i. followed_by (followed_by (delivered p h) (delivery p h b)) (sym f.first i))
+    ∙ (λ i. followed_by (followed_by (delivered p h) (delivery p h b)) (sym (delivery_beside version p h a b k) i))
 
 swapped_edges : (a b : Edge) (h : List Edge) → IsPermutation (b ∷ a ∷ h) (a ∷ b ∷ h)
 swapped_edges a b h = IsPermutation-swap (b ∷ a ∷ h) (a ∷ b ∷ h) 0 1 (omega arith) (omega arith) refl
@@ -53,7 +53,7 @@ swapped_edges a b h = IsPermutation-swap (b ∷ a ∷ h) (a ∷ b ∷ h) 0 1 (om
 pub same_at_once : (version : Version) (p : Plan) (h : List Edge) (a b : Edge) → IsAccepted p → IsFree version p h a b → AreSame version p (b ∷ a ∷ h) (a ∷ b ∷ h)
 same_at_once version p h a b accepted f = record {
   legal = f.swapped;
-  delivered = same_deliveries version p h a b accepted f;
+  delivered = same_deliveries version p h a b accepted f.legal f.swapped;
   alike = f.alike;
   edges = swapped_edges a b h;
 }
@@ -101,3 +101,32 @@ by_swaps version p (k ∷ ks) g h accepted legal lead =
 
 pub same_by_swaps : (version : Version) (p : Plan) (g h : List Edge) → IsAccepted p → IsLegal version p g → AreOneButForSwaps version p g h → AreSame version p g h
 same_by_swaps version p g h accepted legal one = by_swaps version p one.through g h accepted legal one.swaps
+
+-- swaps go back, one after another
+
+swap_back : (version : Version) (p : Plan) (g h : List Edge) → IsSwap version p g h → IsSwap version p h g
+swap_back version p g h s = record {
+  later = s.later;
+  before = s.before;
+  first = s.second;
+  second = s.first;
+  free = free_back version p s.before s.first s.second s.free;
+  from = s.to;
+  to = s.from;
+}
+
+one_further : (version : Version) (p : Plan) (through : List (List Edge)) (g h k : List Edge) → LeadThrough version p g through h → IsSwap version p h k → LeadThrough version p g (through ++ k ∷ []) k
+one_further version p [] g h k same s = (subst (λ x. IsSwap version p x k) (sym same) s, refl)
+one_further version p (m ∷ ms) g h k lead s = (lead.0, one_further version p ms m h k lead.1 s)
+
+lead_back : (version : Version) (p : Plan) (through : List (List Edge)) (g h : List Edge) → LeadThrough version p g through h → AreOneButForSwaps version p h g
+lead_back version p [] g h same = record { through = []; swaps = sym same }
+lead_back version p (k ∷ ks) g h lead =
+    let r = lead_back version p ks k h lead.1 in
+    record {
+      through = r.through ++ g ∷ [];
+      swaps = one_further version p r.through h k g r.swaps (swap_back version p g k lead.0);
+    }
+
+pub swaps_back : (version : Version) (p : Plan) (g h : List Edge) → AreOneButForSwaps version p g h → AreOneButForSwaps version p h g
+swaps_back version p g h one = lead_back version p one.through g h one.swaps

@@ -19,7 +19,7 @@ use Rattle.vme_model.specs.History.{shown, addressing, served_since_request, ser
 use Rattle.vme_model.specs.Deliveries.{delivery, delivered_by}
 use Rattle.vme_model.specs.GrantSafety.{is_fall_on}
 use Rattle.vme_model.specs.Verdict.{IsLegal, verdict_but_full}
-use Rattle.vme_model.proofs.Bools.{and_left, and_right}
+use Rattle.vme_model.proofs.Bools.{and_left, and_right, not_true}
 use Rattle.vme_histories.proofs.Others.{same_wire}
 use Rattle.vme_swaps.specs.Alike.{StandAlike}
 use Rattle.vme_swaps.specs.Swaps.{IsFree}
@@ -38,7 +38,7 @@ fall_on d w e is = both e.fall (is_same_wire e.wire w) (falls d w e is) (and_lef
 shown_beside : (version : Version) (p : Plan) (h : List Edge) (a b : Edge) → AreAllowed version p h a b → is_fall_on Dtack a ≡ true → shown p (b ∷ h) ≡ shown p h
 shown_beside version p h a b k is = shown_kept p h b (address_stays version p h a b k is)
 
-delivery_beside : (version : Version) (p : Plan) (h : List Edge) (a b : Edge) → AreAllowed version p h a b → delivery p (b ∷ h) a ≡ delivery p h a
+pub delivery_beside : (version : Version) (p : Plan) (h : List Edge) (a b : Edge) → AreAllowed version p h a b → delivery p (b ∷ h) a ≡ delivery p h a
 delivery_beside version p h a b k = by_test (is_fall_on Dtack a) refl
   where
     by_test : (t : Bool) → is_fall_on Dtack a ≡ t →
@@ -167,25 +167,35 @@ allowed version p h a b accepted legal swapped = record {
 }
 
 -- the decision
-pub decided : (version : Version) (p : Plan) (h : List Edge) (a b : Edge) (x y s t : Bool) → IsAccepted p → IsTrue x ↔ IsLegal version p (b ∷ a ∷ h) → IsTrue y ↔ IsLegal version p (a ∷ b ∷ h) → s ≡ serves_request p h a b → t ≡ serves_request p h b a → IsTrue (x && (y && (not s && not t))) ↔ IsFree version p h a b
-decided version p h a b x y s t accepted legal swapped first second = (forth x y s t legal.0 swapped.0 first second, back)
+pub decided : (version : Version) (p : Plan) (h : List Edge) (a b : Edge) (s : Bool) → IsAccepted p → IsLegal version p (b ∷ a ∷ h) → IsLegal version p (a ∷ b ∷ h) → s ≡ (serves_request p h a b || serves_request p h b a) → IsTrue (not s) ↔ IsFree version p h a b
+decided version p h a b s accepted legal swapped is = (forth s is, back s is)
   where
-    forth : (x y s t : Bool) → (x ≡ true → IsLegal version p (b ∷ a ∷ h)) → (y ≡ true → IsLegal version p (a ∷ b ∷ h)) → s ≡ serves_request p h a b → t ≡ serves_request p h b a → (x && (y && (not s && not t))) ≡ true → IsFree version p h a b
-    forth true true false false l m u v is =
-        let k = allowed version p h a b accepted (l refl) (m refl) in
-        free_unless version p h a b k (λ e. absurd (cc)) (λ e. absurd (cc))
-    forth true true false true l m u v is = absurd (cc)
-    forth true true true t l m u v is = absurd (cc)
-    forth true false s t l m u v is = absurd (cc)
-    forth false y s t l m u v is = absurd (cc)
+    k : AreAllowed version p h a b
+    k = allowed version p h a b accepted legal swapped
 
-    not_so : (b : Bool) → (b ≡ true → ⊥) → not b ≡ true
-    not_so true never = absurd (never refl)
-    not_so false never = refl
+    neither : (x y : Bool) → false ≡ (x || y) → (x ≡ true → ⊥) × (y ≡ true → ⊥)
+    neither true y e = absurd (cc)
+    neither false true e = absurd (cc)
+    neither false false e = (λ f. cc, λ f. cc)
 
-    back : IsFree version p h a b → (x && (y && (not s && not t))) ≡ true
-    back f =
-        let k = allowed version p h a b accepted f.legal f.swapped in
-        both x _ (legal.1 f.legal) (both y _ (swapped.1 f.swapped) (both (not s) (not t)
-        (not_so s (λ e. unlike version p h a b k (sym first ∙ e) f.alike))
-        (not_so t (λ e. unlike version p h b a (turned version p h a b k) (sym second ∙ e) (alike_sym p (b ∷ a ∷ h) (a ∷ b ∷ h) f.alike)))))
+    forth : (t : Bool) → t ≡ (serves_request p h a b || serves_request p h b a) → not t ≡ true → IsFree version p h a b
+    forth true e n = absurd (cc)
+    forth false e n = let two = neither (serves_request p h a b) (serves_request p h b a) e in free_unless version p h a b k two.0 two.1
+
+    one_of : (x y : Bool) → true ≡ (x || y) → (x ≡ true → ⊥) → (y ≡ true → ⊥) → ⊥
+    one_of true y e first second = first refl
+    one_of false true e first second = second refl
+    one_of false false e first second = cc
+
+    back : (t : Bool) → t ≡ (serves_request p h a b || serves_request p h b a) → IsFree version p h a b → not t ≡ true
+    back false e f = refl
+    back true e f = absurd (one_of (serves_request p h a b) (serves_request p h b a) e
+        (λ x. unlike version p h a b k x f.alike)
+        (λ y. unlike version p h b a (turned version p h a b k) y (alike_sym p (b ∷ a ∷ h) (a ∷ b ∷ h) f.alike)))
+
+-- two orders that are both legal lead to the same, exactly if no answer serves the request
+pub differs : (version : Version) (p : Plan) (h : List Edge) (a b : Edge) → IsAccepted p → IsLegal version p (b ∷ a ∷ h) → IsLegal version p (a ∷ b ∷ h) → IsFree version p h a b ↔ ((serves_request p h a b || serves_request p h b a) ≡ false)
+differs version p h a b accepted legal swapped =
+    let s = serves_request p h a b || serves_request p h b a in
+    let d = decided version p h a b s accepted legal swapped refl in
+    (λ f. not_true s (d.1 f), λ e. d.0 (ap not e))

@@ -5,5 +5,6 @@
 pub mod Alike
 -- believe: which two edges may change places, and histories that are one but for such swaps
 pub mod Swaps
--- words: an answer that serves the interrupt request of its own board
+-- words: an answer that serves the interrupt request of its own board; to be believed for
+-- `legal_orders_differ_by_a_served_request` alone
 pub mod Served

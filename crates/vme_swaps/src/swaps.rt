@@ -1,5 +1,5 @@
 //! Whether two edges may change places.
-ghost use Rattle.std.specs.Prelude.{◌≡◌, ◌∷◌, ◌↔◌, IsTrue};
+ghost use Rattle.std.specs.Prelude.{◌≡◌, ◌∷◌, ◌↔◌, ◌||◌, IsTrue};
 ghost use Rattle.vme_model.specs.History.{shown};
 ghost use Rattle.vme_model.specs.Plan.{board_of};
 ghost use Rattle.vme_model.specs.Verdict.{IsLegal};
@@ -50,6 +50,25 @@ fn serves_request(state: &BusState, answer: Edge, request: Edge) -> bool
         && is_serving(state, answer.driver)
 }
 
+/// Whether the rules allow both orders of two edges.
+fn are_both_allowed(state: &BusState, first: Edge, second: Edge) -> bool
+    ensures { OfHistory state.now (λ version p h. IsTrue result
+        ↔ (IsLegal version p (second ∷ first ∷ h) × IsLegal version p (first ∷ second ∷ h))) }
+{
+    if !are_allowed(state, first, second) {
+        return false;
+    }
+    are_allowed(state, second, first)
+}
+
+/// Whether one of two edges is an answer that serves the interrupt request which the other makes.
+fn is_request_served(state: &BusState, first: Edge, second: Edge) -> bool
+    ensures { OfHistory state.now (λ _ p h.
+        result ≡ (serves_request p h first second || serves_request p h second first)) }
+{
+    serves_request(state, first, second) || serves_request(state, second, first)
+}
+
 /// Whether two edges may change places after the edges that lead to the state: both orders are
 /// legal, each edge delivers the same in both, and the bus stands alike behind them.
 ///
@@ -59,8 +78,8 @@ fn serves_request(state: &BusState, answer: Edge, request: Edge) -> bool
 pub fn is_free(state: &BusState, first: Edge, second: Edge) -> bool
     ensures { OfHistory state.now (λ version p h. IsTrue result ↔ IsFree version p h first second) }
 {
-    are_allowed(state, first, second)
-        && are_allowed(state, second, first)
-        && !serves_request(state, first, second)
-        && !serves_request(state, second, first)
+    if !are_both_allowed(state, first, second) {
+        return false;
+    }
+    !is_request_served(state, first, second)
 }
