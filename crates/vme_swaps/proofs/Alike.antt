@@ -1,5 +1,5 @@
 -- Two histories after which the bus stands alike: the rules read the same, and so after a further edge.
-use Rattle.std.proofs.Common.{◌≡◌, ◌∙◌, refl, sym, ap, subst, ℕ, Bool, true, false, List, ◌∷◌, ◌+◌}
+use Rattle.std.proofs.Common.{◌≡◌, ◌∙◌, refl, sym, ap, ℕ, Bool, true, false, List, ◌∷◌, ◌+◌}
 use Rattle.std.specs.Prelude.{◌&&◌, ◌||◌, not, if◌then◌else◌, Option, Some, None, Ok, find, is_some}
 use Rattle.std.specs.List.{list_any, list_all}
 use Rattle.std.specs.Option.{option_map_or, option_and_then}
@@ -15,13 +15,13 @@ use Rattle.vme_model.specs.declared.signals.Edge.{Edge}
 use Rattle.vme_model.specs.declared.signals.Driver.{Driver}
 use Rattle.vme_model.specs.declared.signals.Driver.TheVariants.{Controller, Slot}
 use Rattle.vme_model.specs.declared.signals.Wire.{Wire}
-use Rattle.vme_model.specs.declared.signals.Wire.TheVariants.{Bg, Berr, Br, BgOut, Bbsy, Addr, AddressStrobe, DataStrobe, Irq, IackOut, Dtack}
+use Rattle.vme_model.specs.declared.signals.Wire.TheVariants.{Bg, Berr, Br, BgOut, Bbsy, Addr, AddressStrobe, DataStrobe, Irq, Dtack}
 use Rattle.vme_model.specs.Signals.{is_edge_of, is_fall_of, is_same_wire, is_same_driver, is_grant, grant_level, has_wire}
 use Rattle.vme_model.specs.Plan.{Plan, board, board_of, drives, grant_chain, upstream, last_active, active, up_to, head_wire, out_wire, requests_on, interrupts_on}
 use Rattle.vme_model.specs.Accepted.{IsAccepted}
-use Rattle.vme_model.specs.History.{drive, line, segment, shown, addressing, last_value, last_level, cycles, has_strobed, served_since_request, serves}
-use Rattle.vme_model.specs.Readings.{Readings, readings, is_served}
-use Rattle.vme_model.specs.Settling.{settling, settling_guard, as_settles, berr_settles, bg_rise_settles, bg_fall_settles, is_unanswerable}
+use Rattle.vme_model.specs.History.{drive, segment, shown, addressing, last_value, served_since_request, serves}
+use Rattle.vme_model.specs.Readings.{readings}
+use Rattle.vme_model.specs.Settling.{settling_guard, as_settles, berr_settles, bg_rise_settles, bg_fall_settles, is_unanswerable}
 use Rattle.vme_model.specs.Guards.{holds}
 use Rattle.vme_model.specs.Deliveries.{delivery, delivered_by}
 use Rattle.vme_model.specs.Verdict.{IsLegal, Judgement, check, ruled, driver_guard, judged, verdict_but_full}

@@ -1,6 +1,6 @@
 -- The answers to all later edges, after histories after which the bus stands alike.
-use Rattle.std.proofs.Common.{◌≡◌, ◌∙◌, refl, sym, ap, subst, ℕ, suc, Bool, true, false, List, [], ◌∷◌, length}
-use Rattle.std.specs.Prelude.{◌==◌, ◌&&◌, not, if◌then◌else◌, Result, Ok, Err, is_ok}
+use Rattle.std.proofs.Common.{◌≡◌, ◌∙◌, refl, ap, subst, ℕ, suc, Bool, true, false, List, [], ◌∷◌, length}
+use Rattle.std.specs.Prelude.{◌==◌, ◌&&◌, not, if◌then◌else◌, Ok, is_ok}
 use Rattle.vme_model.specs.declared.refusals.Refused.{Refused}
 use Rattle.vme_model.specs.declared.refusals.Refused.TheVariants.{NoSuchDriver, AlreadyThere, Rule, NotSettled, TraceFull}
 use Rattle.vme_model.specs.declared.signals.Version.{Version}
@@ -11,7 +11,7 @@ use Rattle.vme_model.specs.Accepted.{IsAccepted}
 use Rattle.vme_model.specs.History.{drive}
 use Rattle.vme_model.specs.Readings.{readings}
 use Rattle.vme_model.specs.Rules.{rule}
-use Rattle.vme_model.specs.Deliveries.{answer, with_delivery}
+use Rattle.vme_model.specs.Deliveries.{with_delivery}
 use Rattle.vme_model.specs.Verdict.{State, Judgement, IsLegal, check, is_other_state, settled, judged, verdict, verdict_but_full, made, after, kept}
 use Rattle.vme_model.specs.Settling.{settling}
 use Rattle.vme_bus.specs.Answers.{answers}

@@ -1,6 +1,6 @@
 -- What comes behind free swaps: it stays legal, delivers the same, and leaves the bus standing alike.
-use Rattle.std.proofs.Common.{◌≡◌, ◌∙◌, refl, sym, ap, subst, Bool, true, false, List, [], ◌∷◌, ◌++◌, ◌<◌, length, arith}
-use Rattle.std.specs.Prelude.{◌&&◌, ◌↔◌, if◌then◌else◌, Option, Some, None, Ok, is_some, swap, IsPermutation}
+use Rattle.std.proofs.Common.{◌≡◌, ◌∙◌, refl, sym, subst, Bool, true, false, List, [], ◌∷◌, ◌++◌, arith}
+use Rattle.std.specs.Prelude.{◌↔◌, if◌then◌else◌, Option, Some, None, is_some, IsPermutation}
 use Rattle.std.proofs.lemmas.List.Sorted.{IsPermutation-refl, IsPermutation-cons, IsPermutation-swap, IsPermutation-trans}
 use Rattle.vme_model.specs.declared.deliveries.Delivery.{Delivery}
 use Rattle.vme_model.specs.declared.signals.Version.{Version}
@@ -11,7 +11,7 @@ use Rattle.vme_model.specs.Accepted.{IsAccepted}
 use Rattle.vme_model.specs.History.{shown, addressing}
 use Rattle.vme_model.specs.Deliveries.{delivery, delivered, delivered_by, followed_by}
 use Rattle.vme_model.specs.GrantSafety.{is_fall_on}
-use Rattle.vme_model.specs.Verdict.{IsLegal, verdict_but_full}
+use Rattle.vme_model.specs.Verdict.{IsLegal}
 use Rattle.vme_swaps.specs.Alike.{StandAlike}
 use Rattle.vme_swaps.specs.Swaps.{IsFree, IsSwap, LeadThrough, AreOneButForSwaps}
 use Rattle.vme_swaps.proofs.Alike.{delivery_alike, allowed_alike, alike_behind, alike_refl, alike_trans}

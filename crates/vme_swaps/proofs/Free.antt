@@ -1,12 +1,11 @@
 -- Two edges that are allowed in both orders are free, unless one of them is an answer that serves the
 -- request that the other makes.
 use Rattle.std.proofs.Common.{◌≡◌, ◌∙◌, refl, sym, ap, Bool, true, false, List, ◌∷◌}
-use Rattle.std.specs.Prelude.{◌&&◌, ◌||◌, ◌↔◌, not, if◌then◌else◌, Option, Some, None, Ok, IsTrue}
+use Rattle.std.specs.Prelude.{◌&&◌, ◌||◌, ◌↔◌, not, if◌then◌else◌, Option, Some, None, IsTrue}
 use Rattle.std.specs.Option.{option_map_or}
 use Rattle.vme_model.specs.declared.boards.Row.{Row}
 use Rattle.vme_model.specs.declared.boards.InterrupterRow.{InterrupterRow}
 use Rattle.vme_model.specs.declared.boards.IrqKind.{IrqKind}
-use Rattle.vme_model.specs.declared.deliveries.Delivery.{Delivery}
 use Rattle.vme_model.specs.declared.signals.Version.{Version}
 use Rattle.vme_model.specs.declared.signals.Edge.{Edge}
 use Rattle.vme_model.specs.declared.signals.Driver.{Driver}
@@ -18,7 +17,7 @@ use Rattle.vme_model.specs.Accepted.{IsAccepted}
 use Rattle.vme_model.specs.History.{shown, addressing, served_since_request, serves}
 use Rattle.vme_model.specs.Deliveries.{delivery, delivered_by}
 use Rattle.vme_model.specs.GrantSafety.{is_fall_on}
-use Rattle.vme_model.specs.Verdict.{IsLegal, verdict_but_full}
+use Rattle.vme_model.specs.Verdict.{IsLegal}
 use Rattle.vme_model.proofs.Bools.{and_left, and_right, not_true}
 use Rattle.vme_histories.proofs.Others.{same_wire}
 use Rattle.vme_swaps.specs.Alike.{StandAlike}
