@@ -74,7 +74,8 @@ fn is_request_served(state: &BusState, first: Edge, second: Edge) -> bool
 ///
 /// The two orders need not be compared by all that they lead to. Where both are legal, one thing
 /// alone can differ: an answer serves an interrupt request of its own board that was there before
-/// it, and not one that comes after it.
+/// it, and not one that comes after it. At most four edges are judged, and the state is copied at
+/// most twice.
 pub fn is_free(state: &BusState, first: Edge, second: Edge) -> bool
     ensures { OfHistory state.now (λ version p h. IsTrue result ↔ IsFree version p h first second) }
 {
