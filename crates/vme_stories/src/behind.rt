@@ -15,7 +15,7 @@ use vme_bus::Bus;
 use vme_events::events_of;
 use vme_explain::Marks;
 use vme_goals::Event;
-use vme_model::{Cycle, Edge, Wire};
+use vme_model::{Cycle, Edge, Refused, Version, Wire};
 use vme_store::Code;
 
 /// A bus with the marks of its edges, which are numbered by their places. A contract sees it as the
@@ -68,8 +68,22 @@ impl Behind {
         }
     }
 
+    /// The version of the bus.
+    pub(crate) fn version(&self) -> Version
+        ensures { result ≡ self.now.version }
+    {
+        self.bus.version()
+    }
+
+    /// The answer to an edge that is about to come, but for what it delivers.
+    pub(crate) fn verdict(&self, edge: Edge) -> Result<(), Refused>
+        ensures { result ≡ verdict self.now edge }
+    {
+        self.bus.verdict(edge)
+    }
+
     /// Makes the edge if it is accepted, and returns whether it is.
-    fn step(&mut self, edge: Edge) -> bool
+    pub(crate) fn step(&mut self, edge: Edge) -> bool
         ensures accepted { result ≡ is_ok (verdict self.old edge) }
         ensures state { self.new ≡ after self.old edge }
     {
