@@ -11,7 +11,7 @@ use Rattle.vme_model.specs.declared.signals.Version.{Version}
 use Rattle.vme_model.specs.Locality.{AreWellFormed}
 use Rattle.vme_model.specs.Plan.{Plan}
 use Rattle.vme_model.specs.Signals.{is_well_formed}
-use Rattle.vme_model.specs.Verdict.{State, Judgement, after, kept, verdict}
+use Rattle.vme_model.specs.Verdict.{State, Judgement, after, kept, made, verdict}
 use Rattle.vme_engines.specs.Checking.{first_refusal, or_refusal}
 use Rattle.vme_engines.specs.Explaining.{IsUnasked}
 use Rattle.vme_engines.specs.Followed.{IsNext}
@@ -40,6 +40,23 @@ stays_at t old next now is met = is ∙ ap (λ (u : Bool). if u then old else ne
 pub goes_on : (t : Bool) (old next now : State) → now ≡ (if t then old else next) → t ≡ false
     → now ≡ next
 goes_on t old next now is other = is ∙ ap (λ (u : Bool). if u then old else next) other
+
+pub asked_still : (asked : Option ℕ) (n : ℕ) (old now : State) (e : Edge) → now ≡ old
+    → is_asked asked n old e ≡ true → is_asked asked n now e ≡ true
+asked_still asked n old now e same met =
+    subst (λ (s : State). is_asked asked n s e ≡ true) (sym same) met
+
+same_by : (b next : State) (t : Bool)
+    → (if t then next else b) ≡ (if not t then b else (if t then next else b))
+same_by b next true = refl
+same_by b next false = refl
+
+-- a refused edge leaves the bus as it was
+pub first_refused : (asked : Option ℕ) (n : ℕ) (b now : State) (e : Edge) → asked ≡ None
+    → now ≡ after b e → now ≡ (if is_asked asked n b e then b else after b e)
+first_refused asked n b now e none is =
+    is ∙ same_by b (made b e) (is_ok (verdict b e))
+    ∙ sym (ap (λ (a : Option ℕ). if is_asked a n b e then b else after b e) none)
 
 ok_none : (n : ℕ) (j : Judgement) → is_ok j ≡ true → or_refusal n j None ≡ None
 ok_none n (Ok u) h = refl

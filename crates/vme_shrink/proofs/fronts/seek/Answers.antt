@@ -1,8 +1,7 @@
-use Rattle.std.proofs.Common.{◌∙◌, ◌+◌, ◌++◌, Some, get_or, subst, sym, arith, take}
-use Rattle.vme_model.specs.Verdict.{State, after}
+use Rattle.std.proofs.Common.{◌≡◌, ◌∙◌, ◌+◌, ◌++◌, Some, true, subst, sym, arith, take}
 use Rattle.vme_engines.specs.Explaining.{IsUnasked}
 use Rattle.vme_shrink.specs.Sought.{IsFront, is_asked}
-use Rattle.vme_shrink.proofs.SoughtEdges.{formed_at, front_next, goes_on, met_here, number_at, stays_at, unasked_next, whole_taken}
+use Rattle.vme_shrink.proofs.SoughtEdges.{asked_still, formed_at, front_next, goes_on, met_here, number_at, stays_at, unasked_next, whole_taken}
 use Rattle.vme_shrink.proofs.fronts.seek.Goals as goal
 
 pub meets-requires : goal.meets-requires
@@ -20,7 +19,7 @@ returns-then-is_met-clause-sought c = λ p v before at is none.
     (number_at before c.args.edges.now i c.args.judged c.loop-edge.number c.loop-edge-test.true at
     c.loop-edge.invariant.number) c.loop-edge-test.true
     (same ∙ c.loop-edge.invariant.kept p v before at is)
-    (subst (λ (s : State). is_asked c.args.asked (c.loop-edge.number + 1) s _ ≡ true) (sym same) met)
+    (asked_still c.args.asked (c.loop-edge.number + 1) c.loop-edge.front c.meets.new.front _ same met)
     (c.loop-edge.invariant.unasked p v before at is none)
 
 pub returns-then-is_met-clause-formed : goal.returns-then-is_met-clause-formed
