@@ -17,7 +17,7 @@ use Rattle.vme_stories.specs.Stories.{IsFound, IsPart, IsTight, IsTightAt, accep
 use Rattle.vme_stories.specs.Replies.{Reply, reply, reply_at}
 use Rattle.vme_stories.proofs.Alike.{alike_reply, reply_alike}
 use Rattle.vme_stories.proofs.Found.{found_by, found_full, reply_left}
-use Rattle.vme_stories.proofs.Lists.{accepted_again, kept_append, kept_plan, kept_version, without_few, without_front}
+use Rattle.vme_stories.proofs.Lists.{accepted_again, kept_accepted, kept_append, kept_plan, kept_version, without_few, without_front}
 use Rattle.vme_stories.proofs.Parts.{part_few, part_of_part, part_same, without_part}
 
 true_false : true ≡ false → ⊥
@@ -560,8 +560,24 @@ list_again b s mid g list from to first is made =
     (is ∙ ap (λ (x : State). kept x (drop to g)) first
     ∙ sym (kept_append b (take from g) (drop to g)))
 
+-- the edges that are left lead to the bus
+pub leads_again : (b s mid : State) (g list : List Edge) (from to : ℕ)
+    → b ≡ at_power_up b.version b.plan trace_limit → b.history ≡ [] → mid ≡ kept b (take from g)
+    → s ≡ kept mid (drop to g) → list ≡ in_order s.history → LeadsTo list s
+leads_again b s mid g list from to power none first is made =
+    let es : List Edge = take from g ++ drop to g in
+    let all : s ≡ kept b es =
+    is ∙ ap (λ (x : State). kept x (drop to g)) first
+    ∙ sym (kept_append b (take from g) (drop to g)) in
+    let same : accepted b es ≡ list = ap (λ (x : State). in_order x.history) (sym all) ∙ sym made in
+    record {
+      made = made;
+      leads = all ∙ sym (kept_accepted b es none)
+          ∙ (λ i. kept (sym (start_of b s es power all) i) (same i));
+    }
+
 -- the edges that were made
-pub begins : (s : Search) → LeadsTo s.list.items s.behind → s.reply ≡ reply_at s.behind s.edge
+pub begins : (s : Search) → LeadsTo s.list.items s.bus → s.reply ≡ reply_at s.bus s.edge
     → IsSearch s
 begins s led said = record {
   reply = said ∙ ap (λ (x : State). reply_at x s.edge) led.leads;

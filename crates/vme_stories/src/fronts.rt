@@ -4,7 +4,6 @@ ghost use Rattle.vme_model.specs.Report.{at_power_up, trace_limit};
 ghost use Rattle.vme_model.specs.Signals.{is_well_formed};
 ghost use Rattle.vme_model.specs.Verdict.{after, verdict};
 
-use crate::behind::Behind;
 use std::alloc::{AllocError, Global};
 use std::marker::Model;
 use vme_bus::Bus;
@@ -16,7 +15,7 @@ use vme_store::Code;
 /// It stores 4 bytes an edge.
 #[derive(Drop)]
 pub struct Front {
-    pub(crate) behind: Behind,
+    pub(crate) bus: Bus,
     pub(crate) edges: Vec<Code>,
 }
 
@@ -26,18 +25,19 @@ impl Model for Front {
 
     ghost Value = { State };
 
-    ghost view = { λ f. f.behind };
+    ghost view = { λ f. f.bus };
 
-    ghost invariant = { λ f. LeadsTo f.edges.items f.behind };
+    ghost invariant = { λ f. LeadsTo f.edges.items f.bus };
 }
 
 impl Front {
     /// That of a bus, which is put back to power-up: no edge was made.
-    pub fn new(alloc: Global, bus: Bus) -> Front
+    pub fn new(alloc: Global, mut bus: Bus) -> Front
         ensures { result ≡ at_power_up bus.version bus.plan trace_limit }
     {
+        bus.restart();
         Front {
-            behind: Behind::new(bus),
+            bus,
             edges: Vec::new(alloc),
         }
     }
@@ -46,7 +46,7 @@ impl Front {
     pub fn version(&self) -> Version
         ensures { result ≡ self.now.version }
     {
-        self.behind.version()
+        self.bus.version()
     }
 
     /// The answer to an edge that is about to come, but for what it delivers: the first that
@@ -54,7 +54,7 @@ impl Front {
     pub fn verdict(&self, edge: Edge) -> Result<(), Refused>
         ensures { result ≡ verdict self.now edge }
     {
-        self.behind.verdict(edge)
+        self.bus.verdict(edge)
     }
 
     /// Makes a well-formed edge if it is accepted, and returns whether it is.
@@ -68,7 +68,7 @@ impl Front {
     {
         let made = self.edges.len();
         self.edges.push(Code::of(edge))?;
-        let is_accepted = self.behind.step(edge);
+        let is_accepted = self.bus.step(edge).is_ok();
         if !is_accepted {
             self.edges.truncate(made);
         }

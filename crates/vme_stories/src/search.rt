@@ -6,18 +6,19 @@ ghost use Rattle.vme_stories.specs.Replies.{reply};
 ghost use Rattle.vme_stories.specs.Stories.{IsFound, IsPart, IsTight, IsTightAt, without};
 ghost use Rattle.vme_stories.specs.Searching.{HasLeft, IsOn, IsSearch, next_size, start};
 
-use crate::behind::{Behind, go_on};
+use crate::behind::{go_on, reply_behind};
 use crate::fronts::Front;
 use crate::replies::Reply;
 use std::alloc::{AllocError, Global};
 use std::mem;
+use vme_bus::Bus;
 use vme_model::Edge;
 use vme_store::Code;
 
 /// A search for a story of an edge.
 #[derive(Drop)]
 struct Search {
-    behind: Behind,
+    bus: Bus,
     edge: Edge,
     /// What is said of the edge behind the list.
     reply: Reply,
@@ -47,12 +48,13 @@ impl Search {
         ensures list { result.list.items ≡ in_order front.history }
         ensures edge { result.edge ≡ edge }
     {
-        let reply = front.behind.reply(edge);
+        let Front { mut bus, edges } = front;
+        let reply = reply_behind(&mut bus, &edges, edge);
         Search {
-            behind: front.behind,
+            bus,
             edge,
             reply,
-            list: front.edges,
+            list: edges,
             other: Vec::new(alloc),
         }
     }
@@ -72,11 +74,11 @@ impl Search {
         ensures edge { self.new.edge ≡ self.old.edge }
         ensures target { self.new.reply ≡ self.old.reply }
     {
-        self.behind.restart();
+        self.bus.restart();
         self.other.clear();
-        go_on(&mut self.behind, &mut self.other, &self.list[..from])?;
-        go_on(&mut self.behind, &mut self.other, &self.list[to..])?;
-        Ok(self.behind.reply(self.edge))
+        go_on(&mut self.bus, &mut self.other, &self.list[..from])?;
+        go_on(&mut self.bus, &mut self.other, &self.list[to..])?;
+        Ok(reply_behind(&mut self.bus, &self.other, self.edge))
     }
 
     /// Leaves the places from one up to another out, with what is then refused, if the same is said

@@ -5,7 +5,8 @@ use Rattle.vme_stories.proofs.fronts.Front.step.Goals as goal
 pub invariant_of-self-else-not-is_accepted : goal.invariant_of-self-else-not-is_accepted
 invariant_of-self-else-not-is_accepted c =
     let edges = c.self.inside.edges.items in
-    leads_more c.self.inside.behind c.step-is_accepted.new.self edges c.push.new.self.items
-    c.args.edge c.self.invariant c.step-is_accepted.ensures.state
+    leads_more c.self.inside.bus c.step.new.self edges c.push.new.self.items
+    c.args.edge c.self.invariant c.step.ensures.state
     (c.in_ok-push.ensures.items ∙ ap (λ d. edges ++ d ∷ []) c.of.ensures)
-    (sym c.step-is_accepted.ensures.accepted ∙ c.if-not-is_accepted.false)
+    (sym c.step.ensures.accepted ∙ sym c.is_ok-is_accepted.ensures.value
+    ∙ c.if-not-is_accepted.false)
