@@ -9,6 +9,7 @@ use mathlib.Core.List.{reverse-reverse}
 use Rattle.vme_model.specs.declared.refusals.Refused.{Refused}
 use Rattle.vme_model.specs.declared.signals.Edge.{Edge}
 use Rattle.vme_model.specs.declared.signals.Version.{Version}
+use Rattle.vme_model.specs.History.{in_order}
 use Rattle.vme_model.specs.Plan.{Plan}
 use Rattle.vme_model.specs.Report.{at_power_up, trace_limit}
 use Rattle.vme_model.specs.Signals.{is_well_formed}
@@ -39,8 +40,7 @@ use Rattle.vme_engines.proofs.ReadOn.{came_begins}
 use Rattle.vme_engines.proofs.Waits.{stops_unread, waits_now}
 use Rattle.vme_engines.proofs.WrittenLines.{appends_behind, front_after}
 use Rattle.vme_stories.specs.Stories.{IsFound, accepted}
-use Rattle.vme_stories.proofs.Lists.{accepted_again, kept_plan, kept_version}
-use Rattle.vme_shrink.specs.declared.fronts.Front.{Front}
+use Rattle.vme_stories.proofs.Lists.{kept_plan, kept_version}
 use Rattle.vme_shrink.specs.declared.shrinks.Written.{Written}
 use Rattle.vme_shrink.specs.declared.shrinks.Written.TheVariants.{Text, Beyond}
 use Rattle.vme_shrink.specs.Shrinking.{IsStoryText, IsWritten, Shrinks, WritesStory}
@@ -66,21 +66,19 @@ bench_of p v es s is =
     ap (λ (x : State). at_power_up x.version x.plan trace_limit) is
     ∙ (λ i. at_power_up (kept_version (bench p v) es i) (kept_plan (bench p v) es i) trace_limit)
 
-pub found_of : (p : Plan) (v : Version) (es : List Edge) (front : Front) (e : Edge) (g : List Edge)
+pub found_of : (p : Plan) (v : Version) (es : List Edge) (front : State) (e : Edge) (g : List Edge)
     → IsFront p v es front
-    → IsFound (at_power_up front.bus.version front.bus.plan trace_limit)
-    (accepted (at_power_up front.bus.version front.bus.plan trace_limit) front.edges.items) e g
+    → IsFound (at_power_up front.version front.plan trace_limit) (in_order front.history) e g
     → IsFound (bench p v) (accepted (bench p v) es) e g
 found_of p v es front e g is found =
-    let b = bench_of p v es front.bus is.bus in
-    subst (λ h. IsFound (bench p v) h e g)
-    (ap (accepted (bench p v)) is.edges ∙ accepted_again (bench p v) es refl)
-    (subst (λ (s : State). IsFound s (accepted s front.edges.items) e g) b found)
+    let b = bench_of p v es front is in
+    subst (λ h. IsFound (bench p v) h e g) (ap (λ (s : State). in_order s.history) is)
+    (subst (λ (s : State). IsFound s (in_order front.history) e g) b found)
 
-pub version_of : (p : Plan) (v : Version) (es : List Edge) (front : Front) → IsFront p v es front
-    → front.bus.version ≡ v
+pub version_of : (p : Plan) (v : Version) (es : List Edge) (front : State) → IsFront p v es front
+    → front.version ≡ v
 version_of p v es front is =
-    ap (λ (s : State). s.version) is.bus ∙ kept_version (bench p v) es
+    ap (λ (s : State). s.version) is ∙ kept_version (bench p v) es
 
 -- its edges are well formed
 pub story_formed : (b : State) (h : List Edge) (e : Edge) (g : List Edge) → IsFound b h e g
@@ -186,7 +184,7 @@ module _ (asked : Option ℕ) (p : Plan) (v : Version) (before es : List Edge)
   split_of front rest e split =
       ap (λ l. before ++ l) split ∙ sym (append_assoc before front (e ∷ rest))
 
-  pub writes : (now : Front) (e : Edge) (status : Status) → IsMet asked p v before es now e
+  pub writes : (now : State) (e : Edge) (status : Status) → IsMet asked p v before es now e
       → ((ds : List Edge) → IsFront p v ds now → WritesStory p v ds e mid new (Ok status))
       → LeavesNow (Leaves asked p) v (before ++ es) more old new (Ok (Text status))
   writes now e status met wrote = λ trace from to came.
@@ -195,7 +193,7 @@ module _ (asked : Option ℕ) (p : Plan) (v : Version) (before es : List Edge)
       (Appends old new) (before ++ met.front) met.rest (split_of met.front met.rest e met.split)
       met.next w.0 w.2 (appends_behind old mid new w.1 kept_so w.3)
 
-  pub writes_cut : (now : Front) (e : Edge) → IsMet asked p v before es now e
+  pub writes_cut : (now : State) (e : Edge) → IsMet asked p v before es now e
       → ((ds : List Edge) → IsFront p v ds now → WritesStory p v ds e mid new (Err Write))
       → LeavesNow (Leaves asked p) v (before ++ es) more old new (Err Write)
   writes_cut now e met wrote = λ trace from to came.
@@ -211,7 +209,7 @@ module _ (asked : Option ℕ) (p : Plan) (v : Version) (before es : List Edge)
   writes_none f memory kept_too = λ trace from to came.
       inr (inl (memory, Keeps-trans old mid new kept_so kept_too))
 
-  writes_by : (now : Front) (e : Edge) (f : Fault) → IsMet asked p v before es now e
+  writes_by : (now : State) (e : Edge) (f : Fault) → IsMet asked p v before es now e
       → ((ds : List Edge) → IsFront p v ds now → WritesStory p v ds e mid new (Err f))
       → LeavesNow (Leaves asked p) v (before ++ es) more old new (Err f)
   writes_by now e Write met wrote = writes_cut now e met wrote
@@ -219,7 +217,7 @@ module _ (asked : Option ℕ) (p : Plan) (v : Version) (before es : List Edge)
       writes_none Memory refl (wrote (before ++ met.front) met.kept)
   writes_by now e f met wrote = absurd (wrote (before ++ met.front) met.kept)
 
-  pub writes_fault : (now : Front) (e : Edge) (f : Fault) → IsMet asked p v before es now e
+  pub writes_fault : (now : State) (e : Edge) (f : Fault) → IsMet asked p v before es now e
       → ((ds : List Edge) → IsFront p v ds now → WritesStory p v ds e mid new (Err f))
       → LeavesNow (Leaves asked p) v (before ++ es) more old new (Err f)
   writes_fault now e f met wrote = writes_by now e f met wrote
@@ -281,17 +279,17 @@ writes_unbegun asked p trace s f kept_so h =
 
 -- ---- what a search among the edges of a piece gave
 
-abbrev front_in : Front → Option Front → Front
+abbrev front_in : State → Option State → State
 front_in d None = d
 front_in d (Some x) = x
 
-pub front_is : (p : Plan) (v : Version) (es : List Edge) (o r : Option Front) (x y : Front) → r ≡ o
+pub front_is : (p : Plan) (v : Version) (es : List Edge) (o r : Option State) (x y : State) → r ≡ o
     → r ≡ Some x → o ≡ Some y → IsFront p v es y → IsFront p v es x
 front_is p v es o r x y same some other is =
     subst (IsFront p v es) (ap (front_in x) (sym other ∙ sym same ∙ some)) is
 
 pub met_of : (mine asked : Option ℕ) → mine ≡ asked → (p : Plan) (v : Version)
-    (before es : List Edge) (now : Front) (e : Edge) (found : Option Edge)
+    (before es : List Edge) (now : State) (e : Edge) (found : Option Edge)
     → Seeks mine p v before es now found → found ≡ Some e → IsUnasked asked p (Some v) before
     → IsMet asked p v before es now e
 met_of mine asked same p v before es now e found sought is none =
@@ -299,7 +297,7 @@ met_of mine asked same p v before es now e found sought is none =
     (subst (Seeks mine p v before es now) is sought) none
 
 pub none_of : (mine asked : Option ℕ) → mine ≡ asked → (p : Plan) (v : Version)
-    (before es : List Edge) (now : Front) (found : Option Edge)
+    (before es : List Edge) (now : State) (found : Option Edge)
     → Seeks mine p v before es now found → found ≡ None → IsUnasked asked p (Some v) before
     → IsFront p v (before ++ es) now × IsUnasked asked p (Some v) (before ++ es)
 none_of mine asked same p v before es now found sought is none =
@@ -313,11 +311,10 @@ counted n before es is = let both = length-append before es in omega (arith, bot
 
 -- ---- what a front writes
 
-pub story_text : (p : Plan) (v : Version) (before : List Edge) (front : Front) (e : Edge)
+pub story_text : (p : Plan) (v : Version) (before : List Edge) (front : State) (e : Edge)
     (g list : List Edge) (version : Version) → IsFront p v before front
-    → version ≡ front.bus.version → list ≡ g
-    → IsFound (at_power_up front.bus.version front.bus.plan trace_limit)
-    (accepted (at_power_up front.bus.version front.bus.plan trace_limit) front.edges.items) e g
+    → version ≡ front.version → list ≡ g
+    → IsFound (at_power_up front.version front.plan trace_limit) (in_order front.history) e g
     → IsStoryText p v before e (text version (list ++ e ∷ []))
 story_text p v before front e g list version is named same found = record {
   story = g;

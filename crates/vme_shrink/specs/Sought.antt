@@ -10,8 +10,6 @@ use Rattle.vme_engines.specs.declared.EngineFault.TheVariants as fault
 use Rattle.vme_engines.specs.Outcomes.{Answer, bench}
 use Rattle.vme_engines.specs.Explaining.{IsUnasked}
 use Rattle.vme_engines.specs.Followed.{IsNext}
-use Rattle.vme_stories.specs.Stories.{accepted}
-use Rattle.vme_shrink.specs.declared.fronts.Front.{Front}
 use Rattle.vme_shrink.specs.declared.shrinks.Written.{Written}
 use Rattle.vme_shrink.specs.declared.shrinks.Written.TheVariants.{Text, Beyond}
 
@@ -21,13 +19,12 @@ is_asked (Some wanted) n b e = wanted == n
 is_asked None n b e = not (is_ok (verdict b e))
 
 -- what was kept of these edges of a trace of this version, on a plan
-pub record IsFront (p : Plan) (v : Version) (es : List Edge) (front : Front) : Type 0 where
-  pub bus : front.bus ≡ kept (bench p v) es
-  pub edges : front.edges.items ≡ accepted (bench p v) es
+abbrev pub IsFront : Plan → Version → List Edge → State → Type 0
+IsFront p v es front = front ≡ kept (bench p v) es
 
 -- behind edges that are not asked for, the one that is asked for is one of these
 pub record IsMet
-    (asked : Option ℕ) (p : Plan) (v : Version) (before es : List Edge) (now : Front) (e : Edge)
+    (asked : Option ℕ) (p : Plan) (v : Version) (before es : List Edge) (now : State) (e : Edge)
     : Type 0 where
   pub front : List Edge
   pub rest : List Edge
@@ -37,7 +34,7 @@ pub record IsMet
 
 -- it is met among these edges, or it is none of them
 abbrev pub Seeks :
-    Option ℕ → Plan → Version → List Edge → List Edge → Front → Option Edge → Type 0
+    Option ℕ → Plan → Version → List Edge → List Edge → State → Option Edge → Type 0
 Seeks asked p v before es now (Some e) =
     IsUnasked asked p (Some v) before → IsMet asked p v before es now e
 Seeks asked p v before es now None =

@@ -1,19 +1,20 @@
 //! Shrinking a trace: few edges, and behind them an edge that is answered as before.
 ghost use Rattle.std.specs.Prelude.{◌≡◌, Some, length};
 ghost use Rattle.std.specs.Io.KnownBytes.{Keeps};
+ghost use Rattle.vme_model.specs.Verdict.{State};
 ghost use Rattle.vme_engines.specs.Explaining.{IsUnasked};
 ghost use Rattle.vme_engines.specs.Outcomes.{LentAsking};
 ghost use Rattle.vme_engines.specs.Streams.{streams, ReadNothing, WroteNothing};
-ghost use Rattle.vme_shrink.specs.declared.fronts.Front.{Front as FrontValue};
 ghost use Rattle.vme_shrink.specs.Shrinking.{Shrinks, ShrinksInput};
 ghost use Rattle.vme_shrink.specs.Sought.{IsFront, written_answer, written_status};
 
-use crate::fronts::Front;
+use crate::fronts::{seek, write_story};
 use std::alloc::Global;
 use std::io::{Read, Write};
 use vme_bus::Bus;
 use vme_engines::{EngineFault, Finding, Judge, Status, read, write_finding};
 use vme_model::Edge;
+use vme_stories::Front;
 use vme_trace::Fault;
 
 /// What a command answers that writes a trace.
@@ -64,7 +65,7 @@ impl Judge for Shrinking {
     ghost stands = { λ asked p v es old new now.
         (now.asked ≡ asked) × Keeps old new × IsUnasked asked.edge p (Some v) es
         × (now.judged ≡ length es)
-        × ((front : FrontValue) × (now.front ≡ Some front) × IsFront p v es front) };
+        × ((front : State) × (now.front ≡ Some front) × IsFront p v es front) };
 
     ghost leaves = { λ asked p trace s answer.
         Shrinks asked.edge p trace s (written_answer answer) };
@@ -93,8 +94,8 @@ impl Judge for Shrinking {
             // Never: a judge takes no edges once it has answered.
             return Err(Fault::Failed);
         };
-        if let Some(edge) = front.seek(self.asked.edge, self.judged, edges)? {
-            let status = front.write_story(self.asked.alloc, &edge, out)?;
+        if let Some(edge) = seek(&mut front, self.asked.edge, self.judged, edges)? {
+            let status = write_story(front, self.asked.alloc, &edge, out)?;
             return Ok(Some(Written::Text(status)));
         }
         self.front = Some(front);

@@ -8,6 +8,8 @@ pub mod Legal
 pub mod Alike
 -- lists of which nothing can be left out are stories
 pub mod Found
+-- the edges that lead to a state, one by one
+pub mod Leads
 -- a search, step by step
 pub mod Searches
 -- the marks of a history, by the places of its edges

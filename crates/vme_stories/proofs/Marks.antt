@@ -34,24 +34,13 @@ pub ok_of : {A E : Type 0} (r : Result A E) (t : Bool) → t ≡ is_err r → t 
 ok_of (Ok a) t is none = refl
 ok_of (Err f) t is none = absurd (cc)
 
-brought_by : (b : State) (e : Edge) (t : Bool) → is_ok (verdict b e) ≡ t
-    → brought b e ≡ (if t then events_of b.plan b.history e else [])
-brought_by b e t is = ap (λ (u : Bool). if u then events_of b.plan b.history e else []) is
-
 ok_with : (j : Judgement) (d : Option Delivery) → is_ok (with_delivery j d) ≡ is_ok j
 ok_with (Ok u) d = refl
 ok_with (Err r) d = refl
 
-pub brought_ok : (b s : State) (e : Edge) (r : Result (Option Delivery) Refused)
-    (d : Option Delivery) → b ≡ s → r ≡ answer b e → r ≡ Ok d
-    → events_of s.plan s.history e ≡ brought b e
-brought_ok b s e r d same is ok =
-    ap (λ (x : State). events_of x.plan x.history e) (sym same)
-    ∙ sym (brought_by b e true (sym (ok_with (verdict b e) (delivery b.plan b.history e))
-    ∙ ap is_ok (sym is ∙ ok)))
-
-pub brought_err : (b : State) (e : Edge) (r : Result (Option Delivery) Refused) (f : Refused)
-    → r ≡ answer b e → r ≡ Err f → [] ≡ brought b e
-brought_err b e r f is refused =
-    sym (brought_by b e false (sym (ok_with (verdict b e) (delivery b.plan b.history e))
-    ∙ ap is_ok (sym is ∙ refused)))
+pub brought_if : (b : State) (e : Edge) (r : Result (Option Delivery) Refused) (t : Bool)
+    → r ≡ answer b e → t ≡ is_ok r
+    → (if t then events_of b.plan b.history e else []) ≡ brought b e
+brought_if b e r t is ok =
+    ap (λ (u : Bool). if u then events_of b.plan b.history e else []) (ok ∙ ap is_ok is
+    ∙ ok_with (verdict b e) (delivery b.plan b.history e))

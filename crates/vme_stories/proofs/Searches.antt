@@ -11,6 +11,7 @@ use Rattle.vme_model.specs.Report.{at_power_up, trace_limit}
 use Rattle.vme_model.specs.Verdict.{State, kept}
 use Rattle.vme_stories.specs.declared.search.Search.{Search}
 use Rattle.vme_stories.specs.Alike.{is_same_reply}
+use Rattle.vme_stories.specs.Leading.{LeadsTo}
 use Rattle.vme_stories.specs.Searching.{HasLeft, IsOn, IsSearch, next_size, start}
 use Rattle.vme_stories.specs.Stories.{IsFound, IsPart, IsTight, IsTightAt, accepted, without}
 use Rattle.vme_stories.specs.Replies.{Reply, reply, reply_at}
@@ -559,55 +560,56 @@ list_again b s mid g list from to first is made =
     (is ∙ ap (λ (x : State). kept x (drop to g)) first
     ∙ sym (kept_append b (take from g) (drop to g)))
 
-pub record Begins (s : Search) (b : State) (es : List Edge) : Type 0 where
-  pub search : IsSearch s
-  pub start : start s ≡ b
-  pub list : s.list.items ≡ accepted b es
-
-pub begins : (s : Search) (b : State) (es : List Edge)
-    → b ≡ at_power_up b.version b.plan trace_limit → b.history ≡ []
-    → s.behind ≡ kept b es → s.list.items ≡ in_order s.behind.history
-    → s.reply ≡ reply_at s.behind s.edge → Begins s b es
-begins s b es power none is made said =
-    let p = start_of b s.behind es power is in
-    let list : s.list.items ≡ accepted b es =
-    made ∙ ap (λ (x : State). in_order x.history) is in
+-- the edges that are left lead to the bus
+pub leads_again : (b s mid : State) (g list : List Edge) (from to : ℕ)
+    → b ≡ at_power_up b.version b.plan trace_limit → b.history ≡ [] → mid ≡ kept b (take from g)
+    → s ≡ kept mid (drop to g) → list ≡ in_order s.history → LeadsTo list s
+leads_again b s mid g list from to power none first is made =
+    let es : List Edge = take from g ++ drop to g in
+    let all : s ≡ kept b es =
+    is ∙ ap (λ (x : State). kept x (drop to g)) first
+    ∙ sym (kept_append b (take from g) (drop to g)) in
+    let same : accepted b es ≡ list = ap (λ (x : State). in_order x.history) (sym all) ∙ sym made in
     record {
-      search = record {
-        reply = said ∙ ap (λ (x : State). reply_at x s.edge) (is ∙ sym (kept_accepted b es none))
-            ∙ sym (same_reply b (start s) (accepted b es) s.list.items s.edge s.edge p list refl);
-        whole = (λ i. accepted (p i) (list i)) ∙ accepted_again b es none ∙ sym list;
-      };
-      start = p;
-      list = list;
+      made = made;
+      leads = all ∙ sym (kept_accepted b es none)
+          ∙ (λ i. kept (sym (start_of b s es power all) i) (same i));
     }
 
-pub found_search : (s now : Search) (b : State) (es : List Edge) (e : Edge) → Begins s b es
-    → b.history ≡ [] → s.edge ≡ e → IsOn s now → IsPart now.list.items s.list.items
-    → IsTight (start s) s.edge now.list.items
-    → (IsTight (start s) s.edge s.list.items → now.list.items ≡ s.list.items)
-    → IsFound b (accepted b es) e now.list.items
-found_search s now b es e begun none edge on part tight still =
-    let p : start now ≡ b = on.start ∙ begun.start in
-    let same : reply b now.list.items e ≡ reply b (accepted b es) e =
-    sym (same_reply b (start now) now.list.items now.list.items e now.edge p refl (on.edge ∙ edge))
-    ∙ sym on.search.reply ∙ on.reply ∙ begun.search.reply
-    ∙ same_reply b (start s) (accepted b es) s.list.items e s.edge begun.start begun.list edge in
-    found_by b (accepted b es) e now.list.items none
-    ((λ i. accepted (sym p i) now.list.items) ∙ on.search.whole)
-    (subst (IsPart now.list.items) begun.list part) same
-    (λ k. tight_same (start s) b s.edge e (2 ^ k) now.list.items now.list.items begun.start edge
-    refl (tight k))
-    (λ t. still (λ k. tight_same b (start s) e s.edge (2 ^ k) (accepted b es) s.list.items
-    (sym begun.start) (sym edge) (sym begun.list) (t k)) ∙ begun.list)
+-- the edges that were made
+pub begins : (s : Search) → LeadsTo s.list.items s.bus → s.reply ≡ reply_at s.bus s.edge
+    → IsSearch s
+begins s led said = record {
+  reply = said ∙ ap (λ (x : State). reply_at x s.edge) led.leads;
+  whole = ap (λ (x : State). in_order x.history) (sym led.leads) ∙ sym led.made;
+}
 
-pub found_at_end : (s : Search) (b : State) (es : List Edge) (e : Edge) → Begins s b es
-    → b.history ≡ [] → s.edge ≡ e → s.reply.answer ≡ Err TraceFull
-    → IsFound b (accepted b es) e s.list.items
-found_at_end s b es e begun none edge full =
-    let same : s.reply ≡ reply b (accepted b es) e =
-    begun.search.reply
-    ∙ same_reply b (start s) (accepted b es) s.list.items e s.edge begun.start begun.list edge in
-    subst (IsFound b (accepted b es) e) (sym begun.list)
-    (found_full b (accepted b es) e none (accepted_again b es none)
+pub found_search : (s now : Search) (b : State) (h : List Edge) (e : Edge) → IsSearch s
+    → start s ≡ b → b.history ≡ [] → s.list.items ≡ h → s.edge ≡ e → IsOn s now
+    → IsPart now.list.items s.list.items → IsTight (start s) s.edge now.list.items
+    → (IsTight (start s) s.edge s.list.items → now.list.items ≡ s.list.items)
+    → IsFound b h e now.list.items
+found_search s now b h e is from none list edge on part tight still =
+    let p : start now ≡ b = on.start ∙ from in
+    let same : reply b now.list.items e ≡ reply b s.list.items e =
+    sym (same_reply b (start now) now.list.items now.list.items e now.edge p refl (on.edge ∙ edge))
+    ∙ sym on.search.reply ∙ on.reply ∙ is.reply
+    ∙ same_reply b (start s) s.list.items s.list.items e s.edge from refl edge in
+    subst (λ l. IsFound b l e now.list.items) list
+    (found_by b s.list.items e now.list.items none
+    ((λ i. accepted (sym p i) now.list.items) ∙ on.search.whole) part same
+    (λ k. tight_same (start s) b s.edge e (2 ^ k) now.list.items now.list.items from edge refl
+    (tight k))
+    (λ t. still (λ k. tight_same b (start s) e s.edge (2 ^ k) s.list.items s.list.items (sym from)
+    (sym edge) refl (t k))))
+
+pub found_at_end : (s : Search) (b : State) (h : List Edge) (e : Edge) → IsSearch s → start s ≡ b
+    → b.history ≡ [] → s.list.items ≡ h → s.edge ≡ e → s.reply.answer ≡ Err TraceFull
+    → IsFound b h e s.list.items
+found_at_end s b h e is from none list edge full =
+    let same : s.reply ≡ reply b s.list.items e =
+    is.reply ∙ same_reply b (start s) s.list.items s.list.items e s.edge from refl edge in
+    subst (λ l. IsFound b l e s.list.items) list
+    (found_full b s.list.items e none
+    (ap (λ (x : State). accepted x s.list.items) (sym from) ∙ is.whole)
     (sym (ap (λ (t : Reply). t.answer) same) ∙ full))

@@ -6,3 +6,5 @@ pub mod Stories
 pub mod Alike
 -- words: what a search for a story keeps
 pub mod Searching
+-- words: the edges that lead to a state
+pub mod Leading

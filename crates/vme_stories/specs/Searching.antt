@@ -8,7 +8,7 @@ use Rattle.vme_stories.specs.Replies.{reply}
 
 -- its bus at power-up
 abbrev pub start : Search → State
-start s = at_power_up s.behind.version s.behind.plan trace_limit
+start s = at_power_up s.bus.version s.bus.plan trace_limit
 
 pub record IsSearch (s : Search) : Type 0 where
   pub reply : s.reply ≡ reply (start s) s.list.items s.edge

@@ -5,8 +5,10 @@
 #![tactic(auto)]
 
 mod behind;
+mod fronts;
 pub mod laws;
 mod replies;
 mod search;
 
+pub use fronts::Front;
 pub use search::story;

@@ -1,11 +1,13 @@
 //! The search for a story.
 ghost use Rattle.std.specs.Prelude.{◌≡◌, ◌≢◌, ◌↔◌, ◌+◌, ◌<◌, ◌≤◌, ◌/◌, ◌||◌, if◌then◌else◌, nat_lt, not, Ok, OnOk, IfOk, false, true, length};
+ghost use Rattle.vme_model.specs.History.{in_order};
 ghost use Rattle.vme_model.specs.Report.{at_power_up, trace_limit};
 ghost use Rattle.vme_stories.specs.Replies.{reply};
-ghost use Rattle.vme_stories.specs.Stories.{IsFound, IsPart, IsTight, IsTightAt, accepted, without};
+ghost use Rattle.vme_stories.specs.Stories.{IsFound, IsPart, IsTight, IsTightAt, without};
 ghost use Rattle.vme_stories.specs.Searching.{HasLeft, IsOn, IsSearch, next_size, start};
 
-use crate::behind::{Behind, go_on};
+use crate::behind::{go_on, reply_behind};
+use crate::fronts::Front;
 use crate::replies::Reply;
 use std::alloc::{AllocError, Global};
 use std::mem;
@@ -16,7 +18,7 @@ use vme_store::Code;
 /// A search for a story of an edge.
 #[derive(Drop)]
 struct Search {
-    behind: Behind,
+    bus: Bus,
     edge: Edge,
     /// What is said of the edge behind the list.
     reply: Reply,
@@ -39,26 +41,22 @@ fn next_size(size: usize, has_left: bool) -> usize
 }
 
 impl Search {
-    /// A search that begins with those of the edges that are accepted.
-    fn new(alloc: Global, bus: Bus, edges: Vec<Code>, edge: Edge) -> Result<Search, AllocError>
-        ensures search { IfOk result IsSearch }
-        ensures start { IfOk result (λ search. start search
-            ≡ at_power_up bus.version bus.plan trace_limit) }
-        ensures list { IfOk result (λ search. search.list.items
-            ≡ accepted (at_power_up bus.version bus.plan trace_limit) edges.items) }
-        ensures edge { IfOk result (λ search. search.edge ≡ edge) }
+    /// A search that begins with the edges that were made.
+    fn new(alloc: Global, front: Front, edge: Edge) -> Search
+        ensures search { IsSearch result }
+        ensures start { start result ≡ at_power_up front.version front.plan trace_limit }
+        ensures list { result.list.items ≡ in_order front.history }
+        ensures edge { result.edge ≡ edge }
     {
-        let mut behind = Behind::new(bus);
-        let mut list = Vec::new(alloc);
-        go_on(&mut behind, &mut list, &edges)?;
-        let reply = behind.reply(edge);
-        Ok(Search {
-            behind,
+        let Front { mut bus, edges } = front;
+        let reply = reply_behind(&mut bus, &edges, edge);
+        Search {
+            bus,
             edge,
             reply,
-            list,
-            other: edges,
-        })
+            list: edges,
+            other: Vec::new(alloc),
+        }
     }
 
     /// Goes from power-up through the list without the places from one up to another, and says what
@@ -76,11 +74,11 @@ impl Search {
         ensures edge { self.new.edge ≡ self.old.edge }
         ensures target { self.new.reply ≡ self.old.reply }
     {
-        self.behind.restart();
+        self.bus.restart();
         self.other.clear();
-        go_on(&mut self.behind, &mut self.other, &self.list[..from])?;
-        go_on(&mut self.behind, &mut self.other, &self.list[to..])?;
-        Ok(self.behind.reply(self.edge))
+        go_on(&mut self.bus, &mut self.other, &self.list[..from])?;
+        go_on(&mut self.bus, &mut self.other, &self.list[to..])?;
+        Ok(reply_behind(&mut self.bus, &self.other, self.edge))
     }
 
     /// Leaves the places from one up to another out, with what is then refused, if the same is said
@@ -161,20 +159,19 @@ impl Search {
     }
 }
 
-/// A story of an edge and of those edges of a list that are accepted on a bus at power-up. The bus
-/// gives its plan and its version.
+/// A story of the next edge and of the edges that were made before it.
 ///
 /// The same is said of the edge behind the story as behind the list: of a refused edge the verdict
 /// and the conditions that it fails, by their texts; of an accepted one what it delivers and the
 /// situations that it brings about. Without any one edge of the story something else is said. At E5
 /// the story is the whole list, since a shorter one has room.
 ///
-/// Errors: no memory for two lists as long as this one.
-pub fn story(alloc: Global, bus: Bus, edges: Vec<Code>, edge: Edge) -> Result<Vec<Code>, AllocError>
-    ensures { let b = at_power_up bus.version bus.plan trace_limit in
-        IfOk result (λ list. IsFound b (accepted b edges.items) edge list.items) }
+/// Errors: no memory for a second list as long as this one.
+pub fn story(alloc: Global, front: Front, edge: Edge) -> Result<Vec<Code>, AllocError>
+    ensures { let b = at_power_up front.version front.plan trace_limit in
+        IfOk result (λ list. IsFound b (in_order front.history) edge list.items) }
 {
-    let mut search = Search::new(alloc, bus, edges, edge)?;
+    let mut search = Search::new(alloc, front, edge);
     if search.reply.is_full() {
         return Ok(search.list);
     }

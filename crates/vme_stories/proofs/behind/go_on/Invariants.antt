@@ -5,6 +5,6 @@ use Rattle.vme_stories.proofs.behind.go_on.Given as goal
 
 abbrev pub invariant-loop-code : goal.invariant-loop-code
 invariant-loop-code l = record {
-  state : l.behind ≡ kept l.fn.behind (take l.code-index l.edges);
-  made : l.made.items ≡ in_order l.behind.history;
+  state : l.bus ≡ kept l.fn.bus (take l.code-index l.edges);
+  made : l.made.items ≡ in_order l.bus.history;
 }

@@ -1,5 +1,7 @@
-use Rattle.std.proofs.Common.{◌∙◌, refl}
+use Rattle.std.proofs.Common.{◌∙◌, ap, refl}
 use Rattle.std.proofs.KnownBytes.{Keeps-refl}
+use Rattle.vme_model.specs.Report.{at_power_up, trace_limit}
+use Rattle.vme_model.specs.Verdict.{State}
 use Rattle.vme_shrink.proofs.WrittenStories.{unasked_first}
 use Rattle.vme_shrink.proofs.shrinks.ShrinkingJudge.begin.Goals as goal
 
@@ -12,6 +14,6 @@ returns-clause-stands c = λ p v old is. (
   (
     c.new-front.result,
     refl,
-    record { bus = c.new-front.ensures.bus ∙ is; edges = c.new-front.ensures.edges },
+    c.new-front.ensures ∙ ap (λ (s : State). at_power_up s.version s.plan trace_limit) is,
   ),
 )

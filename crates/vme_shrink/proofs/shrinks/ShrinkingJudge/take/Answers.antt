@@ -14,10 +14,10 @@ returns-in_err-status-clause-takes g c = λ task p v es old h.
     let front = front_is p v es c.args.self.now.front c.take.result c.in-Some.front h.4.0
     c.take.ensures.value c.in-Some.is h.4.1 h.4.2 in
     let met = met_of c.args.self.now.asked.edge task.edge (ap (λ a. a.edge) h.0) p v es
-    c.args.edges.now c.seek.new.self c.in-Some-2.edge c.in_ok-edge.field-0
+    c.args.edges.now c.seek.new.front c.in-Some-2.edge c.in_ok-edge.field-0
     (c.in_ok-edge.ensures.sought p v es h.3 front) c.in-Some-2.is h.2 in
     rw (e.1, e.2) (writes_fault task.edge p v es c.args.edges.now c.args.more old mid new h.1
-    c.seek.new.self c.in-Some-2.edge c.in_err-status.field-0.0 met
+    c.seek.new.front c.in-Some-2.edge c.in_err-status.field-0.0 met
     (λ ds is. subst (WritesStory p v ds c.in-Some-2.edge mid new) c.in_err-status.was
     (c.write_story.ensures p v ds is)))
 
@@ -28,10 +28,10 @@ returns-in-Some-2-clause-takes g c = λ task p v es old h.
     let front = front_is p v es c.args.self.now.front c.take.result c.in-Some.front h.4.0
     c.take.ensures.value c.in-Some.is h.4.1 h.4.2 in
     let met = met_of c.args.self.now.asked.edge task.edge (ap (λ a. a.edge) h.0) p v es
-    c.args.edges.now c.seek.new.self c.in-Some-2.edge c.in_ok-edge.field-0
+    c.args.edges.now c.seek.new.front c.in-Some-2.edge c.in_ok-edge.field-0
     (c.in_ok-edge.ensures.sought p v es h.3 front) c.in-Some-2.is h.2 in
     writes task.edge p v es c.args.edges.now c.args.more old mid new h.1
-    c.seek.new.self c.in-Some-2.edge c.in_ok-status.status met
+    c.seek.new.front c.in-Some-2.edge c.in_ok-status.status met
     (λ ds is. subst (WritesStory p v ds c.in-Some-2.edge mid new) c.in_ok-status.was
     (c.write_story.ensures p v ds is))
 
@@ -45,7 +45,7 @@ returns-in_err-write_finding-in-Ok-false-None-clause-takes g c = λ task p v es 
     let front = front_is p v es c.args.self.now.front c.take.result c.in-Some.front h.4.0
     c.take.ensures.value c.in-Some.is h.4.1 h.4.2 in
     let none = none_of c.args.self.now.asked.edge task.edge (ap (λ a. a.edge) h.0) p v es
-    c.args.edges.now c.seek.new.self c.in_ok-edge.field-0
+    c.args.edges.now c.seek.new.front c.in_ok-edge.field-0
     (c.in_ok-edge.ensures.sought p v es h.3 front) c.in_default-2.is h.2 in
     rw (e.1, e.2) (writes_legal_cut task.edge p v es c.args.edges.now c.args.more old mid
     (g.W.Write.contents c.write_finding.new.out) h.1
@@ -61,13 +61,13 @@ returns-in-Ok-true-default-clause-takes g c = λ task p v es old h.
     let front = front_is p v es c.args.self.now.front c.take.result c.in-Some.front h.4.0
     c.take.ensures.value c.in-Some.is h.4.1 h.4.2 in
     let none = none_of c.args.self.now.asked.edge task.edge (ap (λ a. a.edge) h.0) p v es
-    c.args.edges.now c.seek.new.self c.in_ok-edge.field-0
+    c.args.edges.now c.seek.new.front c.in_ok-edge.field-0
     (c.in_ok-edge.ensures.sought p v es h.3 front) c.in_default-2.is h.2 in (
       h.0,
       h.1,
       none.1,
       counted c.args.self.now.judged es c.args.edges.now h.3,
-      (c.seek.new.self, refl, none.0),
+      (c.seek.new.front, refl, none.0),
     )
 
 pub returns-in-Ok-false-Some-clause-takes : goal.returns-in-Ok-false-Some-clause-takes
@@ -77,7 +77,7 @@ returns-in-Ok-false-Some-clause-takes g c = λ task p v es old h.
     let front = front_is p v es c.args.self.now.front c.take.result c.in-Some.front h.4.0
     c.take.ensures.value c.in-Some.is h.4.1 h.4.2 in
     let none = none_of c.args.self.now.asked.edge task.edge (ap (λ a. a.edge) h.0) p v es
-    c.args.edges.now c.seek.new.self c.in_ok-edge.field-0
+    c.args.edges.now c.seek.new.front c.in_ok-edge.field-0
     (c.in_ok-edge.ensures.sought p v es h.3 front) c.in_default-2.is h.2 in
     writes_end task.edge p v es c.args.edges.now c.args.more old mid mid h.1
     (c.args.self.now.judged + length c.args.edges.now) _
@@ -92,7 +92,7 @@ returns-in_ok-write_finding-in-Ok-false-None-clause-takes g c = λ task p v es o
     let front = front_is p v es c.args.self.now.front c.take.result c.in-Some.front h.4.0
     c.take.ensures.value c.in-Some.is h.4.1 h.4.2 in
     let none = none_of c.args.self.now.asked.edge task.edge (ap (λ a. a.edge) h.0) p v es
-    c.args.edges.now c.seek.new.self c.in_ok-edge.field-0
+    c.args.edges.now c.seek.new.front c.in_ok-edge.field-0
     (c.in_ok-edge.ensures.sought p v es h.3 front) c.in_default-2.is h.2 in
     writes_legal task.edge p v es c.args.edges.now c.args.more old mid
     (g.W.Write.contents c.write_finding.new.out) h.1
@@ -107,7 +107,7 @@ returns-in-Err-default-clause-takes g c = λ task p v es old h.
     let front = front_is p v es c.args.self.now.front c.take.result c.in-Some.front h.4.0
     c.take.ensures.value c.in-Some.is h.4.1 h.4.2 in
     let none = none_of c.args.self.now.asked.edge task.edge (ap (λ a. a.edge) h.0) p v es
-    c.args.edges.now c.seek.new.self c.in_ok-edge.field-0
+    c.args.edges.now c.seek.new.front c.in_ok-edge.field-0
     (c.in_ok-edge.ensures.sought p v es h.3 front) c.in_default-2.is h.2 in
     writes_stop task.edge p v es c.args.edges.now c.args.more old mid mid h.1
     c.in-Err-default.fault c.in-Err-default.is-0 (Keeps-refl mid) none.1

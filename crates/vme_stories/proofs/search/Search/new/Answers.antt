@@ -1,43 +1,28 @@
-use Rattle.std.proofs.Common.{◌∙◌, ap, refl, sym}
-use Rattle.vme_model.specs.History.{in_order}
+use Rattle.std.proofs.Common.{◌∙◌, ap, subst, sym}
 use Rattle.vme_model.specs.Report.{at_power_up, trace_limit}
-use Rattle.vme_model.specs.Verdict.{State, kept}
+use Rattle.vme_model.specs.Verdict.{State}
+use Rattle.vme_stories.specs.Leading.{LeadsTo}
+use Rattle.vme_stories.specs.Replies.{reply_at}
 use Rattle.vme_stories.proofs.Searches.{begins}
 use Rattle.vme_stories.proofs.search.Search.new.Goals as goal
 
-pub go_on-requires : goal.go_on-requires
-go_on-requires c =
-    c.new-list.ensures.items ∙ sym (ap (λ (s : State). in_order s.history) c.new-behind.ensures)
+pub reply_behind-reply-requires : goal.reply_behind-reply-requires
+reply_behind-reply-requires c =
+    subst (λ l. LeadsTo l c.front.inside.bus) (sym c.deref.ensures.value) c.front.invariant
 
 pub returns-clause-search : goal.returns-clause-search
 returns-clause-search c =
-    (begins (record {
-      behind = c.go_on.new.behind;
+    let state = c.reply_behind-reply.ensures.state in
+    begins (record {
+      bus = c.reply_behind-reply.new.bus;
       edge = c.args.edge;
-      reply = c.reply-reply.result;
-      list = c.go_on.new.made;
-      other = c.args.edges;
-    }) (at_power_up c.args.bus.version c.args.bus.plan trace_limit) c.args.edges.items refl refl
-    (c.in_ok-go_on.ensures.state ∙ ap (λ (s : State). kept s c.deref.result.now) c.new-behind.ensures
-    ∙ ap (kept (at_power_up c.args.bus.version c.args.bus.plan trace_limit)) c.deref.ensures.value)
-    c.in_ok-go_on.ensures.made c.reply-reply.ensures).search
+      reply = c.reply_behind-reply.result;
+      list = c.front.inside.edges;
+      other = c.new.result;
+    }) (subst (LeadsTo c.front.inside.edges.items) (sym state) c.front.invariant)
+    (c.reply_behind-reply.ensures.reply ∙ ap (λ (s : State). reply_at s c.args.edge) (sym state))
 
 pub returns-clause-start : goal.returns-clause-start
 returns-clause-start c =
-    (begins (record {
-      behind = c.go_on.new.behind;
-      edge = c.args.edge;
-      reply = c.reply-reply.result;
-      list = c.go_on.new.made;
-      other = c.args.edges;
-    }) (at_power_up c.args.bus.version c.args.bus.plan trace_limit) c.args.edges.items refl refl
-    (c.in_ok-go_on.ensures.state ∙ ap (λ (s : State). kept s c.deref.result.now) c.new-behind.ensures
-    ∙ ap (kept (at_power_up c.args.bus.version c.args.bus.plan trace_limit)) c.deref.ensures.value)
-    c.in_ok-go_on.ensures.made c.reply-reply.ensures).start
-
-pub returns-clause-list : goal.returns-clause-list
-returns-clause-list c =
-    c.in_ok-go_on.ensures.made
-    ∙ ap (λ (s : State). in_order s.history)
-    (c.in_ok-go_on.ensures.state ∙ ap (λ (s : State). kept s c.deref.result.now) c.new-behind.ensures
-    ∙ ap (kept (at_power_up c.args.bus.version c.args.bus.plan trace_limit)) c.deref.ensures.value)
+    ap (λ (s : State). at_power_up s.version s.plan trace_limit)
+    (c.reply_behind-reply.ensures.state ∙ c.front.view_is)
