@@ -1,1 +1,6 @@
+-- all open edges are drawn from on all wires: `all_wires_draw_the_walk`
 mod AllPlayed
+-- an edge is drawn exactly if there is one: `played::draw`, `vmebus_draws`
+mod NoneOpen
+-- a bench on all wires makes the walk: `all_wires_make_the_walk`
+mod Benches

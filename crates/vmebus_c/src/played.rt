@@ -1,16 +1,18 @@
 //! The open edges of the wires that the library plays for a bench.
-ghost use Rattle.std.specs.Prelude.{◌≡◌, ◌≤◌, ◌+◌, ◌*◌, ◌++◌, [], filter, length};
+ghost use Rattle.std.specs.Prelude.{◌≡◌, ◌≤◌, ◌+◌, ◌*◌, ◌++◌, ◌↔◌, [], IfSome, None, filter, length};
+ghost use Rattle.std.specs.List.{Contains};
 ghost use Rattle.vme_bus.specs.States.{OfHistory};
 ghost use Rattle.vme_histories.specs.Opens.{open_but_full};
 ghost use Rattle.vme_seeds.specs.Draws.{IsCountedIn, numbers_of};
 ghost use Rattle.vme_seeds.specs.Kinds.{has_board};
 ghost use Rattle.vme_seeds.specs.Numbers.{after_words};
-ghost use Rattle.vmebus_c.specs.Played.{drawn_edge, is_played, played};
+ghost use Rattle.vmebus_c.specs.Played.{AreWeighed, drawn_edge, is_played, played};
 
 use arrayvec::ArrayVec;
 use vme_bus::BusState;
 use vme_histories::open_edges_of;
 use vme_model::{Driver, Edge};
+use vme_seeds::laws::a_draw_gives_one_of_its_edges;
 use vme_seeds::{Draws, boards_on};
 
 /// The most open edges: 36 for each of 22 drivers.
@@ -68,11 +70,16 @@ fn played(bus: &BusState, wires: &[u32]) -> ArrayVec<Edge, OPEN_EDGES>
 pub(crate) fn draw(bus: &BusState, draws: &mut Draws, wires: &[u32]) -> Option<Edge>
     ensures edge { OfHistory bus.now (λ version p h.
         result ≡ drawn_edge version p h wires.now draws.old) }
+    ensures among { OfHistory bus.now (λ version p h.
+        IfSome result (λ e. Contains (played version p h wires.now) e)) }
+    ensures none { AreWeighed draws.old → OfHistory bus.now (λ version p h.
+        (result ≡ None) ↔ (played version p h wires.now ≡ [])) }
     ensures numbers { numbers_of draws.new ≡ after_words 2 (numbers_of draws.old) }
     ensures weights { draws.new.weights ≡ draws.old.weights }
     ensures counts { OfHistory bus.now (λ _ p _.
         IsCountedIn (has_board p) result draws.old draws.new) }
 {
+    a_draw_gives_one_of_its_edges();
     let boards = boards_on(bus);
     match draws.draw(boards, played(bus, wires).as_slice()) {
         Some(drawn) => {
