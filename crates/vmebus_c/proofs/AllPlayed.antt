@@ -55,7 +55,7 @@ bit_of (suc (suc (suc (suc (suc (suc (suc (suc (suc (suc (suc (suc (suc (suc zer
 bit_of (suc (suc (suc (suc (suc (suc (suc (suc (suc (suc (suc (suc (suc (suc (suc zero))))))))))))))) l = refl
 bit_of (suc (suc (suc (suc (suc (suc (suc (suc (suc (suc (suc (suc (suc (suc (suc (suc n)))))))))))))))) l = absurd (omega (arith, l))
 
-small_wire : (d : Driver) (w : Wire) → has_wire d w ≡ true → wire_number w < 16
+pub small_wire : (d : Driver) (w : Wire) → has_wire d w ≡ true → wire_number w < 16
 small_wire Controller (Bg level) h = let l : level < 4 = grind (arith, nat_tests) in omega (arith, l)
 small_wire (Slot s) (Bg level) h = absurd (cc)
 small_wire d Bclr h = omega arith

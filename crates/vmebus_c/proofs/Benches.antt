@@ -1,27 +1,31 @@
 -- A bench that draws on all wires makes the walk of its seed.
-use Rattle.std.proofs.Common.{◌≡◌, ◌∙◌, refl, sym, ap, subst, ℕ, zero, suc, ◌+◌, ◌<◌, ◌≤◌, Bool, true, false, List, [], ◌∷◌, filter, length, arith}
+use Rattle.std.proofs.Common.{◌≡◌, ◌∙◌, refl, sym, ap, subst, ℕ, zero, suc, ◌+◌, ◌<◌, ◌≤◌, Bool, true, false, List, [], ◌∷◌, length, arith}
 use Rattle.std.proofs.lemmas.Bool.{ne_eqb}
 use Rattle.std.proofs.lemmas.List.Sums.{length-filter, count_by-le-length}
 use Rattle.std.specs.Prelude.{Option, Some, None, Ok, is_ok, if◌then◌else◌, ◌==◌, not, sum}
 use Rattle.std.specs.Option.{option_map_or}
-use Rattle.vme_model.specs.declared.refusals.Refused.TheVariants.{TraceFull}
+use Rattle.vme_model.specs.declared.refusals.Refused.TheVariants.{NoSuchDriver, TraceFull}
 use Rattle.vme_model.specs.declared.signals.Edge.{Edge}
 use Rattle.vme_model.specs.declared.signals.Version.{Version}
 use Rattle.vme_model.specs.Accepted.{IsAccepted}
-use Rattle.vme_model.specs.Plan.{Plan}
+use Rattle.vme_model.specs.Plan.{Plan, has_driver}
+use Rattle.vme_model.specs.Signals.{is_well_formed}
 use Rattle.vme_model.specs.Verdict.{Judgement, check, judged, verdict, verdict_but_full}
+use Rattle.vme_model.proofs.AllowedEdges.{checked}
+use Rattle.vme_model.proofs.Bools.{and_left}
 use Rattle.vme_seeds.specs.declared.draws.Draws.{Draws}
 use Rattle.vme_seeds.specs.declared.kinds.Kind.{Kind}
 use Rattle.vme_seeds.specs.Choices.{chances, choices}
-use Rattle.vme_seeds.specs.Draws.{IsCountedIn, made_of, next_by, numbers_of, weight_of}
+use Rattle.vme_seeds.specs.Draws.{IsCountedIn, made_of, next_by, numbers_of}
 use Rattle.vme_seeds.specs.Kinds.{count, has_board, is_of, kind_of}
 use Rattle.vme_seeds.specs.Laws.{EachIsOpen, FollowOn, Follows, OneOfThese, SomeIsDrawn}
 use Rattle.vme_seeds.specs.Numbers.{after_words, generator, scaled, word}
 use Rattle.vme_seeds.specs.Tallies.{CountsIn}
 use Rattle.vme_seeds.specs.Walks.{Walk, drawn, next_edge, walked, weights, with_edge}
-use Rattle.vmebus_c.specs.Laws.{DrawsTheWalk, PlaysAll}
+use Rattle.vmebus_c.specs.Laws.{DrawsTheWalk, PlaysAll, stepped_by}
 use Rattle.vmebus_c.specs.Played.{AreWeighed, drawn_edge, played}
 use Rattle.vmebus_c.specs.Stepped.{followed}
+use Rattle.vmebus_c.proofs.EdgeWords.{word_names}
 use Rattle.vmebus_c.proofs.NoneOpen.{none_drawn, none_of_none, some_weight}
 
 few : (boards : ℕ → Bool) (k : Kind) (es : List Edge) → count boards k es ≤ length es
@@ -32,7 +36,7 @@ pub record GoesOn (w : Walk) (wires : List ℕ) (h : ℕ → List Edge) (d : ℕ
   pub begins : h 0 ≡ w.state.history
   pub follows : Follows w (d 0)
   pub stepped : (n : ℕ) → h (suc n)
-      ≡ followed w.state.version w.state.plan (h n) (drawn_edge w.state.version w.state.plan (h n) wires (d n))
+      ≡ stepped_by w.state.version w.state.plan (h n) (drawn_edge w.state.version w.state.plan (h n) wires (d n))
   pub moved : (n : ℕ) → numbers_of (d (suc n)) ≡ after_words 2 (numbers_of (d n))
   pub kept : (n : ℕ) → (d (suc n)).weights ≡ (d n).weights
   pub counted : (n : ℕ) → IsCountedIn (has_board w.state.plan)
@@ -41,13 +45,13 @@ pub record GoesOn (w : Walk) (wires : List ℕ) (h : ℕ → List Edge) (d : ℕ
 module _ (next : DrawsTheWalk) (on : FollowOn) (allowed : EachIsOpen) (one : OneOfThese) (some : SomeIsDrawn) (wires : List ℕ) (all : PlaysAll wires) where
   -- where no edge is open, none is made
   stays : (version : Version) (p : Plan) (es : List Edge) (h : ℕ → List Edge) (d : ℕ → Draws) → h 0 ≡ es → played version p es wires ≡ []
-      → ((n : ℕ) → h (suc n) ≡ followed version p (h n) (drawn_edge version p (h n) wires (d n))) → (n : ℕ) → h n ≡ es
+      → ((n : ℕ) → h (suc n) ≡ stepped_by version p (h n) (drawn_edge version p (h n) wires (d n))) → (n : ℕ) → h n ≡ es
   stays version p es h d begins none stepped zero = begins
   stays version p es h d begins none stepped (suc n) =
       stepped n
-      ∙ ap (λ (x : List Edge). followed version p x (drawn_edge version p x wires (d n))) (stays version p es h d begins none stepped n)
-      ∙ ap (λ (x : List Edge). followed version p es (next_by (d n) (has_board p) x)) none
-      ∙ ap (followed version p es) (none_of_none one some (d n) (has_board p))
+      ∙ ap (λ (x : List Edge). stepped_by version p x (drawn_edge version p x wires (d n))) (stays version p es h d begins none stepped n)
+      ∙ ap (λ (x : List Edge). stepped_by version p es (next_by (d n) (has_board p) x)) none
+      ∙ ap (stepped_by version p es) (none_of_none one some (d n) (has_board p))
 
   -- one draw and step
   module _ (w : Walk) (h : ℕ → List Edge) (d : ℕ → Draws) (accepted : IsAccepted w.state.plan) (at : GoesOn w wires h d) (room : length w.state.history < w.state.max) (most : w.state.max ≤ 1048576) where
@@ -60,11 +64,11 @@ module _ (next : DrawsTheWalk) (on : FollowOn) (allowed : EachIsOpen) (one : One
     drawn_is : drawn_on (h 0) ≡ next_edge w
     drawn_is = ap drawn_on at.begins ∙ next w (d 0) wires accepted has_room all at.follows
 
-    first : h 1 ≡ followed w.state.version w.state.plan w.state.history (next_edge w)
+    first : h 1 ≡ stepped_by w.state.version w.state.plan w.state.history (next_edge w)
     first =
         at.stepped 0
-        ∙ ap (λ (x : List Edge). followed w.state.version w.state.plan x (drawn_on (h 0))) at.begins
-        ∙ ap (followed w.state.version w.state.plan w.state.history) drawn_is
+        ∙ ap (λ (x : List Edge). stepped_by w.state.version w.state.plan x (drawn_on (h 0))) at.begins
+        ∙ ap (stepped_by w.state.version w.state.plan w.state.history) drawn_is
 
     weighed : AreWeighed (d 0)
     weighed k = subst (λ n. 0 < n) (sym (at.follows.weighed k)) (some_weight _)
@@ -83,9 +87,13 @@ module _ (next : DrawsTheWalk) (on : FollowOn) (allowed : EachIsOpen) (one : One
       ok_but_full : verdict_but_full w.state.version w.state.plan w.state.history e ≡ Ok tt
       ok_but_full = sym (ap (λ (x : Bool). judged w.state.version w.state.plan w.state.history e (check (not x) TraceFull (Ok tt))) has_room) ∙ ok
 
+      well_formed : is_well_formed e ≡ true
+      well_formed = and_left (is_well_formed e) (has_driver w.state.plan e.driver e.wire) (checked _ NoSuchDriver _ ok).0
+
       made_next : h 1 ≡ e ∷ w.state.history
       made_next =
-          first ∙ ap (followed w.state.version w.state.plan w.state.history) is
+          first ∙ ap (stepped_by w.state.version w.state.plan w.state.history) is
+          ∙ ap (followed w.state.version w.state.plan w.state.history) (word_names e well_formed)
           ∙ ap (λ (v : Judgement). if is_ok v then e ∷ w.state.history else w.state.history) ok_but_full
 
       below : made_of (d 0) (kind_of (has_board w.state.plan) e) < 4294967295

@@ -1,4 +1,4 @@
-use Rattle.std.proofs.Common.{◌+◌, ◌≤◌, ap, arith, length}
+use Rattle.std.proofs.Common.{arith}
 use Rattle.vme_model.specs.Report.{at_power_up}
 use Rattle.vme_seeds.specs.Walks.{at_start}
 use Rattle.vmebus_c.proofs.Benches.{walks}
