@@ -14,13 +14,13 @@ pub returns-in-Some-clause-edge : goal.returns-in-Some-clause-edge
 returns-in-Some-clause-edge c = λ version p h at.
     sym c.in-Some.is ∙ c.draw.ensures.edge
     ∙ ap (λ (f : ℕ → Bool). next_by c.args.draws.now f c.as_slice.result.now) (c.boards_on-boards.ensures version p h at)
-    ∙ ap (λ (es : List Edge). next_by c.args.draws.now (has_board p) es) (c.as_slice.ensures.value ∙ c.played.ensures version p h at)
+    ∙ ap (λ (es : List Edge). next_by c.args.draws.now (has_board p) es) (c.as_slice.ensures.value ∙ c.append_all.ensures version p h at (c.boards_on-boards.ensures version p h at))
 
 pub returns-in-None-clause-edge : goal.returns-in-None-clause-edge
 returns-in-None-clause-edge c = λ version p h at.
     sym c.in-None.is ∙ c.draw.ensures.edge
     ∙ ap (λ (f : ℕ → Bool). next_by c.args.draws.now f c.as_slice.result.now) (c.boards_on-boards.ensures version p h at)
-    ∙ ap (λ (es : List Edge). next_by c.args.draws.now (has_board p) es) (c.as_slice.ensures.value ∙ c.played.ensures version p h at)
+    ∙ ap (λ (es : List Edge). next_by c.args.draws.now (has_board p) es) (c.as_slice.ensures.value ∙ c.append_all.ensures version p h at (c.boards_on-boards.ensures version p h at))
 
 pub returns-in-Some-clause-counts : goal.returns-in-Some-clause-counts
 returns-in-Some-clause-counts c = λ version p h at.
