@@ -1,12 +1,12 @@
 /* Draws traces by the library: see acceptance/library.
  *
- *     drawn_traces SCENARIO VERSION SEEDS EDGES
+ *     drawn_traces SCENARIO VERSION SEED SEEDS EDGES
  *
- * For each of the seeds 0, 1, .. it prints the trace of so many edges that are drawn on all wires,
- * each of which is stepped. Then it draws as many with masks that change with each draw, and looks
- * at each answer: an edge has to be among the open edges of the wires in the masks, and without one
- * there has to be none. It ends with status 1 where that is not so, or where a draw moves the bus.
- */
+ * For so many seeds from SEED on it prints the trace of at most so many edges that are drawn on all
+ * wires, each of which is stepped. Then it draws as many with masks that change with each draw, and
+ * looks at each answer: an edge has to be among the open edges of the wires in the masks, and
+ * without one there has to be none. It ends with status 1 if that is not so, if a draw moves the bus,
+ * or if a trace ends while an edge is open. */
 #include <stdbool.h>
 #include <stdio.h>
 #include <stdlib.h>
@@ -37,24 +37,6 @@ static void step(struct vmebus *bus, uint32_t edge, unsigned long seed) {
     if (answer != VMEBUS_ACCEPTED) fail("a drawn edge is refused", seed);
 }
 
-/* Prints the trace of a seed, drawn on all wires. */
-static void print_trace(uint32_t version, unsigned long seed, unsigned long edges) {
-    struct vmebus bus = opened(version);
-    struct vmebus_draws draws;
-    uint32_t wires[DRIVERS], edge;
-    for (int at = 0; at < DRIVERS; at++) wires[at] = 0xffff;
-    vmebus_draws(&draws, seed);
-    printf("vme %u\n", version);
-    for (unsigned long made = 0; made < edges; made++) {
-        uint8_t line[16];
-        if (vmebus_draw(&bus, &draws, wires, DRIVERS, &edge) != 0) fail("no edge is drawn", seed);
-        uint32_t bytes = vmebus_spell(VMEBUS_DRIVER(edge), VMEBUS_WIRE(edge), VMEBUS_FALL(edge),
-                                      VMEBUS_VALUE(edge), line, sizeof line);
-        printf("%.*s\n", (int)bytes, (const char *)line);
-        step(&bus, edge, seed);
-    }
-}
-
 /* How many edges of the wires in the masks are open, and whether this one is among them. */
 static uint32_t open_within(const struct vmebus *bus, const uint32_t *wires, uint32_t edge,
                             bool *among) {
@@ -69,6 +51,29 @@ static uint32_t open_within(const struct vmebus *bus, const uint32_t *wires, uin
         }
     }
     return all;
+}
+
+/* Prints the trace of a seed, drawn on all wires, up to where no edge is open. */
+static void print_trace(uint32_t version, unsigned long seed, unsigned long edges) {
+    struct vmebus bus = opened(version);
+    struct vmebus_draws draws;
+    uint32_t wires[DRIVERS], edge;
+    for (int at = 0; at < DRIVERS; at++) wires[at] = 0xffff;
+    vmebus_draws(&draws, seed);
+    printf("vme %u\n", version);
+    unsigned long made = 0;
+    while (made < edges) {
+        uint8_t line[16];
+        if (vmebus_draw(&bus, &draws, wires, DRIVERS, &edge) != 0) break;
+        uint32_t bytes = vmebus_spell(VMEBUS_DRIVER(edge), VMEBUS_WIRE(edge), VMEBUS_FALL(edge),
+                                      VMEBUS_VALUE(edge), line, sizeof line);
+        printf("%.*s\n", (int)bytes, (const char *)line);
+        step(&bus, edge, seed);
+        made++;
+    }
+    bool among;
+    if (made < edges && open_within(&bus, wires, edge, &among) > 0)
+        fail("an open edge is not drawn", seed);
 }
 
 /* Draws with masks that change, and looks at each answer. */
@@ -99,14 +104,15 @@ static void look_at_masks(uint32_t version, unsigned long seed, unsigned long ed
 }
 
 int main(int count, char **words) {
-    if (count != 5) return 2;
+    if (count != 6) return 2;
     FILE *file = fopen(words[1], "rb");
     if (file == NULL) fail("the scenario cannot be read", 0);
     scenario_bytes = fread(scenario, 1, sizeof scenario, file);
     fclose(file);
     uint32_t version = (uint32_t)strtoul(words[2], NULL, 10);
-    unsigned long seeds = strtoul(words[3], NULL, 10), edges = strtoul(words[4], NULL, 10);
-    for (unsigned long seed = 0; seed < seeds; seed++) {
+    unsigned long seed = strtoul(words[3], NULL, 10), seeds = strtoul(words[4], NULL, 10);
+    unsigned long edges = strtoul(words[5], NULL, 10);
+    for (; seeds > 0; seeds--, seed++) {
         print_trace(version, seed, edges);
         look_at_masks(version, seed, edges);
     }

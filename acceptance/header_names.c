@@ -193,6 +193,12 @@ static void print_driver(const struct vmebus *bus, uint32_t driver) {
     putchar('\n');
 }
 
+/* Prints this of all drivers, and of one that there is not. */
+static void print_drivers(const struct vmebus *bus) {
+    for (uint32_t driver = VMEBUS_CONTROLLER; driver <= MOST_SLOTS + 1; driver++)
+        print_driver(bus, driver);
+}
+
 /* Prints the version of the header, and whether the library is of another build. */
 static void print_build(void) {
     uint32_t numbers[4] = {0, 0, 0, 0}, version = VMEBUS_VERSION;
@@ -335,13 +341,15 @@ static void judge(struct text scenario, struct text trace) {
     print_build();
     print_no_edge(&by_numbers);
     print_bus(&by_numbers);
+    print_drivers(&by_numbers);
     const uint8_t *line = trace.bytes + 6, *end = trace.bytes + trace.length, *feed;
     for (unsigned long number = 1; (feed = memchr(line, '\n', (size_t)(end - line))); number++) {
         printf("%lu ", number);
         struct text text = {(uint8_t *)line, (size_t)(feed - line)};
-        if (!follow(&by_line, &by_numbers, text)) return;
+        if (!follow(&by_line, &by_numbers, text)) break;
         line = feed + 1;
     }
+    print_drivers(&by_numbers);
 }
 
 int main(int count, char **words) {

@@ -41,7 +41,8 @@ def seen(scenario, trace):
     if fault:
         return [fault]
     bus = Bus(plan, edges.version)
-    return [version_line(), *NO_EDGE, *bus_lines(bus), *step_lines(bus, edges)]
+    first = [version_line(), *NO_EDGE, *bus_lines(bus), *drivers_lines(bus)]
+    return [*first, *step_lines(bus, edges), *drivers_lines(bus)]
 
 
 def version_line():
@@ -96,6 +97,12 @@ def driver_lines(bus, driver):
     yield f"open {', '.join(map(str, edges))}".rstrip()
     yield " ".join(["low", *(it for it in wires if bus.is_low((driver, it)))])
     yield " ".join(["has", *wires])
+
+
+def drivers_lines(bus):
+    """The same of all drivers, and of one that there is not."""
+    for driver in (CONTROLLER, *SLOTS):
+        yield from driver_lines(bus, driver)
 
 
 def bus_lines(bus):

@@ -3,15 +3,29 @@
  *     any_words SCENARIO TRACE [ROUNDS]
  *
  * The numbers are drawn from a fixed seed. The records are those of a bus on which the trace is
- * made, with few or all of their words drawn. It ends with status 1 if a refusal changed a bus or
- * delivered something, if words that are no bus show more than 0, or if an answer is none that the
- * header names. */
+ * made, with few or all of their words drawn. All that a call is handed ends right before a page that
+ * nothing may touch, or begins right behind one. In each round each function but vmebus_open is called
+ * at least once. It ends with status 1 if a refusal changed a bus or delivered something, if words that
+ * are no bus show more than 0, or if an answer is none that the header names. */
+#define _DEFAULT_SOURCE
 #include <stdbool.h>
 #include <stdio.h>
 #include <stdlib.h>
 #include <string.h>
+#include <sys/mman.h>
+#include <unistd.h>
 
 #include "vmebus.h"
+
+/* What is handed over, each in pages of its own. */
+enum part { BUS, DRAWS, NUMBERS, TEXT, MASKS, DELIVERED, PARTS };
+
+/* Pages between two that nothing may touch. */
+struct pages {
+    uint8_t *first, *end;
+};
+
+static struct pages parts[PARTS];
 
 static uint64_t state = 0x9e3779b97f4a7c15u;
 
@@ -29,6 +43,24 @@ static uint32_t draw_near(uint32_t bound) { return draw() % 8 == 0 ? draw() : dr
 static void fail(const char *what, unsigned long round) {
     fprintf(stderr, "any_words: %s in round %lu\n", what, round);
     exit(1);
+}
+
+/* Lays out the pages of all parts, two for each. */
+static void lay_out(void) {
+    size_t page = (size_t)sysconf(_SC_PAGESIZE);
+    for (int part = 0; part < PARTS; part++) {
+        uint8_t *room = mmap(NULL, 4 * page, PROT_NONE, MAP_PRIVATE | MAP_ANONYMOUS, -1, 0);
+        if (room == MAP_FAILED || mprotect(room + page, 2 * page, PROT_READ | PROT_WRITE) != 0) {
+            perror("any_words: pages");
+            exit(1);
+        }
+        parts[part] = (struct pages){room + page, room + 3 * page};
+    }
+}
+
+/* So many bytes of a part, at one or the other end of its pages. */
+static void *at_edge(enum part part, size_t bytes) {
+    return draw() % 2 ? parts[part].first : parts[part].end - bytes;
 }
 
 /* Reads the first bytes of a file. */
@@ -78,59 +110,84 @@ static void look_at(uint32_t answer, uint32_t told, const struct vmebus *bus,
     if (memcmp(bus, before, sizeof *bus) != 0) fail("a refusal that changed a bus", round);
 }
 
-/* Whether a room of numbers holds a list of as many, and behind it what it was filled with. */
+/* A room of so many numbers, filled with one. */
+static uint32_t *filled(size_t words, uint32_t fill) {
+    uint32_t *room = at_edge(NUMBERS, words * sizeof *room);
+    for (size_t at = 0; at < words; at++) room[at] = fill;
+    return room;
+}
+
+/* Whether a room still has behind a list of so many what it was filled with. */
 static bool is_within(const uint32_t *room, size_t words, uint32_t count, uint32_t fill) {
-    for (size_t at = 0; at < words; at++)
-        if (at >= count && room[at] != fill) return false;
+    for (size_t at = count; at < words; at++)
+        if (room[at] != fill) return false;
     return true;
 }
 
-/* Asks for lists of a drawn length: the failing conditions of an edge, and a driver's open edges. Returns how many these are. */
+/* Asks for lists in rooms of a drawn length: the failing conditions of an edge, and a driver's open edges. Returns how many these are. */
 static uint32_t ask_lists(const struct vmebus *bus, unsigned long round) {
-    uint32_t room[40], driver = draw_near(24), fill = draw() | 0x80000000u;
+    uint32_t driver = draw_near(24), fill = draw() | 0x80000000u;
     size_t words = draw() % 40;
-    for (size_t at = 0; at < 40; at++) room[at] = fill;
+    uint32_t *room = filled(words, fill);
     uint32_t open = vmebus_open_edges(bus, driver, room, words);
     if (open > 36) fail("more open edges than there can be", round);
-    if (!is_within(room, 40, open < words ? open : (uint32_t)words, fill)) fail("open edges beyond their room", round);
-    for (size_t at = 0; at < 40; at++) room[at] = fill;
+    if (!is_within(room, words, open, fill)) fail("open edges beyond their number", round);
     words = draw() % 8;
+    room = filled(words, fill);
     uint32_t failing = vmebus_failing(bus, driver, draw_near(18), draw_near(2), draw_near(56), room, words);
     if (failing > 5) fail("more failing conditions than there can be", round);
-    if (!is_within(room, 40, failing < words ? failing : (uint32_t)words, fill)) fail("conditions beyond their room", round);
+    if (!is_within(room, words, failing, fill)) fail("conditions beyond their number", round);
     return open | failing;
+}
+
+/* Asks for the build in a room of a drawn length. */
+static void ask_build(unsigned long round) {
+    static const uint32_t wanted[] = {VMEBUS_VERSION, VMEBUS_WORDS, VMEBUS_DRAWS_WORDS};
+    uint32_t fill = draw() | 0x80000000u;
+    size_t words = draw() % 6;
+    uint32_t *room = filled(words, fill);
+    if (vmebus_build(room, words) != 3) fail("a build of other than three numbers", round);
+    for (size_t at = 0; at < words && at < 3; at++)
+        if (room[at] != wanted[at]) fail("another build than the header's", round);
+    if (!is_within(room, words, 3, fill)) fail("a build beyond its numbers", round);
+}
+
+/* Whether a room of bytes holds a text as a whole, or nothing if there is less room. */
+static bool is_text(const uint8_t *room, size_t bytes, uint32_t length) {
+    for (size_t at = 0; at < bytes; at++)
+        if ((room[at] != 0) != (length <= bytes && at < length)) return false;
+    return true;
 }
 
 /* Asks for texts in a room of a drawn length: why an edge is refused, and how it is spelled. Returns how long the first is. */
 static uint32_t ask_texts(const struct vmebus *bus, unsigned long round) {
-    uint8_t room[80];
     uint32_t driver = draw_near(24), wire = draw_near(18), fall = draw_near(2), value = draw_near(56);
     size_t bytes = draw() % 64;
-    memset(room, 0, sizeof room);
+    uint8_t *room = at_edge(TEXT, bytes);
+    memset(room, 0, bytes);
     uint32_t why = vmebus_why(bus, driver, wire, fall, value, draw_near(5), room, bytes);
-    for (size_t at = 0; at < sizeof room; at++)
-        if ((room[at] != 0) != (why <= bytes && at < why)) fail("a text that is not in its room", round);
-    memset(room, 0, sizeof room);
+    if (!is_text(room, bytes, why)) fail("a text that is not in its room", round);
+    memset(room, 0, bytes);
     uint32_t line = vmebus_spell(driver, wire, fall, value, room, bytes);
-    for (size_t at = 0; at < sizeof room; at++)
-        if ((room[at] != 0) != (line <= bytes && at < line)) fail("a line that is not in its room", round);
+    if (!is_text(room, bytes, line)) fail("a line that is not in its room", round);
     return why;
 }
 
 /* Draws by the draws of a seed, some or all of whose words are drawn, on masks that are drawn. */
 static void draw_edge(const struct vmebus *bus, bool is_bus, unsigned long round) {
-    struct vmebus_draws draws;
-    uint32_t masks[24], edge = 1;
-    vmebus_draws(&draws, draw());
-    for (uint32_t left = draw() % 40; left > 0; left--) draws.words[draw() % VMEBUS_DRAWS_WORDS] = draw();
-    if (draw() % 8 == 0) memset(&draws, 0, sizeof draws);
-    for (size_t at = 0; at < 24; at++) masks[at] = draw();
-    struct vmebus_draws before = draws;
-    uint32_t answer = vmebus_draw(bus, &draws, masks, draw() % 25, &edge);
+    struct vmebus_draws *draws = at_edge(DRAWS, sizeof *draws), before;
+    size_t count = draw() % 25;
+    uint32_t *masks = at_edge(MASKS, count * sizeof *masks), *edge = filled(1, 1);
+    vmebus_draws(draws, draw());
+    for (uint32_t left = draw() % 40; left > 0; left--) draws->words[draw() % VMEBUS_DRAWS_WORDS] = draw();
+    if (draw() % 8 == 0) memset(draws, 0, sizeof *draws);
+    for (size_t at = 0; at < count; at++) masks[at] = draw();
+    before = *draws;
+    uint32_t answer = vmebus_draw(bus, draws, masks, count, edge);
     if (answer != 0 && answer != VMEBUS_NONE_OPEN && answer != VMEBUS_NO_BUS) fail("a draw with an answer that is none", round);
     if (!is_bus && answer != VMEBUS_NO_BUS) fail("a draw on words that are no bus", round);
-    if (answer != 0 && edge != 0) fail("no edge that is drawn", round);
-    if (answer == VMEBUS_NO_BUS && memcmp(&draws, &before, sizeof draws) != 0) fail("no draw that moves draws", round);
+    if (answer != 0 && *edge != 0) fail("no edge that is drawn", round);
+    if (answer == VMEBUS_NO_BUS && memcmp(draws, &before, sizeof before) != 0) fail("no draw that moves draws", round);
 }
 
 /* Looks at all that a bus shows. Words that are no bus, as an answer to an edge said, show 0. */
@@ -139,44 +196,53 @@ static void look_around(const struct vmebus *bus, bool is_bus, unsigned long rou
     uint32_t seen = vmebus_holder(bus) | vmebus_grant_at(bus) | vmebus_pins(bus, draw_near(24));
     seen |= vmebus_low(bus, draw_near(24), draw_near(18)) | vmebus_has(bus, draw_near(24), draw_near(18));
     seen |= ask_lists(bus, round) | ask_texts(bus, round);
+    ask_build(round);
     draw_edge(bus, is_bus, round);
     if (memcmp(bus, &before, sizeof *bus) != 0) fail("a look that changed a bus", round);
     if (!is_bus && seen != 0) fail("words that are no bus and show more than 0", round);
 }
 
+/* A line of drawn bytes, or of the trace, perhaps with a byte drawn. Returns how many bytes it has. */
+static size_t draw_line(uint8_t *line, size_t room, const uint8_t *trace, size_t trace_bytes) {
+    size_t bytes = draw() % room, at = draw() % trace_bytes;
+    for (size_t it = 0; it < bytes; it++) line[it] = (uint8_t)draw();
+    if (draw() % 2) return bytes;
+    const uint8_t *feed = memchr(trace + at, '\n', trace_bytes - at);
+    const uint8_t *from = feed ? feed + 1 : trace + 6;
+    const uint8_t *to = memchr(from, '\n', (size_t)(trace + trace_bytes - from));
+    bytes = to && (size_t)(to - from) < room ? (size_t)(to - from) : 0;
+    memcpy(line, from, bytes);
+    if (bytes && draw() % 4 == 0) line[draw() % bytes] = (uint8_t)draw();
+    return bytes;
+}
+
 /* Steps a drawn edge, and a line that is drawn or a line of the trace, and looks at all that a bus tells. */
 static void step_round(struct vmebus *bus, const uint8_t *trace, size_t trace_bytes, unsigned long round) {
     struct vmebus before = *bus;
-    uint32_t told = draw();
+    uint32_t *told = at_edge(DELIVERED, sizeof *told);
+    *told = draw();
     uint32_t driver = draw_near(24), wire = draw_near(18), fall = draw_near(2), value = draw_near(56);
-    uint32_t answer = vmebus_step(bus, driver, wire, fall, value, &told);
-    look_at(answer, told, bus, &before, round);
+    uint32_t answer = vmebus_step(bus, driver, wire, fall, value, told);
+    look_at(answer, *told, bus, &before, round);
 
-    uint8_t line[80];
-    size_t bytes = draw() % sizeof line, at = draw() % trace_bytes;
-    for (size_t it = 0; it < bytes; it++) line[it] = (uint8_t)draw();
-    if (draw() % 2) {
-        const uint8_t *feed = memchr(trace + at, '\n', trace_bytes - at);
-        const uint8_t *from = feed ? feed + 1 : trace + 6;
-        const uint8_t *to = memchr(from, '\n', (size_t)(trace + trace_bytes - from));
-        bytes = to && (size_t)(to - from) < sizeof line ? (size_t)(to - from) : 0;
-        memcpy(line, from, bytes);
-        if (bytes && draw() % 4 == 0) line[draw() % bytes] = (uint8_t)draw();
-    }
+    uint8_t drawn[80];
+    size_t bytes = draw_line(drawn, sizeof drawn, trace, trace_bytes);
+    uint8_t *line = at_edge(TEXT, bytes);
+    memcpy(line, drawn, bytes);
     before = *bus;
-    told = draw();
-    answer = vmebus_line(bus, line, bytes, &told);
-    look_at(answer, told, bus, &before, round);
+    *told = draw();
+    answer = vmebus_line(bus, line, bytes, told);
+    look_at(answer, *told, bus, &before, round);
     look_around(bus, answer != VMEBUS_NO_BUS, round);
 }
 
 /* Opens a bus by a scenario some of whose bytes are drawn. */
 static void open_round(struct vmebus *bus, const uint8_t *scenario, size_t bytes, unsigned long round) {
-    static uint8_t text[4096];
     struct vmebus before = *bus;
-    memcpy(text, scenario, bytes);
-    for (uint32_t left = draw() % 4; left > 0; left--) text[draw() % bytes] = (uint8_t)draw();
     if (draw() % 4 == 0) bytes = draw() % bytes;
+    uint8_t *text = at_edge(TEXT, bytes);
+    memcpy(text, scenario, bytes);
+    for (uint32_t left = draw() % 4; left > 0 && bytes > 0; left--) text[draw() % bytes] = (uint8_t)draw();
     uint32_t fault = vmebus_open(bus, draw_near(4), text, bytes);
     if (fault > 31) fail("a fault that is none", round);
     if (fault != 0 && memcmp(bus, &before, sizeof *bus) != 0) fail("a fault that changed a bus", round);
@@ -191,7 +257,8 @@ int main(int count, char **words) {
     size_t scenario_bytes = read_some(words[1], scenario, sizeof scenario);
     size_t trace_bytes = read_some(words[2], trace, sizeof trace);
     unsigned long rounds = count > 3 ? strtoul(words[3], NULL, 10) : 1000000;
-    struct vmebus opened, bus;
+    lay_out();
+    struct vmebus opened, *bus = at_edge(BUS, sizeof *bus);
     memset(&opened, 0, sizeof opened);
     uint32_t told = 1;
     if (vmebus_line(&opened, trace, 0, &told) != VMEBUS_NO_BUS) fail("a bus of zeros that is one", 0);
@@ -201,12 +268,15 @@ int main(int count, char **words) {
 
     struct vmebus running = opened;
     size_t at = 6;
-    bus = opened;
+    *bus = opened;
     for (unsigned long round = 1; round <= rounds; round++) {
         go_on(&running, &opened, trace, trace_bytes, &at);
-        if (round % 4 == 0) draw_bus(&bus, &running);
-        if (round % 512 == 0) open_round(&bus, scenario, scenario_bytes, round);
-        step_round(&bus, trace, trace_bytes, round);
+        if (round % 4 == 0) {
+            bus = at_edge(BUS, sizeof *bus);
+            draw_bus(bus, &running);
+        }
+        if (round % 512 == 0) open_round(bus, scenario, scenario_bytes, round);
+        step_round(bus, trace, trace_bytes, round);
     }
     printf("%lu records and edges were answered\n", rounds);
     return 0;

@@ -4,6 +4,7 @@ use Rattle.std.proofs.Math.Path.{fun_ext}
 use Rattle.std.specs.Prelude.{Option, Some, None, Result, Ok, Err, is_ok, is_some, if◌then◌else◌, ◌==◌, ◌&&◌, nat_lt}
 use Rattle.std.specs.List.{flat_map, All, Contains}
 use Rattle.std.specs.Option.{option_map_or}
+use Rattle.std.proofs.lemmas.Bool.{ne_eqb}
 use Rattle.std.proofs.lemmas.Bool.Decides.{nat_tests}
 use Rattle.std.proofs.lemmas.List.{append-nil}
 use Rattle.std.proofs.lemmas.List.Elements.{All-head, All-tail, All-weaker, filter-append, filter_passes}
@@ -13,6 +14,7 @@ use Rattle.vme_model.specs.declared.refusals.Refused.TheVariants.{NoSuchDriver}
 use Rattle.vme_model.specs.declared.signals.Driver.{Driver}
 use Rattle.vme_model.specs.declared.signals.Driver.TheVariants.{Controller, Slot}
 use Rattle.vme_model.specs.declared.signals.Edge.{Edge}
+use Rattle.vme_model.specs.declared.signals.Version.{Version}
 use Rattle.vme_model.specs.declared.signals.Wire.{Wire}
 use Rattle.vme_model.specs.declared.signals.Wire.TheVariants.{Bg, Bclr, Iack, Berr, Br, BgOut, Bbsy, Addr, AddressStrobe, DataStrobe, Irq, IackOut, Dtack}
 use Rattle.vme_model.specs.Accepted.{IsAccepted}
@@ -55,7 +57,7 @@ bit_of (suc (suc (suc (suc (suc (suc (suc (suc (suc (suc (suc (suc (suc (suc zer
 bit_of (suc (suc (suc (suc (suc (suc (suc (suc (suc (suc (suc (suc (suc (suc (suc zero))))))))))))))) l = refl
 bit_of (suc (suc (suc (suc (suc (suc (suc (suc (suc (suc (suc (suc (suc (suc (suc (suc n)))))))))))))))) l = absurd (omega (arith, l))
 
-small_wire : (d : Driver) (w : Wire) → has_wire d w ≡ true → wire_number w < 16
+pub small_wire : (d : Driver) (w : Wire) → has_wire d w ≡ true → wire_number w < 16
 small_wire Controller (Bg level) h = let l : level < 4 = grind (arith, nat_tests) in omega (arith, l)
 small_wire (Slot s) (Bg level) h = absurd (cc)
 small_wire d Bclr h = omega arith
@@ -135,7 +137,8 @@ module _ (b : State) (accepted : IsAccepted b.plan) (masks : List ℕ) (all : Pl
       filter_all (is_played masks) (open_edges b d)
       (All-weaker (λ e. is_allowed e ≡ true) (λ e. is_played masks e ≡ true) plays (open_edges b d) (filter_passes is_allowed (flat_map (moves b.history d) (wires_of d))))
 
-  -- a slot without a board has no open edge
+-- a slot without a board has no open edge
+module _ (b : State) where
   none_open : (s : ℕ) → has_board b.plan s ≡ false → open_edges b (Slot s) ≡ []
   none_open s none = by_list (open_edges b (Slot s)) refl
     where
@@ -150,6 +153,12 @@ module _ (b : State) (accepted : IsAccepted b.plan) (masks : List ℕ) (all : Pl
           let there : has_driver b.plan (Slot s) e.wire ≡ true = subst (λ (d : Driver). has_driver b.plan d e.wire ≡ true) known.0 (exists b e known.1) in
           absurd (without e.wire (board b.plan s) none there)
 
+pub no_edge_without_board : (version : Version) (p : Plan) (h : List Edge) (s : ℕ) → has_board p s ≡ false → open_but_full version p h (Slot s) ≡ []
+no_edge_without_board version p h s none =
+    let b : State = record { version = version; plan = p; history = h; max = suc (length h) } in
+    sym (open_with_room b (Slot s) (ne_eqb (length h) (suc (length h)) (λ e. omega (arith, e)))) ∙ none_open b s none
+
+module _ (b : State) (accepted : IsAccepted b.plan) (masks : List ℕ) (all : PlaysAll masks) where
   -- the slots of boards alone have open edges
   abbrev OpenOf : List ℕ → List Edge
   OpenOf ss = flat_map (open_edges b) (map (λ s. Slot s) ss)
@@ -157,7 +166,7 @@ module _ (b : State) (accepted : IsAccepted b.plan) (masks : List ℕ) (all : Pl
   keep_by : (x : ℕ) (xs : List ℕ) (t : Bool) → has_board b.plan x ≡ t → OpenOf xs ≡ OpenOf (filter (has_board b.plan) xs)
       → OpenOf (x ∷ xs) ≡ OpenOf (if t then x ∷ filter (has_board b.plan) xs else filter (has_board b.plan) xs)
   keep_by x xs true is later = ap (λ (l : List Edge). open_edges b (Slot x) ++ l) later
-  keep_by x xs false is later = ap (λ (l : List Edge). l ++ OpenOf xs) (none_open x is) ∙ later
+  keep_by x xs false is later = ap (λ (l : List Edge). l ++ OpenOf xs) (none_open b x is) ∙ later
 
   keep : (xs : List ℕ) → OpenOf xs ≡ OpenOf (filter (has_board b.plan) xs)
   keep [] = refl
@@ -180,6 +189,6 @@ module _ (b : State) (accepted : IsAccepted b.plan) (masks : List ℕ) (all : Pl
   pub played_all : (length b.history == b.max) ≡ false → played b.version b.plan b.history masks ≡ all_open b
   played_all room =
       let alike : (λ (d : Driver). filter (is_played masks) (open_but_full b.version b.plan b.history d)) ≡ open_edges b =
-      fun_ext (λ (d : Driver). ap (filter (is_played masks)) (sym (open_with_room b d room)) ∙ all_played d) in
+      fun_ext (λ (d : Driver). ap (filter (is_played masks)) (sym (open_with_room b d room)) ∙ all_played b accepted masks all d) in
       ap (λ (f : Driver → List Edge). flat_map f all_drivers) alike
       ∙ ap (λ (l : List Edge). open_edges b Controller ++ l) (keep (up_to 21) ∙ ap OpenOf slots_alike)

@@ -1,5 +1,5 @@
 -- The numbers that C uses for a version and an edge.
-use Rattle.std.specs.Prelude.{◌==◌, ◌-◌, ℕ, Bool, true, false, Option, Some, None, if◌then◌else◌}
+use Rattle.std.specs.Prelude.{◌==◌, ◌-◌, ◌/◌, ◌%◌, ◌^◌, ℕ, Bool, true, false, Option, Some, None, if◌then◌else◌}
 use Rattle.std.specs.List.{slice_get}
 use Rattle.vme_model.specs.declared.signals.Version.{Version}
 use Rattle.vme_model.specs.declared.signals.Version.TheVariants.{One, Two}
@@ -47,3 +47,7 @@ edge_of_parts _ _ _ _ = None
 abbrev pub edge_of_numbers : ℕ → ℕ → ℕ → ℕ → Option Edge
 edge_of_numbers driver wire fall value = edge_of_parts (driver_of_number driver)
     (wire_of_number wire) (fall_of_number fall) (value_of_number value)
+
+-- the edge of one word, from the top: its driver, its wire, 1 for a fall, and its value, a byte each
+abbrev pub edge_of_word : ℕ → Option Edge
+edge_of_word n = edge_of_numbers (n / 2 ^ 24) (n / 2 ^ 16 % 256) (n / 2 ^ 8 % 256) (n % 256)

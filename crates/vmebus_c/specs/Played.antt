@@ -1,6 +1,6 @@
 -- What is drawn for a bench that drives a part of the wires itself.
-use Rattle.std.specs.Prelude.{◌==◌, ◌&&◌, ◌/◌, ◌%◌, ◌^◌, ℕ, Bool, Option, Some, None, List, filter, nat_lt, slice_index}
-use Rattle.std.specs.List.{flat_map}
+use Rattle.std.specs.Prelude.{◌==◌, ◌&&◌, ◌≡◌, ◌<◌, ◌/◌, ◌%◌, ◌^◌, ℕ, Bool, Option, Some, None, List, filter, nat_lt, slice_index}
+use Rattle.std.specs.List.{flat_map, Contains}
 use Rattle.vme_model.specs.declared.signals.Version.{Version}
 use Rattle.vme_model.specs.declared.signals.Edge.{Edge}
 use Rattle.vme_model.specs.Signals.{driver_number, wire_number}
@@ -8,8 +8,9 @@ use Rattle.vme_model.specs.Plan.{Plan}
 use Rattle.vme_model.specs.Text.{all_drivers}
 use Rattle.vme_histories.specs.Opens.{open_but_full}
 use Rattle.vme_seeds.specs.declared.draws.Draws.{Draws}
+use Rattle.vme_seeds.specs.declared.kinds.Kind.{Kind}
 use Rattle.vme_seeds.specs.Kinds.{has_board}
-use Rattle.vme_seeds.specs.Draws.{next_by}
+use Rattle.vme_seeds.specs.Draws.{next_by, weight_of}
 use Rattle.vmebus_c.specs.Numbers.{edge_number}
 
 -- the library plays the edge's wire: in the mask of its driver the bit of the wire is set, and the
@@ -28,6 +29,10 @@ played version p h wires =
 abbrev pub drawn_edge : Version → Plan → List Edge → List ℕ → Draws → Option Edge
 drawn_edge version p h wires d = next_by d (has_board p) (played version p h wires)
 
+-- each kind of edge has a weight, as a seed gives it
+abbrev pub AreWeighed : Draws → Type 0
+AreWeighed d = (k : Kind) → 0 < weight_of d k
+
 -- 0 if an edge was drawn, and 1 if there was none
 abbrev pub drawn_answer : Option Edge → ℕ
 drawn_answer (Some e) = 0
@@ -37,3 +42,7 @@ drawn_answer None = 1
 abbrev pub drawn_number : Option Edge → ℕ
 drawn_number (Some e) = edge_number e
 drawn_number None = 0
+
+-- a number is that of one of these edges
+abbrev pub IsNumberIn : List Edge → ℕ → Type 0
+IsNumberIn es n = (e : Edge) × Contains es e × (n ≡ edge_number e)

@@ -2,7 +2,7 @@
 //!
 //! No function has a condition on its arguments: each argument is tested, and any value has an
 //! answer.
-ghost use Rattle.std.specs.Prelude.{◌≡◌, ◌≢◌, ◌<◌, false, true, length, option_map, unwrap_or};
+ghost use Rattle.std.specs.Prelude.{◌≡◌, ◌≢◌, ◌<◌, ◌↔◌, [], false, true, length, option_map, unwrap_or};
 ghost use Rattle.vme_model.specs.History.{drive};
 ghost use Rattle.vme_model.specs.Plan.{has_driver};
 ghost use Rattle.vme_model.specs.Signals.{is_slot};
@@ -21,7 +21,7 @@ ghost use Rattle.vme_seeds.specs.Choices.{weight};
 ghost use Rattle.vme_seeds.specs.Draws.{IsCountedIn, is_seeded, made_of, numbers_of, weight_of};
 ghost use Rattle.vme_seeds.specs.Kinds.{has_board};
 ghost use Rattle.vme_seeds.specs.Numbers.{after_words, generator};
-ghost use Rattle.vmebus_c.specs.Played.{drawn_answer, drawn_edge, drawn_number};
+ghost use Rattle.vmebus_c.specs.Played.{AreWeighed, IsNumberIn, drawn_answer, drawn_edge, drawn_number, played};
 ghost use Rattle.vmebus_c.specs.Rooms.{written, written_whole};
 ghost use Rattle.vmebus_c.specs.Stepped.{answered_or, delivery_of_edge, followed, no_bus, no_driver, no_edge};
 
@@ -370,6 +370,7 @@ pub extern "C" fn vmebus_has(bus: &BusState, driver: u32, wire: u32) -> u32
 pub extern "C" fn vmebus_draws(draws: &mut Draws, seed: u64)
     ensures numbers { numbers_of draws.new ≡ after_words 28 (generator seed) }
     ensures weights { (k : KindOf) → weight_of draws.new k ≡ weight (generator seed) k }
+    ensures weighed { AreWeighed draws.new }
     ensures made { (k : KindOf) → made_of draws.new k ≡ 0 }
 {
     *draws = Draws::new(seed);
@@ -400,6 +401,10 @@ pub extern "C" fn vmebus_draw(
     ensures edge { is_seeded draws.old ≡ true
         → OfHistory bus.now (λ version p h. edge.new
         ≡ drawn_number (drawn_edge version p h wires.now draws.old)) }
+    ensures among { OfHistory bus.now (λ version p h. result ≡ 0
+        → IsNumberIn (played version p h wires.now) edge.new) }
+    ensures none { AreWeighed draws.old → OfHistory bus.now (λ version p h.
+        (result ≡ 1) ↔ (played version p h wires.now ≡ [])) }
     ensures numbers { is_seeded draws.old ≡ true → OfHistory bus.now (λ _ _ _.
         numbers_of draws.new ≡ after_words 2 (numbers_of draws.old)) }
     ensures weights { draws.new.weights ≡ draws.old.weights }

@@ -1,13 +1,29 @@
-//! What holds for draws on all wires.
+//! What holds for edges in one word, and for draws on all wires.
 //!
-//! The function does nothing and costs nothing: it states a theorem by its contract.
-ghost use Rattle.vmebus_c.specs.Laws.{DrawsTheWalk};
+//! The functions do nothing and cost nothing: each states a theorem by its contract.
+ghost use Rattle.vmebus_c.specs.Laws.{DrawsTheWalk, MakesTheWalk, WordsNameEdges};
 
-use vme_seeds::laws::draws_follow_the_walk;
+use vme_seeds::laws::{a_draw_gives_one_of_its_edges, draws_follow_the_walk, nothing_is_left_out};
+
+/// An edge that some backplane can have is the one that the four bytes of its word name.
+pub fn words_name_edges()
+    ensures { WordsNameEdges }
+{}
 
 /// On all wires the library draws the edges that `drive --seed` makes.
 pub fn all_wires_draw_the_walk()
     ensures { DrawsTheWalk }
 {
     draws_follow_the_walk();
+}
+
+/// On all wires a program that draws by a seed, and steps each edge that is drawn, makes the trace
+/// that `drive --seed` prints, whatever its length up to 1,048,576 edges.
+pub fn all_wires_make_the_walk()
+    ensures { MakesTheWalk }
+{
+    all_wires_draw_the_walk();
+    draws_follow_the_walk();
+    nothing_is_left_out();
+    a_draw_gives_one_of_its_edges();
 }

@@ -1,16 +1,20 @@
 //! The open edges of the wires that the library plays for a bench.
-ghost use Rattle.std.specs.Prelude.{◌≡◌, ◌≤◌, ◌+◌, ◌*◌, ◌++◌, [], filter, length};
+ghost use Rattle.std.specs.Prelude.{◌≡◌, ◌≤◌, ◌+◌, ◌*◌, ◌++◌, ◌↔◌, [], IfSome, None, filter, length};
+ghost use Rattle.std.specs.List.{Contains};
+ghost use Rattle.vme_model.specs.declared.signals.Driver.TheVariants.{Slot};
+ghost use Rattle.vme_bus.specs.Sets.{has};
 ghost use Rattle.vme_bus.specs.States.{OfHistory};
 ghost use Rattle.vme_histories.specs.Opens.{open_but_full};
 ghost use Rattle.vme_seeds.specs.Draws.{IsCountedIn, numbers_of};
 ghost use Rattle.vme_seeds.specs.Kinds.{has_board};
 ghost use Rattle.vme_seeds.specs.Numbers.{after_words};
-ghost use Rattle.vmebus_c.specs.Played.{drawn_edge, is_played, played};
+ghost use Rattle.vmebus_c.specs.Played.{AreWeighed, drawn_edge, is_played, played};
 
 use arrayvec::ArrayVec;
-use vme_bus::BusState;
+use vme_bus::{BusState, SlotSet};
 use vme_histories::open_edges_of;
 use vme_model::{Driver, Edge};
+use vme_seeds::laws::a_draw_gives_one_of_its_edges;
 use vme_seeds::{Draws, boards_on};
 
 /// The most open edges: 36 for each of 22 drivers.
@@ -51,16 +55,43 @@ fn append_of(bus: &BusState, driver: Driver, wires: &[u32], edges: &mut ArrayVec
     append_played(edges, open_edges_of(bus, driver).as_slice(), wires);
 }
 
-/// Lists the open edges of the wires that are played, those of the controller first, then by slot.
-fn played(bus: &BusState, wires: &[u32]) -> ArrayVec<Edge, OPEN_EDGES>
-    ensures { OfHistory bus.now (λ version p h. result.items ≡ played version p h wires.now) }
+/// Appends the open edges of a slot whose wires are played, if these slots have a board. A slot
+/// without one has none, and most of the 22 drivers may have none.
+fn append_slot(
+    bus: &BusState,
+    boards: SlotSet,
+    slot: u8,
+    wires: &[u32],
+    edges: &mut ArrayVec<Edge, OPEN_EDGES>,
+)
+    requires { length edges.old.items ≤ 756 }
+    ensures items { OfHistory bus.now (λ version p h. has boards ≡ has_board p
+        → edges.new.items ≡ edges.old.items
+        ++ filter (is_played wires.now) (open_but_full version p h (Slot slot))) }
+    ensures few { length edges.new.items ≤ length edges.old.items + 36 }
 {
-    let mut edges = ArrayVec::new();
-    append_of(bus, Driver::Controller, wires, &mut edges);
-    for below in 0..21_u8 {
-        append_of(bus, Driver::Slot(below + 1), wires, &mut edges);
+    if !boards.has(slot) {
+        return;
     }
-    edges
+    append_of(bus, Driver::Slot(slot), wires, edges);
+}
+
+/// Puts the open edges of the wires that are played into an empty list, those of the controller
+/// first, then by slot, if these slots have a board.
+fn append_all(
+    bus: &BusState,
+    boards: SlotSet,
+    wires: &[u32],
+    edges: &mut ArrayVec<Edge, OPEN_EDGES>,
+)
+    requires { edges.old.items ≡ [] }
+    ensures { OfHistory bus.now (λ version p h. has boards ≡ has_board p
+        → edges.new.items ≡ played version p h wires.now) }
+{
+    append_of(bus, Driver::Controller, wires, edges);
+    for below in 0..21_u8 {
+        append_slot(bus, boards, below + 1, wires, edges);
+    }
 }
 
 /// Draws the next edge among the open edges of the wires that are played, and counts it; none if
@@ -68,13 +99,20 @@ fn played(bus: &BusState, wires: &[u32]) -> ArrayVec<Edge, OPEN_EDGES>
 pub(crate) fn draw(bus: &BusState, draws: &mut Draws, wires: &[u32]) -> Option<Edge>
     ensures edge { OfHistory bus.now (λ version p h.
         result ≡ drawn_edge version p h wires.now draws.old) }
+    ensures among { OfHistory bus.now (λ version p h.
+        IfSome result (λ e. Contains (played version p h wires.now) e)) }
+    ensures none { AreWeighed draws.old → OfHistory bus.now (λ version p h.
+        (result ≡ None) ↔ (played version p h wires.now ≡ [])) }
     ensures numbers { numbers_of draws.new ≡ after_words 2 (numbers_of draws.old) }
     ensures weights { draws.new.weights ≡ draws.old.weights }
     ensures counts { OfHistory bus.now (λ _ p _.
         IsCountedIn (has_board p) result draws.old draws.new) }
 {
+    a_draw_gives_one_of_its_edges();
     let boards = boards_on(bus);
-    match draws.draw(boards, played(bus, wires).as_slice()) {
+    let mut edges = ArrayVec::new();
+    append_all(bus, boards, wires, &mut edges);
+    match draws.draw(boards, edges.as_slice()) {
         Some(drawn) => {
             draws.count(boards, &drawn);
             Some(drawn)

@@ -8,7 +8,7 @@ use Rattle.vme_model.specs.declared.signals.Edge.{Edge}
 use Rattle.vme_model.specs.Plan.{up_to}
 use Rattle.vme_histories.specs.Opens.{open_but_full}
 use Rattle.vmebus_c.specs.Played.{is_played}
-use Rattle.vmebus_c.proofs.played.played.Goals as goal
+use Rattle.vmebus_c.proofs.played.append_all.Goals as goal
 
 -- the drivers with one slot more
 abbrev drivers_to : ℕ → List Driver
@@ -24,16 +24,16 @@ more f n = ap (λ (m : ℕ). flat_map f (drivers_to n) ++ f (Slot m)) (add-one n
 
 pub loop-below-preserved : goal.loop-below-preserved
 loop-below-preserved c = record {
-  listed = λ version p h at.
+  listed = λ version p h at is.
       let f : Driver → List Edge = λ d. filter (is_played c.args.wires.now) (open_but_full version p h d) in
-      c.append_of-in-loop-below.ensures.items version p h at
-      ∙ ap (λ (l : List Edge). l ++ f (Slot (c.loop-below.below + 1))) (c.loop-below.invariant.listed version p h at)
+      c.append_slot.ensures.items version p h at is
+      ∙ ap (λ (l : List Edge). l ++ f (Slot (c.loop-below.below + 1))) (c.loop-below.invariant.listed version p h at is)
       ∙ more f c.loop-below.below;
   few = omega arith;
 }
 
 pub returns : goal.returns
-returns c = λ version p h at.
+returns c = λ version p h at is.
     let f : Driver → List Edge = λ d. filter (is_played c.args.wires.now) (open_but_full version p h d) in
     let ended : c.loop-below.below ≡ 21 = grind (arith, nat_tests, c.loop-below.auto.below-end, c.loop-below-test.false) in
-    c.loop-below.invariant.listed version p h at ∙ ap (λ (n : ℕ). flat_map f (drivers_to n)) ended
+    c.loop-below.invariant.listed version p h at is ∙ ap (λ (n : ℕ). flat_map f (drivers_to n)) ended
