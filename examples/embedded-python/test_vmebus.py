@@ -105,6 +105,10 @@ class Replays(unittest.TestCase):
         self.assertGreater(count, 0)
 
 
+# Edges whose failing conditions are asked for at each edge of the examples.
+TRIED = "1 bbsy-;1 addr- r2;1 addr- i4;1 as-;2 ds-;3 dtack-;c bg3-"
+
+
 class Views(unittest.TestCase):
     """What a bus shows after each edge of the examples is what the model says."""
 
@@ -115,11 +119,17 @@ class Views(unittest.TestCase):
             model, bus = Model(backplane.read(scenario), edges.version), Bus(scenario, edges.version)
             for number, edge in enumerate(edges, 1):
                 with self.subTest(f"{folder.name} {number} {edge}"):
+                    self.ask_both(model, bus)
                     self.step_both(model, bus, number, edge)
+
+    def ask_both(self, model, bus):
+        lines = f"vme 1;{TRIED};".replace(";", "\n").encode()
+        for edge in embedded.edges_of(lines):
+            self.assertEqual(bus.failing(str(edge)), texts(embedded.failing_lines(model, edge)))
 
     def step_both(self, model, bus, number, edge):
         line, driver = str(edge), "c" if edge.driver in (0, "c") else edge.driver
-        fails = tuple(it.partition(": ")[2] for it in embedded.failing_lines(model, edge))
+        fails = texts(embedded.failing_lines(model, edge))
         self.assertEqual(bus.failing(line), fails)
         verdict = bus.step(line)
         self.assertEqual(str(verdict), embedded.step(model, edge, number))
@@ -127,6 +137,11 @@ class Views(unittest.TestCase):
         *lines, _ = embedded.bus_lines(model)  # the last is of slot 22, which the module refuses
         self.assertEqual(lines, list(bus_lines(bus)))
         self.assertEqual(list(embedded.driver_lines(model, edge.driver)), list(driver_lines(bus, driver)))
+
+
+def texts(lines):
+    """The texts of conditions, which the model prints behind their names."""
+    return tuple(it.partition(": ")[2] for it in lines)
 
 
 def bus_lines(bus):
@@ -208,9 +223,15 @@ class Drawing(unittest.TestCase):
             self.assertRegex(edge, r"2 dtack|c bg0|(?!2 |c )")
             self.assertTrue(bus.step(edge))
 
-    def test_none_open(self):
-        bus, nothing = opened(ONE_TENURE), Wires({it: () for it in ("c", *range(1, 22))})
-        self.assertIsNone(Draws(1).next(bus, nothing))
+    def test_wires_alone(self):
+        """Only slot 1 can begin, by its br, and then only the controller can go on, by bg3."""
+        bus, nothing = opened(ONE_TENURE), {it: () for it in ("c", *range(1, 22))}
+        self.assertIsNone(Draws(1).next(bus, Wires(nothing)))
+        self.assertIsNone(Draws(1).next(bus, Wires({**nothing, 1: ["bbsy", "dtack"], 2: ["br"]})))
+        self.assertEqual(Draws(1).next(bus, Wires({**nothing, 1: ["br"]})), "1 br-")
+        self.assertTrue(bus.step("1 br-"))
+        self.assertIsNone(Draws(1).next(bus, Wires({**nothing, "c": ["bg2", "bclr"]})))
+        self.assertEqual(Draws(1).next(bus, Wires({**nothing, "c": ["bg3"]})), "c bg3-")
 
 
 class Faults(unittest.TestCase):
