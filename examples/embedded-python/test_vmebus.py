@@ -116,7 +116,8 @@ class Views(unittest.TestCase):
         for folder in examples():
             scenario, trace = ((folder / it).read_bytes() for it in ("scenario.toml", "trace.vme"))
             edges = embedded.edges_of(trace)
-            model, bus = Model(backplane.read(scenario), edges.version), Bus(scenario, edges.version)
+            model = Model(backplane.read(scenario), edges.version)
+            bus = Bus(scenario, edges.version)
             for number, edge in enumerate(edges, 1):
                 with self.subTest(f"{folder.name} {number} {edge}"):
                     self.ask_both(model, bus)
@@ -136,7 +137,8 @@ class Views(unittest.TestCase):
         self.assertEqual(verdict.failing, fails)
         *lines, _ = embedded.bus_lines(model)  # the last is of slot 22, which the module refuses
         self.assertEqual(lines, list(bus_lines(bus)))
-        self.assertEqual(list(embedded.driver_lines(model, edge.driver)), list(driver_lines(bus, driver)))
+        lines = list(embedded.driver_lines(model, edge.driver))
+        self.assertEqual(lines, list(driver_lines(bus, driver)))
 
 
 def texts(lines):
@@ -173,8 +175,10 @@ class Verdicts(unittest.TestCase):
         self.assertEqual((str(verdict), bool(verdict), verdict.failing), ("ok", True, ()))
 
     def test_delivery(self):
-        number, line = next(it.split(" ", 1) for it in (TWO_INTERRUPTERS / "expected").read_text().splitlines() if "irq" in it)
-        verdict = stepped(TWO_INTERRUPTERS, int(number) - 1).step(edges_of(TWO_INTERRUPTERS)[1][int(number) - 1])
+        lines = (TWO_INTERRUPTERS / "expected").read_text().splitlines()
+        number, line = next(it.split(" ", 1) for it in lines if "irq" in it)
+        edge = edges_of(TWO_INTERRUPTERS)[1][int(number) - 1]
+        verdict = stepped(TWO_INTERRUPTERS, int(number) - 1).step(edge)
         self.assertEqual(str(verdict), line)
         level, handler, answered_by, status = (int(it) for it in re.findall(r"\d+", line))
         self.assertEqual(verdict.delivery, Delivery(level, handler, answered_by, status))
@@ -215,7 +219,8 @@ class Drawing(unittest.TestCase):
 
     def test_wires(self):
         """Of a driver that is named its named wires alone are played."""
-        bus, draws, wires = opened(EXAMPLES / "nine-slots"), Draws(7), Wires({2: ["dtack"], "c": ["bg0"]})
+        bus, draws = opened(EXAMPLES / "nine-slots"), Draws(7)
+        wires = Wires({2: ["dtack"], "c": ["bg0"]})
         for _ in range(300):
             edge = draws.next(bus, wires)
             if edge is None:
@@ -237,7 +242,8 @@ class Drawing(unittest.TestCase):
 class Faults(unittest.TestCase):
     def test_no_edge(self):
         bus = opened(ONE_TENURE)
-        for line in ("", "2 br", "2 br-\n", "22 br-", "c br-", "2  br-", "2 addr- i8", "2 b\u00fcr-", "\udc00"):
+        for line in ("", "2 br", "2 br-\n", "22 br-", "c br-", "2  br-", "2 addr- i8", "2 b\u00fc-",
+                     "\udc00"):
             with self.assertRaisesRegex(NoEdge, "is not the line of an edge") as caught:
                 bus.step(line)
             self.assertIn(repr(line), str(caught.exception))
@@ -260,13 +266,14 @@ class Faults(unittest.TestCase):
 
     def import_in(self, folder, library):
         """What Python says of an import of the module in a folder."""
-        ran = subprocess.run([sys.executable, "-B", "-c", "import vmebus"], cwd=folder, text=True,
-                             env={**os.environ, "VMEBUS_LIBRARY": library}, stderr=subprocess.PIPE)
+        given = {**os.environ, "VMEBUS_LIBRARY": library}
+        words = [sys.executable, "-B", "-c", "import vmebus"]
+        ran = subprocess.run(words, cwd=folder, env=given, text=True, stderr=subprocess.PIPE)
         return ran.stderr.splitlines()[-1] if ran.stderr else ""
 
     def test_no_library(self):
         said = self.import_in(HERE, "/no/libvmebus.so")
-        self.assertRegex(said, r"LibraryError: .*\(cd crates/vmebus_c && rt lib && ./shared\) makes ")
+        self.assertRegex(said, r"LibraryError: .* \(cd crates/vmebus_c && rt lib && ./shared\) ")
 
     def test_other_build(self):
         """The module does not go with a library whose bus has another number of words."""
