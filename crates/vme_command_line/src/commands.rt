@@ -24,9 +24,10 @@ the rules, docs/TRACES.md has scenarios and traces, docs/COMMANDS.md has what ea
 prints, byte for byte, docs/FAULTS.md has the faults, and examples/ has scenarios and traces to
 start from.
 
-Exit status: 0 done; 1 a fault (one line on standard error) or a text such as this one;
-2 some edge was refused, or no order of moments is legal; 3 the limit of edges was reached, or
-`--until` did not come to its event. So mind `set -e` in a script.";
+Exit status: 0 done; 1 a fault (one line on standard error), or a text such as this one, which
+goes to standard error, too (`vmebus --help 2>&1 | less`); 2 some edge was refused, or no order
+of moments is legal; 3 the limit of edges was reached, or `--until` did not come to its event.
+Under `set -e` the statuses 2 and 3 end a script.";
 
 const REPLAY: &str =
     "Prints the verdict on each edge of a trace, and how many were accepted and refused";
@@ -77,11 +78,16 @@ const EXPLAIN_USAGE: &str = "vmebus explain <SCENARIO> <TRACE> [--edge <N>]";
 const EXPLAIN_EXAMPLE: &str =
     "It prints the number of the edge, the edge and its verdict, and then each condition that was
 tested: `holds ..` or `fails ..`, and below it the wires that it depends on, with the edge that
-moved each of them last. ` (profile)` follows a condition that is not the standard's;
-`vmebus rule` says why. N counts refused edges too. Without --edge it explains the first edge
+moved each of them last. N counts refused edges too. Without --edge it explains the first edge
 that is refused, or prints `legal N` if none is. It reads no further than that edge. The exit
 status is 0 if the edge is accepted, 2 if it is refused, and 1 at a fault. docs/COMMANDS.md has
 each line, and docs/RULES.md the rules.
+
+At G1 to G26 and S1 to S4 ` (profile)` follows a condition that is stricter than the standard, and
+the others are the standard's; `vmebus rule NAME` prints the source of each. One mark is coarse:
+`the arbiter picks level N` has it, but an arbiter that breaks its own policy breaks the standard.
+A settling rule is tested only if all conditions before it hold. No source was compared with the
+text of the standard: look it up before you rely on it.
 
 Example:
   vmebus explain board.toml tenure.vme --edge 8";
@@ -111,8 +117,9 @@ const RULE_EXAMPLE: &str =
     "It prints a line for each rule: its name, its edge, and the rule in a sentence. With NAME it
 prints the line of that rule, and a line for each of its conditions: the chapter of the
 standard that asks for it, or `profile` if it is stricter than the standard, and why. NAME is
-E1, E2, G1 to G26, S1 to S4 or E5. docs/RULES.md has the guards, and docs/COMMANDS.md each
-line.
+E1, E2, G1 to G26, S1 to S4 or E5; of these E1, E2 and E5 have no source. No source was compared
+with the text of the standard: look it up before you rely on it. docs/RULES.md has the guards, and
+says which sources are from memory. docs/COMMANDS.md has each line.
 
 Example:
   vmebus rule G13";
@@ -245,9 +252,10 @@ With --until the trace ends as soon as EVENT comes. The exit status is 0 if it c
 otherwise 3. EVENT is a situation that an accepted edge brings about,
   grant-passed late-request overtaken early-release overlap full-burst bus-clear rivals delivery
   iack-passed answered-again spurious bus-error, and in version 2 withdrawn grant-timeout
-or what alone refuses an edge, which is then the last of the trace: a rule and one of its
-conditions as `vmebus explain` prints it, with N for a level, a rule such as G13 for any of its
-conditions, or a settling rule such as S2. `vmebus rule G13` prints the conditions of G13.
+or a condition that refuses an edge, which is then the last of the trace: a rule and the one of its
+conditions that fails, as `vmebus explain` prints it, with N for a level; a rule such as G13 for any
+of its conditions; or a settling rule such as S2. `vmebus rule G13` prints the conditions of G13.
+If the edge has a settling rule, that rule may fail as well, and a rule such as G7 may end with it.
 docs/COMMANDS.md says what each event is, and which six conditions never refuse an edge alone,
 so that they are no EVENT.
 
