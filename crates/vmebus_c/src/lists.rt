@@ -8,16 +8,17 @@ use vme_model::{Driver, Edge, Wire};
 /// The most open edges: 36 for each of 22 drivers.
 const OPEN_EDGES: usize = 792;
 
-/// What lies behind the list's end.
+/// What lies behind the list's end. It is zeros in memory, so that a room of it is cleared at once:
+/// any other edge would be written 792 times into a room of its own, and that one be copied.
 const BLANK: Edge = Edge {
     driver: Driver::Controller,
-    wire: Wire::Bclr,
+    wire: Wire::Bg(0),
     fall: false,
     value: None,
 };
 
-/// A list of at most 792 edges, in place of an `ArrayVec`, whose room is filled and then moved: a
-/// draw makes one, and its room of 6 KB is most of what the draw costs.
+/// A list of at most 792 edges. An `ArrayVec` would fill its room of 6 KB with the default edge and
+/// move it, which is much of what a draw costs.
 #[derive(Drop)]
 pub(crate) struct EdgeList {
     room: [Edge; OPEN_EDGES],
