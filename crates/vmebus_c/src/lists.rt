@@ -1,6 +1,5 @@
 //! A list of edges in a room of its own.
-ghost use Rattle.std.specs.Prelude.{◌≡◌, ◌≤◌, ◌<◌, ◌++◌, List, [], ◌∷◌, length};
-ghost use Rattle.vme_model.specs.declared.signals.Edge.{Edge as EdgeValue};
+ghost use Rattle.std.specs.Prelude.{◌≡◌, ◌≤◌, ◌<◌, ◌++◌, [], ◌∷◌, length};
 
 use std::marker::Model;
 use vme_model::{Driver, Edge, Wire};

@@ -25,8 +25,8 @@ fn has_board(bus: &BusState, slot: u8) -> bool
     bus.has_driver(Driver::Slot(slot), Wire::Dtack)
 }
 
-/// The slots that have a board, by a set that the bus keeps: `boards_on` of the draws copies the
-/// row of each slot, and a draw asks once for each edge.
+/// The slots that have a board, by a set that the bus keeps: `boards_on` of the draws asks each
+/// slot's row, and a draw needs them for each edge.
 fn boards_of(bus: &BusState) -> SlotSet
     ensures { OfHistory bus.now (λ _ p _. has result ≡ has_board p) }
 {
