@@ -6,6 +6,7 @@ mod asked;
 mod bits;
 mod exports;
 pub mod laws;
+mod lists;
 mod named;
 mod numbers;
 mod opens;

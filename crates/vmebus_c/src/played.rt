@@ -10,15 +10,34 @@ ghost use Rattle.vme_seeds.specs.Kinds.{has_board};
 ghost use Rattle.vme_seeds.specs.Numbers.{after_words};
 ghost use Rattle.vmebus_c.specs.Played.{AreWeighed, drawn_edge, is_played, played};
 
-use arrayvec::ArrayVec;
+use crate::lists::EdgeList;
 use vme_bus::{BusState, SlotSet};
 use vme_histories::open_edges_of;
-use vme_model::{Driver, Edge};
+use vme_model::{Driver, Edge, Wire};
+use vme_seeds::Draws;
 use vme_seeds::laws::a_draw_gives_one_of_its_edges;
-use vme_seeds::{Draws, boards_on};
 
-/// The most open edges: 36 for each of 22 drivers.
-const OPEN_EDGES: usize = 792;
+/// Whether the slot has a board.
+fn has_board(bus: &BusState, slot: u8) -> bool
+    ensures { OfHistory bus.now (λ _ p _. result ≡ has_board p slot) }
+{
+    // each board drives DTACK*, whatever its parts
+    bus.has_driver(Driver::Slot(slot), Wire::Dtack)
+}
+
+/// The slots that have a board, by a set that the bus keeps: `boards_on` of the draws asks each
+/// slot's row, and a draw needs them for each edge.
+fn boards_of(bus: &BusState) -> SlotSet
+    ensures { OfHistory bus.now (λ _ p _. has result ≡ has_board p) }
+{
+    let mut boards = SlotSet::NONE;
+    for place in 0..22_u8 {
+        if has_board(bus, place) {
+            boards = boards.with(place);
+        }
+    }
+    boards
+}
 
 /// Whether the library plays the wire of the edge, by a mask for each driver.
 fn is_played(wires: &[u32], edge: &Edge) -> bool
@@ -33,10 +52,10 @@ fn is_played(wires: &[u32], edge: &Edge) -> bool
 }
 
 /// Appends those of the edges whose wires are played.
-fn append_played(edges: &mut ArrayVec<Edge, OPEN_EDGES>, ready: &[Edge], wires: &[u32])
-    requires { length edges.old.items + length ready.now ≤ 792 }
-    ensures items { edges.new.items ≡ edges.old.items ++ filter (is_played wires.now) ready.now }
-    ensures few { length edges.new.items ≤ length edges.old.items + length ready.now }
+fn append_played(edges: &mut EdgeList, ready: &[Edge], wires: &[u32])
+    requires { length edges.old + length ready.now ≤ 792 }
+    ensures items { edges.new ≡ edges.old ++ filter (is_played wires.now) ready.now }
+    ensures few { length edges.new ≤ length edges.old + length ready.now }
 {
     for edge in ready {
         if is_played(wires, edge) {
@@ -46,29 +65,23 @@ fn append_played(edges: &mut ArrayVec<Edge, OPEN_EDGES>, ready: &[Edge], wires: 
 }
 
 /// Appends the open edges of a driver whose wires are played.
-fn append_of(bus: &BusState, driver: Driver, wires: &[u32], edges: &mut ArrayVec<Edge, OPEN_EDGES>)
-    requires { length edges.old.items ≤ 756 }
-    ensures items { OfHistory bus.now (λ version p h. edges.new.items ≡ edges.old.items
+fn append_of(bus: &BusState, driver: Driver, wires: &[u32], edges: &mut EdgeList)
+    requires { length edges.old ≤ 756 }
+    ensures items { OfHistory bus.now (λ version p h. edges.new ≡ edges.old
         ++ filter (is_played wires.now) (open_but_full version p h driver)) }
-    ensures few { length edges.new.items ≤ length edges.old.items + 36 }
+    ensures few { length edges.new ≤ length edges.old + 36 }
 {
     append_played(edges, open_edges_of(bus, driver).as_slice(), wires);
 }
 
 /// Appends the open edges of a slot whose wires are played, if these slots have a board. A slot
 /// without one has none, and most of the 22 drivers may have none.
-fn append_slot(
-    bus: &BusState,
-    boards: SlotSet,
-    slot: u8,
-    wires: &[u32],
-    edges: &mut ArrayVec<Edge, OPEN_EDGES>,
-)
-    requires { length edges.old.items ≤ 756 }
+fn append_slot(bus: &BusState, boards: SlotSet, slot: u8, wires: &[u32], edges: &mut EdgeList)
+    requires { length edges.old ≤ 756 }
     ensures items { OfHistory bus.now (λ version p h. has boards ≡ has_board p
-        → edges.new.items ≡ edges.old.items
+        → edges.new ≡ edges.old
         ++ filter (is_played wires.now) (open_but_full version p h (Slot slot))) }
-    ensures few { length edges.new.items ≤ length edges.old.items + 36 }
+    ensures few { length edges.new ≤ length edges.old + 36 }
 {
     if !boards.has(slot) {
         return;
@@ -78,15 +91,10 @@ fn append_slot(
 
 /// Puts the open edges of the wires that are played into an empty list, those of the controller
 /// first, then by slot, if these slots have a board.
-fn append_all(
-    bus: &BusState,
-    boards: SlotSet,
-    wires: &[u32],
-    edges: &mut ArrayVec<Edge, OPEN_EDGES>,
-)
-    requires { edges.old.items ≡ [] }
+fn append_all(bus: &BusState, boards: SlotSet, wires: &[u32], edges: &mut EdgeList)
+    requires { edges.old ≡ [] }
     ensures { OfHistory bus.now (λ version p h. has boards ≡ has_board p
-        → edges.new.items ≡ played version p h wires.now) }
+        → edges.new ≡ played version p h wires.now) }
 {
     append_of(bus, Driver::Controller, wires, edges);
     for below in 0..21_u8 {
@@ -109,8 +117,8 @@ pub(crate) fn draw(bus: &BusState, draws: &mut Draws, wires: &[u32]) -> Option<E
         IsCountedIn (has_board p) result draws.old draws.new) }
 {
     a_draw_gives_one_of_its_edges();
-    let boards = boards_on(bus);
-    let mut edges = ArrayVec::new();
+    let boards = boards_of(bus);
+    let mut edges = EdgeList::new();
     append_all(bus, boards, wires, &mut edges);
     match draws.draw(boards, edges.as_slice()) {
         Some(drawn) => {

@@ -4,6 +4,6 @@ use Rattle.vmebus_c.proofs.played.append_played.Given as goal
 
 abbrev pub invariant-loop-edge : goal.invariant-loop-edge
 invariant-loop-edge l = record {
-  listed : l.edges.items ≡ l.fn.edges.items ++ filter (is_played l.wires) (take l.edge-index l.ready);
-  few : length l.edges.items ≤ length l.fn.edges.items + l.edge-index;
+  listed : l.edges ≡ l.fn.edges ++ filter (is_played l.wires) (take l.edge-index l.ready);
+  few : length l.edges ≤ length l.fn.edges + l.edge-index;
 }

@@ -12,5 +12,5 @@ pub returns-then-not-has-clause-items : goal.returns-then-not-has-clause-items
 returns-then-not-has-clause-items c = λ version p h at is.
     let none : has c.args.boards c.args.slot ≡ false = grind (arith, nat_tests) in
     let out : has_board p c.args.slot ≡ false = sym (ap (λ (f : ℕ → Bool). f c.args.slot) is) ∙ none in
-    sym (append-nil c.args.edges.now.items)
-    ∙ ap (λ (es : List Edge). c.args.edges.now.items ++ filter (is_played c.args.wires.now) es) (sym (no_edge_without_board version p h c.args.slot out))
+    sym (append-nil c.args.edges.now)
+    ∙ ap (λ (es : List Edge). c.args.edges.now ++ filter (is_played c.args.wires.now) es) (sym (no_edge_without_board version p h c.args.slot out))
