@@ -13,31 +13,9 @@ ghost use Rattle.vmebus_c.specs.Played.{AreWeighed, drawn_edge, is_played, playe
 use crate::lists::EdgeList;
 use vme_bus::{BusState, SlotSet};
 use vme_histories::open_edges_of;
-use vme_model::{Driver, Edge, Wire};
-use vme_seeds::Draws;
+use vme_model::{Driver, Edge};
 use vme_seeds::laws::a_draw_gives_one_of_its_edges;
-
-/// Whether the slot has a board.
-fn has_board(bus: &BusState, slot: u8) -> bool
-    ensures { OfHistory bus.now (λ _ p _. result ≡ has_board p slot) }
-{
-    // each board drives DTACK*, whatever its parts
-    bus.has_driver(Driver::Slot(slot), Wire::Dtack)
-}
-
-/// The slots that have a board, by a set that the bus keeps: `boards_on` of the draws asks each
-/// slot's row, and a draw needs them for each edge.
-fn boards_of(bus: &BusState) -> SlotSet
-    ensures { OfHistory bus.now (λ _ p _. has result ≡ has_board p) }
-{
-    let mut boards = SlotSet::NONE;
-    for place in 0..22_u8 {
-        if has_board(bus, place) {
-            boards = boards.with(place);
-        }
-    }
-    boards
-}
+use vme_seeds::{Draws, boards_on};
 
 /// Whether the library plays the wire of the edge, by a mask for each driver.
 fn is_played(wires: &[u32], edge: &Edge) -> bool
@@ -117,7 +95,7 @@ pub(crate) fn draw(bus: &BusState, draws: &mut Draws, wires: &[u32]) -> Option<E
         IsCountedIn (has_board p) result draws.old draws.new) }
 {
     a_draw_gives_one_of_its_edges();
-    let boards = boards_of(bus);
+    let boards = boards_on(bus);
     let mut edges = EdgeList::new();
     append_all(bus, boards, wires, &mut edges);
     match draws.draw(boards, edges.as_slice()) {

@@ -13,22 +13,22 @@ use Rattle.vmebus_c.proofs.played.draw.Goals as goal
 pub returns-in-Some-clause-edge : goal.returns-in-Some-clause-edge
 returns-in-Some-clause-edge c = λ version p h at.
     sym c.in-Some.is ∙ c.draw.ensures.edge
-    ∙ ap (λ (f : ℕ → Bool). next_by c.args.draws.now f c.as_slice.result.now) (c.boards_of-boards.ensures version p h at)
-    ∙ ap (λ (es : List Edge). next_by c.args.draws.now (has_board p) es) (c.as_slice.ensures.edges ∙ c.append_all.ensures version p h at (c.boards_of-boards.ensures version p h at))
+    ∙ ap (λ (f : ℕ → Bool). next_by c.args.draws.now f c.as_slice.result.now) (c.boards_on-boards.ensures version p h at)
+    ∙ ap (λ (es : List Edge). next_by c.args.draws.now (has_board p) es) (c.as_slice.ensures.edges ∙ c.append_all.ensures version p h at (c.boards_on-boards.ensures version p h at))
 
 pub returns-in-None-clause-edge : goal.returns-in-None-clause-edge
 returns-in-None-clause-edge c = λ version p h at.
     sym c.in-None.is ∙ c.draw.ensures.edge
-    ∙ ap (λ (f : ℕ → Bool). next_by c.args.draws.now f c.as_slice.result.now) (c.boards_of-boards.ensures version p h at)
-    ∙ ap (λ (es : List Edge). next_by c.args.draws.now (has_board p) es) (c.as_slice.ensures.edges ∙ c.append_all.ensures version p h at (c.boards_of-boards.ensures version p h at))
+    ∙ ap (λ (f : ℕ → Bool). next_by c.args.draws.now f c.as_slice.result.now) (c.boards_on-boards.ensures version p h at)
+    ∙ ap (λ (es : List Edge). next_by c.args.draws.now (has_board p) es) (c.as_slice.ensures.edges ∙ c.append_all.ensures version p h at (c.boards_on-boards.ensures version p h at))
 
 pub returns-in-Some-clause-counts : goal.returns-in-Some-clause-counts
 returns-in-Some-clause-counts c = λ version p h at.
     let e = c.in-Some.drawn in
     let new = c.count.new.self.made.counts in
     subst (λ (f : ℕ → Bool). slice_index c.args.draws.now.made.counts (number (kind_of f e)) < 4294967295 → CountsIn f e c.args.draws.now.made.counts new)
-    (c.boards_of-boards.ensures version p h at)
-    (subst (λ (m : Tally). slice_index m.counts (number (kind_of (has c.boards_of-boards.result) e)) < 4294967295 → CountsIn (has c.boards_of-boards.result) e m.counts new) c.draw.ensures.made c.count.ensures.counts)
+    (c.boards_on-boards.ensures version p h at)
+    (subst (λ (m : Tally). slice_index m.counts (number (kind_of (has c.boards_on-boards.result) e)) < 4294967295 → CountsIn (has c.boards_on-boards.result) e m.counts new) c.draw.ensures.made c.count.ensures.counts)
 
 pub returns-in-Some-clause-among : goal.returns-in-Some-clause-among
 returns-in-Some-clause-among c = λ version p h at.
