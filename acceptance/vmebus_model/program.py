@@ -12,6 +12,8 @@ from .explain import explain
 from .faults import Fault, WrongWords, escaped
 from .judging import check, check_all, replay
 from .order import order
+from .races import races
+from .same import same
 from .show import show
 from .shrink import shrink
 from .sources import rule
@@ -148,12 +150,14 @@ def done(job, console):
         return (drive_seeds if "--seeds" in options else drive_drawn if "--seed" in options else drive)(plan, options, console)
     if job.command == "order":
         return order(plan, first, options, console)
+    if job.command == "same":
+        return same(plan, first, trace_names, console)
     trace = Trace(first)
     if job.command == "replay":
         return replay(plan, trace, console, "--full" in options)
     if job.command in ("check", "cycles"):
         return (check if job.command == "check" else cycles)(plan, trace, console)
-    with_options = {"explain": explain, "shrink": shrink, "state": state, "show": show}
+    with_options = {"explain": explain, "shrink": shrink, "state": state, "show": show, "races": races}
     return with_options[job.command](plan, trace, options, console)
 
 
