@@ -1,6 +1,6 @@
-"""`--swaps`: free swaps of drawn traces, each of them replayed by a built program before and after.
+"""`--swaps`: free swaps of drawn traces, of which each is replayed before and after, by the model or by a built program.
 
-A swap may change no verdict and no delivery, and not where the bus stands behind both edges.
+A swap may change no verdict and no delivery of any edge, and not where the bus stands behind its two edges and at the end.
 """
 
 import random
@@ -9,82 +9,94 @@ import subprocess
 import tempfile
 from pathlib import Path
 
-from .cases import first_difference
+from .cases import Kept, first_difference
 from .drawing import free_swaps
 from .drawn import SECONDS
 from .drawn_moments import legal_edges, plan_drawn
+from .program import main
 from .traces import text_of
 
 FILES = ["scenario.toml", "trace.vme"]
 SINCE = re.compile(rb"(?<= since )[0-9]+$", re.M)
 
 
-def output(program, folder, *words):
-    """What a program writes with these words."""
-    options = {"input": b"", "capture_output": True, "cwd": folder, "timeout": SECONDS}
-    return subprocess.run([program, *words], **options).stdout
+def by_program(program, folder):
+    """A function of words: what a built program writes with them in a folder."""
+    options = {"stdin": subprocess.DEVNULL, "capture_output": True, "cwd": folder, "timeout": SECONDS}
+    return lambda words: subprocess.run([program, *words], **options).stdout
 
 
-class Told:
-    """What a program says of a trace: the verdict on each edge, and, behind some edges, how the bus
-    stands."""
+def by_model(folder):
+    """A function of words: what the model writes with them in a folder."""
+    def written(words):
+        console = Kept(folder)
+        main([it.encode() for it in words], console)
+        return console.output
 
-    def __init__(self, program, folder, version, edges):
-        self.program, self.folder, self.text = program, folder, text_of(version, edges)
-        replayed = self.said("replay", *FILES)
-        *verdicts, self.counts = replayed.splitlines() or [b""]
+    return written
+
+
+class Replayed:
+    """A trace, the verdict on each of its edges, and where the bus stands in it; `written` is a function of words."""
+
+    def __init__(self, written, folder, text):
+        self.written, self.path, self.text = written, Path(folder, FILES[1]), text
+        *verdicts, self.counts = self.asked("replay").splitlines() or [b""]
         self.verdicts = [it.partition(b" ")[2] for it in verdicts]
+        self.end = self.asked("state")
 
-    def said(self, command, *words):
-        Path(self.folder, FILES[1]).write_text(self.text)
-        return output(self.program, self.folder, command, *words)
+    def asked(self, command, *options):
+        self.path.write_text(self.text)
+        return self.written([command, *FILES, *options])
 
     def state(self, count):
-        return self.said("state", *FILES, "--after", str(count))
+        return self.asked("state", "--after", str(count))
 
 
 def exchanged(state, place):
-    """A state, in which the numbers of two neighbours are exchanged, the first of which has this
-    place."""
+    """A state with the numbers of two neighbours exchanged, the first of which has this place."""
     first, second = b"%d" % (place + 1), b"%d" % (place + 2)
     numbers = {first: second, second: first}
     return SINCE.sub(lambda found: numbers.get(found[0], found[0]), state)
 
 
 def fault_in_swap(before, after, place):
-    """What a swap changes, None if nothing but the order."""
+    """What a swap changes beside the order of two edges, None if nothing."""
     wanted = list(before.verdicts)
     wanted[place : place + 2] = wanted[place + 1], wanted[place]
     if after.verdicts != wanted:
         return first_difference("the verdicts", b"\n".join(wanted), b"\n".join(after.verdicts))
-    if not after.counts.endswith(b" refused 0") or after.counts != before.counts:
-        return f"the program says {before.counts!r} before the swap, and then {after.counts!r}"
+    if after.counts != b"accepted %d refused 0" % len(wanted):
+        return f"the last line is {after.counts!r}"
     state, wanted = after.state(place + 2), exchanged(before.state(place + 2), place)
-    return None if state == wanted else first_difference("the state", wanted, state)
+    if state != wanted:
+        return first_difference("the state behind both edges", wanted, state)
+    wanted = exchanged(before.end, place)
+    return None if after.end == wanted else first_difference("the state at the end", wanted, after.end)
 
 
-def swaps_of(seed, program, folder):
-    """The swaps of a draw: a scenario and legal edges, of which one free swap after the other is
-    made; and what each changes."""
+def faults_of_swaps(seed, program, folder):
+    """Of each swap of a draw what it changes: of a scenario and legal edges, one free swap after the other is made."""
     draw = random.Random(seed)
     scenario, plan = plan_drawn(draw)
     version = draw.choice([1, 2])
     edges = legal_edges(draw, plan, version, draw.choice([10, 20, 40, 80]))
     Path(folder, FILES[0]).write_text(scenario)
-    before = Told(program, folder, version, edges)
+    written = by_program(program, folder) if program else by_model(folder)
+    before = Replayed(written, folder, text_of(version, edges))
     for place, swapped in free_swaps(draw, plan, version, edges, 0.7):
-        after = Told(program, folder, version, swapped)
+        after = Replayed(written, folder, text_of(version, swapped))
         yield fault_in_swap(before, after, place)
         before = after
 
 
 def compare(program, count, seed):
-    """Replays so many free swaps by a program, and returns the status."""
+    """Replays so many free swaps, by the model if no program is given, and returns the status."""
     passed, failed, number = 0, 0, random.randrange(2**32) if seed is None else seed
     print(f"seeds from {number} on", flush=True)
     while passed + failed < count:
         with tempfile.TemporaryDirectory(prefix="swaps-") as folder:
-            for fault in swaps_of(number, program, folder):
+            for fault in faults_of_swaps(number, program, folder):
                 passed, failed = passed + (fault is None), failed + (fault is not None)
                 if fault:
                     print(f"FAILED seed {number}: {fault}", flush=True)
