@@ -14,7 +14,7 @@ MOST_EDGES = 1_048_576
 
 
 class Made(NamedTuple):
-    """An accepted edge with its number, and what it wrote over: so it can be taken back."""
+    """An accepted edge with its number, and what it replaced, so that it can be taken back."""
 
     edge: Edge
     number: int
@@ -57,7 +57,7 @@ class Bus:
         self.accepted += 1
 
     def take_back(self):
-        """Takes the last edge from the history, and returns it with its number."""
+        """Takes the last edge out of the history, and returns it with its number."""
         made = self.past.pop()
         driver, wire, falls, _ = made.edge
         self.accepted -= 1
@@ -195,8 +195,7 @@ class Bus:
     # How it stands
 
     def stand(self):
-        """All that a rule can read: of two histories that stand the same, each edge has the same
-        verdict after both."""
+        """All that a rule can read: after two histories that stand the same, each edge has the same verdict."""
         plan = self.plan
         return (
             tuple(self.low.values()), self.shown(), self.level_last_granted(),

@@ -112,8 +112,8 @@ def near_edge(draw, bus):
 
 
 def free_swaps(draw, plan, version, edges, chance):
-    """From the beginning on, some of the free swaps of legal edges, one after the other: the place
-    of each, and all edges as they stand then."""
+    """Some of the free swaps of legal edges, one after another from the beginning on: the place of each, and all edges after
+    it."""
     bus = Bus(plan, version)
     for place in range(len(edges) - 1):
         first, second = edges[place : place + 2]

@@ -60,7 +60,7 @@ def words_of(draw, edges, racing):
 
 
 def words_of_orders(draw, edges, racing):
-    """The words of runs that speak of other orders."""
+    """The words of runs about other orders."""
     files, others = FILES[:2], [draw.randint(1, edges + 1), *racing[:1], *racing[-1:]]
     yield ["races", *files]
     yield from (["races", *files, "--edge", str(draw.randint(1, edges + 1))] for _ in range(2))
@@ -110,8 +110,7 @@ def option(draw, name):
 
 
 def judged(plan, text):
-    """The bus after the edges of a trace, up to its fault, and the numbers of those that race; None
-    if it has no header."""
+    """The bus after the edges of a trace, up to its fault, and the numbers of those that race; no bus if there is no header."""
     try:
         trace, racing = Trace(rest_of(text.encode(), False)), []
     except Fault:
@@ -126,7 +125,7 @@ def judged(plan, text):
 
 
 def two_orders(draw, bus):
-    """The texts of the accepted edges, and of them in an order to which free swaps lead."""
+    """The accepted edges as a trace, and as one in another order, to which free swaps lead."""
     if bus is None:
         return ["vme 1\n"] * 2
     edges = [it.edge for it in bus.past]

@@ -1,4 +1,4 @@
-"""`races`: the edges that could have come before another one, and what would have come of that."""
+"""`races`: the edges that could have come before another one, and what would have come of that order."""
 
 from collections import Counter
 
@@ -11,7 +11,7 @@ from .verdicts import is_ok, step, verdict_of
 
 
 def races(plan, trace, options, console):
-    """Tells of all edges, or of one of them, after which nothing is judged."""
+    """Prints the races of all edges, or how far one of them goes back, or its other order; nothing after that edge is judged."""
     wanted = options.get("--edge", options.get("--other"))
     if wanted is None:
         return all_races(plan, trace, console)
@@ -24,8 +24,8 @@ def races(plan, trace, options, console):
 
 
 def ways_of(bus, trace):
-    """The number, the edge and the way back of each edge, in front of which the bus then stands;
-    the way is None if the edge is refused."""
+    """The number, the edge and the way back of each edge, while the bus is as it was before that edge; the way is None if the
+    edge is refused."""
     for number, edge in enumerate(trace, 1):
         is_accepted = is_ok(verdict_of(bus, edge))
         yield number, edge, way_back(bus, edge) if is_accepted else None
@@ -42,7 +42,7 @@ def all_races(plan, trace, console):
                 continue
             counts.update([way.stop, "free" if way.passed else "not free"])
             if way.stop == "races":
-                lines.append(f"{number} {edge} {told(bus, way)}\n")
+                lines.append(f"{number} {edge} {stop_of(bus, way)}\n")
         found = f"races {counts['races']} waits {counts['waits for']} free {counts['free']}"
         lines.append(f"accepted {bus.accepted} {found}\n")
     finally:
@@ -50,8 +50,8 @@ def all_races(plan, trace, console):
     return 2 if counts["refused"] else 0
 
 
-def told(bus, way):
-    """What stops an edge behind those that it passes."""
+def stop_of(bus, way):
+    """What stops an edge on its way back, as a line has it."""
     if not way.outcome:
         return way.stop
     in_front = bus.past[-1 - way.passed]
@@ -59,19 +59,19 @@ def told(bus, way):
 
 
 def one_edge(bus, number, edge, console):
-    """How far an edge could have come earlier, and what it waits for."""
+    """Prints how far an edge goes back, and what stops it."""
     said = verdict_of(bus, edge)
     if not is_ok(said):
         console.write(f"{number} {edge} {said}\n")
         return 2
     way = way_back(bus, edge)
     free = f" free since {bus.past[-way.passed].number}" if way.passed else ""
-    console.write(f"{number} {edge}{free} {told(bus, way)}\n")
+    console.write(f"{number} {edge}{free} {stop_of(bus, way)}\n")
     return 0
 
 
 def other_order(bus, number, edge, console):
-    """The trace of the other order of a race: the edge, and then the one with which it races."""
+    """Prints the other order of a race: the edges before both, then the edge, and then the one with which it races."""
     way = way_back(bus, edge) if is_ok(verdict_of(bus, edge)) else None
     if way is None or way.stop != "races":
         raise Fault(f"X11 edge {number} races with none")

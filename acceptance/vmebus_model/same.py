@@ -12,8 +12,7 @@ from .verdicts import is_ok, step
 
 
 class Judged(NamedTuple):
-    """A trace that was read to its end: its version, its edges, and the number and the verdict of
-    the first that is refused."""
+    """A trace that was read to its end: its version, its edges, and the number and the verdict of the first that is refused."""
 
     version: int
     edges: Tuple[Edge, ...]
@@ -30,8 +29,7 @@ def judged(plan, trace):
 
 
 def same(plan, read, names, console):
-    """Tells whether they are the same; the second is opened once the first is at its end, and its
-    faults name it."""
+    """Prints whether two traces are the same; the second is opened once the first is at its end, and its faults name it."""
     first = judged(plan, Trace(read))
     read_second = console.open(names[1])
     try:
@@ -69,8 +67,7 @@ def difference(plan, first, second):
 
 
 def what_stops_at(bus, left, place):
-    """What keeps the edge at this place, of those that are left, from the front; None if nothing
-    does."""
+    """What keeps the edge at this place of those that are left from coming to the front; None if nothing does."""
     if place > MOST_PASSED:
         return "far"
     least, edge = len(bus.past), left[place][1]

@@ -1,5 +1,5 @@
-"""Free swaps: neighbours that could change places without any difference; and how far back they
-bring an edge, which is what `races` and `same` go by."""
+"""Free swaps: neighbours that can change places without any difference; and how far back they bring an edge, by which `races`
+and `same` judge."""
 
 from typing import NamedTuple
 
@@ -9,8 +9,8 @@ MOST_PASSED = 200
 
 
 class Way(NamedTuple):
-    """How an edge goes back: how many edges it passes, and what stops it behind them: `waits for`
-    or `races` the edge in front, with the outcome; or `begins` or `far`."""
+    """How an edge goes back: how many edges it passes, and what stops it then: `waits for` or `races` with the edge just before
+    it, and the outcome of that; or `begins` or `far`."""
 
     passed: int
     stop: str
@@ -18,8 +18,8 @@ class Way(NamedTuple):
 
 
 def played(bus, edges):
-    """The verdicts of edges one after the other, up to the first refusal, and how the bus stands
-    after them; the bus stays as it is."""
+    """The verdicts of edges one after another, up to the first refusal, and how the bus stands after them; the bus stays as it
+    was."""
     verdicts, last = [], bus.past[-1].number if bus.past else 0
     for edge in edges:
         verdicts.append(verdict_of(bus, edge))
@@ -34,16 +34,16 @@ def played(bus, edges):
 
 
 def is_free(bus, first, second):
-    """Whether two edges that are legal in this order are so in the other one, with the same
-    verdicts and the same bus after them."""
+    """Whether two edges that are legal in this order are legal in the other one, with the same verdicts and the bus in the same
+    state after them."""
     verdicts, stands = played(bus, [first, second])
     others, stands_then = played(bus, [second, first])
     return verdicts == others[::-1] and stands == stands_then
 
 
 def what_stops(bus, first, second):
-    """Why two edges that are legal in this order cannot change places: what stops the second, and
-    the outcome; None if the swap is free."""
+    """Why two edges that are legal in this order cannot change places: what stops the second, and the outcome; None if the swap
+    is free."""
     if is_free(bus, first, second):
         return None
     verdicts, _ = played(bus, [second, first])
@@ -53,8 +53,7 @@ def what_stops(bus, first, second):
 
 
 def way_back(bus, edge, least=0):
-    """How an edge that would be accepted now goes back in the history, whose first edges, so many,
-    are none to pass."""
+    """How an edge that would be accepted now goes back in the history; the least first edges of it are not passed."""
     passed, found = [], None
     while len(bus.past) > least and len(passed) < MOST_PASSED:
         front = bus.take_back()
