@@ -9,14 +9,16 @@ import subprocess
 import tempfile
 from pathlib import Path
 
+from .bus import Bus
 from .cases import Kept, first_difference
-from .drawing import free_swaps
+from .drawing import free_swaps, legal_edge
 from .drawn import SECONDS
 from .drawn_moments import legal_edges, plan_drawn
 from .program import main
-from .traces import text_of
+from .traces import ACCESSES, text_of
 
 FILES = ["scenario.toml", "trace.vme"]
+OF_A_CYCLE = ("addr", "as", "ds", "dtack")
 SINCE = re.compile(rb"(?<= since )[0-9]+$", re.M)
 
 
@@ -75,12 +77,29 @@ def fault_in_swap(before, after, place):
     return None if after.end == wanted else first_difference("the state at the end", wanted, after.end)
 
 
+def edges_with_answers(draw, plan, version, most):
+    """Legal edges with many accesses to RORA boards: only of an answer of these and their interrupt requests are both orders
+    legal, and yet not free."""
+    rora = [slot for slot, it in plan.interrupters.items() if not it.is_roak]
+    bus, edges = Bus(plan, version), []
+    while len(edges) < most:
+        edge = legal_edge(draw, bus)
+        if edge is None:
+            break
+        edge = edge if edge.wire in OF_A_CYCLE else legal_edge(draw, bus)
+        if rora and edge.cycle in ACCESSES:
+            edge = edge._replace(cycle=ACCESSES[draw.choice(rora) - 1])
+        edges.append(edge)
+        bus.accept(edge, len(edges))
+    return edges
+
+
 def faults_of_swaps(seed, program, folder):
     """Of each swap of a draw what it changes: of a scenario and legal edges, one free swap after the other is made."""
     draw = random.Random(seed)
     scenario, plan = plan_drawn(draw)
     version = draw.choice([1, 2])
-    edges = legal_edges(draw, plan, version, draw.choice([10, 20, 40, 80]))
+    edges = draw.choice([legal_edges, edges_with_answers])(draw, plan, version, draw.choice([10, 20, 40, 80]))
     Path(folder, FILES[0]).write_text(scenario)
     written = by_program(program, folder) if program else by_model(folder)
     before = Replayed(written, folder, text_of(version, edges))

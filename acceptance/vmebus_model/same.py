@@ -70,10 +70,10 @@ def what_stops_at(bus, left, place):
     """What keeps the edge at this place of those that are left from coming to the front; None if nothing does."""
     if place > MOST_PASSED:
         return "far"
-    least, edge = len(bus.past), left[place][1]
-    for number, (_, it) in enumerate(islice(left, place), least + 1):
+    kept, edge = len(bus.past), left[place][1]
+    for number, (_, it) in enumerate(islice(left, place), kept + 1):
         bus.accept(it, number)
-    way = way_back(bus, edge, least)
+    way = way_back(bus, edge, kept)
     for _ in range(place):
         bus.take_back()
     if way.stop == "begins":
