@@ -1,0 +1,16 @@
+//! The engine `races`: it reads a scenario and a trace, and writes a line for each accepted edge
+//! that races with one before it.
+//!
+//! `specs/Walks.antt` says how far an edge goes back and what stops it, and `specs/Outcomes.antt`
+//! what the engine writes and answers.
+#![tactic(auto)]
+
+mod free;
+mod judge;
+mod lines;
+mod racing;
+mod recent;
+mod walks;
+
+pub use judge::races;
+pub use walks::{Stop, Walk};
