@@ -1,26 +1,23 @@
 -- What is kept of the edges so far.
-use Rattle.std.specs.Prelude.{◌≡◌, ◌⊎◌, ◌↔◌, ◌<◌, ◌≤◌, ◌++◌, ◌∷◌, [], ℕ, Bool, true, IsTrue, List, length, min, Option, Some}
+use Rattle.std.specs.Prelude.{◌≡◌, ◌⊎◌, ◌<◌, ◌≤◌, ◌++◌, ◌∷◌, [], ℕ, Bool, true, false, List, length, min, Option, Some}
 use Rattle.std.specs.Io.KnownBytes.{Appends}
 use Rattle.vme_model.specs.declared.signals.Version.{Version}
 use Rattle.vme_model.specs.declared.signals.Edge.{Edge}
 use Rattle.vme_model.specs.Plan.{Plan}
 use Rattle.vme_model.specs.Numbered.{Numbered, edges_in, numbered}
-use Rattle.vme_model.specs.Signals.{is_well_formed}
 use Rattle.vme_model.specs.Verdict.{kept}
 use Rattle.vme_bus.specs.States.{IsStateOf}
 use Rattle.vme_trace.specs.declared.Fault.{Fault}
 use Rattle.vme_trace.specs.declared.Fault.TheVariants.{Memory, Write}
 use Rattle.vme_trace.specs.Writing.{AppendsFront}
 use Rattle.vme_engines.specs.Outcomes.{bench}
-use Rattle.vme_races.specs.declared.recent.Earlier.{Earlier}
+use Rattle.vme_races.specs.declared.earlier.Earlier.{Earlier}
 use Rattle.vme_races.specs.declared.recent.Recent.{Recent}
 use Rattle.vme_races.specs.declared.racing.Counts.{Counts}
 use Rattle.vme_races.specs.declared.racing.Racing.{Racing}
-use Rattle.vme_races.specs.declared.walks.Stop.{Stop}
-use Rattle.vme_races.specs.declared.walks.Stop.TheVariants.{Begins, Far, Waits, Races}
 use Rattle.vme_races.specs.declared.walks.Walk.{Walk}
-use Rattle.vme_races.specs.Walks.{AreWalks, Passes, most_passed, oldest}
-use Rattle.vme_races.specs.Lines.{free_in, last_line, race_lines, races_in, waits_in}
+use Rattle.vme_races.specs.Walks.{AreWalks, most_passed}
+use Rattle.vme_races.specs.Lines.{free_in, race_lines, races_in, waits_in}
 use Rattle.vme_races.specs.Outcomes.{AreLines, IsText}
 
 -- ---- the last accepted edges
@@ -36,20 +33,14 @@ AreHeld v p ((n, e) ∷ k) (a ∷ others) =
 pub record AreLast (v : Version) (p : Plan) (k : Numbered) (now : Recent) : Type 0 where
   pub held : AreHeld v p k now.edges.items
   pub count : length now.edges.items ≡ min most_passed (length k)
-  pub more : IsTrue now.has_more ↔ (most_passed < length k)
+  pub more : now.has_more ≡ true → most_passed < length k
+  pub whole : now.has_more ≡ false → length k ≤ most_passed
 
 -- what holds of all edges of which these are the last
 abbrev pub OfLast : Recent → (Version → Plan → Numbered → Type 0) → Type 0
 OfLast r P = (v : Version) (p : Plan) (k : Numbered) → AreLast v p k r → P v p k
 
 -- ---- all that is kept
-
--- what is met is well formed
-abbrev pub is_formed : Stop → Bool
-is_formed Begins = true
-is_formed Far = true
-is_formed (Waits n e refused) = is_well_formed e
-is_formed (Races n e outcome) = is_well_formed e
 
 pub record IsCounted (walks : List Walk) (now : Counts) : Type 0 where
   pub races : now.races ≡ races_in walks

@@ -7,5 +7,7 @@ pub mod Walks
 pub mod Lines
 -- believe: what is written of a trace, and what the engine answers
 pub mod Outcomes
+-- words: an edge that is met is well formed
+pub mod Formed
 -- words: what is kept of the edges so far
 pub mod Kept

@@ -5,6 +5,7 @@
 //! what the engine writes and answers.
 #![tactic(auto)]
 
+mod earlier;
 mod free;
 mod judge;
 mod lines;

@@ -3,7 +3,7 @@ ghost use Rattle.std.specs.Prelude.{◌≡◌, ◌+◌, ◌≤◌, ◌++◌, IsT
 ghost use Rattle.arrayvec.specs.ArrayVec.{array_vec_len};
 ghost use Rattle.vme_model.specs.Signals.{is_well_formed};
 ghost use Rattle.vme_races.specs.Lines.{counts_text, edge_text, outcome_text, race_line as race_line_of, races_text};
-ghost use Rattle.vme_races.specs.Kept.{is_formed};
+ghost use Rattle.vme_races.specs.Formed.{is_formed};
 
 use crate::walks::Stop;
 use arrayvec::ArrayVec;

@@ -7,10 +7,14 @@ ghost use Rattle.vme_model.specs.Plan.{Plan as PlanValue};
 ghost use Rattle.vme_model.specs.Signals.{is_well_formed};
 ghost use Rattle.vme_engines.specs.Outcomes.{bench};
 ghost use Rattle.vme_races.specs.declared.walks.Walk.{Walk as WalkValue};
-ghost use Rattle.vme_races.specs.Kept.{Advances, IsCounted, IsKept, Breaks, Stands};
+ghost use Rattle.vme_model.specs.Numbered.{Numbered, edges_in};
+ghost use Rattle.vme_bus.specs.States.{IsStateOf, OfHistory};
+ghost use Rattle.vme_bus.specs.Steps.{kept_but_full};
+ghost use Rattle.vme_races.specs.Kept.{Advances, AreLast, Breaks, IsCounted, IsKept, Stands};
 
+use crate::earlier::Earlier;
 use crate::lines::{Line, race_line};
-use crate::recent::{Earlier, Recent};
+use crate::recent::Recent;
 use crate::walks::Walk;
 use arrayvec::ArrayVec;
 use std::alloc::Global;
@@ -86,6 +90,15 @@ impl Racing {
     /// Errors: X6.
     fn keep(&mut self, number: u64, edge: &Edge) -> Result<(), Fault>
         requires { IsTrue (is_well_formed edge.now) }
+        ensures state { OfHistory self.old.state (λ v p h.
+            IsStateOf v p (kept_but_full v p h edge.now) self.new.state) }
+        ensures last { OnOk result ((v : VersionValue) (p : PlanValue) (k : Numbered)
+            → IsStateOf v p (edges_in k) self.old.state → AreLast v p k self.old.recent
+            → AreLast v p ((number, edge.now) ∷ k) self.new.recent) }
+        ensures bus { self.new.bus ≡ self.old.bus }
+        ensures judged { self.new.judged ≡ self.old.judged }
+        ensures counts { self.new.counts ≡ self.old.counts }
+        ensures fault { IfErr result (λ fault. fault ≡ Fault.Memory) }
     {
         let before = self.state;
         let _ = self.state.step(*edge);

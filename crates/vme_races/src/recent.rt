@@ -1,33 +1,22 @@
 //! The last accepted edges of a trace, and how far the next one goes back through them.
-ghost use Rattle.std.specs.Prelude.{◌≡◌, ◌↔◌, ◌∷◌, [], IfErr, IsTrue, OnOk, true};
+ghost use Rattle.std.specs.Prelude.{◌≡◌, ◌∷◌, [], IfErr, IsTrue, OnOk, if◌then◌else◌};
 ghost use Rattle.vme_model.specs.declared.signals.Version.{Version};
 ghost use Rattle.vme_model.specs.Plan.{Plan};
 ghost use Rattle.vme_model.specs.Numbered.{edges_in};
-ghost use Rattle.vme_model.specs.Signals.{is_well_formed};
 ghost use Rattle.vme_bus.specs.States.{IsStateOf};
-ghost use Rattle.vme_swaps.specs.Swaps.{IsFree};
-ghost use Rattle.vme_races.specs.Walks.{IsWalk, Meets};
-ghost use Rattle.vme_races.specs.Kept.{AreLast, OfLast, is_formed};
+ghost use Rattle.vme_races.specs.Walks.{IsWalk};
+ghost use Rattle.vme_races.specs.Formed.{is_formed};
+ghost use Rattle.vme_races.specs.Kept.{AreLast, OfLast};
 
-use crate::free::is_free;
+use crate::earlier::Earlier;
 use crate::walks::{Stop, Walk};
 use std::alloc::Global;
 use std::collections::VecDeque;
-use vme_bus::BusState;
 use vme_model::Edge;
 use vme_trace::Fault;
 
 /// How many edges one passes at most.
 const MOST_PASSED: usize = 200;
-
-/// An accepted edge, with its number in the trace and the bus before it.
-#[derive(Clone, Copy)]
-pub(crate) struct Earlier {
-    pub(crate) number: u64,
-    pub(crate) edge: Edge,
-    pub(crate) before: BusState,
-    ghost formed: { is_well_formed edge ≡ true },
-}
 
 /// The last accepted edges, the newest first: at most [`MOST_PASSED`].
 #[derive(Drop)]
@@ -35,39 +24,6 @@ pub(crate) struct Recent {
     pub(crate) edges: VecDeque<Earlier>,
     /// Whether there are more before them.
     pub(crate) has_more: bool,
-}
-
-impl Earlier {
-    ghost use Rattle.vme_bus.specs.States.{OfHistory};
-
-    /// Whether it and the next edge may change places.
-    fn is_free_with(&self, edge: &Edge) -> bool
-        ensures { OfHistory self.now.before (λ v p h.
-            IsTrue result ↔ IsFree v p h self.now.edge edge.now) }
-    {
-        is_free(&self.before, self.edge, *edge)
-    }
-
-    /// What stops the next edge behind this one, if the two may not change places.
-    fn meet(&self, edge: &Edge) -> Stop
-        ensures meets { OfHistory self.now.before (λ v p h.
-            Meets v p edge.now self.now.number self.now.edge h result) }
-        ensures formed { IsTrue (is_formed result) }
-    {
-        let mut between = self.before;
-        match between.step(*edge) {
-            Err(refused) => Stop::Waits {
-                number: self.number,
-                edge: self.edge,
-                refused,
-            },
-            Ok(_) => Stop::Races {
-                number: self.number,
-                edge: self.edge,
-                outcome: between.judge(self.edge),
-            },
-        }
-    }
 }
 
 impl Recent {
@@ -82,7 +38,9 @@ impl Recent {
     }
 
     /// What stops an edge that has passed all of them.
-    fn end(&self) -> Stop {
+    fn end(&self) -> Stop
+        ensures { result ≡ (if self.now.has_more then Stop.Far else Stop.Begins) }
+    {
         if self.has_more {
             Stop::Far
         } else {

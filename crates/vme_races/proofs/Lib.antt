@@ -1,0 +1,9 @@
+-- `Recent::walk`: an edge goes back through the last accepted edges
+pub mod Passed
+-- `Recent::push`: the last accepted edges with the next one
+pub mod Pushed
+-- `Racing::take_in` and `take_edges`: what is kept, with the next edge
+pub mod TakenIn
+
+-- the judge: what is written of a trace
+-- pub mod WrittenRaces
