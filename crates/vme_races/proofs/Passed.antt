@@ -89,7 +89,7 @@ module _ (v : Version) (p : Plan) (e : Edge) where
           → from ≡ oldest passed → count < most_passed
           → OfHistory a.before (λ w q h. ¬ IsFree w q h a.edge e)
           → OfHistory a.before (λ w q h. Meets w q e a.number a.edge h stop)
-          → IsWalk v p e k (record { since = from; stop = stop })
+          → IsWalk v p e k (record { passed = count; since = from; stop = stop })
       stop_by from stop passed [] split many passes held since less fixed meets = absurd held
       stop_by from stop passed ((n, b) ∷ rest) split many passes held since less fixed meets = record {
         passed = passed;
@@ -97,6 +97,7 @@ module _ (v : Version) (p : Plan) (e : Edge) where
         split = split;
         passes = passes;
         most = omega (arith, many, less);
+        count = sym many;
         since = since;
         stops = stops_by (length passed) n b rest stop (omega (arith, many, less))
             (λ free. fixed v p (edges_in rest) held.2
@@ -110,7 +111,7 @@ module _ (v : Version) (p : Plan) (e : Edge) where
       pub back_stops : (from : Option ℕ) (stop : Stop) → IsBack v p e k count from (a ∷ others)
           → count < most_passed → OfHistory a.before (λ w q h. ¬ IsFree w q h a.edge e)
           → OfHistory a.before (λ w q h. Meets w q e a.number a.edge h stop)
-          → IsWalk v p e k (record { since = from; stop = stop })
+          → IsWalk v p e k (record { passed = count; since = from; stop = stop })
       back_stops from stop is less fixed meets =
           stop_by from stop is.passed is.rest is.split is.many is.passes is.held is.since less fixed meets
 
@@ -138,7 +139,7 @@ module _ (v : Version) (p : Plan) (e : Edge) where
       pub back_ends : (count : ℕ) (from : Option ℕ) (stop : Stop) (others : List Earlier)
           → IsBack v p e k count from others → count ≡ length now.edges.items
           → stop ≡ (if now.has_more then Far else Begins)
-          → IsWalk v p e k (record { since = from; stop = stop })
+          → IsWalk v p e k (record { passed = count; since = from; stop = stop })
       back_ends count from stop others is whole at =
           let many = is.many in
           let all = last.count in
@@ -148,6 +149,7 @@ module _ (v : Version) (p : Plan) (e : Edge) where
             split = is.split;
             passes = is.passes;
             most = omega (arith, many, whole, all);
+            count = sym many;
             since = is.since;
             stops = subst (Stops v p e (length is.passed) is.rest) (sym at)
                 (end_by now.has_more refl is.passed is.rest is.split (many ∙ whole));

@@ -13,7 +13,6 @@ use Rattle.vme_model.specs.Verdict.{Judgement, State, after, judged, kept, made,
 use Rattle.vme_histories.proofs.Judged as judging
 use Rattle.vme_bus.specs.declared.states.BusState.{BusState}
 use Rattle.vme_bus.specs.States.{IsStateOf, OfHistory}
-use Rattle.vme_bus.specs.Steps.{kept_but_full}
 use Rattle.vme_trace.specs.declared.Fault.{Fault}
 use Rattle.vme_trace.specs.declared.Fault.TheVariants.{Memory, Write}
 use Rattle.vme_trace.specs.Writing.{AppendsFront}
@@ -50,7 +49,7 @@ waits_within (walk ∷ walks) =
 free_within : (walks : List Walk) → free_in walks ≤ length walks
 free_within [] = omega arith
 free_within (walk ∷ walks) =
-    let one = one_at_most (is_back walk.since) in
+    let one = one_at_most (is_back walk) in
     let others = free_within walks in omega (arith, one, others)
 
 pub counts_within : (walks : List Walk) (now : Counts) → IsCounted walks now
@@ -99,24 +98,21 @@ kept_version b [] = refl
 kept_version b (e ∷ es) = kept_version (after b e) es ∙ version_by (is_ok (verdict b e)) b e
 
 ok_by : (v : Version) (p : Plan) (h : List Edge) (e : Edge) (rest j : Judgement)
-    → verdict_but_full v p h e ≡ j → is_ok (judged v p h e rest) ≡ true → is_ok j ≡ true
-ok_by v p h e rest (Ok u) is ok = refl
+    → verdict_but_full v p h e ≡ j → is_ok (judged v p h e rest) ≡ true → verdict_but_full v p h e ≡ Ok tt
+ok_by v p h e rest (Ok u) is ok = is
 ok_by v p h e rest (Err r) is ok = absurd (cc (ap is_ok (judging.refused v p h e r rest is), ok))
-
-history_by : (t : Bool) (e : Edge) (h : List Edge) → t ≡ true → (if t then e ∷ h else h) ≡ e ∷ h
-history_by t e h is = rw is refl
 
 module _ (p : Plan) (v : Version) (es : List Edge) (e : Edge) where
   edges_are : edges_in (numbered (bench p v) es) ≡ (kept (bench p v) es).history
   edges_are = edges_on (bench p v) 0 [] es refl
 
   ok_there : is_ok (verdict (kept (bench p v) es) e) ≡ true
-      → is_ok (verdict_but_full v p (edges_in (numbered (bench p v) es)) e) ≡ true
+      → verdict_but_full v p (edges_in (numbered (bench p v) es)) e ≡ Ok tt
   ok_there ok =
       let b = kept (bench p v) es in
-      subst (λ (w : Version). is_ok (verdict_but_full w p (edges_in (numbered (bench p v) es)) e) ≡ true) (kept_version (bench p v) es)
-      (subst (λ (q : Plan). is_ok (verdict_but_full b.version q (edges_in (numbered (bench p v) es)) e) ≡ true) (kept_plan (bench p v) es)
-      (subst (λ (h : List Edge). is_ok (verdict_but_full b.version b.plan h e) ≡ true) (sym edges_are)
+      subst (λ (w : Version). verdict_but_full w p (edges_in (numbered (bench p v) es)) e ≡ Ok tt) (kept_version (bench p v) es)
+      (subst (λ (q : Plan). verdict_but_full b.version q (edges_in (numbered (bench p v) es)) e ≡ Ok tt) (kept_plan (bench p v) es)
+      (subst (λ (h : List Edge). verdict_but_full b.version b.plan h e ≡ Ok tt) (sym edges_are)
       (ok_by b.version b.plan b.history e _ (verdict_but_full b.version b.plan b.history e) refl ok)))
 
   from_start : 0 + length es ≡ length es
@@ -149,7 +145,7 @@ module _ (p : Plan) (v : Version) (es : List Edge) (e : Edge) where
 
     -- the next edge is accepted
     pub advances_accepted : (walk : Walk) (line : List ℕ) → is_ok (verdict old.bus e) ≡ true
-        → OfHistory old.state (λ w q h. IsStateOf w q (kept_but_full w q h e) now.state)
+        → OfHistory old.state (λ w q h. verdict_but_full w q h e ≡ Ok tt → IsStateOf w q (e ∷ h) now.state)
         → AreLast v p ((old.judged + 1, e) ∷ numbered (bench p v) es) now.recent
         → IsCounted (walk ∷ walks) now.counts → IsWalk v p e (numbered (bench p v) es) walk
         → line ≡ race_line (old.judged + 1) e walk.stop → Advances p v es walks e line now
@@ -161,13 +157,11 @@ module _ (p : Plan) (v : Version) (es : List Edge) (e : Edge) where
           record {
             bus = bus_next;
             state = subst (λ (m : Numbered). IsStateOf v p (edges_in m) now.state) all
-                (subst (λ (h : List Edge). IsStateOf v p h now.state)
-                (history_by (is_ok (verdict_but_full v p (edges_in k) e)) e (edges_in k) (ok_there there))
-                (state v p (edges_in k) is.state));
+                (state v p (edges_in k) is.state (ok_there there));
             judged = judged_next;
             last = subst (λ (m : Numbered). AreLast v p m now.recent) all last;
             counts = counts;
-            walks = subst (λ (m : Numbered). AreWalks v p m (walk ∷ walks)) all (goes, is.walks);
+            walked = subst (λ (m : Numbered). AreWalks v p m (walk ∷ walks)) all (goes, is.walked);
           },
           ap (λ m. race_lines m (walk ∷ walks)) (sym all) ∙ ap (λ l. race_lines k walks ++ l) (sym text),
         )
@@ -185,7 +179,7 @@ module _ (p : Plan) (v : Version) (es : List Edge) (e : Edge) where
             judged = judged_next;
             last = subst (λ (m : Numbered). AreLast v p m now.recent) all (subst (AreLast v p k) (sym recent) is.last);
             counts = subst (IsCounted walks) (sym counts) is.counts;
-            walks = subst (λ (m : Numbered). AreWalks v p m walks) all is.walks;
+            walked = subst (λ (m : Numbered). AreWalks v p m walks) all is.walked;
           },
           ap (λ m. race_lines m walks) (sym all) ∙ sym (append-nil (race_lines k walks)),
         )
@@ -211,7 +205,7 @@ module _ (p : Plan) (v : Version) (before es : List Edge) (i : ℕ) (d : Edge) (
     drop (i + 1) es,
     sym (take-append-drop (i + 1) es),
     race_lines (numbered (bench p v) ((before ++ take i es) ++ get_or es i d ∷ [])) next.0,
-    subst (λ (l : List Edge). AreLines p (Some v) l (race_lines (numbered (bench p v) ((before ++ take i es) ++ get_or es i d ∷ [])) next.0)) (next_list before es i d h) (next.0, next.1.walks, refl),
+    subst (λ (l : List Edge). AreLines p (Some v) l (race_lines (numbered (bench p v) ((before ++ take i es) ++ get_or es i d ∷ [])) next.0)) (next_list before es i d h) (next.0, next.1.walked, refl),
     inr (is, subst (AppendsFront first b) (sym next.2) (front_behind first a b (race_lines (numbered (bench p v) (before ++ take i es)) stands.0) line stands.2 more)),
   )
 
@@ -223,6 +217,6 @@ breaks_unheld p v before es i first a old stands f is = (
   drop i es,
   sym (take-append-drop i es),
   race_lines (numbered (bench p v) (before ++ take i es)) stands.0,
-  (stands.0, stands.1.walks, refl),
+  (stands.0, stands.1.walked, refl),
   inl (is, stands.2),
 )

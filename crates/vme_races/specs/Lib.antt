@@ -7,7 +7,13 @@ pub mod Walks
 pub mod Lines
 -- believe: what is written of a trace, and what the engine answers
 pub mod Outcomes
+-- believe, for `walk_of_edge` alone: the line of one edge, and what that leaves
+pub mod Asked
+-- believe, for `other_order` alone: the other order of a race, and what that leaves
+pub mod Other
 -- words: an edge that is met is well formed
 pub mod Formed
 -- words: what is kept of the edges so far
 pub mod Kept
+-- words: a trace that is read up to the edge that is asked for
+pub mod Sought

@@ -1,6 +1,7 @@
 -- The lines that report the races of a trace. (Profile.)
-use Rattle.std.specs.Prelude.{ℕ, ◌+◌, Bool, true, false, if◌then◌else◌, List, [], ◌∷◌, ◌++◌, length, codes, decimal, Option, Some, None, Ok, Err}
+use Rattle.std.specs.Prelude.{ℕ, ◌+◌, Bool, true, false, if◌then◌else◌, List, [], ◌∷◌, ◌++◌, length, codes, decimal, nat_lt, Option, Some, None, Ok, Err}
 use Rattle.vme_model.specs.declared.signals.Edge.{Edge}
+use Rattle.vme_model.specs.declared.refusals.Refused.{Refused}
 use Rattle.vme_model.specs.Numbered.{Numbered}
 use Rattle.vme_model.specs.Report.{verdict_text}
 use Rattle.vme_model.specs.Text.{spelling}
@@ -33,6 +34,32 @@ abbrev pub race_lines : Numbered → List Walk → List ℕ
 race_lines ((n, e) ∷ k) (walk ∷ walks) = race_lines k walks ++ race_line n e walk.stop
 race_lines _ _ = []
 
+-- ---- the line of one edge
+
+-- since where an edge stands, if it came back
+abbrev pub since_text : Option ℕ → List ℕ
+since_text None = []
+since_text (Some n) = codes " free since " ++ decimal n
+
+-- the edge for which another waits, and what it gets in front of that one
+abbrev pub waits_text : ℕ → Edge → Refused → List ℕ
+waits_text m a refused =
+    ((codes " waits for " ++ edge_text m a) ++ codes " ") ++ verdict_text (Err refused)
+
+-- what stops an edge
+abbrev pub stop_text : Stop → List ℕ
+stop_text Begins = codes " begins"
+stop_text Far = codes " far"
+stop_text (Waits m a refused) = waits_text m a refused
+stop_text (Races m a outcome) = races_text m a outcome
+
+-- the line of an accepted edge, the n-th, and that of one that is refused
+abbrev pub walk_line : ℕ → Edge → Walk → List ℕ
+walk_line n e walk = ((edge_text n e ++ since_text walk.since) ++ stop_text walk.stop) ++ 10 ∷ []
+
+abbrev pub refused_line : ℕ → Edge → Refused → List ℕ
+refused_line n e refused = ((edge_text n e ++ codes " ") ++ verdict_text (Err refused)) ++ 10 ∷ []
+
 -- ---- the last line
 
 abbrev pub is_race : Stop → Bool
@@ -44,9 +71,8 @@ is_wait (Waits _ _ _) = true
 is_wait _ = false
 
 -- it came back over one edge at the least
-abbrev pub is_back : Option ℕ → Bool
-is_back None = false
-is_back (Some _) = true
+abbrev pub is_back : Walk → Bool
+is_back walk = nat_lt 0 walk.passed
 
 abbrev pub count_if : Bool → ℕ
 count_if test = if test then 1 else 0
@@ -62,7 +88,7 @@ waits_in (walk ∷ walks) = waits_in walks + count_if (is_wait walk.stop)
 
 abbrev pub free_in : List Walk → ℕ
 free_in [] = 0
-free_in (walk ∷ walks) = free_in walks + count_if (is_back walk.since)
+free_in (walk ∷ walks) = free_in walks + count_if (is_back walk)
 
 abbrev pub counts_text : ℕ → ℕ → ℕ → ℕ → List ℕ
 counts_text accepted races waits free =

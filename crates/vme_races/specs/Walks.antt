@@ -53,6 +53,7 @@ pub record IsWalk (v : Version) (p : Plan) (e : Edge) (k : Numbered) (walk : Wal
   pub split : k ≡ passed ++ rest
   pub passes : Passes v p e passed rest
   pub most : length passed ≤ most_passed
+  pub count : walk.passed ≡ length passed
   pub since : walk.since ≡ oldest passed
   pub stops : Stops v p e (length passed) rest walk.stop
 

@@ -35,18 +35,21 @@ impl Earlier {
             Meets v p edge.now self.now.number self.now.edge h result) }
         ensures formed { IsTrue (is_formed result) }
     {
-        let mut between = self.before;
-        match between.step(*edge) {
+        match self.before.judge(*edge) {
             Err(refused) => Stop::Waits {
                 number: self.number,
                 edge: self.edge,
                 refused,
             },
-            Ok(_) => Stop::Races {
-                number: self.number,
-                edge: self.edge,
-                outcome: between.judge(self.edge),
-            },
+            Ok(()) => {
+                let mut between = self.before;
+                between.note(*edge);
+                Stop::Races {
+                    number: self.number,
+                    edge: self.edge,
+                    outcome: between.judge(self.edge),
+                }
+            }
         }
     }
 }

@@ -5,13 +5,17 @@
 //! what the engine writes and answers.
 #![tactic(auto)]
 
+mod asked;
 mod earlier;
 mod free;
 mod judge;
 mod lines;
+mod other;
 mod racing;
 mod recent;
 mod walks;
 
+pub use asked::walk_of_edge;
 pub use judge::races;
+pub use other::{OtherOrder, other_order};
 pub use walks::{Stop, Walk};

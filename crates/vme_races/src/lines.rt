@@ -1,11 +1,12 @@
 //! The lines that are written, each put together in a buffer.
-ghost use Rattle.std.specs.Prelude.{◌≡◌, ◌+◌, ◌≤◌, ◌++◌, IsTrue};
+ghost use Rattle.std.specs.Prelude.{◌≡◌, ◌+◌, ◌≤◌, ◌++◌, Err, IsTrue};
 ghost use Rattle.arrayvec.specs.ArrayVec.{array_vec_len};
 ghost use Rattle.vme_model.specs.Signals.{is_well_formed};
-ghost use Rattle.vme_races.specs.Lines.{counts_text, edge_text, outcome_text, race_line as race_line_of, races_text};
+ghost use Rattle.vme_model.specs.Report.{verdict_text};
+ghost use Rattle.vme_races.specs.Lines.{counts_text, edge_text, outcome_text, race_line as race_line_of, races_text, refused_line as refused_line_of, since_text, stop_text, waits_text, walk_line as walk_line_of};
 ghost use Rattle.vme_races.specs.Formed.{is_formed};
 
-use crate::walks::Stop;
+use crate::walks::{Stop, Walk};
 use arrayvec::ArrayVec;
 use vme_explain::texts::push_verdict;
 use vme_model::{Edge, Refused};
@@ -88,6 +89,90 @@ pub(crate) fn last_line(accepted: u64, races: u64, waits: u64, free: u64) -> Lin
     push_number(&mut line, waits);
     push(&mut line, b" free ");
     push_number(&mut line, free);
+    push(&mut line, b"\n");
+    line
+}
+
+/// Appends the verdict of a refused edge: at most 37 bytes.
+fn push_refused(line: &mut Line, refused: Refused)
+    requires { array_vec_len line.old + 37 ≤ 160 }
+    ensures items { line.new.items ≡ line.old.items ++ verdict_text (Err refused) }
+    ensures len { array_vec_len line.new ≤ array_vec_len line.old + 37 }
+{
+    push_verdict(line, &Err(refused));
+}
+
+/// Appends since where an edge stands, if it came back: at most 32 bytes.
+fn push_since(line: &mut Line, since: Option<u64>)
+    requires { array_vec_len line.old + 32 ≤ 160 }
+    ensures items { line.new.items ≡ line.old.items ++ since_text since }
+    ensures len { array_vec_len line.new ≤ array_vec_len line.old + 32 }
+{
+    if let Some(number) = since {
+        push(line, b" free since ");
+        push_number(line, number);
+    }
+}
+
+/// Appends for which edge another waits, and what it gets in front of that one: at most 82 bytes.
+fn push_waits(line: &mut Line, number: u64, edge: &Edge, refused: Refused)
+    requires room { array_vec_len line.old + 82 ≤ 160 }
+    requires formed { IsTrue (is_well_formed edge.now) }
+    ensures items { line.new.items ≡ line.old.items ++ waits_text number edge.now refused }
+    ensures len { array_vec_len line.new ≤ array_vec_len line.old + 82 }
+{
+    push(line, b" waits for ");
+    push_edge(line, number, edge);
+    push(line, b" ");
+    push_refused(line, refused);
+}
+
+/// Appends what stops an edge: at most 82 bytes.
+fn push_stop(line: &mut Line, stop: &Stop)
+    requires room { array_vec_len line.old + 82 ≤ 160 }
+    requires met { IsTrue (is_formed stop.now) }
+    ensures items { line.new.items ≡ line.old.items ++ stop_text stop.now }
+    ensures len { array_vec_len line.new ≤ array_vec_len line.old + 82 }
+{
+    match stop {
+        Stop::Begins => push(line, b" begins"),
+        Stop::Far => push(line, b" far"),
+        Stop::Waits {
+            number,
+            edge,
+            refused,
+        } => push_waits(line, *number, edge, *refused),
+        Stop::Races {
+            number,
+            edge,
+            outcome,
+        } => push_races(line, *number, edge, *outcome),
+    }
+}
+
+/// The line of an accepted edge: how far it goes back, and what stops it.
+pub(crate) fn walk_line(number: u64, edge: &Edge, walk: &Walk) -> Line
+    requires formed { IsTrue (is_well_formed edge.now) }
+    requires met { IsTrue (is_formed walk.now.stop) }
+    ensures { result.items ≡ walk_line_of number edge.now walk.now }
+{
+    let mut line = ArrayVec::new();
+    push_edge(&mut line, number, edge);
+    push_since(&mut line, walk.since);
+    push_stop(&mut line, &walk.stop);
+    push(&mut line, b"\n");
+    line
+}
+
+/// The line of a refused edge.
+pub(crate) fn refused_line(number: u64, edge: &Edge, refused: Refused) -> Line
+    requires { IsTrue (is_well_formed edge.now) }
+    ensures { result.items ≡ refused_line_of number edge.now refused }
+{
+    let mut line = ArrayVec::new();
+    push_edge(&mut line, number, edge);
+    push(&mut line, b" ");
+    push_refused(&mut line, refused);
     push(&mut line, b"\n");
     line
 }

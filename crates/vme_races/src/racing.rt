@@ -1,5 +1,5 @@
 //! A trace whose accepted edges go back, edge by edge.
-ghost use Rattle.std.specs.Prelude.{◌≡◌, ◌+◌, ◌<◌, ◌^◌, ◌++◌, ◌∷◌, [], IfErr, IfOk, IsTrue, List, OnOk, Option, length, ℕ};
+ghost use Rattle.std.specs.Prelude.{◌≡◌, ◌+◌, ◌<◌, ◌^◌, ◌++◌, ◌∷◌, [], IfErr, IfOk, IsTrue, List, Ok, OnOk, Option, length, ℕ};
 ghost use Rattle.vme_model.specs.declared.signals.Edge.{Edge as EdgeValue};
 ghost use Rattle.vme_model.specs.declared.signals.Version.{Version as VersionValue};
 ghost use Rattle.vme_model.specs.Locality.{AreWellFormed};
@@ -9,7 +9,7 @@ ghost use Rattle.vme_engines.specs.Outcomes.{bench};
 ghost use Rattle.vme_races.specs.declared.walks.Walk.{Walk as WalkValue};
 ghost use Rattle.vme_model.specs.Numbered.{Numbered, edges_in};
 ghost use Rattle.vme_bus.specs.States.{IsStateOf, OfHistory};
-ghost use Rattle.vme_bus.specs.Steps.{kept_but_full};
+ghost use Rattle.vme_model.specs.Verdict.{verdict_but_full};
 ghost use Rattle.vme_races.specs.Kept.{Advances, AreLast, Breaks, IsCounted, IsKept, Stands};
 
 use crate::earlier::Earlier;
@@ -91,7 +91,8 @@ impl Racing {
     fn keep(&mut self, number: u64, edge: &Edge) -> Result<(), Fault>
         requires { IsTrue (is_well_formed edge.now) }
         ensures state { OfHistory self.old.state (λ v p h.
-            IsStateOf v p (kept_but_full v p h edge.now) self.new.state) }
+            verdict_but_full v p h edge.now ≡ Ok tt
+            → IsStateOf v p (edge.now ∷ h) self.new.state) }
         ensures last { OnOk result ((v : VersionValue) (p : PlanValue) (k : Numbered)
             → IsStateOf v p (edges_in k) self.old.state → AreLast v p k self.old.recent
             → AreLast v p ((number, edge.now) ∷ k) self.new.recent) }
@@ -101,7 +102,7 @@ impl Racing {
         ensures fault { IfErr result (λ fault. fault ≡ Fault.Memory) }
     {
         let before = self.state;
-        let _ = self.state.step(*edge);
+        self.state.note(*edge);
         self.recent.push(Earlier {
             number,
             edge: *edge,
@@ -112,7 +113,7 @@ impl Racing {
     /// Takes in the next edge. Gives its line, if it is accepted and races.
     ///
     /// Errors: X6.
-    fn take_in(&mut self, edge: &Edge) -> Result<Line, Fault>
+    pub(crate) fn take_in(&mut self, edge: &Edge) -> Result<Line, Fault>
         requires room { self.old.judged + 1 < 2 ^ 64 }
         requires well_formed { IsTrue (is_well_formed edge.now) }
         ensures judged { OnOk result (self.new.judged ≡ self.old.judged + 1) }

@@ -58,12 +58,20 @@ impl Recent {
             let earlier = &self.edges[place];
             if !earlier.is_free_with(edge) {
                 let stop = earlier.meet(edge);
-                return Walk { since, stop };
+                return Walk {
+                    passed: place,
+                    since,
+                    stop,
+                };
             }
             since = Some(earlier.number);
         }
         let stop = self.end();
-        Walk { since, stop }
+        Walk {
+            passed: self.edges.len(),
+            since,
+            stop,
+        }
     }
 
     /// Takes in the next accepted edge.
