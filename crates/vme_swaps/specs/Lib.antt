@@ -1,0 +1,10 @@
+-- The definitions of free swaps. `believe` marks what a theorem rests on, and `words` what only says
+-- how one function serves another.
+
+-- believe: when the bus stands alike after two histories
+pub mod Alike
+-- believe: which two edges may change places, and histories that are one but for such swaps
+pub mod Swaps
+-- words: an answer that serves the interrupt request of its own board; to be believed for
+-- `legal_orders_differ_by_a_served_request` alone
+pub mod Served
