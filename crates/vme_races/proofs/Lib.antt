@@ -4,5 +4,6 @@ pub mod Passed
 pub mod Pushed
 -- `Racing::take_in` and `take_edges`: what is kept, with the next edge
 pub mod TakenIn
+
 -- the judge: what is written of a trace
 pub mod WrittenRaces

@@ -1,5 +1,5 @@
 -- The last accepted edges with the next one.
-use Rattle.std.proofs.Common.{◌≡◌, ◌≢◌, ◌+◌, ◌<◌, ◌≤◌, ◌++◌, ◌∷◌, [], ℕ, Bool, true, false, List, Option, Some, None, length, refl, sym, ◌∙◌, ap, append_assoc, subst, arith}
+use Rattle.std.proofs.Common.{◌≡◌, ◌+◌, ◌<◌, ◌≤◌, ◌++◌, ◌∷◌, [], ℕ, Bool, true, false, List, length, refl, sym, ◌∙◌, ap, subst, arith}
 use Rattle.std.specs.Prelude.{min}
 use Rattle.std.proofs.Math.ListN.{length-append}
 use Rattle.vme_model.specs.declared.signals.Edge.{Edge}
@@ -9,7 +9,7 @@ use Rattle.vme_model.specs.Numbered.{Numbered, edges_in}
 use Rattle.vme_bus.specs.States.{IsStateOf}
 use Rattle.vme_races.specs.declared.earlier.Earlier.{Earlier}
 use Rattle.vme_races.specs.declared.recent.Recent.{Recent}
-use Rattle.vme_races.specs.Kept.{AreHeld, AreLast}
+use Rattle.vme_races.specs.Kept.{AreHeld, AreLast, IsReady}
 
 module _ (v : Version) (p : Plan) where
   held_front : (k : Numbered) (xs ys : List Earlier) → AreHeld v p k (xs ++ ys) → AreHeld v p k xs
@@ -17,33 +17,40 @@ module _ (v : Version) (p : Plan) where
   held_front [] (x ∷ xs) ys h = absurd h
   held_front ((n, e) ∷ k) (x ∷ xs) ys h = (h.0, h.1, h.2, held_front k xs ys h.3)
 
-  module _ (k : Numbered) (old now : Recent) (a : Earlier) (last : AreLast v p k old)
-      (state : IsStateOf v p (edges_in k) a.before) where
-    -- where the oldest one left
-    pub pushed_full : (mid out : List Earlier) → old.edges.items ≡ mid ++ out
-        → length out ≡ 1 → length old.edges.items ≡ 200 → now.edges.items ≡ a ∷ mid
-        → now.has_more ≡ true → AreLast v p ((a.number, a.edge) ∷ k) now
-    pushed_full mid out was one full is more =
-        let items = ap length was ∙ length-append mid out in
+  module _ (k : Numbered) (old now : Recent) (last : AreLast v p k old) where
+    -- the oldest one went
+    pub ready_full : (out : List Earlier) → old.edges.items ≡ now.edges.items ++ out
+        → length out ≡ 1 → 200 ≤ length old.edges.items → now.has_more ≡ true → IsReady v p k now
+    ready_full out was one full more =
+        let items = ap length was ∙ length-append now.edges.items out in
         let count = last.count in
-        let new = ap length is in
         record {
-          held = subst (AreHeld v p ((a.number, a.edge) ∷ k)) (sym is)
-              (refl, refl, state, held_front k mid out (subst (AreHeld v p k) was last.held));
-          count = omega (arith, items, count, new, one, full);
+          held = held_front k now.edges.items out (subst (AreHeld v p k) was last.held);
+          count = omega (arith, items, count, one, full);
           more = λ t. omega (arith, count, full);
           whole = λ t. absurd (cc (more, t));
         }
 
-    -- where there was room
-    pub pushed_within : length old.edges.items ≢ 200 → now.edges.items ≡ a ∷ old.edges.items
-        → now.has_more ≡ old.has_more → AreLast v p ((a.number, a.edge) ∷ k) now
-    pushed_within room is same =
+    -- there was room
+    pub ready_within : length old.edges.items < 200 → IsReady v p k old
+    ready_within room =
         let count = last.count in
-        let new = ap length is in
         record {
-          held = subst (AreHeld v p ((a.number, a.edge) ∷ k)) (sym is) (refl, refl, state, last.held);
-          count = omega (arith, count, new, room);
-          more = λ t. (let more = last.more (sym same ∙ t) in omega (arith, more));
-          whole = λ t. (let whole = last.whole (sym same ∙ t) in omega (arith, count, room, whole));
+          held = last.held;
+          count = omega (arith, count, room);
+          more = λ t. (let more = last.more t in omega (arith, more));
+          whole = λ t. (let whole = last.whole t in omega (arith, count, room, whole));
         }
+
+  pub pushed : (k : Numbered) (mid now : Recent) (a : Earlier) → IsReady v p k mid
+      → IsStateOf v p (edges_in k) a.before → now.edges.items ≡ a ∷ mid.edges.items
+      → now.has_more ≡ mid.has_more → AreLast v p ((a.number, a.edge) ∷ k) now
+  pushed k mid now a ready state is same =
+      let new = ap length is in
+      let count = ready.count in
+      record {
+        held = subst (AreHeld v p ((a.number, a.edge) ∷ k)) (sym is) (refl, refl, state, ready.held);
+        count = omega (arith, new, count);
+        more = λ t. (let more = ready.more (sym same ∙ t) in omega (arith, more));
+        whole = λ t. (let whole = ready.whole (sym same ∙ t) in omega (arith, whole));
+      }

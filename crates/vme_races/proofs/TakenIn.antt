@@ -63,12 +63,31 @@ counts_within walks now is =
     let f = is.free in
     (omega (arith, races, r), omega (arith, waits, w), omega (arith, free, f))
 
+-- one more was counted
+pub noted : (walks : List Walk) (walk : Walk) (old : Counts) (races waits free : ℕ)
+    → IsCounted walks old → length walks + 1 < 2 ^ 64
+    → (old.races + 1 < 2 ^ 64 → races ≡ old.races + count_if (is_race walk.stop))
+    → (old.waits + 1 < 2 ^ 64 → waits ≡ old.waits + count_if (is_wait walk.stop))
+    → (old.free + 1 < 2 ^ 64 → free ≡ old.free + count_if (is_back walk))
+    → IsCounted (walk ∷ walks) (record { races = races; waits = waits; free = free })
+noted walks walk old races waits free is few one two three =
+    let within = counts_within walks old is in
+    let races_room : old.races + 1 < 2 ^ 64 = (let w = within.0 in omega (arith, w, few)) in
+    let waits_room : old.waits + 1 < 2 ^ 64 = (let w = within.1 in omega (arith, w, few)) in
+    let free_room : old.free + 1 < 2 ^ 64 = (let w = within.2 in omega (arith, w, few)) in
+    record {
+      races = one races_room ∙ ap (λ n. n + count_if (is_race walk.stop)) is.races;
+      waits = two waits_room ∙ ap (λ n. n + count_if (is_wait walk.stop)) is.waits;
+      free = three free_room ∙ ap (λ n. n + count_if (is_back walk)) is.free;
+    }
+
 walks_count : (v : Version) (p : Plan) (k : Numbered) (walks : List Walk) → AreWalks v p k walks
     → length walks ≡ length k
 walks_count v p [] [] h = refl
 walks_count v p [] (walk ∷ walks) h = absurd h
 walks_count v p ((n, e) ∷ k) [] h = absurd h
-walks_count v p ((n, e) ∷ k) (walk ∷ walks) h = ap (λ m. m + 1) (walks_count v p k walks h.1)
+walks_count v p ((n, e) ∷ k) (walk ∷ walks) h =
+    let others = walks_count v p k walks h.1 in omega (arith, others)
 
 within_one : (t : Bool) (n : ℕ) (e : Edge) (k : Numbered) → length (if t then (n, e) ∷ k else k) ≤ length k + 1
 within_one true n e k = omega arith

@@ -70,17 +70,10 @@ module _ (p : Plan) (v : Version) (es : List Edge) (more : Result Bool Fault) (o
     unflushed_now f is keeps = λ trace from to came.
         let begins = came_begins v trace from to es more came in
         let bytes = race_lines (numbered (bench p v) es) stands.0 in
-        inr (
-          is,
-          inl (
-            es,
-            begins.others,
-            begins.edges,
-            bytes,
-            subst (λ (w : Option Version). AreLines p w es bytes) (sym begins.version) (stands.0, stands.1.walked, refl),
-            front_kept old mid new bytes stands.2 keeps,
-          ),
-        )
+        inr (is, inl (es, begins.others, begins.edges, bytes,
+          subst (λ (w : Option Version). AreLines p w es bytes) (sym begins.version) (stands.0, stands.1.walked, refl),
+          front_kept old mid new bytes stands.2 keeps,
+        ))
 
     pub stop_now : (f : Fault) → more ≡ Err f → Keeps mid new → LeavesNow (λ trace s a. Reports p trace s (traced a)) v es more old new (Err f)
     stop_now f is keeps = λ trace from to came.
@@ -155,7 +148,7 @@ module _ (p : Plan) (v : Version) (es : List Edge) (first old new : Option (List
         lines ++ last_line (numbered (bench p v) es) stands.0,
         (stands.0, stands.1.walked, refl),
         Appends-kept first next new (lines ++ last_line (numbered (bench p v) es) stands.0)
-            (Appends-trans first old next lines (last_line (numbered (bench p v) es) stands.0) stands.2 (subst (Appends old next) line_is wrote)) keeps,
+        (Appends-trans first old next lines (last_line (numbered (bench p v) es) stands.0) stands.2 (subst (Appends old next) line_is wrote)) keeps,
       )
 
   pub ends_unflushed : (next : Option (List ℕ)) → Appends old next line → Keeps next new → EndsCut p v es first new

@@ -1,5 +1,5 @@
 -- What is kept of the edges so far.
-use Rattle.std.specs.Prelude.{◌≡◌, ◌⊎◌, ◌<◌, ◌≤◌, ◌++◌, ◌∷◌, [], ℕ, Bool, true, false, List, length, min, Option, Some}
+use Rattle.std.specs.Prelude.{◌≡◌, ◌⊎◌, ◌+◌, ◌<◌, ◌≤◌, ◌++◌, ◌∷◌, [], ℕ, Bool, true, false, List, length, min, Option, Some}
 use Rattle.std.specs.Io.KnownBytes.{Appends}
 use Rattle.vme_model.specs.declared.signals.Version.{Version}
 use Rattle.vme_model.specs.declared.signals.Edge.{Edge}
@@ -36,6 +36,13 @@ pub record AreLast (v : Version) (p : Plan) (k : Numbered) (now : Recent) : Type
   pub more : now.has_more ≡ true → most_passed < length k
   pub whole : now.has_more ≡ false → length k ≤ most_passed
 
+-- the same, but for one more edge behind k
+pub record IsReady (v : Version) (p : Plan) (k : Numbered) (now : Recent) : Type 0 where
+  pub held : AreHeld v p k now.edges.items
+  pub count : length now.edges.items + 1 ≡ min most_passed (length k + 1)
+  pub more : now.has_more ≡ true → most_passed < length k + 1
+  pub whole : now.has_more ≡ false → length k + 1 ≤ most_passed
+
 -- what holds of all edges of which these are the last
 abbrev pub OfLast : Recent → (Version → Plan → Numbered → Type 0) → Type 0
 OfLast r P = (v : Version) (p : Plan) (k : Numbered) → AreLast v p k r → P v p k
@@ -55,7 +62,7 @@ pub record IsKept (p : Plan) (v : Version) (es : List Edge) (walks : List Walk) 
   pub judged : now.judged ≡ length es
   pub last : AreLast v p (numbered (bench p v) es) now.recent
   pub counts : IsCounted walks now.counts
-  pub walks : AreWalks v p (numbered (bench p v) es) walks
+  pub walked : AreWalks v p (numbered (bench p v) es) walks
 
 -- one more edge was taken in, and this is its line
 abbrev pub Advances :

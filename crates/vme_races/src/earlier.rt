@@ -6,10 +6,11 @@ ghost use Rattle.vme_swaps.specs.Swaps.{IsFree};
 ghost use Rattle.vme_races.specs.Walks.{Meets};
 ghost use Rattle.vme_races.specs.Formed.{is_formed};
 
-use crate::free::is_free;
+
 use crate::walks::Stop;
 use vme_bus::BusState;
 use vme_model::Edge;
+use vme_swaps::is_free;
 
 /// An accepted edge, with its number in the trace and the bus before it.
 #[derive(Clone, Copy)]

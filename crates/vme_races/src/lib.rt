@@ -7,7 +7,6 @@
 
 mod asked;
 mod earlier;
-mod free;
 mod judge;
 mod lines;
 mod other;

@@ -10,6 +10,7 @@ ghost use Rattle.vme_races.specs.declared.walks.Walk.{Walk as WalkValue};
 ghost use Rattle.vme_model.specs.Numbered.{Numbered, edges_in};
 ghost use Rattle.vme_bus.specs.States.{IsStateOf, OfHistory};
 ghost use Rattle.vme_model.specs.Verdict.{verdict_but_full};
+ghost use Rattle.vme_races.specs.Lines.{count_if};
 ghost use Rattle.vme_races.specs.Kept.{Advances, AreLast, Breaks, IsCounted, IsKept, Stands};
 
 use crate::earlier::Earlier;
@@ -46,6 +47,13 @@ pub(crate) struct Racing {
     pub(crate) counts: Counts,
 }
 
+/// A count, with one more if the test holds.
+fn counted(count: u64, test: bool) -> u64
+    ensures { count + 1 < 2 ^ 64 → result ≡ count + count_if test }
+{
+    if test { count.saturating_add(1) } else { count }
+}
+
 impl Counts {
     /// Of no edges.
     fn new() -> Counts
@@ -63,9 +71,9 @@ impl Counts {
         ensures { (walks : List WalkValue) → length walks + 1 < 2 ^ 64
             → IsCounted walks self.old → IsCounted (walk.now ∷ walks) self.new }
     {
-        self.races = self.races.saturating_add(u64::from(walk.stop.is_race()));
-        self.waits = self.waits.saturating_add(u64::from(walk.stop.is_wait()));
-        self.free = self.free.saturating_add(u64::from(walk.is_back()));
+        self.races = counted(self.races, walk.stop.is_race());
+        self.waits = counted(self.waits, walk.stop.is_wait());
+        self.free = counted(self.free, walk.is_back());
     }
 }
 

@@ -6,7 +6,7 @@ ghost use Rattle.vme_model.specs.Numbered.{edges_in};
 ghost use Rattle.vme_bus.specs.States.{IsStateOf};
 ghost use Rattle.vme_races.specs.Walks.{IsWalk};
 ghost use Rattle.vme_races.specs.Formed.{is_formed};
-ghost use Rattle.vme_races.specs.Kept.{AreLast, OfLast};
+ghost use Rattle.vme_races.specs.Kept.{AreLast, IsReady, OfLast};
 
 use crate::earlier::Earlier;
 use crate::walks::{Stop, Walk};
@@ -74,6 +74,17 @@ impl Recent {
         }
     }
 
+    /// Lets the oldest edge go if there is no place for one more.
+    fn make_room(&mut self)
+        ensures { OfLast self.old (λ v p k. IsReady v p k self.new) }
+    {
+        if self.edges.len() < MOST_PASSED {
+            return;
+        }
+        self.has_more = true;
+        let _ = self.edges.pop_back();
+    }
+
     /// Takes in the next accepted edge.
     ///
     /// Errors: X6.
@@ -83,10 +94,7 @@ impl Recent {
             → AreLast v p ((earlier.number, earlier.edge) ∷ k) self.new)) }
         ensures fault { IfErr result (λ fault. fault ≡ Fault.Memory) }
     {
-        if self.edges.len() == MOST_PASSED {
-            self.has_more = true;
-            let _ = self.edges.pop_back();
-        }
+        self.make_room();
         match self.edges.push_front(earlier) {
             Ok(()) => Ok(()),
             Err(_) => Err(Fault::Memory),
