@@ -1,5 +1,5 @@
 -- The line of the edge that is asked for.
-use Rattle.std.proofs.Common.{◌≡◌, inl, inr, ◌+◌, ◌<◌, ◌++◌, ◌∷◌, [], ℕ, Bool, false, List, Option, Some, None, Result, Ok, Err, length, take, drop, get_or, refl, sym, ◌∙◌, ap, subst, append_assoc, take-append-drop, arith}
+use Rattle.std.proofs.Common.{◌≡◌, ◌≢◌, inl, inr, ◌+◌, ◌<◌, ◌++◌, ◌∷◌, [], ℕ, Bool, false, List, Option, Some, None, Result, Ok, Err, length, take, drop, get_or, refl, sym, ◌∙◌, ap, subst, append_assoc, take-append-drop, arith}
 use Rattle.std.specs.Prelude.{slice_get}
 use Rattle.std.proofs.Math.ListN.{length-append}
 use Rattle.std.proofs.Math.Seq.{take-append_seam}
@@ -25,6 +25,7 @@ use Rattle.vme_engines.specs.Readings.{LeavesNow, ReadsLent}
 use Rattle.vme_engines.specs.Steps.{Begins}
 use Rattle.vme_engines.specs.Streams.{Streams, streams, WroteNothing}
 use Rattle.vme_engines.specs.Waiting.{StopsWaiting}
+use Rattle.vme_engines.proofs.FollowedEdges.{next_list}
 use Rattle.vme_engines.proofs.Printed.{explains_end}
 use Rattle.vme_engines.proofs.ReadOn.{came_begins}
 use Rattle.vme_engines.proofs.Waits.{stops_unread, waits_now}
@@ -32,6 +33,8 @@ use Rattle.vme_engines.proofs.WrittenLines.{appends_behind, front_after}
 use Rattle.vme_races.specs.declared.asked.Printed.{Printed}
 use Rattle.vme_races.specs.declared.asked.Printed.TheVariants.{Beyond, Line}
 use Rattle.vme_races.specs.declared.racing.Racing.{Racing}
+use Rattle.vme_races.specs.declared.walks.Walk.{Walk}
+use Rattle.vme_races.specs.Kept.{Advances, IsKept}
 use Rattle.vme_races.specs.Asked.{IsAskedLine, IsLineOf, PrintsWalk}
 use Rattle.vme_races.specs.Sought.{AreTaken, CutsLine, IsMet, Seeks, WritesLine, printed_answer, printed_status}
 
@@ -168,3 +171,37 @@ none_of mine asked same p v before es now found sought is none =
     let s = subst (λ a. Seeks a p v before es now None) same
     (subst (Seeks mine p v before es now) is sought) in
     (s.0, s.1 none)
+
+-- ---- in the loop over edges
+
+module _ (asked : ℕ) (p : Plan) (v : Version) (before es : List Edge) (i : ℕ) (d : Edge)
+    (h : i < length es) (old : Racing) (taken : AreTaken p v (before ++ take i es) old) where
+  pub taken_next : (now : Racing) (line : List ℕ)
+      → ((walks : List Walk) → IsKept p v (before ++ take i es) walks old
+      → Advances p v (before ++ take i es) walks (get_or es i d) line now)
+      → AreTaken p v (before ++ take (i + 1) es) now
+  taken_next now line on =
+      let next = on taken.0 taken.1 in
+      subst (λ (l : List Edge). AreTaken p v l now) (next_list before es i d h) (next.0, next.1)
+
+  longer : length (before ++ take (i + 1) es) ≡ length (before ++ take i es) + 1
+  longer =
+      ap length (sym (next_list before es i d h))
+      ∙ length-append (before ++ take i es) (get_or es i d ∷ [])
+
+  pub unasked_next : old.judged + 1 ≢ asked → IsUnasked (Some asked) p (Some v) (before ++ take i es)
+      → IsUnasked (Some asked) p (Some v) (before ++ take (i + 1) es)
+  unasked_next other none = λ low.
+      let count = taken.1.judged in
+      let less = none low in
+      let more = longer in
+      omega (arith, count, less, more, other)
+
+  pub met_here : old.judged + 1 ≡ asked → IsMet asked p v before es old (get_or es i d)
+  met_here at = record {
+    front = take i es;
+    rest = drop (i + 1) es;
+    split = sym (take-append-drop i es) ∙ ap (λ l. take i es ++ l) (drop_more es i d h);
+    number = sym at ∙ ap (λ n. n + 1) taken.1.judged;
+    taken = taken;
+  }

@@ -7,3 +7,5 @@ pub mod TakenIn
 
 -- the judge: what is written of a trace
 pub mod WrittenRaces
+-- `walk_of_edge`: the line of the edge that is asked for
+pub mod AskedLines

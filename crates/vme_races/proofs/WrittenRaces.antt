@@ -27,7 +27,7 @@ use Rattle.vme_engines.proofs.Waits.{stops_unread, waits_now}
 use Rattle.vme_engines.proofs.WrittenLines.{appends_behind, front_behind, front_kept, front_of_all}
 use Rattle.vme_races.specs.declared.racing.Racing.{Racing}
 use Rattle.vme_races.specs.declared.walks.Walk.{Walk}
-use Rattle.vme_races.specs.Lines.{counts_text, last_line, race_lines}
+use Rattle.vme_races.specs.Lines.{counts_text, last_line, race_lines, races_in, waits_in}
 use Rattle.vme_races.specs.Outcomes.{AreLines, IsText, Reports, StopsWriting}
 use Rattle.vme_races.specs.Kept.{Breaks, Ends, EndsCut, IsKept, Stands}
 
@@ -127,10 +127,11 @@ module _ (p : Plan) (v : Version) (es : List Edge) (walks : List Walk) (now : Ra
 
   pub last_is : counts_text (length now.bus.history) now.counts.races now.counts.waits now.counts.free ≡ last_line (numbered (bench p v) es) walks
   last_is =
+      let many = length (numbered (bench p v) es) in
       ap (λ n. counts_text n now.counts.races now.counts.waits now.counts.free) accepted_are
-      ∙ ap (λ n. counts_text (length (numbered (bench p v) es)) n now.counts.waits now.counts.free) is.counts.races
-      ∙ ap (λ n. counts_text (length (numbered (bench p v) es)) _ n now.counts.free) is.counts.waits
-      ∙ ap (λ n. counts_text (length (numbered (bench p v) es)) _ _ n) is.counts.free
+      ∙ ap (λ n. counts_text many n now.counts.waits now.counts.free) is.counts.races
+      ∙ ap (λ n. counts_text many (races_in walks) n now.counts.free) is.counts.waits
+      ∙ ap (λ n. counts_text many (races_in walks) (waits_in walks) n) is.counts.free
 
   pub refused_is : now.judged - length now.bus.history ≡ refused_count p (Some v) es
   refused_is =
