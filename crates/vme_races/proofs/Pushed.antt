@@ -1,7 +1,7 @@
 -- The last accepted edges with the next one.
-use Rattle.std.proofs.Common.{◌≡◌, ◌+◌, ◌<◌, ◌≤◌, ◌++◌, ◌∷◌, [], ℕ, Bool, true, false, List, length, refl, sym, ◌∙◌, ap, subst, arith}
+use Rattle.std.proofs.Common.{◌≡◌, ◌+◌, ◌<◌, ◌≤◌, ◌++◌, ◌∷◌, [], ℕ, Bool, true, false, List, length, take, drop, refl, sym, ◌∙◌, ap, subst, take-append-drop, arith}
 use Rattle.std.specs.Prelude.{min}
-use Rattle.std.proofs.Math.ListN.{length-append}
+use Rattle.std.proofs.lemmas.List.{length-take}
 use Rattle.vme_model.specs.declared.signals.Edge.{Edge}
 use Rattle.vme_model.specs.declared.signals.Version.{Version}
 use Rattle.vme_model.specs.Plan.{Plan}
@@ -19,13 +19,15 @@ module _ (v : Version) (p : Plan) where
 
   module _ (k : Numbered) (old now : Recent) (last : AreLast v p k old) where
     -- the oldest one went
-    pub ready_full : (out : List Earlier) → old.edges.items ≡ now.edges.items ++ out
-        → length out ≡ 1 → 200 ≤ length old.edges.items → now.has_more ≡ true → IsReady v p k now
-    ready_full out was one full more =
-        let items = ap length was ∙ length-append now.edges.items out in
+    pub ready_full : (n : ℕ) → n + 1 ≡ length old.edges.items → 200 ≤ length old.edges.items
+        → now.edges.items ≡ take n old.edges.items → now.has_more ≡ true → IsReady v p k now
+    ready_full n one full is more =
+        let items = ap length is ∙ length-take n old.edges.items in
         let count = last.count in
         record {
-          held = held_front k now.edges.items out (subst (AreHeld v p k) was last.held);
+          held = subst (AreHeld v p k) (sym is)
+              (held_front k (take n old.edges.items) (drop n old.edges.items)
+              (subst (AreHeld v p k) (sym (take-append-drop n old.edges.items)) last.held));
           count = omega (arith, items, count, one, full);
           more = λ t. omega (arith, count, full);
           whole = λ t. absurd (cc (more, t));

@@ -186,9 +186,10 @@ module _ (p : Plan) (v : Version) (es : List Edge) (e : Edge) where
         )
 
     -- it is refused
-    pub advances_refused : is_ok (verdict old.bus e) ≡ false → now.state ≡ old.state
-        → now.recent ≡ old.recent → now.counts ≡ old.counts → Advances p v es walks e [] now
-    advances_refused refused state recent counts =
+    pub advances_refused : (line : List ℕ) → line ≡ [] → is_ok (verdict old.bus e) ≡ false
+        → now.state ≡ old.state → now.recent ≡ old.recent → now.counts ≡ old.counts
+        → Advances p v es walks e line now
+    advances_refused line empty refused state recent counts =
         let k = numbered (bench p v) es in
         let all : k ≡ numbered (bench p v) (es ++ e ∷ []) = numbered_by false (old.judged + 1) (judged_there false refused) number_is in (
           walks,
@@ -200,7 +201,8 @@ module _ (p : Plan) (v : Version) (es : List Edge) (e : Edge) where
             counts = subst (IsCounted walks) (sym counts) is.counts;
             walked = subst (λ (m : Numbered). AreWalks v p m walks) all is.walked;
           },
-          ap (λ m. race_lines m walks) (sym all) ∙ sym (append-nil (race_lines k walks)),
+          ap (λ m. race_lines m walks) (sym all) ∙ sym (append-nil (race_lines k walks))
+          ∙ ap (λ l. race_lines k walks ++ l) (sym empty),
         )
 
 -- ---- in the loop over edges

@@ -10,7 +10,7 @@ pub returns-then-is_err-clause-line : goal.returns-then-is_err-clause-line
 returns-then-is_err-clause-line c = λ p v es walks is.
     let refused : is_ok (verdict c.args.self.now.bus c.args.edge.now) ≡ false = search rules in
     advances_refused p v es c.args.edge.now walks c.args.self.now _ is c.step.ensures.state refl
-    refused refl refl refl
+    c.new.result.items (search rules) refused refl refl refl
 
 pub returns-clause-line : goal.returns-clause-line
 returns-clause-line c = λ p v es walks is.
