@@ -40,21 +40,6 @@ with_low active low = record { active = active; low = low }
 pub high_segments : (p : Plan) (c : ChainId) → IsAccepted p → all_high (take 21 (active p c)) ≡ segments_of p [] c
 high_segments p c ok = ap all_high (holds_every_slot p c ok) ∙ ap (with_low (active p c)) (high (active p c))
 
-abbrev of_lines : BusLevels → Levels → Bool → Bool → Bool → Bool → Option Cycle → Pins
-of_lines requests irq bbsy address_strobe data_strobe dtack shown = record {
-  requests = requests;
-  bbsy = bbsy;
-  bclr = false;
-  address_strobe = address_strobe;
-  data_strobe = data_strobe;
-  dtack = dtack;
-  berr = false;
-  irq = irq;
-  shown = shown;
-  grant_in = false;
-  iack_in = false;
-}
-
 -- every line is high
 no_line : (gate : Row → Bool) (rows : List Row) → list_any (λ r. gate r && false) rows ≡ false
 no_line gate [] = refl
@@ -90,41 +75,35 @@ high_lines p = record {
 }
   where
     four : (n : ℕ) → n < 4 → get_or no_pulls.br n 0 ≡ 0
-    four zero l = refl
-    four (suc zero) l = refl
-    four (suc (suc zero)) l = refl
-    four (suc (suc (suc zero))) l = refl
     four (suc (suc (suc (suc n)))) l = absurd (omega arith)
+    four n l = refl
 
     eight : (n : ℕ) → n < 8 → get_or no_pulls.irq n 0 ≡ 0
-    eight zero l = refl
-    eight (suc zero) l = refl
-    eight (suc (suc zero)) l = refl
-    eight (suc (suc (suc zero))) l = refl
-    eight (suc (suc (suc (suc zero)))) l = refl
-    eight (suc (suc (suc (suc (suc zero))))) l = refl
-    eight (suc (suc (suc (suc (suc (suc zero)))))) l = refl
-    eight (suc (suc (suc (suc (suc (suc (suc zero))))))) l = refl
     eight (suc (suc (suc (suc (suc (suc (suc (suc n)))))))) l = absurd (omega arith)
-
-bus_alike : (s t : ℕ → Bool) → s 0 ≡ t 0 → s 1 ≡ t 1 → s 2 ≡ t 2 → s 3 ≡ t 3 → bus_levels s ≡ bus_levels t
-bus_alike s t a b c d = cc
-
-irq_alike : (s t : ℕ → Bool) → s 1 ≡ t 1 → s 2 ≡ t 2 → s 3 ≡ t 3 → s 4 ≡ t 4 → s 5 ≡ t 5 → s 6 ≡ t 6 → s 7 ≡ t 7 → irq_levels s ≡ irq_levels t
-irq_alike s t a b c d e f g = cc
+    eight n l = refl
 
 pub high_shared : (p : Plan) → high_pins ≡ pins p [] Controller
 high_shared p =
-    let a = bus_alike (λ n. false) (request_line p []) (request 0) (request 1) (request 2) (request 3) in
-    let b = irq_alike (λ n. false) (interrupt_line p []) (irq 1) (irq 2) (irq 3) (irq 4) (irq 5) (irq 6) (irq 7) in
-    let c : None ≡ shown p [] = sym (ap (option_and_then (λ s. last_value [] (Slot s))) (none_on p.slots)) in
-    ap (λ x. of_lines x (irq_levels (λ n. false)) false false false false None) a
-    ∙ ap (λ x. of_lines (bus_levels (request_line p [])) x false false false false None) b
-    ∙ ap (λ x. of_lines (bus_levels (request_line p [])) (irq_levels (interrupt_line p [])) x false false false None) (sym (no_line (drives Bbsy) p.rows))
-    ∙ ap (λ x. of_lines (bus_levels (request_line p [])) (irq_levels (interrupt_line p [])) (line p [] Bbsy) x false false None) (sym (no_line (drives AddressStrobe) p.rows))
-    ∙ ap (λ x. of_lines (bus_levels (request_line p [])) (irq_levels (interrupt_line p [])) (line p [] Bbsy) (line p [] AddressStrobe) x false None) (sym (no_line (drives DataStrobe) p.rows))
-    ∙ ap (λ x. of_lines (bus_levels (request_line p [])) (irq_levels (interrupt_line p [])) (line p [] Bbsy) (line p [] AddressStrobe) (line p [] DataStrobe) x None) (sym (no_line (drives Dtack) p.rows))
-    ∙ ap (λ x. of_lines (bus_levels (request_line p [])) (irq_levels (interrupt_line p [])) (line p [] Bbsy) (line p [] AddressStrobe) (line p [] DataStrobe) (line p [] Dtack) x) c
+    let shown_none : None ≡ shown p [] = sym (ap (option_and_then (λ s. last_value [] (Slot s))) (none_on p.slots)) in
+    let high = λ (test : Row → Bool). sym (no_line test p.rows) in
+    cc (
+      request 0,
+      request 1,
+      request 2,
+      request 3,
+      irq 1,
+      irq 2,
+      irq 3,
+      irq 4,
+      irq 5,
+      irq 6,
+      irq 7,
+      high (drives Bbsy),
+      high (drives AddressStrobe),
+      high (drives DataStrobe),
+      high (drives Dtack),
+      shown_none,
+    )
   where
     request : (n : ℕ) → false ≡ request_line p [] n
     request n = sym (no_line (requests_on n) p.rows)
@@ -133,7 +112,8 @@ high_shared p =
     irq n = sym (no_line (interrupts_on n) p.rows)
 
 -- a place beyond the slots has no board
-pub boards_in_places : (version : Version) (p : Plan) (boards : List (Option Board)) → IsAccepted p → length boards ≡ 22 → ((s : ℕ) → s < 22 → slice_get boards s ≡ Some (option_map (parts_of version p []) (board p s))) →
+pub boards_in_places : (version : Version) (p : Plan) (boards : List (Option Board)) → IsAccepted p → length boards ≡ 22 →
+    ((s : ℕ) → s < 22 → slice_get boards s ≡ Some (option_map (parts_of version p []) (board p s))) →
     (s : ℕ) → place boards s ≡ option_map (parts_of version p []) (board p s)
 boards_in_places version p boards ok room at s = by_place (nat_lt s 22) refl
   where

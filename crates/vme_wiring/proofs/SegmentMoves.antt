@@ -111,7 +111,8 @@ at_last f g k n fall one =
           ∙ ap (λ ys. set ys (length xs) fall) (sym (map-append g xs (suc n ∷ [])));
     }
 
-at_earlier : (b : Bool) (f g k : ℕ → Bool) (n s i : ℕ) (fall : Bool) → IsOne f g k s fall → s ≤ n → f (suc n) ≡ b → IsAt g k (worked f n) s i fall → IsAt g k (with_slot b (worked f n) (suc n)) s i fall
+at_earlier : (b : Bool) (f g k : ℕ → Bool) (n s i : ℕ) (fall : Bool) → IsOne f g k s fall → s ≤ n → f (suc n) ≡ b → IsAt g k (worked f n) s i fall →
+    IsAt g k (with_slot b (worked f n) (suc n)) s i fall
 at_earlier false f g k n s i fall one l is at = at
 at_earlier true f g k n s i fall one l is at =
     let xs = worked f n in

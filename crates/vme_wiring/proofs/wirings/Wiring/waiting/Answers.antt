@@ -12,19 +12,16 @@ pub returns-in-Some-clause-requester : goal.returns-in-Some-clause-requester
 returns-in-Some-clause-requester c version p h is =
     let s = c.args.slot in
     let here = sym (ap option_copied c.in-Some.is) ∙ c.board.ensures in
-    c.waiting_parts.ensures.requester version p h s is here
-    ∙ sym (ap (λ (o : Option Row). option_map_or (waits_for_grant version (readings p h (Slot s))) o true) (row_here version p h c.args.self.now s c.in-Some.board.now is here))
+    rw (row_here version p h c.args.self.now s c.in-Some.board.now is here) (c.waiting_parts.ensures.requester version p h s is here)
 
 pub returns-in-Some-clause-master : goal.returns-in-Some-clause-master
 returns-in-Some-clause-master c version p h is =
     let s = c.args.slot in
     let here = sym (ap option_copied c.in-Some.is) ∙ c.board.ensures in
-    c.waiting_parts.ensures.master version p h s is here
-    ∙ sym (ap (λ (o : Option Row). option_map_or (λ r. waits_for_bus (readings p h (Slot s))) o true) (row_here version p h c.args.self.now s c.in-Some.board.now is here))
+    rw (row_here version p h c.args.self.now s c.in-Some.board.now is here) (c.waiting_parts.ensures.master version p h s is here)
 
 pub returns-in-Some-clause-interrupter : goal.returns-in-Some-clause-interrupter
 returns-in-Some-clause-interrupter c version p h is =
     let s = c.args.slot in
     let here = sym (ap option_copied c.in-Some.is) ∙ c.board.ensures in
-    c.waiting_parts.ensures.interrupter version p h s is here
-    ∙ sym (ap (λ (o : Option Row). option_map_or (λ r. waits_for_cycle (readings p h (Slot s)) r && is_unserved (readings p h (Slot s)) r) o true) (row_here version p h c.args.self.now s c.in-Some.board.now is here))
+    rw (row_here version p h c.args.self.now s c.in-Some.board.now is here) (c.waiting_parts.ensures.interrupter version p h s is here)
