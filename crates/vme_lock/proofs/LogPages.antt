@@ -38,7 +38,8 @@ room_page pages =
 pub fits : (pages : List (List Edge)) (n : ℕ) (page : List Edge) → 0 < room_of pages → n ≡ length pages → 0 < n → page ≡ get_or pages (n - 1) page → length page < 256
 fits pages n page room count some is =
     let place : length pages - 1 ≡ n - 1 = omega (arith, count) in
-    let read : slice_get pages (length pages - 1) ≡ Some page = ap (slice_get pages) place ∙ (slice_get-get_or pages (n - 1) page (omega (arith, count)) ∙ ap (λ (l : List Edge). Some l) (sym is)) in
+    let there = slice_get-get_or pages (n - 1) page (omega (arith, count)) ∙ ap (λ (l : List Edge). Some l) (sym is) in
+    let read : slice_get pages (length pages - 1) ≡ Some page = ap (slice_get pages) place ∙ there in
     let here : room_of pages ≡ 256 - length page = ap (λ x. option_map_or (λ page. 256 - length page) x 0) read in
     omega (arith, here)
 
@@ -50,10 +51,12 @@ some_page (x ∷ pages) room = omega arith
 -- the next page
 pub joined-next : (pages : List (List Edge)) (i : ℕ) (page : List Edge) → i < length pages → page ≡ get_or pages i page → edges_in (take (i + 1) pages) ≡ edges_in (take i pages) ++ page
 joined-next pages i page lt is =
-    ap edges_in (take_more pages i page lt) ∙ (joined-append (take i pages) (get_or pages i page ∷ []) ∙ (ap (λ (l : List Edge). edges_in (take i pages) ++ l) (append-nil (get_or pages i page)) ∙ ap (λ (l : List Edge). edges_in (take i pages) ++ l) (sym is)))
+    let last = append-nil (get_or pages i page) ∙ sym is in
+    ap edges_in (take_more pages i page lt) ∙ (joined-append (take i pages) (get_or pages i page ∷ []) ∙ ap (λ (l : List Edge). edges_in (take i pages) ++ l) last)
 
 pub joined-front : (pages : List (List Edge)) (i : ℕ) (page : List Edge) → i < length pages → page ≡ get_or pages i page → length (edges_in (take i pages)) + length page ≤ length (edges_in pages)
 joined-front pages i page lt is =
     let front = ap length (joined-next pages i page lt is) ∙ length-append (edges_in (take i pages)) page in
-    let whole = ap length (sym (ap edges_in (take-append-drop (i + 1) pages)) ∙ joined-append (take (i + 1) pages) (drop (i + 1) pages)) ∙ length-append (edges_in (take (i + 1) pages)) (edges_in (drop (i + 1) pages)) in
+    let parts = sym (ap edges_in (take-append-drop (i + 1) pages)) ∙ joined-append (take (i + 1) pages) (drop (i + 1) pages) in
+    let whole = ap length parts ∙ length-append (edges_in (take (i + 1) pages)) (edges_in (drop (i + 1) pages)) in
     omega (arith, front, whole)

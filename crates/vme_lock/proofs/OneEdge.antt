@@ -5,7 +5,7 @@ use Rattle.std.proofs.lemmas.Bool.Decides.{nat_tests}
 use Rattle.vme_model.specs.declared.signals.Driver.{Driver}
 use Rattle.vme_model.specs.declared.signals.Driver.TheVariants.{Controller, Slot}
 use Rattle.vme_model.specs.declared.signals.Wire.{Wire}
-use Rattle.vme_model.specs.declared.signals.Wire.TheVariants.{Bg, Bclr, Iack, Berr, Br, BgOut, Bbsy, Addr, AddressStrobe, DataStrobe, Irq, IackOut, Dtack}
+use Rattle.vme_model.specs.declared.signals.Wire.TheVariants.{Bg}
 use Rattle.vme_model.specs.declared.signals.Cycle.{Cycle}
 use Rattle.vme_model.specs.declared.signals.Cycle.TheVariants.{Acknowledge, Access}
 use Rattle.vme_model.specs.declared.signals.Edge.{Edge}
@@ -32,19 +32,7 @@ one_driver _ _ e = absurd (never (sym e))
 
 one_wire : (a b : Wire) → is_same_wire a b ≡ true → a ≡ b
 one_wire (Bg m) (Bg n) e = ap (λ k. Bg k) (number m n e)
-one_wire Bclr Bclr e = refl
-one_wire Iack Iack e = refl
-one_wire Berr Berr e = refl
-one_wire Br Br e = refl
-one_wire BgOut BgOut e = refl
-one_wire Bbsy Bbsy e = refl
-one_wire Addr Addr e = refl
-one_wire AddressStrobe AddressStrobe e = refl
-one_wire DataStrobe DataStrobe e = refl
-one_wire Irq Irq e = refl
-one_wire IackOut IackOut e = refl
-one_wire Dtack Dtack e = refl
-one_wire _ _ e = absurd (never (sym e))
+one_wire a b e = cc
 
 one_turn : (a b : Bool) → is_same_turn a b ≡ true → a ≡ b
 one_turn true true e = refl
@@ -74,18 +62,7 @@ own_driver (Slot s) = own_number s
 
 own_wire : (w : Wire) → is_same_wire w w ≡ true
 own_wire (Bg m) = own_number m
-own_wire Bclr = refl
-own_wire Iack = refl
-own_wire Berr = refl
-own_wire Br = refl
-own_wire BgOut = refl
-own_wire Bbsy = refl
-own_wire Addr = refl
-own_wire AddressStrobe = refl
-own_wire DataStrobe = refl
-own_wire Irq = refl
-own_wire IackOut = refl
-own_wire Dtack = refl
+own_wire w = refl
 
 own_turn : (b : Bool) → is_same_turn b b ≡ true
 own_turn true = refl

@@ -1,5 +1,5 @@
 -- The chains after an edge.
-use Rattle.std.proofs.Common.{◌≡◌, ◌≢◌, ◌∙◌, refl, sym, ap, subst, ℕ, zero, suc, Bool, true, false, List, ◌∷◌, ◌<◌, ◌≤◌, arith}
+use Rattle.std.proofs.Common.{◌≡◌, ◌≢◌, ◌∙◌, refl, sym, ap, subst, ℕ, suc, Bool, true, false, List, ◌∷◌, ◌<◌, ◌≤◌, arith}
 use Rattle.std.specs.Prelude.{◌==◌, if◌then◌else◌, not, Option, Some, None, is_some, map}
 use Rattle.std.specs.List.{slice_get}
 use Rattle.std.specs.Option.{option_map_or}
@@ -10,11 +10,11 @@ use Rattle.vme_model.specs.declared.sets.ChainId.{ChainId}
 use Rattle.vme_model.specs.declared.sets.ChainId.TheVariants as chain
 use Rattle.vme_model.specs.declared.signals.Driver.TheVariants.{Controller, Slot}
 use Rattle.vme_model.specs.declared.signals.Wire.{Wire}
-use Rattle.vme_model.specs.declared.signals.Wire.TheVariants.{Bg, Bclr, Iack, Berr, Br, BgOut, Bbsy, Addr, AddressStrobe, DataStrobe, Irq, IackOut, Dtack}
+use Rattle.vme_model.specs.declared.signals.Wire.TheVariants.{Bg, Bclr, Iack, Berr, BgOut, IackOut}
 use Rattle.vme_model.specs.declared.signals.Cycle.{Cycle}
 use Rattle.vme_model.specs.declared.signals.Edge.{Edge}
 use Rattle.vme_model.specs.Signals.{has_wire}
-use Rattle.vme_model.specs.Plan.{Plan, board, active, is_active, works, grant_chain, out_wire}
+use Rattle.vme_model.specs.Plan.{Plan, board, active, is_active, works, grant_chain}
 use Rattle.vme_model.specs.History.{drive}
 use Rattle.vme_chain.specs.Segments.{Segments, segments_of, output_number}
 use Rattle.vme_histories.specs.Levels.{request_level}

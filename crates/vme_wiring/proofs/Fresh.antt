@@ -1,28 +1,23 @@
 -- Before any edge.
-use Rattle.std.proofs.Common.{◌≡◌, ◌∙◌, refl, sym, ap, ℕ, zero, suc, Bool, true, false, List, [], ◌∷◌, ◌++◌, ◌<◌, ◌≤◌, length, take, get_or, add-one, arith}
+use Rattle.std.proofs.Common.{◌≡◌, ◌∙◌, refl, sym, ap, ℕ, suc, Bool, true, false, List, [], ◌∷◌, ◌++◌, ◌<◌, ◌≤◌, length, take, get_or, add-one, arith}
 use Rattle.std.specs.Prelude.{◌+◌, ◌&&◌, ◌||◌, if◌then◌else◌, map, replicate, Option, Some, None, option_map, nat_lt}
 use Rattle.std.specs.List.{list_any, slice_get}
 use Rattle.std.specs.Option.{option_and_then}
 use Rattle.std.proofs.lemmas.Bool.Decides.{nat_tests}
 use Rattle.std.proofs.lemmas.Option.{slice_get_past}
-use Rattle.vme_model.specs.declared.sets.Levels.{Levels}
-use Rattle.vme_model.specs.declared.sets.BusLevels.{BusLevels}
 use Rattle.vme_model.specs.declared.signals.Version.{Version}
-use Rattle.vme_model.specs.declared.signals.Cycle.{Cycle}
 use Rattle.vme_model.specs.declared.signals.Wire.TheVariants.{Bbsy, AddressStrobe, DataStrobe, Dtack}
-use Rattle.vme_model.specs.Sets.{bus_levels, irq_levels}
 use Rattle.vme_histories.proofs.Addressing.{none_on}
 use Rattle.vme_wiring.specs.Boards.{parts_of, place}
 use Rattle.vme_wiring.specs.Counts.{pulls, IsLines, no_pulls, high_pins}
 use Rattle.vme_wiring.specs.declared.boards.Board.{Board}
 use Rattle.vme_histories.proofs.AllowedBoards.{stands}
 use Rattle.vme_model.specs.declared.boards.Row.{Row}
-use Rattle.vme_model.specs.declared.pins.Pins.{Pins}
 use Rattle.vme_model.specs.declared.sets.ChainId.{ChainId}
 use Rattle.vme_model.specs.declared.signals.Driver.TheVariants.{Controller, Slot}
 use Rattle.vme_model.specs.Plan.{Plan, board, active, requests_on, interrupts_on, drives}
 use Rattle.vme_model.specs.Accepted.{IsAccepted}
-use Rattle.vme_model.specs.History.{shown, last_value, line, request_line, interrupt_line}
+use Rattle.vme_model.specs.History.{shown, last_value, request_line, interrupt_line}
 use Rattle.vme_model.specs.Views.{pins}
 use Rattle.vme_chain.specs.Segments.{Segments, all_high, segments_of}
 use Rattle.vme_chain.proofs.History.{holds_every_slot}

@@ -9,8 +9,6 @@ use Rattle.vme_model.specs.declared.boards.Row.{Row}
 use Rattle.vme_model.specs.declared.boards.RequesterRow.{RequesterRow}
 use Rattle.vme_model.specs.declared.boards.InterrupterRow.{InterrupterRow}
 use Rattle.vme_model.specs.declared.pins.Pins.{Pins}
-use Rattle.vme_model.specs.declared.sets.Levels.{Levels}
-use Rattle.vme_model.specs.declared.sets.BusLevels.{BusLevels}
 use Rattle.vme_model.specs.declared.signals.Driver.TheVariants.{Controller, Slot}
 use Rattle.vme_model.specs.declared.signals.Wire.{Wire}
 use Rattle.vme_model.specs.declared.signals.Wire.TheVariants.{Bg, Bclr, Iack, Berr, Br, BgOut, Bbsy, Addr, AddressStrobe, DataStrobe, Irq, IackOut, Dtack}
@@ -20,10 +18,10 @@ use Rattle.vme_model.specs.Signals.{has_wire}
 use Rattle.vme_model.specs.Sets.{bus_levels, irq_levels}
 use Rattle.vme_model.specs.Plan.{Plan, drives, requests_on, interrupts_on}
 use Rattle.vme_model.specs.Accepted.{IsAccepted}
-use Rattle.vme_model.specs.History.{pulls_line, pulls_request, pulls_interrupt, drive, request_line, interrupt_line, shown}
+use Rattle.vme_model.specs.History.{pulls_request, pulls_interrupt, drive, request_line, interrupt_line, shown}
 use Rattle.vme_model.specs.Views.{pins}
 use Rattle.vme_model.proofs.Bools.{same_number}
-use Rattle.vme_wiring.specs.Counts.{pulls, passes_grant, IsLines, moved, is_movable, count_of, lines_after, shared_after, shared_after_controller}
+use Rattle.vme_wiring.specs.Counts.{pulls, IsLines, moved, is_movable, count_of, lines_after, shared_after, shared_after_controller}
 use Rattle.vme_histories.specs.Levels.{request_level, interrupt_level}
 use Rattle.vme_wiring.specs.declared.lines.Lines.{Lines}
 use Rattle.vme_wiring.proofs.PullCounts.{any_pulls, IsSameElsewhere, IsMoved, pulls_move, pulls_stay}

@@ -1,6 +1,6 @@
 -- The wiring after an edge is that of the longer history.
 use Rattle.std.proofs.Common.{◌≡◌, ◌∙◌, refl, sym, ap, subst, ℕ, zero, suc, Bool, true, false, List, [], ◌∷◌, ◌<◌, length, arith}
-use Rattle.std.specs.Prelude.{◌==◌, not, Option, Some, None, Ok, option_map, set}
+use Rattle.std.specs.Prelude.{◌==◌, Option, Some, None, Ok, option_map, set}
 use Rattle.std.specs.List.{slice_get}
 use Rattle.std.specs.Option.{option_and_then}
 use Rattle.std.proofs.lemmas.Bool.Decides.{nat_tests}
@@ -12,14 +12,13 @@ use Rattle.vme_model.specs.declared.signals.Version.{Version}
 use Rattle.vme_model.specs.declared.signals.Driver.{Driver}
 use Rattle.vme_model.specs.declared.signals.Driver.TheVariants.{Controller, Slot}
 use Rattle.vme_model.specs.declared.signals.Wire.{Wire}
-use Rattle.vme_model.specs.declared.signals.Wire.TheVariants.{Bg, Bclr, Iack, Berr}
-use Rattle.vme_model.specs.declared.signals.Wire.TheVariants.{Addr}
+use Rattle.vme_model.specs.declared.signals.Wire.TheVariants.{Bg, Bclr, Iack, Berr, Addr}
 use Rattle.vme_model.specs.declared.signals.Cycle.{Cycle}
 use Rattle.vme_model.specs.declared.signals.Edge.{Edge}
 use Rattle.vme_model.specs.Signals.{has_wire, is_same_driver}
 use Rattle.vme_model.specs.Plan.{Plan, board}
 use Rattle.vme_model.specs.Accepted.{IsAccepted}
-use Rattle.vme_model.specs.History.{drive, addressing}
+use Rattle.vme_model.specs.History.{addressing}
 use Rattle.vme_model.specs.Verdict.{verdict_but_full}
 use Rattle.vme_model.proofs.AllowedEdges.{all_passed}
 use Rattle.vme_arbiter.specs.declared.policies.AnyPolicy.{AnyPolicy}
@@ -35,7 +34,7 @@ use Rattle.vme_wiring.proofs.Parts.{part}
 use Rattle.vme_wiring.proofs.Others.{parts_same}
 use Rattle.vme_histories.proofs.AllowedBoards.{Stands, IsDriven, stands, driven, at, at_head, flipped, level_kept}
 use Rattle.vme_histories.proofs.Others.{drive_same}
-use Rattle.vme_histories.proofs.Addressing.{addressing_by, addressing_kept, IsShownAt, shown_at}
+use Rattle.vme_histories.proofs.Addressing.{addressing_by, addressing_kept, shown_at}
 use Rattle.vme_wiring.proofs.LineNotes.{counted, uncounted, shared_by_board, shared_by_controller}
 use Rattle.vme_wiring.proofs.ChainNotes.{chained, can_move, chained_head, can_move_head}
 

@@ -24,7 +24,7 @@ use Rattle.vme_model.specs.Sets.{has_level, has_bus_level, bus_levels}
 use Rattle.vme_model.specs.Plan.{Plan, board}
 use Rattle.vme_model.specs.History.{drive, request_line, interrupt_line, cycles, last_level, shown, line}
 use Rattle.vme_model.specs.Readings.{Readings, readings, is_served, grant_in, iack_in}
-use Rattle.vme_model.specs.declared.conditions.Condition.TheVariants.{Handled, InterruptLow, NotPending, Pending, OwnSlotShown, AcknowledgeInLow, OwnAcknowledgeOutHigh}
+use Rattle.vme_model.specs.declared.conditions.Condition.TheVariants.{Handled, InterruptLow}
 use Rattle.vme_model.specs.Guards.{Guard, free as no_condition, asks, ◌⊓◌, holds}
 use Rattle.vme_model.specs.Rules.{guard, rule, bus_numbers, is_pick, bg_falls, bclr_falls, bclr_rises, bbsy_rises, addr_goes_on, iackout_falls, dtack_falls, released as released_where, below_burst, release_guard, burst_guard, show_guard, pass_guard, answer_guard, clear_guard, are_grants_high, is_pri}
 use Rattle.vme_model.specs.Verdict.{Judgement, check, is_other_state, ruling}
@@ -34,7 +34,7 @@ use Rattle.vme_model.proofs.PinSets.{has_bus, has_irq}
 use Rattle.vme_model.proofs.Bools.{and_left, and_right}
 use Rattle.vme_requester.specs.Local.{own_lines as requester_lines, requester_readings, answer_over}
 use Rattle.vme_master.specs.Local.{own_lines as master_lines, over as master_over}
-use Rattle.vme_interrupter.specs.Local.{seen, served, interrupter_readings, over as interrupter_over}
+use Rattle.vme_interrupter.specs.Local.{seen, interrupter_readings, over as interrupter_over}
 use Rattle.vme_interrupter.proofs.Seen.{edges_seen, served_seen}
 use Rattle.vme_arbiter.specs.Local.{over as controller_over}
 use Rattle.vme_histories.specs.Asked.{asked}

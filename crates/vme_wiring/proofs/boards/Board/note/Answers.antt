@@ -1,5 +1,5 @@
 -- The parts that the wire does not concern stay as they were.
-use Rattle.std.proofs.Common.{◌≡◌, ◌∙◌, refl, ap, sym, false}
+use Rattle.std.proofs.Common.{◌≡◌, ◌∙◌, refl, ap, sym}
 use Rattle.vme_model.specs.declared.signals.Wire.TheVariants.{Br, BgOut, Addr, AddressStrobe, DataStrobe}
 use Rattle.vme_wiring.specs.declared.boards.Board.{Board}
 use Rattle.vme_wiring.proofs.Others.{concerns_master, concerns_requester, concerns_interrupter, of_wire, either, requester_kept, master_kept, interrupter_kept, assembled}

@@ -1,10 +1,6 @@
-use Rattle.std.proofs.Common.{◌∙◌, sym, ap, true}
-use Rattle.std.specs.Prelude.{◌&&◌, Option}
-use Rattle.std.specs.Option.{option_copied, option_map_or}
-use Rattle.vme_model.specs.declared.boards.Row.{Row}
-use Rattle.vme_model.specs.declared.signals.Driver.TheVariants.{Slot}
-use Rattle.vme_model.specs.Readings.{readings}
-use Rattle.vme_wiring.specs.Waits.{waits_for_grant, waits_for_bus, waits_for_cycle, is_unserved}
+use Rattle.std.proofs.Common.{◌∙◌, sym, ap}
+use Rattle.std.specs.Prelude.{◌&&◌}
+use Rattle.std.specs.Option.{option_copied}
 use Rattle.vme_wiring.proofs.NoOffers.{row_here}
 use Rattle.vme_wiring.proofs.wirings.Wiring.waiting.Goals as goal
 
