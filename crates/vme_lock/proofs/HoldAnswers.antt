@@ -31,8 +31,7 @@ is_lost-same b s same = ap not (eq-eqb (count b.history s.driver) s.made same)
 -- the driver's number is not the seat's
 pub look_lost : (b : State) (s : Place) (own : ℕ) → own ≡ count b.history s.driver → own ≢ s.made → Err (record { own = own }) ≡ look_answer b s
 look_lost b s own is apart =
-    let read : is_lost b s ≡ true = is_lost-other b s (λ same. apart (is ∙ same)) in
-    let found : look_answer b s ≡ Err (loss_of b s) = ap (λ (x : Bool). if x then Err (loss_of b s) else Ok (view_of b s.driver)) read in
+    let found = ap (λ (x : Bool). if x then Err (loss_of b s) else Ok (view_of b s.driver)) (is_lost-other b s (λ same. apart (is ∙ same))) in
     sym (found ∙ ap (λ (n : ℕ). Err (record { own = n })) (sym is))
 
 pub seen_is : (b : State) (d : Driver) (v : View) → v.pins ≡ pins b.plan b.history d → v.offers.items ≡ offered b d → v.own ≡ count b.history d → v.total ≡ length b.history → v ≡ view_of b d
@@ -47,8 +46,7 @@ look_seen b s v is same =
 -- a turn is answered by L5 if the numbers differ
 pub turn_lost : (b : State) (s : Place) (t own : ℕ) → own ≡ count b.history s.driver → own ≢ s.made → Err (record { own = own }) ≡ turn_answer b s t
 turn_lost b s t own is apart =
-    let read : is_lost b s ≡ true = is_lost-other b s (λ same. apart (is ∙ same)) in
-    let found : turn_answer b s t ≡ Err (loss_of b s) = ap (λ (x : Bool). if x then Err (loss_of b s) else Ok (turn_of b s.driver t)) read in
+    let found = ap (λ (x : Bool). if x then Err (loss_of b s) else Ok (turn_of b s.driver t)) (is_lost-other b s (λ same. apart (is ∙ same))) in
     sym (found ∙ ap (λ (n : ℕ). Err (record { own = n })) (sym is))
 
 pub turn_is : (b : State) (d : Driver) (t : ℕ) (v : Turn) → v.offer ≡ slice_get (offered b d) (t % length (offered b d)) → v.total ≡ length b.history → v ≡ turn_of b d t

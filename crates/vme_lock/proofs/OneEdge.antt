@@ -37,8 +37,7 @@ one_wire a b e = cc
 one_turn : (a b : Bool) → is_same_turn a b ≡ true → a ≡ b
 one_turn true true e = refl
 one_turn false false e = refl
-one_turn true false e = absurd (never (sym e))
-one_turn false true e = absurd (never (sym e))
+one_turn _ _ e = absurd (never (sym e))
 
 one_value : (a b : Option Cycle) → is_same_value a b ≡ true → a ≡ b
 one_value None None e = refl

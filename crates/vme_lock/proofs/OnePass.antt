@@ -122,8 +122,7 @@ whole_logs h ends [] [] fronts whole = tt
 whole_logs h ends (d ∷ ds) (log ∷ logs) fronts whole =
     let front = fronts 0 d log refl refl in
     (front.same ∙ take_all (slice_index ends (desk d)) log (omega (arith, whole.0)), whole_logs h ends ds logs (λ k. fronts (suc k)) whole.1)
-whole_logs h ends [] (log ∷ logs) fronts whole = absurd whole
-whole_logs h ends (d ∷ ds) [] fronts whole = absurd whole
+whole_logs h ends ds logs fronts whole = absurd whole
 
 -- with the number of each driver
 pub all_logs : (h : List Edge) (numbers ends : List ℕ) (ds : List Driver) (logs : List (List Edge)) → AreNumbered numbers ds →

@@ -8,10 +8,7 @@ pub AllWorked-push : (seats after : List Place) (logs : List (List Edge)) (s t :
     AllWorked (seats ++ s ∷ []) (after ++ t ∷ []) (logs ++ log ∷ [])
 AllWorked-push [] [] [] s t log all is = (is, tt)
 AllWorked-push (x ∷ seats) (y ∷ after) (z ∷ logs) s t log all is = (all.0, AllWorked-push seats after logs s t log all.1 is)
-AllWorked-push [] [] (z ∷ logs) s t log all is = absurd all
-AllWorked-push [] (y ∷ after) logs s t log all is = absurd all
-AllWorked-push (x ∷ seats) [] logs s t log all is = absurd all
-AllWorked-push (x ∷ seats) (y ∷ after) [] s t log all is = absurd all
+AllWorked-push seats after logs s t log all is = absurd all
 
 -- the seats belong to the same drivers
 pub same_drivers : (seats after : List Place) (logs : List (List Edge)) → AllWorked seats after logs → drivers_of after ≡ drivers_of seats
@@ -20,10 +17,7 @@ same_drivers (x ∷ seats) (y ∷ after) (z ∷ logs) all =
     let driver = ap (λ s. s.driver) all.0 in
     let others = same_drivers seats after logs all.1 in
     λ i. driver i ∷ others i
-same_drivers [] [] (z ∷ logs) all = absurd all
-same_drivers [] (y ∷ after) logs all = absurd all
-same_drivers (x ∷ seats) [] logs all = absurd all
-same_drivers (x ∷ seats) (y ∷ after) [] all = absurd all
+same_drivers seats after logs all = absurd all
 
 pub as_many : (seats : List Place) → length (drivers_of seats) ≡ length seats
 as_many [] = refl
