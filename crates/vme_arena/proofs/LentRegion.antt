@@ -67,7 +67,8 @@ module _ {M : Type 1} {𝓤 : Ura M} (𝓛 : Logic 𝓤) (κ : Lft) (q : Share) 
 
   whole : ent 𝓤 (sep 𝓤 Stays (sem 𝓛 Home)) (sem 𝓛 Lent)
   unfolding part_of
-  whole = qed 𝓛 ((‵ Blank ⊛ ‵ Fields ⊛ ‵ (origin_own x us) ⊛ ‵ (fat full_share region_type b o v) ⊛ ‵ (fauth γ (R.coded.code x))) ∷ ‵ Home ∷ []) ∵ split ! $ move ! (1 ∷ []) $ split ! $ move ! (1 ∷ []) $ split3 ! $
+  whole = qed 𝓛 ((‵ Blank ⊛ ‵ Fields ⊛ ‵ (origin_own x us) ⊛ ‵ (fat full_share region_type b o v) ⊛ ‵ (fauth γ (R.coded.code x))) ∷ ‵ Home ∷ []) ∵
+      split ! $ move ! (1 ∷ []) $ split ! $ move ! (1 ∷ []) $ split3 ! $
       -- [the origin; the cell; the name; the fields; the blank ones; those at home]
       move ! (5 ∷ 4 ∷ 3 ∷ []) $ fjoin ! $ move ! (1 ∷ 0 ∷ []) $ fjoin ! $ fjoin ! $
       feq_i ! (List Val) (v ∷ []) (v ∷ []) refl $ fjoin ! $ fpack ! (Valss S.fields) (within S (region.the_type.to x) (v ∷ [])) (g ∷ [], (us, tt)) $

@@ -16,7 +16,8 @@ pub joined_page : (pages : List (List Edge)) → edges_in (pages ++ [] ∷ []) �
 joined_page pages = joined-append pages ([] ∷ []) ∙ append-nil (edges_in pages)
 
 -- one more edge in the last page
-pub joined-set : (pages : List (List Edge)) (n : ℕ) (page : List Edge) (e : Edge) → n + 1 ≡ length pages → get_or pages n page ≡ page → edges_in (set pages n (page ++ e ∷ [])) ≡ edges_in pages ++ e ∷ []
+pub joined-set : (pages : List (List Edge)) (n : ℕ) (page : List Edge) (e : Edge) → n + 1 ≡ length pages →
+    get_or pages n page ≡ page → edges_in (set pages n (page ++ e ∷ [])) ≡ edges_in pages ++ e ∷ []
 joined-set [] n page e last is = absurd (omega arith)
 joined-set (x ∷ []) zero page e last is =
     append-nil (page ++ e ∷ []) ∙ (ap (λ (l : List Edge). l ++ e ∷ []) (sym is) ∙ ap (λ (l : List Edge). l ++ e ∷ []) (sym (append-nil x)))

@@ -44,7 +44,8 @@ apart_at_edge b s e l is = go (is_same_driver e.driver s.driver) (count b.histor
     go true true same is = absurd (not_lost_by_step (answer b e) l is)
     go true false apart is = grind (arith, nat_tests)
 
-pub lost_at_edge : (opened : State) (s after : Place) (e : Edge) (r : Result (Option Delivery) EdgeRefused) (l : Lost) → r ≡ Err (refused.Lost l) → after ≡ s → OfSome opened (λ b. r ≡ edge_answer b s e) → HasLost opened after
+pub lost_at_edge : (opened : State) (s after : Place) (e : Edge) (r : Result (Option Delivery) EdgeRefused) (l : Lost) →
+    r ≡ Err (refused.Lost l) → after ≡ s → OfSome opened (λ b. r ≡ edge_answer b s e) → HasLost opened after
 lost_at_edge opened s after e r l is same some =
     subst (λ (x : Place). HasLost opened x) (sym same) (some.0, some.1, some.2, apart_at_edge some.0 s e l (sym is ∙ some.3))
 

@@ -27,7 +27,8 @@ abbrev all_made : List Place → ℕ
 all_made seats = sum_by (λ s. s.made) seats
 
 -- logs that are no longer than the turns
-worked_within : (seats after : List Place) (logs : List (List Edge)) (turns edges : ℕ) → AllWorked seats after logs → All (IsWithin turns edges) logs → all_made after ≤ all_made seats + turns * length seats
+worked_within : (seats after : List Place) (logs : List (List Edge)) (turns edges : ℕ) →
+    AllWorked seats after logs → All (IsWithin turns edges) logs → all_made after ≤ all_made seats + turns * length seats
 worked_within [] [] [] turns edges worked short = omega arith
 worked_within (s ∷ seats) (t ∷ after) (log ∷ logs) turns edges worked short =
     let here : t.made ≡ s.made + length log = ap (λ x. x.made) worked.0 in

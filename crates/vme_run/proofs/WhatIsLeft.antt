@@ -98,7 +98,8 @@ module _ (lent : List ℕ) (version : Version) (m n turns : ℕ) (fits : m ≤ n
   written new b r played none = absurd none
 
 -- the first of two backplanes was not played
-pub unplayed : (version : Version) (p : Plan) (m turns : ℕ) (opened : State) (f : RunFault) → opened ≡ at_power_up version p m → IsNotPlayed turns opened f → IsNotPlayed turns (at_power_up version p m) f
+pub unplayed : (version : Version) (p : Plan) (m turns : ℕ) (opened : State) (f : RunFault) →
+    opened ≡ at_power_up version p m → IsNotPlayed turns opened f → IsNotPlayed turns (at_power_up version p m) f
 unplayed version p m turns opened f first none = subst (λ (o : State). IsNotPlayed turns o f) first none
 
 -- or there was no memory for them

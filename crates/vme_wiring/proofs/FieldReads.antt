@@ -130,7 +130,8 @@ abbrev pub arbiter_by : AnyPolicy → ArbiterKind → Version → AnyPolicy × C
 arbiter_by a kind version = (a, controller_of kind version [])
 
 -- the settling rules
-pub grant_gone : (version : Version) (p : Plan) (h : List Edge) (w : Wiring) → IsWiringOf version p h w → bg_fall_settles w.version (not (nat_lt 0 w.lines.bgout)) ≡ bg_fall_settles version (are_grants_through p h)
+pub grant_gone : (version : Version) (p : Plan) (h : List Edge) (w : Wiring) → IsWiringOf version p h w →
+    bg_fall_settles w.version (not (nat_lt 0 w.lines.bgout)) ≡ bg_fall_settles version (are_grants_through p h)
 grant_gone version p h w is =
     ap (λ v. bg_fall_settles v (not (nat_lt 0 w.lines.bgout))) is.rules
     ∙ ap (λ b. bg_fall_settles version (not b)) (ap (nat_lt 0) is.lines.bgout)

@@ -22,7 +22,8 @@ use Rattle.vme_model.specs.Verdict.{IsLegal}
 use Rattle.vme_model.specs.Views.{pins}
 use Rattle.vme_interrupter.specs.Local.{seen, served, edges, over as interrupter_over, interrupter_of}
 use Rattle.vme_interrupter.proofs.Seen.{served_seen}
-use Rattle.vme_histories.proofs.NoOffers.{requester_closed, requester_lacking, master_closed, answer_closed, interrupter_closed, interrupter_lacking, none_waits, requester_of_none, master_of_none, interrupter_of_none, nobody_in}
+use Rattle.vme_histories.proofs.NoOffers.{requester_closed, requester_lacking, master_closed, answer_closed, interrupter_closed, interrupter_lacking}
+use Rattle.vme_histories.proofs.NoOffers.{none_waits, requester_of_none, master_of_none, interrupter_of_none, nobody_in}
 use Rattle.vme_wiring.specs.Boards.{parts_of, place, low_of}
 use Rattle.vme_wiring.specs.Asked.{seen_by, read_by}
 use Rattle.vme_histories.specs.Offered.{offered_on, offered_but_full, requester_wires, master_wires, interrupter_wires}

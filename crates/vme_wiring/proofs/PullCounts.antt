@@ -68,7 +68,8 @@ swap_step f g s r q rows false is same few found rest =
     subst P (sym (same q is)) (there (f q) (pulls g rows) (pulls f rows) (one_if (f r)) (one_if (g r)) (rest few found))
 
 -- one board's pull for another
-pub pulls_swap : (f g : Row → Bool) (s : ℕ) (r : Row) (rows : List Row) → IsSameElsewhere f g s → pulls (at_slot s) rows ≤ 1 → row_in rows s ≡ Some r → pulls g rows + one_if (f r) ≡ pulls f rows + one_if (g r)
+pub pulls_swap : (f g : Row → Bool) (s : ℕ) (r : Row) (rows : List Row) → IsSameElsewhere f g s →
+    pulls (at_slot s) rows ≤ 1 → row_in rows s ≡ Some r → pulls g rows + one_if (f r) ≡ pulls f rows + one_if (g r)
 pulls_swap f g s r [] same few found = absurd (cc)
 pulls_swap f g s r (q ∷ rows) same few found = swap_step f g s r q rows (q.slot == s) refl same few found (λ a b. pulls_swap f g s r rows same a b)
 

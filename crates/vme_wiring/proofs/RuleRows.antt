@@ -26,7 +26,8 @@ use Rattle.vme_model.specs.History.{drive, request_line, interrupt_line, cycles,
 use Rattle.vme_model.specs.Readings.{Readings, readings, is_served, grant_in, iack_in}
 use Rattle.vme_model.specs.declared.conditions.Condition.TheVariants.{Handled, InterruptLow}
 use Rattle.vme_model.specs.Guards.{Guard, free as no_condition, asks, ◌⊓◌, holds}
-use Rattle.vme_model.specs.Rules.{guard, rule, bus_numbers, is_pick, bg_falls, bclr_falls, bclr_rises, bbsy_rises, addr_goes_on, iackout_falls, dtack_falls, released as released_where, below_burst, release_guard, burst_guard, show_guard, pass_guard, answer_guard, clear_guard, are_grants_high, is_pri}
+use Rattle.vme_model.specs.Rules.{guard, rule, bus_numbers, is_pick, bg_falls, bclr_falls, bclr_rises, bbsy_rises, addr_goes_on, iackout_falls, dtack_falls, released as released_where}
+use Rattle.vme_model.specs.Rules.{below_burst, release_guard, burst_guard, show_guard, pass_guard, answer_guard, clear_guard, are_grants_high, is_pri}
 use Rattle.vme_model.specs.Verdict.{Judgement, check, is_other_state, ruling}
 use Rattle.vme_model.specs.Views.{pins}
 use Rattle.vme_model.proofs.Picks.{laws_of}

@@ -27,7 +27,10 @@ extend_spec 𝓤 𝓛 𝓜 𝓡 wired T L =
     let stays : Stays ps En.kept = (stay_dropped (param 0 ps) En.kept.0, (stay_dropped (param 1 ps) En.kept.1.0, (stay_dropped (param 2 ps) En.kept.1.1.0, tt))) in
     let c = clauses T 𝓛 𝓜.mem 𝓡.returns in
     let 𝓣 = tables 𝓤 𝓛.H 𝓜 𝓡 𝓡.env in
-    proved_at 𝓛 En stays c 𝓜 𝓡 (Goes-blank 𝓛 1 (param 0 ps) En.kept.0 (λ κs x f. tt), (Goes-blank 𝓛 1 (param 1 ps) En.kept.1.0 (λ κs x f. tt), (Goes-dropped 𝓛 1 (param 2 ps) En.kept.1.1.0 (λ κs x f. refl), tt))) (#self args) fn (compiled.unfolded 𝓤 𝓛.H 𝓜 𝓡 wired (T, tt)) (λ z are.
+    proved_at 𝓛 En stays c 𝓜 𝓡 (
+      Goes-blank 𝓛 1 (param 0 ps) En.kept.0 (λ κs x f. tt),
+      (Goes-blank 𝓛 1 (param 1 ps) En.kept.1.0 (λ κs x f. tt), (Goes-dropped 𝓛 1 (param 2 ps) En.kept.1.1.0 (λ κs x f. refl), tt)),
+    ) (#self args) fn (compiled.unfolded 𝓤 𝓛.H 𝓜 𝓡 wired (T, tt)) (λ z are.
     let Post : Val → SProp 𝓤 = (walk_of 𝓛 En stays c).post z in
     let a = z.0.3 in
     let vss = z.0.4 in
@@ -54,8 +57,10 @@ extend_spec 𝓤 𝓛 𝓜 𝓡 wired T L =
     fsplit ! $ fsplit ! $ drop ! $ move ! (1 ∷ []) $ fsplit ! $ fsplit ! $ drop ! $ move ! (1 ∷ []) $ drop ! $ rewrite ! 0 (λ (p : Ptr). ‵ (units_at p y.size)) next refl $ move ! (1 ∷ []) $
     fsplit3 ! $ move ! (2 ∷ []) $ token_tells ! t x.at (block_type E old) x.ptr (λ lies. move ! (1 ∷ 2 ∷ 0 ∷ []) $ fjoin3 ! $
     rewrite ! 0 (λ (p : Ptr). ‵ (block_with_items (token_at t x.at) R p len old xs)) lies.0.0 refl $
-    use2 𝓛 (‵ (block_with_items (token_at t x.at) R here len new xs)) (extended E 𝓛 t x.at len old new y.size xs sized.0 sized.1 beside.2 sized.3 (omega (arith, beside.1, top)) (omega (arith, beside.1, inside))) $
-    regoal ! (λ (us : List Val). prop (WpFn 𝓤 𝓛.H 𝓣.C 𝓣.Λ fn us Post)) (λ i. (block_told x.ptr vss.0 are.0.0 ∙ ap (λ (p : Ptr). block_val p ∷ []) lies.0.0) i ++ ((piece_told y.ptr vss.1.0 are.1.0.0 ∙ ap (λ (p : Ptr). piece_val p ∷ []) next) i ++ (are.1.1.0.0 i ++ []))) refl $
+    use2 𝓛 (‵ (block_with_items (token_at t x.at) R here len new xs))
+    (extended E 𝓛 t x.at len old new y.size xs sized.0 sized.1 beside.2 sized.3 (omega (arith, beside.1, top)) (omega (arith, beside.1, inside))) $
+    regoal ! (λ (us : List Val). prop (WpFn 𝓤 𝓛.H 𝓣.C 𝓣.Λ fn us Post)) (λ i. (block_told x.ptr vss.0 are.0.0 ∙ ap (λ (p : Ptr). block_val p ∷ []) lies.0.0) i ++
+    ((piece_told y.ptr vss.1.0 are.1.0.0 ∙ ap (λ (p : Ptr). piece_val p ∷ []) next) i ++ (are.1.1.0.0 i ++ []))) refl $
     enter ! 𝓣.C 𝓣.Λ fn (block_val here ∷ piece_val rear ∷ vint w64 new ∷ []) Post $
     alloc_all ! (λ l. pass_all ! refl ((tt, (tt, (tt, tt))), ((tt, (tt, tt)), ((tt, record { fits = are.1.1.0.1 }), tt))) $
     sets ! (of_opd ! (get_in ! (fld ! refl (stop !)) (sub ! 0 refl (whole !)))) refl (tt, tt) $

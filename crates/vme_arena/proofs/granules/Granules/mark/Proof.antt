@@ -18,7 +18,10 @@ mark_spec 𝓤 𝓛 𝓜 𝓡 wired =
     let stays : Stays ps ended.kept = (stay_dropped (param 0 ps) ended.kept.0, (stay_dropped (param 1 ps) ended.kept.1.0, tt)) in
     let c = clauses 𝓛 𝓜.mem 𝓡.returns in
     let 𝓣 = tables 𝓤 𝓛.H 𝓜 𝓡 𝓡.env in
-    proved_at 𝓛 ended stays c 𝓜 𝓡 (Goes-blank 𝓛 0 (param 0 ps) ended.kept.0 (λ κs x f. tt), (Goes-dropped 𝓛 0 (param 1 ps) ended.kept.1.0 (λ κs x f. refl), tt)) #self fn (compiled.unfolded 𝓤 𝓛.H 𝓜 𝓡 wired) (λ z are.
+    proved_at 𝓛 ended stays c 𝓜 𝓡 (
+      Goes-blank 𝓛 0 (param 0 ps) ended.kept.0 (λ κs x f. tt),
+      (Goes-dropped 𝓛 0 (param 1 ps) ended.kept.1.0 (λ κs x f. refl), tt),
+    ) #self fn (compiled.unfolded 𝓤 𝓛.H 𝓜 𝓡 wired) (λ z are.
     let Post : Val → SProp 𝓤 = (walk_of 𝓛 ended stays c).post z in
     let a = z.0.3 in
     let vss = z.0.4 in
@@ -44,7 +47,8 @@ mark_spec 𝓤 𝓛 𝓜 𝓡 wired =
     move ! (2 ∷ 0 ∷ 5 ∷ 1 ∷ 3 ∷ 4 ∷ 7 ∷ []) $
     -- [the tag; the granule; those at home; the other granules; their tags; the padding; alive;
     -- nothing]
-    regoal ! (λ (us : List Val). prop (WpFn 𝓤 𝓛.H 𝓣.C 𝓣.Λ fn us Post)) (λ j. (granules_told x.bytes x.tags vss.0 are.0.0 ∙ (λ k. granules_val (lies.0 k) (lies.1 k) ∷ [])) j ++ (are.1.0.0 j ++ [])) refl $
+    regoal ! (λ (us : List Val). prop (WpFn 𝓤 𝓛.H 𝓣.C 𝓣.Λ fn us Post))
+    (λ j. (granules_told x.bytes x.tags vss.0 are.0.0 ∙ (λ k. granules_val (lies.0 k) (lies.1 k) ∷ [])) j ++ (are.1.0.0 j ++ [])) refl $
     enter ! 𝓣.C 𝓣.Λ fn (granules_val here tags ∷ vint w64 i ∷ []) Post $
     alloc_all ! (λ l. pass_all ! refl ((tt, (tt, (tt, tt))), ((tt, record { fits = are.1.0.1 }), tt)) $ let En : Env 𝓤 𝓛.H = env fn.locals l in
     sets ! (of_opd ! (get_in ! (fld ! refl (stop !)) (sub ! 0 refl (whole !)))) refl (tt, tt) $

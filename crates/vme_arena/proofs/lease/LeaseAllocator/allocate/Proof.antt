@@ -26,7 +26,10 @@ allocate_spec 𝓤 𝓛 𝓜 𝓡 wired =
     let 𝓣 = tables 𝓤 𝓛.H 𝓜 𝓡 𝓡.env in
     let C = 𝓣.C in
     let Λ = 𝓣.Λ in
-    proved_at 𝓛 ended stays c 𝓜 𝓡 (Goes-dropped 𝓛 2 (param 0 ps) ended.kept.0 (λ κs x f. refl), (Goes-dropped 𝓛 2 (param 1 ps) ended.kept.1.0 (λ κs x f. refl), (Goes-dropped 𝓛 2 (param 2 ps) ended.kept.1.1.0 (λ κs x f. refl), tt))) #self fn (compiled.unfolded 𝓤 𝓛.H 𝓜 𝓡 wired) (λ z are.
+    proved_at 𝓛 ended stays c 𝓜 𝓡 (
+      Goes-dropped 𝓛 2 (param 0 ps) ended.kept.0 (λ κs x f. refl),
+      (Goes-dropped 𝓛 2 (param 1 ps) ended.kept.1.0 (λ κs x f. refl), (Goes-dropped 𝓛 2 (param 2 ps) ended.kept.1.1.0 (λ κs x f. refl), tt)),
+    ) #self fn (compiled.unfolded 𝓤 𝓛.H 𝓜 𝓡 wired) (λ z are.
     let Post : Val → SProp 𝓤 = (walk_of 𝓛 ended stays c).post z in
     let a = z.0.3 in
     let vss = z.0.4 in
@@ -44,8 +47,10 @@ allocate_spec 𝓤 𝓛 𝓜 𝓡 wired =
     regoal ! (λ (us : List Val). prop (WpFn 𝓤 𝓛.H C Λ fn us Post)) told refl $
     enter ! C Λ fn vs Post $
     alloc_all ! (λ l. pass_all ! refl ((tt, tt), ((tt, record { fits = are.1.0.1 }), ((tt, record { fits = are.1.1.0.1 }), tt))) $ let En : Env 𝓤 𝓛.H = env fn.locals l in
-    calls_from ! (fm 𝓛 𝓜 𝓡) (raw (k.pre y)) vs (k.post y) (subst (λ (us : List Val). ent 𝓤 (k.pre y) (C take_key.name us (k.post y))) told (takes 𝓤 𝓛 𝓜 𝓡 (compiled.calls-vme_arena::lease::Lease::take 𝓡.env wired) y)) (and_then ! (get ! refl) (and_then ! (get ! refl) (and_then ! (get ! refl) (no_more !)))) (λ v.
-    use1 𝓛 (later (some (λ (x : Answered.Denot). (raw (alive 𝓛 ended.signature z.0.0 z.0.1) ⊛ ‵ (Answered.own_val x (v ∷ []))) ⊛ some (λ (ls : Lasts callee.ended z.0.0 a). ‵ (lasts callee.ended z.0.0 a ls) ⊛ raw (fact 𝓤 (Told s n al x)))))) (id⊢ 𝓤 (k.post y v)) $
+    calls_from ! (fm 𝓛 𝓜 𝓡) (raw (k.pre y)) vs (k.post y) (subst (λ (us : List Val). ent 𝓤 (k.pre y) (C take_key.name us (k.post y))) told
+    (takes 𝓤 𝓛 𝓜 𝓡 (compiled.calls-vme_arena::lease::Lease::take 𝓡.env wired) y)) (and_then ! (get ! refl) (and_then ! (get ! refl) (and_then ! (get ! refl) (no_more !)))) (λ v.
+    use1 𝓛 (later (some (λ (x : Answered.Denot). (raw (alive 𝓛 ended.signature z.0.0 z.0.1) ⊛ ‵ (Answered.own_val x (v ∷ []))) ⊛ some
+    (λ (ls : Lasts callee.ended z.0.0 a). ‵ (lasts callee.ended z.0.0 a ls) ⊛ raw (fact 𝓤 (Told s n al x)))))) (id⊢ 𝓤 (k.post y v)) $
     await ! tt $ pick ! (λ x. split ! $ move ! (1 ∷ []) $ pick ! (λ _. split ! $ drop ! $ heard ! (Told s n al x) (λ said. split ! $ move ! (1 ∷ []) $
     answered ! s n al x v said
     (λ at lies small slim e. let p : Ptr = block_ptr s.block at in
@@ -56,7 +61,8 @@ allocate_spec 𝓤 𝓛 𝓜 𝓡 wired =
     exec ! C Λ En (after 2 fn.body) (at_ret En Post) $
     sets ! (of_opd ! (get ! refl)) refl (tt, (record { fits = lit< tt }, (tt, tt))) $
     returns ! (look_at ! 0 refl) $ free_all ! refl $
-    use0 𝓛 (‵ (Answer.own_val (Ok p) (answer_val true s.block at ∷ []))) (Answer-Ok 𝓛 s.block at) $ nothing ! $ nothing ! $ fjoin ! $ nothing ! $ fjoin ! $ nothing ! $ fjoin ! $ move ! (3 ∷ 0 ∷ 1 ∷ 2 ∷ []) $
+    use0 𝓛 (‵ (Answer.own_val (Ok p) (answer_val true s.block at ∷ []))) (Answer-Ok 𝓛 s.block at) $
+    nothing ! $ nothing ! $ fjoin ! $ nothing ! $ fjoin ! $ nothing ! $ fjoin ! $ move ! (3 ∷ 0 ∷ 1 ∷ 2 ∷ []) $
     by ! (leaves 𝓛 ended stays c z (answer_val true s.block at) (Ok p) (tt, (tt, (tt, tt))) (tt, (tt, (tt, tt)))))
     (λ e. nothing ! $ lands_as ! e refl (tt, (record { fits = lit< tt }, tt)) $
     first ! $ switches_on ! (get_tag ! (vrt ! refl (fld ! refl (stop !))) (whole !)) $ exec ! C Λ En (arm_body 1 (head (after 1 fn.body))) (going_on 𝓛 C Λ En (after 2 fn.body) (at_ret En Post)) $
@@ -65,5 +71,6 @@ allocate_spec 𝓤 𝓛 𝓜 𝓡 wired =
     exec ! C Λ En (after 2 fn.body) (at_ret En Post) $
     sets ! (of_opd ! (get ! refl)) refl (tt, (record { fits = lit< tt }, (tt, tt))) $
     returns ! (look_at ! 0 refl) $ free_all ! refl $
-    use0 𝓛 (‵ (Answer.own_val (Err (record {})) (answer_val false 0 0 ∷ []))) (Answer-err 𝓛) $ nothing ! $ nothing ! $ fjoin ! $ nothing ! $ fjoin ! $ nothing ! $ fjoin ! $ move ! (3 ∷ 0 ∷ 1 ∷ 2 ∷ []) $
+    use0 𝓛 (‵ (Answer.own_val (Err (record {})) (answer_val false 0 0 ∷ []))) (Answer-err 𝓛) $ nothing ! $
+    nothing ! $ fjoin ! $ nothing ! $ fjoin ! $ nothing ! $ fjoin ! $ move ! (3 ∷ 0 ∷ 1 ∷ 2 ∷ []) $
     by ! (leaves 𝓛 ended stays c z (answer_val false 0 0) (Err (record {})) (tt, (tt, (tt, tt))) (tt, (tt, (tt, tt))))))))))))

@@ -23,7 +23,11 @@ free_spec 𝓤 𝓛 𝓜 𝓡 wired A L g d dd met md =
     let stays : Stays ps En.kept = (stay_dropped (param 0 ps) En.kept.0, (stay_dropped (param 1 ps) En.kept.1.0, (stay_dropped (param 2 ps) En.kept.1.1.0, tt))) in
     let c = clauses A g d dd 𝓛 𝓜.mem 𝓡.returns in
     let 𝓣 = tables 𝓤 𝓛.H 𝓜 𝓡 𝓡.env in
-    proved_at 𝓛 En stays c 𝓜 𝓡 (Goes-blank 𝓛 2 (param 0 ps) En.kept.0 (λ κs x f. tt), (Goes-blank 𝓛 2 (param 1 ps) En.kept.1.0 (λ κs x f. tt), (Goes-dropped 𝓛 2 (param 2 ps) En.kept.1.1.0 (λ κs x f. refl), tt))) (#self args) fn (compiled.unfolded 𝓤 𝓛.H 𝓜 𝓡 wired (A, tt) d dd) (λ z are.
+    proved_at 𝓛 En stays c 𝓜 𝓡 (
+      Goes-blank 𝓛 2 (param 0 ps) En.kept.0 (λ κs x f. tt),
+      (Goes-blank 𝓛 2 (param 1 ps) En.kept.1.0 (λ κs x f. tt), (Goes-dropped 𝓛 2 (param 2 ps) En.kept.1.1.0 (λ κs x f. refl), tt)),
+    )
+    (#self args) fn (compiled.unfolded 𝓤 𝓛.H 𝓜 𝓡 wired (A, tt) d dd) (λ z are.
     let Post : Val → SProp 𝓤 = (walk_of 𝓛 En stays c).post z in
     let a = z.0.3 in
     let vss = z.0.4 in
@@ -53,7 +57,8 @@ free_spec 𝓤 𝓛 𝓜 𝓡 wired A L g d dd met md =
     sets ! (of_opd ! (get_in ! (fld ! refl (stop !)) (sub ! 0 refl (whole !)))) refl (tt, tt) $
     sets ! (of_opd ! (get_in ! (fld ! refl (stop !)) (sub ! 1 refl (whole !)))) refl (tt, record { fits = told.1 }) $
     first ! $ blocks ! $
-    use3 𝓛 (raw ((Gives Y 𝓛 𝓜.mem 𝓡.returns).pre y)) (Gives-goes Y 𝓛 𝓜.mem 𝓡.returns κ q handle h (⊑_trans κ α A.lives z.0.2.0 le) b o n 16 τ (capped_is (n / 16 * 16) (omega arith) ∙ omega arith) refl told.1 (lit< tt)) $
+    use3 𝓛 (raw ((Gives Y 𝓛 𝓜.mem 𝓡.returns).pre y)) (Gives-goes Y 𝓛 𝓜.mem 𝓡.returns κ q handle h
+    (⊑_trans κ α A.lives z.0.2.0 le) b o n 16 τ (capped_is (n / 16 * 16) (omega arith) ∙ omega arith) refl told.1 (lit< tt)) $
     calls_at_last ! (fm 𝓛 𝓜 𝓡) (Gives Y 𝓛 𝓜.mem 𝓡.returns) (met.deallocate dd) y (and_then ! (get ! refl) (and_then ! (get ! refl) (and_then ! (get ! refl) (and_then ! (lit ! tt) (no_more !))))) (λ v.
     use1 𝓛 (later (given (v ≡ vunit) (‵ (flft κ q)))) (Gives-Gives Y 𝓛 𝓜.mem 𝓡.returns κ q handle h b o n 16 τ v) $ await ! tt $ learn ! (λ e. join ! $
     regoal ! (λ (u : Val). settles E (place 6 []) u (leaving 𝓛 (going_on 𝓛 𝓣.C 𝓣.Λ E (after 3 fn.body) (at_ret E Post)))) e refl $ lands_last ! refl (tt, tt) $

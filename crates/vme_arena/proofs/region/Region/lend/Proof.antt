@@ -53,12 +53,14 @@ lend_spec 𝓤 𝓛 𝓜 𝓡 wired =
     pure_l ! (granules_own y.bytes y.tags ws.0) (λ w. let told = granules_told y.bytes y.tags ws.0 w ∙ (λ i. granules_val (lies.0 i) (lies.1 i) ∷ []) in
     let v : Val = region_val g ws.1.0 in fsplit ! $
     -- [those at home; the blank ones; the origin; the cell; the open borrow, in three entries]
-    rewrite ! 3 (λ (xs : List Val). ‵ (cell_at full_share R.mir xs b o)) (e ∙ (λ i. vstruct (of_list (told i ++ (ws.1.0 ++ []))) ∷ [])) refl $ move ! (3 ∷ 0 ∷ 1 ∷ 2 ∷ []) $ use1 𝓛 (‵ (fat full_share region_type b o v)) (id⊢ 𝓤 _) $
+    rewrite ! 3 (λ (xs : List Val). ‵ (cell_at full_share R.mir xs b o)) (e ∙ (λ i. vstruct (of_list (told i ++ (ws.1.0 ++ []))) ∷ [])) refl $
+    move ! (3 ∷ 0 ∷ 1 ∷ 2 ∷ []) $ use1 𝓛 (‵ (fat full_share region_type b o v)) (id⊢ 𝓤 _) $
     sets ! (of_opd ! (load ! (through ! refl (fld ! refl (fld ! refl (stop !)))) (look_in ! 0 (sub ! 0 refl (sub ! 0 refl (whole !)))))) refl (tt, tt) $
     sets ! (of_opd ! (load ! (through ! refl (fld ! refl (fld ! refl (stop !)))) (look_in ! 0 (sub ! 1 refl (sub ! 0 refl (whole !)))))) refl (tt, tt) $
     sets ! (agg ! (no_more !)) refl (tt, tt) $
     sets ! (agg ! (and_then ! (get ! refl) (and_then ! (get ! refl) (and_then ! (get ! refl) (no_more !))))) refl (tt, (tt, (tt, (tt, tt)))) $
-    use0 𝓛 (‵ (granules_own y.bytes y.tags (granules_val y.bytes y.tags ∷ []))) (granules_made 𝓛 y.bytes y.tags) $ rewrite ! 0 (λ (r : Ptr × Ptr). ‵ (granules_own y.bytes y.tags (granules_val r.0 r.1 ∷ []))) (λ i. (lies.0 i, lies.1 i)) refl $
+    use0 𝓛 (‵ (granules_own y.bytes y.tags (granules_val y.bytes y.tags ∷ []))) (granules_made 𝓛 y.bytes y.tags) $
+    rewrite ! 0 (λ (r : Ptr × Ptr). ‵ (granules_own y.bytes y.tags (granules_val r.0 r.1 ∷ []))) (λ i. (lies.0 i, lies.1 i)) refl $
     -- [the fields; the cell; those at home; the blank ones; the origin; the open borrow, in three
     -- entries]
     move ! (1 ∷ 7 ∷ []) $ join ! $ move ! (4 ∷ 0 ∷ []) $ join ! $ move ! (1 ∷ 0 ∷ []) $ join ! $ move ! (2 ∷ 0 ∷ []) $ join ! $ move ! (2 ∷ 1 ∷ 0 ∷ []) $
@@ -71,5 +73,6 @@ lend_spec 𝓤 𝓛 𝓜 𝓡 wired =
     let d : L.Denot = record { bytes = here; tags = tags; marker = record {}; count = n; spot = s; placed = (refl, refl, omega arith, omega arith); name = γ' } in
     let Shown : Type 0 = (n ≡ n) × (s ≡ s) in
     move ! (1 ∷ []) $ use0 𝓛 (‵ (loan_own here tags (u ∷ []))) (loan_made 𝓛 here tags) $ fjoin ! $
-    keep ! (2 ∷ 4 ∷ 0 ∷ 1 ∷ []) $ join ! $ move ! (2 ∷ []) $ use0 𝓛 (raw (fact 𝓤 Shown)) (fact_i 𝓤 Shown (emp 𝓤) (refl, refl)) $ join ! $ nothing ! $ nothing ! $ fjoin ! $ move ! (2 ∷ 0 ∷ 3 ∷ 1 ∷ []) $
+    keep ! (2 ∷ 4 ∷ 0 ∷ 1 ∷ []) $ join ! $ move ! (2 ∷ []) $ use0 𝓛 (raw (fact 𝓤 Shown)) (fact_i 𝓤 Shown (emp 𝓤) (refl, refl)) $
+    join ! $ nothing ! $ nothing ! $ fjoin ! $ move ! (2 ∷ 0 ∷ 3 ∷ 1 ∷ []) $
     by ! (leaves 𝓛 ended stays c z u d (tt, tt) (tt, tt)))))))))
