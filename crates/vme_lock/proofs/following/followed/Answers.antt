@@ -14,11 +14,9 @@ overflow_add-ends c =
     let found = c.in_ok-log.ensures.lookup in
     let mine = slice_get_read logs (length logs) _ c.in_ok-log.log.now refl found.3.0 found.1 in
     let desk_is = sym c.desk_of.ensures ∙ c.in_ok-desk.was in
-    omega (
-      arith,
-      end_within xs c.args.numbers.now c.loop-place.ends logs c.loop-place.place c.in_ok-desk.desk c.edge_at-edge.result c.in_ok-log.log.now
-          c.loop-place.invariant.1 c.edge_at-edge.ensures desk_is mine,
-    )
+    let log = c.in_ok-log.log.now in
+    let most = end_within xs c.args.numbers.now c.loop-place.ends logs c.loop-place.place c.in_ok-desk.desk c.edge_at-edge.result log c.loop-place.invariant.1 in
+    omega (arith, most c.edge_at-edge.ensures desk_is mine)
 
 pub loop-place-preserved : goal.loop-place-preserved
 loop-place-preserved c =

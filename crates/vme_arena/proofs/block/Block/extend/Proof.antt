@@ -27,10 +27,9 @@ extend_spec 𝓤 𝓛 𝓜 𝓡 wired T L =
     let stays : Stays ps En.kept = (stay_dropped (param 0 ps) En.kept.0, (stay_dropped (param 1 ps) En.kept.1.0, (stay_dropped (param 2 ps) En.kept.1.1.0, tt))) in
     let c = clauses T 𝓛 𝓜.mem 𝓡.returns in
     let 𝓣 = tables 𝓤 𝓛.H 𝓜 𝓡 𝓡.env in
-    proved_at 𝓛 En stays c 𝓜 𝓡 (
-      Goes-blank 𝓛 1 (param 0 ps) En.kept.0 (λ κs x f. tt),
-      (Goes-blank 𝓛 1 (param 1 ps) En.kept.1.0 (λ κs x f. tt), (Goes-dropped 𝓛 1 (param 2 ps) En.kept.1.1.0 (λ κs x f. refl), tt)),
-    ) (#self args) fn (compiled.unfolded 𝓤 𝓛.H 𝓜 𝓡 wired (T, tt)) (λ z are.
+    proved_at 𝓛 En stays c 𝓜 𝓡
+    (Goes-blank 𝓛 1 (param 0 ps) En.kept.0 (λ κs x f. tt), (Goes-blank 𝓛 1 (param 1 ps) En.kept.1.0 (λ κs x f. tt), (Goes-dropped 𝓛 1 (param 2 ps) En.kept.1.1.0 (λ κs x f. refl), tt)))
+    (#self args) fn (compiled.unfolded 𝓤 𝓛.H 𝓜 𝓡 wired (T, tt)) (λ z are.
     let Post : Val → SProp 𝓤 = (walk_of 𝓛 En stays c).post z in
     let a = z.0.3 in
     let vss = z.0.4 in

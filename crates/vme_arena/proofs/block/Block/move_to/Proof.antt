@@ -32,20 +32,12 @@ move_to_spec 𝓤 𝓛 𝓜 𝓡 wired T L =
     let args : Args = layouts (a_type ∷ []) (T, tt) in
     let fn : Fn = inst_fn args compiled.function in
     let ps = En.signature.params in
-    let stays : Stays ps En.kept = (
-      stay_dropped (param 0 ps) En.kept.0,
-      (stay_dropped (param 1 ps) En.kept.1.0, (stay_dropped (param 2 ps) En.kept.1.1.0, (stay_dropped (param 3 ps) En.kept.1.1.1.0, tt))),
-    ) in
+    let stays : Stays ps En.kept =
+    (stay_dropped (param 0 ps) En.kept.0, (stay_dropped (param 1 ps) En.kept.1.0, (stay_dropped (param 2 ps) En.kept.1.1.0, (stay_dropped (param 3 ps) En.kept.1.1.1.0, tt)))) in
     let c = clauses T 𝓛 𝓜.mem 𝓡.returns in
     let 𝓣 = tables 𝓤 𝓛.H 𝓜 𝓡 𝓡.env in
-    proved_at 𝓛 En stays c 𝓜 𝓡 (
-      Goes-blank 𝓛 1 (param 0 ps) En.kept.0 (λ κs x f. tt),
-      (
-        Goes-blank 𝓛 1 (param 1 ps) En.kept.1.0 (λ κs x f. tt),
-        (Goes-dropped 𝓛 1 (param 2 ps) En.kept.1.1.0 (λ κs x f. refl), (Goes-dropped 𝓛 1 (param 3 ps) En.kept.1.1.1.0 (λ κs x f. refl), tt)),
-      ),
-    )
-    (#self args) fn (compiled.unfolded 𝓤 𝓛.H 𝓜 𝓡 wired (T, tt)) (λ z are.
+    proved_at 𝓛 En stays c 𝓜 𝓡
+    (Goes-blank 𝓛 1 (param 0 ps) En.kept.0 (λ κs x f. tt), (Goes-blank 𝓛 1 (param 1 ps) En.kept.1.0 (λ κs x f. tt), (Goes-dropped 𝓛 1 (param 2 ps) En.kept.1.1.0 (λ κs x f. refl), (Goes-dropped 𝓛 1 (param 3 ps) En.kept.1.1.1.0 (λ κs x f. refl), tt)))) (#self args) fn (compiled.unfolded 𝓤 𝓛.H 𝓜 𝓡 wired (T, tt)) (λ z are.
     let Post : Val → SProp 𝓤 = (walk_of 𝓛 En stays c).post z in
     let a = z.0.3 in
     let vss = z.0.4 in
@@ -87,10 +79,8 @@ move_to_spec 𝓤 𝓛 𝓜 𝓡 wired T L =
     regoal ! (λ (us : List Val). prop (WpFn 𝓤 𝓛.H 𝓣.C 𝓣.Λ fn us Post)) (λ i. (block_told x.ptr vss.0 are.0.0 ∙ ap (λ (p : Ptr). block_val p ∷ []) lies.0.0) i ++
     ((piece_told y.ptr vss.1.0 are.1.0.0 ∙ ap (λ (p : Ptr). piece_val p ∷ []) next) i ++ (are.1.1.0.0 i ++ (are.1.1.1.0.0 i ++ [])))) refl $
     enter ! 𝓣.C 𝓣.Λ fn (block_val from ∷ piece_val to ∷ vint w64 len ∷ vint w64 new ∷ []) Post $
-    alloc_all ! (λ l. pass_all ! refl (
-      (tt, (tt, (tt, tt))),
-      ((tt, (tt, tt)), ((tt, record { fits = are.1.1.0.1 }), ((tt, record { fits = are.1.1.1.0.1 }), tt))),
-    ) $ let here : Env 𝓤 𝓛.H = env fn.locals l in
+    alloc_all ! (λ l. pass_all ! refl ((tt, (tt, (tt, tt))), ((tt, (tt, tt)), ((tt, record { fits = are.1.1.0.1 }), ((tt, record { fits = are.1.1.1.0.1 }), tt)))) $
+    let here : Env 𝓤 𝓛.H = env fn.locals l in
     use1 𝓛 (‵ (froom τ₁ b y.at) ⊛ ‵ (token_at t y.at τ₁ to)) (hands_at 𝓛 t τ₁ y.at (new * s) cut placed small) $ split ! $
     use1 𝓛 (‵ (froom (ty_array τ len) b y.at) ⊛ ‵ (froom (block_type E (new - len)) b (y.at + len * s))) (parted E 𝓛 len new b y.at counts.1) $ split ! $ move ! (3 ∷ 0 ∷ 6 ∷ []) $
     sets ! (of_opd ! (get_in ! (fld ! refl (stop !)) (sub ! 0 refl (whole !)))) refl (tt, tt) $

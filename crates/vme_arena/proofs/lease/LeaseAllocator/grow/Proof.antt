@@ -32,25 +32,14 @@ grow_spec 𝓤 𝓛 𝓜 𝓡 wired T L =
     let args : Args = layouts (a_type ∷ []) (T, tt) in
     let fn : Fn = inst_fn args compiled.function in
     let ps = En.signature.params in
-    let stays : Stays ps En.kept = (
-      stay_dropped (param 0 ps) En.kept.0,
-      (stay_dropped (param 1 ps) En.kept.1.0, (stay_dropped (param 2 ps) En.kept.1.1.0, (stay_dropped (param 3 ps) En.kept.1.1.1.0, (stay_dropped (param 4 ps) En.kept.1.1.1.1.0, tt)))),
-    ) in
+    let stays : Stays ps En.kept =
+    (stay_dropped (param 0 ps) En.kept.0, (stay_dropped (param 1 ps) En.kept.1.0, (stay_dropped (param 2 ps) En.kept.1.1.0, (stay_dropped (param 3 ps) En.kept.1.1.1.0, (stay_dropped (param 4 ps) En.kept.1.1.1.1.0, tt))))) in
     let c = clauses T 𝓛 𝓜.mem 𝓡.returns in
     let 𝓣 = tables 𝓤 𝓛.H 𝓜 𝓡 𝓡.env in
     let C = 𝓣.C in
     let Λ = 𝓣.Λ in
-    proved_at 𝓛 En stays c 𝓜 𝓡 (
-      Goes-dropped 𝓛 3 (param 0 ps) En.kept.0 (λ κs x f. refl),
-      (
-        Goes-dropped 𝓛 3 (param 1 ps) En.kept.1.0 (λ κs x f. refl),
-        (
-          Goes-dropped 𝓛 3 (param 2 ps) En.kept.1.1.0 (λ κs x f. refl),
-          (Goes-dropped 𝓛 3 (param 3 ps) En.kept.1.1.1.0 (λ κs x f. refl), (Goes-dropped 𝓛 3 (param 4 ps) En.kept.1.1.1.1.0 (λ κs x f. refl), tt)),
-        ),
-      ),
-    )
-    (#self args) fn (compiled.unfolded 𝓤 𝓛.H 𝓜 𝓡 wired (T, tt)) (λ z are.
+    proved_at 𝓛 En stays c 𝓜 𝓡
+    (Goes-dropped 𝓛 3 (param 0 ps) En.kept.0 (λ κs x f. refl), (Goes-dropped 𝓛 3 (param 1 ps) En.kept.1.0 (λ κs x f. refl), (Goes-dropped 𝓛 3 (param 2 ps) En.kept.1.1.0 (λ κs x f. refl), (Goes-dropped 𝓛 3 (param 3 ps) En.kept.1.1.1.0 (λ κs x f. refl), (Goes-dropped 𝓛 3 (param 4 ps) En.kept.1.1.1.1.0 (λ κs x f. refl), tt))))) (#self args) fn (compiled.unfolded 𝓤 𝓛.H 𝓜 𝓡 wired (T, tt)) (λ z are.
     let Post : Val → SProp 𝓤 = (walk_of 𝓛 En stays c).post z in
     let a = z.0.3 in
     let vss = z.0.4 in
@@ -72,24 +61,11 @@ grow_spec 𝓤 𝓛 𝓜 𝓡 wired T L =
     let p : Ptr = block_ptr t.block at in move ! (1 ∷ 2 ∷ 0 ∷ []) $ fjoin3 ! $ rewrite ! 0 (λ (r : Ptr). ‵ (block_with_items (token_at t at) R r len old xs)) lies.0.0 refl $
     let x : (block.the_row R).Denot = record { ptr = p; marker = record {}; stretch = t; at = at; len = len; cap = old; items = xs } in
     let w : (piece.the_row).Denot = record { ptr = p; block = t.block; at = at; size = 0; placed = (refl, omega (arith, lies.0.1), refl) } in
-    let y : k.Ghost = (
-      (
-        z.0.0,
-        z.0.1,
-        z.0.2,
-        (a.0, (x, (w, (len, (old, (new, tt)))))),
-        (me ∷ [], (block_val p ∷ [], (piece_val p ∷ [], (vint w64 len ∷ [], (vint w64 old ∷ [], (vint w64 new ∷ [], tt)))))),
-      ),
-      tt,
-    ) in
+    let y : k.Ghost = ((z.0.0, z.0.1, z.0.2, (a.0, (x, (w, (len, (old, (new, tt)))))), (me ∷ [], (block_val p ∷ [], (piece_val p ∷ [], (vint w64 len ∷ [], (vint w64 old ∷ [], (vint w64 new ∷ [], tt))))))), tt) in
     let Held : Type 0 = (t ≡ t) × (len ≡ len) × (old ≡ old) in
     let Started : Type 0 = LiesIn t at (block_size (old * s)) p × (t.block ≡ t.block) × (at ≡ at) in
-    let started : Started = (
-      subst (λ (j : ℕ). LiesIn t at j p) (ap block_size (block_bytes E old))
-          (subst (λ (r : Ptr). LiesIn t at (block_size (size (block_type E old))) r) lies.0.0 lies),
-      refl,
-      refl,
-    ) in
+    let started : Started =
+    (subst (λ (j : ℕ). LiesIn t at j p) (ap block_size (block_bytes E old)) (subst (λ (r : Ptr). LiesIn t at (block_size (size (block_type E old))) r) lies.0.0 lies), refl, refl) in
     use0 𝓛 (‵ (block_own p (block_val p ∷ []))) (block_made 𝓛 p) $ fjoin ! $
     use0 𝓛 (‵ (units_at p 0)) (𝓛.laws.room_nil (ty_int w128) t.block at) $ use0 𝓛 (‵ (piece_own p (piece_val p ∷ []))) (piece_made 𝓛 p) $ fjoin ! $
     nothing ! $ flt_i ! new (2 ^ 64) are.1.1.1.1.0.1 $ feq_i ! (List Val) (vint w64 new ∷ []) (vint w64 new ∷ []) refl $ fjoin ! $ fjoin ! $
@@ -102,16 +78,8 @@ grow_spec 𝓤 𝓛 𝓜 𝓡 wired T L =
     regoal ! (λ (us : List Val). prop (WpFn 𝓤 𝓛.H C Λ fn us Post))
     (λ i. are.0.0 i ++ ((are.1.0 ∙ ap (λ (r : Ptr). ptr_val r ∷ []) lies.0.0) i ++ (are.1.1.0.0 i ++ (are.1.1.1.0.0 i ++ (are.1.1.1.1.0.0 i ++ []))))) refl $
     enter ! C Λ fn (me ∷ vptr t.block at ∷ vint w64 len ∷ vint w64 old ∷ vint w64 new ∷ []) Post $
-    alloc_all ! (λ l. pass_all ! refl (
-      (tt, tt),
-      (
-        (tt, tt),
-        (
-          (tt, record { fits = are.1.1.0.1 }),
-          ((tt, record { fits = are.1.1.1.0.1 }), ((tt, record { fits = are.1.1.1.1.0.1 }), tt)),
-        ),
-      ),
-    ) $ let here : Env 𝓤 𝓛.H = env fn.locals l in
+    alloc_all ! (λ l. pass_all ! refl ((tt, tt), ((tt, tt), ((tt, record { fits = are.1.1.0.1 }), ((tt, record { fits = are.1.1.1.0.1 }), ((tt, record { fits = are.1.1.1.1.0.1 }), tt))))) $
+    let here : Env 𝓤 𝓛.H = env fn.locals l in
     sets ! (agg ! (no_more !)) refl (tt, tt) $
     sets ! (of_opd ! (get ! refl)) refl (tt, tt) $
     sets ! (agg ! (and_then ! (get ! refl) (no_more !))) refl (tt, (tt, tt)) $

@@ -32,25 +32,14 @@ shrink_spec 𝓤 𝓛 𝓜 𝓡 wired T L =
     let args : Args = layouts (a_type ∷ []) (T, tt) in
     let fn : Fn = inst_fn args compiled.function in
     let ps = En.signature.params in
-    let stays : Stays ps En.kept = (
-      stay_dropped (param 0 ps) En.kept.0,
-      (stay_dropped (param 1 ps) En.kept.1.0, (stay_dropped (param 2 ps) En.kept.1.1.0, (stay_dropped (param 3 ps) En.kept.1.1.1.0, (stay_dropped (param 4 ps) En.kept.1.1.1.1.0, tt)))),
-    ) in
+    let stays : Stays ps En.kept =
+    (stay_dropped (param 0 ps) En.kept.0, (stay_dropped (param 1 ps) En.kept.1.0, (stay_dropped (param 2 ps) En.kept.1.1.0, (stay_dropped (param 3 ps) En.kept.1.1.1.0, (stay_dropped (param 4 ps) En.kept.1.1.1.1.0, tt))))) in
     let c = clauses T 𝓛 𝓜.mem 𝓡.returns in
     let 𝓣 = tables 𝓤 𝓛.H 𝓜 𝓡 𝓡.env in
     let C = 𝓣.C in
     let Λ = 𝓣.Λ in
-    proved_at 𝓛 En stays c 𝓜 𝓡 (
-      Goes-dropped 𝓛 3 (param 0 ps) En.kept.0 (λ κs x f. refl),
-      (
-        Goes-dropped 𝓛 3 (param 1 ps) En.kept.1.0 (λ κs x f. refl),
-        (
-          Goes-dropped 𝓛 3 (param 2 ps) En.kept.1.1.0 (λ κs x f. refl),
-          (Goes-dropped 𝓛 3 (param 3 ps) En.kept.1.1.1.0 (λ κs x f. refl), (Goes-dropped 𝓛 3 (param 4 ps) En.kept.1.1.1.1.0 (λ κs x f. refl), tt)),
-        ),
-      ),
-    )
-    (#self args) fn (compiled.unfolded 𝓤 𝓛.H 𝓜 𝓡 wired (T, tt)) (λ z are.
+    proved_at 𝓛 En stays c 𝓜 𝓡
+    (Goes-dropped 𝓛 3 (param 0 ps) En.kept.0 (λ κs x f. refl), (Goes-dropped 𝓛 3 (param 1 ps) En.kept.1.0 (λ κs x f. refl), (Goes-dropped 𝓛 3 (param 2 ps) En.kept.1.1.0 (λ κs x f. refl), (Goes-dropped 𝓛 3 (param 3 ps) En.kept.1.1.1.0 (λ κs x f. refl), (Goes-dropped 𝓛 3 (param 4 ps) En.kept.1.1.1.1.0 (λ κs x f. refl), tt))))) (#self args) fn (compiled.unfolded 𝓤 𝓛.H 𝓜 𝓡 wired (T, tt)) (λ z are.
     let Post : Val → SProp 𝓤 = (walk_of 𝓛 En stays c).post z in
     let a = z.0.3 in
     let vss = z.0.4 in
@@ -83,16 +72,8 @@ shrink_spec 𝓤 𝓛 𝓜 𝓡 wired T L =
     regoal ! (λ (us : List Val). prop (WpFn 𝓤 𝓛.H C Λ fn us Post))
     (λ i. are.0.0 i ++ ((are.1.0 ∙ ap (λ (r : Ptr). ptr_val r ∷ []) lies.0.0) i ++ (are.1.1.0.0 i ++ (are.1.1.1.0.0 i ++ (are.1.1.1.1.0.0 i ++ []))))) refl $
     enter ! C Λ fn (me ∷ vptr t.block at ∷ vint w64 len ∷ vint w64 old ∷ vint w64 new ∷ []) Post $
-    alloc_all ! (λ l. pass_all ! refl (
-      (tt, tt),
-      (
-        (tt, tt),
-        (
-          (tt, record { fits = are.1.1.0.1 }),
-          ((tt, record { fits = are.1.1.1.0.1 }), ((tt, record { fits = are.1.1.1.1.0.1 }), tt)),
-        ),
-      ),
-    ) $ let here : Env 𝓤 𝓛.H = env fn.locals l in
+    alloc_all ! (λ l. pass_all ! refl ((tt, tt), ((tt, tt), ((tt, record { fits = are.1.1.0.1 }), ((tt, record { fits = are.1.1.1.0.1 }), ((tt, record { fits = are.1.1.1.1.0.1 }), tt))))) $
+    let here : Env 𝓤 𝓛.H = env fn.locals l in
     sets ! (agg ! (no_more !)) refl (tt, tt) $
     sets ! (agg ! (and_then ! (get ! refl) (and_then ! (get ! refl) (no_more !)))) refl (tt, (tt, (tt, tt))) $
     calls_at ! (fm 𝓛 𝓜 𝓡) k (resizes 𝓤 𝓛 𝓜 𝓡 (compiled.calls-vme_arena::lease::Lease::shrunk 𝓡.env wired) T L) y

@@ -16,10 +16,8 @@ split_spec 𝓤 𝓛 𝓜 𝓡 wired =
     let stays : Stays ps ended.kept = (stay_dropped (param 0 ps) ended.kept.0, (stay_dropped (param 1 ps) ended.kept.1.0, tt)) in
     let c = clauses 𝓛 𝓜.mem 𝓡.returns in
     let 𝓣 = tables 𝓤 𝓛.H 𝓜 𝓡 𝓡.env in
-    proved_at 𝓛 ended stays c 𝓜 𝓡 (
-      Goes-blank 𝓛 1 (param 0 ps) ended.kept.0 (λ κs x f. tt),
-      (Goes-dropped 𝓛 1 (param 1 ps) ended.kept.1.0 (λ κs x f. refl), tt),
-    ) #self fn (compiled.unfolded 𝓤 𝓛.H 𝓜 𝓡 wired) (λ z are.
+    proved_at 𝓛 ended stays c 𝓜 𝓡 (Goes-blank 𝓛 1 (param 0 ps) ended.kept.0 (λ κs x f. tt), (Goes-dropped 𝓛 1 (param 1 ps) ended.kept.1.0 (λ κs x f. refl), tt)) #self fn
+    (compiled.unfolded 𝓤 𝓛.H 𝓜 𝓡 wired) (λ z are.
     let Post : Val → SProp 𝓤 = (walk_of 𝓛 ended stays c).post z in
     let a = z.0.3 in
     let vss = z.0.4 in
@@ -57,15 +55,9 @@ split_spec 𝓤 𝓛 𝓜 𝓡 wired =
     returns ! (look_at ! 0 refl) $ free_all ! refl $
     let R : RattleType = type_at (param 0 ps) z.0.0 in
     let y : R.Denot = record { bytes = here; tags = tags; marker = record {}; count = f; spot = s; placed = (refl, refl, omega arith, omega arith); name = x.name } in
-    let w : R.Denot = record {
-      bytes = next;
-      tags = tags';
-      marker = record {};
-      count = m;
-      spot = record { block = s.block; at = s.at + far; tag = s.tag + f };
-      placed = (refl, refl, omega arith, omega arith);
-      name = x.name;
-    } in
+    let w : R.Denot = record
+    { bytes = next; tags = tags'; marker = record {}; count = m; spot = record { block = s.block; at = s.at + far; tag = s.tag + f }; placed = (refl, refl, omega arith, omega arith); name = x.name }
+    in
     let Front : Type 0 = (f ≡ f) × (s ≡ s) in
     let Behind : Type 0 = (f + m ≡ n) × (s.block ≡ s.block) × (s.at + far ≡ s.at + far) in
     use0 𝓛 (‵ (loan_own here tags (loan_val here tags ∷ []))) (loan_made 𝓛 here tags) $ fjoin ! $ move ! (1 ∷ []) $

@@ -23,10 +23,8 @@ free_spec 𝓤 𝓛 𝓜 𝓡 wired A L g d dd met md =
     let stays : Stays ps En.kept = (stay_dropped (param 0 ps) En.kept.0, (stay_dropped (param 1 ps) En.kept.1.0, (stay_dropped (param 2 ps) En.kept.1.1.0, tt))) in
     let c = clauses A g d dd 𝓛 𝓜.mem 𝓡.returns in
     let 𝓣 = tables 𝓤 𝓛.H 𝓜 𝓡 𝓡.env in
-    proved_at 𝓛 En stays c 𝓜 𝓡 (
-      Goes-blank 𝓛 2 (param 0 ps) En.kept.0 (λ κs x f. tt),
-      (Goes-blank 𝓛 2 (param 1 ps) En.kept.1.0 (λ κs x f. tt), (Goes-dropped 𝓛 2 (param 2 ps) En.kept.1.1.0 (λ κs x f. refl), tt)),
-    )
+    proved_at 𝓛 En stays c 𝓜 𝓡
+    (Goes-blank 𝓛 2 (param 0 ps) En.kept.0 (λ κs x f. tt), (Goes-blank 𝓛 2 (param 1 ps) En.kept.1.0 (λ κs x f. tt), (Goes-dropped 𝓛 2 (param 2 ps) En.kept.1.1.0 (λ κs x f. refl), tt)))
     (#self args) fn (compiled.unfolded 𝓤 𝓛.H 𝓜 𝓡 wired (A, tt) d dd) (λ z are.
     let Post : Val → SProp 𝓤 = (walk_of 𝓛 En stays c).post z in
     let a = z.0.3 in

@@ -23,10 +23,9 @@ replace_spec 𝓤 𝓛 𝓜 𝓡 wired =
     let stays : Stays ps ended.kept = (stay_dropped (param 0 ps) ended.kept.0, (stay_dropped (param 1 ps) ended.kept.1.0, tt)) in
     let c₀ = clauses 𝓛 𝓜.mem 𝓡.returns in
     let c = tokened 𝓛 ended stays c₀ in
-    proved_tokened 𝓛 ended stays c₀ 𝓜 𝓡 (
-      Goes-dropped 𝓛 2 (param 0 ps) ended.kept.0 (λ κs x f. refl),
-      (Goes-blank 𝓛 2 (param 1 ps) ended.kept.1.0 (λ κs. content_blank (denote.Signature.named_lft 2 1 tt κs)), tt),
-    ) #self fn (wired.0.0 #self refl) (λ C Λ z are.
+    proved_tokened 𝓛 ended stays c₀ 𝓜 𝓡
+    (Goes-dropped 𝓛 2 (param 0 ps) ended.kept.0 (λ κs x f. refl), (Goes-blank 𝓛 2 (param 1 ps) ended.kept.1.0 (λ κs. content_blank (denote.Signature.named_lft 2 1 tt κs)), tt)) #self fn
+    (wired.0.0 #self refl) (λ C Λ z are.
     let Post : Val → SProp 𝓤 = (walk_of 𝓛 ended stays c).post z in
     let a = z.0.3 in
     let vss = z.0.4 in
