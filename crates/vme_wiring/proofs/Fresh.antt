@@ -7,6 +7,7 @@ use Rattle.std.proofs.lemmas.Bool.Decides.{nat_tests}
 use Rattle.std.proofs.lemmas.Option.{slice_get_past}
 use Rattle.vme_model.specs.declared.signals.Version.{Version}
 use Rattle.vme_model.specs.declared.signals.Wire.TheVariants.{Bbsy, AddressStrobe, DataStrobe, Dtack}
+use Rattle.vme_model.specs.Sets.{bus_levels, irq_levels}
 use Rattle.vme_histories.proofs.Addressing.{none_on}
 use Rattle.vme_wiring.specs.Boards.{parts_of, place}
 use Rattle.vme_wiring.specs.Counts.{pulls, IsLines, no_pulls, high_pins}
@@ -17,7 +18,7 @@ use Rattle.vme_model.specs.declared.sets.ChainId.{ChainId}
 use Rattle.vme_model.specs.declared.signals.Driver.TheVariants.{Controller, Slot}
 use Rattle.vme_model.specs.Plan.{Plan, board, active, requests_on, interrupts_on, drives}
 use Rattle.vme_model.specs.Accepted.{IsAccepted}
-use Rattle.vme_model.specs.History.{shown, last_value, request_line, interrupt_line}
+use Rattle.vme_model.specs.History.{shown, last_value, line, request_line, interrupt_line}
 use Rattle.vme_model.specs.Views.{pins}
 use Rattle.vme_chain.specs.Segments.{Segments, all_high, segments_of}
 use Rattle.vme_chain.proofs.History.{holds_every_slot}
@@ -77,28 +78,22 @@ high_lines p = record {
     eight (suc (suc (suc (suc (suc (suc (suc (suc n)))))))) l = absurd (omega arith)
     eight n l = refl
 
+bus_alike : (s t : ℕ → Bool) → s 0 ≡ t 0 → s 1 ≡ t 1 → s 2 ≡ t 2 → s 3 ≡ t 3 → bus_levels s ≡ bus_levels t
+bus_alike s t a b c d = cc
+
+irq_alike : (s t : ℕ → Bool) → s 1 ≡ t 1 → s 2 ≡ t 2 → s 3 ≡ t 3 → s 4 ≡ t 4 → s 5 ≡ t 5 → s 6 ≡ t 6 → s 7 ≡ t 7 → irq_levels s ≡ irq_levels t
+irq_alike s t a b c d e f g = cc
+
 pub high_shared : (p : Plan) → high_pins ≡ pins p [] Controller
 high_shared p =
-    let shown_none : None ≡ shown p [] = sym (ap (option_and_then (λ s. last_value [] (Slot s))) (none_on p.slots)) in
-    let high = λ (test : Row → Bool). sym (no_line test p.rows) in
-    cc (
-      request 0,
-      request 1,
-      request 2,
-      request 3,
-      irq 1,
-      irq 2,
-      irq 3,
-      irq 4,
-      irq 5,
-      irq 6,
-      irq 7,
-      high (drives Bbsy),
-      high (drives AddressStrobe),
-      high (drives DataStrobe),
-      high (drives Dtack),
-      shown_none,
-    )
+    let a = bus_alike (λ n. false) (request_line p []) (request 0) (request 1) (request 2) (request 3) in
+    let b = irq_alike (λ n. false) (interrupt_line p []) (irq 1) (irq 2) (irq 3) (irq 4) (irq 5) (irq 6) (irq 7) in
+    let c : None ≡ shown p [] = sym (ap (option_and_then (λ s. last_value [] (Slot s))) (none_on p.slots)) in
+    let d : false ≡ line p [] Bbsy = sym (no_line (drives Bbsy) p.rows) in
+    let e : false ≡ line p [] AddressStrobe = sym (no_line (drives AddressStrobe) p.rows) in
+    let f : false ≡ line p [] DataStrobe = sym (no_line (drives DataStrobe) p.rows) in
+    let g : false ≡ line p [] Dtack = sym (no_line (drives Dtack) p.rows) in
+    cc (a, b, c, d, e, f, g)
   where
     request : (n : ℕ) → false ≡ request_line p [] n
     request n = sym (no_line (requests_on n) p.rows)

@@ -198,8 +198,11 @@ module _ (version : Version) (p : Plan) (h : List Edge) (w : Wiring) (s : ℕ) (
   pub reads_service : is_unserved (read_by w b) b.row ≡ is_unserved (readings p h (Slot s)) b.row
   reads_service = rw (own_is Irq, served_is)
 
+  pub of_row : (f : Row → Bool) → option_map_or f (board p s) true ≡ f b.row
+  of_row f = ap (λ (o : Option Row). option_map_or f o true) row_here
+
   pub waits_here : is_waiting version p h (Slot s) ≡ board_waits version (readings p h (Slot s)) b.row
-  waits_here = ap (λ (o : Option Row). option_map_or (board_waits version (readings p h (Slot s))) o true) row_here
+  waits_here = of_row (board_waits version (readings p h (Slot s)))
 
 -- the interrupter's own test
 its_level : (o : Option InterrupterRow) (i : InterrupterRow) (low done : Bool) → o ≡ Some i →
