@@ -96,12 +96,6 @@ on_level : (o : Option RequesterRow) (n m : ℕ) → is_some o ≡ true → opti
 on_level None n m some e = absurd (cc)
 on_level (Some q) n m some e = ap (λ x. x == m) e
 
-abbrev chains_by : Segments → Segments → Segments → Segments → Segments → Chains
-chains_by a b c d e = record { bg0 = a; bg1 = b; bg2 = c; bg3 = d; iack = e }
-
-all_chains : {a a' b b' c c' d d' : Segments} (e : Segments) → a ≡ a' → b ≡ b' → c ≡ c' → d ≡ d' → chains_by a b c d e ≡ chains_by a' b' c' d' e
-all_chains e f g i j = cc
-
 module _ (p : Plan) (h : List Edge) (s : ℕ) (r : Row) (fall : Bool) (v : Option Cycle) (k : Stands p s r) (d : IsDriven p h s r BgOut fall v) where
   abbrev passed : List Edge
   passed = at s BgOut fall v ∷ h
@@ -134,12 +128,12 @@ module _ (p : Plan) (h : List Edge) (s : ℕ) (r : Row) (fall : Bool) (v : Optio
 
   passes_by : (n : ℕ) → request_level r ≡ n → n < 4 → chains_of p passed ≡ with_output (grant_chain n) r.slot fall (chains_of p h)
   passes_by (suc (suc (suc (suc n)))) e l = absurd (omega arith)
-  passes_by n e l =
-      all_chains (segments_of p h chain.Iack)
-      (segments_are n 0 chain.Bg0 e refl (drive h Controller (Bg 0)))
-      (segments_are n 1 chain.Bg1 e refl (drive h Controller (Bg 1)))
-      (segments_are n 2 chain.Bg2 e refl (drive h Controller (Bg 2)))
-      (segments_are n 3 chain.Bg3 e refl (drive h Controller (Bg 3)))
+  passes_by n e l = cc (
+    segments_are n 0 chain.Bg0 e refl (drive h Controller (Bg 0)),
+    segments_are n 1 chain.Bg1 e refl (drive h Controller (Bg 1)),
+    segments_are n 2 chain.Bg2 e refl (drive h Controller (Bg 2)),
+    segments_are n 3 chain.Bg3 e refl (drive h Controller (Bg 3)),
+  )
 
   can_pass : (n : ℕ) → request_level r ≡ n → n < 4 → IsBefore (grant_chain n) (output_number (chain_at (grant_chain n) (chains_of p h)).active r.slot) fall (chains_of p h)
   can_pass n e l =
