@@ -31,18 +31,12 @@ extend_spec 𝓤 𝓛 𝓜 𝓡 wired T L =
     (Goes-blank 𝓛 1 (param 0 ps) En.kept.0 (λ κs x f. tt), (Goes-blank 𝓛 1 (param 1 ps) En.kept.1.0 (λ κs x f. tt), (Goes-dropped 𝓛 1 (param 2 ps) En.kept.1.1.0 (λ κs x f. refl), tt)))
     (#self args) fn (compiled.unfolded 𝓤 𝓛.H 𝓜 𝓡 wired (T, tt)) (λ z are.
     let Post : Val → SProp 𝓤 = (walk_of 𝓛 En stays c).post z in
-    let a = z.0.3 in
-    let vss = z.0.4 in
+    let a = z.0.3 in let vss = z.0.4 in
     let R : RattleType = parameter 0 T in
     let E : El = record { row = T; laws = L } in
     let s = size (layout T) in
-    let x = a.0 in
-    let y = a.1.0 in
-    let t = x.stretch in
-    let len = x.len in
-    let old = x.cap in
-    let new = a.1.1.0 in
-    let xs = x.items in
+    let x = a.0 in let y = a.1.0 in let t = x.stretch in let len = x.len in let old = x.cap in
+    let new = a.1.1.0 in let xs = x.items in
     let here : Ptr = block_ptr t.block x.at in
     let rear : Ptr = block_ptr t.block (x.at + old * s) in
     let Within : Type 0 = z.0.0.0 ⊑ T.lives in

@@ -39,22 +39,15 @@ move_to_spec 𝓤 𝓛 𝓜 𝓡 wired T L =
     proved_at 𝓛 En stays c 𝓜 𝓡
     (Goes-blank 𝓛 1 (param 0 ps) En.kept.0 (λ κs x f. tt), (Goes-blank 𝓛 1 (param 1 ps) En.kept.1.0 (λ κs x f. tt), (Goes-dropped 𝓛 1 (param 2 ps) En.kept.1.1.0 (λ κs x f. refl), (Goes-dropped 𝓛 1 (param 3 ps) En.kept.1.1.1.0 (λ κs x f. refl), tt)))) (#self args) fn (compiled.unfolded 𝓤 𝓛.H 𝓜 𝓡 wired (T, tt)) (λ z are.
     let Post : Val → SProp 𝓤 = (walk_of 𝓛 En stays c).post z in
-    let a = z.0.3 in
-    let vss = z.0.4 in
+    let a = z.0.3 in let vss = z.0.4 in
     let κ : Lft = z.0.0.0 in
     let q : Share = z.0.1.0 in
     let R : RattleType = parameter 0 T in
     let E : El = record { row = T; laws = L } in
     let τ : Ty = layout T in
     let s = size τ in
-    let x = a.0 in
-    let y = a.1.0 in
-    let t = x.stretch in
-    let b = t.block in
-    let len = a.1.1.0 in
-    let old = x.cap in
-    let new = a.1.1.1.0 in
-    let xs = x.items in
+    let x = a.0 in let y = a.1.0 in let t = x.stretch in let b = t.block in let len = a.1.1.0 in
+    let old = x.cap in let new = a.1.1.1.0 in let xs = x.items in
     let τ₀ : Ty = block_type E old in
     let τ₁ : Ty = block_type E new in
     let m = block_size (size τ₀) in

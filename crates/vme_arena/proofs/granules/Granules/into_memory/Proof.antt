@@ -23,15 +23,9 @@ into_memory_spec 𝓤 𝓛 𝓜 𝓡 wired =
     (Goes-blank 𝓛 0 (param 0 ps) ended.kept.0 (λ κs x f. tt), (Goes-blank 𝓛 0 (param 1 ps) ended.kept.1.0 (λ κs x f. tt), (Goes-dropped 𝓛 0 (param 2 ps) ended.kept.1.1.0 (λ κs x f. refl), tt)))
     #self fn (compiled.unfolded 𝓤 𝓛.H 𝓜 𝓡 wired) (λ z are.
     let Post : Val → SProp 𝓤 = (walk_of 𝓛 ended stays c).post z in
-    let a = z.0.3 in
-    let vss = z.0.4 in
-    let x = a.0 in
-    let n = x.count in
+    let a = z.0.3 in let vss = z.0.4 in let x = a.0 in let n = x.count in
     let s : Spot = x.spot in
-    let b = s.block in
-    let lies = x.placed in
-    let w = a.1.0 in
-    let N = a.1.1.0 in
+    let b = s.block in let lies = x.placed in let w = a.1.0 in let N = a.1.1.0 in
     let m = rounded n in
     let pad = m - n in
     let less : n ≤ m = omega arith in

@@ -24,15 +24,11 @@ lend_spec 𝓤 𝓛 𝓜 𝓡 wired =
     let 𝓣 = tables 𝓤 𝓛.H 𝓜 𝓡 𝓡.env in
     proved_at 𝓛 ended stays c 𝓜 𝓡 (Goes-dropped 𝓛 1 (param 0 ps) ended.kept.0 (λ κs x f. refl), tt) #self fn (compiled.unfolded 𝓤 𝓛.H 𝓜 𝓡 wired) (λ z are.
     let Post : Val → SProp 𝓤 = (walk_of 𝓛 ended stays c).post z in
-    let a = z.0.3 in
-    let vss = z.0.4 in
+    let a = z.0.3 in let vss = z.0.4 in
     let κ : Lft = z.0.0.0 in
     let q : Share = z.0.1.0 in
     let R : RattleType = granules.the_row in
-    let b = a.0.ref_ptr.0 in
-    let o = a.0.ref_ptr.1 in
-    let x = a.0.now in
-    let γ = a.0.ghost_name in
+    let b = a.0.ref_ptr.0 in let o = a.0.ref_ptr.1 in let x = a.0.now in let γ = a.0.ghost_name in
     let n = x.count in
     let s : Spot = x.spot in
     let Home : Fml = homes_at s n in

@@ -24,11 +24,7 @@ new_spec 𝓤 𝓛 𝓜 𝓡 wired =
     (Goes-blank 𝓛 0 (param 0 ps) ended.kept.0 (λ κs x f. tt), (Goes-blank 𝓛 0 (param 1 ps) ended.kept.1.0 (λ κs x f. tt), (Goes-dropped 𝓛 0 (param 2 ps) ended.kept.1.1.0 (λ κs x f. refl), tt)))
     #self fn (compiled.unfolded 𝓤 𝓛.H 𝓜 𝓡 wired) (λ z are.
     let Post : Val → SProp 𝓤 = (walk_of 𝓛 ended stays c).post z in
-    let a = z.0.3 in
-    let vss = z.0.4 in
-    let x = a.0 in
-    let k = a.1.0 in
-    let n = a.1.1.0 in
+    let a = z.0.3 in let vss = z.0.4 in let x = a.0 in let k = a.1.0 in let n = a.1.1.0 in
     let told = memory_told x.ptr x.size vss.0 are.0.0 in
     let Sized : Type 0 = x.size ≡ n * 16 + rounded n in
     let Owned : Type 0 = k.ptr ≡ x.ptr in

@@ -28,13 +28,10 @@ deallocate_spec 𝓤 𝓛 𝓜 𝓡 wired =
     proved_at 𝓛 ended stays c 𝓜 𝓡
     (Goes-dropped 𝓛 2 (param 0 ps) ended.kept.0 (λ κs x f. refl), (Goes-dropped 𝓛 2 (param 1 ps) ended.kept.1.0 (λ κs x f. refl), (Goes-dropped 𝓛 2 (param 2 ps) ended.kept.1.1.0 (λ κs x f. refl), (Goes-dropped 𝓛 2 (param 3 ps) ended.kept.1.1.1.0 (λ κs x f. refl), tt)))) #self fn (compiled.unfolded 𝓤 𝓛.H 𝓜 𝓡 wired) (λ z are.
     let Post : Val → SProp 𝓤 = (walk_of 𝓛 ended stays c).post z in
-    let a = z.0.3 in
-    let vss = z.0.4 in
+    let a = z.0.3 in let vss = z.0.4 in
     let s : Stretch = a.0.now.slot in
     let τ : Ty = z.1 in
-    let from = a.1.0 in
-    let n = a.1.1.0 in
-    let al = a.1.1.1.0 in
+    let from = a.1.0 in let n = a.1.1.0 in let al = a.1.1.1.0 in
     let m = block_size (size τ) in
     let me : Val = vptr a.0.ref_ptr.0 a.0.ref_ptr.1 in
     let k₀ = triple_of 𝓛 sizer.signature (sizer.spec 𝓛 𝓜.mem 𝓡.returns) in

@@ -36,22 +36,16 @@ grow_spec 𝓤 𝓛 𝓜 𝓡 wired T L =
     (stay_dropped (param 0 ps) En.kept.0, (stay_dropped (param 1 ps) En.kept.1.0, (stay_dropped (param 2 ps) En.kept.1.1.0, (stay_dropped (param 3 ps) En.kept.1.1.1.0, (stay_dropped (param 4 ps) En.kept.1.1.1.1.0, tt))))) in
     let c = clauses T 𝓛 𝓜.mem 𝓡.returns in
     let 𝓣 = tables 𝓤 𝓛.H 𝓜 𝓡 𝓡.env in
-    let C = 𝓣.C in
-    let Λ = 𝓣.Λ in
+    let C = 𝓣.C in let Λ = 𝓣.Λ in
     proved_at 𝓛 En stays c 𝓜 𝓡
     (Goes-dropped 𝓛 3 (param 0 ps) En.kept.0 (λ κs x f. refl), (Goes-dropped 𝓛 3 (param 1 ps) En.kept.1.0 (λ κs x f. refl), (Goes-dropped 𝓛 3 (param 2 ps) En.kept.1.1.0 (λ κs x f. refl), (Goes-dropped 𝓛 3 (param 3 ps) En.kept.1.1.1.0 (λ κs x f. refl), (Goes-dropped 𝓛 3 (param 4 ps) En.kept.1.1.1.1.0 (λ κs x f. refl), tt))))) (#self args) fn (compiled.unfolded 𝓤 𝓛.H 𝓜 𝓡 wired (T, tt)) (λ z are.
     let Post : Val → SProp 𝓤 = (walk_of 𝓛 En stays c).post z in
-    let a = z.0.3 in
-    let vss = z.0.4 in
+    let a = z.0.3 in let vss = z.0.4 in
     let t : Stretch = a.0.now.slot in
     let R : RattleType = parameter 1 T in
     let E : El = record { row = T; laws = L } in
     let s = size (layout T) in
-    let from = a.1.0 in
-    let len = a.1.1.0 in
-    let old = a.1.1.1.0 in
-    let new = a.1.1.1.1.0 in
-    let xs = z.1 in
+    let from = a.1.0 in let len = a.1.1.0 in let old = a.1.1.1.0 in let new = a.1.1.1.1.0 in let xs = z.1 in
     let me : Val = vptr a.0.ref_ptr.0 a.0.ref_ptr.1 in
     let Within : Type 0 = z.0.0.1.1.0 ⊑ T.lives in
     let k = triple_of 𝓛 (callee.signature T) (callee.spec T 𝓛 𝓜.mem 𝓡.returns) in

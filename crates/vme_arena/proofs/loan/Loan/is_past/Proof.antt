@@ -22,16 +22,13 @@ is_past_spec 𝓤 𝓛 𝓜 𝓡 wired =
     (Goes-blank 𝓛 1 (param 0 ps) ended.kept.0 (λ κs x f. tt), (Goes-dropped 𝓛 1 (param 1 ps) ended.kept.1.0 (λ κs x f. refl), (Goes-blank 𝓛 1 (param 2 ps) ended.kept.1.1.0 (λ κs x f. tt), tt)))
     #self fn (compiled.unfolded 𝓤 𝓛.H 𝓜 𝓡 wired) (λ z are.
     let Post : Val → SProp 𝓤 = (walk_of 𝓛 ended stays c).post z in
-    let a = z.0.3 in
-    let vss = z.0.4 in
-    let x = a.0 in
+    let a = z.0.3 in let vss = z.0.4 in let x = a.0 in
     let s : Spot = x.spot in
     let lies = x.placed in let low = lies.2 in let high = lies.3 in
     let b = s.block in
     let here : Ptr = block_ptr b s.at in
     let tags : Ptr = block_ptr b s.tag in
-    let i = a.1.0 in
-    let w = a.1.1.0 in
+    let i = a.1.0 in let w = a.1.1.0 in
     let X = s.at + i * 16 in
     let p : Ptr = block_ptr b w.at in
     let past = ltb w.at X in

@@ -18,17 +18,14 @@ take_spec 𝓤 𝓛 𝓜 𝓡 wired =
     let stays : Stays ps ended.kept = (stay_dropped (param 0 ps) ended.kept.0, (stay_dropped (param 1 ps) ended.kept.1.0, tt)) in
     let c = clauses 𝓛 𝓜.mem 𝓡.returns in
     let 𝓣 = tables 𝓤 𝓛.H 𝓜 𝓡 𝓡.env in
-    let C = 𝓣.C in
-    let Λ = 𝓣.Λ in
+    let C = 𝓣.C in let Λ = 𝓣.Λ in
     proved_at 𝓛 ended stays c 𝓜 𝓡 (Goes-blank 𝓛 1 (param 0 ps) ended.kept.0 (λ κs x f. tt), (Goes-dropped 𝓛 1 (param 1 ps) ended.kept.1.0 (λ κs x f. refl), tt)) #self fn
     (compiled.unfolded 𝓤 𝓛.H 𝓜 𝓡 wired) (λ z are.
     let Post : Val → SProp 𝓤 = (walk_of 𝓛 ended stays c).post z in
-    let a = z.0.3 in
-    let vss = z.0.4 in
+    let a = z.0.3 in let vss = z.0.4 in
     let κ : Lft = z.0.0.0 in
     let q : Share = z.0.1.0 in
-    let x = a.0 in
-    let n = x.count in
+    let x = a.0 in let n = x.count in
     let s : Spot = x.spot in
     let lies = x.placed in let low = lies.2 in let high = lies.3 in
     let b = s.block in

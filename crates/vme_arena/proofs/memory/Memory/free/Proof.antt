@@ -27,18 +27,13 @@ free_spec 𝓤 𝓛 𝓜 𝓡 wired A L g d dd met md =
     (Goes-blank 𝓛 2 (param 0 ps) En.kept.0 (λ κs x f. tt), (Goes-blank 𝓛 2 (param 1 ps) En.kept.1.0 (λ κs x f. tt), (Goes-dropped 𝓛 2 (param 2 ps) En.kept.1.1.0 (λ κs x f. refl), tt)))
     (#self args) fn (compiled.unfolded 𝓤 𝓛.H 𝓜 𝓡 wired (A, tt) d dd) (λ z are.
     let Post : Val → SProp 𝓤 = (walk_of 𝓛 En stays c).post z in
-    let a = z.0.3 in
-    let vss = z.0.4 in
+    let a = z.0.3 in let vss = z.0.4 in
     let Y : Al = record { row = A; laws = L; g = g; d = d; drops = dd } in
     let κ : Lft = z.0.0.0 in
     let q : Share = z.0.1.0 in
-    let α = z.0.0.1.0 in
-    let x = a.0 in
-    let n = x.size in
+    let α = z.0.0.1.0 in let x = a.0 in let n = x.size in
     let told = memory_told x.ptr n vss.0 are.0.0 in
-    let k = a.1.0 in
-    let h = a.1.1.0.now in
-    let handle = a.1.1.0.ref_ptr in
+    let k = a.1.0 in let h = a.1.1.0.now in let handle = a.1.1.0.ref_ptr in
     let τ : Ty = units_of n in
     let even = x.sized.0 in
     let Asked : Type 0 = (k.alloc ≡ h) × (k.ptr ≡ x.ptr) × (k.size ≡ n) in

@@ -29,15 +29,11 @@ new_spec 𝓤 𝓛 𝓜 𝓡 wired A L g d dd met md =
     proved_at 𝓛 En stays c 𝓜 𝓡 (Goes-dropped 𝓛 2 (param 0 ps) En.kept.0 (λ κs x f. refl), (Goes-dropped 𝓛 2 (param 1 ps) En.kept.1.0 (λ κs x f. refl), tt))
     (#self args) fn (compiled.unfolded 𝓤 𝓛.H 𝓜 𝓡 wired (A, tt) d dd) (λ z are.
     let Post : Val → SProp 𝓤 = (walk_of 𝓛 En stays c).post z in
-    let a = z.0.3 in
-    let vss = z.0.4 in
+    let a = z.0.3 in let vss = z.0.4 in
     let Y : Al = record { row = A; laws = L; g = g; d = d; drops = dd } in
     let κ : Lft = z.0.0.0 in
     let q : Share = z.0.1.0 in
-    let α = z.0.0.1.0 in
-    let h = a.0.now in
-    let at = a.0.ref_ptr in
-    let n = a.1.0 in
+    let α = z.0.0.1.0 in let h = a.0.now in let at = a.0.ref_ptr in let n = a.1.0 in
     let fits : n < 2 ^ 64 = are.1.0.1 in
     let τ : Ty = units_of n in
     let y = at_takes Y 𝓛 𝓜.mem 𝓡.returns κ q at h n 16 τ in

@@ -20,14 +20,9 @@ join_spec 𝓤 𝓛 𝓜 𝓡 wired =
     proved_at 𝓛 ended stays c 𝓜 𝓡 (Goes-blank 𝓛 0 (param 0 ps) ended.kept.0 (λ κs x f. tt), (Goes-blank 𝓛 0 (param 1 ps) ended.kept.1.0 (λ κs x f. tt), tt)) #self fn
     (compiled.unfolded 𝓤 𝓛.H 𝓜 𝓡 wired) (λ z are.
     let Post : Val → SProp 𝓤 = (walk_of 𝓛 ended stays c).post z in
-    let a = z.0.3 in
-    let vss = z.0.4 in
-    let x = a.0 in
-    let y = a.1.0 in
-    let b = x.block in
+    let a = z.0.3 in let vss = z.0.4 in let x = a.0 in let y = a.1.0 in let b = x.block in
     let here : Ptr = block_ptr b x.at in
-    let low = x.placed in
-    let high = y.placed in
+    let low = x.placed in let high = y.placed in
     let Asked : Type 0 = (b ≡ y.block) × (x.at + x.size ≡ y.at) in
     qed 𝓛 ((raw (alive 𝓛 ended.signature z.0.0 z.0.1) ⊛ ‵ (owns (types_at ps z.0.0) a vss)) ∷ raw (fact 𝓤 Asked) ∷ []) ∵ move ! (1 ∷ []) $ heard ! Asked (λ asked. split ! $ move ! (1 ∷ []) $
     let next : y.ptr ≡ block_ptr b (x.at + x.size) = high.0 ∙ (λ i. block_ptr (sym asked.0 i) (sym asked.1 i)) in

@@ -27,13 +27,11 @@ replace_spec 𝓤 𝓛 𝓜 𝓡 wired =
     (Goes-dropped 𝓛 2 (param 0 ps) ended.kept.0 (λ κs x f. refl), (Goes-blank 𝓛 2 (param 1 ps) ended.kept.1.0 (λ κs. content_blank (denote.Signature.named_lft 2 1 tt κs)), tt)) #self fn
     (wired.0.0 #self refl) (λ C Λ z are.
     let Post : Val → SProp 𝓤 = (walk_of 𝓛 ended stays c).post z in
-    let a = z.0.3 in
-    let vss = z.0.4 in
+    let a = z.0.3 in let vss = z.0.4 in
     let κ : Lft = z.0.0.0 in
     let q : Share = z.0.1.0 in
     let ρ = denote.Signature.named_lft 2 1 tt z.0.0 in
-    let b = a.0.ref_ptr.0 in
-    let o = a.0.ref_ptr.1 in
+    let b = a.0.ref_ptr.0 in let o = a.0.ref_ptr.1 in
     let s : Stretch = a.0.now in
     let new = a.1.0 in
     let got = one (layout (Content ρ)) vss.1.0 ((content_Lawful ρ 𝓛).typed new vss.1.0 are.1.0) in
