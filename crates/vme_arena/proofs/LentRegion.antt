@@ -12,7 +12,7 @@ use types.Logic.{Logic, sem}
 use types.Kit.{‵, raw, ◌⊛◌, ◌$◌, ◌∵◌, !, qed, by, move, keep, use1, split, split3, fjoin, fpack, feq_i, assume, suffices, updating, now, done}
 use types.Tokens.{obor_alter}
 use types.SemTy.{Body}
-use denote.RattleType.{RattleType, Valss, owns}
+use denote.RattleType.{RattleType, Valss}
 use denote.Memory.{mem, part_of, cell_at}
 use denote.Steps.{nothing}
 use denote.Struct.Struct.{Shape, within, layout}
@@ -34,10 +34,6 @@ region_type = unnamed (layout S)
 -- a region: its granules, and the values of its origin
 abbrev pub region_val : Val → List Val → Val
 region_val g us = vstruct (vcons g (of_list (us ++ [])))
-
--- what the region's fields own at these values
-abbrev pub fields_own : R.Denot → Val → List Val → Fml
-fields_own x g us = owns S.fields (region.the_type.to x) (g ∷ [], (us, tt))
 
 -- the second of them
 abbrev pub origin_own : R.Denot → List Val → Fml

@@ -57,9 +57,6 @@ none_yet P s (suc n) lt =
     let here = none_of (P (suc n)) s (suc n) (other s (suc n) lt) in
     times-more P s n ∙ omega (arith, before, here)
 
-more_than : (s t : ℕ) → s < t → (s == t) ≡ false
-more_than s t lt = grind (arith, nat_tests)
-
 same_number : (s t : ℕ) → (s == t) ≡ true → s ≡ t
 same_number s t e = grind (arith, nat_tests)
 

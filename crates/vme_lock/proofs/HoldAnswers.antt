@@ -75,17 +75,6 @@ seen b s v is =
     let known = not_lost (count b.history s.driver) s.made (loss_of b s) v (view_of b s.driver) is in
     (ap (λ x. x.own) known.1 ∙ known.0, subst (λ x. x.own ≤ x.total) (sym known.1) (own_within b s.driver))
 
--- in a turn too, the seat's driver has no more edges than there are
-pub turn_within : (b : State) (s : Place) (t : ℕ) (v : Turn) → Ok v ≡ turn_answer b s t → s.made ≤ v.total
-turn_within b s t v is =
-    let known = not_lost (count b.history s.driver) s.made (loss_of b s) v (turn_of b s.driver t) is in
-    subst (λ x. s.made ≤ x.total) (sym known.1) (subst (λ n. n ≤ length b.history) known.0 (own_within b s.driver))
-
--- another driver's edge
-pub edge_not_yours : (b : State) (s : Place) (e : Edge) → is_same_driver e.driver s.driver ≡ false → Err refused.NotYours ≡ edge_answer b s e
-edge_not_yours b s e other =
-    sym (ap (λ (x : Bool). if not x then Err refused.NotYours else (if is_lost b s then Err (refused.Lost (loss_of b s)) else by_step (answer b e))) other)
-
 own_edge : (b : State) (s : Place) (e : Edge) → is_same_driver e.driver s.driver ≡ true → edge_answer b s e ≡ (if is_lost b s then Err (refused.Lost (loss_of b s)) else by_step (answer b e))
 own_edge b s e same =
     ap (λ (x : Bool). if not x then Err refused.NotYours else (if is_lost b s then Err (refused.Lost (loss_of b s)) else by_step (answer b e))) same
@@ -96,7 +85,3 @@ edge_lost b s e own same is apart =
     let read : is_lost b s ≡ true = is_lost-other b s (λ same. apart (is ∙ same)) in
     let found = ap (λ (x : Bool). if x then Err (refused.Lost (loss_of b s)) else by_step (answer b e)) read in
     sym (own_edge b s e same ∙ (found ∙ ap (λ (n : ℕ). Err (refused.Lost (record { own = n }))) (sym is)))
-
-pub edge_stepped : (b : State) (s : Place) (e : Edge) → is_same_driver e.driver s.driver ≡ true → count b.history s.driver ≡ s.made → by_step (answer b e) ≡ edge_answer b s e
-edge_stepped b s e same number =
-    sym (own_edge b s e same ∙ ap (λ (x : Bool). if x then Err (refused.Lost (loss_of b s)) else by_step (answer b e)) (is_lost-same b s number))

@@ -60,12 +60,6 @@ pub all_numbered : (numbers : List ℕ) (seats : List Place) (n : ℕ) → lengt
 all_numbered numbers seats n all below k d is =
     below k d (omega (arith, slice_get_within (drivers_of seats) k d is, as_many seats, all)) is
 
--- no edge yet
-pub fronts_none : (numbers ends : List ℕ) (logs : List (List Edge)) → ((k : ℕ) → k < 22 → get_or ends k 0 ≡ 0) → AreFronts [] numbers logs ends
-fronts_none numbers ends logs zeros d log sits is =
-    let none = zeros (desk d) (desk_within d sits) in
-    record { within = omega (arith, none); same = sym (ap (λ (n : ℕ). take n log) none) }
-
 front_next : (xs log : List Edge) (ends : List ℕ) (i at : ℕ) (e : Edge) (d : Driver) (b : Bool) → is_same_driver e.driver d ≡ b → (desk e.driver == desk d) ≡ b →
     IsFront (own d (take i xs)) log (get_or ends (desk d) 0) → at ≡ desk e.driver → at < length ends → slice_get xs i ≡ Some e →
     (is_same_driver e.driver d ≡ true → slice_get log (get_or ends at 0) ≡ Some e) → IsFront (own d (take (i + 1) xs)) log (get_or (slice_set ends at (get_or ends at 0 + 1)) (desk d) 0)

@@ -1,7 +1,7 @@
 -- What a run leaves of the boards' history.
-use Rattle.std.proofs.Common.{◌≡◌, ℕ, ◌≤◌, arith, List, [], length, sym, ap, ◌∙◌, subst, Option}
+use Rattle.std.proofs.Common.{◌≡◌, ℕ, ◌≤◌, arith, List, length, sym, ap, ◌∙◌, subst, Option}
 use Rattle.std.specs.Prelude.{min, Result, Ok, Err}
-use Rattle.std.specs.Io.KnownBytes.{Appends, Keeps}
+use Rattle.std.specs.Io.KnownBytes.{Appends}
 use Rattle.std.proofs.KnownBytes.{Keeps-refl}
 use Rattle.std.proofs.Math.Nat.{min-le_left}
 use Rattle.vme_model.specs.declared.signals.Version.{Version}
@@ -15,11 +15,10 @@ use Rattle.vme_model.specs.Report.{at_power_up}
 use Rattle.vme_trace.specs.Writing.{AppendsFront}
 use Rattle.vme_engines.specs.declared.Status.{Status}
 use Rattle.vme_engines.specs.declared.EngineFault.TheVariants as fault
-use Rattle.vme_engines.proofs.FirstReads.{no_plan_asking}
 use Rattle.vme_run.specs.declared.RunFault.{RunFault}
 use Rattle.vme_run.specs.declared.RunFault.TheVariants.{Engine, NotStarted, LogDiffers}
-use Rattle.vme_run.specs.Running.{IsMade, IsRun, AreHandedBack, HasOtherLogs, RunsOn, Runs}
-use Rattle.vme_run.specs.Between.{IsRead, IsUnread, IsGrown, IsPlayed, HasGrownApart, IsNotPlayed, IsWritten}
+use Rattle.vme_run.specs.Running.{IsMade, IsRun, AreHandedBack, HasOtherLogs, Runs}
+use Rattle.vme_run.specs.Between.{IsRead, IsGrown, IsPlayed, HasGrownApart, IsNotPlayed, IsWritten}
 
 -- what can be made is no more than what is requested
 pub fits : (n others m : ℕ) → m ≡ min n others → m ≤ n
@@ -52,28 +51,6 @@ other_logs version p m n turns b driver at fits grown apart =
 -- the version that was passed in
 version_of : (version : Version) (p : Plan) (n turns : ℕ) (b : State) → IsPlayed turns (at_power_up version p n) b → b.version ≡ version
 version_of version p n turns b played = ap (λ x. x.version) played.0.0.1
-
--- a second backplane of the plan is the played one without its edges
-pub reopened : (version : Version) (p : Plan) (n turns : ℕ) (opened closed again : State) → opened ≡ at_power_up version p n →
-    again ≡ at_power_up version p n → IsPlayed turns opened closed → again ≡ record closed { history = [] }
-reopened version p n turns opened closed again first second played =
-    let kept : record closed { history = [] } ≡ record opened { history = [] } = ap (λ (b : State). record b { history = [] }) played.0.0.1 in
-    second ∙ sym (kept ∙ ap (λ (b : State). record b { history = [] }) first)
-
-abbrev fine : State → Result State RunFault
-fine b = Ok b
-
--- what was made once more is what was played
-pub played_again : (version : Version) (p : Plan) (n turns : ℕ) (opened closed b : State) → opened ≡ at_power_up version p n → IsPlayed turns opened closed →
-    fine b ≡ fine closed → IsPlayed turns (at_power_up version p n) b
-played_again version p n turns opened closed b first played made =
-    let same : closed ≡ b = cc in
-    subst (λ (o : State). IsPlayed turns o b) first (subst (λ (c : State). IsPlayed turns opened c) same played)
-
--- nothing is left if there is no plan
-pub not_read : (lent : List ℕ) (version : Version) (n turns : ℕ) (old : Option (List ℕ)) (f : RunFault) → IsUnread lent f → Runs lent version n turns old old (Err f)
-not_read lent version n turns old (Engine f) none = no_plan_asking lent (Keeps old old) (RunsOn version n turns old old) f none (Keeps-refl _)
-not_read lent version n turns old f none = absurd none
 
 -- nothing is left if memory runs out
 pub runs_out : (lent : List ℕ) (version : Version) (n turns : ℕ) (p : Plan) (old : Option (List ℕ)) → IsRead lent p → Runs lent version n turns old old (Err (Engine fault.NoMemory))

@@ -69,11 +69,6 @@ pub pins_of_board : (version : Version) (p : Plan) (h : List Edge) (w : Wiring) 
 pins_of_board version p h w b r is same found =
     rw (same, is.chains, is.shared, grant_is p h r.slot r.requester, reads_inputs p h chain.Iack r.slot) (sym (pins_with p h r.slot (Some r) found))
 
--- the pins of a slot without a board
-pub pins_of_none : (version : Version) (p : Plan) (h : List Edge) (w : Wiring) (s : ℕ) → IsWiringOf version p h w → board p s ≡ None → w.shared ≡ pins p h (Slot s)
-pins_of_none version p h w s is none =
-    is.shared ∙ sym (pins_with p h s None none)
-
 pub no_board_in : (version : Version) (p : Plan) (h : List Edge) (w : Wiring) (s : ℕ) → IsWiringOf version p h w → place w.boards s ≡ None → board p s ≡ None
 no_board_in version p h w s is none = none_placed (parts_of version p h) (board p s) (sym (is.boards s) ∙ none)
 

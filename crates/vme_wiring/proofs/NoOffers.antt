@@ -64,19 +64,6 @@ all_four : (a b c d : Bool) → (a && b && (c && d)) ≡ true → (a ≡ true) �
 all_four true true true true holds = (refl, refl, refl, refl)
 all_four a b c d holds = absurd (cc)
 
--- three parts, one after another
-pub all_wait : (a b c : Bool) → a ≡ true → b ≡ true → c ≡ (a && b && c)
-all_wait true true c ea eb = refl
-all_wait a b c ea eb = absurd (cc)
-
-pub first_moves : (a b c : Bool) → a ≡ false → false ≡ (a && b && c)
-first_moves false b c e = refl
-first_moves true b c e = absurd (cc)
-
-pub second_moves : (a b c : Bool) → a ≡ true → b ≡ false → false ≡ (a && b && c)
-second_moves true false c ea eb = refl
-second_moves a b c ea eb = absurd (cc)
-
 equal_self : (n : ℕ) → (n == n) ≡ true
 equal_self n = grind (arith, nat_tests)
 

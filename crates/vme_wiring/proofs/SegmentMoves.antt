@@ -55,10 +55,6 @@ counted b s xs x under =
     let one = ap one_if under in
     omega (arith, split, one)
 
-counted_in : (c b : Bool) (s : ℕ) (xs : List ℕ) (x : ℕ) → nat_lt x s ≡ false → below s (with_slot c xs x) ≡ below s xs
-counted_in true b s xs x beyond = counted false s xs x beyond ∙ omega arith
-counted_in false b s xs x beyond = refl
-
 -- all of the slots up to n are below a greater one
 all_below_step : (b : Bool) (s : ℕ) (xs : List ℕ) (x : ℕ) → nat_lt x s ≡ true → below s xs ≡ length xs → below s (with_slot b xs x) ≡ length (with_slot b xs x)
 all_below_step true s xs x under all = let a = counted true s xs x under in let c = long xs x in omega arith
