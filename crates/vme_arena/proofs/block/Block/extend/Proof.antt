@@ -1,5 +1,8 @@
 -- `extend` adds the room of the bytes after the block to the block's own. Assumes `Logic`.
-use Rattle.vme_arena.proofs.Steps.{◌≡◌, ◌+◌, ◌*◌, ◌^◌, ◌<◌, ◌≤◌, List, [], ◌∷◌, ◌++◌, refl, ap, ◌∙◌, arith, w64, SProp, emp, Fn, Val, vint, size, WpFn, fact, fact_i, tables, ‵, raw, ◌⊛◌, prop, ◌$◌, ◌∵◌, !, qed, by, move, drop, use0, use2, split, split3, rewrite, regoal, fsplit, fsplit3, fjoin, whole, sub, agg, stop, fld, of_opd, no_more, and_then, returns, enter, alloc_all, pass_all, free_all, look_at, get, get_in, sets, RattleType, owns, Ptr, block_ptr, types_at, nothing, heard, alive, Stays, stay_dropped, walk_of, Goes-blank, Goes-dropped, proved_at, leaves}
+use Rattle.vme_arena.proofs.Steps.{◌≡◌, ◌+◌, ◌*◌, ◌^◌, ◌<◌, ◌≤◌, List, [], ◌∷◌, ◌++◌, refl, ap, ◌∙◌, arith, w64, SProp, emp, Fn, Val, vint, size, WpFn, fact, fact_i, tables, ‵, raw, ◌⊛◌, prop, ◌$◌}
+use Rattle.vme_arena.proofs.Steps.{◌∵◌, !, qed, by, move, drop, use0, use2, split, split3, rewrite, regoal, fsplit, fsplit3, fjoin, whole, sub, agg, stop, fld, of_opd, no_more, and_then, returns}
+use Rattle.vme_arena.proofs.Steps.{enter, alloc_all, pass_all, free_all, look_at, get, get_in, sets, RattleType, owns, Ptr, block_ptr, types_at, nothing, heard, alive, Stays, stay_dropped, walk_of}
+use Rattle.vme_arena.proofs.Steps.{Goes-blank, Goes-dropped, proved_at, leaves}
 use Rattle.vme_arena.proofs.Parts.{param}
 use mir.Syntax.{Args, a_type}
 use mir.MapTy.{inst_fn}

@@ -1,6 +1,10 @@
 -- `move_to` moves the values to the new room, and makes the old room a piece again. Assumes
 -- `Logic`.
-use Rattle.vme_arena.proofs.Steps.{◌≡◌, ℕ, ◌+◌, ◌-◌, ◌*◌, ◌^◌, ◌<◌, ◌≤◌, List, [], ◌∷◌, ◌++◌, refl, sym, ap, subst, ◌∙◌, arith, w64, SProp, emp, apply∗, Lft, Share, ftrue, froom, flft, full_share, Ty, Fn, Val, vint, vunit, ty_array, size, capped, capped_is, Env, WpFn, fact, fact_i, tables, sem, ‵, raw, ◌⊛◌, given, later, prop, settles, at_ret, ◌$◌, ◌∵◌, !, qed, by, move, drop, use0, use1, use2, use3, split, split3, join, learn, rewrite, regoal, fsplit, fsplit3, fjoin, fpick, await, whole, sub, agg, stop, fld, of_opd, no_more, and_then, first, blocks, exec, returns, enter, alloc_all, pass_all, free_all, look_at, get, get_in, sets, lands_last, env, RattleType, owns, Ptr, block_ptr, types_at, nothing, heard, Tuple, Stays, stay_dropped, walk_of, Goes-blank, Goes-dropped, after, fm, pair_of, pair_val, proved_at, leaves}
+use Rattle.vme_arena.proofs.Steps.{◌≡◌, ℕ, ◌+◌, ◌-◌, ◌*◌, ◌^◌, ◌<◌, ◌≤◌, List, [], ◌∷◌, ◌++◌, refl, sym, ap, subst, ◌∙◌, arith, w64, SProp, emp, apply∗, Lft, Share, ftrue, froom, flft, full_share}
+use Rattle.vme_arena.proofs.Steps.{Ty, Fn, Val, vint, vunit, ty_array, size, capped, capped_is, Env, WpFn, fact, fact_i, tables, sem, ‵, raw, ◌⊛◌, given, later, prop, settles, at_ret, ◌$◌, ◌∵◌, ! }
+use Rattle.vme_arena.proofs.Steps.{qed, by, move, drop, use0, use1, use2, use3, split, split3, join, learn, rewrite, regoal, fsplit, fsplit3, fjoin, fpick, await, whole, sub, agg, stop, fld, of_opd}
+use Rattle.vme_arena.proofs.Steps.{no_more, and_then, first, blocks, exec, returns, enter, alloc_all, pass_all, free_all, look_at, get, get_in, sets, lands_last, env, RattleType, owns, Ptr}
+use Rattle.vme_arena.proofs.Steps.{block_ptr, types_at, nothing, heard, Tuple, Stays, stay_dropped, walk_of, Goes-blank, Goes-dropped, after, fm, pair_of, pair_val, proved_at, leaves}
 use Rattle.vme_arena.proofs.Parts.{param, going_on, leaving}
 use mir.Syntax.{Args, a_type, place}
 use mir.MapTy.{inst_fn}
@@ -36,8 +40,10 @@ move_to_spec 𝓤 𝓛 𝓜 𝓡 wired T L =
     (stay_dropped (param 0 ps) En.kept.0, (stay_dropped (param 1 ps) En.kept.1.0, (stay_dropped (param 2 ps) En.kept.1.1.0, (stay_dropped (param 3 ps) En.kept.1.1.1.0, tt)))) in
     let c = clauses T 𝓛 𝓜.mem 𝓡.returns in
     let 𝓣 = tables 𝓤 𝓛.H 𝓜 𝓡 𝓡.env in
-    proved_at 𝓛 En stays c 𝓜 𝓡
-    (Goes-blank 𝓛 1 (param 0 ps) En.kept.0 (λ κs x f. tt), (Goes-blank 𝓛 1 (param 1 ps) En.kept.1.0 (λ κs x f. tt), (Goes-dropped 𝓛 1 (param 2 ps) En.kept.1.1.0 (λ κs x f. refl), (Goes-dropped 𝓛 1 (param 3 ps) En.kept.1.1.1.0 (λ κs x f. refl), tt)))) (#self args) fn (compiled.unfolded 𝓤 𝓛.H 𝓜 𝓡 wired (T, tt)) (λ z are.
+    proved_at 𝓛 En stays c 𝓜 𝓡 (
+      Goes-blank 𝓛 1 (param 0 ps) En.kept.0 (λ κs x f. tt),
+      (Goes-blank 𝓛 1 (param 1 ps) En.kept.1.0 (λ κs x f. tt), (Goes-dropped 𝓛 1 (param 2 ps) En.kept.1.1.0 (λ κs x f. refl), (Goes-dropped 𝓛 1 (param 3 ps) En.kept.1.1.1.0 (λ κs x f. refl), tt))),
+    ) (#self args) fn (compiled.unfolded 𝓤 𝓛.H 𝓜 𝓡 wired (T, tt)) (λ z are.
     let Post : Val → SProp 𝓤 = (walk_of 𝓛 En stays c).post z in
     let a = z.0.3 in let vss = z.0.4 in
     let κ : Lft = z.0.0.0 in

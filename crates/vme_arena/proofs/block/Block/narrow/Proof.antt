@@ -1,5 +1,8 @@
 -- `narrow` lets the way back hold the places that the block no longer counts. Assumes `Logic`.
-use Rattle.vme_arena.proofs.Steps.{◌≡◌, ◌*◌, ◌≤◌, List, [], ◌∷◌, ◌++◌, refl, ap, ◌∙◌, w64, SProp, emp, Fn, Val, vint, size, WpFn, fact, fact_i, tables, ‵, raw, ◌⊛◌, prop, ◌$◌, ◌∵◌, !, qed, by, move, drop, use0, use1, split, rewrite, regoal, fsplit, fsplit3, fjoin, whole, sub, agg, stop, fld, of_opd, no_more, and_then, returns, enter, alloc_all, pass_all, free_all, look_at, get, get_in, sets, RattleType, owns, Ptr, block_ptr, types_at, nothing, heard, alive, Stays, stay_dropped, walk_of, Goes-blank, Goes-dropped, proved_at, leaves}
+use Rattle.vme_arena.proofs.Steps.{◌≡◌, ◌*◌, ◌≤◌, List, [], ◌∷◌, ◌++◌, refl, ap, ◌∙◌, w64, SProp, emp, Fn, Val, vint, size, WpFn, fact, fact_i, tables, ‵, raw, ◌⊛◌, prop, ◌$◌, ◌∵◌, !, qed, by, move}
+use Rattle.vme_arena.proofs.Steps.{drop, use0, use1, split, rewrite, regoal, fsplit, fsplit3, fjoin, whole, sub, agg, stop, fld, of_opd, no_more, and_then, returns, enter, alloc_all, pass_all}
+use Rattle.vme_arena.proofs.Steps.{free_all, look_at, get, get_in, sets, RattleType, owns, Ptr, block_ptr, types_at, nothing, heard, alive, Stays, stay_dropped, walk_of, Goes-blank, Goes-dropped}
+use Rattle.vme_arena.proofs.Steps.{proved_at, leaves}
 use Rattle.vme_arena.proofs.Parts.{param}
 use mir.Syntax.{Args, a_type}
 use mir.MapTy.{inst_fn}

@@ -1,5 +1,8 @@
 -- `into_memory` joins the bytes and the tags. Assumes `Logic`.
-use Rattle.vme_arena.proofs.Steps.{◌≡◌, ℕ, ◌+◌, ◌-◌, ◌*◌, ◌^◌, ◌<◌, ◌≤◌, List, [], ◌∷◌, ◌++◌, refl, sym, ap, ◌∙◌, arith, w64, SProp, emp, apply∗, Fn, Val, vint, WpFn, fact, fact_i, tables, sem, ‵, raw, ◌⊛◌, prop, ◌$◌, ◌∵◌, !, qed, by, move, keep, drop, use0, use1, use2, split, split3, rewrite, regoal, fsplit, fjoin, whole, sub, agg, stop, fld, of_opd, no_more, and_then, returns, enter, alloc_all, pass_all, free_all, look_at, get, get_in, sets, owns, Ptr, block_ptr, room_for, types_at, nothing, heard, alive, Stays, stay_dropped, walk_of, Goes-dropped, Goes-blank, proved_at, leaves}
+use Rattle.vme_arena.proofs.Steps.{◌≡◌, ℕ, ◌+◌, ◌-◌, ◌*◌, ◌^◌, ◌<◌, ◌≤◌, List, [], ◌∷◌, ◌++◌, refl, sym, ap, ◌∙◌, arith, w64, SProp, emp, apply∗, Fn, Val, vint, WpFn, fact, fact_i, tables, sem, ‵}
+use Rattle.vme_arena.proofs.Steps.{raw, ◌⊛◌, prop, ◌$◌, ◌∵◌, !, qed, by, move, keep, drop, use0, use1, use2, split, split3, rewrite, regoal, fsplit, fjoin, whole, sub, agg, stop, fld, of_opd}
+use Rattle.vme_arena.proofs.Steps.{no_more, and_then, returns, enter, alloc_all, pass_all, free_all, look_at, get, get_in, sets, owns, Ptr, block_ptr, room_for, types_at, nothing, heard, alive}
+use Rattle.vme_arena.proofs.Steps.{Stays, stay_dropped, walk_of, Goes-dropped, Goes-blank, proved_at, leaves}
 use Rattle.vme_arena.proofs.Parts.{param}
 use Rattle.vme_arena.proofs.Values.{granules_val, granules_told, piece_val, piece_told, memory_val, memory_own, memory_made}
 use Rattle.vme_arena.proofs.Units.{glues, loose_glues}

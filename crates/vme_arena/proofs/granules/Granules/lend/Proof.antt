@@ -1,5 +1,8 @@
 -- `lend` lends what is owned for the rest of the borrow. Assumes `Logic`.
-use Rattle.vme_arena.proofs.Steps.{◌≡◌, List, [], ◌∷◌, ◌++◌, refl, ◌∙◌, arith, full_share, SProp, emp, id⊢, Lft, Share, Fml, ftrue, fat, flft, fbor, Fn, Val, vptr, Env, WpFn, fact, fact_i, tables, ‵, raw, ◌⊛◌, later, prop, ◌$◌, ◌∵◌, !, qed, by, move, keep, drop, use0, use1, use2, use3, split, join, rewrite, regoal, fsplit, fsplit3, fjoin, await, whole, sub, agg, look_in, stop, fld, load, of_opd, no_more, and_then, returns, enter, alloc_all, pass_all, free_all, look_at, get, through, sets, env, RattleType, owns, Ptr, block_ptr, types_at, type_at, nothing, Stays, stay_dropped, walk_of, Goes-dropped, proved_at, leaves}
+use Rattle.vme_arena.proofs.Steps.{◌≡◌, List, [], ◌∷◌, ◌++◌, refl, ◌∙◌, arith, full_share, SProp, emp, id⊢, Lft, Share, Fml, ftrue, fat, flft, fbor, Fn, Val, vptr, Env, WpFn, fact, fact_i, tables}
+use Rattle.vme_arena.proofs.Steps.{‵, raw, ◌⊛◌, later, prop, ◌$◌, ◌∵◌, !, qed, by, move, keep, drop, use0, use1, use2, use3, split, join, rewrite, regoal, fsplit, fsplit3, fjoin, await, whole, sub}
+use Rattle.vme_arena.proofs.Steps.{agg, look_in, stop, fld, load, of_opd, no_more, and_then, returns, enter, alloc_all, pass_all, free_all, look_at, get, through, sets, env, RattleType, owns, Ptr}
+use Rattle.vme_arena.proofs.Steps.{block_ptr, types_at, type_at, nothing, Stays, stay_dropped, walk_of, Goes-dropped, proved_at, leaves}
 use Rattle.vme_arena.proofs.Parts.{param}
 use types.Tokens.{name_done, name_new}
 use denote.Follow.{follows, follows_said}

@@ -1,5 +1,9 @@
 -- `mark` writes the tag of a blank granule. Assumes `Logic`.
-use Rattle.vme_arena.proofs.Steps.{◌≡◌, ℕ, suc, ◌+◌, ◌-◌, ◌*◌, ◌<◌, List, [], ◌∷◌, ◌++◌, Bool, true, refl, ap, ◌∙◌, arith, lit<, w8, w64, full_share, SProp, emp, fat, fsep, froom, Fn, ty_int, Val, vint, vptr, Env, WpFn, fact, fact_i, tables, ‵, raw, ◌⊛◌, prop, at_ret, ◌$◌, ◌∵◌, !, qed, by, move, keep, drop, use0, use1, use2, split, rewrite, regoal, fsplit, fjoin, fpack, whole, sub, agg, stop, fld, lit, bin, init, of_opd, no_more, and_then, assigns_last, first, blocks, exec, returns, enter, alloc_all, pass_all, free_all, look_at, get, get_in, through, sets, is, env, owns, Ptr, block_ptr, room_for, types_at, nothing, heard, alive, Stays, stay_dropped, walk_of, Goes-dropped, Goes-blank, after, proved_at, leaves}
+use Rattle.vme_arena.proofs.Steps.{◌≡◌, ℕ, suc, ◌+◌, ◌-◌, ◌*◌, ◌<◌, List, [], ◌∷◌, ◌++◌, Bool, true, refl, ap, ◌∙◌, arith, lit<, w8, w64, full_share, SProp, emp, fat, fsep, froom, Fn, ty_int, Val}
+use Rattle.vme_arena.proofs.Steps.{vint, vptr, Env, WpFn, fact, fact_i, tables, ‵, raw, ◌⊛◌, prop, at_ret, ◌$◌, ◌∵◌, !, qed, by, move, keep, drop, use0, use1, use2, split, rewrite, regoal, fsplit}
+use Rattle.vme_arena.proofs.Steps.{fjoin, fpack, whole, sub, agg, stop, fld, lit, bin, init, of_opd, no_more, and_then, assigns_last, first, blocks, exec, returns, enter, alloc_all, pass_all}
+use Rattle.vme_arena.proofs.Steps.{free_all, look_at, get, get_in, through, sets, is, env, owns, Ptr, block_ptr, room_for, types_at, nothing, heard, alive, Stays, stay_dropped, walk_of}
+use Rattle.vme_arena.proofs.Steps.{Goes-dropped, Goes-blank, after, proved_at, leaves}
 use Rattle.vme_arena.proofs.Parts.{param}
 use Rattle.vme_arena.proofs.Values.{granules_val, granules_own, granules_told, granules_made}
 use Rattle.vme_arena.proofs.Units.{cuts}

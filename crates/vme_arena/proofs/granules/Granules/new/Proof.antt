@@ -1,5 +1,9 @@
 -- `new` cuts the memory into bytes and tags. Assumes `Logic`.
-use Rattle.vme_arena.proofs.Steps.{◌≡◌, ℕ, ◌+◌, ◌-◌, ◌*◌, ◌^◌, ◌<◌, ◌≤◌, List, [], ◌∷◌, ◌++◌, refl, sym, ap, ◌∙◌, arith, w64, SProp, emp, never, id⊢, fwand, Fn, Val, vint, vptr, Env, WpFn, fact, fact_i, tables, ‵, raw, ◌⊛◌, prop, at_ret, ◌$◌, ◌∵◌, !, qed, by, move, keep, drop, use0, use1, use2, split, join, rewrite, regoal, fsplit, fjoin, whole, sub, agg, stop, fld, lit, bin, of_opd, no_more, and_then, first, blocks, exec, returns, enter, alloc_all, pass_all, free_all, look_at, get, get_in, sets, sets_last, is, env, RattleType, owns, Ptr, block_ptr, in_a_block, count_of, room_for, types_at, type_at, nothing, heard, Tuple, alive, Stays, stay_dropped, walk_of, Goes-dropped, Goes-blank, after, pair_of, pair_val, proved_at, leaves}
+use Rattle.vme_arena.proofs.Steps.{◌≡◌, ℕ, ◌+◌, ◌-◌, ◌*◌, ◌^◌, ◌<◌, ◌≤◌, List, [], ◌∷◌, ◌++◌, refl, sym, ap, ◌∙◌, arith, w64, SProp, emp, never, id⊢, fwand, Fn, Val, vint, vptr, Env, WpFn, fact}
+use Rattle.vme_arena.proofs.Steps.{fact_i, tables, ‵, raw, ◌⊛◌, prop, at_ret, ◌$◌, ◌∵◌, !, qed, by, move, keep, drop, use0, use1, use2, split, join, rewrite, regoal, fsplit, fjoin, whole, sub, agg}
+use Rattle.vme_arena.proofs.Steps.{stop, fld, lit, bin, of_opd, no_more, and_then, first, blocks, exec, returns, enter, alloc_all, pass_all, free_all, look_at, get, get_in, sets, sets_last, is, env}
+use Rattle.vme_arena.proofs.Steps.{RattleType, owns, Ptr, block_ptr, in_a_block, count_of, room_for, types_at, type_at, nothing, heard, Tuple, alive, Stays, stay_dropped, walk_of, Goes-dropped}
+use Rattle.vme_arena.proofs.Steps.{Goes-blank, after, pair_of, pair_val, proved_at, leaves}
 use Rattle.vme_arena.proofs.Parts.{param, tells}
 use Rattle.vme_arena.proofs.Values.{granules_val, granules_own, granules_made, memory_val, memory_told, deed_val, deed_own, deed_told, deed_made}
 use Rattle.vme_arena.proofs.Units.{cuts, loosens, loose_cuts}

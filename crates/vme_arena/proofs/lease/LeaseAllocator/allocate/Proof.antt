@@ -1,6 +1,10 @@
 -- `allocate` gives a piece out as room for the requested type, with the way back as the token.
 -- Assumes `Logic`.
-use Rattle.vme_arena.proofs.Steps.{◌≡◌, List, [], ◌∷◌, ◌++◌, true, false, Ok, Err, refl, subst, lit<, w64, SProp, ent, id⊢, froom, Ty, Fn, Val, vint, vptr, size, align, capped, Env, WpFn, fact, tables, ‵, raw, ◌⊛◌, some, later, prop, at_ret, ◌$◌, ◌∵◌, !, qed, by, move, drop, use0, use1, split, join, pick, regoal, fjoin, await, whole, sub, agg, vrt, in_variant, stop, fld, lit, of_opd, no_more, and_then, first, switches_on, exec, returns, enter, alloc_all, pass_all, free_all, look_at, get, get_in, get_tag, sets, sets_last, lands_as, env, owns, Ptr, block_ptr, types_at, nothing, heard, alive, Stays, stay_dropped, walk_of, Goes-dropped, after, head, arm_body, fm, proved_at, leaves}
+use Rattle.vme_arena.proofs.Steps.{◌≡◌, List, [], ◌∷◌, ◌++◌, true, false, Ok, Err, refl, subst, lit<, w64, SProp, ent, id⊢, froom, Ty, Fn, Val, vint, vptr, size, align, capped, Env, WpFn, fact}
+use Rattle.vme_arena.proofs.Steps.{tables, ‵, raw, ◌⊛◌, some, later, prop, at_ret, ◌$◌, ◌∵◌, !, qed, by, move, drop, use0, use1, split, join, pick, regoal, fjoin, await, whole, sub, agg, vrt}
+use Rattle.vme_arena.proofs.Steps.{in_variant, stop, fld, lit, of_opd, no_more, and_then, first, switches_on, exec, returns, enter, alloc_all, pass_all, free_all, look_at, get, get_in, get_tag}
+use Rattle.vme_arena.proofs.Steps.{sets, sets_last, lands_as, env, owns, Ptr, block_ptr, types_at, nothing, heard, alive, Stays, stay_dropped, walk_of, Goes-dropped, after, head, arm_body, fm}
+use Rattle.vme_arena.proofs.Steps.{proved_at, leaves}
 use Rattle.vme_arena.proofs.Parts.{param, going_on}
 use denote.Triple.Call.{calls_from}
 use denote.Triple.Spec.{triple_of}
@@ -25,8 +29,10 @@ allocate_spec 𝓤 𝓛 𝓜 𝓡 wired =
     let c = clauses 𝓛 𝓜.mem 𝓡.returns in
     let 𝓣 = tables 𝓤 𝓛.H 𝓜 𝓡 𝓡.env in
     let C = 𝓣.C in let Λ = 𝓣.Λ in
-    proved_at 𝓛 ended stays c 𝓜 𝓡
-    (Goes-dropped 𝓛 2 (param 0 ps) ended.kept.0 (λ κs x f. refl), (Goes-dropped 𝓛 2 (param 1 ps) ended.kept.1.0 (λ κs x f. refl), (Goes-dropped 𝓛 2 (param 2 ps) ended.kept.1.1.0 (λ κs x f. refl), tt))) #self fn (compiled.unfolded 𝓤 𝓛.H 𝓜 𝓡 wired) (λ z are.
+    proved_at 𝓛 ended stays c 𝓜 𝓡 (
+      Goes-dropped 𝓛 2 (param 0 ps) ended.kept.0 (λ κs x f. refl),
+      (Goes-dropped 𝓛 2 (param 1 ps) ended.kept.1.0 (λ κs x f. refl), (Goes-dropped 𝓛 2 (param 2 ps) ended.kept.1.1.0 (λ κs x f. refl), tt)),
+    ) #self fn (compiled.unfolded 𝓤 𝓛.H 𝓜 𝓡 wired) (λ z are.
     let Post : Val → SProp 𝓤 = (walk_of 𝓛 ended stays c).post z in
     let a = z.0.3 in let vss = z.0.4 in
     let s : Stretch = a.0.now.slot in

@@ -1,5 +1,9 @@
 -- `deallocate` makes the room a piece again, and gives it to the lease. Assumes `Logic`.
-use Rattle.vme_arena.proofs.Steps.{◌≡◌, ℕ, ◌+◌, ◌%◌, ◌^◌, ◌<◌, ◌≤◌, List, [], ◌∷◌, ◌++◌, refl, sym, ap, ◌∙◌, arith, w64, SProp, emp, id⊢, apply∗, ftrue, Ty, Fn, Val, vint, vptr, vunit, size, align, capped, capped_is, Env, WpFn, fact, fact_i, tables, sem, ‵, raw, ◌⊛◌, some, later, prop, ◌$◌, ◌∵◌, !, qed, by, move, keep, drop, use0, use1, use2, split, split3, join, pick, rewrite, regoal, fsplit, fjoin, fpick, feq_i, feq_l, flt_i, await, agg, unit_lit, of_opd, no_more, and_then, returns, enter, alloc_all, pass_all, free_all, look_at, get, sets, lands_as, env, owns, usize, unit, Ptr, block_ptr, ptr_val, room_for, types_at, nothing, heard, only, alive, Stays, stay_dropped, walk_of, Goes-dropped, fm, proved_at, leaves}
+use Rattle.vme_arena.proofs.Steps.{◌≡◌, ℕ, ◌+◌, ◌%◌, ◌^◌, ◌<◌, ◌≤◌, List, [], ◌∷◌, ◌++◌, refl, sym, ap, ◌∙◌, arith, w64, SProp, emp, id⊢, apply∗, ftrue, Ty, Fn, Val, vint, vptr, vunit, size, align}
+use Rattle.vme_arena.proofs.Steps.{capped, capped_is, Env, WpFn, fact, fact_i, tables, sem, ‵, raw, ◌⊛◌, some, later, prop, ◌$◌, ◌∵◌, !, qed, by, move, keep, drop, use0, use1, use2, split, split3}
+use Rattle.vme_arena.proofs.Steps.{join, pick, rewrite, regoal, fsplit, fjoin, fpick, feq_i, feq_l, flt_i, await, agg, unit_lit, of_opd, no_more, and_then, returns, enter, alloc_all, pass_all}
+use Rattle.vme_arena.proofs.Steps.{free_all, look_at, get, sets, lands_as, env, owns, usize, unit, Ptr, block_ptr, ptr_val, room_for, types_at, nothing, heard, only, alive, Stays, stay_dropped}
+use Rattle.vme_arena.proofs.Steps.{walk_of, Goes-dropped, fm, proved_at, leaves}
 use Rattle.vme_arena.proofs.Parts.{param}
 use denote.Triple.Call.{calls_at}
 use denote.Triple.Spec.{triple_of}
@@ -25,8 +29,13 @@ deallocate_spec 𝓤 𝓛 𝓜 𝓡 wired =
     (stay_dropped (param 0 ps) ended.kept.0, (stay_dropped (param 1 ps) ended.kept.1.0, (stay_dropped (param 2 ps) ended.kept.1.1.0, (stay_dropped (param 3 ps) ended.kept.1.1.1.0, tt)))) in
     let c = clauses 𝓛 𝓜.mem 𝓡.returns in
     let 𝓣 = tables 𝓤 𝓛.H 𝓜 𝓡 𝓡.env in
-    proved_at 𝓛 ended stays c 𝓜 𝓡
-    (Goes-dropped 𝓛 2 (param 0 ps) ended.kept.0 (λ κs x f. refl), (Goes-dropped 𝓛 2 (param 1 ps) ended.kept.1.0 (λ κs x f. refl), (Goes-dropped 𝓛 2 (param 2 ps) ended.kept.1.1.0 (λ κs x f. refl), (Goes-dropped 𝓛 2 (param 3 ps) ended.kept.1.1.1.0 (λ κs x f. refl), tt)))) #self fn (compiled.unfolded 𝓤 𝓛.H 𝓜 𝓡 wired) (λ z are.
+    proved_at 𝓛 ended stays c 𝓜 𝓡 (
+      Goes-dropped 𝓛 2 (param 0 ps) ended.kept.0 (λ κs x f. refl),
+      (
+        Goes-dropped 𝓛 2 (param 1 ps) ended.kept.1.0 (λ κs x f. refl),
+        (Goes-dropped 𝓛 2 (param 2 ps) ended.kept.1.1.0 (λ κs x f. refl), (Goes-dropped 𝓛 2 (param 3 ps) ended.kept.1.1.1.0 (λ κs x f. refl), tt)),
+      ),
+    ) #self fn (compiled.unfolded 𝓤 𝓛.H 𝓜 𝓡 wired) (λ z are.
     let Post : Val → SProp 𝓤 = (walk_of 𝓛 ended stays c).post z in
     let a = z.0.3 in let vss = z.0.4 in
     let s : Stretch = a.0.now.slot in

@@ -1,5 +1,9 @@
 -- `grow` passes the block to `grown` as a value, and takes apart what is returned. Assumes `Logic`.
-use Rattle.vme_arena.proofs.Steps.{◌≡◌, ℕ, ◌*◌, ◌^◌, ◌≤◌, List, [], ◌∷◌, ◌++◌, true, false, Ok, Err, refl, sym, ap, subst, ◌∙◌, arith, lit<, w64, SProp, emp, id⊢, Fn, Val, vint, vptr, size, Env, WpFn, fact, fact_i, tables, ‵, raw, ◌⊛◌, some, later, prop, at_ret, ◌$◌, ◌∵◌, !, qed, by, move, keep, drop, use0, use1, split, split3, join, pick, rewrite, regoal, fsplit, fsplit3, fjoin, fpick, fpack, feq_i, flt_i, await, whole, sub, agg, vrt, in_variant, stop, fld, lit, of_opd, no_more, and_then, first, switches_on, exec, returns, enter, alloc_all, pass_all, free_all, look_at, get, get_in, get_tag, sets, sets_last, lands_as, env, RattleType, owns, Ptr, block_ptr, ptr_val, types_at, nothing, heard, alive, Stays, stay_dropped, walk_of, Goes-dropped, after, head, arm_body, fm, proved_at, leaves}
+use Rattle.vme_arena.proofs.Steps.{◌≡◌, ℕ, ◌*◌, ◌^◌, ◌≤◌, List, [], ◌∷◌, ◌++◌, true, false, Ok, Err, refl, sym, ap, subst, ◌∙◌, arith, lit<, w64, SProp, emp, id⊢, Fn, Val, vint, vptr, size, Env}
+use Rattle.vme_arena.proofs.Steps.{WpFn, fact, fact_i, tables, ‵, raw, ◌⊛◌, some, later, prop, at_ret, ◌$◌, ◌∵◌, !, qed, by, move, keep, drop, use0, use1, split, split3, join, pick, rewrite, regoal}
+use Rattle.vme_arena.proofs.Steps.{fsplit, fsplit3, fjoin, fpick, fpack, feq_i, flt_i, await, whole, sub, agg, vrt, in_variant, stop, fld, lit, of_opd, no_more, and_then, first, switches_on, exec}
+use Rattle.vme_arena.proofs.Steps.{returns, enter, alloc_all, pass_all, free_all, look_at, get, get_in, get_tag, sets, sets_last, lands_as, env, RattleType, owns, Ptr, block_ptr, ptr_val, types_at}
+use Rattle.vme_arena.proofs.Steps.{nothing, heard, alive, Stays, stay_dropped, walk_of, Goes-dropped, after, head, arm_body, fm, proved_at, leaves}
 use Rattle.vme_arena.proofs.Parts.{param, going_on}
 use mir.Syntax.{Args, a_type, w128, ty_int}
 use mir.MapTy.{inst_fn}
@@ -32,13 +36,23 @@ grow_spec 𝓤 𝓛 𝓜 𝓡 wired T L =
     let args : Args = layouts (a_type ∷ []) (T, tt) in
     let fn : Fn = inst_fn args compiled.function in
     let ps = En.signature.params in
-    let stays : Stays ps En.kept =
-    (stay_dropped (param 0 ps) En.kept.0, (stay_dropped (param 1 ps) En.kept.1.0, (stay_dropped (param 2 ps) En.kept.1.1.0, (stay_dropped (param 3 ps) En.kept.1.1.1.0, (stay_dropped (param 4 ps) En.kept.1.1.1.1.0, tt))))) in
+    let stays : Stays ps En.kept = (
+      stay_dropped (param 0 ps) En.kept.0,
+      (stay_dropped (param 1 ps) En.kept.1.0, (stay_dropped (param 2 ps) En.kept.1.1.0, (stay_dropped (param 3 ps) En.kept.1.1.1.0, (stay_dropped (param 4 ps) En.kept.1.1.1.1.0, tt)))),
+    ) in
     let c = clauses T 𝓛 𝓜.mem 𝓡.returns in
     let 𝓣 = tables 𝓤 𝓛.H 𝓜 𝓡 𝓡.env in
     let C = 𝓣.C in let Λ = 𝓣.Λ in
-    proved_at 𝓛 En stays c 𝓜 𝓡
-    (Goes-dropped 𝓛 3 (param 0 ps) En.kept.0 (λ κs x f. refl), (Goes-dropped 𝓛 3 (param 1 ps) En.kept.1.0 (λ κs x f. refl), (Goes-dropped 𝓛 3 (param 2 ps) En.kept.1.1.0 (λ κs x f. refl), (Goes-dropped 𝓛 3 (param 3 ps) En.kept.1.1.1.0 (λ κs x f. refl), (Goes-dropped 𝓛 3 (param 4 ps) En.kept.1.1.1.1.0 (λ κs x f. refl), tt))))) (#self args) fn (compiled.unfolded 𝓤 𝓛.H 𝓜 𝓡 wired (T, tt)) (λ z are.
+    proved_at 𝓛 En stays c 𝓜 𝓡 (
+      Goes-dropped 𝓛 3 (param 0 ps) En.kept.0 (λ κs x f. refl),
+      (
+        Goes-dropped 𝓛 3 (param 1 ps) En.kept.1.0 (λ κs x f. refl),
+        (
+          Goes-dropped 𝓛 3 (param 2 ps) En.kept.1.1.0 (λ κs x f. refl),
+          (Goes-dropped 𝓛 3 (param 3 ps) En.kept.1.1.1.0 (λ κs x f. refl), (Goes-dropped 𝓛 3 (param 4 ps) En.kept.1.1.1.1.0 (λ κs x f. refl), tt)),
+        ),
+      ),
+    ) (#self args) fn (compiled.unfolded 𝓤 𝓛.H 𝓜 𝓡 wired (T, tt)) (λ z are.
     let Post : Val → SProp 𝓤 = (walk_of 𝓛 En stays c).post z in
     let a = z.0.3 in let vss = z.0.4 in
     let t : Stretch = a.0.now.slot in
@@ -55,7 +69,10 @@ grow_spec 𝓤 𝓛 𝓜 𝓡 wired T L =
     let p : Ptr = block_ptr t.block at in move ! (1 ∷ 2 ∷ 0 ∷ []) $ fjoin3 ! $ rewrite ! 0 (λ (r : Ptr). ‵ (block_with_items (token_at t at) R r len old xs)) lies.0.0 refl $
     let x : (block.the_row R).Denot = record { ptr = p; marker = record {}; stretch = t; at = at; len = len; cap = old; items = xs } in
     let w : (piece.the_row).Denot = record { ptr = p; block = t.block; at = at; size = 0; placed = (refl, omega (arith, lies.0.1), refl) } in
-    let y : k.Ghost = ((z.0.0, z.0.1, z.0.2, (a.0, (x, (w, (len, (old, (new, tt)))))), (me ∷ [], (block_val p ∷ [], (piece_val p ∷ [], (vint w64 len ∷ [], (vint w64 old ∷ [], (vint w64 new ∷ [], tt))))))), tt) in
+    let y : k.Ghost = (
+      (z.0.0, z.0.1, z.0.2, (a.0, (x, (w, (len, (old, (new, tt)))))), (me ∷ [], (block_val p ∷ [], (piece_val p ∷ [], (vint w64 len ∷ [], (vint w64 old ∷ [], (vint w64 new ∷ [], tt))))))),
+      tt,
+    ) in
     let Held : Type 0 = (t ≡ t) × (len ≡ len) × (old ≡ old) in
     let Started : Type 0 = LiesIn t at (block_size (old * s)) p × (t.block ≡ t.block) × (at ≡ at) in
     let started : Started =

@@ -1,6 +1,10 @@
 -- `shrink` passes the block to `shrunk` as a value, and takes apart what is returned. Assumes
 -- `Logic`.
-use Rattle.vme_arena.proofs.Steps.{◌≡◌, ℕ, ◌^◌, ◌≤◌, List, [], ◌∷◌, ◌++◌, true, false, Ok, Err, refl, sym, ap, ◌∙◌, lit<, w64, SProp, emp, id⊢, Fn, Val, vint, vptr, size, Env, WpFn, fact, fact_i, tables, ‵, raw, ◌⊛◌, some, later, prop, at_ret, ◌$◌, ◌∵◌, !, qed, by, move, keep, drop, use0, use1, split, split3, join, pick, rewrite, regoal, fsplit, fsplit3, fjoin, fpick, fpack, feq_i, flt_i, await, whole, sub, agg, vrt, in_variant, stop, fld, lit, of_opd, no_more, and_then, first, switches_on, exec, returns, enter, alloc_all, pass_all, free_all, look_at, get, get_in, get_tag, sets, sets_last, lands_as, env, RattleType, owns, Ptr, block_ptr, ptr_val, types_at, nothing, heard, alive, Stays, stay_dropped, walk_of, Goes-dropped, after, head, arm_body, fm, proved_at, leaves}
+use Rattle.vme_arena.proofs.Steps.{◌≡◌, ℕ, ◌^◌, ◌≤◌, List, [], ◌∷◌, ◌++◌, true, false, Ok, Err, refl, sym, ap, ◌∙◌, lit<, w64, SProp, emp, id⊢, Fn, Val, vint, vptr, size, Env, WpFn, fact, fact_i}
+use Rattle.vme_arena.proofs.Steps.{tables, ‵, raw, ◌⊛◌, some, later, prop, at_ret, ◌$◌, ◌∵◌, !, qed, by, move, keep, drop, use0, use1, split, split3, join, pick, rewrite, regoal, fsplit, fsplit3}
+use Rattle.vme_arena.proofs.Steps.{fjoin, fpick, fpack, feq_i, flt_i, await, whole, sub, agg, vrt, in_variant, stop, fld, lit, of_opd, no_more, and_then, first, switches_on, exec, returns, enter}
+use Rattle.vme_arena.proofs.Steps.{alloc_all, pass_all, free_all, look_at, get, get_in, get_tag, sets, sets_last, lands_as, env, RattleType, owns, Ptr, block_ptr, ptr_val, types_at, nothing, heard}
+use Rattle.vme_arena.proofs.Steps.{alive, Stays, stay_dropped, walk_of, Goes-dropped, after, head, arm_body, fm, proved_at, leaves}
 use Rattle.vme_arena.proofs.Parts.{param, going_on}
 use mir.Syntax.{Args, a_type}
 use mir.MapTy.{inst_fn}
@@ -32,13 +36,23 @@ shrink_spec 𝓤 𝓛 𝓜 𝓡 wired T L =
     let args : Args = layouts (a_type ∷ []) (T, tt) in
     let fn : Fn = inst_fn args compiled.function in
     let ps = En.signature.params in
-    let stays : Stays ps En.kept =
-    (stay_dropped (param 0 ps) En.kept.0, (stay_dropped (param 1 ps) En.kept.1.0, (stay_dropped (param 2 ps) En.kept.1.1.0, (stay_dropped (param 3 ps) En.kept.1.1.1.0, (stay_dropped (param 4 ps) En.kept.1.1.1.1.0, tt))))) in
+    let stays : Stays ps En.kept = (
+      stay_dropped (param 0 ps) En.kept.0,
+      (stay_dropped (param 1 ps) En.kept.1.0, (stay_dropped (param 2 ps) En.kept.1.1.0, (stay_dropped (param 3 ps) En.kept.1.1.1.0, (stay_dropped (param 4 ps) En.kept.1.1.1.1.0, tt)))),
+    ) in
     let c = clauses T 𝓛 𝓜.mem 𝓡.returns in
     let 𝓣 = tables 𝓤 𝓛.H 𝓜 𝓡 𝓡.env in
     let C = 𝓣.C in let Λ = 𝓣.Λ in
-    proved_at 𝓛 En stays c 𝓜 𝓡
-    (Goes-dropped 𝓛 3 (param 0 ps) En.kept.0 (λ κs x f. refl), (Goes-dropped 𝓛 3 (param 1 ps) En.kept.1.0 (λ κs x f. refl), (Goes-dropped 𝓛 3 (param 2 ps) En.kept.1.1.0 (λ κs x f. refl), (Goes-dropped 𝓛 3 (param 3 ps) En.kept.1.1.1.0 (λ κs x f. refl), (Goes-dropped 𝓛 3 (param 4 ps) En.kept.1.1.1.1.0 (λ κs x f. refl), tt))))) (#self args) fn (compiled.unfolded 𝓤 𝓛.H 𝓜 𝓡 wired (T, tt)) (λ z are.
+    proved_at 𝓛 En stays c 𝓜 𝓡 (
+      Goes-dropped 𝓛 3 (param 0 ps) En.kept.0 (λ κs x f. refl),
+      (
+        Goes-dropped 𝓛 3 (param 1 ps) En.kept.1.0 (λ κs x f. refl),
+        (
+          Goes-dropped 𝓛 3 (param 2 ps) En.kept.1.1.0 (λ κs x f. refl),
+          (Goes-dropped 𝓛 3 (param 3 ps) En.kept.1.1.1.0 (λ κs x f. refl), (Goes-dropped 𝓛 3 (param 4 ps) En.kept.1.1.1.1.0 (λ κs x f. refl), tt)),
+        ),
+      ),
+    ) (#self args) fn (compiled.unfolded 𝓤 𝓛.H 𝓜 𝓡 wired (T, tt)) (λ z are.
     let Post : Val → SProp 𝓤 = (walk_of 𝓛 En stays c).post z in
     let a = z.0.3 in let vss = z.0.4 in
     let t : Stretch = a.0.now.slot in

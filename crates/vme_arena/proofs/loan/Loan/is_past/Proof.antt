@@ -1,5 +1,8 @@
 -- `is_past` compares two pointers into the region. Assumes `Logic`.
-use Rattle.vme_arena.proofs.Steps.{◌≡◌, ℕ, ◌+◌, ◌*◌, ◌≤◌, List, [], ◌∷◌, ◌++◌, refl, ap, ◌∙◌, arith, w64, SProp, emp, Fn, Val, vint, vptr, Env, WpFn, fact, fact_i, tables, ‵, raw, ◌⊛◌, prop, at_ret, ◌$◌, ◌∵◌, !, qed, by, move, keep, drop, use0, use2, split, rewrite, regoal, fsplit, fjoin, feq_i, whole, sub, agg, stop, fld, lit, bin, of_opd, no_more, and_then, first, blocks, exec, returns, enter, alloc_all, pass_all, free_all, look_at, get, get_in, sets, sets_last, is, env, RattleType, owns, bool, Ptr, block_ptr, tests_order, types_at, type_at, nothing, heard, Tuple, alive, Stays, stay_dropped, walk_of, Goes-dropped, Goes-blank, after, pair_of, pair_val, proved_at, leaves}
+use Rattle.vme_arena.proofs.Steps.{◌≡◌, ℕ, ◌+◌, ◌*◌, ◌≤◌, List, [], ◌∷◌, ◌++◌, refl, ap, ◌∙◌, arith, w64, SProp, emp, Fn, Val, vint, vptr, Env, WpFn, fact, fact_i, tables, ‵, raw, ◌⊛◌, prop, at_ret}
+use Rattle.vme_arena.proofs.Steps.{◌$◌, ◌∵◌, !, qed, by, move, keep, drop, use0, use2, split, rewrite, regoal, fsplit, fjoin, feq_i, whole, sub, agg, stop, fld, lit, bin, of_opd, no_more, and_then}
+use Rattle.vme_arena.proofs.Steps.{first, blocks, exec, returns, enter, alloc_all, pass_all, free_all, look_at, get, get_in, sets, sets_last, is, env, RattleType, owns, bool, Ptr, block_ptr}
+use Rattle.vme_arena.proofs.Steps.{tests_order, types_at, type_at, nothing, heard, Tuple, alive, Stays, stay_dropped, walk_of, Goes-dropped, Goes-blank, after, pair_of, pair_val, proved_at, leaves}
 use Rattle.vme_arena.proofs.Parts.{param}
 use mir.Val.{vbool}
 use lib.Dec.{ltb}

@@ -1,5 +1,9 @@
 -- `put` opens what is lent, and sets a tag. Assumes `Logic`.
-use Rattle.vme_arena.proofs.Steps.{◌≡◌, ℕ, ◌+◌, ◌-◌, ◌*◌, ◌<◌, ◌≤◌, List, [], ◌∷◌, ◌++◌, Bool, true, refl, sym, ap, ◌∙◌, arith, lit<, w8, w64, full_share, SProp, emp, wand, apply∗, Lft, Share, Fml, ftrue, fat, fsep, flft, Fn, ty_int, Val, vint, vptr, Env, WpFn, fact, fact_i, tables, sem, ‵, raw, ◌⊛◌, prop, at_ret, ◌$◌, ◌∵◌, !, qed, by, move, keep, drop, use0, use1, use2, split, join, rewrite, regoal, fsplit, fjoin, fpick, fpack, whole, sub, agg, stop, fld, lit, bin, store, of_opd, no_more, and_then, assigns, first, blocks, exec, returns, enter, alloc_all, pass_all, free_all, look_at, get, get_in, through, sets, sets_last, is, env, bor_open, obor_close, RattleType, owns, Ptr, block_ptr, types_at, type_at, nothing, heard, Tuple, Stays, stay_dropped, walk_of, Goes-dropped, Goes-blank, after, pair_of, pair_val, proved_at, leaves}
+use Rattle.vme_arena.proofs.Steps.{◌≡◌, ℕ, ◌+◌, ◌-◌, ◌*◌, ◌<◌, ◌≤◌, List, [], ◌∷◌, ◌++◌, Bool, true, refl, sym, ap, ◌∙◌, arith, lit<, w8, w64, full_share, SProp, emp, wand, apply∗, Lft, Share, Fml}
+use Rattle.vme_arena.proofs.Steps.{ftrue, fat, fsep, flft, Fn, ty_int, Val, vint, vptr, Env, WpFn, fact, fact_i, tables, sem, ‵, raw, ◌⊛◌, prop, at_ret, ◌$◌, ◌∵◌, !, qed, by, move, keep, drop, use0}
+use Rattle.vme_arena.proofs.Steps.{use1, use2, split, join, rewrite, regoal, fsplit, fjoin, fpick, fpack, whole, sub, agg, stop, fld, lit, bin, store, of_opd, no_more, and_then, assigns, first}
+use Rattle.vme_arena.proofs.Steps.{blocks, exec, returns, enter, alloc_all, pass_all, free_all, look_at, get, get_in, through, sets, sets_last, is, env, bor_open, obor_close, RattleType, owns, Ptr}
+use Rattle.vme_arena.proofs.Steps.{block_ptr, types_at, type_at, nothing, heard, Tuple, Stays, stay_dropped, walk_of, Goes-dropped, Goes-blank, after, pair_of, pair_val, proved_at, leaves}
 use Rattle.vme_arena.proofs.Parts.{param}
 use Rattle.vme_arena.proofs.Values.{loan_val, loan_own, loan_told, loan_made, piece_val, piece_own, piece_told, piece_made}
 use Rattle.vme_arena.proofs.Homes.{reaches}

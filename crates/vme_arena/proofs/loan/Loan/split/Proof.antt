@@ -1,5 +1,9 @@
 -- `split` cuts what is lent. Assumes `Logic`.
-use Rattle.vme_arena.proofs.Steps.{◌≡◌, ℕ, ◌+◌, ◌-◌, ◌*◌, ◌≤◌, List, [], ◌∷◌, ◌++◌, refl, sym, ap, ◌∙◌, arith, w64, SProp, emp, Lft, Share, ftrue, flft, fbor, Fn, Val, vint, vptr, Env, WpFn, fact, fact_i, tables, ‵, raw, ◌⊛◌, later, prop, at_ret, ◌$◌, ◌∵◌, !, qed, by, move, keep, drop, use0, use2, split, split3, join, rewrite, regoal, fsplit, fjoin, await, whole, sub, agg, stop, fld, lit, bin, of_opd, no_more, and_then, first, blocks, exec, returns, enter, alloc_all, pass_all, free_all, look_at, get, get_in, sets, sets_last, is, env, RattleType, owns, Ptr, block_ptr, types_at, type_at, nothing, heard, Tuple, Stays, stay_dropped, walk_of, Goes-dropped, Goes-blank, after, pair_of, pair_val, proved_at, leaves}
+use Rattle.vme_arena.proofs.Steps.{◌≡◌, ℕ, ◌+◌, ◌-◌, ◌*◌, ◌≤◌, List, [], ◌∷◌, ◌++◌, refl, sym, ap, ◌∙◌, arith, w64, SProp, emp, Lft, Share, ftrue, flft, fbor, Fn, Val, vint, vptr, Env, WpFn, fact}
+use Rattle.vme_arena.proofs.Steps.{fact_i, tables, ‵, raw, ◌⊛◌, later, prop, at_ret, ◌$◌, ◌∵◌, !, qed, by, move, keep, drop, use0, use2, split, split3, join, rewrite, regoal, fsplit, fjoin, await}
+use Rattle.vme_arena.proofs.Steps.{whole, sub, agg, stop, fld, lit, bin, of_opd, no_more, and_then, first, blocks, exec, returns, enter, alloc_all, pass_all, free_all, look_at, get, get_in, sets}
+use Rattle.vme_arena.proofs.Steps.{sets_last, is, env, RattleType, owns, Ptr, block_ptr, types_at, type_at, nothing, heard, Tuple, Stays, stay_dropped, walk_of, Goes-dropped, Goes-blank, after}
+use Rattle.vme_arena.proofs.Steps.{pair_of, pair_val, proved_at, leaves}
 use Rattle.vme_arena.proofs.Parts.{param}
 use Rattle.vme_arena.proofs.Values.{loan_val, loan_own, loan_told, loan_made}
 use Rattle.vme_arena.proofs.Homes.{cut_loan}

@@ -1,5 +1,10 @@
 -- `take` opens what is lent, and takes a granule whose tag is set. Assumes `Logic`.
-use Rattle.vme_arena.proofs.Steps.{◌≡◌, ◌+◌, ◌*◌, ◌<◌, List, [], ◌∷◌, ◌++◌, Bool, false, Some, None, refl, ap, ◌∙◌, arith, lit<, w8, w64, full_share, SProp, emp, wand, apply∗, Lft, Share, Fml, ftrue, fat, fsep, flft, Fn, ty_int, Val, vint, vptr, vcons, vnil, Env, WpFn, fact, fact_i, tables, sem, ‵, raw, ◌⊛◌, prop, at_ret, ◌$◌, ◌∵◌, !, qed, by, move, keep, drop, use0, use1, use2, split, join, rewrite, regoal, fsplit, fjoin, fpick, fpack, whole, sub, agg, live, stop, fld, lit, bin, load, look, store, of_opd, no_more, and_then, assigns, first, blocks, branches, exec, returns, enter, alloc_all, pass_all, free_all, look_at, get, get_in, through, sets, sets_last, is, env, bor_open, obor_close, RattleType, owns, Ptr, block_ptr, types_at, type_at, nothing, heard, Tuple, Stays, stay_dropped, walk_of, Goes-dropped, Goes-blank, after, head, inside, Some-of, none_of, pair_of, pair_val, proved_at, leaves}
+use Rattle.vme_arena.proofs.Steps.{◌≡◌, ◌+◌, ◌*◌, ◌<◌, List, [], ◌∷◌, ◌++◌, Bool, false, Some, None, refl, ap, ◌∙◌, arith, lit<, w8, w64, full_share, SProp, emp, wand, apply∗, Lft, Share, Fml}
+use Rattle.vme_arena.proofs.Steps.{ftrue, fat, fsep, flft, Fn, ty_int, Val, vint, vptr, vcons, vnil, Env, WpFn, fact, fact_i, tables, sem, ‵, raw, ◌⊛◌, prop, at_ret, ◌$◌, ◌∵◌, !, qed, by, move}
+use Rattle.vme_arena.proofs.Steps.{keep, drop, use0, use1, use2, split, join, rewrite, regoal, fsplit, fjoin, fpick, fpack, whole, sub, agg, live, stop, fld, lit, bin, load, look, store, of_opd}
+use Rattle.vme_arena.proofs.Steps.{no_more, and_then, assigns, first, blocks, branches, exec, returns, enter, alloc_all, pass_all, free_all, look_at, get, get_in, through, sets, sets_last, is, env}
+use Rattle.vme_arena.proofs.Steps.{bor_open, obor_close, RattleType, owns, Ptr, block_ptr, types_at, type_at, nothing, heard, Tuple, Stays, stay_dropped, walk_of, Goes-dropped, Goes-blank, after}
+use Rattle.vme_arena.proofs.Steps.{head, inside, Some-of, none_of, pair_of, pair_val, proved_at, leaves}
 use Rattle.vme_arena.proofs.Parts.{param, going_on, leaving}
 use Rattle.vme_arena.proofs.Values.{loan_val, loan_own, loan_told, loan_made, piece_val, piece_own, piece_made}
 use Rattle.vme_arena.proofs.Homes.{reaches, tag_fits, is_home}

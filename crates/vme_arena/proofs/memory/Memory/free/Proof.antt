@@ -1,5 +1,9 @@
 -- `free` gives the bytes back with the right to do so. Assumes `Logic`.
-use Rattle.vme_arena.proofs.Steps.{◌≡◌, ℕ, ◌*◌, ◌/◌, List, [], ◌∷◌, ◌++◌, refl, ap, ◌∙◌, arith, lit<, SProp, never, id⊢, Lft, Share, ftrue, flft, Ty, Fn, Val, vptr, vunit, capped_is, Env, WpFn, fact, tables, ‵, raw, ◌⊛◌, given, later, prop, at_ret, settles, ◌$◌, ◌∵◌, !, qed, by, move, drop, use1, use3, split, join, learn, rewrite, regoal, fsplit, fsplit3, fjoin, feq_i, await, whole, sub, stop, fld, lit, unit_lit, of_opd, no_more, and_then, first, blocks, exec, returns, enter, alloc_all, pass_all, free_all, look_at, get, get_in, sets, lands_last, env, owns, Ptr, block_ptr, in_a_block, types_at, nothing, heard, alive, Stays, stay_dropped, walk_of, Goes-dropped, Goes-blank, after, fm, proved_at, leaves}
+use Rattle.vme_arena.proofs.Steps.{◌≡◌, ℕ, ◌*◌, ◌/◌, List, [], ◌∷◌, ◌++◌, refl, ap, ◌∙◌, arith, lit<, SProp, never, id⊢, Lft, Share, ftrue, flft, Ty, Fn, Val, vptr, vunit, capped_is, Env, WpFn}
+use Rattle.vme_arena.proofs.Steps.{fact, tables, ‵, raw, ◌⊛◌, given, later, prop, at_ret, settles, ◌$◌, ◌∵◌, !, qed, by, move, drop, use1, use3, split, join, learn, rewrite, regoal, fsplit, fsplit3}
+use Rattle.vme_arena.proofs.Steps.{fjoin, feq_i, await, whole, sub, stop, fld, lit, unit_lit, of_opd, no_more, and_then, first, blocks, exec, returns, enter, alloc_all, pass_all, free_all, look_at}
+use Rattle.vme_arena.proofs.Steps.{get, get_in, sets, lands_last, env, owns, Ptr, block_ptr, in_a_block, types_at, nothing, heard, alive, Stays, stay_dropped, walk_of, Goes-dropped, Goes-blank}
+use Rattle.vme_arena.proofs.Steps.{after, fm, proved_at, leaves}
 use Rattle.vme_arena.proofs.Parts.{param, going_on, leaving}
 use mir.Syntax.{Args, a_type, dcons, dnil, place}
 use mir.MapTy.{inst_fn}

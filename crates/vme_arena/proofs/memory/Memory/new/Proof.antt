@@ -1,5 +1,9 @@
 -- `new` requests units of 16 bytes. Assumes `Logic`.
-use Rattle.vme_arena.proofs.Steps.{◌≡◌, ◌*◌, ◌/◌, ◌^◌, ◌<◌, List, [], ◌∷◌, ◌++◌, Some, None, refl, ◌∙◌, arith, lit<, w64, SProp, emp, id⊢, Lft, Share, ftrue, flft, Ty, Fn, Val, vint, vptr, vcons, vnil, capped_is, Env, WpFn, fact, fact_i, tables, ‵, raw, ◌⊛◌, later, prop, at_ret, ◌$◌, ◌∵◌, !, qed, by, move, drop, use0, use1, use2, split, join, regoal, fsplit, fjoin, await, whole, agg, live, vrt, in_variant, stop, fld, lit, of_opd, no_more, and_then, first, switches_on, exec, returns, enter, alloc_all, pass_all, free_all, look_at, get, get_in, get_tag, sets, sets_last, lands_as, env, RattleType, owns, Ptr, block_ptr, types_at, type_at, nothing, heard, Tuple, alive, Stays, stay_dropped, walk_of, Goes-dropped, after, head, arm_body, fm, Some-of, none_of, pair_of, pair_val, proved_at, leaves}
+use Rattle.vme_arena.proofs.Steps.{◌≡◌, ◌*◌, ◌/◌, ◌^◌, ◌<◌, List, [], ◌∷◌, ◌++◌, Some, None, refl, ◌∙◌, arith, lit<, w64, SProp, emp, id⊢, Lft, Share, ftrue, flft, Ty, Fn, Val, vint, vptr, vcons}
+use Rattle.vme_arena.proofs.Steps.{vnil, capped_is, Env, WpFn, fact, fact_i, tables, ‵, raw, ◌⊛◌, later, prop, at_ret, ◌$◌, ◌∵◌, !, qed, by, move, drop, use0, use1, use2, split, join, regoal}
+use Rattle.vme_arena.proofs.Steps.{fsplit, fjoin, await, whole, agg, live, vrt, in_variant, stop, fld, lit, of_opd, no_more, and_then, first, switches_on, exec, returns, enter, alloc_all, pass_all}
+use Rattle.vme_arena.proofs.Steps.{free_all, look_at, get, get_in, get_tag, sets, sets_last, lands_as, env, RattleType, owns, Ptr, block_ptr, types_at, type_at, nothing, heard, Tuple, alive, Stays}
+use Rattle.vme_arena.proofs.Steps.{stay_dropped, walk_of, Goes-dropped, after, head, arm_body, fm, Some-of, none_of, pair_of, pair_val, proved_at, leaves}
 use Rattle.vme_arena.proofs.Parts.{param, going_on}
 use mir.Syntax.{Args, a_type, dcons, dnil}
 use mir.MapTy.{inst_fn}

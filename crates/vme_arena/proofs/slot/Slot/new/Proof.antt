@@ -1,5 +1,7 @@
 -- `new` wraps what is held. Assumes `Logic`.
-use Rattle.vme_arena.proofs.Steps.{◌≡◌, List, [], ◌∷◌, ◌++◌, Some, refl, lit<, SProp, emp, ftrue, Fn, Val, vcons, vnil, WpFn, fact, fact_i, tables, ‵, raw, ◌⊛◌, prop, ◌$◌, ◌∵◌, !, qed, by, move, drop, use0, use1, split, rewrite, regoal, fsplit, fjoin, fpack, agg, live, lit, no_more, and_then, returns, enter, alloc_all, pass_all, free_all, look_at, get, sets, RattleType, owns, types_at, nothing, alive, Stays, stay_dropped, walk_of, Goes-blank, Some-of, proved_at, leaves}
+use Rattle.vme_arena.proofs.Steps.{◌≡◌, List, [], ◌∷◌, ◌++◌, Some, refl, lit<, SProp, emp, ftrue, Fn, Val, vcons, vnil, WpFn, fact, fact_i, tables, ‵, raw, ◌⊛◌, prop, ◌$◌, ◌∵◌, !, qed, by, move}
+use Rattle.vme_arena.proofs.Steps.{drop, use0, use1, split, rewrite, regoal, fsplit, fjoin, fpack, agg, live, lit, no_more, and_then, returns, enter, alloc_all, pass_all, free_all, look_at, get}
+use Rattle.vme_arena.proofs.Steps.{sets, RattleType, owns, types_at, nothing, alive, Stays, stay_dropped, walk_of, Goes-blank, Some-of, proved_at, leaves}
 use Rattle.vme_arena.proofs.Parts.{param}
 use denote.Exit.{rest, yes}
 use denote.Laws.{Typed}

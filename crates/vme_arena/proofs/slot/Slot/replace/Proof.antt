@@ -1,6 +1,9 @@
 -- `replace` opens the slot with the token of the thread, reads it, writes it and closes it. Assumes
 -- `Logic`.
-use Rattle.vme_arena.proofs.Steps.{List, [], ◌∷◌, ◌++◌, refl, SProp, emp, Lft, Share, ftrue, flft, Fn, Val, vptr, Env, WpFn, fact, fact_i, ‵, raw, ◌⊛◌, prop, at_ret, ◌$◌, ◌∵◌, !, qed, by, move, keep, use0, split, join, rewrite, regoal, fsplit, fsplit3, fjoin, whole, sub, look_in, store_in, stop, fld, addr, load, of_opd, assigns, first, blocks, exec, returns, enter, alloc_all, pass_all, free_all, look_at, get, through, sets, sets_last, env, owns, types_at, nothing, heard, Stays, stay_dropped, walk_of, Goes-dropped, Goes-blank, after, leaves}
+use Rattle.vme_arena.proofs.Steps.{List, [], ◌∷◌, ◌++◌, refl, SProp, emp, Lft, Share, ftrue, flft, Fn, Val, vptr, Env, WpFn, fact, fact_i, ‵, raw, ◌⊛◌, prop, at_ret, ◌$◌, ◌∵◌, !, qed, by, move}
+use Rattle.vme_arena.proofs.Steps.{keep, use0, split, join, rewrite, regoal, fsplit, fsplit3, fjoin, whole, sub, look_in, store_in, stop, fld, addr, load, of_opd, assigns, first, blocks, exec}
+use Rattle.vme_arena.proofs.Steps.{returns, enter, alloc_all, pass_all, free_all, look_at, get, through, sets, sets_last, env, owns, types_at, nothing, heard, Stays, stay_dropped, walk_of}
+use Rattle.vme_arena.proofs.Steps.{Goes-dropped, Goes-blank, after, leaves}
 use Rattle.vme_arena.proofs.Parts.{param}
 use base.Fml.{ftok}
 use base.Mask.{every}
