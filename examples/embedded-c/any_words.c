@@ -89,10 +89,10 @@ static void draw_bus(struct vmebus *bus, const struct vmebus *from) {
 
 /* Makes the next edge of the trace, or begins it again. */
 static void go_on(struct vmebus *bus, const struct vmebus *opened, const uint8_t *trace, size_t bytes, size_t *at) {
-    uint32_t told;
+    uint32_t delivered;
     const uint8_t *feed = memchr(trace + *at, '\n', bytes - *at);
     if (feed) {
-        vmebus_line(bus, trace + *at, (size_t)(feed - trace) - *at, &told);
+        vmebus_line(bus, trace + *at, (size_t)(feed - trace) - *at, &delivered);
         *at = (size_t)(feed - trace) + 1;
     } else {
         *bus = *opened;
@@ -101,12 +101,12 @@ static void go_on(struct vmebus *bus, const struct vmebus *opened, const uint8_t
 }
 
 /* Looks at an answer to an edge on a bus that was as `before`, and at what was delivered. */
-static void look_at(uint32_t answer, uint32_t told, const struct vmebus *bus,
+static void look_at(uint32_t answer, uint32_t delivered, const struct vmebus *bus,
                     const struct vmebus *before, unsigned long round) {
     uint32_t error = VMEBUS_ERROR(answer);
     if (answer != VMEBUS_NO_BUS && error > 5) fail("an answer that is none", round);
     if (answer == VMEBUS_ACCEPTED) return;
-    if (told != 0) fail("a refusal that delivered", round);
+    if (delivered != 0) fail("a refusal that delivered", round);
     if (memcmp(bus, before, sizeof *bus) != 0) fail("a refusal that changed a bus", round);
 }
 
@@ -219,20 +219,20 @@ static size_t draw_line(uint8_t *line, size_t room, const uint8_t *trace, size_t
 /* Steps a drawn edge, and a line that is drawn or a line of the trace, and looks at all that a bus tells. */
 static void step_round(struct vmebus *bus, const uint8_t *trace, size_t trace_bytes, unsigned long round) {
     struct vmebus before = *bus;
-    uint32_t *told = at_edge(DELIVERED, sizeof *told);
-    *told = draw();
+    uint32_t *delivered = at_edge(DELIVERED, sizeof *delivered);
+    *delivered = draw();
     uint32_t driver = draw_near(24), wire = draw_near(18), fall = draw_near(2), value = draw_near(56);
-    uint32_t answer = vmebus_step(bus, driver, wire, fall, value, told);
-    look_at(answer, *told, bus, &before, round);
+    uint32_t answer = vmebus_step(bus, driver, wire, fall, value, delivered);
+    look_at(answer, *delivered, bus, &before, round);
 
     uint8_t drawn[80];
     size_t bytes = draw_line(drawn, sizeof drawn, trace, trace_bytes);
     uint8_t *line = at_edge(TEXT, bytes);
     memcpy(line, drawn, bytes);
     before = *bus;
-    *told = draw();
-    answer = vmebus_line(bus, line, bytes, told);
-    look_at(answer, *told, bus, &before, round);
+    *delivered = draw();
+    answer = vmebus_line(bus, line, bytes, delivered);
+    look_at(answer, *delivered, bus, &before, round);
     look_around(bus, answer != VMEBUS_NO_BUS, round);
 }
 
@@ -260,9 +260,9 @@ int main(int count, char **words) {
     lay_out();
     struct vmebus opened, *bus = at_edge(BUS, sizeof *bus);
     memset(&opened, 0, sizeof opened);
-    uint32_t told = 1;
-    if (vmebus_line(&opened, trace, 0, &told) != VMEBUS_NO_BUS) fail("a bus of zeros that is one", 0);
-    look_at(VMEBUS_NO_BUS, told, &opened, &opened, 0);
+    uint32_t delivered = 1;
+    if (vmebus_line(&opened, trace, 0, &delivered) != VMEBUS_NO_BUS) fail("a bus of zeros that is one", 0);
+    look_at(VMEBUS_NO_BUS, delivered, &opened, &opened, 0);
     look_around(&opened, false, 0);
     if (vmebus_open(&opened, 1, scenario, scenario_bytes) != 0) fail("a scenario that opens no bus", 0);
 
