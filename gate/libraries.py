@@ -49,15 +49,23 @@ class Followed:
 
     def __init__(self, repository, log):
         self.repository, self.log = repository, log
+        self.size, self.found = 0, ({}, False)
 
     def are_below(self, name):
         """Whether the libraries below a crate are built; stops if they will not be."""
-        built, has_ended = self.read()
+        built, has_ended = self.found_now()
         wanted = trees.below(self.repository.uses, name)
         failed = [it for it in wanted if not built.get(it, not has_ended)]
         if failed:
             raise Misuse(f"rt ci did not prove {failed[0]}, so that no edit can be tried above it")
         return all(it in built for it in wanted)
+
+    def found_now(self):
+        """What the log says now: it is read again once it has grown."""
+        size = os.path.getsize(self.log) if os.path.isfile(self.log) else 0
+        if size != self.size:
+            self.size, self.found = size, self.read()
+        return self.found
 
     def read(self):
         """Returns whether each crate that the log names was built, and whether the log has ended."""

@@ -1,8 +1,8 @@
 """What came of an edit, and what came of edits in earlier runs on this machine.
 
 A record lies in the user's cache under the sum of all that the verdict on its edit rests on: the kit, the files of this
-folder, the texts and the lines of crates.txt of the edit's crate and of all crates below it, and the edit itself. So a record
-never goes stale. It does not depend on the batch in which its edit was tried, since edits of one batch do not touch one another.
+folder, the texts without their comments and the lines of crates.txt of the edit's crate and of all crates below it, and the edit
+itself. So a record never goes stale, but for the line in the source that it names. It does not depend on the batch in which its edit was tried, since edits of one batch do not touch one another.
 Only an edit that was refused as it must be is kept. A record that cannot be read counts for nothing: its edit is tried again.
 """
 
@@ -17,6 +17,7 @@ from functools import lru_cache
 
 import prover
 import trees
+from bare import bare
 from verdicts import Kind, Refusal
 
 HERE = os.path.dirname(os.path.realpath(__file__))
@@ -46,8 +47,9 @@ class Sums:
 
     @lru_cache(maxsize=None)
     def of_crate(self, name):
-        """The sum of a crate's texts and its line of crates.txt."""
-        return digest(self.repository.lines[name], *(it for file in sorted(self.repository.texts(name).items()) for it in file))
+        """The sum of a crate's texts without their comments, and of its line of crates.txt."""
+        texts = sorted(self.repository.texts(name).items())
+        return digest(self.repository.lines[name], *(it for file, text in texts for it in (file, bare(file, text))))
 
     def of_edit(self, edit):
         """The sum of all that the verdict on an edit rests on."""

@@ -18,6 +18,8 @@ import trees
 ROOM = 4_000_000
 # Where the prover makes temporary folders: it makes none but for the texts that it offers, and none here.
 NO_FOLDER = "/dev/null"
+# The folder beside a crate in which the prover keeps its work, and how the names of the files end that hold a checked module each.
+KEPT, MODULE = "kept", ".oantt"
 # How the name ends of the folder, beside the kept work, in which it keeps what it offered.
 OFFERS = "-offers"
 
@@ -40,14 +42,15 @@ class Prover:
 
     def check(self, crate, uses, folder, functions):
         """Checks these functions of the crate that lies in a folder, over the work that is kept beside it, and returns how that ended."""
-        words = [*self.words("check", crate, uses, folder, 1), "--progress", "--incremental", f"{folder}/kept"]
+        kept = f"{folder}/{KEPT}"
+        words = [*self.words("check", crate, uses, folder, 1), "--progress", "--incremental", kept]
         for it in sorted(functions) or [""]:
             words += ["--only", it]
         self.begin()
         try:
-            remove_offers(f"{folder}/kept")
+            remove_offers(kept)
             environment = {**os.environ, "TMPDIR": NO_FOLDER}
-            return self.commands.call(words, folder, environment, lambda: close_offers(f"{folder}/kept"))
+            return self.commands.call(words, folder, environment, lambda: close_offers(kept))
         finally:
             with self.turn:
                 self.at_work -= 1

@@ -87,6 +87,18 @@ def write_texts(folder, texts):
             it.write(text)
 
 
+def link_new(folder, to, end):
+    """Gives a folder those files of another one whose names end so and that it has not, by links. Files that come or go meanwhile do no harm."""
+    for file in files_of(folder):
+        other = f"{to}{file[len(folder):]}"
+        if file.endswith(end) and not os.path.lexists(other):
+            os.makedirs(os.path.dirname(other), exist_ok=True)
+            try:
+                os.link(file, other)
+            except FileNotFoundError:
+                pass
+
+
 def edit_names(root, name):
     """Returns the names of a crate's edits, in order."""
     folder = f"{root}/crates/{name}/must-fail"

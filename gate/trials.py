@@ -1,16 +1,17 @@
-"""Tries of edits in batches: one edit of each function in one copy of a crate, in which those functions are checked."""
+"""Tries of edits in batches: one edit of each function in one copy of a crate, in which those functions are checked.
 
-import re
+The batches of a crate are tried side by side once the first has ended, if lanes are free."""
+
 import shutil
 import threading
-import time
 
 import edit_files
 import trees
 import verdicts
+from choices import Misuse
 from outcomes import Outcome
-
-CHECKED = re.compile(r"checked (\S+), \d+ of \d+")
+from prover import KEPT, MODULE
+from spent import timed
 
 
 class Edits:
@@ -54,17 +55,16 @@ class Edits:
         return {path for it in batch for path in self.reach[it].own}
 
 
-class Trial:
-    """A crate's batches, one after another in one copy: to prove what they leave as it is costs as much as they do, and so is done once."""
+class Batch:
+    """A batch of a crate, and the copy of the crate in which it is tried, beside which the prover keeps its work."""
 
-    def __init__(self, edits, room, logs):
-        self.edits, self.name, self.logs, self.folder = edits, edits.name, logs, f"{room}/{edits.name}"
+    def __init__(self, trial, batch, label, copy):
+        self.trial, self.edits, self.batch, self.label, self.copy = trial, trial.edits, batch, label, copy
 
     def outcomes(self, prover):
-        """Tries all edits, and yields each with what came of it."""
-        for number, batch in enumerate(self.edits.batches()):
-            yield from self.try_batch(prover, batch, f"{self.name}-{number}")
-        shutil.rmtree(self.folder)
+        """Tries the batch, and yields each of its edits with what came of it."""
+        self.trial.share(self.copy)
+        yield from self.try_batch(prover, self.batch, self.label)
 
     def try_batch(self, prover, batch, label):
         """Tries a batch, and once more what was not refused in it: a proof by hand is not tried where a callee was refused."""
@@ -75,16 +75,20 @@ class Trial:
         if len(left) < len(batch):
             again = [left] if left else []
         else:
-            again = [[it] for it in left] if len(batch) > 1 else []
+            # Two edits may make a cycle of calls, which no check begins with: by halves few checks are lost.
+            half = len(left) // 2
+            again = [left[:half], left[half:]] if half else []
         for at, them in enumerate(again):
             yield from self.try_batch(prover, them, f"{label}-{at}")
 
     def check(self, prover, batch, label):
         """Checks the functions of a batch, with its edits."""
-        trees.write_texts(self.folder, self.edits.edited(batch))
-        ended = prover.check(self.name, self.edits.uses, self.folder, self.edits.functions(batch))
-        if self.logs:
-            with open(f"{self.logs}/{label}.log", "w", encoding="utf-8") as log:
+        trees.write_texts(self.copy, self.edits.edited(batch))
+        functions = self.edits.functions(batch)
+        ended = prover.check(self.trial.name, self.edits.uses, self.copy, functions)
+        self.trial.spent.add(ended, functions)
+        if self.trial.logs:
+            with open(f"{self.trial.logs}/{label}.log", "w", encoding="utf-8") as log:
                 log.write(f"{len(batch)} edits, {ended.seconds:.1f} s: {' '.join(it.name for it in batch)}\n{timed(ended)}")
         return verdicts.read(ended.said)
 
@@ -103,27 +107,90 @@ class Trial:
         return Outcome(edit.label, why=f"NOT REFUSED: {asked}, is proved with it")
 
 
-class Queue:
-    """The trials that are left, lowest crates first. Each can begin when the libraries below its crate are there."""
+class Trial:
+    """The batches of a crate, and the copies of the crate in which they are tried.
 
-    def __init__(self, trials, libraries, uses):
-        self.left = sorted(trials, key=lambda it: len(trees.below(uses, it.name)))
-        self.libraries, self.lock = libraries, threading.Lock()
+    The first batch is tried alone, since what all batches leave as it is costs as much as they do, and is to be proved once. The
+    others may be tried side by side. Each begins with what the checks in all copies have kept by then."""
+
+    def __init__(self, edits, room, logs, spent):
+        self.edits, self.name, self.logs, self.folder, self.spent = edits, edits.name, logs, f"{room}/{edits.name}", spent
+        self.left, self.copies, self.free, self.has_kept = None, [], [], False
+
+    def may_begin(self):
+        """Whether its next batch may begin, if the libraries below the crate are there."""
+        return self.left is None or self.has_kept
+
+    def size(self):
+        """How many edits are left to begin with."""
+        return len(self.edits.edits) if self.left is None else sum(len(batch) for _, batch in self.left)
+
+    def take(self):
+        """Takes the next batch, and a copy of the crate in which no other is tried."""
+        if self.left is None:
+            self.left = list(enumerate(self.edits.batches()))
+        if not self.free:
+            self.free.append(f"{self.folder}/{len(self.copies)}")
+            self.copies += self.free
+        number, batch = self.left.pop(0)
+        return Batch(self, batch, f"{self.name}-{number}", self.free.pop())
+
+    def give_back(self, copy):
+        """Takes back the copy of a batch that has ended."""
+        self.has_kept = True
+        self.free.append(copy)
+        if not self.left and len(self.free) == len(self.copies):
+            shutil.rmtree(self.folder)
+
+    def share(self, copy):
+        """Gives a copy what the prover has kept beside the others, and not beside this one."""
+        for other in self.copies:
+            if other != copy:
+                trees.link_new(f"{other}/{KEPT}", f"{copy}/{KEPT}", MODULE)
+
+
+class Queue:
+    """The crates whose edits are left. Each can begin when the libraries below it are there: those with the most edits first, since
+    the last ones would keep one lane at work, and the others idle."""
+
+    def __init__(self, trials, libraries):
+        self.trials, self.libraries, self.turn = [*trials], libraries, threading.Condition()
 
     def take(self, commands):
-        """Waits for a trial that can begin and returns it, or nothing once all are taken or the runner is stopped."""
-        while self.left and not commands.is_stopped:
-            with self.lock:
-                found = next((it for it in self.left if self.libraries.are_below(it.name)), None)
+        """Waits for a batch that can begin and returns it, or nothing once all are taken or the runner is stopped."""
+        with self.turn:
+            while self.trials and not commands.is_stopped:
+                found = self.find()
                 if found:
-                    self.left.remove(found)
                     return found
-            time.sleep(1)
+                self.turn.wait(1)
         return None
 
+    def ready(self):
+        """The crates of which a batch can begin; stops if there is none, and the libraries below one will not be built."""
+        found, faults = [], []
+        for it in self.trials:
+            try:
+                found += [it] if it.may_begin() and self.libraries.are_below(it.name) else []
+            except Misuse as fault:
+                faults.append(fault)
+        if faults and not found:
+            raise faults[0]
+        return found
 
-def timed(ended):
-    """What a check printed, with the processor time that it had spent when it ended with each function."""
-    lines = ended.said.split("\n")
-    times = [*ended.times, *[0] * len(lines)]
-    return "\n".join(f"{line} at {time:.2f} s" if CHECKED.fullmatch(line) else line for line, time in zip(lines, times))
+    def find(self):
+        """Takes a batch of a crate that has not begun, or else of one that has, if any can begin."""
+        ready = self.ready()
+        if not ready:
+            return None
+        trial = max(ready, key=lambda it: (it.left is None, it.size()))
+        batch = trial.take()
+        if not trial.left:
+            self.trials.remove(trial)
+        return batch
+
+    def end(self, batch):
+        """Notes that a batch has ended."""
+        with self.turn:
+            batch.trial.give_back(batch.copy)
+            self.turn.notify_all()

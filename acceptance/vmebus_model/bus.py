@@ -6,10 +6,21 @@ An edge has the number that it has in its trace, refused edges counted; `since` 
 from bisect import bisect_right
 from collections import defaultdict
 from copy import copy
+from typing import NamedTuple, Optional, Tuple
 
-from .traces import BOARD_WIRES, CONTROLLER_WIRES, GRANTS
+from .traces import BOARD_WIRES, CONTROLLER_WIRES, GRANTS, Cycle, Edge
 
 MOST_EDGES = 1_048_576
+
+
+class Made(NamedTuple):
+    """An accepted edge with its number, and what it replaced, so that it can be taken back."""
+
+    edge: Edge
+    number: int
+    moved: Optional[int]
+    on: Optional[Cycle]
+    last_grant: Tuple[int, Optional[int]]
 
 
 class Bus:
@@ -24,10 +35,13 @@ class Bus:
         self.answers = defaultdict(list)  # the numbers of a board's answers, by whether an acknowledge was shown
         self.on = {}  # what each address group showed last
         self.last_grant = (0, None)  # the level last granted, and the number of that grant
+        self.past = []  # the accepted edges
 
     def accept(self, edge, number):
         """Adds an edge to the history."""
         driver, wire, falls, cycle = edge
+        moved, on = self.moved.get((driver, wire)), self.on.get(driver)
+        self.past.append(Made(edge, number, moved, on, self.last_grant))
         if wire == "dtack" and falls:
             self.answers[driver, self.shown().is_acknowledge].append(number)
         if wire in GRANTS and falls:
@@ -42,10 +56,27 @@ class Bus:
         self.moved[driver, wire] = number
         self.accepted += 1
 
+    def take_back(self):
+        """Takes the last edge out of the history, and returns it with its number."""
+        made = self.past.pop()
+        driver, wire, falls, _ = made.edge
+        self.accepted -= 1
+        self.moved[driver, wire], self.on[driver] = made.moved, made.on
+        self.last_grant = made.last_grant
+        if falls:
+            self.low[wire] -= {driver}
+            self.falls[driver, wire].pop()
+        else:
+            self.low[wire] |= {driver}
+        if wire == "dtack" and falls:
+            self.answers[driver, self.shown().is_acknowledge].pop()
+        return made.edge, made.number
+
     def with_edge(self, edge, number):
         """Another bus of this history with an edge added; this one stays as it is."""
         other = copy(self)
         other.low, other.moved, other.on = dict(self.low), dict(self.moved), dict(self.on)
+        other.past = list(self.past)
         for name in ("falls", "answers"):
             setattr(other, name, defaultdict(list, {key: list(them) for key, them in getattr(self, name).items()}))
         other.accept(edge, number)
@@ -160,3 +191,15 @@ class Bus:
         """Whether a board holds an interrupt request of a level low and has not been served since."""
         interrupter = self.plan.interrupters.get(slot)
         return interrupter is not None and interrupter.level == level and slot in self.low["irq"] and self.served(slot) is None
+
+    # How it stands
+
+    def stand(self):
+        """All that a rule can read: after two histories that stand the same, each edge has the same verdict."""
+        plan = self.plan
+        return (
+            tuple(self.low.values()), self.shown(), self.level_last_granted(),
+            tuple(self.served(slot) is None for slot in plan.interrupters),
+            tuple(self.strobe(slot) is None for slot in plan.requesters),
+            tuple(None if it.is_ror else self.cycles(slot) for slot, it in plan.requesters.items()),
+        )

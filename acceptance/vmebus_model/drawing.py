@@ -4,6 +4,7 @@ from . import backplane
 from .bus import Bus
 from .draw import kind_of
 from .faults import Fault
+from .swaps import is_free
 from .traces import EDGES, text_of
 from .verdicts import open_edges, step
 
@@ -108,6 +109,18 @@ def near_edge(draw, bus):
     driver = draw.choice(bus.plan.drivers)
     wire = draw.choice(bus.plan.wires[driver])
     return draw.choice(EDGES[driver, wire, (driver in bus.low[wire]) == some(draw, 0.1)])
+
+
+def free_swaps(draw, plan, version, edges, chance):
+    """Some of the free swaps of legal edges, one after another from the beginning on: the place of each, and all edges after
+    it."""
+    bus = Bus(plan, version)
+    for place in range(len(edges) - 1):
+        first, second = edges[place : place + 2]
+        if some(draw, chance) and is_free(bus, first, second):
+            edges = [*edges[:place], second, first, *edges[place + 2 :]]
+            yield place, edges
+        bus.accept(edges[place], place + 1)
 
 
 def spoiled_trace(draw, text):

@@ -9,12 +9,15 @@ import subprocess
 import tempfile
 from pathlib import Path
 
+from .bus import Bus
 from .cases import Kept, first_difference
 from .draw import goals
 from .drawing import plan_of, scenario_of, some, spoiled_scenario, trace_of
-from .program import main
+from .faults import Fault
+from .program import main, rest_of
+from .races import ways_of
 from .sources import TABLE
-from .traces import HEADERS
+from .traces import HEADERS, Trace
 from .words import COMMANDS, FLAGS, GREATEST, NEEDED, RANGES, job_of
 
 SECONDS = 60
@@ -35,8 +38,8 @@ VALUES = {
 }
 
 
-def words_of(draw, edges):
-    """The words of some runs over the files of a draw."""
+def words_of(draw, edges, racing):
+    """The words of some runs over the files of a draw, some of whose edges race."""
     begin, files = draw.randint(1, edges + 1), FILES[:2]
     yield from (["replay", *files], ["check", *files], [], ["explain", *files])
     yield from (["explain", *files, "--edge", str(draw.randint(1, edges + 1))] for _ in range(3))
@@ -50,9 +53,18 @@ def words_of(draw, edges):
     yield ["cycles", *files]
     yield ["summary", *files]
     yield ["summary", *FILES, *draw.choice([[], ["trace.vme"], ["none.vme"]])]
+    yield from words_of_orders(draw, edges, racing)
     yield ["rule", *draw.choice([[], [draw.choice(list(TABLE))]])]
     yield from words_that_drive(draw)
     yield from (any_words(draw), any_words(draw))
+
+
+def words_of_orders(draw, edges, racing):
+    """The words of runs about other orders."""
+    files, others = FILES[:2], [draw.randint(1, edges + 1), *racing[:1], *racing[-1:]]
+    yield ["races", *files]
+    yield from (["races", *files, "--edge", str(draw.randint(1, edges + 1))] for _ in range(2))
+    yield from (["races", *files, "--other", str(it)] for it in others)
 
 
 def words_that_drive(draw):
@@ -93,6 +105,18 @@ def option(draw, name):
     return [f"{name}={value}"] if some(draw, 0.3) else [name, value]
 
 
+def racing_of(plan, text):
+    """The numbers of the edges of a trace that race, up to its fault."""
+    racing = []
+    try:
+        trace = Trace(rest_of(text.encode(), False))
+        for number, _, way in ways_of(Bus(plan, trace.version), trace):
+            racing += [number] if way and way.stop == "races" else []
+    except Fault:
+        pass
+    return racing
+
+
 class Draw:
     """One draw: a scenario, two traces, and the runs over them."""
 
@@ -101,9 +125,10 @@ class Draw:
         scenario = scenario_of(draw)
         plan = plan_of(scenario)
         self.traces = [trace_of(draw, plan), trace_of(draw, plan)] if plan else ["vme 1\n1 br-\n"] * 2
+        racing = racing_of(plan, self.traces[0]) if plan else []
         is_spoiled = some(draw, 0.2)
         self.scenario = spoiled_scenario(draw, scenario) if is_spoiled else scenario
-        self.words = list(words_of(draw, max(1, self.traces[0].count("\n") - 1)))
+        self.words = list(words_of(draw, max(1, self.traces[0].count("\n") - 1), racing))
         if not plan or is_spoiled:
             self.words = self.words[:3] + self.words[-6:]
 

@@ -117,16 +117,8 @@ def with_place(question, beginning, place):
 
 
 def kind_of(beginning):
-    """What decides how a beginning goes on: its set of places, and what a rule can read then."""
-    bus = beginning.bus
-    plan = bus.plan
-    return (
-        beginning.least, beginning.above,
-        tuple(bus.low.values()), bus.shown(), bus.level_last_granted(),
-        tuple(bus.served(slot) is None for slot in plan.interrupters),
-        tuple(bus.strobe(slot) is None for slot in plan.requesters),
-        tuple(None if it.is_ror else bus.cycles(slot) for slot, it in plan.requesters.items()),
-    )
+    """What decides how a beginning goes on: its set of places, and how the bus stands then."""
+    return beginning.least, beginning.above, beginning.bus.stand()
 
 
 def longer(question, kinds):

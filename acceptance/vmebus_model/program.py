@@ -12,6 +12,7 @@ from .explain import explain
 from .faults import Fault, WrongWords, escaped
 from .judging import check, check_all, replay
 from .order import order
+from .races import races
 from .show import show
 from .shrink import shrink
 from .sources import rule
@@ -153,7 +154,7 @@ def done(job, console):
         return replay(plan, trace, console, "--full" in options)
     if job.command in ("check", "cycles"):
         return (check if job.command == "check" else cycles)(plan, trace, console)
-    with_options = {"explain": explain, "shrink": shrink, "state": state, "show": show}
+    with_options = {"explain": explain, "shrink": shrink, "state": state, "show": show, "races": races}
     return with_options[job.command](plan, trace, options, console)
 
 

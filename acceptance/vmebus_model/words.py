@@ -25,6 +25,7 @@ COMMANDS = {
     "show": (2, 2, ("--from", "--to", "--color")),
     "cycles": (2, 2, ()),
     "summary": (2, None, ()),
+    "races": (2, 2, ("--edge", "--other")),
     "order": (2, 2, ("--slack", "--where")),
     "rule": (0, 1, ()),
     "drive": (1, 1, ("--edges", "--version", "--seed", "--seeds", "--until", "--of", "--after", "--progress")),
@@ -38,6 +39,7 @@ RANGES = {
     "--turns": (1, 1_000_000),
     "--version": (1, 2),
     "--edge": (1, GREATEST),
+    "--other": (1, GREATEST),
     "--from": (1, GREATEST),
     "--to": (1, GREATEST),
     "--after": (0, GREATEST),
@@ -86,6 +88,7 @@ def job_of(words):
     least, most, _ = COMMANDS[job.command]
     demand(least <= len(job.files) <= (most or len(job.files)), "the number of files")
     demand(all(it in job.options for it in NEEDED.get(job.command, ())), "an option is missing")
+    demand("--edge" not in job.options or "--other" not in job.options, "two edges")
     job.options.setdefault("--version", 1)
     return DEMANDS[job.command](job) if job.command in DEMANDS else job
 

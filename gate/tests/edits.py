@@ -186,7 +186,7 @@ def test_interrupts(count, root, room):
     write(f"{above}/crates.txt", "numbers:\npairs: numbers\n")
     write(f"{above}/crates/pairs/src/lib.rt", SOURCE)
     write_edit(above, "next_is_the_same", "file: src/lib.rt\nold:     number + 1\nnew:     number\n", "pairs")
-    interrupt(count, "an interrupt of a check", root, ["--anew"], f"{room}/one", "edited/numbers/src/*")
+    interrupt(count, "an interrupt of a check", root, ["--anew"], f"{room}/one", "edited/numbers/0/src/*")
     interrupt(count, "an interrupt of a build", above, ["pairs"], f"{room}/other", "built/crates/numbers/out")
 
 

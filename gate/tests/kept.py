@@ -6,6 +6,7 @@ import subprocess
 import time
 
 import outcomes
+from bare import bare
 from edit_files import Edit
 from outcomes import Outcome, Store
 from tests import kits
@@ -49,9 +50,23 @@ pub fn part(number: u8) -> u8
 # What may stand in place of a record.
 BROKEN = ["", "{", "[]", "7", '"text"', "null", "{}", "[" * 100_000, "\0\0\0", '{"key": "k", "label": "numbers/it", "function": "f", "place": "p", "kind": "none"}']
 
+# Texts of files, and what is left of them without comments.
+COMMENTS = (
+    ("src/lib.rt", "//! Numbers.\n\n/// One.\npub fn one() -> u8 {\n    // it is 1\n    1 // one\n}\n", "\npub fn one() -> u8 {\n    1 // one\n}\n"),
+    ("src/lib.rt", 'const IT: &str = "one\n// two\n";\n// three\n', 'const IT: &str = "one\n// two\n";\n'),
+    ("src/lib.rt", 'const IT: &str = r#"one"\n// two\n"#;\n// three', 'const IT: &str = r#"one"\n// two\n"#;\n'),
+    ("src/lib.rt", "const IT: char = '\"';\n// two\nconst OTHER: char = '\"';\n", "const IT: char = '\"';\nconst OTHER: char = '\"';\n"),
+    ("src/lib.rt", "/* one\n// two\n*/\n", "/* one\n// two\n*/\n"),
+    ("src/lib.rt", "// one\nmacro_rules! it {}\n", "// one\nmacro_rules! it {}\n"),
+    ("src/lib.rt", "/// One.\n#[derive(Clone, Parser)]\n", "/// One.\n#[derive(Clone, Parser)]\n"),
+    ("src/lib.rt", "/// One.\n#[derive(Clone, Copy)]\n", "#[derive(Clone, Copy)]\n"),
+    ("specs/It.antt", "-- one\nabbrev it = 1 -- two\n--\n--x\n", "abbrev it = 1 -- two\n--x\n"),
+)
+
 
 def test_all(count, room):
     """Runs all tests of this file: but for one, with a kit of their own."""
+    test_comments(count)
     test_lower(count, room)
     test_records(count, room)
     os.environ.update(kits.lay_out(f"{room}/kit"))
@@ -88,17 +103,26 @@ def test_changes(count, room):
     run(root, ONE)
     changes = {
         "the edit": lambda: write_edit(root, "two_is_wrong", "file: src/lib.rt\nold:     2\nnew:     wrong_two\n"),
-        "the crate": lambda: write(f"{root}/crates/numbers/src/lib.rt", SOURCE + "// a comment\n"),
+        "the crate": lambda: write(f"{root}/crates/numbers/src/lib.rt", SOURCE + "const THREE: u8 = 3;\n"),
         "the crate's line": lambda: write(f"{root}/crates.txt", "numbers: std_heap\n"),
     }
     for name, change in changes.items():
         change()
         tell_anew(count, f"a change of {name}", [run(root, ONE), run(root, ONE)])
+    write(f"{root}/crates/numbers/src/lib.rt", SOURCE.replace("/// One.", "/// The number one.\n// a comment") + "const THREE: u8 = 3;\n")
+    status, said = run(root, ONE)
+    count.tell("a change of comments is none", status == 0 and tried(said) == 0, said[-300:])
     with open(f"{gate}/sources.py", "a", encoding="utf-8") as it:
         it.write("# a comment\n")
     tell_anew(count, "a change of the runner", [run(root, ONE, edits=f"{gate}/edits") for _ in range(2)])
     other = kits.lay_out(f"{room}/other", "another kit")
     tell_anew(count, "a change of the kit", [run(root, ONE, environment=other) for _ in range(2)])
+
+
+def test_comments(count):
+    """A line that is a comment alone is left out, if nothing can read it."""
+    for file, text, wanted in COMMENTS:
+        count.tell(f"comments of {text!r}", bare(file, text) == wanted, bare(file, text))
 
 
 def tell_anew(count, name, runs):

@@ -1,6 +1,7 @@
 """A kit of the tests' own, by which an edit takes no time: its prover refuses a function whose name stands after `wrong_` in the source.
 
-Like the kit's it keeps work, and offers what it would have proved by, if it has a folder for that.
+Like the kit's it keeps work, and offers what it would have proved by, if it has a folder for that. It notes its calls in the file that
+VMEBUS_TEST_CALLS names, if it does.
 """
 
 import os
@@ -8,8 +9,10 @@ import os
 from tests.small import write
 
 PROVER = """#!/usr/bin/env python3
+import json
 import os
 import sys
+import time
 
 def is_made(folder):
     try:
@@ -18,10 +21,23 @@ def is_made(folder):
         return False
     return True
 
+def note(began):
+    name = f"work/{os.getpid()}.oantt"
+    found = [f"work/{it}" for it in os.listdir(f"{kept}/work")]
+    time.sleep(0.5)
+    open(f"{kept}/{name}", "w").close()
+    one = text.partition("fn one() -> u8 {")[2].partition("}")[0].strip()
+    said = {"began": began, "ended": time.time(), "folder": os.getcwd()}
+    with open(os.environ["VMEBUS_TEST_CALLS"], "a") as notes:
+        notes.write(json.dumps({**said, "one": one, "keeps": name, "found": found}) + "\\n")
+
+began = time.time()
 words = sys.argv[1:]
 kept = words[words.index("--incremental") + 1]
 is_made(f"{kept}/work")
 text = open("src/lib.rt", encoding="utf-8").read()
+if "VMEBUS_TEST_CALLS" in os.environ:
+    note(began)
 asked = [words[at + 1].rpartition("::")[2] for at, it in enumerate(words) if it == "--only"]
 for name in asked:
     if f"wrong_{name}" in text:

@@ -86,7 +86,8 @@ module _ (ρ : NamedLft) where
   module _ {M : Type 1} {𝓤 : Ura M} {𝓛 : Logic 𝓤} {K : Type 0} {Γ : List (Item 𝓤)} {G : Goal 𝓤 𝓛.H} (s : Stretch) where
     open 𝓛 use {H, A}
 
-    pub takes_out : K → (vs : List Val) → ((x : Content.Denot) (v : Val) → Fits s x → Good (layout Content) v → vs ≡ round v ∷ [] → Seq K 𝓛 (‵ (Content.own_val x (v ∷ [])) ∷ Γ) G) → Seq K 𝓛 (‵ (filled s vs) ∷ Γ) G
+    pub takes_out : K → (vs : List Val) → ((x : Content.Denot) (v : Val) → Fits s x → Good (layout Content) v →
+        vs ≡ round v ∷ [] → Seq K 𝓛 (‵ (Content.own_val x (v ∷ [])) ∷ Γ) G) → Seq K 𝓛 (‵ (filled s vs) ∷ Γ) G
     takes_out t vs k = fpick t (λ i. fsplit t $ move t (1 ∷ []) $ fpick t (λ is. drop t $ unwraps member t (content_Lawful 𝓛) [] [] i.held vs (λ v good e. k i.held v is good e)))
 
     pub puts_in : K → (x : Content.Denot) (v : Val) → Fits s x → Step K 𝓛 (‵ (filled s (round v ∷ [])) ∷ Γ) G (‵ (Content.own_val x (v ∷ [])) ∷ Γ) G

@@ -141,7 +141,8 @@ module _ {M : Type 1} {𝓤 : Ura M} (𝓛 : Logic 𝓤) (b : ℕ) where
   tags_back zero x y = qed 𝓛 (‵ (Hs x y 0) ∷ []) ∵ by ! (𝓛.laws.room_nil (ty_int w8) b y)
   tags_back (suc n) x y =
       qed 𝓛 (‵ (Hs x y (suc n)) ∷ []) ∵ fsplit ! $ fpick ! (λ t. fsplit ! $ move ! (1 ∷ []) $ drop ! $
-      use1 𝓛 (raw (H.room (ty_int w8) b y)) (𝓛.laws.at_room (ty_int w8) b y (vint w8 (bit t))) $ move ! (1 ∷ []) $ use1 𝓛 (raw (H.room (loose n) b (y + 1))) (tags_back n (x + 16) (y + 1)) $ move ! (1 ∷ 0 ∷ []) $
+      use1 𝓛 (raw (H.room (ty_int w8) b y)) (𝓛.laws.at_room (ty_int w8) b y (vint w8 (bit t))) $
+      move ! (1 ∷ []) $ use1 𝓛 (raw (H.room (loose n) b (y + 1))) (tags_back n (x + 16) (y + 1)) $ move ! (1 ∷ 0 ∷ []) $
       by ! (𝓛.laws.room_cons (ty_int w8) n b y))
 
   -- what is lent is cut in two

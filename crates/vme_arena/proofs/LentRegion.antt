@@ -12,7 +12,7 @@ use types.Logic.{Logic, sem}
 use types.Kit.{‵, raw, ◌⊛◌, ◌$◌, ◌∵◌, !, qed, by, move, keep, use1, split, split3, fjoin, fpack, feq_i, assume, suffices, updating, now, done}
 use types.Tokens.{obor_alter}
 use types.SemTy.{Body}
-use denote.RattleType.{RattleType, Valss, owns}
+use denote.RattleType.{RattleType, Valss}
 use denote.Memory.{mem, part_of, cell_at}
 use denote.Steps.{nothing}
 use denote.Struct.Struct.{Shape, within, layout}
@@ -34,10 +34,6 @@ region_type = unnamed (layout S)
 -- a region: its granules, and the values of its origin
 abbrev pub region_val : Val → List Val → Val
 region_val g us = vstruct (vcons g (of_list (us ++ [])))
-
--- what the region's fields own at these values
-abbrev pub fields_own : R.Denot → Val → List Val → Fml
-fields_own x g us = owns S.fields (region.the_type.to x) (g ∷ [], (us, tt))
 
 -- the second of them
 abbrev pub origin_own : R.Denot → List Val → Fml
@@ -67,7 +63,8 @@ module _ {M : Type 1} {𝓤 : Ura M} (𝓛 : Logic 𝓤) (κ : Lft) (q : Share) 
 
   whole : ent 𝓤 (sep 𝓤 Stays (sem 𝓛 Home)) (sem 𝓛 Lent)
   unfolding part_of
-  whole = qed 𝓛 ((‵ Blank ⊛ ‵ Fields ⊛ ‵ (origin_own x us) ⊛ ‵ (fat full_share region_type b o v) ⊛ ‵ (fauth γ (R.coded.code x))) ∷ ‵ Home ∷ []) ∵ split ! $ move ! (1 ∷ []) $ split ! $ move ! (1 ∷ []) $ split3 ! $
+  whole = qed 𝓛 ((‵ Blank ⊛ ‵ Fields ⊛ ‵ (origin_own x us) ⊛ ‵ (fat full_share region_type b o v) ⊛ ‵ (fauth γ (R.coded.code x))) ∷ ‵ Home ∷ []) ∵
+      split ! $ move ! (1 ∷ []) $ split ! $ move ! (1 ∷ []) $ split3 ! $
       -- [the origin; the cell; the name; the fields; the blank ones; those at home]
       move ! (5 ∷ 4 ∷ 3 ∷ []) $ fjoin ! $ move ! (1 ∷ 0 ∷ []) $ fjoin ! $ fjoin ! $
       feq_i ! (List Val) (v ∷ []) (v ∷ []) refl $ fjoin ! $ fpack ! (Valss S.fields) (within S (region.the_type.to x) (v ∷ [])) (g ∷ [], (us, tt)) $

@@ -37,9 +37,12 @@ module _ (R : RattleType) where
     resized t x len cap (Ok w) v told made kept =
         fpick t (λ us. fsplit t $ feq_l t (λ is. fpick t (λ vss. fsplit t $ feq_l t (λ is'. fsplit t $ move t (1 ∷ []) $ drop t $ fsplit t $ pure_l t (block_own w.ptr vss.0) (λ s.
         rewrite t 0 (λ (u : Stretch × ℕ × ℕ × List R.Denot). ‵ (block_with_items (token_at u.0 w.at) R w.ptr u.1 u.2 u.3)) (λ i. (told.0 i, told.1 i, told.2 i, told.3 i)) refl $
-        in_a_block t w.ptr (λ p. block_with_items (token_at x.stretch w.at) R p len cap x.items) (fst∗ 𝓤 (never 𝓤) (sem 𝓛 (fsep ffalse (token_at x.stretch w.at (array_of R cap) null_ptr)))) (λ b o is''.
-        made w.at b o (ap only is ∙ ap (λ (xs : List Val). live 0 (of_list xs)) (is' ∙ ap (λ (xs : List Val). xs ++ []) (block_told w.ptr vss.0 s)) ∙ ap (λ (p : Ptr). live 0 (vcons (block_val p) vnil)) is'')))))))
+        in_a_block t w.ptr (λ p. block_with_items (token_at x.stretch w.at) R p len cap x.items)
+        (fst∗ 𝓤 (never 𝓤) (sem 𝓛 (fsep ffalse (token_at x.stretch w.at (array_of R cap) null_ptr)))) (λ b o is''.
+        made w.at b o (ap only is ∙ ap (λ (xs : List Val). live 0 (of_list xs)) (is' ∙ ap (λ (xs : List Val). xs ++ []) (block_told w.ptr vss.0 s))
+        ∙ ap (λ (p : Ptr). live 0 (vcons (block_val p) vnil)) is'')))))))
     resized t x len cap (Err w) v told made kept =
         fpick t (λ us. fsplit t $ feq_l t (λ is. fpick t (λ vss. fsplit t $ feq_l t (λ is'. fsplit t $ move t (1 ∷ []) $ drop t $ fsplit t $ pure_l t (block_own w.ptr vss.0) (λ s.
         rewrite t 0 (λ (u : Blocks.Denot). ‵ (block_with_items (token_at u.stretch u.at) R u.ptr u.len u.cap u.items)) told refl $
-        kept (ap only is ∙ ap (λ (xs : List Val). live 1 (of_list xs)) (is' ∙ ap (λ (xs : List Val). xs ++ []) (block_told w.ptr vss.0 s)) ∙ ap (λ (u : Blocks.Denot). live 1 (vcons (block_val u.ptr) vnil)) told))))))
+        kept (ap only is ∙ ap (λ (xs : List Val). live 1 (of_list xs)) (is' ∙ ap (λ (xs : List Val). xs ++ []) (block_told w.ptr vss.0 s))
+        ∙ ap (λ (u : Blocks.Denot). live 1 (vcons (block_val u.ptr) vnil)) told))))))

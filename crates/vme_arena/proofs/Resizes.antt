@@ -101,18 +101,22 @@ module _ (E : El) where
           let left : old - len - (new - len) ≡ old - new = omega (arith, le) in
           let alike : bytes old ≡ bytes new = ap block_size (block_bytes old) ∙ sym same ∙ ap block_size (sym (block_bytes new)) in
           qed 𝓛 (‵ (block len old xs) ∷ []) ∵ fsplit3 ! $ move ! (1 ∷ []) $
-          use1 𝓛 (raw (room (new - len) b (at + len * s)) ⊛ ‵ (froom (block_type (old - len - (new - len))) b (at + len * s + (new - len) * s))) (parted (new - len) (old - len) b (at + len * s) (omega (arith, le, le'))) $ split ! $
+          use1 𝓛 (raw (room (new - len) b (at + len * s)) ⊛ ‵ (froom (block_type (old - len - (new - len))) b (at + len * s + (new - len) * s)))
+          (parted (new - len) (old - len) b (at + len * s) (omega (arith, le, le'))) $ split ! $
           use1 𝓛 (‵ (froom (block_type (new - len)) b (at + len * s))) (𝓛.laws.room-raw (ty_array τ (new - len)) b (at + len * s)) $
           rewrite ! 1 (λ (u : ℕ × ℕ). ‵ (froom (block_type u.0) b u.1)) (λ i. (left i, far i)) refl $ move ! (3 ∷ 1 ∷ []) $
           fpick ! (λ lies. use2 𝓛 (‵ (way new))
-          (qed 𝓛 (‵ (way old) ∷ ‵ (froom (block_type (old - new)) b (at + new * s)) ∷ []) ∵ assume ! (‵ (froom (block_type new) b at)) $ use1 𝓛 (raw (room new b at)) (𝓛.laws.raw-room (ty_array τ new) b at) $
+          (qed 𝓛 (‵ (way old) ∷ ‵ (froom (block_type (old - new)) b (at + new * s)) ∷ []) ∵ assume ! (‵ (froom (block_type new) b at)) $
+          use1 𝓛 (raw (room new b at)) (𝓛.laws.raw-room (ty_array τ new) b at) $
           move ! (0 ∷ 2 ∷ []) $ use2 𝓛 (raw (room old b at)) (emptied new old b at le') $ use1 𝓛 (‵ (froom (block_type old) b at)) (𝓛.laws.room-raw (ty_array τ old) b at) $
-          use2 𝓛 (‵ (units_at here (bytes old))) (apply∗ 𝓤 (sem 𝓛 (froom (block_type old) b at)) (sem 𝓛 (units_at here (bytes old)))) $ rewrite ! 0 (λ (k : ℕ). ‵ (units_at here k)) alike refl $ done !) $
+          use2 𝓛 (‵ (units_at here (bytes old))) (apply∗ 𝓤 (sem 𝓛 (froom (block_type old) b at)) (sem 𝓛 (units_at here (bytes old)))) $
+          rewrite ! 0 (λ (k : ℕ). ‵ (units_at here k)) alike refl $ done !) $
           fpack ! (LiesIn t at (bytes new) here) (λ _. way new) (subst (λ (k : ℕ). LiesIn t at k here) alike lies) $ move ! (2 ∷ 1 ∷ 0 ∷ []) $ fjoin3 ! $ done !)
 
       -- no bytes lie between the size of the block and its rounding, so the k bytes after it begin
       -- where its room ends
-      pub extended : (len old new k : ℕ) (xs : List E.row.Denot) → len ≤ old → old ≤ new → block_size (old * s) ≡ old * s → old * s + k ≡ block_size (new * s) → at + old * s + k < 2 ^ 63 → at + old * s + k ≤ t.end
+      pub extended : (len old new k : ℕ) (xs : List E.row.Denot) → len ≤ old → old ≤ new →
+          block_size (old * s) ≡ old * s → old * s + k ≡ block_size (new * s) → at + old * s + k < 2 ^ 63 → at + old * s + k ≤ t.end
           → sem 𝓛 (block len old xs) ∗ sem 𝓛 (units_at (block_ptr b (at + old * s)) k) ⊢ sem 𝓛 (block len new xs)
       extended len old new k xs le le' full sized short inside =
           let x : ℕ = at + old * s in
@@ -134,8 +138,10 @@ module _ (E : El) where
           fpick ! (λ lies. use2 𝓛 (‵ (way new))
           (qed 𝓛 (‵ (way old) ∷ raw Back ∷ []) ∵ assume ! (‵ (froom (block_type new) b at)) $ use1 𝓛 (raw (room new b at)) (𝓛.laws.raw-room (ty_array τ new) b at) $
           use1 𝓛 (raw (room old b at) ⊛ raw (room more b x)) (room_split E 𝓛 old new b at le') $ split ! $ use1 𝓛 (‵ (froom (block_type old) b at)) (𝓛.laws.room-raw (ty_array τ old) b at) $
-          move ! (0 ∷ 2 ∷ []) $ use2 𝓛 (‵ (units_at here (bytes old))) (apply∗ 𝓤 (sem 𝓛 (froom (block_type old) b at)) (sem 𝓛 (units_at here (bytes old)))) $ rewrite ! 0 (λ (j : ℕ). ‵ (units_at here j)) before refl $
+          move ! (0 ∷ 2 ∷ []) $ use2 𝓛 (‵ (units_at here (bytes old)))
+          (apply∗ 𝓤 (sem 𝓛 (froom (block_type old) b at)) (sem 𝓛 (units_at here (bytes old)))) $ rewrite ! 0 (λ (j : ℕ). ‵ (units_at here j)) before refl $
           move ! (1 ∷ 2 ∷ []) $ use2 𝓛 (‵ (units_at (block_ptr b x) k)) (apply∗ 𝓤 (room more b x) (sem 𝓛 (units_at (block_ptr b x) k))) $ move ! (1 ∷ 0 ∷ []) $
           use2 𝓛 (‵ (units_at here (old * s + k))) (glues 𝓛 b at (old * s) k level) $ rewrite ! 0 (λ (j : ℕ). ‵ (units_at here j)) after refl $ done !) $
-          fpack ! (LiesIn t at (bytes new) here) (λ _. way new) (subst (λ (j : ℕ). LiesIn t at j here) after ((refl, omega (arith, short), omega (arith, level, even)), lies.1, omega (arith, inside), lies.3)) $
+          fpack ! (LiesIn t at (bytes new) here) (λ _. way new)
+          (subst (λ (j : ℕ). LiesIn t at j here) after ((refl, omega (arith, short), omega (arith, level, even)), lies.1, omega (arith, inside), lies.3)) $
           move ! (2 ∷ 1 ∷ 0 ∷ []) $ fjoin3 ! $ done !)

@@ -1,5 +1,6 @@
 -- The names that the walks cite, in one place.
-pub use Rattle.std.proofs.Common.{◌≡◌, ℕ, zero, suc, ◌+◌, ◌-◌, ◌*◌, ◌/◌, ◌%◌, ◌^◌, ◌<◌, ◌≤◌, List, [], ◌∷◌, ◌++◌, Bool, true, false, T, not, eqb, Some, None, Ok, Err, IfSome, refl, sym, ap, subst, ◌∙◌, arith, lit<, eqb→eq, w8, w64}
+pub use Rattle.std.proofs.Common.{◌≡◌, ℕ, zero, suc, ◌+◌, ◌-◌, ◌*◌, ◌/◌, ◌%◌, ◌^◌, ◌<◌, ◌≤◌, List, [], ◌∷◌, ◌++◌, Bool, true, false, T, not, eqb, Some, None, Ok, Err, IfSome, refl, sym, ap, subst}
+pub use Rattle.std.proofs.Common.{◌∙◌, arith, lit<, eqb→eq, w8, w64}
 pub use base.Fraction.{full_share}
 pub use base.Logic.{SProp, emp, never, ent, sep, wand, id⊢, via, apply∗, upd_i}
 pub use base.Fml.{Lft, Share, Fml, ftrue, fat, fsep, fex, fwand, froom, flft, fbor, fobor}
@@ -11,7 +12,8 @@ pub use prog.Wp.{Env, WpFn}
 pub use contract.Monad.{fact, fact_i}
 pub use contract.Running.{tables}
 pub use types.Logic.{sem}
-pub use types.Kit.{‵, raw, ◌⊛◌, some, given, later, prop, at_ret, settles, ◌$◌, ◌∵◌, !, qed, by, done, move, keep, drop, use0, use1, use2, use3, split, split3, join, pick, learn, rewrite, regoal, fsplit, fsplit3, fjoin, fpick, fpack, feq_i, feq_l, flt_i, await, frame}
+pub use types.Kit.{‵, raw, ◌⊛◌, some, given, later, prop, at_ret, settles, ◌$◌, ◌∵◌, !, qed, by, done, move, keep, drop, use0, use1, use2, use3, split, split3, join, pick, learn, rewrite, regoal}
+pub use types.Kit.{fsplit, fsplit3, fjoin, fpick, fpack, feq_i, feq_l, flt_i, await, frame}
 pub use types.Part.{whole, sub, agg, look_in, store_in}
 pub use types.Match.{live, vrt, in_variant}
 pub use types.Run.{stop, fld, lit, unit_lit, bin, addr, load, look, store, init, of_opd, no_more, and_then, assigns, assigns_last, first, blocks, branches, switches_on, exec, returns, enter}

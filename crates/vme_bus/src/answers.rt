@@ -26,7 +26,7 @@ const RULES: u8 = 32;
 /// The number of an edge that is accepted and delivers a status/ID.
 pub(crate) const DELIVERED: u8 = 64;
 
-/// What stands where nothing is delivered.
+/// What stands if nothing is delivered.
 pub(crate) const NO_DELIVERY: Delivery = Delivery {
     handler: 0,
     level: 0,
@@ -42,7 +42,7 @@ pub struct AnswerRecord {
     /// 0 accepted, 1 E1, 2 E2, 3 E5, 64 accepted with a delivery; below 32 else E4 by the settling rule of so much less
     /// 16, and any other E3 by the rule of so much less 32.
     pub number: u8,
-    /// What is delivered, where the number is 64.
+    /// What is delivered, if the number is 64.
     pub delivery: Delivery,
 }
 
@@ -86,7 +86,7 @@ pub(crate) fn is_accepted(number: u8) -> bool
     number == ACCEPTED || number == DELIVERED
 }
 
-/// The number of a refusal, by one of the first rules where a rule refuses.
+/// The number of a refusal, by one of the first rules if a rule refuses.
 #[inline(always)]
 pub(crate) fn refusal_number(refused: Refused) -> u8
     ensures { is_short refused ≡ true → (d : DeliveryValue) → answer_in result d ≡ Err refused }
@@ -119,7 +119,7 @@ fn refusal_in(number: u8) -> Refused
     }
 }
 
-/// The answer of a number, with what is delivered where something is.
+/// The answer of a number, with what is delivered if something is.
 #[inline(always)]
 pub(crate) fn answer_in(number: u8, delivery: Delivery) -> Result<Option<Delivery>, Refused>
     ensures { result ≡ answer_in number delivery }
@@ -131,7 +131,7 @@ pub(crate) fn answer_in(number: u8, delivery: Delivery) -> Result<Option<Deliver
     }
 }
 
-/// The number of an edge that is accepted, whose delivery is kept where there is one.
+/// The number of an edge that is accepted, whose delivery is kept if there is one.
 #[inline(always)]
 pub(crate) fn accepted_number(delivered: Option<Delivery>, delivery: &mut Delivery) -> u8
     ensures { answer_in result delivery.new ≡ Ok delivered }

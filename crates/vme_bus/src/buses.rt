@@ -27,8 +27,8 @@ use vme_slots::Plan;
 
 /// A bus: the version of its rules, its plan, and the numbers that the edges so far lead to.
 ///
-/// It answers as a backplane does that has room for 1,048,576 edges, but stores no edge and asks
-/// for no memory.
+/// It answers like a backplane with room for 1,048,576 edges, but stores no edge and asks for no
+/// memory.
 #[derive(Drop)]
 pub struct Bus {
     version: Version,
@@ -84,7 +84,7 @@ impl Bus {
         self.past = Past::new();
     }
 
-    /// What holds of every bus.
+    /// The laws that every bus keeps.
     pub fn laws(&self)
         ensures accepted { IsAccepted self.now.plan }
         ensures legal { IsLegal self.now.version self.now.plan self.now.history }
@@ -111,7 +111,7 @@ impl Bus {
         self.laws();
     }
 
-    /// The answer to an edge, but for the end of the trace.
+    /// The answer to an edge, apart from E5, the end of the trace.
     #[inline(always)]
     fn judge(&self, edge: Edge) -> Result<(), Refused>
         ensures { result ≡ verdict_but_full self.now.version self.now.plan self.now.history edge }
@@ -119,7 +119,7 @@ impl Bus {
         self.state.judge(edge)
     }
 
-    /// The answer to an edge, but for what it delivers: the first that applies of E1 to E5, or
+    /// The answer to an edge, without what it delivers: the first of E1 to E5 that applies, or
     /// none.
     #[tactic(auto, using(vme_histories::proofs::Judged::refused, vme_histories::proofs::Judged::passed))]
     #[inline(always)]
@@ -138,8 +138,8 @@ impl Bus {
         }
     }
 
-    /// What `step` would answer to an edge: what it delivers, or the first that applies of E1 to
-    /// E5. Nothing is made.
+    /// What `step` would return for an edge: what the edge delivers, or the first of E1 to E5 that
+    /// applies. The bus stays as it is.
     pub fn answer(&self, edge: Edge) -> Result<Option<Delivery>, Refused>
         ensures { result ≡ answer self.now edge }
     {
@@ -149,7 +149,7 @@ impl Bus {
         }
     }
 
-    /// Whether the edge is refused for the end of the trace alone.
+    /// Whether the edge is refused only because the trace is full, by E5.
     fn lacks_room(&self, edge: Edge) -> bool
         ensures { result ≡ ((length self.now.history == self.now.max)
             && is_ok (verdict_but_full self.now.version self.now.plan self.now.history edge)) }
@@ -157,7 +157,7 @@ impl Bus {
         self.is_full() && self.judge(edge).is_ok()
     }
 
-    /// What is tested of an edge, but for the end of the trace.
+    /// What is tested of an edge, apart from E5, the end of the trace.
     fn outcome_but_full<A: Outcome>(&self, edge: Edge) -> A
         ensures { A.reports result
             (tested_but_full self.now.version self.now.plan self.now.history edge) }
@@ -165,9 +165,9 @@ impl Bus {
         self.state.outcome(edge)
     }
 
-    /// What is tested of an edge, as far as the answer to it comes: the one condition that fails at
-    /// E1 and E2, else those of its rule, and where they hold, that of its settling rule; behind
-    /// them, at E5, that of the room.
+    /// What is tested of an edge, up to its answer. If the answer is E1 or E2, that is the one
+    /// condition that fails. Otherwise it is the conditions of the edge's rule, then, if they hold,
+    /// the condition of its settling rule, and last, for E5, that the trace has room.
     pub fn outcome<A: Outcome>(&self, edge: Edge) -> A
         ensures { A.reports result (tested self.now edge) }
     {
@@ -179,7 +179,7 @@ impl Bus {
         }
     }
 
-    /// The conditions that an edge fails, but for the end of the trace.
+    /// The conditions that an edge fails, apart from E5, the end of the trace.
     fn failing_but_full(&self, edge: Edge) -> ArrayVec<Condition, 5>
         ensures { result.items
             ≡ unmet_but_full self.now.version self.now.plan self.now.history edge }
@@ -188,7 +188,7 @@ impl Bus {
     }
 
     /// The conditions that an edge fails, of the first of E1 to E5 that applies, in the order of
-    /// its guard: none where `step` would accept it.
+    /// its guard. There are none if `step` would accept the edge.
     pub fn failing(&self, edge: Edge) -> ArrayVec<Condition, 5>
         ensures { result.items ≡ unmet self.now edge }
     {
@@ -200,10 +200,10 @@ impl Bus {
         self.failing_but_full(edge)
     }
 
-    /// Makes the edge where the rules allow it, and answers what it delivers.
+    /// Makes the edge if the rules allow it, and returns what it delivers.
     ///
-    /// A refusal is the first that applies of E1 to E5, and leaves everything as it was. No memory
-    /// is asked for. `step_all` takes less time for many edges.
+    /// A refusal is the first of E1 to E5 that applies, and leaves the bus as it was. No memory is
+    /// asked for. `step_all` takes less time for many edges.
     pub fn step(&mut self, edge: Edge) -> Result<Option<Delivery>, Refused>
         ensures answer { result ≡ answer self.old edge }
         ensures accepted { is_ok result ≡ is_ok (verdict self.old edge) }
@@ -222,7 +222,7 @@ impl Bus {
         kept.answer()
     }
 
-    /// The number of the answer to an edge where the trace is full: it is refused.
+    /// The number of the answer to an edge if the trace is full: the edge is refused.
     fn number_when_full(&self, edge: Edge) -> u8
         requires full { (length self.now.history == self.now.max) ≡ true }
         ensures { (d : DeliveryValue) → answer_in result d ≡ answer self.now edge }
@@ -234,7 +234,7 @@ impl Bus {
         }
     }
 
-    /// Makes a well-formed edge where the rules allow it, and keeps the answer: the trace has room.
+    /// Makes a well-formed edge if the rules allow it, and keeps the answer. The trace has room.
     #[inline(always)]
     fn step_into(&mut self, edge: Edge, kept: &mut AnswerRecord)
         requires formed { is_well_formed edge ≡ true }
@@ -269,7 +269,7 @@ impl Bus {
         }
     }
 
-    /// Makes a well-formed edge where the rules allow it and the trace has room, and keeps the answer.
+    /// Makes a well-formed edge if the rules allow it and the trace has room, and keeps the answer.
     fn step_or_refuse(&mut self, edge: Edge, kept: &mut AnswerRecord)
         requires formed { is_well_formed edge ≡ true }
         ensures answer { answer_of kept.new ≡ answer self.old edge }
@@ -301,16 +301,17 @@ impl Bus {
         }
     }
 
-    /// Whether the trace has room for so many edges, if all of them are accepted.
+    /// Whether the trace has room for this many more edges, even if all of them are accepted.
     fn has_room(&self, edges: usize) -> bool
         ensures { IsTrue result ↔ (length self.now.history + edges ≤ self.now.max) }
     {
         edges <= (self.max - self.made) as usize
     }
 
-    /// Steps through all the edges, past those that are refused, and keeps the answers in the first records.
+    /// Steps through all the edges, past those that are refused, and keeps the answers in the first
+    /// records.
     ///
-    /// It is as if `step` was called with each.
+    /// The result is the same as that of a call of `step` with each edge in turn.
     pub fn step_all(&mut self, edges: &[Edge], records: &mut [AnswerRecord])
         requires formed { AreWellFormed edges.now }
         requires room { length edges.now ≤ length records.old }
@@ -391,11 +392,11 @@ impl Bus {
         self.state.pins(driver)
     }
 
-    /// All edges that the driver can make: of those that move one of its wires, those that would be
-    /// accepted, in the order of its wires. An address group goes on with each acknowledge, by
-    /// level, and then with each access, by slot.
+    /// All edges that the driver can make: the edges of its wires that would be accepted, in the
+    /// order of its wires. The address group can go on with each acknowledge, by level, and then
+    /// with each access, by slot.
     ///
-    /// Each is tried, whether or not a board would consider it.
+    /// Every edge is tried, whether or not a board would consider it.
     pub fn open_edges(&self, driver: Driver) -> ArrayVec<Edge, 36>
         ensures edges { result.items ≡ open_edges self.now driver }
         ensures all { IsAllThatIsAllowed self.now driver result.items }
@@ -428,7 +429,7 @@ impl Bus {
         self.made
     }
 
-    /// Whether it takes no further edge.
+    /// Whether the trace is full, so that the bus takes no further edge.
     pub(crate) fn is_full(&self) -> bool
         ensures { result ≡ (length self.now.history == self.now.max) }
     {

@@ -24,7 +24,8 @@ use std::marker::Model;
 use vme_histories::{Waiting, choice, put_controller, put_parts};
 use vme_model::{Cycle, Driver, Edge, Version};
 
-/// Of each part of the boards, the slots where it may have an edge to make: where it is in none of them, it has none.
+/// For each part of the boards, the slots where it may have an edge to make. A part has none in
+/// any other slot.
 #[derive(Clone, Copy)]
 pub(crate) struct Ready {
     pub(crate) requesters: SlotSet,

@@ -1,4 +1,4 @@
-//! What of a state the answers to later edges may depend on, but for the plan and the version.
+//! What of a state the answers to later edges may depend on, apart from the plan and the version.
 ghost use Rattle.std.specs.Prelude.{◌≡◌, List};
 ghost use Rattle.vme_model.specs.declared.signals.Version.{Version};
 ghost use Rattle.vme_model.specs.declared.signals.Edge.{Edge};

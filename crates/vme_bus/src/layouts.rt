@@ -33,9 +33,9 @@ pub enum Line {
 /// An input of a board.
 #[derive(Clone, Copy)]
 pub enum Input {
-    /// That of its grant chain, where it has a requester.
+    /// That of its grant chain, if it has a requester.
     Grant,
-    /// That of the acknowledge chain, where it has an interrupter.
+    /// That of the acknowledge chain, if it has an interrupter.
     Acknowledge,
 }
 

@@ -16,7 +16,7 @@ pub const NO_SLOT: u8 = 255;
 #[derive(Clone, Copy)]
 pub struct Seat {
     pub row: Row,
-    /// Of its grant chain; 0 where it has no requester.
+    /// Of its grant chain; 0 if it has no requester.
     pub grant_source: u8,
     /// Of the acknowledge chain.
     pub acknowledge_source: u8,
@@ -36,12 +36,12 @@ pub struct CycleRecord {
 #[repr(C)]
 #[derive(Clone, Copy)]
 pub struct RequesterRecord {
-    /// 0 where there is none.
+    /// 0 if there is none.
     pub stands: u8,
     pub level: u8,
-    /// 0 where it gives up the bus when another board requests it.
+    /// 0 if it gives up the bus when another board requests it.
     pub is_done: u8,
-    /// The most cycles, where it gives up the bus when its master is done.
+    /// The most cycles, if it gives up the bus when its master is done.
     pub burst: u8,
 }
 
@@ -49,10 +49,10 @@ pub struct RequesterRecord {
 #[repr(C)]
 #[derive(Clone, Copy)]
 pub struct InterrupterRecord {
-    /// 0 where there is none.
+    /// 0 if there is none.
     pub stands: u8,
     pub level: u8,
-    /// 0 where an acknowledge ends its request.
+    /// 0 if an acknowledge ends its request.
     pub is_rora: u8,
     pub status: u8,
 }
@@ -61,7 +61,7 @@ pub struct InterrupterRecord {
 #[repr(C)]
 #[derive(Clone, Copy)]
 pub struct SeatRecord {
-    /// 0 where the slot is empty.
+    /// 0 if the slot is empty.
     pub stands: u8,
     pub slot: u8,
     pub requester: RequesterRecord,

@@ -63,7 +63,7 @@ impl BusState {
         }
     }
 
-    /// The levels that the slot's board handles; none where there is no board.
+    /// The levels that the slot's board handles; none if there is no board.
     #[inline(always)]
     pub(crate) fn handler(&self, slot: u8) -> Levels
         ensures { OfBoard self.now slot (λ _ _ _ r. result ≡ r.handler) }

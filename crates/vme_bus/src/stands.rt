@@ -99,7 +99,7 @@ impl Bus {
         self.state().holder()
     }
 
-    /// The grant level of the slot's requester; 0 where there is none.
+    /// The grant level of the slot's requester; 0 if there is none.
     fn grant_level(&self, slot: u8) -> u8
         ensures { result ≡ option_map_or (λ q. q.level)
             (option_and_then (λ r. r.requester) (board self.now.plan slot)) 0 }
@@ -153,7 +153,7 @@ impl Bus {
         self.state().shown()
     }
 
-    /// The level last granted, 0 where there was no grant.
+    /// The level last granted, 0 if there was no grant.
     pub fn last_level(&self) -> u8
         ensures { result ≡ last_level self.now.history }
     {

@@ -27,7 +27,7 @@ macro_rules! by_direction {
 impl BusState {
     ghost use Rattle.vme_bus.specs.States.{IsStateOf, OfHistory};
 
-    /// Takes an edge where the rules allow it, and answers what it delivers.
+    /// Takes an edge if the rules allow it, and returns what it delivers.
     ///
     /// A refusal is the first that applies of E1 to E4, and leaves everything as it was. No edge is stored, so that no
     /// trace ends.
@@ -47,7 +47,7 @@ impl BusState {
         answer_in(number, delivery)
     }
 
-    /// Takes a well-formed edge where the rules allow it, in an arm for each wire and direction.
+    /// Takes a well-formed edge if the rules allow it, in an arm for each wire and direction.
     /// Gives the number of the answer, and what is delivered.
     ///
     /// Comparisons lead to the arm, since a processor foretells most of them, and may not foretell
@@ -106,7 +106,7 @@ impl BusState {
         }
     }
 
-    /// The same of an edge of the controller, in an arm where wire and direction are constants, so that the
+    /// The same of an edge of the controller, in an arm whose wire and direction are constants, so that the
     /// compiler leaves out what other edges need.
     #[inline(always)]
     pub(crate) fn step_controller(
@@ -137,7 +137,7 @@ impl BusState {
         }
     }
 
-    /// The same of an edge of a board's requester, in an arm where wire and direction are constants, so that the
+    /// The same of an edge of a board's requester, in an arm whose wire and direction are constants, so that the
     /// compiler leaves out what other edges need.
     #[inline(always)]
     pub(crate) fn step_requester(
@@ -169,7 +169,7 @@ impl BusState {
         }
     }
 
-    /// The same of an edge of a board's master, in an arm where wire and direction are constants, so that the
+    /// The same of an edge of a board's master, in an arm whose wire and direction are constants, so that the
     /// compiler leaves out what other edges need.
     #[inline(always)]
     pub(crate) fn step_master(
@@ -201,7 +201,7 @@ impl BusState {
         }
     }
 
-    /// The same of an edge of a board's interrupter, or of its answer, in an arm where wire and direction are constants, so that the
+    /// The same of an edge of a board's interrupter, or of its answer, in an arm whose wire and direction are constants, so that the
     /// compiler leaves out what other edges need.
     #[inline(always)]
     pub(crate) fn step_interrupter(
@@ -269,7 +269,7 @@ impl BusState {
         None
     }
 
-    /// Takes an edge of a board's interrupter, or an answer, that the rules allow, and answers what it delivers.
+    /// Takes an edge of a board's interrupter, or an answer, that the rules allow, and returns what it delivers.
     #[inline(always)]
     fn take_interrupter(&mut self, edge: Edge) -> Option<Delivery>
         requires { is_of parts.Interrupter edge.wire ≡ true }

@@ -1,4 +1,4 @@
-//! The verdict on an edge, but for the end of the trace.
+//! The verdict on an edge, apart from the end of the trace.
 ghost use Rattle.std.specs.Prelude.{◌≡◌, ◌&&◌, ◌<◌, ℕ, true, false, Some, Ok};
 ghost use Rattle.vme_model.specs.declared.signals.Driver.TheVariants.{Controller, Slot};
 ghost use Rattle.vme_model.specs.declared.signals.Part.TheVariants as parts;
@@ -155,7 +155,7 @@ impl BusState {
         }
     }
 
-    /// The settling rule that names the edge, and what its guard answers; 0 and a free one where none does.
+    /// The settling rule that names the edge, and what its guard answers; 0 and a free one if none does.
     #[inline(always)]
     pub(crate) fn settling<A: Outcome>(&self, wire: Wire, fall: bool) -> (u8, A)
         ensures number { OfHistory self.now (λ version p h.

@@ -5,7 +5,7 @@ use Rattle.vme_command_line.specs.Asked.{IsIdle, IsNoJob}
 use Rattle.vme_command_line.specs.Unfits.{IsUnfit}
 use Rattle.vme_command_line.specs.declared.Job.{Job}
 use Rattle.vme_command_line.specs.declared.Unfit.{Unfit}
-use Rattle.vme_command_line.specs.declared.Unfit.TheVariants.{Missing, NoMemory, Window, Beside, Event, Seedless, Aimless, Driver, Seeded, Seeds, Idle, Rule, Slack}
+use Rattle.vme_command_line.specs.declared.Unfit.TheVariants.{Missing, NoMemory, Window, Beside, Event, Seedless, Aimless, Driver, Seeded, Seeds, Idle, TwoEdges, Rule, Slack}
 
 one : (name : Text) (rows : List Row) (unfit : Unfit) → unfit ≢ Missing → unfit ≢ NoMemory → IsUnfit name rows unfit → IsNoJob name rows
 one name rows Missing other room is = absurd (other refl)
@@ -19,6 +19,7 @@ one name rows (Driver named) other room is = is
 one name rows Seeded other room is = is
 one name rows (Seeds named) other room is = is
 one name rows Idle other room is = is
+one name rows TwoEdges other room is = is
 one name rows (Rule named) other room is = is
 one name rows (Slack named) other room is = is
 

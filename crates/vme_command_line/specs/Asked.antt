@@ -15,7 +15,7 @@ use Rattle.vme_command_line.specs.Aims.{IsNameOf, NamesNobody}
 use Rattle.vme_command_line.specs.Alone.{aim_named}
 use Rattle.vme_command_line.specs.Commands.{commands}
 use Rattle.vme_command_line.specs.declared.Job.{Job}
-use Rattle.vme_command_line.specs.declared.Job.TheVariants.{Joined, OwnVersion, Replay, Check, Checks, Explain, Shrink, Rules, State, Show, Cycles, Summary, Sums, Order, Drive, Draw, Search, Run}
+use Rattle.vme_command_line.specs.declared.Job.TheVariants.{Joined, OwnVersion, Replay, Check, Checks, Explain, Shrink, Rules, State, Show, Cycles, Summary, Sums, Races, Walk, OtherOrder, Order, Drive, Draw, Search, Run}
 use Rattle.vme_command_line.specs.Limits.{IsNoWindow}
 use Rattle.vme_moments.specs.declared.slacks.Slacks.{Slacks}
 use Rattle.vme_command_line.specs.Numbers.{IsSeed}
@@ -161,6 +161,15 @@ AsksFor name rows (Summary scenario trace) = (name ≡ codes "summary")
     × IsFile (codes "SCENARIO") rows scenario.now × IsOne rows trace.now
 AsksFor name rows (Sums scenario traces) = (name ≡ codes "summary")
     × IsFile (codes "SCENARIO") rows scenario.now × AreSeveral rows traces.items
+AsksFor name rows (Races scenario trace) = (name ≡ codes "races")
+    × IsFile (codes "SCENARIO") rows scenario.now × IsFile (codes "TRACE") rows trace.now
+    × (spelled (codes "edge") rows ≡ None) × (spelled (codes "other") rows ≡ None)
+AsksFor name rows (Walk scenario trace edge) = (name ≡ codes "races")
+    × IsFile (codes "SCENARIO") rows scenario.now × IsFile (codes "TRACE") rows trace.now
+    × (spelled (codes "edge") rows ≡ Some edge) × (spelled (codes "other") rows ≡ None)
+AsksFor name rows (OtherOrder scenario trace edge) = (name ≡ codes "races")
+    × IsFile (codes "SCENARIO") rows scenario.now × IsFile (codes "TRACE") rows trace.now
+    × (spelled (codes "edge") rows ≡ None) × (spelled (codes "other") rows ≡ Some edge)
 AsksFor name rows (Order scenario moments slacks places) = (name ≡ codes "order")
     × IsFile (codes "SCENARIO") rows scenario.now × IsFile (codes "MOMENTS") rows moments.now
     × AreTheSlacks rows slacks × IsFlag (codes "where") rows places
@@ -218,6 +227,11 @@ IsUnaimed rows = ((first_of (codes "until") rows ≡ None)
 abbrev pub IsNoSlack : List Row → Type 0
 IsNoSlack rows = (named : Text) × (first_of (codes "slack") rows ≡ Some named) × NameNoSlacks named
 
+-- `--edge` and `--other` are both given
+abbrev pub AreTwoEdges : List Row → Type 0
+AreTwoEdges rows =
+    (spelled (codes "edge") rows ≢ None) × (spelled (codes "other") rows ≢ None)
+
 -- a command of this name is no job with these operands
 abbrev pub IsNoJob : Text → List Row → Type 0
 IsNoJob name rows =
@@ -226,6 +240,7 @@ IsNoJob name rows =
     ⊎ ((name ≡ codes "rule") × IsNoRule rows)
     ⊎ ((name ≡ codes "order") × IsNoSlack rows)
     ⊎ ((name ≡ codes "drive") × IsUnaimed rows)
+    ⊎ ((name ≡ codes "races") × AreTwoEdges rows)
 
 abbrev pub AskForNoJob : List Text → Type 0
 AskForNoJob words = IsSomeAnd (subcommand_of commands words) (λ met. IsNoJob met.0 met.1)

@@ -59,6 +59,9 @@ whole name least = valued name (Unsigned least (2 ^ 64 - 1))
 abbrev pub edge : Rule
 edge = whole (codes "edge") 1
 
+abbrev pub other : Rule
+other = whole (codes "other") 1
+
 abbrev pub after : Rule
 after = whole (codes "after") 0
 
@@ -140,6 +143,9 @@ cycles = (leaf (codes "cycles") (file (codes "TRACE") ∷ [])).top
 abbrev pub summary : Shape
 summary = (leaf (codes "summary") (files (codes "TRACE") ∷ [])).top
 
+abbrev pub races : Shape
+races = (leaf (codes "races") (file (codes "TRACE") ∷ edge ∷ other ∷ [])).top
+
 abbrev pub order : Shape
 order = (leaf (codes "order") (file (codes "MOMENTS") ∷ slack ∷ places ∷ [])).top
 
@@ -159,6 +165,6 @@ commands = record {
     has_version = true;
   };
   subs =
-      replay ∷ check ∷ explain ∷ shrink ∷ rule ∷ state ∷ show ∷ cycles ∷ summary ∷ order ∷ drive
-      ∷ run ∷ [];
+      replay ∷ check ∷ explain ∷ shrink ∷ rule ∷ state ∷ show ∷ cycles ∷ summary ∷ races ∷ order
+      ∷ drive ∷ run ∷ [];
 }

@@ -4,291 +4,11 @@ ghost use Rattle.clap.specs.Words.{App, Rule, Shape, app_of, new_app, rule_of, s
 ghost use Rattle.clap.specs.Simple.{on_top};
 ghost use Rattle.vme_command_line.specs.Commands as said;
 
+use crate::helps::*;
 use crate::{MOST_EDGES, MOST_TURNS, VERSION};
 use clap::builder::ValueParser;
 use clap::{Arg, ArgAction, Command, value_parser};
 use std::alloc::{AllocError, Global};
-
-const ABOUT: &str =
-    "Simulates and checks the arbitration bus and the interrupt bus of a VMEbus backplane, edge by \
-     edge.";
-
-const OVERVIEW: &str =
-    "Without a command, a scenario and after it a trace are read from standard input, and the trace
-is replayed:
-  cat board.toml tenure.vme | vmebus
-
-A scenario is a TOML file that says which boards stand in which slots. A trace is the line
-`vme 1` or `vme 2`, and then one edge per line, such as `1 br-` or `c bg3-`. docs/RULES.md has
-the rules, docs/TRACES.md has scenarios and traces, docs/COMMANDS.md has what each command
-prints, byte for byte, docs/FAULTS.md has the faults, and examples/ has scenarios and traces to
-start from.
-
-Exit status: 0 done; 1 a fault (one line on standard error), or a text such as this one, which
-goes to standard error, too (`vmebus --help 2>&1 | less`); 2 some edge was refused, or no order
-of moments is legal; 3 the limit of edges was reached, or `--until` did not come to its event.
-Under `set -e` the statuses 2 and 3 end a script.";
-
-const REPLAY: &str =
-    "Prints the verdict on each edge of a trace, and how many were accepted and refused";
-
-const REPLAY_USAGE: &str = "vmebus replay <SCENARIO> <TRACE> [--full]";
-
-const REPLAY_EXAMPLE: &str =
-    "Each edge has a line with its number and its verdict, such as `5 E3 G13`:
-  ok      accepted; `ok irq ..` says which status byte it delivers
-  E1      there is no such board, or it has no such wire
-  E2      the wire is already in that state
-  E3 Gk   the guard of rule Gk does not hold
-  E4 Sk   settling rule Sk does not hold
-  E5      the trace is full
-With --full each line has the edge as well: `5 3 bbsy- E3 G13`. The rules G1 to G26 and S1 to
-S4 stand in docs/RULES.md. A refused edge changes nothing, and the replay goes on after it.
-`vmebus explain` says why an edge is refused, `vmebus show` draws edges, and `vmebus summary`
-counts them. The exit status is 2 if an edge was refused.
-
-Examples:
-  vmebus replay board.toml tenure.vme
-  vmebus replay board.toml tenure.vme --full";
-
-const CHECK: &str =
-    "Prints whether every edge of each trace is allowed, or which is the first that is not";
-
-const CHECK_USAGE: &str = "vmebus check <SCENARIO> <TRACE>...";
-
-const CHECK_EXAMPLE: &str =
-    "It prints `legal N`, with the number of edges, or `illegal N VERDICT` for the first refused
-edge, and reads no further. `vmebus replay --help` lists the verdicts, docs/RULES.md has the
-rules that they name, and `vmebus explain` says why that edge is refused. The exit status is 2
-if an edge was refused.
-
-If there are several traces, each begins at power-up, and each has such a line, which begins
-with the name of its file: `tenure.vme: legal 94`. If one of them has a fault, the fault is
-reported, and the others are still checked. The exit status is 1 then, even if an edge was
-refused.
-
-Examples:
-  vmebus check board.toml tenure.vme
-  vmebus check board.toml drawn-1.vme drawn-2.vme drawn-3.vme";
-
-const EXPLAIN: &str = "Says why an edge of a trace is accepted or refused";
-
-const EXPLAIN_USAGE: &str = "vmebus explain <SCENARIO> <TRACE> [--edge <N>]";
-
-const EXPLAIN_EXAMPLE: &str =
-    "It prints the number of the edge, the edge and its verdict, and then each condition that was
-tested: `holds ..` or `fails ..`, and below it the wires that it depends on, with the edge that
-moved each of them last. N counts refused edges too. Without --edge it explains the first edge
-that is refused, or prints `legal N` if none is. It reads no further than that edge. The exit
-status is 0 if the edge is accepted, 2 if it is refused, and 1 at a fault. docs/COMMANDS.md has
-each line, and docs/RULES.md the rules.
-
-At G1 to G26 and S1 to S4 ` (profile)` follows a condition that is stricter than the standard, and
-the others are the standard's; `vmebus rule NAME` prints the source of each. One mark is coarse:
-`the arbiter picks level N` has it, but an arbiter that breaks its own policy breaks the standard.
-A settling rule is tested only if all conditions before it hold. No source was compared with the
-text of the standard: look it up before you rely on it.
-
-Example:
-  vmebus explain board.toml tenure.vme --edge 8";
-
-const SHRINK: &str =
-    "Prints a short trace in which an edge of a trace is accepted or refused in the same way";
-
-const SHRINK_USAGE: &str = "vmebus shrink <SCENARIO> <TRACE> [--edge <N>]";
-
-const SHRINK_EXAMPLE: &str =
-    "It leaves out edges before edge N as long as edge N has the same answer: its verdict, with the
-conditions that fail if it is refused, or the events that it brings if it is accepted. The
-trace that it prints ends with edge N, and every edge before that is needed. There may be a
-shorter one with the same answer. N counts refused edges too. Without --edge it takes the first
-edge that is refused, or prints `legal N` if none is. It reads no further than that edge. The
-exit status is 0 if the edge is accepted, 2 if it is refused, and 1 at a fault.
-docs/COMMANDS.md says which edges are left out.
-
-Example:
-  vmebus shrink board.toml tenure.vme --edge 8 > short.vme";
-
-const RULE: &str = "Prints the rules, or where the conditions of one rule come from";
-
-const RULE_USAGE: &str = "vmebus rule [NAME]";
-
-const RULE_EXAMPLE: &str =
-    "It prints a line for each rule: its name, its edge, and the rule in a sentence. With NAME it
-prints the line of that rule, and a line for each of its conditions: the chapter of the
-standard that asks for it, or `profile` if it is stricter than the standard, and why. NAME is
-E1, E2, G1 to G26, S1 to S4 or E5; of these E1, E2 and E5 have no source. No source was compared
-with the text of the standard: look it up before you rely on it. docs/RULES.md has the guards, and
-says which sources are from memory. docs/COMMANDS.md has each line.
-
-Example:
-  vmebus rule G13";
-
-const STATE: &str = "Prints where the bus stands after a trace, or after its first edges";
-
-const STATE_USAGE: &str = "vmebus state <SCENARIO> <TRACE> [--after <N>]";
-
-const STATE_EXAMPLE: &str =
-    "It prints who holds the bus, where a grant stands, what the address lines show, who requests
-the bus, which interrupts are pending, the wires that each driver holds low, and all edges that
-would be accepted next. `since N` is the number of an edge in the trace. With --after it reads
-no further than the N-th edge; N counts refused edges too, and 0 is power-up. The exit status
-is 0, or 1 at a fault. docs/COMMANDS.md has each line.
-
-Example:
-  vmebus state board.toml tenure.vme --after 4";
-
-const SHOW: &str =
-    "Draws a timing picture of a trace, a row for each wire and a column for each edge";
-
-const SHOW_USAGE: &str = "vmebus show <SCENARIO> <TRACE> [--from <A>] [--to <B>] [--color]";
-
-const SHOW_EXAMPLE: &str =
-    "Each wire that an edge of A to B moves, or tries to move, has a row, such as
-`2 bbsy  --\\__x_/-`:
-  \\ /     an accepted fall, an accepted rise
-  x       a refused edge of this wire
-  _ -     another edge, while the wire is low, while it is high
-Four rows below them show the state after each edge: `grant at` is the slot at which a grant
-waits, `holder` the slot that drives BBSY* low, `shown` the target of an access or the level of
-an acknowledge, and `verdict` is `x` refused, `!` a status byte delivered, or `.` accepted.
-Slots are `1` to `9`, then `A` for 10 to `L` for 21; the levels of an acknowledge are `a` for 1
-to `g` for 7. It reads no further than edge B. The exit status is 2 if one of the edges 1 to B
-is refused, 0 if none is, and 1 at a fault. docs/COMMANDS.md has each line.
-
-Example:
-  vmebus show board.toml tenure.vme --from 1 --to 8";
-
-const CYCLES: &str = "Prints a line for each cycle, each tenure and each refused edge of a trace";
-
-const CYCLES_USAGE: &str = "vmebus cycles <SCENARIO> <TRACE>";
-
-const CYCLES_EXAMPLE: &str =
-    "A cycle or a tenure goes from edge A to edge Z, and S is the slot of its board:
-  A..Z S access T answered at I
-          it accessed slot T, which answered with edge I
-  A..Z S acknowledge L status B from Q asked I
-          it acknowledged level L, and slot Q, which had requested that with edge I, answered B
-  A..Z S access T bus error, A..Z S acknowledge L bus error
-          nobody answered, and the bus timer ended the cycle
-  A..Z S tenure asked R cycles C
-          it requested the bus with edge R, held it from A to Z, and began C cycles
-  N refused EDGE VERDICT
-          edge N was refused, with the verdict of `vmebus replay`
-All these numbers count refused edges too. A line is printed at edge Z. What has not ended by
-the end of the trace has `A..` in place of `A..Z`. The last line,
-`cycles C tenures T refused R`, counts the lines of each kind that ended. The exit status is 2
-if an edge was refused, 0 if none was, and 1 at a fault. docs/COMMANDS.md has each line.
-
-Example:
-  vmebus cycles board.toml tenure.vme";
-
-const SUMMARY: &str = "Counts what traces exercised, who waited for the bus and who held it";
-
-const SUMMARY_USAGE: &str = "vmebus summary <SCENARIO> <TRACE>...";
-
-const SUMMARY_EXAMPLE: &str =
-    "It prints how many edges were accepted and refused, in all and by each rule, by which rules
-none was accepted, and which events came, how often, and which never did. For each board it
-prints how often it requested the bus, how many edges it waited for it and held it, and how
-often it answered. `first N` and `since N` are numbers of edges in the trace; N counts refused
-edges too. The exit status is 2 if an edge was refused, 0 if none was, and 1 at a fault, and
-then nothing is printed.
-
-If there are several traces, each begins at power-up. It prints the sums over all of them, and
-the greatest of their longest waits and holds. No number of an edge is printed then.
-docs/COMMANDS.md has each line.
-
-Examples:
-  vmebus summary board.toml tenure.vme
-  vmebus summary board.toml drawn-1.vme drawn-2.vme drawn-3.vme";
-
-const ORDER: &str =
-    "Prints a legal order of edges that were seen at the same moments, if there is one";
-
-const ORDER_USAGE: &str = "vmebus order <SCENARIO> <MOMENTS> [--slack <S>] [--where]";
-
-const ORDER_EXAMPLE: &str =
-    "A clocked design moves several wires at once, and does not say in which order. MOMENTS is a
-trace with lines `@N` between its edges. An edge was seen at the moment of the last `@N` above
-it, such as the number of the clock. Edges of one moment may have been made in any order; those
-of a later moment were made after them.
-
-With --slack an edge may have been made up to S moments before it was seen. S is a number for
-all drivers, or a list of drivers with a number each, such as `c=2,5=1`; the others have 0.
-Edges that one board made at different moments keep their order. So do those of the arbiter, of
-the IACK driver, and of the bus timer.
-
-If the rules allow some order of all edges, the first of these is printed as a trace, and the
-exit status is 0. It leaves the edges as they are listed as far as the rules let them. If no
-order is allowed, the longest beginning that is allowed is printed, and after it each edge that
-could come next. All of these are refused there, and `vmebus explain` says why the first of
-them is. The exit status is 2 then, and 1 at a fault. With --where each edge of that trace has
-a line with its number, its line in MOMENTS and its moment. docs/COMMANDS.md has each line, and
-docs/RTL.md says how to print moments.
-
-Example:
-  vmebus order board.toml seen.vme --slack c=2 > tenure.vme";
-
-const DRIVE: &str =
-    "Prints a trace that the drivers of a scenario make in turn, or one that is drawn at random";
-
-const DRIVE_USAGE: &str =
-    "vmebus drive <SCENARIO> --edges <N> [--seed <S> [--until <EVENT> [--of <D>] [--after <N>]]] \
-     [--version <V>]
-       vmebus drive <SCENARIO> --edges <N> --seeds <S..T> --until <EVENT> [--of <D>] [--after <N>] \
-     [--progress] [--version <V>]";
-
-const DRIVE_EXAMPLE: &str =
-    "In each round the controller and then each board makes one of the edges that are open to it.
-The trace ends with the given number of edges, and then the exit status is 3, or after a round
-in which nobody could make one, and then it is 0.
-
-With --seed there are no rounds: each edge is drawn at random from all edges that would be
-accepted, of all drivers. A seed always draws the same trace. The exit status is 3 after the
-given number of edges, and 0 if nobody could make another one.
-
-With --until the trace ends as soon as EVENT comes. The exit status is 0 if it came, and
-otherwise 3. EVENT is a situation that an accepted edge brings about,
-  grant-passed late-request overtaken early-release overlap full-burst bus-clear rivals delivery
-  iack-passed answered-again spurious bus-error, and in version 2 withdrawn grant-timeout
-or a condition that refuses an edge, which is then the last of the trace: a rule and the one of its
-conditions that fails, as `vmebus explain` prints it, with N for a level; a rule such as G13 for any
-of its conditions; or a settling rule such as S2. `vmebus rule G13` prints the conditions of G13.
-If the edge has a settling rule, that rule may fail as well, and a rule such as G7 may end with it.
-docs/COMMANDS.md says what each event is, and which six conditions never refuse an edge alone,
-so that they are no EVENT.
-
-With --of only edges of that driver count, and with --after only those with at least N edges
-before them. So you get tests of one board, and not all of them from power-up.
-
-With --seeds it tries the seeds S to T in order. The first that reaches EVENT within the given
-number of edges is printed on standard error, as `seed S`, and its trace on standard output.
-The exit status is 0 then. If no seed reaches it, `no seed` is printed on standard error,
-nothing on standard output, and the exit status is 3. With --progress it reports on standard
-error which seed it tries, as `trying seed S`, at most once a second, and how many edges it has
-drawn of a long one.
-
-Examples:
-  vmebus drive board.toml --edges 1000 > tenure.vme
-  vmebus drive board.toml --edges 1000 --seed 7 > drawn.vme
-  vmebus drive board.toml --edges 1000 --seed 7 --until \"G13 own br is low\" > refused.vme
-  vmebus drive board.toml --edges 60 --seeds 0..1000 --until bus-error > error.vme
-  vmebus drive board.toml --edges 200 --seeds 0..99 --until G13 --of 2 --after 20 > refused.vme";
-
-const RUN: &str =
-    "Prints a trace that the drivers of a scenario make at the same time, a thread for each";
-
-const RUN_USAGE: &str = "vmebus run <SCENARIO> --edges <N> --turns <T> [--version <V>]";
-
-const RUN_EXAMPLE: &str =
-    "Each driver gets the given number of turns, and in a turn it tries one of the edges that are
-open to it. The exit status is 3 if as many edges were made as were asked for, and 0 if all
-turns were spent before that, which is not an error. Two runs may differ; what each prints is
-legal.
-
-Example:
-  vmebus run board.toml --edges 1000 --turns 100000 > tenure.vme";
 
 /// An argument that is a file's name, and is required.
 fn file<'a>(alloc: Global, name: &'a str, help: &'a str) -> Arg<'a>
@@ -400,11 +120,18 @@ fn whole_option<'a>(
         .help(help)
 }
 
-fn edge_option<'a>(alloc: Global) -> Arg<'a>
+/// The option for the edge that a command is about.
+fn edge_option<'a>(alloc: Global, help: &'a str) -> Arg<'a>
     ensures { rule_of result ≡ said.edge }
 {
-    let help = "Which edge, 1 the first [default: the first that is refused]";
     whole_option(alloc, "edge", "N", 1, help)
+}
+
+fn other_option<'a>(alloc: Global) -> Arg<'a>
+    ensures { rule_of result ≡ said.other }
+{
+    let help = "Which edge that races, 1 the first: prints the trace of the other order";
+    whole_option(alloc, "other", "N", 1, help)
 }
 
 fn after_option<'a>(alloc: Global) -> Arg<'a>
@@ -601,14 +328,14 @@ fn explain<'a>(alloc: Global) -> Result<Command<'a>, AllocError>
     ensures { IfOk result (λ c. shape_of c ≡ said.explain) }
 {
     let command = command_on_trace(alloc, "explain", EXPLAIN, EXPLAIN_USAGE, EXPLAIN_EXAMPLE);
-    taking(command, edge_option(alloc))
+    taking(command, edge_option(alloc, REFUSED_EDGE))
 }
 
 fn shrink<'a>(alloc: Global) -> Result<Command<'a>, AllocError>
     ensures { IfOk result (λ c. shape_of c ≡ said.shrink) }
 {
     let command = command_on_trace(alloc, "shrink", SHRINK, SHRINK_USAGE, SHRINK_EXAMPLE);
-    taking(command, edge_option(alloc))
+    taking(command, edge_option(alloc, REFUSED_EDGE))
 }
 
 /// The command `rule`, which takes no scenario.
@@ -649,6 +376,15 @@ fn summary<'a>(alloc: Global) -> Result<Command<'a>, AllocError>
     ensures { IfOk result (λ c. shape_of c ≡ said.summary) }
 {
     command_on_traces(alloc, "summary", SUMMARY, SUMMARY_USAGE, SUMMARY_EXAMPLE)
+}
+
+/// The command `races`.
+pub(crate) fn races<'a>(alloc: Global) -> Result<Command<'a>, AllocError>
+    ensures { IfOk result (λ c. shape_of c ≡ said.races) }
+{
+    let command = command_on_trace(alloc, "races", RACES, RACES_USAGE, RACES_EXAMPLE);
+    let command = taking(command, edge_option(alloc, RACES_EDGE));
+    taking(command, other_option(alloc))
 }
 
 /// The command `order`.
@@ -725,6 +461,7 @@ pub(crate) fn commands<'a>(alloc: Global) -> Result<Command<'a>, AllocError>
     let program = offering(program, show(alloc));
     let program = offering(program, cycles(alloc));
     let program = offering(program, summary(alloc));
+    let program = offering(program, races(alloc));
     let program = offering(program, order(alloc));
     let program = offering(program, drive(alloc));
     offering(program, run(alloc))

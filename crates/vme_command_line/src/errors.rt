@@ -2,7 +2,7 @@
 ghost use Rattle.std.specs.Prelude.{◌≡◌, ◌≢◌, ◌⊎◌, IfOk};
 ghost use Rattle.clap.specs.Words.{kind_of};
 
-use crate::commands::{commands, drive, order, rule, show};
+use crate::commands::{commands, drive, order, races, rule, show};
 use crate::mistakes::{Mistake, mistake_in};
 use crate::{MOST_SHOWN, Unfit};
 use clap::Error;
@@ -120,6 +120,14 @@ fn no_progress(alloc: Global) -> Result<Error, AllocError>
     drive(alloc)?.error(ErrorKind::ValueValidation, text)
 }
 
+/// The usage error if both an edge and another one's other order are asked for.
+fn two_edges(alloc: Global) -> Result<Error, AllocError>
+    ensures { IfOk result (λ error. kind_of error ≡ ErrorKind.ValueValidation) }
+{
+    let text = "the options '--edge <N>' and '--other <N>' exclude each other";
+    races(alloc)?.error(ErrorKind::ValueValidation, text)
+}
+
 /// The usage error if no rule has that name.
 fn no_rule(alloc: Global, named: &str) -> Result<Error, AllocError>
     ensures { IfOk result (λ error. kind_of error ≡ ErrorKind.ValueValidation) }
@@ -160,6 +168,7 @@ pub(crate) fn error_of(alloc: Global, unfit: Unfit<'_>) -> Result<Error, AllocEr
         Unfit::Seeded => seeded(alloc),
         Unfit::Seeds { named } => no_seeds(alloc, named),
         Unfit::Idle => no_progress(alloc),
+        Unfit::TwoEdges => two_edges(alloc),
         Unfit::Rule { named } => no_rule(alloc, named),
         Unfit::Slack { named } => no_slack(alloc, named),
     }

@@ -15,7 +15,9 @@ mod aims;
 mod alone;
 mod commands;
 mod errors;
+mod helps;
 mod mistakes;
+mod races;
 mod slacks;
 
 use aims::goal_of;
@@ -23,6 +25,7 @@ use clap::error::ErrorKind;
 use clap::{ArgMatches, Error};
 use commands::commands;
 use errors::error_of;
+use races::races_of;
 use slacks::slacks_in;
 use std::alloc::Global;
 use vme_goals::Goal;
@@ -146,6 +149,31 @@ pub enum Job<'a> {
         /// The files of the traces, two or more.
         traces: Vec<&'a str>,
     },
+    /// Print which edges of a trace race.
+    Races {
+        /// The file of the scenario.
+        scenario: &'a str,
+        /// The file of the trace.
+        trace: &'a str,
+    },
+    /// Print how far one edge of a trace goes back, and what stops it.
+    Walk {
+        /// The file of the scenario.
+        scenario: &'a str,
+        /// The file of the trace.
+        trace: &'a str,
+        /// The edge, counted from 1.
+        edge: u64,
+    },
+    /// Print the trace of the other order of a race.
+    OtherOrder {
+        /// The file of the scenario.
+        scenario: &'a str,
+        /// The file of the trace.
+        trace: &'a str,
+        /// The edge that races, counted from 1.
+        edge: u64,
+    },
     /// Find a legal order of edges that were seen at moments.
     Order {
         /// The file of the boards.
@@ -244,6 +272,8 @@ pub(crate) enum Unfit<'a> {
     Seeds { named: &'a str },
     /// Progress is to be reported, but there are no seeds to try.
     Idle,
+    /// There are both an edge and an edge whose other order is asked for.
+    TwoEdges,
     /// No rule has this name.
     Rule { named: &'a str },
     /// The text does not name slacks.
@@ -259,7 +289,7 @@ pub(crate) fn text_of<'a>(operands: &ArgMatches<'a>, name: &str) -> Option<&'a s
 }
 
 /// The file that the operand of that name names.
-fn file_of<'a>(operands: &ArgMatches<'a>, name: &str) -> Result<&'a str, Unfit<'a>>
+pub(crate) fn file_of<'a>(operands: &ArgMatches<'a>, name: &str) -> Result<&'a str, Unfit<'a>>
     ensures file { IfOk result (λ file.
         IsFile name.now (rows_of (found_of operands.now)) file.now) }
     ensures missing { IfErr result (λ unfit. unfit ≡ Unfit.Missing) }
@@ -643,6 +673,7 @@ fn job_on_scenario<'a>(
             trace: file_of(operands, "TRACE")?,
         }),
         "summary" => summary_of(alloc, scenario, operands),
+        "races" => races_of(scenario, operands),
         "order" => order_of(scenario, operands),
         "drive" => drive_of(scenario, operands),
         "run" => run_of(scenario, operands),

@@ -15,7 +15,7 @@ ghost use Rattle.vme_model.specs.Plan.{Plan};
 ghost use Rattle.vme_model.specs.Verdict.{IsLegal};
 ghost use Rattle.vme_cycles.specs.Transactions.{IsFallAt, answered, cycle_of, is_answer, is_rise_on, last_on, request_of};
 
-/// No two cycles overlap: where one begins, none is under way.
+/// No two cycles overlap: when one begins, none is under way.
 pub fn a_cycle_begins_alone()
     ensures { (v : Version) (p : Plan) (k : Numbered) (n : ℕ) (e : Edge) →
         IsAccepted p → IsLegal v p (edges_in ((n, e) ∷ k)) → is_fall_on AddressStrobe e ≡ true

@@ -180,7 +180,7 @@ impl Judge for Checking {
 /// What a check finds in a trace, on the plan of a scenario: the first edge that is refused, behind
 /// which it reads no further, or that all are legal. It makes at most 16,777,216 reads.
 ///
-/// Errors: F2, the faults of the scenario and F3, before anything is read; those of the trace, where
+/// Errors: F2, the faults of the scenario and F3, before anything is read; those of the trace, if
 /// no edge before them is refused.
 pub fn finding_of<R: Read>(
     alloc: Global,
@@ -195,11 +195,11 @@ pub fn finding_of<R: Read>(
 
 /// Checks a trace on the plan of a scenario.
 ///
-/// Writes `illegal N VERDICT` where the N-th edge is the first that is refused, and reads no further; or `legal N` where
+/// Writes `illegal N VERDICT` if the N-th edge is the first that is refused, and reads no further; or `legal N` if
 /// all N edges are accepted, which are then a legal list and so a safe one. The status is `SomeRefused` or `Done`. It makes at most 16,777,216 reads.
 ///
-/// Errors: F2, the faults of the scenario and F3, before anything is read or written; those of the trace, where no edge
-/// before them is refused, and then nothing is written; X8 where the output cannot be written.
+/// Errors: F2, the faults of the scenario and F3, before anything is read or written; those of the trace, if no edge
+/// before them is refused, and then nothing is written; X8 if the output cannot be written.
 pub fn check<R: Read, W: Write>(
     alloc: Global,
     scenario: &[u8],

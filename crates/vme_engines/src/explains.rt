@@ -118,11 +118,11 @@ impl Judge for Explaining {
 /// the first that is refused.
 ///
 /// Writes the edge with its verdict, and the conditions of its rule, each with whether it holds and since when. The
-/// status is `SomeRefused` where the edge is refused, and else `Done`. Without a number, where no edge is refused, it
+/// status is `SomeRefused` if the edge is refused, otherwise `Done`. Without a number, if no edge is refused, it
 /// writes `legal N`. Behind that edge it judges none. It makes at most 16,777,216 reads.
 ///
 /// Errors: F2, the faults of the scenario and F3, before anything is read or written; those of the trace before the
-/// edge, and X9 where a trace without fault has fewer edges, or the number is 0: then nothing is written; X8 where the
+/// edge, and X9 if a trace without fault has fewer edges, or the number is 0: then nothing is written; X8 if the
 /// output cannot be written.
 pub fn explain<R: Read, W: Write>(
     alloc: Global,

@@ -83,7 +83,7 @@ impl Following {
         }
     }
 
-    /// What is shown, where the edge is one of DTACK*: no other needs it.
+    /// What is shown, if the edge is one of DTACK*: no other needs it.
     #[inline(always)]
     fn shown_at(&self, edge: Edge) -> Option<Cycle>
         ensures { edge.wire ≡ Dtack
@@ -103,7 +103,7 @@ impl Following {
         events_of(&self.bus, &self.marks, edge)
     }
 
-    /// Makes the next edge where it is accepted, and gives the answer to it. It is not yet counted.
+    /// Makes the next edge if it is accepted, and gives the answer to it. It is not yet counted.
     #[inline(always)]
     pub fn step(&mut self, edge: &Edge) -> Result<Option<Delivery>, Refused>
         requires { self.old.judged + 1 < 2 ^ 64 }

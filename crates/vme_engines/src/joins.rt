@@ -209,8 +209,8 @@ fn replay_behind<R: Read, W: Write>(
 
 /// Replays what stands in one input: a scenario, and from the first header line on a trace.
 ///
-/// Writes and answers what [`replay`](crate::replay) does in the short form. Errors: X1 where no line is a header line; F1 where a read
-/// fails before one was read; F2 where more than 1,048,576 bytes stand before it.
+/// Writes and answers what [`replay`](crate::replay) does in the short form. Errors: X1 if no line is a header line; F1 if a read
+/// fails before one was read; F2 if more than 1,048,576 bytes stand before it.
 pub fn joined<R: Read, W: Write>(
     alloc: Global,
     input: &mut R,

@@ -28,7 +28,7 @@ const LINE: usize = 80;
 
 /// Has a text written, and forgets it.
 ///
-/// Errors: X8 where that failed; a prefix of the text was then written.
+/// Errors: X8 if that failed; a prefix of the text was then written.
 #[inline(never)]
 pub(crate) fn hand_on<W: Write>(text: &mut Text, out: &mut W) -> Result<(), Fault>
     ensures empty { OnOk result (text.new ≡ []) }
@@ -42,9 +42,9 @@ pub(crate) fn hand_on<W: Write>(text: &mut Text, out: &mut W) -> Result<(), Faul
     Ok(())
 }
 
-/// Has a text written where it has no room for ten further lines.
+/// Has a text written if it has no room for ten further lines.
 ///
-/// Errors: X8 where that failed; a prefix of the text was then written.
+/// Errors: X8 if that failed; a prefix of the text was then written.
 #[inline(always)]
 pub(crate) fn make_room<W: Write>(text: &mut Text, out: &mut W) -> Result<(), Fault>
     ensures room { OnOk result (length text.new + 640 ≤ 8192) }
@@ -117,7 +117,7 @@ fn push_lines(text: &mut Text, count: &Count, records: &[AnswerRecord])
 /// Appends the verdict lines of edges, from `count` on, to a text that is written out whenever it has no room for ten lines
 /// more, and counts on after them.
 ///
-/// Errors: X8 where that failed; a prefix of the lines was then written.
+/// Errors: X8 if that failed; a prefix of the lines was then written.
 #[inline(always)]
 fn write_lines<W: Write>(
     records: &[AnswerRecord],
@@ -150,7 +150,7 @@ fn write_lines<W: Write>(
 /// Judges the edges after the first `judged`, and writes the verdict line of each. The lines are put
 /// together in `text`, whatever it held.
 ///
-/// Errors: X8 where that failed; a prefix of the lines was then written.
+/// Errors: X8 if that failed; a prefix of the lines was then written.
 pub(crate) fn write_verdicts<W: Write>(
     bus: &mut Bus,
     judged: u64,

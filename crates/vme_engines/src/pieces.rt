@@ -9,7 +9,7 @@ pub(crate) const JUDGED_AT_ONCE: usize = 512;
 
 /// The buffer of a piece, on the heap. An engine asks for it once the scenario has its plan, and lends it to each read.
 ///
-/// Errors: F3 where its memory is refused. An engine that reads a trace asks for no other memory by that name.
+/// Errors: F3 if its memory is refused. An engine that reads a trace asks for no other memory by that name.
 pub(crate) fn buffer_of(alloc: Global) -> Result<Vec<u8>, EngineFault>
     ensures room { IfOk result (λ buffer. length buffer.items ≡ 69632) }
     ensures fault { IfErr result (λ fault. fault ≡ EngineFault.NoMemory) }

@@ -69,7 +69,7 @@ fn attempt<W: Write, P: Progress>(
 }
 
 /// Tries one seed after the other on a walk, from the first to the last, until one comes to the
-/// goal: that seed, whose trace is then written. None where none does.
+/// goal: that seed, whose trace is then written. None if none does.
 fn search<W: Write, P: Progress>(
     walk: &mut Walk,
     edges: u32,
@@ -100,7 +100,7 @@ fn search<W: Write, P: Progress>(
 }
 
 /// Tries one seed after the other on a plan, from the first to the last, until one comes to the
-/// goal: that seed, whose trace is then written. None where none does. Its frame is large.
+/// goal: that seed, whose trace is then written. None if none does. Its frame is large.
 #[inline(never)]
 fn search_on<W: Write, P: Progress>(
     plan: Plan,
@@ -128,7 +128,7 @@ fn search_on<W: Write, P: Progress>(
 /// before the first seed. `progress` hears of each seed before it is tried, and while it is tried of
 /// how many edges were drawn.
 ///
-/// Errors: F2 and the faults of the scenario, before a seed is tried; X8 where the output cannot be
+/// Errors: F2 and the faults of the scenario, before a seed is tried; X8 if the output cannot be
 /// written.
 pub fn drive_found<W: Write, P: Progress>(
     alloc: Global,

@@ -183,7 +183,7 @@ impl Showing {
 
     /// Takes the edges of a piece, and draws the stretch once its end is reached, or the trace's.
     ///
-    /// `more` is what the read of the piece answered. None where the trace goes on.
+    /// `more` is what the read of the piece answered. None if the trace goes on.
     fn take_piece<W: Write>(
         &mut self,
         edges: &[Edge],
@@ -250,12 +250,12 @@ impl Judge for Showing {
 /// that moves among them, a column for each edge.
 ///
 /// Writes the picture of those of them that the trace has. With `color` each `x` of a refused edge is red, and each `!` of a
-/// delivery green. The status is `SomeRefused` where an edge up to the last of them is refused, and else `Done`. After
+/// delivery green. The status is `SomeRefused` if an edge up to the last of them is refused, otherwise `Done`. After
 /// that edge it judges none. It makes at most 16,777,216 reads.
 ///
 /// Errors: F2, the faults of the scenario and F3, before anything is read or written; those of the trace up to the edge
-/// `to`, after the picture of the edges before them; X9 where a trace without fault has fewer than `from` edges: then
-/// nothing is written; X8 where the output cannot be written.
+/// `to`, after the picture of the edges before them; X9 if a trace without fault has fewer than `from` edges: then
+/// nothing is written; X8 if the output cannot be written.
 pub fn show<R: Read, W: Write>(
     alloc: Global,
     scenario: &[u8],

@@ -94,7 +94,7 @@ impl Judge for Stating {
 /// edges it judges none. It makes at most 16,777,216 reads.
 ///
 /// Errors: F2, the faults of the scenario and F3, before anything is read or written; those of the trace up to that
-/// place, and X9 where a trace without fault ends before it: then nothing is written; X8 where the output cannot be
+/// place, and X9 if a trace without fault ends before it: then nothing is written; X8 if the output cannot be
 /// written.
 pub fn state<R: Read, W: Write>(
     alloc: Global,

@@ -121,7 +121,7 @@ impl Judge for Summing {
 /// 16,777,216 reads.
 ///
 /// Errors: F2, the faults of the scenario and F3, before anything is read or written; those of the
-/// trace, and then nothing is written; X8 where the output cannot be written.
+/// trace, and then nothing is written; X8 if the output cannot be written.
 pub fn summary<R: Read, W: Write>(
     alloc: Global,
     scenario: &[u8],

@@ -110,7 +110,7 @@ fn print_totals<W: Write>(plan: &Plan, sums: &Sums, out: &mut W) -> Result<Statu
 /// the sums of their numbers and their greatest waits and holds. The status says whether some edge
 /// was refused in some trace.
 ///
-/// Errors: F2 and the faults of the scenario, before anything is written; X8 where the output cannot
+/// Errors: F2 and the faults of the scenario, before anything is written; X8 if the output cannot
 /// be written.
 pub fn print_sums<W: Write>(
     alloc: Global,

@@ -45,7 +45,7 @@ pub(crate) fn interrupter_of(bus: &Bus, driver: Driver) -> Option<InterrupterRow
     board_of(bus, driver)?.interrupter
 }
 
-/// The number of the last edge of the driver's request, 0 where it never moved.
+/// The number of the last edge of the driver's request, 0 if it never moved.
 fn asked_at(bus: &Bus, marks: &Marks, driver: Driver) -> u64
     ensures { OfTrace bus.now marks.now (λ k. result
         ≡ unwrap_or (since_in k driver Wire.Br) 0) }

@@ -15,7 +15,7 @@ use vme_explain::Marks;
 use vme_goals::Event;
 use vme_model::{Cycle, Driver, Edge, Wire};
 
-/// The situation where the test holds.
+/// The situation if the test holds.
 fn alone(holds: bool, event: Event) -> ArrayVec<Event, 2>
     ensures items { result.items ≡ when holds event }
     ensures len { array_vec_len result ≤ 1 }

@@ -190,7 +190,7 @@ fn shown(
     cycles.iter().copied().find(|cycle| is_missed(bus, only, miss, showing(driver, *cycle)))
 }
 
-/// The edge that moves the driver's address group, where this alone refuses it.
+/// The edge that moves the driver's address group, if this alone refuses it.
 ///
 /// One to the state that the group is in is refused by E2, and never by this.
 fn on_address(bus: &Bus, only: Option<Driver>, miss: Miss, driver: Driver) -> Option<Edge>
@@ -207,7 +207,7 @@ fn on_address(bus: &Bus, only: Option<Driver>, miss: Miss, driver: Driver) -> Op
     }
 }
 
-/// The edge that moves another wire of the driver, where this alone refuses it.
+/// The edge that moves another wire of the driver, if this alone refuses it.
 fn on_other(bus: &Bus, only: Option<Driver>, miss: Miss, driver: Driver, wire: Wire) -> Option<Edge>
     ensures { result ≡ find (is_missed bus.now only miss)
         (turned bus.now.history driver wire ∷ []) }

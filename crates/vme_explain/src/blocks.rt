@@ -58,7 +58,7 @@ fn condition_line(bus: &Bus, edge: &Edge, tested: Tested) -> ArrayVec<u8, LINE>
     line
 }
 
-/// Writes the lines of the witnesses. What it writes is not said where one names a wire without a
+/// Writes the lines of the witnesses. What it writes is not said if one names a wire without a
 /// word.
 fn write_witnesses<W: Write>(witnesses: &[Witness], out: &mut W) -> Result<(), Fault>
     ensures ok { OnOk result (All IsSpoken witnesses.now
@@ -125,7 +125,7 @@ fn write_reasons<W: Write>(
 /// bus's edges.
 ///
 /// # Errors
-/// X8 where the output cannot be written; a prefix of the block was then written.
+/// X8 if the output cannot be written; a prefix of the block was then written.
 pub fn write_why<W: Write>(
     n: u64,
     bus: &Bus,

@@ -17,7 +17,7 @@ use arrayvec::ArrayVec;
 use vme_bus::Bus;
 use vme_model::{ChainId, Condition, Edge, Wire, Witness};
 
-/// Puts one more behind the others, where there is one.
+/// Puts one more behind the others, if there is one.
 fn push_witness(witness: Option<Witness>, witnesses: &mut ArrayVec<Witness, ROOM>)
     requires { length witnesses.old.items + 1 ≤ 64 }
     ensures witnesses { witnesses.new.items ≡ witnesses.old.items ++ option_to_list witness }
@@ -56,7 +56,7 @@ fn second_line(condition: Condition) -> Option<Wire>
     }
 }
 
-/// Puts who holds a line low behind the others, where there is a line.
+/// Puts who holds a line low behind the others, if there is a line.
 fn push_line(bus: &Bus, marks: &Marks, line: Option<Wire>, witnesses: &mut ArrayVec<Witness, ROOM>)
     requires { length witnesses.old.items + 22 ≤ 64 }
     ensures witnesses { OfTrace bus.now marks.now (λ k.

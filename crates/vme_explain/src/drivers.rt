@@ -9,7 +9,7 @@ use crate::Marks;
 use vme_bus::Bus;
 use vme_model::{Driver, InterrupterRow, Wire};
 
-/// The last edge of a driver's wire; none where it never moved, and of one that no driver has.
+/// The last edge of a driver's wire; none if it never moved, and of one that no driver has.
 pub fn since(bus: &Bus, marks: &Marks, driver: Driver, wire: Wire) -> Option<u64>
     ensures { OfTrace bus.now marks.now (λ k. result ≡ since_in k driver wire) }
 {

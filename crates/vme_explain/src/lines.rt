@@ -21,7 +21,7 @@ use vme_model::{Driver, Wire, Witness};
 /// requests and the level last granted; of two lines at most 22 each, and four more.
 pub(crate) const ROOM: usize = 64;
 
-/// Puts the driver's wire behind the others where it is low.
+/// Puts the driver's wire behind the others if it is low.
 fn push_holder(
     bus: &Bus,
     marks: &Marks,
@@ -57,7 +57,7 @@ pub(crate) fn push_low(
     }
 }
 
-/// Puts the controller's grant of that level behind the others where it is low.
+/// Puts the controller's grant of that level behind the others if it is low.
 fn push_grant(bus: &Bus, marks: &Marks, level: u8, witnesses: &mut ArrayVec<Witness, ROOM>)
     requires level { level < 4 }
     requires room { length witnesses.old.items < 64 }
@@ -84,7 +84,7 @@ pub(crate) fn push_low_grants(bus: &Bus, marks: &Marks, witnesses: &mut ArrayVec
     push_grant(bus, marks, 3, witnesses);
 }
 
-/// Puts the driver's bus request with its level behind the others where it is low.
+/// Puts the driver's bus request with its level behind the others if it is low.
 fn push_request(bus: &Bus, marks: &Marks, driver: Driver, witnesses: &mut ArrayVec<Witness, ROOM>)
     requires { length witnesses.old.items < 64 }
     ensures witnesses { OfTrace bus.now marks.now (λ k. witnesses.new.items ≡ witnesses.old.items
@@ -143,7 +143,7 @@ fn asks_at(bus: &Bus, level: u8, driver: Driver) -> bool
     }
 }
 
-/// Puts the driver's interrupt request behind the others where it asks for that level.
+/// Puts the driver's interrupt request behind the others if it asks for that level.
 fn push_interrupt(
     bus: &Bus,
     marks: &Marks,

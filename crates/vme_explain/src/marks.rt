@@ -49,7 +49,7 @@ impl Marks {
         self.services.note(edge, n, showing);
     }
 
-    /// The last edge of a driver's wire; none where it never moved.
+    /// The last edge of a driver's wire; none if it never moved.
     pub fn since(&self, driver: Driver, wire: Wire) -> Option<u64>
         requires { IsTrue (has_wire driver wire) }
         ensures { OfNumbered self.now (λ _ k. result ≡ since k driver wire) }
@@ -81,7 +81,7 @@ impl Marks {
         self.services.strobed_at(slot)
     }
 
-    /// How many cycles a slot below 22 began since its last `bbsy-`, where they are below 2^64.
+    /// How many cycles a slot below 22 began since its last `bbsy-`, if they are below 2^64.
     pub fn made(&self, slot: u8) -> u64
         requires { slot < 22 }
         ensures { OfNumbered self.now (λ _ k. cycles (edges_in k) (Slot slot) < 2 ^ 64

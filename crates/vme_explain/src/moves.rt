@@ -38,7 +38,7 @@ impl Moves {
         }
     }
 
-    /// The last edge of a driver's wire; none where it never moved.
+    /// The last edge of a driver's wire; none if it never moved.
     pub(crate) fn since(&self, driver: Driver, wire: Wire) -> Option<u64>
         requires { IsTrue (has_wire driver wire) }
         ensures { (k : Numbered) → IsMovesOf k self.now → result ≡ since k driver wire }

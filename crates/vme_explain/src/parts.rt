@@ -33,7 +33,7 @@ fn made(bus: &Bus, marks: &Marks, slot: u8) -> u64
     marks.made(slot)
 }
 
-/// The board's cycles in this tenure, where it gives the bus up after a burst.
+/// The board's cycles in this tenure, if it gives the bus up after a burst.
 pub(crate) fn bursts(bus: &Bus, marks: &Marks, driver: Driver) -> Option<Witness>
     requires { is_driver driver ≡ true }
     ensures { OfTrace bus.now marks.now (λ _.

@@ -131,7 +131,7 @@ impl Services {
         self.strobes[usize::from(slot)]
     }
 
-    /// How many cycles a slot below 22 began since its last `bbsy-`, where they are below 2^64.
+    /// How many cycles a slot below 22 began since its last `bbsy-`, if they are below 2^64.
     pub(crate) fn made(&self, slot: u8) -> u64
         requires { slot < 22 }
         ensures { (p : Plan) (k : Numbered) → IsServicesOf p k self.now

@@ -154,7 +154,7 @@ fn pending_line(bus: &Bus, marks: &Marks, driver: Driver) -> Line
     }
 }
 
-/// Appends a word to a list of them, which begins with `first` and the driver where there are any.
+/// Appends a word to a list of them, which begins with `first` and the driver if there are any.
 fn push_word(line: &mut Line, first: &str, driver: Driver, word: &[u8])
     requires room { max (array_vec_len line.old) 26 + 2 + length word.now ≤ 680 }
     requires short { length first.now ≤ 5 }
@@ -232,7 +232,7 @@ fn open_line(bus: &Bus, driver: Driver) -> Line
     line
 }
 
-/// What is printed about a driver; nothing, where there is nothing to push_witness.
+/// What is printed about a driver; nothing if there is nothing to print.
 fn topic_line(bus: &Bus, marks: &Marks, topic: Topic, driver: Driver) -> Line
     ensures { OfTrace bus.now marks.now (λ k. result.items
         ≡ topic_text topic bus.now k driver) }
@@ -310,7 +310,7 @@ fn write_drivers<W: Write>(bus: &Bus, marks: &Marks, out: &mut W) -> Result<(), 
 /// the grant travels and what is shown; and of the drivers, the controller first and then by slot, who
 /// asks, whose interrupter is pending, the wires that each holds low, and the edges that each can make.
 ///
-/// Errors: X8 where a write failed or took no byte; a front of the block was then written.
+/// Errors: X8 if a write failed or took no byte; a front of the block was then written.
 pub fn write_stands<W: Write>(n: u64, bus: &Bus, marks: &Marks, out: &mut W) -> Result<(), Fault>
     ensures ok { OnOk result (OfTrace bus.now marks.now (λ k.
         Appends (W.contents out.old) (W.contents out.new) (stands_text n bus.now k))) }

@@ -25,7 +25,7 @@ impl Conditions {
     }
 }
 
-/// All conditions of the guard, where it has at most six.
+/// All conditions of the guard, if it has at most six.
 impl Outcome for Conditions {
     ghost reports = { λ result g. most g ≤ 6 → result.list.items ≡ conditions g };
 

@@ -112,7 +112,7 @@ fn push_level<const N: usize>(line: &mut ArrayVec<u8, N>, level: Option<u8>)
     }
 }
 
-/// Appends the number of an edge, where there is one: at most 27 bytes.
+/// Appends the number of an edge, if there is one: at most 27 bytes.
 pub(crate) fn push_since<const N: usize>(line: &mut ArrayVec<u8, N>, since: Option<u64>)
     requires { array_vec_len line.old + 27 ≤ N }
     ensures items { line.new.items ≡ line.old.items ++ since_text since }

@@ -53,7 +53,7 @@ pub(crate) fn seen(bus: &Bus, marks: &Marks, driver: Driver, wire: Wire) -> Witn
     wire_at(bus, marks, driver, wire, None)
 }
 
-/// The driver's own wire, where it has it.
+/// The driver's own wire, if it has it.
 pub(crate) fn own(bus: &Bus, marks: &Marks, driver: Driver, wire: Wire) -> Option<Witness>
     ensures { OfTrace bus.now marks.now (λ k.
         option_to_list result ≡ own bus.now k driver wire) }

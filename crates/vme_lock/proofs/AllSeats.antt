@@ -57,9 +57,6 @@ none_yet P s (suc n) lt =
     let here = none_of (P (suc n)) s (suc n) (other s (suc n) lt) in
     times-more P s n ∙ omega (arith, before, here)
 
-more_than : (s t : ℕ) → s < t → (s == t) ≡ false
-more_than s t lt = grind (arith, nat_tests)
-
 same_number : (s t : ℕ) → (s == t) ≡ true → s ≡ t
 same_number s t e = grind (arith, nat_tests)
 
@@ -151,7 +148,9 @@ pub seated_none : (b : State) (seats : List Place) (total parts : ℕ) → seats
 seated_none b seats total parts none nought whole = record { placed = none; summed = nought; left = omega (arith, whole) }
 
 -- one more driver
-pub seated_more : (b : State) (ds : List Driver) (n : ℕ) (d : Driver) (old new : List Place) (made before total parts all : ℕ) → n < length ds → get_or ds n Controller ≡ d → AreSeated b (take n ds) old before all → new ≡ old ++ record { driver = d; made = made } ∷ [] → made ≡ count b.history d → total ≡ before + made → parts + 1 ≡ all → AreSeated b (take (n + 1) ds) new total parts
+pub seated_more : (b : State) (ds : List Driver) (n : ℕ) (d : Driver) (old new : List Place) (made before total parts all : ℕ) → n < length ds →
+    get_or ds n Controller ≡ d → AreSeated b (take n ds) old before all → new ≡ old ++ record { driver = d; made = made } ∷ [] →
+    made ≡ count b.history d → total ≡ before + made → parts + 1 ≡ all → AreSeated b (take (n + 1) ds) new total parts
 seated_more b ds n d old new made before total parts all within here seated is counted more rest =
     let next : take (n + 1) ds ≡ take n ds ++ d ∷ [] = take_more ds n Controller within ∙ ap (λ (x : Driver). take n ds ++ x ∷ []) here in
     let longer : length (take (n + 1) ds) ≡ length (take n ds) + 1 = omega (arith, ap length next, length-append (take n ds) (d ∷ [])) in
@@ -163,7 +162,8 @@ seated_more b ds n d old new made before total parts all within here seated is c
     }
 
 -- all seats
-pub seated_all : (b : State) (ds : List Driver) (n : ℕ) (seats : List Place) (total parts : ℕ) → AreSeated b (take n ds) seats total parts → n ≡ length ds → ds ≡ drivers b.plan → AreSeated b (drivers b.plan) seats total parts
+pub seated_all : (b : State) (ds : List Driver) (n : ℕ) (seats : List Place) (total parts : ℕ) → AreSeated b (take n ds) seats total parts → n ≡ length ds →
+    ds ≡ drivers b.plan → AreSeated b (drivers b.plan) seats total parts
 seated_all b ds n seats total parts seated whole is =
     subst (λ (l : List Driver). AreSeated b l seats total parts) (ap (λ m. take m ds) whole ∙ take-length ds ∙ is) seated
 

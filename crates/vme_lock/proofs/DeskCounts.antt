@@ -41,7 +41,8 @@ pub desk_within : (d : Driver) → can_sit d ≡ true → desk d < 22
 desk_within Controller is = omega arith
 desk_within (Slot s) is = within_slots s is
 
-at_desk : (counts : List ℕ) (i j n : ℕ) (b : Bool) → i < length counts → (i == j) ≡ b → get_or counts j 0 ≡ n → get_or (set counts i (get_or counts i 0 + 1)) j 0 ≡ one_if b + n
+at_desk : (counts : List ℕ) (i j n : ℕ) (b : Bool) → i < length counts → (i == j) ≡ b → get_or counts j 0 ≡ n →
+    get_or (set counts i (get_or counts i 0 + 1)) j 0 ≡ one_if b + n
 at_desk counts i j n true within is read =
     let same : j ≡ i = grind (arith, nat_tests) in
     get_or-set_at counts i j (get_or counts i 0 + 1) 0 same within ∙ omega (arith, ap (λ (k : ℕ). get_or counts k 0) same, read)
@@ -54,7 +55,8 @@ at_desk counts i j n false within is read =
     apart_of i j e same = grind (arith, nat_tests)
 
 -- one more edge of a driver
-pub AreCounts-more : (counts : List ℕ) (xs ys : List Edge) (d : Driver) → AreCounts counts xs → can_sit d ≡ true → ((b : Driver) → count ys b ≡ one_if (is_same_driver d b) + count xs b) → AreCounts (counted_more counts d) ys
+pub AreCounts-more : (counts : List ℕ) (xs ys : List Edge) (d : Driver) → AreCounts counts xs → can_sit d ≡ true →
+    ((b : Driver) → count ys b ≡ one_if (is_same_driver d b) + count xs b) → AreCounts (counted_more counts d) ys
 AreCounts-more counts xs ys d are sits more =
     let within : desk d < length counts = omega (arith, desk_within d sits, are.wide) in
     record {
@@ -67,7 +69,8 @@ pub count-made : (h : List Edge) (e : Edge) (b : Driver) → count (e ∷ h) b �
 count-made h e b = sum_by-cons (λ x. one_if (is_same_driver x.driver b)) e h
 
 -- the next edge in the order of time
-pub count-next : (xs : List Edge) (i : ℕ) (e : Edge) (b : Driver) → slice_get xs i ≡ Some e → count (take (i + 1) xs) b ≡ one_if (is_same_driver e.driver b) + count (take i xs) b
+pub count-next : (xs : List Edge) (i : ℕ) (e : Edge) (b : Driver) → slice_get xs i ≡ Some e →
+    count (take (i + 1) xs) b ≡ one_if (is_same_driver e.driver b) + count (take i xs) b
 count-next xs i e b is =
     let f : Edge → ℕ = λ x. one_if (is_same_driver x.driver b) in
     let here : get_or xs i e ≡ e = get_or_from_slice_get xs i e e is in
@@ -97,7 +100,8 @@ apart (Slot s) Controller out is = refl
 apart (Slot s) (Slot t) out is = slots_apart s t out is
 
 -- an edge of a driver that no plan has
-pub AreCounts-other : (counts : List ℕ) (xs ys : List Edge) (d : Driver) → AreCounts counts xs → can_sit d ≡ false → ((b : Driver) → count ys b ≡ one_if (is_same_driver d b) + count xs b) → AreCounts counts ys
+pub AreCounts-other : (counts : List ℕ) (xs ys : List Edge) (d : Driver) → AreCounts counts xs → can_sit d ≡ false →
+    ((b : Driver) → count ys b ≡ one_if (is_same_driver d b) + count xs b) → AreCounts counts ys
 AreCounts-other counts xs ys d are out more = record {
   wide = are.wide;
   counted = λ b is. omega (arith, are.counted b is, more b, ap one_if (apart d b out is));
@@ -107,20 +111,25 @@ AreCounts-other counts xs ys d are out more = record {
 pub at_most : (counts : List ℕ) (h : List Edge) (d : Driver) → AreCounts counts h → can_sit d ≡ true → slice_index counts (desk d) ≤ length h
 at_most counts h d are is = omega (arith, are.counted d is, count_by-le-length (λ e. is_same_driver e.driver d) h)
 
+-- what a test found, and that it found nothing
+pub found_at : (b : Bool) (n at : ℕ) → (if b then Some n else None) ≡ Some at → (b ≡ true) × (n ≡ at)
+found_at true n at is = (refl, cc)
+found_at false n at is = absurd (cc)
+
+found_none : (b : Bool) (n : ℕ) → (if b then Some n else None) ≡ None → b ≡ false
+found_none true n is = absurd (cc)
+found_none false n is = refl
+
 -- the next edge is counted
-pub counted_next : (counts : List ℕ) (xs : List Edge) (i at : ℕ) (e : Edge) → AreCounts counts (take i xs) → slice_get xs i ≡ Some e → (if can_sit e.driver then Some (desk e.driver) else None) ≡ Some at → AreCounts (slice_set counts at (slice_index counts at + 1)) (take (i + 1) xs)
-counted_next counts xs i at e are is found = go (can_sit e.driver) refl found
-  where
-    go : (b : Bool) → can_sit e.driver ≡ b → (if b then Some (desk e.driver) else None) ≡ Some at → AreCounts (slice_set counts at (slice_index counts at + 1)) (take (i + 1) xs)
-    go true sits found =
-        let place : desk e.driver ≡ at = cc in
-        subst (λ n. AreCounts (slice_set counts n (slice_index counts n + 1)) (take (i + 1) xs)) place (AreCounts-more counts (take i xs) (take (i + 1) xs) e.driver are sits (λ b. count-next xs i e b is))
-    go false out found = absurd (cc)
+pub counted_next : (counts : List ℕ) (xs : List Edge) (i at : ℕ) (e : Edge) → AreCounts counts (take i xs) → slice_get xs i ≡ Some e →
+    (if can_sit e.driver then Some (desk e.driver) else None) ≡ Some at → AreCounts (slice_set counts at (slice_index counts at + 1)) (take (i + 1) xs)
+counted_next counts xs i at e are is found =
+    let desk_at = found_at (can_sit e.driver) (desk e.driver) at found in
+    subst (λ n. AreCounts (slice_set counts n (slice_index counts n + 1)) (take (i + 1) xs)) desk_at.1
+    (AreCounts-more counts (take i xs) (take (i + 1) xs) e.driver are desk_at.0 (λ b. count-next xs i e b is))
 
 -- no driver of a plan made the edge
-pub counted_past : (counts : List ℕ) (xs : List Edge) (i : ℕ) (e : Edge) → AreCounts counts (take i xs) → slice_get xs i ≡ Some e → (if can_sit e.driver then Some (desk e.driver) else None) ≡ None → AreCounts counts (take (i + 1) xs)
-counted_past counts xs i e are is found = go (can_sit e.driver) refl found
-  where
-    go : (b : Bool) → can_sit e.driver ≡ b → (if b then Some (desk e.driver) else None) ≡ None → AreCounts counts (take (i + 1) xs)
-    go true sits found = absurd (cc)
-    go false out found = AreCounts-other counts (take i xs) (take (i + 1) xs) e.driver are out (λ b. count-next xs i e b is)
+pub counted_past : (counts : List ℕ) (xs : List Edge) (i : ℕ) (e : Edge) → AreCounts counts (take i xs) → slice_get xs i ≡ Some e →
+    (if can_sit e.driver then Some (desk e.driver) else None) ≡ None → AreCounts counts (take (i + 1) xs)
+counted_past counts xs i e are is found =
+    AreCounts-other counts (take i xs) (take (i + 1) xs) e.driver are (found_none (can_sit e.driver) (desk e.driver) found) (λ b. count-next xs i e b is)

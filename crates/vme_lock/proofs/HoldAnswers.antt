@@ -14,6 +14,7 @@ use Rattle.vme_model.specs.Offers.{offered}
 use Rattle.vme_model.specs.Views.{pins}
 use Rattle.vme_lock.specs.declared.views.View.{View}
 use Rattle.vme_lock.specs.declared.views.Turn.{Turn}
+use Rattle.vme_lock.specs.declared.views.Lost.{Lost}
 use Rattle.vme_lock.specs.declared.views.EdgeRefused.TheVariants as refused
 use Rattle.vme_lock.specs.Seats.{Place}
 use Rattle.vme_lock.specs.Holds.{is_lost, loss_of, view_of, look_answer, turn_of, turn_answer, edge_answer, by_step}
@@ -30,8 +31,7 @@ is_lost-same b s same = ap not (eq-eqb (count b.history s.driver) s.made same)
 -- the driver's number is not the seat's
 pub look_lost : (b : State) (s : Place) (own : ℕ) → own ≡ count b.history s.driver → own ≢ s.made → Err (record { own = own }) ≡ look_answer b s
 look_lost b s own is apart =
-    let read : is_lost b s ≡ true = is_lost-other b s (λ same. apart (is ∙ same)) in
-    let found : look_answer b s ≡ Err (loss_of b s) = ap (λ (x : Bool). if x then Err (loss_of b s) else Ok (view_of b s.driver)) read in
+    let found = ap (λ (x : Bool). if x then Err (loss_of b s) else Ok (view_of b s.driver)) (is_lost-other b s (λ same. apart (is ∙ same))) in
     sym (found ∙ ap (λ (n : ℕ). Err (record { own = n })) (sym is))
 
 pub seen_is : (b : State) (d : Driver) (v : View) → v.pins ≡ pins b.plan b.history d → v.offers.items ≡ offered b d → v.own ≡ count b.history d → v.total ≡ length b.history → v ≡ view_of b d
@@ -46,8 +46,7 @@ look_seen b s v is same =
 -- a turn is answered by L5 if the numbers differ
 pub turn_lost : (b : State) (s : Place) (t own : ℕ) → own ≡ count b.history s.driver → own ≢ s.made → Err (record { own = own }) ≡ turn_answer b s t
 turn_lost b s t own is apart =
-    let read : is_lost b s ≡ true = is_lost-other b s (λ same. apart (is ∙ same)) in
-    let found : turn_answer b s t ≡ Err (loss_of b s) = ap (λ (x : Bool). if x then Err (loss_of b s) else Ok (turn_of b s.driver t)) read in
+    let found = ap (λ (x : Bool). if x then Err (loss_of b s) else Ok (turn_of b s.driver t)) (is_lost-other b s (λ same. apart (is ∙ same))) in
     sym (found ∙ ap (λ (n : ℕ). Err (record { own = n })) (sym is))
 
 pub turn_is : (b : State) (d : Driver) (t : ℕ) (v : Turn) → v.offer ≡ slice_get (offered b d) (t % length (offered b d)) → v.total ≡ length b.history → v ≡ turn_of b d t
@@ -62,42 +61,27 @@ turn_seen b s t v is same =
 pub own_within : (b : State) (d : Driver) → count b.history d ≤ length b.history
 own_within b d = count_by-le-length (λ e. is_same_driver e.driver d) b.history
 
+-- an answer that is no loss
+pub not_lost : {A : Type 0} (m n : ℕ) (l : Lost) (v w : A) → Ok v ≡ (if not (m == n) then Err l else Ok w) → (m ≡ n) × (v ≡ w)
+not_lost {A} m n l v w is = go (m == n) refl is
+  where
+    go : (x : Bool) → (m == n) ≡ x → Ok v ≡ (if not x then Err l else Ok w) → (m ≡ n) × (v ≡ w)
+    go true same is = (grind (arith, nat_tests), cc)
+    go false apart is = absurd (cc)
+
 -- what is seen of the seat's own edges
 pub seen : (b : State) (s : Place) (v : View) → Ok v ≡ look_answer b s → (v.own ≡ s.made) × (v.own ≤ v.total)
-seen b s v is = go (count b.history s.driver == s.made) refl is
-  where
-    go : (x : Bool) → (count b.history s.driver == s.made) ≡ x → Ok v ≡ (if not x then Err (loss_of b s) else Ok (view_of b s.driver)) → (v.own ≡ s.made) × (v.own ≤ v.total)
-    go true same is =
-        let here : v ≡ view_of b s.driver = cc in
-        let number : count b.history s.driver ≡ s.made = grind (arith, nat_tests) in
-        (ap (λ x. x.own) here ∙ number, subst (λ x. x.own ≤ x.total) (sym here) (own_within b s.driver))
-    go false apart is = absurd (cc)
-
--- in a turn too, the seat's driver has no more edges than there are
-pub turn_within : (b : State) (s : Place) (t : ℕ) (v : Turn) → Ok v ≡ turn_answer b s t → s.made ≤ v.total
-turn_within b s t v is = go (count b.history s.driver == s.made) refl is
-  where
-    go : (x : Bool) → (count b.history s.driver == s.made) ≡ x → Ok v ≡ (if not x then Err (loss_of b s) else Ok (turn_of b s.driver t)) → s.made ≤ v.total
-    go true same is =
-        let here : v ≡ turn_of b s.driver t = cc in
-        let number : count b.history s.driver ≡ s.made = grind (arith, nat_tests) in
-        subst (λ x. s.made ≤ x.total) (sym here) (subst (λ n. n ≤ length b.history) number (own_within b s.driver))
-    go false apart is = absurd (cc)
-
--- another driver's edge
-pub edge_not_yours : (b : State) (s : Place) (e : Edge) → is_same_driver e.driver s.driver ≡ false → Err refused.NotYours ≡ edge_answer b s e
-edge_not_yours b s e other =
-    sym (ap (λ (x : Bool). if not x then Err refused.NotYours else (if is_lost b s then Err (refused.Lost (loss_of b s)) else by_step (answer b e))) other)
+seen b s v is =
+    let known = not_lost (count b.history s.driver) s.made (loss_of b s) v (view_of b s.driver) is in
+    (ap (λ x. x.own) known.1 ∙ known.0, subst (λ x. x.own ≤ x.total) (sym known.1) (own_within b s.driver))
 
 own_edge : (b : State) (s : Place) (e : Edge) → is_same_driver e.driver s.driver ≡ true → edge_answer b s e ≡ (if is_lost b s then Err (refused.Lost (loss_of b s)) else by_step (answer b e))
 own_edge b s e same =
     ap (λ (x : Bool). if not x then Err refused.NotYours else (if is_lost b s then Err (refused.Lost (loss_of b s)) else by_step (answer b e))) same
 
-pub edge_lost : (b : State) (s : Place) (e : Edge) (own : ℕ) → is_same_driver e.driver s.driver ≡ true → own ≡ count b.history s.driver → own ≢ s.made → Err (refused.Lost (record { own = own })) ≡ edge_answer b s e
+pub edge_lost : (b : State) (s : Place) (e : Edge) (own : ℕ) → is_same_driver e.driver s.driver ≡ true → own ≡ count b.history s.driver → own ≢ s.made →
+    Err (refused.Lost (record { own = own })) ≡ edge_answer b s e
 edge_lost b s e own same is apart =
     let read : is_lost b s ≡ true = is_lost-other b s (λ same. apart (is ∙ same)) in
-    sym (own_edge b s e same ∙ (ap (λ (x : Bool). if x then Err (refused.Lost (loss_of b s)) else by_step (answer b e)) read ∙ ap (λ (n : ℕ). Err (refused.Lost (record { own = n }))) (sym is)))
-
-pub edge_stepped : (b : State) (s : Place) (e : Edge) → is_same_driver e.driver s.driver ≡ true → count b.history s.driver ≡ s.made → by_step (answer b e) ≡ edge_answer b s e
-edge_stepped b s e same number =
-    sym (own_edge b s e same ∙ ap (λ (x : Bool). if x then Err (refused.Lost (loss_of b s)) else by_step (answer b e)) (is_lost-same b s number))
+    let found = ap (λ (x : Bool). if x then Err (refused.Lost (loss_of b s)) else by_step (answer b e)) read in
+    sym (own_edge b s e same ∙ (found ∙ ap (λ (n : ℕ). Err (refused.Lost (record { own = n }))) (sym is)))

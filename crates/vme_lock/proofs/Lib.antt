@@ -8,8 +8,6 @@ pub mod AllSeats
 pub mod HoldAnswers
 -- what an edge changes in the locked value: `laws::step_in`
 pub mod OneHold
--- that an edge made is well formed: `laws::edge_in`
-pub mod WellFormed
 -- what a hold shows a worker that waits or ends: `workers`
 pub mod Waiting
 -- the pages of a worker: `logs::Pages`

@@ -1,5 +1,6 @@
 -- One driver's edges in a history, compared with its log.
-use Rattle.std.proofs.Common.{◌≡◌, ◌≢◌, ℕ, ◌+◌, ◌<◌, ◌≤◌, List, [], ◌∷◌, ◌++◌, length, take, drop, get_or, Bool, true, false, Some, None, sym, ap, ◌∙◌, arith, length-append, append_assoc, append-nil, length-take-le}
+use Rattle.std.proofs.Common.{◌≡◌, ◌≢◌, ℕ, ◌+◌, ◌<◌, ◌≤◌, List, [], ◌∷◌, ◌++◌, length, take, drop, get_or, Bool, true, false}
+use Rattle.std.proofs.Common.{Some, None, sym, ap, ◌∙◌, arith, length-append, append_assoc, append-nil, length-take-le}
 use Rattle.std.specs.Prelude.{cond, filter, slice_get, MatchBool}
 use Rattle.std.proofs.Math.Seq.{take-append_seam, get_or-append_seam}
 use Rattle.std.proofs.lemmas.List.{take-append-drop, take_all, take_more}
@@ -18,7 +19,8 @@ use Rattle.vme_lock.proofs.OneEdge.{one_edge, own_edge, never}
 abbrev pub own : Driver → List Edge → List Edge
 own d xs = filter (λ e. is_same_driver e.driver d) xs
 
-own-more : (xs : List Edge) (d : Driver) (i : ℕ) (e : Edge) (b : Bool) → slice_get xs i ≡ Some e → is_same_driver e.driver d ≡ b → own d (take (i + 1) xs) ≡ own d (take i xs) ++ cond b (e ∷ []) []
+own-more : (xs : List Edge) (d : Driver) (i : ℕ) (e : Edge) (b : Bool) → slice_get xs i ≡ Some e → is_same_driver e.driver d ≡ b →
+    own d (take (i + 1) xs) ≡ own d (take i xs) ++ cond b (e ∷ []) []
 own-more xs d i e b at by =
     let is : get_or xs i e ≡ e = get_or_from_slice_get xs i e e at in
     filter_more (λ e. is_same_driver e.driver d) xs i e (slice_get_within xs i e at)
@@ -30,7 +32,8 @@ differs ys log at e rest is within apart =
     let len : length (take at log) ≡ at = length-take-le at log within in
     let long : at < length ys = omega (arith, ap length is, length-append (take at log) (e ∷ rest), len) in
     let front : take at ys ≡ take at log = ap (take at) is ∙ (ap (λ (n : ℕ). take n (take at log ++ e ∷ rest)) (sym len) ∙ take-append_seam (take at log) (e ∷ rest)) in
-    let here : get_or ys at e ≡ e = ap (λ (l : List Edge). get_or l at e) is ∙ (ap (λ (n : ℕ). get_or (take at log ++ e ∷ rest) n e) (sym len) ∙ get_or-append_seam (take at log) e rest e) in
+    let seam = ap (λ (n : ℕ). get_or (take at log ++ e ∷ rest) n e) (sym len) ∙ get_or-append_seam (take at log) e rest e in
+    let here : get_or ys at e ≡ e = ap (λ (l : List Edge). get_or l at e) is ∙ seam in
     let read : slice_get ys at ≡ Some e = slice_get-get_or ys at e long ∙ ap (λ (x : Edge). Some x) here in
     record { within = omega (arith, long); within_other = within; same = front; apart = λ same. apart (sym same ∙ read) }
 
@@ -59,20 +62,22 @@ own-whole xs d i front is =
     ap (own d) (sym (take-append-drop i xs)) ∙ (filter-append (λ e. is_same_driver e.driver d) (take i xs) (drop i xs) ∙ ap (λ (l : List Edge). l ++ own d (drop i xs)) is)
 
 -- an edge of the driver that stands in the log
-pub went_on : (xs log : List Edge) (d : Driver) (i at : ℕ) (e : Edge) → slice_get xs i ≡ Some e → is_same_driver e.driver d ≡ true → own d (take i xs) ≡ take at log → slice_get log at ≡ Some e
-    → (own d (take (i + 1) xs) ≡ take (at + 1) log) × (at + 1 ≤ length log)
+pub went_on : (xs log : List Edge) (d : Driver) (i at : ℕ) (e : Edge) → slice_get xs i ≡ Some e → is_same_driver e.driver d ≡ true →
+    own d (take i xs) ≡ take at log → slice_get log at ≡ Some e → (own d (take (i + 1) xs) ≡ take (at + 1) log) × (at + 1 ≤ length log)
 went_on xs log d i at e is by front read =
     let within : at < length log = slice_get_within log at e read in
     let more : take (at + 1) log ≡ take at log ++ e ∷ [] = take_more log at e within ∙ ap (λ (x : Edge). take at log ++ x ∷ []) (get_or_from_slice_get log at e e read) in
     (own-more xs d i e true is by ∙ (ap (λ (l : List Edge). l ++ e ∷ []) front ∙ sym more), omega (arith, within))
 
 -- an edge of another driver
-pub passed : (xs log : List Edge) (d : Driver) (i at : ℕ) (e : Edge) → slice_get xs i ≡ Some e → is_same_driver e.driver d ≡ false → own d (take i xs) ≡ take at log → own d (take (i + 1) xs) ≡ take at log
+pub passed : (xs log : List Edge) (d : Driver) (i at : ℕ) (e : Edge) → slice_get xs i ≡ Some e → is_same_driver e.driver d ≡ false →
+    own d (take i xs) ≡ take at log → own d (take (i + 1) xs) ≡ take at log
 passed xs log d i at e is by front =
     own-more xs d i e false is by ∙ (append-nil _ ∙ front)
 
 -- an edge of the driver that does not stand in the log
-pub stopped : (xs log : List Edge) (d : Driver) (i at : ℕ) (e : Edge) → slice_get xs i ≡ Some e → is_same_driver e.driver d ≡ true → own d (take i xs) ≡ take at log → at ≤ length log → slice_get log at ≢ Some e → DiffersAt (own d xs) log at
+pub stopped : (xs log : List Edge) (d : Driver) (i at : ℕ) (e : Edge) → slice_get xs i ≡ Some e → is_same_driver e.driver d ≡ true →
+    own d (take i xs) ≡ take at log → at ≤ length log → slice_get log at ≢ Some e → DiffersAt (own d xs) log at
 stopped xs log d i at e is by front within apart =
     let more = own-more xs d i e true is by ∙ ap (λ (l : List Edge). l ++ e ∷ []) front in
     let whole = own-whole xs d (i + 1) (take at log ++ e ∷ []) more ∙ append_assoc (take at log) (e ∷ []) (own d (drop (i + 1) xs)) in

@@ -16,7 +16,8 @@ pub joined_page : (pages : List (List Edge)) → edges_in (pages ++ [] ∷ []) �
 joined_page pages = joined-append pages ([] ∷ []) ∙ append-nil (edges_in pages)
 
 -- one more edge in the last page
-pub joined-set : (pages : List (List Edge)) (n : ℕ) (page : List Edge) (e : Edge) → n + 1 ≡ length pages → get_or pages n page ≡ page → edges_in (set pages n (page ++ e ∷ [])) ≡ edges_in pages ++ e ∷ []
+pub joined-set : (pages : List (List Edge)) (n : ℕ) (page : List Edge) (e : Edge) → n + 1 ≡ length pages →
+    get_or pages n page ≡ page → edges_in (set pages n (page ++ e ∷ [])) ≡ edges_in pages ++ e ∷ []
 joined-set [] n page e last is = absurd (omega arith)
 joined-set (x ∷ []) zero page e last is =
     append-nil (page ++ e ∷ []) ∙ (ap (λ (l : List Edge). l ++ e ∷ []) (sym is) ∙ ap (λ (l : List Edge). l ++ e ∷ []) (sym (append-nil x)))
@@ -38,7 +39,8 @@ room_page pages =
 pub fits : (pages : List (List Edge)) (n : ℕ) (page : List Edge) → 0 < room_of pages → n ≡ length pages → 0 < n → page ≡ get_or pages (n - 1) page → length page < 256
 fits pages n page room count some is =
     let place : length pages - 1 ≡ n - 1 = omega (arith, count) in
-    let read : slice_get pages (length pages - 1) ≡ Some page = ap (slice_get pages) place ∙ (slice_get-get_or pages (n - 1) page (omega (arith, count)) ∙ ap (λ (l : List Edge). Some l) (sym is)) in
+    let there = slice_get-get_or pages (n - 1) page (omega (arith, count)) ∙ ap (λ (l : List Edge). Some l) (sym is) in
+    let read : slice_get pages (length pages - 1) ≡ Some page = ap (slice_get pages) place ∙ there in
     let here : room_of pages ≡ 256 - length page = ap (λ x. option_map_or (λ page. 256 - length page) x 0) read in
     omega (arith, here)
 
@@ -50,10 +52,12 @@ some_page (x ∷ pages) room = omega arith
 -- the next page
 pub joined-next : (pages : List (List Edge)) (i : ℕ) (page : List Edge) → i < length pages → page ≡ get_or pages i page → edges_in (take (i + 1) pages) ≡ edges_in (take i pages) ++ page
 joined-next pages i page lt is =
-    ap edges_in (take_more pages i page lt) ∙ (joined-append (take i pages) (get_or pages i page ∷ []) ∙ (ap (λ (l : List Edge). edges_in (take i pages) ++ l) (append-nil (get_or pages i page)) ∙ ap (λ (l : List Edge). edges_in (take i pages) ++ l) (sym is)))
+    let last = append-nil (get_or pages i page) ∙ sym is in
+    ap edges_in (take_more pages i page lt) ∙ (joined-append (take i pages) (get_or pages i page ∷ []) ∙ ap (λ (l : List Edge). edges_in (take i pages) ++ l) last)
 
 pub joined-front : (pages : List (List Edge)) (i : ℕ) (page : List Edge) → i < length pages → page ≡ get_or pages i page → length (edges_in (take i pages)) + length page ≤ length (edges_in pages)
 joined-front pages i page lt is =
     let front = ap length (joined-next pages i page lt is) ∙ length-append (edges_in (take i pages)) page in
-    let whole = ap length (sym (ap edges_in (take-append-drop (i + 1) pages)) ∙ joined-append (take (i + 1) pages) (drop (i + 1) pages)) ∙ length-append (edges_in (take (i + 1) pages)) (edges_in (drop (i + 1) pages)) in
+    let parts = sym (ap edges_in (take-append-drop (i + 1) pages)) ∙ joined-append (take (i + 1) pages) (drop (i + 1) pages) in
+    let whole = ap length parts ∙ length-append (edges_in (take (i + 1) pages)) (edges_in (drop (i + 1) pages)) in
     omega (arith, front, whole)

@@ -49,8 +49,7 @@ one_wire _ _ e = absurd (never (sym e))
 one_turn : (a b : Bool) → is_same_turn a b ≡ true → a ≡ b
 one_turn true true e = refl
 one_turn false false e = refl
-one_turn true false e = absurd (never (sym e))
-one_turn false true e = absurd (never (sym e))
+one_turn _ _ e = absurd (never (sym e))
 
 one_value : (a b : Option Cycle) → is_same_value a b ≡ true → a ≡ b
 one_value None None e = refl
@@ -74,18 +73,7 @@ own_driver (Slot s) = own_number s
 
 own_wire : (w : Wire) → is_same_wire w w ≡ true
 own_wire (Bg m) = own_number m
-own_wire Bclr = refl
-own_wire Iack = refl
-own_wire Berr = refl
-own_wire Br = refl
-own_wire BgOut = refl
-own_wire Bbsy = refl
-own_wire Addr = refl
-own_wire AddressStrobe = refl
-own_wire DataStrobe = refl
-own_wire Irq = refl
-own_wire IackOut = refl
-own_wire Dtack = refl
+own_wire w = refl
 
 own_turn : (b : Bool) → is_same_turn b b ≡ true
 own_turn true = refl

@@ -8,7 +8,8 @@ use Rattle.vme_model.specs.declared.refusals.Refused.{Refused}
 use Rattle.vme_model.specs.Signals.{is_same_driver}
 use Rattle.vme_model.specs.Verdict.{State, verdict, made, after}
 use Rattle.vme_model.specs.Counts.{count}
-use Rattle.vme_lock.specs.Seats.{Keeping, IsHeld, can_sit, desk, kept_more}
+use Rattle.vme_lock.specs.Seats.{Place, Keeping, IsHeld, can_sit, desk, kept_more}
+use Rattle.vme_lock.specs.Holds.{IsOwn}
 use Rattle.vme_lock.proofs.OneEdge.{one_driver}
 use Rattle.vme_lock.proofs.DeskCounts.{one_if, AreCounts-more, count-made}
 
@@ -34,8 +35,13 @@ held_more opened k e d held sits same =
       booked = omega (arith, held.booked);
     }
 
+-- an edge of the seat, as the hold sees both
+pub own_inside : {k l : Keeping} {s t : Place} (e : Edge) → k ≡ l → s ≡ t → IsOwn l.board t e → IsOwn k.board s e
+own_inside {k} {l} {s} {t} e held seat own = rw (held, seat) own
+
 -- one more edge of a driver, at its desk
-pub held_after : (opened : State) (k : Keeping) (e : Edge) (d : Driver) (new : State) (at total : ℕ) → IsHeld opened k → can_sit d ≡ true → is_same_driver e.driver d ≡ true → new ≡ made k.board e → at ≡ desk d → total ≡ k.total + 1
-    → IsHeld opened (record { board = new; counts = slice_set k.counts at (slice_index k.counts at + 1); total = total })
+pub held_after : (opened : State) (k : Keeping) (e : Edge) (d : Driver) (new : State) (at total : ℕ) → IsHeld opened k → can_sit d ≡ true →
+    is_same_driver e.driver d ≡ true → new ≡ made k.board e → at ≡ desk d → total ≡ k.total + 1 →
+    IsHeld opened (record { board = new; counts = slice_set k.counts at (slice_index k.counts at + 1); total = total })
 held_after opened k e d new at total held sits same is place more =
     rw (is, place, more) (held_more opened k e d held sits same)

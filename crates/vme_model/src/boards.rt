@@ -64,7 +64,7 @@ pub struct Jumper {
 /// The arbiter's policy: which of the requested levels it picks. Source: Std 1014, chapter 3.
 #[derive(Clone, Copy, PartialEq, Eq, Debug)]
 pub enum ArbiterKind {
-    /// Single level (SGL): it serves BR3* alone.
+    /// Single level (SGL): it serves only BR3*.
     Sgl,
     /// Priority (PRI): it picks the highest level.
     Pri,

@@ -102,7 +102,7 @@ pub enum Condition {
     GrantsThrough,
     /// The edge is well formed, and the plan has the board and the part that drives its wire.
     HasDriver,
-    /// The wire is in the state that the edge ends: high before a fall, low before a rise.
+    /// The wire is in the state that the edge leaves: high before a fall, low before a rise.
     OtherState,
     /// The trace can hold one more edge.
     HasRoom,

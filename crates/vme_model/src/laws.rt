@@ -37,10 +37,10 @@ ghost use Rattle.vme_model.specs.declared.signals.Version.TheVariants.{One, Two}
 ghost use Rattle.vme_model.specs.declared.signals.Version.{Version};
 ghost use Rattle.vme_model.specs.declared.signals.Wire.{Wire};
 
-/// Every legal list is safe. After each edge at most one grant travels, none while BBSY* is low; at
-/// most one board holds the bus; and at most one drives the address lines. Each board took the bus,
-/// and answered an acknowledge, by right. Each ROAK request was answered at most once, and exactly
-/// once before it was let go.
+/// Every legal list is safe. After each edge at most one grant travels, and none while BBSY* is
+/// low; at most one board holds the bus; and at most one board drives the address lines. Each board
+/// that took the bus, or answered an acknowledge, was entitled to. Each ROAK request was answered
+/// at most once, and exactly once before it was released.
 pub fn legal_list_is_safe()
     ensures { (version : Version) (p : Plan) (h : List Edge) →
         IsAccepted p → IsLegal version p h → IsSafe p h }

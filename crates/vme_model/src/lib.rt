@@ -4,7 +4,7 @@
 //! The definitions stand in `specs/`, one file for each subject, in the order in which
 //! `specs/Lib.antt` names them.
 //!
-//! A comment names its source where a rule stands behind it: *Std 1014* is ANSI/IEEE Std 1014-1987,
+//! A comment names its source if a rule stands behind it: *Std 1014* is ANSI/IEEE Std 1014-1987,
 //! and *profile* is what this project adds to the standard. docs/RULES.md has the rules.
 #![tactic(auto)]
 

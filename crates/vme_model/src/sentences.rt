@@ -122,8 +122,8 @@ impl Rule {
         }
     }
 
-    /// The edge that the rule is asked for, such as `c bgN-`, with N for a grant's level and v for
-    /// what is shown; `any` if it is any edge. At most 8 bytes.
+    /// The edge that the rule judges, such as `c bgN-`, with N for a grant's level and v for what is
+    /// shown; `any` if the rule judges every edge. At most 8 bytes.
     pub fn edge(self) -> &'static str
         ensures text { result.now ≡ rule_edge self }
         ensures short { length result.now ≤ 8 }
@@ -165,7 +165,7 @@ impl Rule {
         }
     }
 
-    /// The rule in a sentence: at most 160 bytes. What holds in version 2 alone comes after
+    /// The rule in a sentence of at most 160 bytes. What holds only in version 2 comes after
     /// `Version 2:`.
     pub fn sentence(self) -> &'static str
         ensures text { result.now ≡ sentence self }

@@ -111,7 +111,7 @@ impl Flags for Levels {
 }
 
 impl Levels {
-    /// The set that has one level alone, 1 to 7.
+    /// The set of just this level, 1 to 7.
     pub fn of(level: u8) -> Levels
         requires low { 1 ≤ level }
         requires high { level ≤ 7 }
@@ -255,7 +255,7 @@ impl Flags for Chains {
 }
 
 impl Chains {
-    /// The set that has one chain alone.
+    /// The set of just this chain.
     pub fn of(chain: ChainId) -> Chains
         ensures { result ≡ record { 0 = chain_bit chain } }
     {

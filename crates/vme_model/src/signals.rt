@@ -116,7 +116,7 @@ pub struct Edge {
     pub value: Option<Cycle>,
 }
 
-/// Whether a backplane can have such a slot, 1 to 21. Source: Std 1014, chapter 7.
+/// Whether a backplane can have a slot of this number: 1 to 21. Source: Std 1014, chapter 7.
 fn is_slot(slot: u8) -> bool
     ensures { result ≡ is_slot slot }
 {

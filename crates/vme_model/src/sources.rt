@@ -63,11 +63,11 @@ pub enum Reason {
 /// Where a condition comes from. Source: profile (how it is printed).
 #[derive(Clone, Copy, PartialEq, Eq, Debug)]
 pub enum Source {
-    /// A sentence of this chapter asks for just that, times aside.
+    /// A sentence of this chapter demands exactly this, apart from its times.
     Standard(Chapter),
     /// Chapter 2 asks for it in an access, and chapter 4 in an acknowledge.
     EachCycle,
-    /// It stands for a minimum time of this chapter.
+    /// It takes the place of a minimum time of this chapter.
     LeastTime(Chapter),
     /// It is stricter than the standard, or says when.
     Profile(Reason),
@@ -157,8 +157,8 @@ impl Sourced {
 }
 
 impl Rule {
-    /// The conditions of the rule, in the order of its guard, each with its source; none of E1, E2
-    /// and E5, which ask nothing of a bus.
+    /// The conditions of the rule, in the order of its guard, each with its source. E1, E2 and E5
+    /// have none, since they demand nothing of a bus.
     pub fn sources(self) -> &'static [Sourced]
         ensures { result.now ≡ sources self }
     {
@@ -342,7 +342,7 @@ impl Rule {
         }
     }
 
-    /// Whether the rule has conditions in the first version alone.
+    /// Whether the rule has conditions only in the first version.
     pub fn is_first_versions(self) -> bool
         ensures { result ≡ is_first_versions self }
     {

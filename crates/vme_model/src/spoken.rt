@@ -13,7 +13,7 @@ use vme_text::{push, push_byte};
 /// Room for the text of any condition, in bytes: the longest has 45.
 const TEXT: usize = 48;
 
-/// The text alone, as a line.
+/// The text as a line, with nothing added.
 fn text_of(text: &str) -> ArrayVec<u8, TEXT>
     requires { length text.now ≤ 48 }
     ensures { result.items ≡ text.now }

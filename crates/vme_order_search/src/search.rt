@@ -30,7 +30,7 @@ const WIDTHS: [usize; 2] = [32, 1_024];
 pub struct Found {
     /// The places of the longest legal beginning, and of those of its length the least, in order.
     pub order: Vec<u32>,
-    /// The places that can come next after it, ascending. There is none where it is an order.
+    /// The places that can come next after it, ascending. There is none if it is an order.
     pub next: Vec<u32>,
 }
 
@@ -339,7 +339,7 @@ fn longest_within(
 /// The longest legal beginning, and of those of its length the least; and what can come next after
 /// it. Where it has all places it is the least legal order, and otherwise there is none.
 ///
-/// Errors: F5 where the legal beginnings of some length have more than 65,536 sets of places, or one goes on
+/// Errors: F5 if the legal beginnings of some length have more than 65,536 sets of places, or one goes on
 /// legally with a place that is greater by 128 or more than the least that is not in it; F3.
 pub fn longest(
     alloc: Global,

@@ -20,7 +20,7 @@ use Rattle.vme_engines.specs.Totals.{AddsInput, IsWhole, PrintsSums}
 use Rattle.vme_command_line.specs.declared.Job.{Job}
 use Rattle.vme_command_line.specs.Asked.{texts_of}
 use Rattle.vme_program.specs.declared.faults.ProgramFault.{ProgramFault}
-use Rattle.vme_program.specs.declared.faults.ProgramFault.TheVariants.{CannotRead, TooLong, Engine, InTrace, SomeTraces, Boards, Ordering}
+use Rattle.vme_program.specs.declared.faults.ProgramFault.TheVariants.{CannotRead, TooLong, Engine, InTrace, SomeTraces, NoRace, Boards, Ordering}
 use Rattle.vme_program.specs.Adding.{AddsFile, Blames, IsFaulty}
 use Rattle.vme_program.specs.Done.{Alone, Hands, Known}
 use Rattle.vme_program.specs.Names.{IsFaultOf, IsFileOf, scenario_name, answer_named, trace_answer_named}
@@ -93,6 +93,7 @@ fault_at text scenario traces trace sums i (InTrace name f) at among so_far h =
       (i, at ∙ ap Some (sym h.0), had.0, had.1, h.3.0, h.3.1, h.3.2, h.3.3),
     )
 fault_at text scenario traces trace sums i SomeTraces at among so_far h = absurd h
+fault_at text scenario traces trace sums i (NoRace edge) at among so_far h = absurd h
 fault_at text scenario traces trace sums i (Boards f) at among so_far h = absurd h
 fault_at text scenario traces trace sums i (Ordering f) at among so_far h = absurd h
 
@@ -125,6 +126,7 @@ sums_stopped text scenario traces held (Engine (fault.Trace f)) h = absurd h
 sums_stopped text scenario traces held (Engine (fault.Beyond edges)) h = absurd h
 sums_stopped text scenario traces held (InTrace name f) h = ((text, h.1, h.2, h.3), Keeps-refl held)
 sums_stopped text scenario traces held SomeTraces h = absurd h
+sums_stopped text scenario traces held (NoRace edge) h = absurd h
 sums_stopped text scenario traces held (Boards f) h = absurd h
 sums_stopped text scenario traces held (Ordering f) h = absurd h
 
@@ -136,5 +138,6 @@ sums_fault text job scenario traces (TooLong name) is files h = ap (λ (b : Bor 
 sums_fault text job scenario traces (Engine f) is files h = tt
 sums_fault text job scenario traces (InTrace name f) is files h = files name.now h.0
 sums_fault text job scenario traces SomeTraces is files h = tt
+sums_fault text job scenario traces (NoRace edge) is files h = tt
 sums_fault text job scenario traces (Boards f) is files h = tt
 sums_fault text job scenario traces (Ordering f) is files h = tt

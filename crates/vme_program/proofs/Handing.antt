@@ -15,6 +15,11 @@ use Rattle.vme_engines.specs.Driving.{Drives}
 use Rattle.vme_engines.specs.Drawing.{Draws}
 use Rattle.vme_engines.specs.Found.{Found, Finds, found_answer}
 use Rattle.vme_engines.specs.Joining.{Joins}
+use Rattle.vme_engines.specs.Readings.{ReadsInput, ReadsLent}
+use Rattle.vme_engines.specs.declared.EngineFault.{EngineFault}
+use Rattle.vme_races.specs.Other.{Orders}
+use Rattle.vme_races.specs.declared.other.OtherOrder.{OtherOrder as Other}
+use Rattle.vme_races.specs.declared.other.OtherOrder.TheVariants as other
 use Rattle.vme_run.specs.declared.RunFault.{RunFault}
 use Rattle.vme_run.specs.declared.RunFault.TheVariants as run
 use Rattle.vme_run.specs.Running.{Runs}
@@ -23,11 +28,11 @@ use Rattle.vme_order.specs.declared.Form.{Form}
 use Rattle.vme_order.specs.declared.OrderingFault.TheVariants as order
 use Rattle.vme_order.specs.Ordering.{Answer as OrderAnswer, LentText, OrdersInput}
 use Rattle.vme_command_line.specs.declared.Job.{Job}
-use Rattle.vme_command_line.specs.declared.Job.TheVariants.{Joined, Order, Drive, Draw, Search, Run}
+use Rattle.vme_command_line.specs.declared.Job.TheVariants.{Joined, OtherOrder, Order, Drive, Draw, Search, Run}
 use Rattle.vme_program.specs.declared.faults.ProgramFault.{ProgramFault}
 use Rattle.vme_program.specs.declared.faults.ProgramFault.TheVariants.{CannotRead, TooLong, Engine}
 use Rattle.vme_program.specs.Done.{Alone, Hands, IsDone, Known, OnTrace}
-use Rattle.vme_program.specs.Names.{form_of, answer_named, order_answer_named, run_answer_named}
+use Rattle.vme_program.specs.Names.{form_of, answer_named, order_answer_named, other_answer_named, run_answer_named}
 
 pub handed : (Stops : List ℕ → Fault → Type 0) (Fails : ProgramFault → Type 0) (Does : Answer → Type 0) (nothing : Type 0) (name : Bor (List ℕ)) (answer : Answer) → Does answer
     → (Does (Err fault.CannotRead) → nothing) → (Does (Err fault.TooLong) → nothing) → Hands (Alone Does) Stops Fails nothing (answer_named name answer)
@@ -100,6 +105,20 @@ run_done scenario text edges turns version old new (Err (run.Engine fault.NoMemo
 run_done scenario text edges turns version old new (Err run.NotStarted) does = (text, does)
 run_done scenario text edges turns version old new (Err (run.LogDiffers driver at)) does = (text, does)
 run_done scenario text edges turns version old new (Err (run.NotReplayed at)) does = absurd does
+
+-- the other order of a race
+pub other_done : (scenario trace : Bor (List ℕ)) (text : List ℕ) (edge : ℕ) (from to old new : Known) (answer : Result Other EngineFault)
+    → ReadsLent text (ReadNothing (streams from to old new) × WroteNothing (streams from to old new)) (λ p. ReadsInput (Orders edge p) (streams from to old new)) answer
+    → IsDone (OtherOrder scenario trace edge) old new (other_answer_named scenario edge answer)
+other_done scenario trace text edge from to old new (Ok other.Written) does = (refl, (text, from, to, does))
+other_done scenario trace text edge from to old new (Ok other.NoRace) does = (refl, (text, from, to, does))
+other_done scenario trace text edge from to old new (Ok (other.Beyond n)) does = inl (text, from, to, does)
+other_done scenario trace text edge from to old new (Err fault.CannotRead) does = absurd does
+other_done scenario trace text edge from to old new (Err fault.TooLong) does = does.1.1
+other_done scenario trace text edge from to old new (Err (fault.Scenario e)) does = inl (text, from, to, does)
+other_done scenario trace text edge from to old new (Err (fault.Trace f)) does = inl (text, from, to, does)
+other_done scenario trace text edge from to old new (Err (fault.Beyond n)) does = absurd does
+other_done scenario trace text edge from to old new (Err fault.NoMemory) does = inl (text, from, to, does)
 
 -- an engine on a scenario and moments
 order_done : (scenario moments : Bor (List ℕ)) (text : List ℕ) (slacks : Slacks) (places : Bool) (from to old new : Known) (answer : OrderAnswer)

@@ -22,17 +22,24 @@ use Rattle.vme_engines.specs.Driving.{Drives}
 use Rattle.vme_engines.specs.Drawing.{Draws}
 use Rattle.vme_engines.specs.Found.{Found, Finds, found_answer}
 use Rattle.vme_engines.specs.Joining.{Joins}
+use Rattle.vme_engines.specs.Readings.{ReadsInput, ReadsLent}
+use Rattle.vme_engines.specs.declared.EngineFault.{EngineFault}
 use Rattle.vme_cycles.specs.Outcomes.{ReportsInput}
 use Rattle.vme_run.specs.declared.RunFault.{RunFault}
 use Rattle.vme_run.specs.declared.RunFault.TheVariants as run
 use Rattle.vme_run.specs.Running.{Runs}
 use Rattle.vme_shrink.specs.Shrinking.{ShrinksInput}
+use Rattle.vme_races.specs.Outcomes.{ReportsInput as ReportsRaces}
+use Rattle.vme_races.specs.Asked.{PrintsWalkInput}
+use Rattle.vme_races.specs.Other.{Orders}
+use Rattle.vme_races.specs.declared.other.OtherOrder.{OtherOrder as Other}
+use Rattle.vme_races.specs.declared.other.OtherOrder.TheVariants as other
 use Rattle.vme_moments.specs.declared.slacks.Slacks.{Slacks}
 use Rattle.vme_order.specs.declared.Form.{Form}
 use Rattle.vme_order.specs.declared.OrderingFault.TheVariants as order
 use Rattle.vme_order.specs.Ordering.{Answer as OrderAnswer, LentText, OrdersInput}
 use Rattle.vme_command_line.specs.declared.Job.{Job}
-use Rattle.vme_command_line.specs.declared.Job.TheVariants.{Joined, OwnVersion, Replay, Check, Checks, Cycles, Explain, Shrink, Rules, State, Show, Summary, Sums, Order, Drive, Draw, Search, Run}
+use Rattle.vme_command_line.specs.declared.Job.TheVariants.{Joined, OwnVersion, Replay, Check, Checks, Cycles, Explain, Shrink, Rules, State, Show, Summary, Sums, Races, Walk, OtherOrder, Order, Drive, Draw, Search, Run}
 use Rattle.vme_command_line.specs.Asked.{Ask, texts_of}
 use Rattle.vme_command_line.specs.declared.TheConstants.{VERSION}
 use Rattle.vme_program.specs.CheckedFiles.{ChecksFiles, HasFaulty}
@@ -40,7 +47,7 @@ use Rattle.vme_program.specs.Names.{form_of, line_form}
 use Rattle.vme_program.specs.Statuses.{exit_code}
 use Rattle.vme_program.specs.Together.{StopsAt, SumsUp}
 use Rattle.vme_program.specs.declared.faults.ProgramFault.{ProgramFault}
-use Rattle.vme_program.specs.declared.faults.ProgramFault.TheVariants.{CannotRead, TooLong, Engine, InTrace, SomeTraces, Boards, Ordering}
+use Rattle.vme_program.specs.declared.faults.ProgramFault.TheVariants.{CannotRead, TooLong, Engine, InTrace, SomeTraces, NoRace, Boards, Ordering}
 
 abbrev pub Known : Type 0
 Known = Option (List ℕ)
@@ -80,6 +87,19 @@ Ordered Ends (Ok status) = Ends (Ok status)
 Ordered Ends (Err (run.Engine f)) = Ends (Err (order.Engine f))
 Ordered Ends (Err _) = ⊥
 
+-- what the engine of `races --other` does on a plan and a trace
+abbrev pub OnRace : ℕ → Known → Known → Result Other EngineFault → Type 0
+OnRace edge old new answer = (text : List ℕ) × (from : Known) × (to : Known)
+    × (let s = streams from to old new in
+    ReadsLent text (ReadNothing s × WroteNothing s) (λ p. ReadsInput (Orders edge p) s) answer)
+
+-- its answer, if there is such an order
+abbrev pub Reordered : (Result Other EngineFault → Type 0) → Result Status RunFault → Type 0
+Reordered Ends (Ok status) = (status ≡ ends.Done) × Ends (Ok other.Written)
+Reordered Ends (Err (run.Engine (fault.Beyond edges))) = Ends (Ok (other.Beyond edges))
+Reordered Ends (Err (run.Engine f)) = Ends (Err f)
+Reordered Ends (Err _) = ⊥
+
 -- What the engine of a job does, by what the output held before and holds now, on some text of a
 -- scenario, and on some input, given the bytes that it had left before and has left now. (No clause
 -- can say what a file gives.)
@@ -103,6 +123,9 @@ Does (Show scenario trace from to color) old new =
 Does (Summary scenario trace) old new = Alone (OnTrace SumsInput old new)
 Does (Sums scenario traces) old new = Alone (λ answer.
     (text : List ℕ) × Lent text (Keeps old new) (SumsUp (length traces.items) old new) answer)
+Does (Races scenario trace) old new = Alone (OnTrace ReportsRaces old new)
+Does (Walk scenario trace edge) old new = Alone (OnTrace (PrintsWalkInput edge) old new)
+Does (OtherOrder scenario trace edge) old new = Reordered (OnRace edge old new)
 Does (Order scenario moments slacks places) old new =
     Ordered (OnMoments (form_of places) slacks old new)
 Does (Drive scenario edges version) old new = Alone (λ answer.
@@ -126,6 +149,8 @@ abbrev pub Fails : Job → Known → Known → ProgramFault → Type 0
 Fails (Checks scenario traces) old new SomeTraces = HasFaulty (texts_of traces.items) old new
 Fails (Order scenario moments slacks places) old new (Ordering f) =
     OnMoments (form_of places) slacks old new (Err f)
+Fails (OtherOrder scenario trace edge) old new (NoRace asked) =
+    (asked ≡ edge) × OnRace edge old new (Ok other.NoRace)
 Fails job old new f = ⊥
 
 -- The answer is an engine's. Or a file could not be read, there was no memory for what is passed to
@@ -141,6 +166,7 @@ Hands Ends Stops Fails nothing (Err (Engine f)) =
 Hands Ends Stops Fails nothing (Err (InTrace name f)) = Stops name.now f × nothing
 Hands Ends Stops Fails nothing (Err (Boards f)) = Ends (Err f)
 Hands Ends Stops Fails nothing (Err SomeTraces) = Fails SomeTraces
+Hands Ends Stops Fails nothing (Err (NoRace edge)) = Fails (NoRace edge)
 Hands Ends Stops Fails nothing (Err (Ordering f)) = Fails (Ordering f)
 
 -- the job is done in this way

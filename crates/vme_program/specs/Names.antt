@@ -5,6 +5,7 @@ use Rattle.std.specs.Borrow.{Bor}
 use Rattle.vme_engines.specs.declared.LineForm.{LineForm}
 use Rattle.vme_engines.specs.declared.LineForm.TheVariants.{Short, Full}
 use Rattle.vme_engines.specs.declared.Status.{Status}
+use Rattle.vme_engines.specs.declared.Status.TheVariants as ends
 use Rattle.vme_engines.specs.declared.EngineFault.{EngineFault}
 use Rattle.vme_engines.specs.declared.EngineFault.TheVariants as fault
 use Rattle.vme_run.specs.declared.RunFault.{RunFault}
@@ -13,11 +14,13 @@ use Rattle.vme_order.specs.declared.Form.{Form}
 use Rattle.vme_order.specs.declared.Form.TheVariants.{Trace, Places}
 use Rattle.vme_order.specs.declared.OrderingFault.{OrderingFault}
 use Rattle.vme_order.specs.declared.OrderingFault.TheVariants as order
+use Rattle.vme_races.specs.declared.other.OtherOrder.{OtherOrder as Other}
+use Rattle.vme_races.specs.declared.other.OtherOrder.TheVariants as other
 use Rattle.vme_command_line.specs.Asked.{texts_of}
 use Rattle.vme_command_line.specs.declared.Job.{Job}
-use Rattle.vme_command_line.specs.declared.Job.TheVariants.{Joined, OwnVersion, Replay, Check, Checks, Cycles, Explain, Shrink, Rules, State, Show, Summary, Sums, Order, Drive, Draw, Search, Run}
+use Rattle.vme_command_line.specs.declared.Job.TheVariants.{Joined, OwnVersion, Replay, Check, Checks, Cycles, Explain, Shrink, Rules, State, Show, Summary, Sums, Races, Walk, OtherOrder, Order, Drive, Draw, Search, Run}
 use Rattle.vme_program.specs.declared.faults.ProgramFault.{ProgramFault}
-use Rattle.vme_program.specs.declared.faults.ProgramFault.TheVariants.{CannotRead, TooLong, Engine, InTrace, SomeTraces, Boards, Ordering}
+use Rattle.vme_program.specs.declared.faults.ProgramFault.TheVariants.{CannotRead, TooLong, Engine, InTrace, SomeTraces, NoRace, Boards, Ordering}
 
 -- the name of the scenario of a job: standard input is `-`, and the version has none
 abbrev pub scenario_name : Job → List ℕ
@@ -34,6 +37,9 @@ scenario_name (State scenario trace after) = scenario.now
 scenario_name (Show scenario trace from to color) = scenario.now
 scenario_name (Summary scenario trace) = scenario.now
 scenario_name (Sums scenario traces) = scenario.now
+scenario_name (Races scenario trace) = scenario.now
+scenario_name (Walk scenario trace edge) = scenario.now
+scenario_name (OtherOrder scenario trace edge) = scenario.now
 scenario_name (Order scenario moments slacks places) = scenario.now
 scenario_name (Drive scenario edges version) = scenario.now
 scenario_name (Draw scenario edges seed until version) = scenario.now
@@ -57,6 +63,9 @@ IsFileOf (Show scenario trace from to color) name = (name ≡ scenario.now) ⊎ 
 IsFileOf (Summary scenario trace) name = (name ≡ scenario.now) ⊎ (name ≡ trace.now)
 IsFileOf (Sums scenario traces) name =
     (name ≡ scenario.now) ⊎ Contains (texts_of traces.items) name
+IsFileOf (Races scenario trace) name = (name ≡ scenario.now) ⊎ (name ≡ trace.now)
+IsFileOf (Walk scenario trace edge) name = (name ≡ scenario.now) ⊎ (name ≡ trace.now)
+IsFileOf (OtherOrder scenario trace edge) name = (name ≡ scenario.now) ⊎ (name ≡ trace.now)
 IsFileOf (Order scenario moments slacks places) name =
     (name ≡ scenario.now) ⊎ (name ≡ moments.now)
 IsFileOf (Drive scenario edges version) name = name ≡ scenario.now
@@ -113,6 +122,14 @@ order_answer_named name (Err (order.Moments f)) = Err (Ordering (order.Moments f
 order_answer_named name (Err (order.NoBoard slot)) = Err (Ordering (order.NoBoard slot))
 order_answer_named name (Err order.TooManyOrders) = Err (Ordering order.TooManyOrders)
 
+-- the answer about the other order of the race of this edge
+abbrev pub other_answer_named :
+    Bor (List ℕ) → ℕ → Result Other EngineFault → Result Status ProgramFault
+other_answer_named name edge (Ok other.Written) = Ok ends.Done
+other_answer_named name edge (Ok other.NoRace) = Err (NoRace edge)
+other_answer_named name edge (Ok (other.Beyond edges)) = Err (Engine (fault.Beyond edges))
+other_answer_named name edge (Err f) = Err (fault_named name f)
+
 -- a file of this name cannot be read, or there is no memory for it
 abbrev pub IsFileFault : Bor (List ℕ) → ProgramFault → Type 0
 IsFileFault name f = (f ≡ CannotRead name) ⊎ (f ≡ Engine fault.NoMemory)
@@ -128,5 +145,6 @@ IsFaultOf job (TooLong name) = name.now ≡ scenario_name job
 IsFaultOf job (Engine fault) = Unit {0}
 IsFaultOf job (InTrace name fault) = IsFileOf job name.now
 IsFaultOf job SomeTraces = Unit {0}
+IsFaultOf job (NoRace edge) = Unit {0}
 IsFaultOf job (Boards fault) = Unit {0}
 IsFaultOf job (Ordering fault) = Unit {0}

@@ -38,6 +38,9 @@ pub enum ProgramFault<'a> {
     /// Some of several traces have faults, each of which was printed when it came.
     #[error("some traces have faults")]
     SomeTraces,
+    /// X11: no edge races with the edge that has this number, so that there is no other order.
+    #[error("X11 edge {0} races with none")]
+    NoRace(u64),
     /// A fault of `run`, whose boards run in threads.
     #[error("{0}")]
     Boards(RunFault),

@@ -12,7 +12,7 @@ ghost use Rattle.vme_engines.specs.Found.{found_answer};
 ghost use Rattle.vme_engines.specs.Outcomes.{scenario_limit};
 ghost use Rattle.vme_engines.specs.Steps.{IsNoPlan};
 ghost use Rattle.vme_engines.specs.declared.EngineFault.{EngineFault as EngineFaultValue};
-ghost use Rattle.vme_program.specs.Names.{IsFaultOf, form_of, line_form, answer_named, fault_named, order_answer_named, run_answer_named, trace_answer_named};
+ghost use Rattle.vme_program.specs.Names.{IsFaultOf, form_of, line_form, answer_named, fault_named, order_answer_named, other_answer_named, run_answer_named, trace_answer_named};
 ghost use Rattle.vme_program.specs.Statuses.{exit_code};
 ghost use Rattle.vme_program.specs.Adding.{AddsFile, AddsFiles};
 
@@ -34,6 +34,7 @@ use vme_goals::Goal;
 use vme_model::{Rule, Version};
 use vme_moments::Slacks;
 use vme_order::{Form, OrderingFault, order};
+use vme_races::{OtherOrder, other_order, races, walk_of_edge};
 use vme_rulebook::{all_rules, one_rule};
 use vme_run::{RunFault, run as run_scenario};
 use vme_shrink::shrink;
@@ -115,6 +116,22 @@ fn answer_of_order<'a>(
         Ok(status) => Ok(status),
         Err(OrderingFault::Engine(fault)) => Err(ProgramFault::of_engine(name, fault)),
         Err(fault) => Err(ProgramFault::Ordering(fault)),
+    }
+}
+
+/// The answer about the other order of the race of this edge, given the name of the scenario.
+fn answer_of_other<'a>(
+    name: &'a str,
+    edge: u64,
+    answer: Result<OtherOrder, EngineFault>,
+) -> Result<Status, ProgramFault<'a>>
+    ensures { result ≡ other_answer_named name.entry edge answer }
+{
+    match answer {
+        Ok(OtherOrder::Written) => Ok(Status::Done),
+        Ok(OtherOrder::NoRace) => Err(ProgramFault::NoRace(edge)),
+        Ok(OtherOrder::Beyond(edges)) => Err(ProgramFault::Engine(EngineFault::Beyond(edges))),
+        Err(fault) => Err(ProgramFault::of_engine(name, fault)),
     }
 }
 
@@ -431,6 +448,63 @@ fn run_sums<'a, W: Write>(
     answer_of(scenario, print_sums(rt.alloc(), &text, &sums, out))
 }
 
+/// Prints which edges of a trace race.
+#[inline(never)]
+fn run_races<'a, W: Write>(
+    rt: &HostRuntime,
+    scenario: &'a str,
+    trace: &'a str,
+    out: &mut W,
+) -> Result<Status, ProgramFault<'a>>
+    ensures fault { IfErr result (IsFaultOf (Job.Races scenario.entry trace.entry)) }
+    ensures done { IsDone (Job.Races scenario.entry trace.entry)
+        (W.contents out.old) (W.contents out.new) result }
+{
+    let text = read_scenario(rt, scenario)?;
+    let mut input = open(rt, trace)?;
+    answer_of(scenario, races(rt.alloc(), &text, &mut input, out))
+}
+
+/// Prints how far one edge of a trace goes back, and what stops it.
+#[inline(never)]
+fn run_walk<'a, W: Write>(
+    rt: &HostRuntime,
+    scenario: &'a str,
+    trace: &'a str,
+    edge: u64,
+    out: &mut W,
+) -> Result<Status, ProgramFault<'a>>
+    ensures fault { IfErr result (IsFaultOf (Job.Walk scenario.entry trace.entry edge)) }
+    ensures done { IsDone (Job.Walk scenario.entry trace.entry edge)
+        (W.contents out.old) (W.contents out.new) result }
+{
+    let text = read_scenario(rt, scenario)?;
+    let mut input = open(rt, trace)?;
+    answer_of(
+        scenario,
+        walk_of_edge(rt.alloc(), &text, &mut input, edge, out),
+    )
+}
+
+/// Prints the trace of the other order of a race.
+#[inline(never)]
+fn run_other<'a, W: Write>(
+    rt: &HostRuntime,
+    scenario: &'a str,
+    trace: &'a str,
+    edge: u64,
+    out: &mut W,
+) -> Result<Status, ProgramFault<'a>>
+    ensures fault { IfErr result (IsFaultOf (Job.OtherOrder scenario.entry trace.entry edge)) }
+    ensures done { IsDone (Job.OtherOrder scenario.entry trace.entry edge)
+        (W.contents out.old) (W.contents out.new) result }
+{
+    let text = read_scenario(rt, scenario)?;
+    let mut input = open(rt, trace)?;
+    let answer = other_order(rt.alloc(), &text, &mut input, edge, out);
+    answer_of_other(scenario, edge, answer)
+}
+
 /// What is written of an order, with `--where` and without.
 fn form_of(places: bool) -> Form
     ensures { result ≡ form_of places }
@@ -602,6 +676,17 @@ pub fn run<'a, R: Threads + Wait + Sync, W: Write>(
         } => run_show(rt, scenario, trace, from, to, color, out),
         Job::Summary { scenario, trace } => run_summary(rt, scenario, trace, out),
         Job::Sums { scenario, traces } => run_sums(rt, scenario, traces, out),
+        Job::Races { scenario, trace } => run_races(rt, scenario, trace, out),
+        Job::Walk {
+            scenario,
+            trace,
+            edge,
+        } => run_walk(rt, scenario, trace, edge, out),
+        Job::OtherOrder {
+            scenario,
+            trace,
+            edge,
+        } => run_other(rt, scenario, trace, edge, out),
         Job::Order {
             scenario,
             moments,

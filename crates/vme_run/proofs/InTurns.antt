@@ -18,7 +18,7 @@ use Rattle.vme_lock.proofs.DeskCounts.{count-in_order}
 use Rattle.vme_lock.proofs.AllSeats.{all_counted}
 use Rattle.vme_engines.specs.declared.EngineFault.TheVariants as fault
 use Rattle.vme_run.specs.declared.RunFault.{RunFault}
-use Rattle.vme_run.specs.declared.RunFault.TheVariants.{Engine, NotStarted, LogDiffers, NotReplayed}
+use Rattle.vme_run.specs.declared.RunFault.TheVariants.{LogDiffers}
 use Rattle.vme_run.specs.Running.{AreInTurns, AreHandedBack}
 use Rattle.vme_run.specs.Between.{IsClosed, IsClosedWith, IsClosedApart, IsGrown, IsPlayed, IsNotPlayed}
 
@@ -27,17 +27,15 @@ abbrev all_made : List Place → ℕ
 all_made seats = sum_by (λ s. s.made) seats
 
 -- logs that are no longer than the turns
-worked_within : (seats after : List Place) (logs : List (List Edge)) (turns edges : ℕ) → AllWorked seats after logs → All (IsWithin turns edges) logs → all_made after ≤ all_made seats + turns * length seats
+worked_within : (seats after : List Place) (logs : List (List Edge)) (turns edges : ℕ) →
+    AllWorked seats after logs → All (IsWithin turns edges) logs → all_made after ≤ all_made seats + turns * length seats
 worked_within [] [] [] turns edges worked short = omega arith
 worked_within (s ∷ seats) (t ∷ after) (log ∷ logs) turns edges worked short =
     let here : t.made ≡ s.made + length log = ap (λ x. x.made) worked.0 in
     let one = All-head (IsWithin turns edges) log logs short in
     let rest = worked_within seats after logs turns edges worked.1 (All-tail (IsWithin turns edges) log logs short) in
     omega (arith, here, one.0, rest, mul-suc turns (length seats), sum_by-cons (λ s. s.made) t after, sum_by-cons (λ s. s.made) s seats)
-worked_within [] [] (z ∷ logs) turns edges worked short = absurd worked
-worked_within [] (y ∷ after) logs turns edges worked short = absurd worked
-worked_within (x ∷ seats) [] logs turns edges worked short = absurd worked
-worked_within (x ∷ seats) (y ∷ after) [] turns edges worked short = absurd worked
+worked_within seats after logs turns edges worked short = absurd worked
 
 -- what the seats made of a backplane that was opened
 opened_with : (b : State) (ds : List Driver) → all_made (map (seat_of b) ds) ≡ sum_by (λ d. count b.history d) ds
@@ -70,10 +68,7 @@ worked_so_much (s ∷ seats) (t ∷ after) (log ∷ logs) worked =
     let here : t.made ≡ s.made + length log = ap (λ x. x.made) worked.0 in
     let rest = worked_so_much seats after logs worked.1 in
     omega (arith, here, rest, sum_by-cons (λ s. s.made) t after, sum_by-cons (λ s. s.made) s seats, sum_by-cons (λ (l : List Edge). length l) log logs)
-worked_so_much [] [] (z ∷ logs) worked = absurd worked
-worked_so_much [] (y ∷ after) logs worked = absurd worked
-worked_so_much (x ∷ seats) [] logs worked = absurd worked
-worked_so_much (x ∷ seats) (y ∷ after) [] worked = absurd worked
+worked_so_much seats after logs worked = absurd worked
 
 grown_by_logs : (opened b : State) (seats after : List Place) (logs : List (List Edge)) → IsAccepted opened.plan → IsLegal opened.version opened.plan opened.history
     → seats ≡ seats_of opened → AllWorked seats after logs → IsClosing opened after b → length b.history ≡ length opened.history + logged logs
@@ -84,10 +79,7 @@ grown_by_logs opened b seats after logs accepted legal is worked closing =
 one_log : (seats after : List Place) (logs : List (List Edge)) → AllWorked seats after logs → length logs ≡ length seats
 one_log [] [] [] worked = refl
 one_log (s ∷ seats) (t ∷ after) (log ∷ logs) worked = ap suc (one_log seats after logs worked.1)
-one_log [] [] (z ∷ logs) worked = absurd worked
-one_log [] (y ∷ after) logs worked = absurd worked
-one_log (x ∷ seats) [] logs worked = absurd worked
-one_log (x ∷ seats) (y ∷ after) [] worked = absurd worked
+one_log seats after logs worked = absurd worked
 
 handed_back : (opened : State) (seats after : List Place) (logs : List (List Edge)) (turns edges : ℕ) → seats ≡ seats_of opened → AllWorked seats after logs → All (IsWithin turns edges) logs
     → AreHandedBack turns (length (drivers opened.plan)) (logged logs) logs
@@ -105,8 +97,7 @@ in_turns h (d ∷ ds) (log ∷ logs) turns edges are short =
     let one = All-head (IsWithin turns edges) log logs short in
     let here : count h d ≤ turns = omega (arith, many, ap length are.0, one.0) in
     All-cons (λ d. count h d ≤ turns) d ds here (in_turns h ds logs turns edges are.1 (All-tail (IsWithin turns edges) log logs short))
-in_turns h [] (z ∷ logs) turns edges are short = absurd are
-in_turns h (x ∷ ds) [] turns edges are short = absurd are
+in_turns h ds logs turns edges are short = absurd are
 
 -- A closed backplane was played, or its logs are not its drivers' edges.
 module _ (opened : State) (seats after : List Place) (logs : List (List Edge)) (turns edges : ℕ) (accepted : IsAccepted opened.plan) (legal : IsLegal opened.version opened.plan opened.history)
@@ -115,7 +106,8 @@ module _ (opened : State) (seats after : List Place) (logs : List (List Edge)) (
   grown b closed =
       (closed.closing.follows, closed.closing.legal, closed.safe, closed.fits, played_within opened b seats after logs turns edges accepted legal is worked short closed.closing)
 
-  pub played_or_not : (r : Result State RunFault) → MatchResult r (IsClosedWith opened after logs) (IsClosedApart opened after logs) → MatchResult r (IsPlayed turns opened) (IsNotPlayed turns opened)
+  pub played_or_not : (r : Result State RunFault) → MatchResult r (IsClosedWith opened after logs) (IsClosedApart opened after logs) →
+      MatchResult r (IsPlayed turns opened) (IsNotPlayed turns opened)
   played_or_not (Ok b) closed = (grown b closed.0, in_turns b.history (drivers opened.plan) logs turns edges closed.1 short)
   played_or_not (Err (LogDiffers driver at)) apart =
       let b = apart.0 in (
@@ -123,6 +115,4 @@ module _ (opened : State) (seats after : List Place) (logs : List (List Edge)) (
         grown b apart.1,
         (logs, logged logs, handed_back opened seats after logs turns edges is worked short, grown_by_logs opened b seats after logs accepted legal is worked apart.1.closing, apart.2),
       )
-  played_or_not (Err NotStarted) none = absurd none
-  played_or_not (Err (NotReplayed at)) none = absurd none
-  played_or_not (Err (Engine f)) none = absurd none
+  played_or_not r none = absurd none

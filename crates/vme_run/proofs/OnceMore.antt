@@ -28,7 +28,8 @@ pub accepted : (b : State) (i : ℕ) (e : Edge) → IsLegal b.version b.plan b.h
     → verdict (front b i) e ≡ Ok tt
 accepted b i e legal fits within is =
     let room : (length (front b i).history == b.max) ≡ false = not_full (length (front b i).history) (length b.history) b.max (omega (arith, front_length b i within)) fits in
-    passed b.version b.plan (front b i).history e (check (not (length (front b i).history == b.max)) TraceFull (Ok tt)) (was_allowed b.version b.plan b.history i e legal is)
+    passed b.version b.plan (front b i).history e (check (not (length (front b i).history == b.max)) TraceFull (Ok tt))
+    (was_allowed b.version b.plan b.history i e legal is)
     ∙ ap (λ (full : Bool). check (not full) TraceFull (Ok tt)) room
 
 -- after that the edge stands in the history
@@ -40,8 +41,8 @@ goes_on b again new i e legal fits within is so_far state =
     ∙ ap (λ (h : List Edge). record b { history = h }) (sym (next_edge (in_order b.history) i e is))
 
 -- so the edge is not refused
-pub never_refused : (b again : State) (i : ℕ) (e : Edge) (r : Result (Option Delivery) Refused) → IsLegal b.version b.plan b.history → length b.history ≤ b.max → i < length b.history → slice_get (in_order b.history) i ≡ Some e
-    → again ≡ front b i → is_ok r ≡ is_ok (verdict again e) → is_err r ≡ true → ⊥
+pub never_refused : (b again : State) (i : ℕ) (e : Edge) (r : Result (Option Delivery) Refused) → IsLegal b.version b.plan b.history →
+    length b.history ≤ b.max → i < length b.history → slice_get (in_order b.history) i ≡ Some e → again ≡ front b i → is_ok r ≡ is_ok (verdict again e) → is_err r ≡ true → ⊥
 never_refused b again i e (Ok d) legal fits within is so_far same refused = cc
 never_refused b again i e (Err f) legal fits within is so_far same refused =
     let fine : is_ok (verdict again e) ≡ true = ap (λ (x : State). is_ok (verdict x e)) so_far ∙ ap is_ok (accepted b i e legal fits within is) in

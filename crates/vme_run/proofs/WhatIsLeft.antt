@@ -1,7 +1,7 @@
 -- What a run leaves of the boards' history.
-use Rattle.std.proofs.Common.{◌≡◌, ℕ, ◌≤◌, arith, List, [], length, sym, ap, ◌∙◌, subst, Option}
+use Rattle.std.proofs.Common.{◌≡◌, ℕ, ◌≤◌, arith, List, length, sym, ap, ◌∙◌, subst, Option}
 use Rattle.std.specs.Prelude.{min, Result, Ok, Err}
-use Rattle.std.specs.Io.KnownBytes.{Appends, Keeps}
+use Rattle.std.specs.Io.KnownBytes.{Appends}
 use Rattle.std.proofs.KnownBytes.{Keeps-refl}
 use Rattle.std.proofs.Math.Nat.{min-le_left}
 use Rattle.vme_model.specs.declared.signals.Version.{Version}
@@ -15,11 +15,10 @@ use Rattle.vme_model.specs.Report.{at_power_up}
 use Rattle.vme_trace.specs.Writing.{AppendsFront}
 use Rattle.vme_engines.specs.declared.Status.{Status}
 use Rattle.vme_engines.specs.declared.EngineFault.TheVariants as fault
-use Rattle.vme_engines.proofs.FirstReads.{no_plan_asking}
 use Rattle.vme_run.specs.declared.RunFault.{RunFault}
-use Rattle.vme_run.specs.declared.RunFault.TheVariants.{Engine, NotStarted, LogDiffers, NotReplayed}
-use Rattle.vme_run.specs.Running.{IsMade, IsRun, AreHandedBack, HasOtherLogs, RunsOn, Runs}
-use Rattle.vme_run.specs.Between.{IsRead, IsUnread, IsGrown, IsPlayed, HasGrownApart, IsNotPlayed, IsWritten}
+use Rattle.vme_run.specs.declared.RunFault.TheVariants.{Engine, NotStarted, LogDiffers}
+use Rattle.vme_run.specs.Running.{IsMade, IsRun, AreHandedBack, HasOtherLogs, Runs}
+use Rattle.vme_run.specs.Between.{IsRead, IsGrown, IsPlayed, HasGrownApart, IsNotPlayed, IsWritten}
 
 -- what can be made is no more than what is requested
 pub fits : (n others m : ℕ) → m ≡ min n others → m ≤ n
@@ -42,8 +41,8 @@ pub run_of : (version : Version) (p : Plan) (m n turns : ℕ) (b : State) → m 
 run_of version p m n turns b fits played = (made_of version p m n turns b fits played.0, played.1)
 
 -- some logs are not the drivers' edges
-other_logs : (version : Version) (p : Plan) (m n turns : ℕ) (b : State) (driver : Driver) (at : ℕ) → m ≤ n → IsGrown turns (at_power_up version p m) b → HasGrownApart turns (at_power_up version p m) b driver at
-    → HasOtherLogs version n turns p driver at
+other_logs : (version : Version) (p : Plan) (m n turns : ℕ) (b : State) (driver : Driver) (at : ℕ) → m ≤ n → IsGrown turns (at_power_up version p m) b →
+    HasGrownApart turns (at_power_up version p m) b driver at → HasOtherLogs version n turns p driver at
 other_logs version p m n turns b driver at fits grown apart =
     let many : length b.history ≡ apart.1 = omega (arith, apart.3) in
     let back : AreHandedBack turns (length (drivers p)) (length b.history) apart.0 = record { each = apart.2.each; short = apart.2.short; all = apart.2.all ∙ sym many } in
@@ -53,28 +52,6 @@ other_logs version p m n turns b driver at fits grown apart =
 version_of : (version : Version) (p : Plan) (n turns : ℕ) (b : State) → IsPlayed turns (at_power_up version p n) b → b.version ≡ version
 version_of version p n turns b played = ap (λ x. x.version) played.0.0.1
 
--- a second backplane of the plan is the played one without its edges
-pub reopened : (version : Version) (p : Plan) (n turns : ℕ) (opened closed again : State) → opened ≡ at_power_up version p n → again ≡ at_power_up version p n → IsPlayed turns opened closed → again ≡ record closed { history = [] }
-reopened version p n turns opened closed again first second played =
-    let kept : record closed { history = [] } ≡ record opened { history = [] } = ap (λ (b : State). record b { history = [] }) played.0.0.1 in
-    second ∙ sym (kept ∙ ap (λ (b : State). record b { history = [] }) first)
-
-abbrev fine : State → Result State RunFault
-fine b = Ok b
-
--- what was made once more is what was played
-pub played_again : (version : Version) (p : Plan) (n turns : ℕ) (opened closed b : State) → opened ≡ at_power_up version p n → IsPlayed turns opened closed → fine b ≡ fine closed → IsPlayed turns (at_power_up version p n) b
-played_again version p n turns opened closed b first played made =
-    let same : closed ≡ b = cc in
-    subst (λ (o : State). IsPlayed turns o b) first (subst (λ (c : State). IsPlayed turns opened c) same played)
-
--- nothing is left if there is no plan
-pub not_read : (lent : List ℕ) (version : Version) (n turns : ℕ) (old : Option (List ℕ)) (f : RunFault) → IsUnread lent f → Runs lent version n turns old old (Err f)
-not_read lent version n turns old (Engine f) none = no_plan_asking lent (Keeps old old) (RunsOn version n turns old old) f none (Keeps-refl _)
-not_read lent version n turns old NotStarted none = absurd none
-not_read lent version n turns old (LogDiffers driver at) none = absurd none
-not_read lent version n turns old (NotReplayed at) none = absurd none
-
 -- nothing is left if memory runs out
 pub runs_out : (lent : List ℕ) (version : Version) (n turns : ℕ) (p : Plan) (old : Option (List ℕ)) → IsRead lent p → Runs lent version n turns old old (Err (Engine fault.NoMemory))
 runs_out lent version n turns p old is = (p, is.short, is.read, Keeps-refl _)
@@ -83,32 +60,23 @@ module _ (lent : List ℕ) (version : Version) (m n turns : ℕ) (fits : m ≤ n
   -- nothing is left if the boards were not played
   pub not_played_from : (f : RunFault) → IsNotPlayed turns (at_power_up version p m) f → Runs lent version n turns old old (Err f)
   not_played_from (Engine fault.NoMemory) none = (p, is.short, is.read, Keeps-refl _)
-  not_played_from (Engine fault.TooLong) none = absurd none
-  not_played_from (Engine (fault.Scenario e)) none = absurd none
-  not_played_from (Engine fault.CannotRead) none = absurd none
-  not_played_from (Engine (fault.Trace f)) none = absurd none
-  not_played_from (Engine (fault.Beyond edges)) none = absurd none
   not_played_from NotStarted none = (p, is.short, is.read, Keeps-refl _)
   not_played_from (LogDiffers driver at) none = (p, is.short, is.read, (other_logs version p m n turns none.0 driver at fits none.1 none.2, Keeps-refl _))
-  not_played_from (NotReplayed at) none = absurd none
+  not_played_from f none = absurd none
 
   -- the trace was written, or a prefix of it
   pub written : (new : Option (List ℕ)) (b : State) (r : Result Status RunFault) → IsPlayed turns (at_power_up version p m) b → IsWritten b n old new r → Runs lent version n turns old new r
   written new b (Ok status) played done =
-      (p, is.short, is.read, (b.history, run_of version p m n turns b fits played, subst (λ v. Appends old new (text v (in_order b.history))) (version_of version p m turns b played) done.0, done.1))
+      let appended = subst (λ v. Appends old new (text v (in_order b.history))) (version_of version p m turns b played) done.0 in
+      (p, is.short, is.read, (b.history, run_of version p m n turns b fits played, appended, done.1))
   written new b (Err (Engine (fault.Trace f))) played cut =
-      (p, is.short, is.read, (b.history, run_of version p m n turns b fits played, cut.0, subst (λ v. AppendsFront old new (text v (in_order b.history))) (version_of version p m turns b played) cut.1))
-  written new b (Err (Engine fault.NoMemory)) played none = absurd none
-  written new b (Err (Engine fault.TooLong)) played none = absurd none
-  written new b (Err (Engine (fault.Scenario e))) played none = absurd none
-  written new b (Err (Engine fault.CannotRead)) played none = absurd none
-  written new b (Err (Engine (fault.Beyond edges))) played none = absurd none
-  written new b (Err NotStarted) played none = absurd none
-  written new b (Err (LogDiffers driver at)) played none = absurd none
-  written new b (Err (NotReplayed at)) played none = absurd none
+      let front = subst (λ v. AppendsFront old new (text v (in_order b.history))) (version_of version p m turns b played) cut.1 in
+      (p, is.short, is.read, (b.history, run_of version p m n turns b fits played, cut.0, front))
+  written new b r played none = absurd none
 
 -- the first of two backplanes was not played
-pub unplayed : (version : Version) (p : Plan) (m turns : ℕ) (opened : State) (f : RunFault) → opened ≡ at_power_up version p m → IsNotPlayed turns opened f → IsNotPlayed turns (at_power_up version p m) f
+pub unplayed : (version : Version) (p : Plan) (m turns : ℕ) (opened : State) (f : RunFault) →
+    opened ≡ at_power_up version p m → IsNotPlayed turns opened f → IsNotPlayed turns (at_power_up version p m) f
 unplayed version p m turns opened f first none = subst (λ (o : State). IsNotPlayed turns o f) first none
 
 -- or there was no memory for them

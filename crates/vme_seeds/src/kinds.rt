@@ -9,7 +9,7 @@ use vme_model::{Cycle, Edge, Wire};
 /// How many kinds there are.
 pub const KIND_COUNT: usize = 28;
 
-/// What an edge does, whoever makes it: its wire and its direction, where all grants count as one
+/// What an edge does, whoever makes it: its wire and its direction, with all grants counted as one
 /// wire, and for an address group that goes on, what it shows. Source: profile.
 #[derive(Clone, Copy, PartialEq, Eq, Debug)]
 pub enum Kind {

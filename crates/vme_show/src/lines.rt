@@ -33,7 +33,7 @@ enum Digit {
 }
 
 impl Digit {
-    /// Its character; a blank where there is none.
+    /// Its character; a blank if there is none.
     fn of(self, n: u64) -> u8
         ensures { result ≡ digit_of self n }
     {
@@ -55,7 +55,7 @@ fn fill_label(line: &mut Line)
     push(line, &blanks[line.len()..]);
 }
 
-/// Appends a mark, with its color where that is asked for.
+/// Appends a mark, with its color if that is asked for.
 fn push_ink(line: &mut Line, color: bool, mark: u8)
     requires { array_vec_len line.old + 10 ≤ 2012 }
     ensures items { line.new.items ≡ line.old.items ++ ink color mark }

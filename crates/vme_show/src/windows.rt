@@ -146,7 +146,7 @@ impl Window {
     ///
     /// With `color` each `x` of a refused edge is red and each `!` of a delivery green, by the sequences of ISO 6429.
     ///
-    /// Errors: X8 where a write failed or took no byte; a prefix of the picture was then written.
+    /// Errors: X8 if a write failed or took no byte; a prefix of the picture was then written.
     pub fn draw<W: Write>(&self, color: bool, out: &mut W) -> Result<(), Fault>
         requires some { 0 < length self.now.columns }
         requires fits { self.now.first + length self.now.columns ≤ 2 ^ 64 }

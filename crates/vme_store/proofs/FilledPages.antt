@@ -7,23 +7,13 @@ use Rattle.vme_store.specs.Pages.{Page, Store, ArePages, stored}
 -- the page at k, if the pages hold n of max edges
 pub page_room : (max n k : ℕ) (ps : List Page) (d : Page) → ArePages max n ps → k < length ps → (get_or ps k d).room ≡ min (max - k * 65536) 65536
 page_room max n k [] d a l = absurd (omega arith)
-page_room max n zero (p ∷ ps) d a l =
-    let f : max ≡ max - 0 * 65536 = omega arith in
-    a.0 ∙ ap (λ x. min x 65536) f
-page_room max n (suc k) (p ∷ ps) d a l =
-    let e = page_room (max - 65536) (n - 65536) k ps d a.2 (omega arith) in
-    let f : max - 65536 - k * 65536 ≡ max - suc k * 65536 = omega arith in
-    e ∙ ap (λ x. min x 65536) f
+page_room max n zero (p ∷ ps) d a l = a.0 ∙ ap (λ x. min x 65536) (omega arith)
+page_room max n (suc k) (p ∷ ps) d a l = page_room (max - 65536) (n - 65536) k ps d a.2 (omega arith) ∙ ap (λ x. min x 65536) (omega arith)
 
 pub page_length : (max n k : ℕ) (ps : List Page) (d : Page) → ArePages max n ps → k < length ps → length (get_or ps k d).edges ≡ min (n - k * 65536) 65536
 page_length max n k [] d a l = absurd (omega arith)
-page_length max n zero (p ∷ ps) d a l =
-    let f : n ≡ n - 0 * 65536 = omega arith in
-    a.1 ∙ ap (λ x. min x 65536) f
-page_length max n (suc k) (p ∷ ps) d a l =
-    let e = page_length (max - 65536) (n - 65536) k ps d a.2 (omega arith) in
-    let f : n - 65536 - k * 65536 ≡ n - suc k * 65536 = omega arith in
-    e ∙ ap (λ x. min x 65536) f
+page_length max n zero (p ∷ ps) d a l = a.1 ∙ ap (λ x. min x 65536) (omega arith)
+page_length max n (suc k) (p ∷ ps) d a l = page_length (max - 65536) (n - 65536) k ps d a.2 (omega arith) ∙ ap (λ x. min x 65536) (omega arith)
 
 -- there is a page for every edge
 pub has_page : (max n k : ℕ) (ps : List Page) → ArePages max n ps → k * 65536 < max → k < length ps
@@ -53,7 +43,8 @@ stored_length max n (p ∷ ps) a l =
 abbrev pub longer : Page → Edge → Page
 longer p e = record { edges = p.edges ++ e ∷ []; room = p.room }
 
-pub still_pages : (max r k : ℕ) (ps : List Page) (d : Page) (e : Edge) → ArePages max (k * 65536 + r) ps → r < 65536 → k * 65536 + r < max → ArePages max (k * 65536 + r + 1) (set ps k (longer (get_or ps k d) e))
+pub still_pages : (max r k : ℕ) (ps : List Page) (d : Page) (e : Edge) → ArePages max (k * 65536 + r) ps → r < 65536 →
+    k * 65536 + r < max → ArePages max (k * 65536 + r + 1) (set ps k (longer (get_or ps k d) e))
 still_pages max r k [] d e a l m = absurd (omega arith)
 still_pages max r zero (p ∷ ps) d e a l m =
     let f = length-append p.edges (e ∷ []) in
@@ -66,7 +57,8 @@ still_pages max r (suc k) (p ∷ ps) d e a l m =
     let b : ArePages (max - 65536) (k * 65536 + r) ps = rw i at a.2 in
     (a.0, omega (arith, a.1), rw j (still_pages (max - 65536) r k ps d e b l (omega arith)))
 
-pub one_more : (max r k : ℕ) (ps : List Page) (d : Page) (e : Edge) → ArePages max (k * 65536 + r) ps → r < 65536 → k * 65536 + r < max → stored (set ps k (longer (get_or ps k d) e)) ≡ stored ps ++ e ∷ []
+pub one_more : (max r k : ℕ) (ps : List Page) (d : Page) (e : Edge) → ArePages max (k * 65536 + r) ps → r < 65536 →
+    k * 65536 + r < max → stored (set ps k (longer (get_or ps k d) e)) ≡ stored ps ++ e ∷ []
 one_more max r k [] d e a l m = absurd (omega arith)
 one_more max r zero (p ∷ ps) d e a l m =
     let i : 0 * 65536 + r - 65536 ≡ 0 = omega arith in
@@ -80,7 +72,8 @@ one_more max r (suc k) (p ∷ ps) d e a l m =
     rw j (sym (append_assoc p.edges (stored ps) (e ∷ [])))
 
 -- the page and the place at which an edge stands
-pub stands_at : (max n k r : ℕ) (ps : List Page) (d : Page) (x : Edge) → ArePages max n ps → r < 65536 → k * 65536 + r < n → n ≤ max → get_or (stored ps) (k * 65536 + r) x ≡ get_or (get_or ps k d).edges r x
+pub stands_at : (max n k r : ℕ) (ps : List Page) (d : Page) (x : Edge) → ArePages max n ps → r < 65536 → k * 65536 + r < n → n ≤ max →
+    get_or (stored ps) (k * 65536 + r) x ≡ get_or (get_or ps k d).edges r x
 stands_at max n k r [] d x a l m o = absurd (omega arith)
 stands_at max n zero r (p ∷ ps) d x a l m o =
     let i : 0 * 65536 + r ≡ r = omega arith in
@@ -102,7 +95,8 @@ another_page r (p ∷ ps) a l =
     (omega (arith, a.0), a.1, rw j (another_page r ps b l))
 
 -- the pages after one more edge is kept at n, on the page d, which is then q
-pub pages_after : (max n : ℕ) (ps : List Page) (d q : Page) (e : Edge) → ArePages max n ps → n < max → d ≡ get_or ps (n / 65536) d → q ≡ longer d e → ArePages max (n + 1) (set ps (n / 65536) q)
+pub pages_after : (max n : ℕ) (ps : List Page) (d q : Page) (e : Edge) → ArePages max n ps → n < max → d ≡ get_or ps (n / 65536) d →
+    q ≡ longer d e → ArePages max (n + 1) (set ps (n / 65536) q)
 pages_after max n ps d q e a l at is =
     let i : n ≡ n / 65536 * 65536 + n % 65536 = omega arith in
     let b : ArePages max (n / 65536 * 65536 + n % 65536) ps = subst (λ x. ArePages max x ps) i a in
@@ -111,7 +105,8 @@ pages_after max n ps d q e a l at is =
     let f : n / 65536 * 65536 + n % 65536 + 1 ≡ n + 1 = omega arith in
     subst (λ x. ArePages max x (set ps (n / 65536) q)) f (subst (λ p. ArePages max (n / 65536 * 65536 + n % 65536 + 1) (set ps (n / 65536) p)) k j)
 
-pub stored_after : (max n : ℕ) (ps : List Page) (d q : Page) (e : Edge) → ArePages max n ps → n < max → d ≡ get_or ps (n / 65536) d → q ≡ longer d e → stored (set ps (n / 65536) q) ≡ stored ps ++ e ∷ []
+pub stored_after : (max n : ℕ) (ps : List Page) (d q : Page) (e : Edge) → ArePages max n ps → n < max → d ≡ get_or ps (n / 65536) d →
+    q ≡ longer d e → stored (set ps (n / 65536) q) ≡ stored ps ++ e ∷ []
 stored_after max n ps d q e a l at is =
     let i : n ≡ n / 65536 * 65536 + n % 65536 = omega arith in
     let b : ArePages max (n / 65536 * 65536 + n % 65536) ps = subst (λ x. ArePages max x ps) i a in
@@ -137,7 +132,8 @@ is_there max n place ps d a l m at =
     let j = ap (λ (p : Page). length p.edges) at in
     omega arith
 
-pub stored_at : (max n place : ℕ) (ps : List Page) (d : Page) (x : Edge) → ArePages max n ps → n ≤ max → place < n → d ≡ get_or ps (place / 65536) d → get_or (stored ps) place x ≡ get_or d.edges (place % 65536) x
+pub stored_at : (max n place : ℕ) (ps : List Page) (d : Page) (x : Edge) → ArePages max n ps → n ≤ max → place < n → d ≡ get_or ps (place / 65536) d →
+    get_or (stored ps) place x ≡ get_or d.edges (place % 65536) x
 stored_at max n place ps d x a l m at =
     let i : place ≡ place / 65536 * 65536 + place % 65536 = omega arith in
     let j = stands_at max n (place / 65536) (place % 65536) ps d x a (omega arith) (omega arith) l in

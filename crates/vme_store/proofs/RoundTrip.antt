@@ -7,7 +7,7 @@ use Rattle.vme_model.specs.Signals.{is_well_formed, has_wire, has_value, is_slot
 use Rattle.vme_model.specs.declared.signals.Driver.{Driver}
 use Rattle.vme_model.specs.declared.signals.Driver.TheVariants.{Controller, Slot}
 use Rattle.vme_model.specs.declared.signals.Wire.{Wire}
-use Rattle.vme_model.specs.declared.signals.Wire.TheVariants.{Bg, Bclr, Iack, Berr, Br, BgOut, Bbsy, Addr, AddressStrobe, DataStrobe, Irq, IackOut, Dtack}
+use Rattle.vme_model.specs.declared.signals.Wire.TheVariants.{Bg, Bclr, Iack, Berr, Addr}
 use Rattle.vme_model.specs.declared.signals.Cycle.{Cycle}
 use Rattle.vme_model.specs.declared.signals.Cycle.TheVariants.{Acknowledge, Access}
 use Rattle.vme_model.specs.declared.signals.Edge.{Edge}
@@ -61,16 +61,12 @@ wires_back Controller (Bg level) h = (refl, omega arith, bg_back level h, bg_bel
 wires_back Controller Bclr h = (refl, omega arith, refl, omega arith)
 wires_back Controller Iack h = (refl, omega arith, refl, omega arith)
 wires_back Controller Berr h = (refl, omega arith, refl, omega arith)
-wires_back (Slot s) Br h = at_slot s Br h refl (omega arith)
-wires_back (Slot s) BgOut h = at_slot s BgOut h refl (omega arith)
-wires_back (Slot s) Bbsy h = at_slot s Bbsy h refl (omega arith)
-wires_back (Slot s) Addr h = at_slot s Addr h refl (omega arith)
-wires_back (Slot s) AddressStrobe h = at_slot s AddressStrobe h refl (omega arith)
-wires_back (Slot s) DataStrobe h = at_slot s DataStrobe h refl (omega arith)
-wires_back (Slot s) Irq h = at_slot s Irq h refl (omega arith)
-wires_back (Slot s) IackOut h = at_slot s IackOut h refl (omega arith)
-wires_back (Slot s) Dtack h = at_slot s Dtack h refl (omega arith)
-wires_back d w h = absurd (cc)
+wires_back Controller w h = absurd (cc)
+wires_back (Slot s) (Bg level) h = absurd (cc)
+wires_back (Slot s) Bclr h = absurd (cc)
+wires_back (Slot s) Iack h = absurd (cc)
+wires_back (Slot s) Berr h = absurd (cc)
+wires_back (Slot s) w h = at_slot s w h refl (omega arith)
 
 -- a value in range
 abbrev IsBack : Option Cycle → Type 0

@@ -30,13 +30,13 @@ pub struct BoardTally {
     pub answered: u64,
     /// Those of them that delivered its status byte.
     pub delivered: u64,
-    /// Its last `br-`, where its request stands and is not met.
+    /// Its last `br-`, if its request stands and is not met.
     pub asks_since: Option<u64>,
-    /// Its last `bbsy-`, where it holds the bus.
+    /// Its last `bbsy-`, if it holds the bus.
     pub holds_since: Option<u64>,
 }
 
-/// How many edges from one to the n-th; 0 where there is none.
+/// How many edges from one to the n-th; 0 if there is none.
 fn span(n: u64, since: Option<u64>) -> u64
     ensures { result ≡ span n since }
 {

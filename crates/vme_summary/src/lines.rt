@@ -24,7 +24,7 @@ use vme_text::{push, push_byte, push_number};
 /// digits and more.
 const LINE: usize = 400;
 
-/// A line, as far as it was put together; empty where there is nothing to print.
+/// A line, as far as it was put together; empty if there is nothing to print.
 pub(crate) type Line = ArrayVec<u8, LINE>;
 
 /// How many edges there are.
@@ -42,7 +42,7 @@ fn edges_line(edges: u64, accepted: u64, refused: u64) -> Line
     line
 }
 
-/// How many a rule let pass and refused, where there are any.
+/// How many a rule let pass and refused, if there are any.
 fn rule_line(rule: u8, accepted: u64, refused: u64) -> Line
     ensures { result.items ≡ rule_text rule accepted refused }
 {
@@ -75,7 +75,7 @@ fn push_refusal(line: &mut Line, refused: Refused)
     }
 }
 
-/// How many were refused so, where there are any.
+/// How many were refused so, if there are any.
 fn refusal_line(refused: Refused, count: u64) -> Line
     ensures { result.items ≡ refusal_text refused count }
 {
@@ -138,7 +138,7 @@ fn event_words(times: &[u64; Event::COUNT]) -> Line
     words
 }
 
-/// How often a situation came, and where first, where it came.
+/// How often a situation came, and where first, if it came.
 fn met_line(event: Event, times: u64, first: Option<u64>) -> Line
     ensures { result.items ≡ met_text event times first }
 {
@@ -155,7 +155,7 @@ fn met_line(event: Event, times: u64, first: Option<u64>) -> Line
     line
 }
 
-/// How often a situation came in several traces, where it came.
+/// How often a situation came in several traces, if it came.
 fn times_line(event: Event, times: u64) -> Line
     ensures { result.items ≡ times_text event times }
 {
@@ -171,7 +171,7 @@ fn times_line(event: Event, times: u64) -> Line
     line
 }
 
-/// Appends since when something is so, where it is: the word, and at most 20 bytes.
+/// Appends since when something is so, if it is: the word, and at most 20 bytes.
 fn push_since(line: &mut Line, word: &[u8], since: Option<u64>)
     requires { array_vec_len line.old + length word.now + 20 ≤ 400 }
     ensures items { line.new.items ≡ line.old.items ++ since_text word.now since }
@@ -183,7 +183,7 @@ fn push_since(line: &mut Line, word: &[u8], since: Option<u64>)
     }
 }
 
-/// What a board did at the bus, but for its cycles.
+/// What a board did at the bus, apart from its cycles.
 fn turns_line(slot: u8, board: &BoardTally) -> Line
     ensures text { result.items ≡ turns_text slot board.now }
     ensures short { array_vec_len result ≤ 200 }
@@ -219,7 +219,7 @@ fn board_line(slot: u8, board: &BoardTally) -> Line
     line
 }
 
-/// What a board answered, where it did.
+/// What a board answered, if it did.
 fn answers_line(slot: u8, board: &BoardTally) -> Line
     ensures { result.items ≡ answers_text slot board.now }
 {

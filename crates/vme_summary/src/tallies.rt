@@ -65,7 +65,7 @@ impl Tally {
     }
 
     /// Takes in the next edge of the trace, with the answer to it and the situations that it brings
-    /// about where it is accepted. A count stays at 2^64 - 1.
+    /// about if it is accepted. A count stays at 2^64 - 1.
     pub fn note(
         &mut self,
         edge: &Edge,

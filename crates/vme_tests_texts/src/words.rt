@@ -37,6 +37,29 @@ fn reads_two_files(rt: HostRuntime) {
     );
     assert_job(
         &rt,
+        &["races", scenario, trace],
+        Job::Races { scenario, trace },
+    );
+    assert_job(
+        &rt,
+        &["races", scenario, trace, "--edge", "7"],
+        Job::Walk {
+            scenario,
+            trace,
+            edge: 7,
+        },
+    );
+    assert_job(
+        &rt,
+        &["races", "--other=7", scenario, trace],
+        Job::OtherOrder {
+            scenario,
+            trace,
+            edge: 7,
+        },
+    );
+    assert_job(
+        &rt,
         &["check", scenario, trace],
         Job::Check { scenario, trace },
     );

@@ -1,6 +1,6 @@
 -- The chains after an edge.
-use Rattle.std.proofs.Common.{◌≡◌, ◌≢◌, ◌∙◌, refl, sym, ap, subst, ℕ, zero, suc, Bool, true, false, List, ◌∷◌, ◌<◌, ◌≤◌, arith}
-use Rattle.std.specs.Prelude.{◌==◌, not, Option, Some, None, is_some, map}
+use Rattle.std.proofs.Common.{◌≡◌, ◌≢◌, ◌∙◌, refl, sym, ap, subst, ℕ, suc, Bool, true, false, List, ◌∷◌, ◌<◌, ◌≤◌, arith}
+use Rattle.std.specs.Prelude.{◌==◌, if◌then◌else◌, not, Option, Some, None, is_some, map}
 use Rattle.std.specs.List.{slice_get}
 use Rattle.std.specs.Option.{option_map_or}
 use Rattle.std.proofs.lemmas.Bool.Decides.{nat_tests}
@@ -10,11 +10,11 @@ use Rattle.vme_model.specs.declared.sets.ChainId.{ChainId}
 use Rattle.vme_model.specs.declared.sets.ChainId.TheVariants as chain
 use Rattle.vme_model.specs.declared.signals.Driver.TheVariants.{Controller, Slot}
 use Rattle.vme_model.specs.declared.signals.Wire.{Wire}
-use Rattle.vme_model.specs.declared.signals.Wire.TheVariants.{Bg, Bclr, Iack, Berr, Br, BgOut, Bbsy, Addr, AddressStrobe, DataStrobe, Irq, IackOut, Dtack}
+use Rattle.vme_model.specs.declared.signals.Wire.TheVariants.{Bg, Bclr, Iack, Berr, BgOut, IackOut}
 use Rattle.vme_model.specs.declared.signals.Cycle.{Cycle}
 use Rattle.vme_model.specs.declared.signals.Edge.{Edge}
 use Rattle.vme_model.specs.Signals.{has_wire}
-use Rattle.vme_model.specs.Plan.{Plan, board, active, is_active, works, grant_chain, out_wire}
+use Rattle.vme_model.specs.Plan.{Plan, board, active, is_active, works, grant_chain}
 use Rattle.vme_model.specs.History.{drive}
 use Rattle.vme_chain.specs.Segments.{Segments, segments_of, output_number}
 use Rattle.vme_histories.specs.Levels.{request_level}
@@ -103,90 +103,61 @@ module _ (p : Plan) (h : List Edge) (s : ℕ) (r : Row) (fall : Bool) (v : Optio
   level_is : (n m : ℕ) → request_level r ≡ n → is_on r.requester m ≡ (n == m)
   level_is n m e = on_level r.requester n m d.drives e
 
-  -- the chain that it works
-  mine : (c : ChainId) (w : Wire) → out_wire c ≡ BgOut → on_chain p c s ≡ true → (head : Bool) →
+  -- a chain's segments, if it is the one that the board works, and if not
+  mine : (c : ChainId) → on_chain p c s ≡ true → (head : Bool) →
       segments (active p c) head (map (outputs passed BgOut) (active p c)) ≡ moved (segments (active p c) head (map (outputs h BgOut) (active p c))) (output_number (active p c) r.slot) fall
-  mine c w e works head =
+  mine c works head =
       moved_segments p h c s BgOut fall v head k.from_one k.to_last works
       ∙ ap (λ t. moved (segments (active p c) head (map (outputs h BgOut) (active p c))) (output_number (active p c) t) fall) (sym k.slot)
-
-  theirs : (c : ChainId) → on_chain p c s ≡ false → (head : Bool) → segments (active p c) head (map (outputs passed BgOut) (active p c)) ≡ segments (active p c) head (map (outputs h BgOut) (active p c))
-  theirs c idle head = ap (segments (active p c) head) (other_segments p h c s BgOut fall v idle)
 
   works_is : (n m : ℕ) (c : ChainId) → request_level r ≡ n → works c r ≡ is_on r.requester m → on_chain p c s ≡ (n == m)
   works_is n m c e is = works_at p c s r k.found ∙ is ∙ level_is n m e
 
-abbrev chains_by : Segments → Segments → Segments → Segments → Segments → Chains
-chains_by a b c d e = record { bg0 = a; bg1 = b; bg2 = c; bg3 = d; iack = e }
+  segments_are : (n m : ℕ) (c : ChainId) → request_level r ≡ n → works c r ≡ is_on r.requester m → (head : Bool) →
+      segments (active p c) head (map (outputs passed BgOut) (active p c))
+      ≡ (if n == m then moved (segments (active p c) head (map (outputs h BgOut) (active p c))) (output_number (active p c) r.slot) fall
+      else segments (active p c) head (map (outputs h BgOut) (active p c)))
+  segments_are n m c e is head = by_level (n == m) (works_is n m c e is)
+    where
+      by_level : (b : Bool) → on_chain p c s ≡ b →
+          segments (active p c) head (map (outputs passed BgOut) (active p c))
+          ≡ (if b then moved (segments (active p c) head (map (outputs h BgOut) (active p c))) (output_number (active p c) r.slot) fall
+          else segments (active p c) head (map (outputs h BgOut) (active p c)))
+      by_level true works = mine c works head
+      by_level false idle = ap (segments (active p c) head) (other_segments p h c s BgOut fall v idle)
 
-all_chains : {a a' b b' c c' d d' : Segments} (e : Segments) → a ≡ a' → b ≡ b' → c ≡ c' → d ≡ d' → chains_by a b c d e ≡ chains_by a' b' c' d' e
-all_chains {a} {a'} {b} {b'} {c} {c'} {d} {d'} e f g i j =
-    ap (λ x. chains_by x b c d e) f ∙ ap (λ x. chains_by a' x c d e) g ∙ ap (λ x. chains_by a' b' x d e) i ∙ ap (λ x. chains_by a' b' c' x e) j
+  passes_by : (n : ℕ) → request_level r ≡ n → n < 4 → chains_of p passed ≡ with_output (grant_chain n) r.slot fall (chains_of p h)
+  passes_by (suc (suc (suc (suc n)))) e l = absurd (omega arith)
+  passes_by n e l = cc (
+    segments_are n 0 chain.Bg0 e refl (drive h Controller (Bg 0)),
+    segments_are n 1 chain.Bg1 e refl (drive h Controller (Bg 1)),
+    segments_are n 2 chain.Bg2 e refl (drive h Controller (Bg 2)),
+    segments_are n 3 chain.Bg3 e refl (drive h Controller (Bg 3)),
+  )
 
-passes_by : (p : Plan) (h : List Edge) (s : ℕ) (r : Row) (fall : Bool) (v : Option Cycle) → Stands p s r → IsDriven p h s r BgOut fall v → (n : ℕ) → request_level r ≡ n → n < 4 →
-    chains_of p (at s BgOut fall v ∷ h) ≡ with_output (grant_chain n) r.slot fall (chains_of p h)
-passes_by p h s r fall v k d zero e l =
-    let on = λ (c : ChainId) (m : ℕ) (is : works c r ≡ is_on r.requester m). works_is p h s r fall v k d 0 m c e is in
-    all_chains (segments_of p h chain.Iack)
-    (mine p h s r fall v k d chain.Bg0 BgOut refl (on chain.Bg0 0 refl) (drive h Controller (Bg 0)))
-    (theirs p h s r fall v k d chain.Bg1 (on chain.Bg1 1 refl) (drive h Controller (Bg 1)))
-    (theirs p h s r fall v k d chain.Bg2 (on chain.Bg2 2 refl) (drive h Controller (Bg 2)))
-    (theirs p h s r fall v k d chain.Bg3 (on chain.Bg3 3 refl) (drive h Controller (Bg 3)))
-passes_by p h s r fall v k d (suc zero) e l =
-    let on = λ (c : ChainId) (m : ℕ) (is : works c r ≡ is_on r.requester m). works_is p h s r fall v k d 1 m c e is in
-    all_chains (segments_of p h chain.Iack)
-    (theirs p h s r fall v k d chain.Bg0 (on chain.Bg0 0 refl) (drive h Controller (Bg 0)))
-    (mine p h s r fall v k d chain.Bg1 BgOut refl (on chain.Bg1 1 refl) (drive h Controller (Bg 1)))
-    (theirs p h s r fall v k d chain.Bg2 (on chain.Bg2 2 refl) (drive h Controller (Bg 2)))
-    (theirs p h s r fall v k d chain.Bg3 (on chain.Bg3 3 refl) (drive h Controller (Bg 3)))
-passes_by p h s r fall v k d (suc (suc zero)) e l =
-    let on = λ (c : ChainId) (m : ℕ) (is : works c r ≡ is_on r.requester m). works_is p h s r fall v k d 2 m c e is in
-    all_chains (segments_of p h chain.Iack)
-    (theirs p h s r fall v k d chain.Bg0 (on chain.Bg0 0 refl) (drive h Controller (Bg 0)))
-    (theirs p h s r fall v k d chain.Bg1 (on chain.Bg1 1 refl) (drive h Controller (Bg 1)))
-    (mine p h s r fall v k d chain.Bg2 BgOut refl (on chain.Bg2 2 refl) (drive h Controller (Bg 2)))
-    (theirs p h s r fall v k d chain.Bg3 (on chain.Bg3 3 refl) (drive h Controller (Bg 3)))
-passes_by p h s r fall v k d (suc (suc (suc zero))) e l =
-    let on = λ (c : ChainId) (m : ℕ) (is : works c r ≡ is_on r.requester m). works_is p h s r fall v k d 3 m c e is in
-    all_chains (segments_of p h chain.Iack)
-    (theirs p h s r fall v k d chain.Bg0 (on chain.Bg0 0 refl) (drive h Controller (Bg 0)))
-    (theirs p h s r fall v k d chain.Bg1 (on chain.Bg1 1 refl) (drive h Controller (Bg 1)))
-    (theirs p h s r fall v k d chain.Bg2 (on chain.Bg2 2 refl) (drive h Controller (Bg 2)))
-    (mine p h s r fall v k d chain.Bg3 BgOut refl (on chain.Bg3 3 refl) (drive h Controller (Bg 3)))
-passes_by p h s r fall v k d (suc (suc (suc (suc n)))) e l = absurd (omega arith)
-
-can_pass : (p : Plan) (h : List Edge) (s : ℕ) (r : Row) (fall : Bool) (v : Option Cycle) → Stands p s r → IsDriven p h s r BgOut fall v → (n : ℕ) → request_level r ≡ n → n < 4 →
-    IsBefore (grant_chain n) (output_number (chain_at (grant_chain n) (chains_of p h)).active r.slot) fall (chains_of p h)
-can_pass p h s r fall v k d n e l =
-    at_slot (cases n l e)
-  where
-    at_slot : slice_get (chain_at (grant_chain n) (chains_of p h)).low (output_number (chain_at (grant_chain n) (chains_of p h)).active s) ≡ Some (drive h (Slot s) BgOut) → IsBefore (grant_chain n) (output_number (chain_at (grant_chain n) (chains_of p h)).active r.slot) fall (chains_of p h)
-    at_slot is =
-        ap (λ t. slice_get (chain_at (grant_chain n) (chains_of p h)).low (output_number (chain_at (grant_chain n) (chains_of p h)).active t)) k.slot
-        ∙ is ∙ ap (λ b. Some b) d.before
-
-    cases : (m : ℕ) → m < 4 → request_level r ≡ m → slice_get (chain_at (grant_chain m) (chains_of p h)).low (output_number (chain_at (grant_chain m) (chains_of p h)).active s) ≡ Some (drive h (Slot s) BgOut)
-    cases zero l e = before_segments p h chain.Bg0 s BgOut fall v (drive h Controller (Bg 0)) k.from_one k.to_last (works_is p h s r fall v k d 0 0 chain.Bg0 e refl)
-    cases (suc zero) l e = before_segments p h chain.Bg1 s BgOut fall v (drive h Controller (Bg 1)) k.from_one k.to_last (works_is p h s r fall v k d 1 1 chain.Bg1 e refl)
-    cases (suc (suc zero)) l e = before_segments p h chain.Bg2 s BgOut fall v (drive h Controller (Bg 2)) k.from_one k.to_last (works_is p h s r fall v k d 2 2 chain.Bg2 e refl)
-    cases (suc (suc (suc zero))) l e = before_segments p h chain.Bg3 s BgOut fall v (drive h Controller (Bg 3)) k.from_one k.to_last (works_is p h s r fall v k d 3 3 chain.Bg3 e refl)
-    cases (suc (suc (suc (suc m)))) l e = absurd (omega arith)
+  can_pass : (n : ℕ) → request_level r ≡ n → n < 4 → IsBefore (grant_chain n) (output_number (chain_at (grant_chain n) (chains_of p h)).active r.slot) fall (chains_of p h)
+  can_pass n e l =
+      ap (λ t. slice_get (chain_at (grant_chain n) (chains_of p h)).low (output_number (chain_at (grant_chain n) (chains_of p h)).active t)) k.slot
+      ∙ cases n l e ∙ ap (λ b. Some b) d.before
+    where
+      cases : (m : ℕ) → m < 4 → request_level r ≡ m →
+          slice_get (chain_at (grant_chain m) (chains_of p h)).low (output_number (chain_at (grant_chain m) (chains_of p h)).active s) ≡ Some (drive h (Slot s) BgOut)
+      cases (suc (suc (suc (suc m)))) l e = absurd (omega arith)
+      cases m l e = before_segments p h (grant_chain m) s BgOut fall v (drive h Controller (Bg m)) k.from_one k.to_last (works_is m m (grant_chain m) e refl)
 
 -- the chains after an edge of a board
-pub chained : (p : Plan) (h : List Edge) (s : ℕ) (r : Row) (w : Wire) (fall : Bool) (v : Option Cycle) → Stands p s r → IsDriven p h s r w fall v → chains_of p (at s w fall v ∷ h) ≡ after_board r w fall (chains_of p h)
+pub chained : (p : Plan) (h : List Edge) (s : ℕ) (r : Row) (w : Wire) (fall : Bool) (v : Option Cycle) → Stands p s r → IsDriven p h s r w fall v →
+    chains_of p (at s w fall v ∷ h) ≡ after_board r w fall (chains_of p h)
 chained p h s r BgOut fall v k d = passes_by p h s r fall v k d (request_level r) refl k.request
 chained p h s r IackOut fall v k d =
     let f : Segments → Chains = λ x. record (chains_of p h) { iack = x } in
     ap f (moved_segments p h chain.Iack s IackOut fall v (drive h Controller Iack) k.from_one k.to_last (works_at p chain.Iack s r k.found ∙ d.drives)
     ∙ ap (λ t. moved (segments_of p h chain.Iack) (output_number (active p chain.Iack) t) fall) (sym k.slot))
-chained p h s r Br fall v k d = refl
-chained p h s r Bbsy fall v k d = refl
-chained p h s r Addr fall v k d = refl
-chained p h s r AddressStrobe fall v k d = refl
-chained p h s r DataStrobe fall v k d = refl
-chained p h s r Irq fall v k d = refl
-chained p h s r Dtack fall v k d = refl
-chained p h s r w fall v k d = let none = d.drives in absurd (cc)
+chained p h s r (Bg n) fall v k d = let none = d.drives in absurd (cc)
+chained p h s r Bclr fall v k d = let none = d.drives in absurd (cc)
+chained p h s r Iack fall v k d = let none = d.drives in absurd (cc)
+chained p h s r Berr fall v k d = let none = d.drives in absurd (cc)
+chained p h s r w fall v k d = refl
 
 pub can_move : (p : Plan) (h : List Edge) (s : ℕ) (r : Row) (w : Wire) (fall : Bool) (v : Option Cycle) → Stands p s r → IsDriven p h s r w fall v → CanMove r w fall (chains_of p h)
 can_move p h s r BgOut fall v k d = can_pass p h s r fall v k d (request_level r) refl k.request
@@ -198,22 +169,16 @@ can_move p h s r w fall v k d = tt
 
 -- the chains after an edge of the controller
 pub chained_head : (p : Plan) (h : List Edge) (w : Wire) (fall : Bool) (v : Option Cycle) → has_wire Controller w ≡ true → chains_of p (at_head w fall v ∷ h) ≡ after_controller w fall (chains_of p h)
-chained_head p h (Bg zero) fall v has = refl
-chained_head p h (Bg (suc zero)) fall v has = refl
-chained_head p h (Bg (suc (suc zero))) fall v has = refl
-chained_head p h (Bg (suc (suc (suc zero)))) fall v has = refl
 chained_head p h (Bg (suc (suc (suc (suc n))))) fall v has = absurd (grind (arith, nat_tests))
+chained_head p h (Bg n) fall v has = refl
 chained_head p h Bclr fall v has = refl
 chained_head p h Iack fall v has = refl
 chained_head p h Berr fall v has = refl
 chained_head p h w fall v has = absurd (cc)
 
 pub can_move_head : (p : Plan) (h : List Edge) (w : Wire) (fall : Bool) → has_wire Controller w ≡ true → drive h Controller w ≡ not fall → CanMoveHead w fall (chains_of p h)
-can_move_head p h (Bg zero) fall has before = ap (λ b. Some b) before
-can_move_head p h (Bg (suc zero)) fall has before = ap (λ b. Some b) before
-can_move_head p h (Bg (suc (suc zero))) fall has before = ap (λ b. Some b) before
-can_move_head p h (Bg (suc (suc (suc zero)))) fall has before = ap (λ b. Some b) before
 can_move_head p h (Bg (suc (suc (suc (suc n))))) fall has before = absurd (grind (arith, nat_tests))
+can_move_head p h (Bg n) fall has before = ap (λ b. Some b) before
 can_move_head p h Iack fall has before = ap (λ b. Some b) before
 can_move_head p h Bclr fall has before = tt
 can_move_head p h Berr fall has before = tt

@@ -1,5 +1,5 @@
 -- What the stored fields say about the history.
-use Rattle.std.proofs.Common.{◌≡◌, ◌∙◌, refl, sym, ap, ℕ, zero, suc, Bool, true, false, List, [], ◌∷◌, ◌≤◌, arith}
+use Rattle.std.proofs.Common.{◌≡◌, ◌∙◌, refl, sym, ap, ℕ, suc, Bool, true, false, List, [], ◌∷◌, ◌≤◌, arith}
 use Rattle.std.specs.Prelude.{◌==◌, ◌&&◌, if◌then◌else◌, not, Option, Some, None, is_some, option_map, nat_lt}
 use Rattle.std.specs.Option.{option_map_or}
 use Rattle.std.proofs.lemmas.Bool.Decides.{nat_tests}
@@ -50,7 +50,8 @@ chain_is p h chain.Iack = refl
 abbrev grant_by : Chains → ℕ → Option RequesterRow → Bool
 grant_by c s o = option_map_or (λ q. input (chain_at (grant_chain q.level) c) s) o false
 
-grant_is : (p : Plan) (h : List Edge) (s : ℕ) (o : Option RequesterRow) → grant_by (chains_of p h) s o ≡ option_map_or (λ q. input_after p h (grant_chain q.level) s) o false
+grant_is : (p : Plan) (h : List Edge) (s : ℕ) (o : Option RequesterRow) →
+    grant_by (chains_of p h) s o ≡ option_map_or (λ q. input_after p h (grant_chain q.level) s) o false
 grant_is p h s None = refl
 grant_is p h s (Some q) = ap (λ c. input c s) (chain_is p h (grant_chain q.level)) ∙ reads_inputs p h (grant_chain q.level) s
 
@@ -58,21 +59,15 @@ abbrev with_inputs : Pins → Bool → Bool → Pins
 with_inputs s grant iack = record s { grant_in = grant; iack_in = iack }
 
 -- a board's pins
+pins_with : (p : Plan) (h : List Edge) (s : ℕ) (o : Option Row) → board p s ≡ o →
+    pins p h (Slot s) ≡ with_inputs (pins p h Controller) (option_map_or (λ x. option_map_or (λ q. input_after p h (grant_chain q.level) x.slot) x.requester false) o false)
+    (option_map_or (λ x. is_some x.interrupter && input_after p h chain.Iack x.slot) o false)
+pins_with p h s o found = rw found
+
 pub pins_of_board : (version : Version) (p : Plan) (h : List Edge) (w : Wiring) (b : Board) (r : Row) → IsWiringOf version p h w → b.row ≡ r → board p r.slot ≡ Some r →
     with_inputs w.shared (grant_by w.chains b.row.slot b.row.requester) (is_some b.row.interrupter && input w.chains.iack b.row.slot) ≡ pins p h (Slot r.slot)
 pins_of_board version p h w b r is same found =
-    ap (λ (x : Row). with_inputs w.shared (grant_by w.chains x.slot x.requester) (is_some x.interrupter && input w.chains.iack x.slot)) same
-    ∙ ap (λ (x : Chains). with_inputs w.shared (grant_by x r.slot r.requester) (is_some r.interrupter && input x.iack r.slot)) is.chains
-    ∙ ap (λ (x : Pins). with_inputs x (grant_by (chains_of p h) r.slot r.requester) (is_some r.interrupter && input (segments_of p h chain.Iack) r.slot)) is.shared
-    ∙ ap (λ b. with_inputs (pins p h Controller) b (is_some r.interrupter && input (segments_of p h chain.Iack) r.slot)) (grant_is p h r.slot r.requester)
-    ∙ ap (λ b. with_inputs (pins p h Controller) (option_map_or (λ q. input_after p h (grant_chain q.level) r.slot) r.requester false) (is_some r.interrupter && b)) (reads_inputs p h chain.Iack r.slot)
-    ∙ sym (ap (λ (o : Option Row). with_inputs (pins p h Controller) (option_map_or (λ x. option_map_or (λ q. input_after p h (grant_chain q.level) x.slot) x.requester false) o false) (option_map_or (λ x. is_some x.interrupter && input_after p h chain.Iack x.slot) o false)) found)
-
--- the pins of a slot without a board
-pub pins_of_none : (version : Version) (p : Plan) (h : List Edge) (w : Wiring) (s : ℕ) → IsWiringOf version p h w → board p s ≡ None → w.shared ≡ pins p h (Slot s)
-pins_of_none version p h w s is none =
-    is.shared
-    ∙ sym (ap (λ (o : Option Row). with_inputs (pins p h Controller) (option_map_or (λ x. option_map_or (λ q. input_after p h (grant_chain q.level) x.slot) x.requester false) o false) (option_map_or (λ x. is_some x.interrupter && input_after p h chain.Iack x.slot) o false)) none)
+    rw (same, is.chains, is.shared, grant_is p h r.slot r.requester, reads_inputs p h chain.Iack r.slot) (sym (pins_with p h r.slot (Some r) found))
 
 pub no_board_in : (version : Version) (p : Plan) (h : List Edge) (w : Wiring) (s : ℕ) → IsWiringOf version p h w → place w.boards s ≡ None → board p s ≡ None
 no_board_in version p h w s is none = none_placed (parts_of version p h) (board p s) (sym (is.boards s) ∙ none)
@@ -95,12 +90,10 @@ low_lacking version p h r DataStrobe lacks high = no_part (λ m. m.data_strobe) 
 low_lacking version p h r Irq lacks high = silent p h r Irq lacks high
 low_lacking version p h r IackOut lacks high = silent p h r IackOut lacks high
 low_lacking version p h r Dtack lacks high = absurd (cc)
-low_lacking version p h r (Bg n) lacks high = refl
-low_lacking version p h r Bclr lacks high = refl
-low_lacking version p h r Iack lacks high = refl
-low_lacking version p h r Berr lacks high = refl
+low_lacking version p h r w lacks high = refl
 
-pub own_of_board : (version : Version) (p : Plan) (h : List Edge) (s : ℕ) (r : Row) (b : Board) (w : Wire) → IsLegal version p h → board p s ≡ Some r → r.slot ≡ s → b ≡ parts_of version p h r → low_of b w ≡ drive h (Slot s) w
+pub own_of_board : (version : Version) (p : Plan) (h : List Edge) (s : ℕ) (r : Row) (b : Board) (w : Wire) → IsLegal version p h → board p s ≡ Some r → r.slot ≡ s →
+    b ≡ parts_of version p h r → low_of b w ≡ drive h (Slot s) w
 own_of_board version p h s r b w legal found slot is = ap (λ (x : Board). low_of x w) is ∙ by_wire (drives w r) refl
   where
     by_wire : (has : Bool) → drives w r ≡ has → low_of (parts_of version p h r) w ≡ drive h (Slot s) w
@@ -111,10 +104,6 @@ own_of_board version p h s r b w legal found slot is = ap (λ (x : Board). low_o
 
 -- the controller's wires
 pub own_of_controller : (version : Version) (p : Plan) (h : List Edge) (w : Wire) → IsLegal version p h → low (controller_of p.arbiter version h) w ≡ drive h Controller w
-own_of_controller version p h (Bg zero) legal = refl
-own_of_controller version p h (Bg (suc zero)) legal = refl
-own_of_controller version p h (Bg (suc (suc zero))) legal = refl
-own_of_controller version p h (Bg (suc (suc (suc zero)))) legal = refl
 own_of_controller version p h (Bg (suc (suc (suc (suc n))))) legal =
     let lacks : has_wire Controller (Bg (suc (suc (suc (suc n))))) ≡ false = grind (arith, nat_tests) in
     beyond (suc (suc (suc (suc n)))) (omega arith) ∙ sym (never_drove version p h Controller (Bg (suc (suc (suc (suc n))))) legal lacks)
@@ -126,24 +115,18 @@ own_of_controller version p h (Bg (suc (suc (suc (suc n))))) legal =
         let c : (m == 2) ≡ false = grind (arith, nat_tests) in
         let d : (m == 3) ≡ false = grind (arith, nat_tests) in
         rw (a, b, c, d)
+own_of_controller version p h (Bg n) legal = refl
 own_of_controller version p h Bclr legal = refl
 own_of_controller version p h Iack legal = refl
 own_of_controller version p h Berr legal = refl
-own_of_controller version p h Br legal = sym (never_drove version p h Controller Br legal refl)
-own_of_controller version p h BgOut legal = sym (never_drove version p h Controller BgOut legal refl)
-own_of_controller version p h Bbsy legal = sym (never_drove version p h Controller Bbsy legal refl)
-own_of_controller version p h Addr legal = sym (never_drove version p h Controller Addr legal refl)
-own_of_controller version p h AddressStrobe legal = sym (never_drove version p h Controller AddressStrobe legal refl)
-own_of_controller version p h DataStrobe legal = sym (never_drove version p h Controller DataStrobe legal refl)
-own_of_controller version p h Irq legal = sym (never_drove version p h Controller Irq legal refl)
-own_of_controller version p h IackOut legal = sym (never_drove version p h Controller IackOut legal refl)
-own_of_controller version p h Dtack legal = sym (never_drove version p h Controller Dtack legal refl)
+own_of_controller version p h w legal = sym (never_drove version p h Controller w legal refl)
 
 abbrev pub arbiter_by : AnyPolicy → ArbiterKind → Version → AnyPolicy × ControllerState
 arbiter_by a kind version = (a, controller_of kind version [])
 
 -- the settling rules
-pub grant_gone : (version : Version) (p : Plan) (h : List Edge) (w : Wiring) → IsWiringOf version p h w → bg_fall_settles w.version (not (nat_lt 0 w.lines.bgout)) ≡ bg_fall_settles version (are_grants_through p h)
+pub grant_gone : (version : Version) (p : Plan) (h : List Edge) (w : Wiring) → IsWiringOf version p h w →
+    bg_fall_settles w.version (not (nat_lt 0 w.lines.bgout)) ≡ bg_fall_settles version (are_grants_through p h)
 grant_gone version p h w is =
     ap (λ v. bg_fall_settles v (not (nat_lt 0 w.lines.bgout))) is.rules
     ∙ ap (λ b. bg_fall_settles version (not b)) (ap (nat_lt 0) is.lines.bgout)

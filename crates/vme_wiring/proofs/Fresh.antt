@@ -1,14 +1,11 @@
 -- Before any edge.
-use Rattle.std.proofs.Common.{◌≡◌, ◌∙◌, refl, sym, ap, ℕ, zero, suc, Bool, true, false, List, [], ◌∷◌, ◌++◌, ◌<◌, ◌≤◌, length, take, get_or, add-one, arith}
+use Rattle.std.proofs.Common.{◌≡◌, ◌∙◌, refl, sym, ap, ℕ, suc, Bool, true, false, List, [], ◌∷◌, ◌++◌, ◌<◌, ◌≤◌, length, take, get_or, add-one, arith}
 use Rattle.std.specs.Prelude.{◌+◌, ◌&&◌, ◌||◌, if◌then◌else◌, map, replicate, Option, Some, None, option_map, nat_lt}
 use Rattle.std.specs.List.{list_any, slice_get}
 use Rattle.std.specs.Option.{option_and_then}
 use Rattle.std.proofs.lemmas.Bool.Decides.{nat_tests}
 use Rattle.std.proofs.lemmas.Option.{slice_get_past}
-use Rattle.vme_model.specs.declared.sets.Levels.{Levels}
-use Rattle.vme_model.specs.declared.sets.BusLevels.{BusLevels}
 use Rattle.vme_model.specs.declared.signals.Version.{Version}
-use Rattle.vme_model.specs.declared.signals.Cycle.{Cycle}
 use Rattle.vme_model.specs.declared.signals.Wire.TheVariants.{Bbsy, AddressStrobe, DataStrobe, Dtack}
 use Rattle.vme_model.specs.Sets.{bus_levels, irq_levels}
 use Rattle.vme_histories.proofs.Addressing.{none_on}
@@ -17,7 +14,6 @@ use Rattle.vme_wiring.specs.Counts.{pulls, IsLines, no_pulls, high_pins}
 use Rattle.vme_wiring.specs.declared.boards.Board.{Board}
 use Rattle.vme_histories.proofs.AllowedBoards.{stands}
 use Rattle.vme_model.specs.declared.boards.Row.{Row}
-use Rattle.vme_model.specs.declared.pins.Pins.{Pins}
 use Rattle.vme_model.specs.declared.sets.ChainId.{ChainId}
 use Rattle.vme_model.specs.declared.signals.Driver.TheVariants.{Controller, Slot}
 use Rattle.vme_model.specs.Plan.{Plan, board, active, requests_on, interrupts_on, drives}
@@ -39,21 +35,6 @@ with_low active low = record { active = active; low = low }
 
 pub high_segments : (p : Plan) (c : ChainId) → IsAccepted p → all_high (take 21 (active p c)) ≡ segments_of p [] c
 high_segments p c ok = ap all_high (holds_every_slot p c ok) ∙ ap (with_low (active p c)) (high (active p c))
-
-abbrev of_lines : BusLevels → Levels → Bool → Bool → Bool → Bool → Option Cycle → Pins
-of_lines requests irq bbsy address_strobe data_strobe dtack shown = record {
-  requests = requests;
-  bbsy = bbsy;
-  bclr = false;
-  address_strobe = address_strobe;
-  data_strobe = data_strobe;
-  dtack = dtack;
-  berr = false;
-  irq = irq;
-  shown = shown;
-  grant_in = false;
-  iack_in = false;
-}
 
 -- every line is high
 no_line : (gate : Row → Bool) (rows : List Row) → list_any (λ r. gate r && false) rows ≡ false
@@ -90,22 +71,12 @@ high_lines p = record {
 }
   where
     four : (n : ℕ) → n < 4 → get_or no_pulls.br n 0 ≡ 0
-    four zero l = refl
-    four (suc zero) l = refl
-    four (suc (suc zero)) l = refl
-    four (suc (suc (suc zero))) l = refl
     four (suc (suc (suc (suc n)))) l = absurd (omega arith)
+    four n l = refl
 
     eight : (n : ℕ) → n < 8 → get_or no_pulls.irq n 0 ≡ 0
-    eight zero l = refl
-    eight (suc zero) l = refl
-    eight (suc (suc zero)) l = refl
-    eight (suc (suc (suc zero))) l = refl
-    eight (suc (suc (suc (suc zero)))) l = refl
-    eight (suc (suc (suc (suc (suc zero))))) l = refl
-    eight (suc (suc (suc (suc (suc (suc zero)))))) l = refl
-    eight (suc (suc (suc (suc (suc (suc (suc zero))))))) l = refl
     eight (suc (suc (suc (suc (suc (suc (suc (suc n)))))))) l = absurd (omega arith)
+    eight n l = refl
 
 bus_alike : (s t : ℕ → Bool) → s 0 ≡ t 0 → s 1 ≡ t 1 → s 2 ≡ t 2 → s 3 ≡ t 3 → bus_levels s ≡ bus_levels t
 bus_alike s t a b c d = cc
@@ -118,13 +89,11 @@ high_shared p =
     let a = bus_alike (λ n. false) (request_line p []) (request 0) (request 1) (request 2) (request 3) in
     let b = irq_alike (λ n. false) (interrupt_line p []) (irq 1) (irq 2) (irq 3) (irq 4) (irq 5) (irq 6) (irq 7) in
     let c : None ≡ shown p [] = sym (ap (option_and_then (λ s. last_value [] (Slot s))) (none_on p.slots)) in
-    ap (λ x. of_lines x (irq_levels (λ n. false)) false false false false None) a
-    ∙ ap (λ x. of_lines (bus_levels (request_line p [])) x false false false false None) b
-    ∙ ap (λ x. of_lines (bus_levels (request_line p [])) (irq_levels (interrupt_line p [])) x false false false None) (sym (no_line (drives Bbsy) p.rows))
-    ∙ ap (λ x. of_lines (bus_levels (request_line p [])) (irq_levels (interrupt_line p [])) (line p [] Bbsy) x false false None) (sym (no_line (drives AddressStrobe) p.rows))
-    ∙ ap (λ x. of_lines (bus_levels (request_line p [])) (irq_levels (interrupt_line p [])) (line p [] Bbsy) (line p [] AddressStrobe) x false None) (sym (no_line (drives DataStrobe) p.rows))
-    ∙ ap (λ x. of_lines (bus_levels (request_line p [])) (irq_levels (interrupt_line p [])) (line p [] Bbsy) (line p [] AddressStrobe) (line p [] DataStrobe) x None) (sym (no_line (drives Dtack) p.rows))
-    ∙ ap (λ x. of_lines (bus_levels (request_line p [])) (irq_levels (interrupt_line p [])) (line p [] Bbsy) (line p [] AddressStrobe) (line p [] DataStrobe) (line p [] Dtack) x) c
+    let d : false ≡ line p [] Bbsy = sym (no_line (drives Bbsy) p.rows) in
+    let e : false ≡ line p [] AddressStrobe = sym (no_line (drives AddressStrobe) p.rows) in
+    let f : false ≡ line p [] DataStrobe = sym (no_line (drives DataStrobe) p.rows) in
+    let g : false ≡ line p [] Dtack = sym (no_line (drives Dtack) p.rows) in
+    cc (a, b, c, d, e, f, g)
   where
     request : (n : ℕ) → false ≡ request_line p [] n
     request n = sym (no_line (requests_on n) p.rows)
@@ -133,7 +102,8 @@ high_shared p =
     irq n = sym (no_line (interrupts_on n) p.rows)
 
 -- a place beyond the slots has no board
-pub boards_in_places : (version : Version) (p : Plan) (boards : List (Option Board)) → IsAccepted p → length boards ≡ 22 → ((s : ℕ) → s < 22 → slice_get boards s ≡ Some (option_map (parts_of version p []) (board p s))) →
+pub boards_in_places : (version : Version) (p : Plan) (boards : List (Option Board)) → IsAccepted p → length boards ≡ 22 →
+    ((s : ℕ) → s < 22 → slice_get boards s ≡ Some (option_map (parts_of version p []) (board p s))) →
     (s : ℕ) → place boards s ≡ option_map (parts_of version p []) (board p s)
 boards_in_places version p boards ok room at s = by_place (nat_lt s 22) refl
   where

@@ -1,5 +1,5 @@
 -- A board that waits has no edge that the rules allow.
-use Rattle.std.proofs.Common.{◌≡◌, ◌∙◌, refl, sym, ap, subst, ℕ, Bool, true, false, List, [], ◌∷◌, ◌++◌, arith}
+use Rattle.std.proofs.Common.{◌≡◌, ◌∙◌, refl, sym, ap, ℕ, Bool, true, false, List, [], ◌∷◌, ◌++◌, arith}
 use Rattle.std.specs.Prelude.{◌&&◌, ◌==◌, not, if◌then◌else◌, Option, Some, None, is_some}
 use Rattle.std.specs.Option.{option_map_or, option_and_then}
 use Rattle.std.proofs.lemmas.Bool.Decides.{nat_tests}
@@ -22,7 +22,8 @@ use Rattle.vme_model.specs.Verdict.{IsLegal}
 use Rattle.vme_model.specs.Views.{pins}
 use Rattle.vme_interrupter.specs.Local.{seen, served, edges, over as interrupter_over, interrupter_of}
 use Rattle.vme_interrupter.proofs.Seen.{served_seen}
-use Rattle.vme_histories.proofs.NoOffers.{requester_closed, requester_lacking, master_closed, answer_closed, interrupter_closed, interrupter_lacking, none_waits, requester_of_none, master_of_none, interrupter_of_none, nobody_in}
+use Rattle.vme_histories.proofs.NoOffers.{requester_closed, requester_lacking, master_closed, answer_closed, interrupter_closed, interrupter_lacking}
+use Rattle.vme_histories.proofs.NoOffers.{none_waits, requester_of_none, master_of_none, interrupter_of_none, nobody_in}
 use Rattle.vme_wiring.specs.Boards.{parts_of, place, low_of}
 use Rattle.vme_wiring.specs.Asked.{seen_by, read_by}
 use Rattle.vme_histories.specs.Offered.{offered_on, offered_but_full, requester_wires, master_wires, interrupter_wires}
@@ -63,25 +64,6 @@ all_four : (a b c d : Bool) → (a && b && (c && d)) ≡ true → (a ≡ true) �
 all_four true true true true holds = (refl, refl, refl, refl)
 all_four a b c d holds = absurd (cc)
 
-same_four : (f : Bool → Bool → Bool → Bool → Bool) (a b c d k l m n : Bool) → a ≡ k → b ≡ l → c ≡ m → d ≡ n → f a b c d ≡ f k l m n
-same_four f a b c d k l m n ak bl cm dn = ap (λ x. f x b c d) ak ∙ ap (λ x. f k x c d) bl ∙ ap (λ x. f k l x d) cm ∙ ap (λ x. f k l m x) dn
-
-same_five : (f : Bool → Bool → Bool → Bool → Bool → Bool) (a b c d e k l m n o : Bool) → a ≡ k → b ≡ l → c ≡ m → d ≡ n → e ≡ o → f a b c d e ≡ f k l m n o
-same_five f a b c d e k l m n o ak bl cm dn eo = ap (λ x. f x b c d e) ak ∙ same_four (f k) b c d e l m n o bl cm dn eo
-
--- three parts, one after another
-pub all_wait : (a b c : Bool) → a ≡ true → b ≡ true → c ≡ (a && b && c)
-all_wait true true c ea eb = refl
-all_wait a b c ea eb = absurd (cc)
-
-pub first_moves : (a b c : Bool) → a ≡ false → false ≡ (a && b && c)
-first_moves false b c e = refl
-first_moves true b c e = absurd (cc)
-
-pub second_moves : (a b c : Bool) → a ≡ true → b ≡ false → false ≡ (a && b && c)
-second_moves true false c ea eb = refl
-second_moves a b c ea eb = absurd (cc)
-
 equal_self : (n : ℕ) → (n == n) ≡ true
 equal_self n = grind (arith, nat_tests)
 
@@ -90,8 +72,7 @@ module _ (version : Version) (p : Plan) (h : List Edge) (s : ℕ) (r : Row) (fou
   pub requester_none : waits_for_grant version (readings p h (Slot s)) r ≡ true → offered_on version p h (Slot s) requester_wires ≡ []
   requester_none waits = by_part r.requester refl waits
     where
-      by_part : (o : Option RequesterRow) → r.requester ≡ o →
-          (option_map_or (λ (q : RequesterRow). drive h (Slot s) Br && not (drive h (Slot s) BgOut) && not (drive h (Slot s) Bbsy)) o true && option_map_or (λ (q : RequesterRow). not (is_two version) && not (grant_in p h (Slot s))) o true) ≡ true →
+      by_part : (o : Option RequesterRow) → r.requester ≡ o → waits_for_grant version (readings p h (Slot s)) (record r { requester = o }) ≡ true →
           offered_on version p h (Slot s) requester_wires ≡ []
       by_part None e waits =
           requester_lacking version p h s (ap (λ (x : Option Row). is_some (option_and_then (λ r. r.requester) x)) found ∙ ap (λ (x : Option RequesterRow). is_some x) e)
@@ -136,21 +117,24 @@ module _ (version : Version) (p : Plan) (h : List Edge) (s : ℕ) (legal : IsLeg
   pub requester_idle : requester_waits version p h s ≡ true → offered_on version p h (Slot s) requester_wires ≡ []
   requester_idle waits = by_board (board p s) refl waits
     where
-      by_board : (o : Option Row) → board p s ≡ o → option_map_or (waits_for_grant version (readings p h (Slot s))) o true ≡ true → offered_on version p h (Slot s) requester_wires ≡ []
+      by_board : (o : Option Row) → board p s ≡ o → option_map_or (waits_for_grant version (readings p h (Slot s))) o true ≡ true →
+          offered_on version p h (Slot s) requester_wires ≡ []
       by_board None found waits = requester_of_none version p h s found
       by_board (Some r) found waits = requester_none version p h s r found waits
 
   pub master_idle : master_waits p h s ≡ true → offered_on version p h (Slot s) master_wires ≡ []
   master_idle waits = by_board (board p s) refl waits
     where
-      by_board : (o : Option Row) → board p s ≡ o → option_map_or (λ (r : Row). waits_for_bus (readings p h (Slot s))) o true ≡ true → offered_on version p h (Slot s) master_wires ≡ []
+      by_board : (o : Option Row) → board p s ≡ o → option_map_or (λ (r : Row). waits_for_bus (readings p h (Slot s))) o true ≡ true →
+          offered_on version p h (Slot s) master_wires ≡ []
       by_board None found waits = master_of_none version p h s legal found
       by_board (Some r) found waits = master_none version p h s r found waits
 
   pub interrupter_idle : interrupter_waits p h s ≡ true → offered_on version p h (Slot s) interrupter_wires ≡ []
   interrupter_idle waits = by_board (board p s) refl waits
     where
-      by_board : (o : Option Row) → board p s ≡ o → option_map_or (λ (r : Row). waits_for_cycle (readings p h (Slot s)) r && is_unserved (readings p h (Slot s)) r) o true ≡ true → offered_on version p h (Slot s) interrupter_wires ≡ []
+      by_board : (o : Option Row) → board p s ≡ o →
+          option_map_or (λ (r : Row). waits_for_cycle (readings p h (Slot s)) r && is_unserved (readings p h (Slot s)) r) o true ≡ true → offered_on version p h (Slot s) interrupter_wires ≡ []
       by_board None found waits = interrupter_of_none version p h s found
       by_board (Some r) found waits =
           let t = both_hold (waits_for_cycle (readings p h (Slot s)) r) (is_unserved (readings p h (Slot s)) r) waits in
@@ -161,7 +145,8 @@ pub waiting_none : (version : Version) (p : Plan) (h : List Edge) (d : Driver) �
 waiting_none version p h Controller legal waits = absurd (cc)
 waiting_none version p h (Slot s) legal waits = by_board (board p s) refl waits
   where
-    by_board : (o : Option Row) → board p s ≡ o → option_map_or (board_waits version (readings p h (Slot s))) o true ≡ true → offered_but_full version p h (Slot s) ≡ []
+    by_board : (o : Option Row) → board p s ≡ o → option_map_or (board_waits version (readings p h (Slot s))) o true ≡ true →
+        offered_but_full version p h (Slot s) ≡ []
     by_board None found waits = nobody_in version p h s legal found
     by_board (Some r) found waits = board_none version p h s r found waits
 
@@ -189,27 +174,22 @@ module _ (version : Version) (p : Plan) (h : List Edge) (w : Wiring) (s : ℕ) (
       ∙ ap (λ t. is_served p h (Slot t)) stands_here.stands.slot
 
   pub reads_grant : waits_for_grant w.version (read_by w b) b.row ≡ waits_for_grant version (readings p h (Slot s)) b.row
-  reads_grant =
-      let f : Bool → Bool → Bool → Bool → Bool → Bool = λ two br out bbsy grant. option_map_or (λ (q : RequesterRow). br && not out && not bbsy) b.row.requester true && option_map_or (λ (q : RequesterRow). not two && not grant) b.row.requester true in
-      same_five f _ _ _ _ _ _ _ _ _ _ (ap is_two is.rules) (own_is Br) (own_is BgOut) (own_is Bbsy) (ap (λ (x : Pins). x.grant_in) its_pins)
+  reads_grant = rw (ap is_two is.rules, own_is Br, own_is BgOut, own_is Bbsy, ap (λ (x : Pins). x.grant_in) its_pins)
 
   pub reads_bus : waits_for_bus (read_by w b) ≡ waits_for_bus (readings p h (Slot s))
-  reads_bus =
-      let f : Bool → Bool → Bool → Bool → Bool = λ bbsy addr strobe given. not bbsy && not addr && not strobe && not given in
-      same_four f _ _ _ _ _ _ _ _ (own_is Bbsy) (own_is Addr) (own_is AddressStrobe) (own_is DataStrobe)
+  reads_bus = rw (own_is Bbsy, own_is Addr, own_is AddressStrobe, own_is DataStrobe)
 
   pub reads_cycle : waits_for_cycle (read_by w b) b.row ≡ waits_for_cycle (readings p h (Slot s)) b.row
-  reads_cycle =
-      let f : Bool → Bool → Bool → Bool → Bool = λ dtack out access iack. (not dtack && option_map_or (λ (i : InterrupterRow). not out) b.row.interrupter true) && (not access && option_map_or (λ (i : InterrupterRow). not iack) b.row.interrupter true) in
-      same_four f _ _ _ _ _ _ _ _ (own_is Dtack) (own_is IackOut) (ap (λ (x : Pins). is_access_to b.row.slot x.shown) its_pins) (ap (λ (x : Pins). x.iack_in) its_pins)
+  reads_cycle = rw (own_is Dtack, own_is IackOut, ap (λ (x : Pins). is_access_to b.row.slot x.shown) its_pins, ap (λ (x : Pins). x.iack_in) its_pins)
 
   pub reads_service : is_unserved (read_by w b) b.row ≡ is_unserved (readings p h (Slot s)) b.row
-  reads_service =
-      ap (λ x. option_map_or (λ (i : InterrupterRow). x && not b.interrupter.is_served) b.row.interrupter true) (own_is Irq)
-      ∙ ap (λ x. option_map_or (λ (i : InterrupterRow). drive h (Slot s) Irq && not x) b.row.interrupter true) served_is
+  reads_service = rw (own_is Irq, served_is)
+
+  pub of_row : (f : Row → Bool) → option_map_or f (board p s) true ≡ f b.row
+  of_row f = ap (λ (o : Option Row). option_map_or f o true) row_here
 
   pub waits_here : is_waiting version p h (Slot s) ≡ board_waits version (readings p h (Slot s)) b.row
-  waits_here = ap (λ (o : Option Row). option_map_or (board_waits version (readings p h (Slot s))) o true) row_here
+  waits_here = of_row (board_waits version (readings p h (Slot s)))
 
 -- the interrupter's own test
 its_level : (o : Option InterrupterRow) (i : InterrupterRow) (low done : Bool) → o ≡ Some i →
@@ -221,12 +201,10 @@ its_level (Some j) i low done e =
     rw equal
 
 pub unserved : (version : Version) (p : Plan) (h : List Edge) (r : Row) (b : Board) (i : InterrupterRow) (x : Pins) → b ≡ parts_of version p h r → b.row.interrupter ≡ Some i →
-    is_pending (interrupter_over b.interrupter.slot b.interrupter.row (seen p h) x) i.level ≡ option_map_or (λ (j : InterrupterRow). b.interrupter.irq && not b.interrupter.is_served) b.row.interrupter true
+    is_pending (interrupter_over b.interrupter.slot b.interrupter.row (seen p h) x) i.level
+    ≡ option_map_or (λ (j : InterrupterRow). b.interrupter.irq && not b.interrupter.is_served) b.row.interrupter true
 unserved version p h r b i x is has =
-    let P : Board → Type 0 = λ b. b.row.interrupter ≡ Some i →
-    is_pending (interrupter_over b.interrupter.slot b.interrupter.row (seen p h) x) i.level ≡ option_map_or (λ (j : InterrupterRow). b.interrupter.irq && not b.interrupter.is_served) b.row.interrupter true in
-    subst P (sym is) (λ e. its_level r.interrupter i (drive (edges (seen p h)) (Slot r.slot) Irq) (served (seen p h) (Slot r.slot) r.interrupter) e) has
+    rw is (its_level r.interrupter i (drive (edges (seen p h)) (Slot r.slot) Irq) (served (seen p h) (Slot r.slot) r.interrupter) (rw is at has))
 
 pub own_state : (version : Version) (p : Plan) (h : List Edge) (r : Row) (b : Board) → b ≡ parts_of version p h r → b.interrupter ≡ interrupter_of b.interrupter.slot b.interrupter.row (seen p h)
-own_state version p h r b is =
-    let P : Board → Type 0 = λ b. b.interrupter ≡ interrupter_of b.interrupter.slot b.interrupter.row (seen p h) in subst P (sym is) refl
+own_state version p h r b is = rw is

@@ -1,5 +1,5 @@
 -- What an edge of another driver leaves unchanged.
-use Rattle.std.proofs.Common.{◌≡◌, ◌∙◌, refl, sym, ap, ℕ, Bool, true, false, List, ◌∷◌, arith}
+use Rattle.std.proofs.Common.{◌≡◌, ◌∙◌, refl, sym, ap, ℕ, Bool, true, false, List, ◌∷◌, ◌⊎◌, ⊎_elim, arith}
 use Rattle.std.specs.Prelude.{◌&&◌, ◌||◌, ◌+◌, if◌then◌else◌, Option, Some, None, option_map}
 use Rattle.vme_model.specs.declared.boards.Row.{Row}
 use Rattle.vme_model.specs.declared.boards.RequesterRow.{RequesterRow}
@@ -18,56 +18,11 @@ use Rattle.vme_requester.specs.Local.{requester_of, RequesterState}
 use Rattle.vme_master.specs.Local.{master_of, MasterState}
 use Rattle.vme_interrupter.specs.Local.{interrupter_of, InterrupterState, seen, edges, served, serves_board}
 use Rattle.vme_model.proofs.Bools.{is_false}
-use Rattle.vme_histories.proofs.Others.{same_wire, not_fall, drive_same, cycles_same, strobed_same}
+use Rattle.vme_histories.proofs.Others.{same_wire}
 use Rattle.vme_wiring.specs.Boards.{parts_of}
 use Rattle.vme_wiring.specs.declared.boards.Board.{Board}
 
-served_same : (p : Plan) (h : List Edge) (e : Edge) (d : Driver) (row : Option InterrupterRow) → is_same_driver e.driver d ≡ false → served (seen p (e ∷ h)) d row ≡ served (seen p h) d row
-served_same p h e d row other =
-    ap (λ b. if b then false else (is_fall_of d Dtack e && serves_board row (shown p h)) || served (seen p h) d row) (not_fall d Irq e other)
-    ∙ ap (λ b. (b && serves_board row (shown p h)) || served (seen p h) d row) (not_fall d Dtack e other)
-
-requester_same : (s : ℕ) (q : RequesterRow) (version : Version) (h : List Edge) (e : Edge) → is_same_driver e.driver (Slot s) ≡ false → requester_of s q version (e ∷ h) ≡ requester_of s q version h
-requester_same s q version h e other =
-    let a = drive_same h e (Slot s) Br other in
-    let b = drive_same h e (Slot s) BgOut other in
-    let c = drive_same h e (Slot s) Bbsy other in
-    rw (a, b, c)
-
-master_same : (s : ℕ) (q : RequesterRow) (handler : Levels) (h : List Edge) (e : Edge) → is_same_driver e.driver (Slot s) ≡ false → master_of s q handler (e ∷ h) ≡ master_of s q handler h
-master_same s q handler h e other =
-    let a = drive_same h e (Slot s) Addr other in
-    let b = drive_same h e (Slot s) AddressStrobe other in
-    let c = drive_same h e (Slot s) DataStrobe other in
-    let d = cycles_same h e (Slot s) other in
-    let f = strobed_same h e (Slot s) other in
-    rw (a, b, c, d, f)
-
-interrupter_same : (p : Plan) (s : ℕ) (row : Option InterrupterRow) (h : List Edge) (e : Edge) → is_same_driver e.driver (Slot s) ≡ false → interrupter_of s row (seen p (e ∷ h)) ≡ interrupter_of s row (seen p h)
-interrupter_same p s row h e other =
-    let a = drive_same (edges (seen p h)) e (Slot s) Irq other in
-    let b = drive_same (edges (seen p h)) e (Slot s) IackOut other in
-    let c = drive_same (edges (seen p h)) e (Slot s) Dtack other in
-    let d = served_same p h e (Slot s) row other in
-    rw (a, b, c, d)
-
-map_same : {X A : Type 0} (f g : X → A) (o : Option X) → ((x : X) → f x ≡ g x) → option_map f o ≡ option_map g o
-map_same {X} {A} f g None same = refl
-map_same {X} {A} f g (Some x) same = ap (λ (y : A). Some y) (same x)
-
--- the parts of a board of another slot
-pub parts_same : (version : Version) (p : Plan) (h : List Edge) (e : Edge) (r : Row) → is_same_driver e.driver (Slot r.slot) ≡ false → parts_of version p (e ∷ h) r ≡ parts_of version p h r
-parts_same version p h e r other =
-    let a = map_same (λ q. requester_of r.slot q version (e ∷ h)) (λ q. requester_of r.slot q version h) r.requester (λ q. requester_same r.slot q version h e other) in
-    let b = map_same (λ q. master_of r.slot q r.handler (e ∷ h)) (λ q. master_of r.slot q r.handler h) r.requester (λ q. master_same r.slot q r.handler h e other) in
-    let c = interrupter_same p r.slot r.interrupter h e other in
-    let board : Option RequesterState → Option MasterState → InterrupterState → Board = λ x y z. record { row = r; requester = x; master = y; interrupter = z } in
-    of_parts board a b c
-  where
-    of_parts : (board : Option RequesterState → Option MasterState → InterrupterState → Board) {x x' : Option RequesterState} {y y' : Option MasterState} {z z' : InterrupterState} → x ≡ x' → y ≡ y' → z ≡ z' → board x y z ≡ board x' y' z'
-    of_parts board {x} {x'} {y} {y'} {z} {z'} a b c = ap (λ t. board t y z) a ∙ ap (λ t. board x' t z) b ∙ ap (λ t. board x' y' t) c
-
--- an edge of a wire that does not concern a part leaves the part unchanged
+-- the wires that a part reads
 abbrev pub concerns_master : Wire → Bool
 concerns_master Bbsy = true
 concerns_master Addr = true
@@ -87,36 +42,46 @@ concerns_requester BgOut = true
 concerns_requester Bbsy = true
 concerns_requester w = false
 
+-- an edge that moves none of the slot's wires that a part reads: one of another driver, or of
+-- another wire
+abbrev IsNoneOf : (Wire → Bool) → ℕ → Edge → Type 0
+IsNoneOf reads s e = (w : Wire) → reads w ≡ true → is_edge_of (Slot s) w e ≡ false
+
 no_and : (a b : Bool) → b ≡ false → (a && b) ≡ false
 no_and true b e = e
 no_and false b e = refl
 
-another : (d : Driver) (w : Wire) (e : Edge) → is_same_wire e.wire w ≡ false → is_edge_of d w e ≡ false
-another d w e other = ap (λ b. b && is_same_driver e.driver d) other
+of_driver : (reads : Wire → Bool) (s : ℕ) (e : Edge) → is_same_driver e.driver (Slot s) ≡ false → IsNoneOf reads s e
+of_driver reads s e other w has = no_and (is_same_wire e.wire w) (is_same_driver e.driver (Slot s)) other
 
-another_fall : (d : Driver) (w : Wire) (e : Edge) → is_same_wire e.wire w ≡ false → is_fall_of d w e ≡ false
-another_fall d w e other = no_and e.fall (is_edge_of d w e) (another d w e other)
-
--- the wires that are apart
-apart : (test : Wire → Bool) (a b : Wire) → test b ≡ true → test a ≡ false → is_same_wire a b ≡ true → ⊥
-apart test a b has lacks same = let e : true ≡ false = sym has ∙ ap test (sym (same_wire a b same)) ∙ lacks in cc
-
-not_same : (test : Wire → Bool) (a b : Wire) → test b ≡ true → test a ≡ false → is_same_wire a b ≡ false
-not_same test a b has lacks = is_false (is_same_wire a b) (apart test a b has lacks)
-
-drive_of : (h : List Edge) (e : Edge) (d : Driver) (w : Wire) → is_same_wire e.wire w ≡ false → drive (e ∷ h) d w ≡ drive h d w
-drive_of h e d w other = ap (λ b. if b then e.fall else drive h d w) (another d w e other)
-
-pub requester_kept : (s : ℕ) (row : Option RequesterRow) (version : Version) (h : List Edge) (e : Edge) → concerns_requester e.wire ≡ false →
-    option_map (λ q. requester_of s q version (e ∷ h)) row ≡ option_map (λ q. requester_of s q version h) row
-requester_kept s row version h e lacks =
-    let a = drive_of h e (Slot s) Br (not_same concerns_requester e.wire Br refl lacks) in
-    let b = drive_of h e (Slot s) BgOut (not_same concerns_requester e.wire BgOut refl lacks) in
-    let c = drive_of h e (Slot s) Bbsy (not_same concerns_requester e.wire Bbsy refl lacks) in
-    map_same (λ q. requester_of s q version (e ∷ h)) (λ q. requester_of s q version h) row (λ q. each q a b c)
+pub of_wire : (reads : Wire → Bool) (s : ℕ) (e : Edge) → reads e.wire ≡ false → IsNoneOf reads s e
+of_wire reads s e lacks w has = ap (λ b. b && is_same_driver e.driver (Slot s)) (is_false (is_same_wire e.wire w) apart)
   where
-    each : (q : RequesterRow) → drive (e ∷ h) (Slot s) Br ≡ drive h (Slot s) Br → drive (e ∷ h) (Slot s) BgOut ≡ drive h (Slot s) BgOut → drive (e ∷ h) (Slot s) Bbsy ≡ drive h (Slot s) Bbsy → requester_of s q version (e ∷ h) ≡ requester_of s q version h
-    each q a b c = rw (a, b, c)
+    apart : is_same_wire e.wire w ≡ true → ⊥
+    apart same = let bad : true ≡ false = sym has ∙ ap reads (sym (same_wire e.wire w same)) ∙ lacks in cc
+
+pub either : (reads : Wire → Bool) (w a : Wire) {B : Type 0} → reads a ≡ false → (B → reads w ≡ false) → (w ≡ a) ⊎ B → reads w ≡ false
+either reads w a lacks others is = ⊎_elim (λ (same : w ≡ a). ap reads same ∙ lacks) others is
+
+-- such an edge leaves the part unchanged
+drive_kept : (h : List Edge) (e : Edge) (d : Driver) (w : Wire) → is_edge_of d w e ≡ false → drive (e ∷ h) d w ≡ drive h d w
+drive_kept h e d w none = ap (λ b. if b then e.fall else drive h d w) none
+
+no_fall : (e : Edge) (d : Driver) (w : Wire) → is_edge_of d w e ≡ false → is_fall_of d w e ≡ false
+no_fall e d w none = no_and e.fall (is_edge_of d w e) none
+
+map_same : {X A : Type 0} (f g : X → A) (o : Option X) → ((x : X) → f x ≡ g x) → option_map f o ≡ option_map g o
+map_same {X} {A} f g None same = refl
+map_same {X} {A} f g (Some x) same = ap (λ (y : A). Some y) (same x)
+
+pub requester_kept : (s : ℕ) (row : Option RequesterRow) (version : Version) (h : List Edge) (e : Edge) → IsNoneOf concerns_requester s e →
+    option_map (λ q. requester_of s q version (e ∷ h)) row ≡ option_map (λ q. requester_of s q version h) row
+requester_kept s row version h e none = map_same (λ q. requester_of s q version (e ∷ h)) (λ q. requester_of s q version h) row each
+  where
+    each : (q : RequesterRow) → requester_of s q version (e ∷ h) ≡ requester_of s q version h
+    each q =
+        let same = λ (w : Wire) (reads : concerns_requester w ≡ true). drive_kept h e (Slot s) w (none w reads) in
+        rw (same Br refl, same BgOut refl, same Bbsy refl)
 
 cycles_kept : (h : List Edge) (e : Edge) (d : Driver) → is_fall_of d Bbsy e ≡ false → is_fall_of d AddressStrobe e ≡ false → cycles (e ∷ h) d ≡ cycles h d
 cycles_kept h e d one two =
@@ -132,37 +97,43 @@ strobed_kept h e d one two =
     ap (λ b. if b then false else is_fall_of d DataStrobe e || has_strobed h d) one
     ∙ ap (λ b. b || has_strobed h d) two
 
-pub master_kept : (s : ℕ) (row : Option RequesterRow) (handler : Levels) (h : List Edge) (e : Edge) → concerns_master e.wire ≡ false →
+pub master_kept : (s : ℕ) (row : Option RequesterRow) (handler : Levels) (h : List Edge) (e : Edge) → IsNoneOf concerns_master s e →
     option_map (λ q. master_of s q handler (e ∷ h)) row ≡ option_map (λ q. master_of s q handler h) row
-master_kept s row handler h e lacks =
-    let other = λ (w : Wire) (has : concerns_master w ≡ true). not_same concerns_master e.wire w has lacks in
-    let a = drive_of h e (Slot s) Addr (other Addr refl) in
-    let b = drive_of h e (Slot s) AddressStrobe (other AddressStrobe refl) in
-    let c = drive_of h e (Slot s) DataStrobe (other DataStrobe refl) in
-    let d = cycles_kept h e (Slot s) (another_fall (Slot s) Bbsy e (other Bbsy refl)) (another_fall (Slot s) AddressStrobe e (other AddressStrobe refl)) in
-    let f = strobed_kept h e (Slot s) (another_fall (Slot s) AddressStrobe e (other AddressStrobe refl)) (another_fall (Slot s) DataStrobe e (other DataStrobe refl)) in
-    map_same (λ q. master_of s q handler (e ∷ h)) (λ q. master_of s q handler h) row (λ q. each q a b c d f)
+master_kept s row handler h e none = map_same (λ q. master_of s q handler (e ∷ h)) (λ q. master_of s q handler h) row each
   where
-    each : (q : RequesterRow) → drive (e ∷ h) (Slot s) Addr ≡ drive h (Slot s) Addr → drive (e ∷ h) (Slot s) AddressStrobe ≡ drive h (Slot s) AddressStrobe → drive (e ∷ h) (Slot s) DataStrobe ≡ drive h (Slot s) DataStrobe → cycles (e ∷ h) (Slot s) ≡ cycles h (Slot s) → has_strobed (e ∷ h) (Slot s) ≡ has_strobed h (Slot s) → master_of s q handler (e ∷ h) ≡ master_of s q handler h
-    each q a b c d f = rw (a, b, c, d, f)
+    each : (q : RequesterRow) → master_of s q handler (e ∷ h) ≡ master_of s q handler h
+    each q =
+        let same = λ (w : Wire) (reads : concerns_master w ≡ true). drive_kept h e (Slot s) w (none w reads) in
+        let high = λ (w : Wire) (reads : concerns_master w ≡ true). no_fall e (Slot s) w (none w reads) in
+        let c = cycles_kept h e (Slot s) (high Bbsy refl) (high AddressStrobe refl) in
+        let t = strobed_kept h e (Slot s) (high AddressStrobe refl) (high DataStrobe refl) in
+        rw (same Addr refl, same AddressStrobe refl, same DataStrobe refl, c, t)
 
-served_kept : (p : Plan) (h : List Edge) (e : Edge) (d : Driver) (row : Option InterrupterRow) → is_fall_of d Irq e ≡ false → is_fall_of d Dtack e ≡ false → served (seen p (e ∷ h)) d row ≡ served (seen p h) d row
+served_kept : (p : Plan) (h : List Edge) (e : Edge) (d : Driver) (row : Option InterrupterRow) → is_fall_of d Irq e ≡ false → is_fall_of d Dtack e ≡ false →
+    served (seen p (e ∷ h)) d row ≡ served (seen p h) d row
 served_kept p h e d row one two =
     ap (λ b. if b then false else (is_fall_of d Dtack e && serves_board row (shown p h)) || served (seen p h) d row) one
     ∙ ap (λ b. (b && serves_board row (shown p h)) || served (seen p h) d row) two
 
-pub interrupter_kept : (p : Plan) (s : ℕ) (row : Option InterrupterRow) (h : List Edge) (e : Edge) → concerns_interrupter e.wire ≡ false → interrupter_of s row (seen p (e ∷ h)) ≡ interrupter_of s row (seen p h)
-interrupter_kept p s row h e lacks =
-    let other = λ (w : Wire) (has : concerns_interrupter w ≡ true). not_same concerns_interrupter e.wire w has lacks in
-    let a = drive_of (edges (seen p h)) e (Slot s) Irq (other Irq refl) in
-    let b = drive_of (edges (seen p h)) e (Slot s) IackOut (other IackOut refl) in
-    let c = drive_of (edges (seen p h)) e (Slot s) Dtack (other Dtack refl) in
-    let d = served_kept p h e (Slot s) row (another_fall (Slot s) Irq e (other Irq refl)) (another_fall (Slot s) Dtack e (other Dtack refl)) in
-    rw (a, b, c, d)
+pub interrupter_kept : (p : Plan) (s : ℕ) (row : Option InterrupterRow) (h : List Edge) (e : Edge) → IsNoneOf concerns_interrupter s e →
+    interrupter_of s row (seen p (e ∷ h)) ≡ interrupter_of s row (seen p h)
+interrupter_kept p s row h e none =
+    let same = λ (w : Wire) (reads : concerns_interrupter w ≡ true). drive_kept (edges (seen p h)) e (Slot s) w (none w reads) in
+    let high = λ (w : Wire) (reads : concerns_interrupter w ≡ true). no_fall e (Slot s) w (none w reads) in
+    let d = served_kept p h e (Slot s) row (high Irq refl) (high Dtack refl) in
+    rw (same Irq refl, same IackOut refl, same Dtack refl, d)
 
 abbrev pub board_by : Row → Option RequesterState → Option MasterState → InterrupterState → Board
 board_by a x y z = record { row = a; requester = x; master = y; interrupter = z }
 
-pub assembled : {a b : Row} {x x' : Option RequesterState} {y y' : Option MasterState} {z z' : InterrupterState} → a ≡ b → x ≡ x' → y ≡ y' → z ≡ z' → board_by a x y z ≡ board_by b x' y' z'
-assembled {a} {b} {x} {x'} {y} {y'} {z} {z'} e f g i =
-    ap (λ t. board_by t x y z) e ∙ ap (λ t. board_by b t y z) f ∙ ap (λ t. board_by b x' t z) g ∙ ap (λ t. board_by b x' y' t) i
+pub assembled : {a b : Row} {x x' : Option RequesterState} {y y' : Option MasterState} {z z' : InterrupterState} → a ≡ b → x ≡ x' → y ≡ y' → z ≡ z' →
+    board_by a x y z ≡ board_by b x' y' z'
+assembled {a} {b} {x} {x'} {y} {y'} {z} {z'} e f g i = cc
+
+-- the parts of a board of another slot
+pub parts_same : (version : Version) (p : Plan) (h : List Edge) (e : Edge) (r : Row) → is_same_driver e.driver (Slot r.slot) ≡ false →
+    parts_of version p (e ∷ h) r ≡ parts_of version p h r
+parts_same version p h e r other = assembled refl
+    (requester_kept r.slot r.requester version h e (of_driver concerns_requester r.slot e other))
+    (master_kept r.slot r.requester r.handler h e (of_driver concerns_master r.slot e other))
+    (interrupter_kept p r.slot r.interrupter h e (of_driver concerns_interrupter r.slot e other))

@@ -37,7 +37,8 @@ at_slot s r = r.slot == s
 abbrev pub IsSameElsewhere : (Row → Bool) → (Row → Bool) → ℕ → Type 0
 IsSameElsewhere f g s = (q : Row) → (q.slot == s) ≡ false → g q ≡ f q
 
-elsewhere_step : (b x y : Bool) (n m k : ℕ) → (if b then k + 1 else k) ≡ 0 → (b ≡ false → y ≡ x) → (k ≡ 0 → n ≡ m) → (if y then n + 1 else n) ≡ (if x then m + 1 else m)
+elsewhere_step : (b x y : Bool) (n m k : ℕ) → (if b then k + 1 else k) ≡ 0 → (b ≡ false → y ≡ x) → (k ≡ 0 → n ≡ m) →
+    (if y then n + 1 else n) ≡ (if x then m + 1 else m)
 elsewhere_step true x y n m k none same rest = absurd (omega arith)
 elsewhere_step false x y n m k none same rest =
     ap (λ t. if t then n + 1 else n) (same refl) ∙ ap (λ i. if x then i + 1 else i) (rest none)
@@ -48,16 +49,13 @@ pulls_elsewhere f g s (r ∷ rows) same none =
     elsewhere_step (r.slot == s) (f r) (g r) (pulls g rows) (pulls f rows) (pulls (at_slot s) rows) none (same r) (pulls_elsewhere f g s rows same)
 
 here : (x y : Bool) (n m : ℕ) → n ≡ m → (if y then n + 1 else n) + one_if x ≡ (if x then m + 1 else m) + one_if y
-here true true n m e = omega arith
-here true false n m e = omega arith
-here false true n m e = omega arith
-here false false n m e = omega arith
+here x y n m e = grind arith
 
 there : (x : Bool) (n m a b : ℕ) → n + a ≡ m + b → (if x then n + 1 else n) + a ≡ (if x then m + 1 else m) + b
-there true n m a b e = omega arith
-there false n m a b e = e
+there x n m a b e = grind arith
 
-swap_step : (f g : Row → Bool) (s : ℕ) (r q : Row) (rows : List Row) (b : Bool) → (q.slot == s) ≡ b → IsSameElsewhere f g s → (if b then pulls (at_slot s) rows + 1 else pulls (at_slot s) rows) ≤ 1 → (if b then Some q else row_in rows s) ≡ Some r →
+swap_step : (f g : Row → Bool) (s : ℕ) (r q : Row) (rows : List Row) (b : Bool) → (q.slot == s) ≡ b → IsSameElsewhere f g s →
+    (if b then pulls (at_slot s) rows + 1 else pulls (at_slot s) rows) ≤ 1 → (if b then Some q else row_in rows s) ≡ Some r →
     (pulls (at_slot s) rows ≤ 1 → row_in rows s ≡ Some r → pulls g rows + one_if (f r) ≡ pulls f rows + one_if (g r)) →
     pulls g (q ∷ rows) + one_if (f r) ≡ pulls f (q ∷ rows) + one_if (g r)
 swap_step f g s r q rows true is same few found rest =
@@ -70,14 +68,14 @@ swap_step f g s r q rows false is same few found rest =
     subst P (sym (same q is)) (there (f q) (pulls g rows) (pulls f rows) (one_if (f r)) (one_if (g r)) (rest few found))
 
 -- one board's pull for another
-pub pulls_swap : (f g : Row → Bool) (s : ℕ) (r : Row) (rows : List Row) → IsSameElsewhere f g s → pulls (at_slot s) rows ≤ 1 → row_in rows s ≡ Some r → pulls g rows + one_if (f r) ≡ pulls f rows + one_if (g r)
+pub pulls_swap : (f g : Row → Bool) (s : ℕ) (r : Row) (rows : List Row) → IsSameElsewhere f g s →
+    pulls (at_slot s) rows ≤ 1 → row_in rows s ≡ Some r → pulls g rows + one_if (f r) ≡ pulls f rows + one_if (g r)
 pulls_swap f g s r [] same few found = absurd (cc)
 pulls_swap f g s r (q ∷ rows) same few found = swap_step f g s r q rows (q.slot == s) refl same few found (λ a b. pulls_swap f g s r rows same a b)
 
 -- no slot has two boards
 named_step : (b : Bool) (s : ℕ) (ss : List ℕ) (n : ℕ) → n ≡ length ss → (if b then n + 1 else n) ≡ length (if b then s ∷ ss else ss)
-named_step true s ss n e = omega arith
-named_step false s ss n e = e
+named_step b s ss n e = grind arith
 
 named : (s : ℕ) (rows : List Row) → pulls (at_slot s) rows ≡ times (slots_of rows) s
 named s [] = refl
@@ -133,8 +131,7 @@ few_boards p ok =
     omega (arith, all_slots p.slots p.rows to)
 
 pulled_step : (b : Bool) (n m : ℕ) → n ≤ m → (if b then n + 1 else n) ≤ suc m
-pulled_step true n m e = omega arith
-pulled_step false n m e = omega arith
+pulled_step b n m e = grind arith
 
 pub pulls_most : (f : Row → Bool) (rows : List Row) → pulls f rows ≤ length rows
 pulls_most f [] = omega arith
@@ -146,14 +143,13 @@ pub record IsMoved (f g : Row → Bool) (rows : List Row) (fall : Bool) : Type 0
   pub can : is_movable (pulls f rows) fall ≡ true
 
 moved_of : (n m : ℕ) (fall : Bool) → m + one_if (not fall) ≡ n + one_if fall → m ≡ moved n fall
-moved_of n m true e = omega arith
-moved_of n m false e = omega arith
+moved_of n m fall e = grind arith
 
 can_of : (n m : ℕ) (fall : Bool) → n ≤ 21 → m + one_if (not fall) ≡ n + one_if fall → is_movable n fall ≡ true
-can_of n m true few e = grind (arith, nat_tests)
-can_of n m false few e = grind (arith, nat_tests)
+can_of n m fall few e = grind (arith, nat_tests)
 
-pub pulls_move : (p : Plan) (f g : Row → Bool) (s : ℕ) (r : Row) (fall : Bool) → IsAccepted p → 1 ≤ s → s ≤ p.slots → row_in p.rows s ≡ Some r → IsSameElsewhere f g s → f r ≡ not fall → g r ≡ fall → IsMoved f g p.rows fall
+pub pulls_move : (p : Plan) (f g : Row → Bool) (s : ℕ) (r : Row) (fall : Bool) → IsAccepted p → 1 ≤ s → s ≤ p.slots → row_in p.rows s ≡ Some r →
+    IsSameElsewhere f g s → f r ≡ not fall → g r ≡ fall → IsMoved f g p.rows fall
 pulls_move p f g s r fall ok from to found same before after =
     let swap = pulls_swap f g s r p.rows same (once p ok s from to) found in
     let even : pulls g p.rows + one_if (not fall) ≡ pulls f p.rows + one_if fall =

@@ -24,9 +24,10 @@ use Rattle.vme_model.specs.Sets.{has_level, has_bus_level, bus_levels}
 use Rattle.vme_model.specs.Plan.{Plan, board}
 use Rattle.vme_model.specs.History.{drive, request_line, interrupt_line, cycles, last_level, shown, line}
 use Rattle.vme_model.specs.Readings.{Readings, readings, is_served, grant_in, iack_in}
-use Rattle.vme_model.specs.declared.conditions.Condition.TheVariants.{Handled, InterruptLow, NotPending, Pending, OwnSlotShown, AcknowledgeInLow, OwnAcknowledgeOutHigh}
+use Rattle.vme_model.specs.declared.conditions.Condition.TheVariants.{Handled, InterruptLow}
 use Rattle.vme_model.specs.Guards.{Guard, free as no_condition, asks, ◌⊓◌, holds}
-use Rattle.vme_model.specs.Rules.{guard, rule, bus_numbers, is_pick, bg_falls, bclr_falls, bclr_rises, bbsy_rises, addr_goes_on, iackout_falls, dtack_falls, released as released_where, below_burst, release_guard, burst_guard, show_guard, pass_guard, answer_guard, clear_guard, are_grants_high, is_pri}
+use Rattle.vme_model.specs.Rules.{guard, rule, bus_numbers, is_pick, bg_falls, bclr_falls, bclr_rises, bbsy_rises, addr_goes_on, iackout_falls, dtack_falls, released as released_where}
+use Rattle.vme_model.specs.Rules.{below_burst, release_guard, burst_guard, show_guard, pass_guard, answer_guard, clear_guard, are_grants_high, is_pri}
 use Rattle.vme_model.specs.Verdict.{Judgement, check, is_other_state, ruling}
 use Rattle.vme_model.specs.Views.{pins}
 use Rattle.vme_model.proofs.Picks.{laws_of}
@@ -34,7 +35,7 @@ use Rattle.vme_model.proofs.PinSets.{has_bus, has_irq}
 use Rattle.vme_model.proofs.Bools.{and_left, and_right}
 use Rattle.vme_requester.specs.Local.{own_lines as requester_lines, requester_readings, answer_over}
 use Rattle.vme_master.specs.Local.{own_lines as master_lines, over as master_over}
-use Rattle.vme_interrupter.specs.Local.{seen, served, interrupter_readings, over as interrupter_over}
+use Rattle.vme_interrupter.specs.Local.{seen, interrupter_readings, over as interrupter_over}
 use Rattle.vme_interrupter.proofs.Seen.{edges_seen, served_seen}
 use Rattle.vme_arbiter.specs.Local.{over as controller_over}
 use Rattle.vme_histories.specs.Asked.{asked}
@@ -48,22 +49,21 @@ record Agree (s t : ℕ → Bool) : Type 0 where
   three : s 3 ≡ t 3
 
 lines_agree : (low : ℕ → Bool) → Agree (has_bus_level (bus_levels low)) low
-lines_agree low = record { zero = has_bus low 0 (omega arith); one = has_bus low 1 (omega arith); two = has_bus low 2 (omega arith); three = has_bus low 3 (omega arith) }
+lines_agree low =
+    let level = λ (n : ℕ) (l : n < 4). has_bus low n l in
+    record { zero = level 0 (omega arith); one = level 1 (omega arith); two = level 2 (omega arith); three = level 3 (omega arith) }
 
-any_alike : (s t : ℕ → Bool) → s 0 ≡ t 0 → s 1 ≡ t 1 → s 2 ≡ t 2 → s 3 ≡ t 3 → list_any s bus_numbers ≡ list_any t bus_numbers
-any_alike s t a b c d = cc
+any_alike : (s t : ℕ → Bool) → Agree s t → list_any s bus_numbers ≡ list_any t bus_numbers
+any_alike s t a = cc (a.zero, a.one, a.two, a.three)
 
-any_low : (low : ℕ → Bool) → list_any (has_bus_level (bus_levels low)) bus_numbers ≡ list_any low bus_numbers
-any_low low = let a = lines_agree low in any_alike (has_bus_level (bus_levels low)) low a.zero a.one a.two a.three
-
-above_alike : (s t : ℕ → Bool) (last : ℕ) → s 0 ≡ t 0 → s 1 ≡ t 1 → s 2 ≡ t 2 → s 3 ≡ t 3 → list_any (λ m. nat_lt last m && s m) bus_numbers ≡ list_any (λ m. nat_lt last m && t m) bus_numbers
-above_alike s t last a b c d = cc
-
-any_above : (low : ℕ → Bool) (last : ℕ) → list_any (λ m. nat_lt last m && has_bus_level (bus_levels low) m) bus_numbers ≡ list_any (λ m. nat_lt last m && low m) bus_numbers
-any_above low last = let a = lines_agree low in above_alike (has_bus_level (bus_levels low)) low last a.zero a.one a.two a.three
+above_alike : (s t : ℕ → Bool) (last : ℕ) → Agree s t →
+    list_any (λ m. nat_lt last m && s m) bus_numbers ≡ list_any (λ m. nat_lt last m && t m) bus_numbers
+above_alike s t last a = cc (a.zero, a.one, a.two, a.three)
 
 pick_low : (kind : ArbiterKind) (low : ℕ → Bool) (last n : ℕ) → n < 4 → is_pick kind (has_bus_level (bus_levels low)) last n ≡ is_pick kind low last n
-pick_low kind low last n l = let a = lines_agree low in (laws_of kind).by_lines (has_bus_level (bus_levels low)) low last n a.zero a.one a.two a.three (has_bus low n l)
+pick_low kind low last n l =
+    let a = lines_agree low in
+    (laws_of kind).by_lines (has_bus_level (bus_levels low)) low last n a.zero a.one a.two a.three (has_bus low n l)
 
 -- what a row of the table answers
 abbrev answered : ℕ × Guard → ℕ × Bool
@@ -77,7 +77,8 @@ by_same : (low fall : Bool) (a b : ℕ × Guard) → a ≡ b → by_row low fall
 by_same low fall a b e = ap (λ g. by_row low fall (answered g)) e
 
 -- an edge of that driver
-asked_of : (version : Version) (p : Plan) (h : List Edge) (d : Driver) (e : Edge) → e.driver ≡ d → by_row (drive h d e.wire) e.fall (rule version (readings p h d) e.wire e.fall e.value) ≡ asked version p h e
+asked_of : (version : Version) (p : Plan) (h : List Edge) (d : Driver) (e : Edge) → e.driver ≡ d →
+    by_row (drive h d e.wire) e.fall (rule version (readings p h d) e.wire e.fall e.value) ≡ asked version p h e
 asked_of version p h d e same = ap (λ x. by_row (drive h x e.wire) e.fall (rule version (readings p h x) e.wire e.fall e.value)) (sym same)
 
 twice_not : (a b : Bool) → (not (not (not a || b)) || (not a || b)) ≡ (not a || b)
@@ -99,10 +100,11 @@ requester_sees p h s q = requester_readings s q (drive h (Slot s)) (pins p h (Sl
 released : (p : Plan) (h : List Edge) (s : ℕ) (q : RequesterRow) → option_and_then (λ b. b.requester) (board p s) ≡ Some q →
     release_guard (requester_sees p h s q) ≡ release_guard (readings p h (Slot s))
 released p h s q e =
-    ap (λ b. released_where b q.release) (any_low (request_line p h))
+    ap (λ b. released_where b q.release) (any_alike (has_bus_level (bus_levels (request_line p h))) (request_line p h) (lines_agree (request_line p h)))
     ∙ sym (ap (λ o. option_map_or (λ x. released_where (list_any (request_line p h) bus_numbers) x.release) o no_condition) e)
 
-requester_row : (version : Version) (p : Plan) (h : List Edge) (s : ℕ) (q : RequesterRow) (w : Wire) (f : Bool) (v : Option Cycle) → option_and_then (λ b. b.requester) (board p s) ≡ Some q → is_of parts.Requester w ≡ true →
+requester_row : (version : Version) (p : Plan) (h : List Edge) (s : ℕ) (q : RequesterRow) (w : Wire) (f : Bool) (v : Option Cycle) →
+    option_and_then (λ b. b.requester) (board p s) ≡ Some q → is_of parts.Requester w ≡ true →
     guard version (requester_sees p h s q) w f v ≡ guard version (readings p h (Slot s)) w f v
 requester_row version p h s q Br true v e own = refl
 requester_row version p h s q Br false v e own = refl
@@ -121,7 +123,8 @@ requester_own p h s q BgOut own = refl
 requester_own p h s q Bbsy own = refl
 requester_own p h s q w own = absurd (cc)
 
-pub requester_asked : (version : Version) (p : Plan) (h : List Edge) (r : Row) (q : RequesterRow) (seen : Pins) (free : Bool) (e : Edge) → IsAsked p h r seen e → r.requester ≡ Some q → free ≡ is_free h r.slot → is_of parts.Requester e.wire ≡ true →
+pub requester_asked : (version : Version) (p : Plan) (h : List Edge) (r : Row) (q : RequesterRow) (seen : Pins) (free : Bool) (e : Edge) → IsAsked p h r seen e →
+    r.requester ≡ Some q → free ≡ is_free h r.slot → is_of parts.Requester e.wire ≡ true →
     answer_over r.slot q version h seen free e ≡ asked version p h e
 requester_asked version p h r q seen free e k has known own =
     let s = r.slot in
@@ -153,7 +156,8 @@ showing p h r q (Some (Acknowledge n)) found formed =
 showing p h r q (Some (Access t)) found formed = refl
 showing p h r q None found formed = refl
 
-master_row : (version : Version) (p : Plan) (h : List Edge) (r : Row) (q : RequesterRow) (w : Wire) (f : Bool) (v : Option Cycle) → board p r.slot ≡ Some r → option_and_then (λ b. b.requester) (board p r.slot) ≡ Some q → has_value w f v ≡ true → is_of parts.Master w ≡ true →
+master_row : (version : Version) (p : Plan) (h : List Edge) (r : Row) (q : RequesterRow) (w : Wire) (f : Bool) (v : Option Cycle) → board p r.slot ≡ Some r →
+    option_and_then (λ b. b.requester) (board p r.slot) ≡ Some q → has_value w f v ≡ true → is_of parts.Master w ≡ true →
     guard version (master_sees p h r q) w f v ≡ guard version (readings p h (Slot r.slot)) w f v
 master_row version p h r q Addr true v found e formed own =
     let row : Guard → Guard → ℕ × Guard = λ a b. (15, addr_goes_on (drive h (Slot r.slot) Bbsy) (line p h AddressStrobe) a b) in
@@ -175,7 +179,8 @@ master_own h s w own = absurd (cc)
 value_of : (e : Edge) → is_well_formed e ≡ true → has_value e.wire e.fall e.value ≡ true
 value_of e formed = and_right (has_wire e.driver e.wire) (has_value e.wire e.fall e.value) formed
 
-pub master_asked : (version : Version) (p : Plan) (h : List Edge) (r : Row) (q : RequesterRow) (seen : Pins) (holds : Bool) (e : Edge) → IsAsked p h r seen e → r.requester ≡ Some q → holds ≡ drive h (Slot r.slot) Bbsy → is_of parts.Master e.wire ≡ true →
+pub master_asked : (version : Version) (p : Plan) (h : List Edge) (r : Row) (q : RequesterRow) (seen : Pins) (holds : Bool) (e : Edge) → IsAsked p h r seen e →
+    r.requester ≡ Some q → holds ≡ drive h (Slot r.slot) Bbsy → is_of parts.Master e.wire ≡ true →
     ruling version (master_over r.slot q r.handler h seen holds) e ≡ asked version p h e
 master_asked version p h r q seen holds e k has known own =
     let s = r.slot in
@@ -190,15 +195,13 @@ abbrev interrupter_sees : Plan → List Edge → Row → Readings
 interrupter_sees p h r = interrupter_readings r.slot r.interrupter (drive h (Slot r.slot)) (is_served p h (Slot r.slot)) (pins p h (Slot r.slot))
 
 passed_by : (p : Plan) (h : List Edge) (r : Row) (c : Option Cycle) → board p r.slot ≡ Some r → pass_guard (interrupter_sees p h r) c ≡ pass_guard (readings p h (Slot r.slot)) c
-passed_by p h r (Some (Acknowledge n)) found =
-    sym (ap (λ o. asks NotPending (not (option_map_or (λ i. i.level == n) (option_and_then (λ b. b.interrupter) o) false && drive h (Slot r.slot) Irq && not (is_served p h (Slot r.slot))))) found)
+passed_by p h r (Some (Acknowledge n)) found = rw found
 passed_by p h r (Some (Access t)) found = refl
 passed_by p h r None found = refl
 
 answering : (p : Plan) (h : List Edge) (r : Row) (c : Option Cycle) → board p r.slot ≡ Some r → answer_guard (interrupter_sees p h r) c ≡ answer_guard (readings p h (Slot r.slot)) c
-answering p h r (Some (Acknowledge n)) found =
-    sym (ap (λ o. asks AcknowledgeInLow (iack_in p h (Slot r.slot)) ⊓ asks OwnAcknowledgeOutHigh (not (drive h (Slot r.slot) IackOut)) ⊓ asks Pending (option_map_or (λ i. i.level == n) (option_and_then (λ b. b.interrupter) o) false && drive h (Slot r.slot) Irq && not (is_served p h (Slot r.slot)))) found)
-answering p h r (Some (Access t)) found = sym (ap (λ o. asks OwnSlotShown (option_map_or (λ b. b.slot == t) o false)) found)
+answering p h r (Some (Acknowledge n)) found = rw found
+answering p h r (Some (Access t)) found = rw found
 answering p h r None found = refl
 
 interrupter_row : (version : Version) (p : Plan) (h : List Edge) (r : Row) (w : Wire) (f : Bool) (v : Option Cycle) → board p r.slot ≡ Some r → is_of parts.Interrupter w ≡ true →
@@ -216,9 +219,7 @@ interrupter_row version p h r w f v found own = absurd (cc)
 over_seen : (p : Plan) (h : List Edge) (r : Row) (seen_pins : Pins) → board p r.slot ≡ Some r → seen_pins ≡ pins p h (Slot r.slot) →
     interrupter_over r.slot r.interrupter (seen p h) seen_pins ≡ interrupter_sees p h r
 over_seen p h r seen_pins found same =
-    ap (λ (x : Pins). interrupter_over r.slot r.interrupter (seen p h) x) same
-    ∙ ap (λ (x : List Edge). interrupter_readings r.slot r.interrupter (drive x (Slot r.slot)) (served (seen p h) (Slot r.slot) r.interrupter) (pins p h (Slot r.slot))) (edges_seen p h)
-    ∙ ap (λ b. interrupter_readings r.slot r.interrupter (drive h (Slot r.slot)) b (pins p h (Slot r.slot))) (served_seen p h (Slot r.slot) r found)
+    rw (same, edges_seen p h, served_seen p h (Slot r.slot) r found)
 
 pub interrupter_asked : (version : Version) (p : Plan) (h : List Edge) (r : Row) (seen_pins : Pins) (e : Edge) → IsAsked p h r seen_pins e → is_of parts.Interrupter e.wire ≡ true →
     ruling version (interrupter_over r.slot r.interrupter (seen p h) seen_pins) e ≡ asked version p h e
@@ -235,7 +236,9 @@ below_four : (n : ℕ) → nat_lt n 4 ≡ true → n < 4
 below_four n e = grind (arith, nat_tests, e)
 
 clear_due : (p : Plan) (h : List Edge) → clear_guard (controller_sees p h) ≡ clear_guard (readings p h Controller)
-clear_due p h = ap (λ b. bclr_falls (is_pri p.arbiter) (line p h Bbsy) (are_grants_high (readings p h Controller)) b) (any_above (request_line p h) (last_level h))
+clear_due p h =
+    ap (λ b. bclr_falls (is_pri p.arbiter) (line p h Bbsy) (are_grants_high (readings p h Controller)) b)
+    (above_alike (has_bus_level (bus_levels (request_line p h))) (request_line p h) (last_level h) (lines_agree (request_line p h)))
 
 controller_row : (version : Version) (p : Plan) (h : List Edge) (w : Wire) (f : Bool) (v : Option Cycle) → has_wire Controller w ≡ true →
     guard version (controller_sees p h) w f v ≡ guard version (readings p h Controller) w f v

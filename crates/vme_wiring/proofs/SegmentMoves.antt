@@ -55,10 +55,6 @@ counted b s xs x under =
     let one = ap one_if under in
     omega (arith, split, one)
 
-counted_in : (c b : Bool) (s : ℕ) (xs : List ℕ) (x : ℕ) → nat_lt x s ≡ false → below s (with_slot c xs x) ≡ below s xs
-counted_in true b s xs x beyond = counted false s xs x beyond ∙ omega arith
-counted_in false b s xs x beyond = refl
-
 -- all of the slots up to n are below a greater one
 all_below_step : (b : Bool) (s : ℕ) (xs : List ℕ) (x : ℕ) → nat_lt x s ≡ true → below s xs ≡ length xs → below s (with_slot b xs x) ≡ length (with_slot b xs x)
 all_below_step true s xs x under all = let a = counted true s xs x under in let c = long xs x in omega arith
@@ -111,7 +107,8 @@ at_last f g k n fall one =
           ∙ ap (λ ys. set ys (length xs) fall) (sym (map-append g xs (suc n ∷ [])));
     }
 
-at_earlier : (b : Bool) (f g k : ℕ → Bool) (n s i : ℕ) (fall : Bool) → IsOne f g k s fall → s ≤ n → f (suc n) ≡ b → IsAt g k (worked f n) s i fall → IsAt g k (with_slot b (worked f n) (suc n)) s i fall
+at_earlier : (b : Bool) (f g k : ℕ → Bool) (n s i : ℕ) (fall : Bool) → IsOne f g k s fall → s ≤ n → f (suc n) ≡ b → IsAt g k (worked f n) s i fall →
+    IsAt g k (with_slot b (worked f n) (suc n)) s i fall
 at_earlier false f g k n s i fall one l is at = at
 at_earlier true f g k n s i fall one l is at =
     let xs = worked f n in

@@ -40,7 +40,8 @@ impl Wiring {
     ghost use Rattle.vme_wiring.specs.Boards.{low_of};
     ghost use Rattle.vme_wiring.specs.Chained.{grant_in, iack_in};
     ghost use Rattle.vme_histories.specs.Offered.{offered_but_full};
-    ghost use Rattle.vme_wiring.specs.Waits.{is_quiet, is_ungranted, is_unaddressed, is_left_alone, is_waiting, waits_for_bus, waits_for_cycle, waits_for_grant, requester_waits, master_waits, interrupter_waits};
+    ghost use Rattle.vme_wiring.specs.Waits.{is_quiet, is_ungranted, is_unaddressed, is_left_alone, is_waiting};
+    ghost use Rattle.vme_wiring.specs.Waits.{waits_for_bus, waits_for_cycle, waits_for_grant, requester_waits, master_waits, interrupter_waits};
 
     /// Whether the board's requester, if it has one, may not withdraw, and no grant has reached it.
     #[inline(always)]

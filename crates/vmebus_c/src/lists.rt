@@ -4,11 +4,8 @@ ghost use Rattle.std.specs.Prelude.{◌≡◌, ◌≤◌, ◌<◌, ◌++◌, [],
 use std::marker::Model;
 use vme_model::{Driver, Edge, Wire};
 
-/// The most open edges: 36 for each of 22 drivers.
-const OPEN_EDGES: usize = 792;
-
 /// What fills the array after the list's end. In memory it is zeros, so that the array is cleared
-/// at once. Any other edge would be written 792 times into an array that is then copied.
+/// at once. Any other edge would be written into each place of an array that is then copied.
 const BLANK: Edge = Edge {
     driver: Driver::Controller,
     wire: Wire::Bg(0),
@@ -16,15 +13,15 @@ const BLANK: Edge = Edge {
     value: None,
 };
 
-/// A list of at most 792 edges. An `ArrayVec` would fill 6 KB with its default edge and move them,
-/// which takes a fourth of the time of a draw.
+/// A list of at most `N` edges. An `ArrayVec` would fill its places with its default edge and move
+/// them, which takes a fourth of the time of a draw.
 #[derive(Drop)]
-pub(crate) struct EdgeList {
-    room: [Edge; OPEN_EDGES],
+pub(crate) struct EdgeList<const N: usize> {
+    room: [Edge; N],
     count: usize,
 }
 
-impl Model for EdgeList {
+impl<const N: usize> Model for EdgeList<N> {
     ghost use Rattle.std.specs.Prelude.{◌≡◌, ◌≤◌, List, length, take};
     ghost use Rattle.vme_model.specs.declared.signals.Edge.{Edge as EdgeValue};
 
@@ -32,17 +29,17 @@ impl Model for EdgeList {
 
     ghost view = { λ l. take l.count l.room };
 
-    ghost invariant = { λ l. (l.count ≤ 792) × (length l.room ≡ 792) };
+    ghost invariant = { λ l. (l.count ≤ N) × (length l.room ≡ N) };
 }
 
-impl EdgeList {
+impl<const N: usize> EdgeList<N> {
     /// The list of no edge.
     #[inline(always)]
-    pub(crate) fn new() -> EdgeList
+    pub(crate) fn new() -> EdgeList<N>
         ensures { result ≡ [] }
     {
         EdgeList {
-            room: [BLANK; OPEN_EDGES],
+            room: [BLANK; N],
             count: 0,
         }
     }
@@ -50,7 +47,7 @@ impl EdgeList {
     /// Appends an edge.
     #[inline(always)]
     pub(crate) fn push(&mut self, edge: Edge)
-        requires { length self.old < 792 }
+        requires { length self.old < N }
         ensures { self.new ≡ self.old ++ edge ∷ [] }
     {
         let count = self.count;
@@ -62,7 +59,7 @@ impl EdgeList {
     #[inline(always)]
     pub(crate) fn as_slice(&self) -> &[Edge]
         ensures edges { result.now ≡ self.now }
-        ensures few { length result.now ≤ 792 }
+        ensures few { length result.now ≤ N }
     {
         &self.room[..self.count]
     }

@@ -1,11 +1,11 @@
 //! The open edges of the wires that the library plays for a bench.
-ghost use Rattle.std.specs.Prelude.{◌≡◌, ◌≤◌, ◌+◌, ◌*◌, ◌++◌, ◌↔◌, [], IfSome, None, filter, length};
+ghost use Rattle.std.specs.Prelude.{◌≡◌, ◌≤◌, ◌+◌, ◌++◌, ◌↔◌, ◌<◌, [], false, true, IfSome, None, filter, length};
 ghost use Rattle.std.specs.List.{Contains};
 ghost use Rattle.vme_model.specs.declared.signals.Driver.TheVariants.{Slot};
 ghost use Rattle.vme_bus.specs.Sets.{has};
 ghost use Rattle.vme_bus.specs.States.{OfHistory};
 ghost use Rattle.vme_histories.specs.Opens.{open_but_full};
-ghost use Rattle.vme_seeds.specs.Draws.{IsCountedIn, numbers_of};
+ghost use Rattle.vme_seeds.specs.Draws.{IsCountedIn, next_by, numbers_of};
 ghost use Rattle.vme_seeds.specs.Kinds.{has_board};
 ghost use Rattle.vme_seeds.specs.Numbers.{after_words};
 ghost use Rattle.vmebus_c.specs.Played.{AreWeighed, drawn_edge, is_played, played};
@@ -16,6 +16,16 @@ use vme_histories::open_edges_of;
 use vme_model::{Driver, Edge};
 use vme_seeds::laws::a_draw_gives_one_of_its_edges;
 use vme_seeds::{Draws, boards_on};
+
+/// The most open edges of a driver.
+const OF_DRIVER: usize = 36;
+
+/// The most open edges: 36 for each of 22 drivers.
+const OPEN_EDGES: usize = 792;
+
+/// The places of a short list, which has a fifth of the bytes to clear. If it may be too short, the
+/// draw starts again with a long one.
+const FEW_EDGES: usize = 144;
 
 /// Whether the library plays the wire of the edge, by a mask for each driver.
 fn is_played(wires: &[u32], edge: &Edge) -> bool
@@ -30,8 +40,8 @@ fn is_played(wires: &[u32], edge: &Edge) -> bool
 }
 
 /// Appends those of the edges whose wires are played.
-fn append_played(edges: &mut EdgeList, ready: &[Edge], wires: &[u32])
-    requires { length edges.old + length ready.now ≤ 792 }
+fn append_played<const N: usize>(edges: &mut EdgeList<N>, ready: &[Edge], wires: &[u32])
+    requires { length edges.old + length ready.now ≤ N }
     ensures items { edges.new ≡ edges.old ++ filter (is_played wires.now) ready.now }
     ensures few { length edges.new ≤ length edges.old + length ready.now }
 {
@@ -43,8 +53,8 @@ fn append_played(edges: &mut EdgeList, ready: &[Edge], wires: &[u32])
 }
 
 /// Appends the open edges of a driver whose wires are played.
-fn append_of(bus: &BusState, driver: Driver, wires: &[u32], edges: &mut EdgeList)
-    requires { length edges.old ≤ 756 }
+fn append_of<const N: usize>(bus: &BusState, driver: Driver, wires: &[u32], edges: &mut EdgeList<N>)
+    requires { length edges.old + 36 ≤ N }
     ensures items { OfHistory bus.now (λ version p h. edges.new ≡ edges.old
         ++ filter (is_played wires.now) (open_but_full version p h driver)) }
     ensures few { length edges.new ≤ length edges.old + 36 }
@@ -54,8 +64,14 @@ fn append_of(bus: &BusState, driver: Driver, wires: &[u32], edges: &mut EdgeList
 
 /// Appends the open edges of a slot whose wires are played, if these slots have a board. A slot
 /// without one has none, and most of the 22 drivers may have none.
-fn append_slot(bus: &BusState, boards: SlotSet, slot: u8, wires: &[u32], edges: &mut EdgeList)
-    requires { length edges.old ≤ 756 }
+fn append_slot<const N: usize>(
+    bus: &BusState,
+    boards: SlotSet,
+    slot: u8,
+    wires: &[u32],
+    edges: &mut EdgeList<N>,
+)
+    requires { length edges.old + 36 ≤ N }
     ensures items { OfHistory bus.now (λ version p h. has boards ≡ has_board p
         → edges.new ≡ edges.old
         ++ filter (is_played wires.now) (open_but_full version p h (Slot slot))) }
@@ -67,16 +83,83 @@ fn append_slot(bus: &BusState, boards: SlotSet, slot: u8, wires: &[u32], edges: 
     append_of(bus, Driver::Slot(slot), wires, edges);
 }
 
+/// Whether the list has room for the open edges of any driver.
+fn has_room<const N: usize>(edges: &EdgeList<N>) -> bool
+    ensures room { result ≡ true → length edges.now + 36 ≤ N }
+    ensures full { result ≡ false → N < length edges.now + 36 }
+{
+    N - edges.as_slice().len() >= OF_DRIVER
+}
+
 /// Puts the open edges of the wires that are played into an empty list, those of the controller
-/// first, then by slot, if these slots have a board.
-fn append_all(bus: &BusState, boards: SlotSet, wires: &[u32], edges: &mut EdgeList)
-    requires { edges.old ≡ [] }
-    ensures { OfHistory bus.now (λ version p h. has boards ≡ has_board p
+/// first, then by slot, if these slots have a board. It returns whether the list has them all: it
+/// stops if a driver's might not fit.
+fn append_all<const N: usize>(
+    bus: &BusState,
+    boards: SlotSet,
+    wires: &[u32],
+    edges: &mut EdgeList<N>,
+) -> bool
+    requires empty { edges.old ≡ [] }
+    requires room { 36 ≤ N }
+    ensures all { result ≡ true → OfHistory bus.now (λ version p h. has boards ≡ has_board p
         → edges.new ≡ played version p h wires.now) }
+    ensures fit { 792 ≤ N → result ≡ true }
 {
     append_of(bus, Driver::Controller, wires, edges);
     for below in 0..21_u8 {
+        if !has_room(edges) {
+            return false;
+        }
         append_slot(bus, boards, below + 1, wires, edges);
+    }
+    true
+}
+
+/// Draws one of these edges, if these slots have a board, and counts it; none if there is no edge.
+fn draw_one(draws: &mut Draws, boards: SlotSet, edges: &[Edge]) -> Option<Edge>
+    requires { length edges.now ≤ 792 }
+    ensures edge { result ≡ next_by draws.old (has boards) edges.now }
+    ensures numbers { numbers_of draws.new ≡ after_words 2 (numbers_of draws.old) }
+    ensures weights { draws.new.weights ≡ draws.old.weights }
+    ensures counts { IsCountedIn (has boards) result draws.old draws.new }
+{
+    match draws.draw(boards, edges) {
+        Some(drawn) => {
+            draws.count(boards, &drawn);
+            Some(drawn)
+        }
+        None => None,
+    }
+}
+
+/// Draws the next edge, by a list with room for any open edges.
+#[inline(never)]
+fn draw_of_many(bus: &BusState, boards: SlotSet, draws: &mut Draws, wires: &[u32]) -> Option<Edge>
+    ensures edge { OfHistory bus.now (λ version p h. has boards ≡ has_board p
+        → result ≡ drawn_edge version p h wires.now draws.old) }
+    ensures numbers { numbers_of draws.new ≡ after_words 2 (numbers_of draws.old) }
+    ensures weights { draws.new.weights ≡ draws.old.weights }
+    ensures counts { IsCountedIn (has boards) result draws.old draws.new }
+{
+    let mut edges = EdgeList::<OPEN_EDGES>::new();
+    append_all(bus, boards, wires, &mut edges);
+    draw_one(draws, boards, edges.as_slice())
+}
+
+/// Draws the next edge, by a short list if that has room.
+fn draw_next(bus: &BusState, boards: SlotSet, draws: &mut Draws, wires: &[u32]) -> Option<Edge>
+    ensures edge { OfHistory bus.now (λ version p h. has boards ≡ has_board p
+        → result ≡ drawn_edge version p h wires.now draws.old) }
+    ensures numbers { numbers_of draws.new ≡ after_words 2 (numbers_of draws.old) }
+    ensures weights { draws.new.weights ≡ draws.old.weights }
+    ensures counts { IsCountedIn (has boards) result draws.old draws.new }
+{
+    let mut edges = EdgeList::<FEW_EDGES>::new();
+    if append_all(bus, boards, wires, &mut edges) {
+        draw_one(draws, boards, edges.as_slice())
+    } else {
+        draw_of_many(bus, boards, draws, wires)
     }
 }
 
@@ -96,13 +179,5 @@ pub(crate) fn draw(bus: &BusState, draws: &mut Draws, wires: &[u32]) -> Option<E
 {
     a_draw_gives_one_of_its_edges();
     let boards = boards_on(bus);
-    let mut edges = EdgeList::new();
-    append_all(bus, boards, wires, &mut edges);
-    match draws.draw(boards, edges.as_slice()) {
-        Some(drawn) => {
-            draws.count(boards, &drawn);
-            Some(drawn)
-        }
-        None => None,
-    }
+    draw_next(bus, boards, draws, wires)
 }

@@ -9,7 +9,8 @@ pub returns-then-not-stands_at : goal.returns-then-not-stands_at
 returns-then-not-stands_at c =
     let kept = c.loop-place.invariant in
     let by = sym c.is_same.ensures ∙ c.if-is_same.true in
-    stopped (in_order c.args.backplane.now.history) c.args.log.now c.args.driver c.loop-place.place c.loop-place.at c.edge_at-edge.result c.edge_at-edge.ensures by kept.0 kept.1 c.if-not-stands_at.ensures
+    stopped (in_order c.args.backplane.now.history) c.args.log.now c.args.driver c.loop-place.place c.loop-place.at c.edge_at-edge.result
+    c.edge_at-edge.ensures by kept.0 kept.1 c.if-not-stands_at.ensures
 
 pub loop-place-preserved : goal.loop-place-preserved
 loop-place-preserved c =

@@ -13,7 +13,8 @@ loop-number-preserved g c =
     let seat = c.index-seats-number.result in
     let kept = c.loop-number.invariant in
     let here = driver_at seats n seat (omega arith) c.index-seats-number.is in
-    (length-set numbers at n ∙ kept.0, numbered_more numbers (drivers_of seats) n at (length seats) seat.driver kept.0 kept.1 here c.desk-desk.ensures.sits c.desk-desk.ensures.place c.if-numbers-desk.false (omega arith))
+    let more = numbered_more numbers (drivers_of seats) n at (length seats) seat.driver kept.0 kept.1 here c.desk-desk.ensures.sits c.desk-desk.ensures.place in
+    (length-set numbers at n ∙ kept.0, more c.if-numbers-desk.false (omega arith))
 
 pub returns : goal.returns
 returns g c = all_numbered c.loop-number.numbers c.args.seats.now c.loop-number.number (omega arith) c.loop-number.invariant.1

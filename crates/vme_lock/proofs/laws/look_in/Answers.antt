@@ -15,4 +15,5 @@ returns-clause-answer g c =
     let own = ap (slice_index c.held.inside.counts) c.desk.ensures.place ∙ c.held.invariant.0.counts.counted c.seat.inside.driver c.seat.invariant.2 in
     let b = c.held.inside.backplane in
     let v : View = record { pins = c.pins.result; offers = c.offers.result; own = slice_index c.held.inside.counts c.desk.result; total = c.len.result } in
-    look_seen b _ v (seen_is b c.seat.inside.driver v c.pins.ensures c.offers.ensures own c.len.ensures) (sym own ∙ c.if-own-seat.false) ∙ (λ i. look_answer (c.held.view_is i).board (c.seat.view_is i))
+    look_seen b _ v (seen_is b c.seat.inside.driver v c.pins.ensures c.offers.ensures own c.len.ensures) (sym own ∙ c.if-own-seat.false)
+    ∙ (λ i. look_answer (c.held.view_is i).board (c.seat.view_is i))

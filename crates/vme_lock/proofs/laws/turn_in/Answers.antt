@@ -15,4 +15,5 @@ returns-clause-answer g c =
     let own = ap (slice_index c.held.inside.counts) c.desk.ensures.place ∙ c.held.invariant.0.counts.counted c.seat.inside.driver c.seat.invariant.2 in
     let b = c.held.inside.backplane in
     let v : Turn = record { offer = c.offer-offer.result; total = c.len-total.result } in
-    turn_seen b _ c.args.turn v (turn_is b c.seat.inside.driver c.args.turn v c.offer-offer.ensures c.len-total.ensures) (sym own ∙ c.if-made-seat.false) ∙ (λ i. turn_answer (c.held.view_is i).board (c.seat.view_is i) c.args.turn)
+    turn_seen b _ c.args.turn v (turn_is b c.seat.inside.driver c.args.turn v c.offer-offer.ensures c.len-total.ensures) (sym own ∙ c.if-made-seat.false)
+    ∙ (λ i. turn_answer (c.held.view_is i).board (c.seat.view_is i) c.args.turn)

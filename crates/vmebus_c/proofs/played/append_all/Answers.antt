@@ -1,4 +1,4 @@
-use Rattle.std.proofs.Common.{◌≡◌, ◌∙◌, sym, ap, ℕ, suc, ◌+◌, List, [], ◌∷◌, ◌++◌, map, filter, add-one, arith}
+use Rattle.std.proofs.Common.{◌≡◌, ◌∙◌, sym, ap, ℕ, suc, ◌+◌, ◌<◌, List, [], ◌∷◌, ◌++◌, map, filter, add-one, arith}
 use Rattle.std.specs.List.{flat_map}
 use Rattle.std.proofs.lemmas.Bool.Decides.{nat_tests}
 use Rattle.std.proofs.lemmas.List.{flat_map_more, map-append}
@@ -23,7 +23,7 @@ more : (f : Driver → List Edge) (n : ℕ) → flat_map f (drivers_to n) ++ f (
 more f n = ap (λ (m : ℕ). flat_map f (drivers_to n) ++ f (Slot m)) (add-one n) ∙ one_more f n ∙ ap (λ (m : ℕ). flat_map f (drivers_to m)) (sym (add-one n))
 
 pub loop-below-preserved : goal.loop-below-preserved
-loop-below-preserved c = record {
+loop-below-preserved g c = record {
   listed = λ version p h at is.
       let f : Driver → List Edge = λ d. filter (is_played c.args.wires.now) (open_but_full version p h d) in
       c.append_slot.ensures.items version p h at is
@@ -32,8 +32,14 @@ loop-below-preserved c = record {
   few = omega arith;
 }
 
-pub returns : goal.returns
-returns c = λ version p h at is.
+pub returns-then-not-has_room-clause-fit : goal.returns-then-not-has_room-clause-fit
+returns-then-not-has_room-clause-fit g c = λ enough.
+    let below : c.loop-below.below < 21 = grind (arith, nat_tests, c.loop-below-test.true) in
+    let full = c.has_room.ensures.full (grind (arith, nat_tests)) in
+    absurd (omega (arith, enough, below, full, c.loop-below.invariant.few))
+
+pub returns-clause-all : goal.returns-clause-all
+returns-clause-all g c = λ whole version p h at is.
     let f : Driver → List Edge = λ d. filter (is_played c.args.wires.now) (open_but_full version p h d) in
     let ended : c.loop-below.below ≡ 21 = grind (arith, nat_tests, c.loop-below.auto.below-end, c.loop-below-test.false) in
     c.loop-below.invariant.listed version p h at is ∙ ap (λ (n : ℕ). flat_map f (drivers_to n)) ended

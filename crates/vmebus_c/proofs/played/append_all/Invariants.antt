@@ -10,7 +10,7 @@ use Rattle.vmebus_c.specs.Played.{is_played}
 use Rattle.vmebus_c.proofs.played.append_all.Given as goal
 
 abbrev pub invariant-loop-below : goal.invariant-loop-below
-invariant-loop-below l = record {
+invariant-loop-below g l = record {
   listed : OfHistory l.bus (λ version p h. has l.boards ≡ has_board p → l.edges
       ≡ flat_map (λ d. filter (is_played l.wires) (open_but_full version p h d)) (Controller ∷ map (λ s. Slot s) (up_to l.below)));
   few : length l.edges ≤ 36 + 36 * l.below;

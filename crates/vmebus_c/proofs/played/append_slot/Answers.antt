@@ -9,7 +9,7 @@ use Rattle.vmebus_c.proofs.AllPlayed.{no_edge_without_board}
 use Rattle.vmebus_c.proofs.played.append_slot.Goals as goal
 
 pub returns-then-not-has-clause-items : goal.returns-then-not-has-clause-items
-returns-then-not-has-clause-items c = λ version p h at is.
+returns-then-not-has-clause-items g c = λ version p h at is.
     let none : has c.args.boards c.args.slot ≡ false = grind (arith, nat_tests) in
     let out : has_board p c.args.slot ≡ false = sym (ap (λ (f : ℕ → Bool). f c.args.slot) is) ∙ none in
     sym (append-nil c.args.edges.now)

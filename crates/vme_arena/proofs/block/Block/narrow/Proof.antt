@@ -1,5 +1,8 @@
 -- `narrow` lets the way back hold the places that the block no longer counts. Assumes `Logic`.
-use Rattle.vme_arena.proofs.Steps.{◌≡◌, ◌*◌, ◌≤◌, List, [], ◌∷◌, ◌++◌, refl, ap, ◌∙◌, w64, SProp, emp, Fn, Val, vint, size, WpFn, fact, fact_i, tables, ‵, raw, ◌⊛◌, prop, ◌$◌, ◌∵◌, !, qed, by, move, drop, use0, use1, split, rewrite, regoal, fsplit, fsplit3, fjoin, whole, sub, agg, stop, fld, of_opd, no_more, and_then, returns, enter, alloc_all, pass_all, free_all, look_at, get, get_in, sets, RattleType, owns, Ptr, block_ptr, types_at, nothing, heard, alive, Stays, stay_dropped, walk_of, Goes-blank, Goes-dropped, proved_at, leaves}
+use Rattle.vme_arena.proofs.Steps.{◌≡◌, ◌*◌, ◌≤◌, List, [], ◌∷◌, ◌++◌, refl, ap, ◌∙◌, w64, SProp, emp, Fn, Val, vint, size, WpFn, fact, fact_i, tables, ‵, raw, ◌⊛◌, prop, ◌$◌, ◌∵◌, !, qed, by, move}
+use Rattle.vme_arena.proofs.Steps.{drop, use0, use1, split, rewrite, regoal, fsplit, fsplit3, fjoin, whole, sub, agg, stop, fld, of_opd, no_more, and_then, returns, enter, alloc_all, pass_all}
+use Rattle.vme_arena.proofs.Steps.{free_all, look_at, get, get_in, sets, RattleType, owns, Ptr, block_ptr, types_at, nothing, heard, alive, Stays, stay_dropped, walk_of, Goes-blank, Goes-dropped}
+use Rattle.vme_arena.proofs.Steps.{proved_at, leaves}
 use Rattle.vme_arena.proofs.Parts.{param}
 use mir.Syntax.{Args, a_type}
 use mir.MapTy.{inst_fn}
@@ -27,18 +30,14 @@ narrow_spec 𝓤 𝓛 𝓜 𝓡 wired T L =
     let stays : Stays ps En.kept = (stay_dropped (param 0 ps) En.kept.0, (stay_dropped (param 1 ps) En.kept.1.0, tt)) in
     let c = clauses T 𝓛 𝓜.mem 𝓡.returns in
     let 𝓣 = tables 𝓤 𝓛.H 𝓜 𝓡 𝓡.env in
-    proved_at 𝓛 En stays c 𝓜 𝓡 (Goes-blank 𝓛 1 (param 0 ps) En.kept.0 (λ κs x f. tt), (Goes-dropped 𝓛 1 (param 1 ps) En.kept.1.0 (λ κs x f. refl), tt)) (#self args) fn (compiled.unfolded 𝓤 𝓛.H 𝓜 𝓡 wired (T, tt)) (λ z are.
+    proved_at 𝓛 En stays c 𝓜 𝓡 (Goes-blank 𝓛 1 (param 0 ps) En.kept.0 (λ κs x f. tt), (Goes-dropped 𝓛 1 (param 1 ps) En.kept.1.0 (λ κs x f. refl), tt))
+    (#self args) fn (compiled.unfolded 𝓤 𝓛.H 𝓜 𝓡 wired (T, tt)) (λ z are.
     let Post : Val → SProp 𝓤 = (walk_of 𝓛 En stays c).post z in
-    let a = z.0.3 in
-    let vss = z.0.4 in
+    let a = z.0.3 in let vss = z.0.4 in
     let R : RattleType = parameter 0 T in
     let E : El = record { row = T; laws = L } in
     let s = size (layout T) in
-    let x = a.0 in
-    let t = x.stretch in
-    let len = x.len in
-    let old = x.cap in
-    let new = a.1.0 in
+    let x = a.0 in let t = x.stretch in let len = x.len in let old = x.cap in let new = a.1.0 in
     let xs = x.items in
     let here : Ptr = block_ptr t.block x.at in
     let Within : Type 0 = z.0.0.0 ⊑ T.lives in

@@ -1,5 +1,8 @@
 -- `into_memory` joins the bytes and the tags. Assumes `Logic`.
-use Rattle.vme_arena.proofs.Steps.{◌≡◌, ℕ, ◌+◌, ◌-◌, ◌*◌, ◌^◌, ◌<◌, ◌≤◌, List, [], ◌∷◌, ◌++◌, refl, sym, ap, ◌∙◌, arith, w64, SProp, emp, apply∗, Fn, Val, vint, WpFn, fact, fact_i, tables, sem, ‵, raw, ◌⊛◌, prop, ◌$◌, ◌∵◌, !, qed, by, move, keep, drop, use0, use1, use2, split, split3, rewrite, regoal, fsplit, fjoin, whole, sub, agg, stop, fld, of_opd, no_more, and_then, returns, enter, alloc_all, pass_all, free_all, look_at, get, get_in, sets, owns, Ptr, block_ptr, room_for, types_at, nothing, heard, alive, Stays, stay_dropped, walk_of, Goes-dropped, Goes-blank, proved_at, leaves}
+use Rattle.vme_arena.proofs.Steps.{◌≡◌, ℕ, ◌+◌, ◌-◌, ◌*◌, ◌^◌, ◌<◌, ◌≤◌, List, [], ◌∷◌, ◌++◌, refl, sym, ap, ◌∙◌, arith, w64, SProp, emp, apply∗, Fn, Val, vint, WpFn, fact, fact_i, tables, sem, ‵}
+use Rattle.vme_arena.proofs.Steps.{raw, ◌⊛◌, prop, ◌$◌, ◌∵◌, !, qed, by, move, keep, drop, use0, use1, use2, split, split3, rewrite, regoal, fsplit, fjoin, whole, sub, agg, stop, fld, of_opd}
+use Rattle.vme_arena.proofs.Steps.{no_more, and_then, returns, enter, alloc_all, pass_all, free_all, look_at, get, get_in, sets, owns, Ptr, block_ptr, room_for, types_at, nothing, heard, alive}
+use Rattle.vme_arena.proofs.Steps.{Stays, stay_dropped, walk_of, Goes-dropped, Goes-blank, proved_at, leaves}
 use Rattle.vme_arena.proofs.Parts.{param}
 use Rattle.vme_arena.proofs.Values.{granules_val, granules_told, piece_val, piece_told, memory_val, memory_own, memory_made}
 use Rattle.vme_arena.proofs.Units.{glues, loose_glues}
@@ -19,17 +22,13 @@ into_memory_spec 𝓤 𝓛 𝓜 𝓡 wired =
     let stays : Stays ps ended.kept = (stay_dropped (param 0 ps) ended.kept.0, (stay_dropped (param 1 ps) ended.kept.1.0, (stay_dropped (param 2 ps) ended.kept.1.1.0, tt))) in
     let c = clauses 𝓛 𝓜.mem 𝓡.returns in
     let 𝓣 = tables 𝓤 𝓛.H 𝓜 𝓡 𝓡.env in
-    proved_at 𝓛 ended stays c 𝓜 𝓡 (Goes-blank 𝓛 0 (param 0 ps) ended.kept.0 (λ κs x f. tt), (Goes-blank 𝓛 0 (param 1 ps) ended.kept.1.0 (λ κs x f. tt), (Goes-dropped 𝓛 0 (param 2 ps) ended.kept.1.1.0 (λ κs x f. refl), tt))) #self fn (compiled.unfolded 𝓤 𝓛.H 𝓜 𝓡 wired) (λ z are.
+    proved_at 𝓛 ended stays c 𝓜 𝓡
+    (Goes-blank 𝓛 0 (param 0 ps) ended.kept.0 (λ κs x f. tt), (Goes-blank 𝓛 0 (param 1 ps) ended.kept.1.0 (λ κs x f. tt), (Goes-dropped 𝓛 0 (param 2 ps) ended.kept.1.1.0 (λ κs x f. refl), tt)))
+    #self fn (compiled.unfolded 𝓤 𝓛.H 𝓜 𝓡 wired) (λ z are.
     let Post : Val → SProp 𝓤 = (walk_of 𝓛 ended stays c).post z in
-    let a = z.0.3 in
-    let vss = z.0.4 in
-    let x = a.0 in
-    let n = x.count in
+    let a = z.0.3 in let vss = z.0.4 in let x = a.0 in let n = x.count in
     let s : Spot = x.spot in
-    let b = s.block in
-    let lies = x.placed in
-    let w = a.1.0 in
-    let N = a.1.1.0 in
+    let b = s.block in let lies = x.placed in let w = a.1.0 in let N = a.1.1.0 in
     let m = rounded n in
     let pad = m - n in
     let less : n ≤ m = omega arith in
@@ -46,10 +45,12 @@ into_memory_spec 𝓤 𝓛 𝓜 𝓡 wired =
     rewrite ! 0 (λ (u : Ptr × ℕ). ‵ (units_at u.0 u.1)) (λ j. (at j, with'.2 j)) refl $ move ! (3 ∷ []) $
     use1 𝓛 (‵ (room_for (loose n) tags)) (tags_back 𝓛 b n s.at s.tag) $ move ! (3 ∷ []) $ rewrite ! 0 (λ (k : ℕ). ‵ (padding_at s k)) (omega (arith, is.2)) refl $ fsplit ! $ move ! (2 ∷ 0 ∷ []) $
     use2 𝓛 (‵ (room_for (loose (n + pad)) tags)) (loose_glues 𝓛 b s.tag n pad) $ rewrite ! 0 (λ (k : ℕ). ‵ (room_for (loose k) tags)) (omega (arith, less)) refl $
-    use2 𝓛 (‵ (units_at tags m)) (apply∗ 𝓤 (sem 𝓛 (room_for (loose m) tags)) (sem 𝓛 (units_at tags m))) $ rewrite ! 0 (λ (d : ℕ). ‵ (units_at (block_ptr b d) m)) (omega (arith, is.1)) refl $ move ! (1 ∷ 0 ∷ []) $
+    use2 𝓛 (‵ (units_at tags m)) (apply∗ 𝓤 (sem 𝓛 (room_for (loose m) tags)) (sem 𝓛 (units_at tags m))) $
+    rewrite ! 0 (λ (d : ℕ). ‵ (units_at (block_ptr b d) m)) (omega (arith, is.1)) refl $ move ! (1 ∷ 0 ∷ []) $
     use2 𝓛 (‵ (units_at here (n * 16 + m))) (glues 𝓛 b 0 (n * 16) m (omega arith)) $ rewrite ! 0 (λ (k : ℕ). ‵ (units_at here k)) (sym sized.1) refl $
     -- [the memory; nothing; alive]
-    regoal ! (λ (us : List Val). prop (WpFn 𝓤 𝓛.H 𝓣.C 𝓣.Λ fn us Post)) (λ j. (granules_told x.bytes x.tags vss.0 are.0.0 ∙ (λ k. granules_val (lies.0 k) (lies.1 k) ∷ [])) j ++ ((piece_told w.ptr vss.1.0 are.1.0.0 ∙ ap (λ (r : Ptr). piece_val r ∷ []) at) j ++ (are.1.1.0.0 j ++ []))) refl $
+    regoal ! (λ (us : List Val). prop (WpFn 𝓤 𝓛.H 𝓣.C 𝓣.Λ fn us Post)) (λ j. (granules_told x.bytes x.tags vss.0 are.0.0 ∙ (λ k. granules_val (lies.0 k) (lies.1 k) ∷ [])) j ++
+    ((piece_told w.ptr vss.1.0 are.1.0.0 ∙ ap (λ (r : Ptr). piece_val r ∷ []) at) j ++ (are.1.1.0.0 j ++ []))) refl $
     enter ! 𝓣.C 𝓣.Λ fn (granules_val (block_ptr b s.at) tags ∷ piece_val here ∷ vint w64 N ∷ []) Post $
     alloc_all ! (λ l. pass_all ! refl ((tt, (tt, (tt, tt))), ((tt, (tt, tt)), ((tt, record { fits = are.1.1.0.1 }), tt))) $
     sets ! (of_opd ! (get_in ! (fld ! refl (stop !)) (sub ! 0 refl (whole !)))) refl (tt, tt) $

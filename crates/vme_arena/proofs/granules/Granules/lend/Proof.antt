@@ -1,5 +1,8 @@
 -- `lend` lends what is owned for the rest of the borrow. Assumes `Logic`.
-use Rattle.vme_arena.proofs.Steps.{◌≡◌, List, [], ◌∷◌, ◌++◌, refl, ◌∙◌, arith, full_share, SProp, emp, id⊢, Lft, Share, Fml, ftrue, fat, flft, fbor, Fn, Val, vptr, Env, WpFn, fact, fact_i, tables, ‵, raw, ◌⊛◌, later, prop, ◌$◌, ◌∵◌, !, qed, by, move, keep, drop, use0, use1, use2, use3, split, join, rewrite, regoal, fsplit, fsplit3, fjoin, await, whole, sub, agg, look_in, stop, fld, load, of_opd, no_more, and_then, returns, enter, alloc_all, pass_all, free_all, look_at, get, through, sets, env, RattleType, owns, Ptr, block_ptr, types_at, type_at, nothing, Stays, stay_dropped, walk_of, Goes-dropped, proved_at, leaves}
+use Rattle.vme_arena.proofs.Steps.{◌≡◌, List, [], ◌∷◌, ◌++◌, refl, ◌∙◌, arith, full_share, SProp, emp, id⊢, Lft, Share, Fml, ftrue, fat, flft, fbor, Fn, Val, vptr, Env, WpFn, fact, fact_i, tables}
+use Rattle.vme_arena.proofs.Steps.{‵, raw, ◌⊛◌, later, prop, ◌$◌, ◌∵◌, !, qed, by, move, keep, drop, use0, use1, use2, use3, split, join, rewrite, regoal, fsplit, fsplit3, fjoin, await, whole, sub}
+use Rattle.vme_arena.proofs.Steps.{agg, look_in, stop, fld, load, of_opd, no_more, and_then, returns, enter, alloc_all, pass_all, free_all, look_at, get, through, sets, env, RattleType, owns, Ptr}
+use Rattle.vme_arena.proofs.Steps.{block_ptr, types_at, type_at, nothing, Stays, stay_dropped, walk_of, Goes-dropped, proved_at, leaves}
 use Rattle.vme_arena.proofs.Parts.{param}
 use types.Tokens.{name_done, name_new}
 use denote.Follow.{follows, follows_said}
@@ -24,15 +27,11 @@ lend_spec 𝓤 𝓛 𝓜 𝓡 wired =
     let 𝓣 = tables 𝓤 𝓛.H 𝓜 𝓡 𝓡.env in
     proved_at 𝓛 ended stays c 𝓜 𝓡 (Goes-dropped 𝓛 1 (param 0 ps) ended.kept.0 (λ κs x f. refl), tt) #self fn (compiled.unfolded 𝓤 𝓛.H 𝓜 𝓡 wired) (λ z are.
     let Post : Val → SProp 𝓤 = (walk_of 𝓛 ended stays c).post z in
-    let a = z.0.3 in
-    let vss = z.0.4 in
+    let a = z.0.3 in let vss = z.0.4 in
     let κ : Lft = z.0.0.0 in
     let q : Share = z.0.1.0 in
     let R : RattleType = granules.the_row in
-    let b = a.0.ref_ptr.0 in
-    let o = a.0.ref_ptr.1 in
-    let x = a.0.now in
-    let γ = a.0.ghost_name in
+    let b = a.0.ref_ptr.0 in let o = a.0.ref_ptr.1 in let x = a.0.now in let γ = a.0.ghost_name in
     let n = x.count in
     let s : Spot = x.spot in
     let Home : Fml = homes_at s n in
@@ -47,13 +46,15 @@ lend_spec 𝓤 𝓛 𝓜 𝓡 wired =
     enter ! 𝓣.C 𝓣.Λ fn (vptr b o ∷ []) Post $
     alloc_all ! (λ l. pass_all ! refl ((tt, tt), tt) $ let En : Env 𝓤 𝓛.H = env fn.locals l in
     opens ! tt R b o (λ us. move ! (1 ∷ []) $ fsplit ! $ pure_l ! (granules_own x.bytes x.tags us) (λ w. let told = granules_told x.bytes x.tags us w in fsplit ! $
-    rewrite ! 2 (λ (ws : List Val). ‵ (cell_at full_share R.mir ws b o)) (told ∙ (λ i. granules_val (lies.0 i) (lies.1 i) ∷ [])) refl $ move ! (2 ∷ 0 ∷ 1 ∷ []) $ use1 𝓛 (‵ (fat full_share granules_type b o v)) (id⊢ 𝓤 _) $
+    rewrite ! 2 (λ (ws : List Val). ‵ (cell_at full_share R.mir ws b o)) (told ∙ (λ i. granules_val (lies.0 i) (lies.1 i) ∷ [])) refl $
+    move ! (2 ∷ 0 ∷ 1 ∷ []) $ use1 𝓛 (‵ (fat full_share granules_type b o v)) (id⊢ 𝓤 _) $
     -- [the cell; those at home; the blank ones; the open borrow, in three entries]
     sets ! (of_opd ! (load ! (through ! refl (fld ! refl (stop !))) (look_in ! 0 (sub ! 0 refl (whole !))))) refl (tt, tt) $
     sets ! (of_opd ! (load ! (through ! refl (fld ! refl (stop !))) (look_in ! 0 (sub ! 1 refl (whole !))))) refl (tt, tt) $
     sets ! (agg ! (no_more !)) refl (tt, tt) $
     sets ! (agg ! (and_then ! (get ! refl) (and_then ! (get ! refl) (and_then ! (get ! refl) (no_more !))))) refl (tt, (tt, (tt, (tt, tt)))) $
-    use0 𝓛 (‵ (granules_own x.bytes x.tags (granules_val x.bytes x.tags ∷ []))) (granules_made 𝓛 x.bytes x.tags) $ rewrite ! 0 (λ (r : Ptr × Ptr). ‵ (granules_own x.bytes x.tags (granules_val r.0 r.1 ∷ []))) (λ i. (lies.0 i, lies.1 i)) refl $
+    use0 𝓛 (‵ (granules_own x.bytes x.tags (granules_val x.bytes x.tags ∷ []))) (granules_made 𝓛 x.bytes x.tags) $
+    rewrite ! 0 (λ (r : Ptr × Ptr). ‵ (granules_own x.bytes x.tags (granules_val r.0 r.1 ∷ []))) (λ i. (lies.0 i, lies.1 i)) refl $
     move ! (1 ∷ 6 ∷ []) $ join ! $ move ! (1 ∷ 0 ∷ []) $ join ! $ move ! (2 ∷ 0 ∷ []) $ join ! $ move ! (2 ∷ 1 ∷ 0 ∷ []) $
     use3 𝓛 (later (‵ (fbor κ Home) ⊛ ‵ (flft κ q))) (lends 𝓛 κ q x b o γ v) $ await ! tt $ split ! $
     -- [the borrow; the token; the last value of self]
@@ -64,5 +65,6 @@ lend_spec 𝓤 𝓛 𝓜 𝓡 wired =
     let y : L.Denot = record { bytes = here; tags = tags; marker = record {}; count = n; spot = s; placed = (refl, refl, omega arith, omega arith); name = γ' } in
     let Shown : Type 0 = (n ≡ n) × (s ≡ s) in
     move ! (1 ∷ []) $ use0 𝓛 (‵ (loan_own here tags (u ∷ []))) (loan_made 𝓛 here tags) $ fjoin ! $
-    keep ! (2 ∷ 4 ∷ 0 ∷ 1 ∷ []) $ join ! $ move ! (2 ∷ []) $ use0 𝓛 (raw (fact 𝓤 Shown)) (fact_i 𝓤 Shown (emp 𝓤) (refl, refl)) $ join ! $ nothing ! $ nothing ! $ fjoin ! $ move ! (2 ∷ 0 ∷ 3 ∷ 1 ∷ []) $
+    keep ! (2 ∷ 4 ∷ 0 ∷ 1 ∷ []) $ join ! $ move ! (2 ∷ []) $ use0 𝓛 (raw (fact 𝓤 Shown)) (fact_i 𝓤 Shown (emp 𝓤) (refl, refl)) $
+    join ! $ nothing ! $ nothing ! $ fjoin ! $ move ! (2 ∷ 0 ∷ 3 ∷ 1 ∷ []) $
     by ! (leaves 𝓛 ended stays c z u y (tt, tt) (tt, tt)))))))

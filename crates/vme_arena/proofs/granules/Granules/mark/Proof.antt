@@ -1,5 +1,9 @@
 -- `mark` writes the tag of a blank granule. Assumes `Logic`.
-use Rattle.vme_arena.proofs.Steps.{◌≡◌, ℕ, suc, ◌+◌, ◌-◌, ◌*◌, ◌<◌, List, [], ◌∷◌, ◌++◌, Bool, true, refl, ap, ◌∙◌, arith, lit<, w8, w64, full_share, SProp, emp, fat, fsep, froom, Fn, ty_int, Val, vint, vptr, Env, WpFn, fact, fact_i, tables, ‵, raw, ◌⊛◌, prop, at_ret, ◌$◌, ◌∵◌, !, qed, by, move, keep, drop, use0, use1, use2, split, rewrite, regoal, fsplit, fjoin, fpack, whole, sub, agg, stop, fld, lit, bin, init, of_opd, no_more, and_then, assigns_last, first, blocks, exec, returns, enter, alloc_all, pass_all, free_all, look_at, get, get_in, through, sets, is, env, owns, Ptr, block_ptr, room_for, types_at, nothing, heard, alive, Stays, stay_dropped, walk_of, Goes-dropped, Goes-blank, after, proved_at, leaves}
+use Rattle.vme_arena.proofs.Steps.{◌≡◌, ℕ, suc, ◌+◌, ◌-◌, ◌*◌, ◌<◌, List, [], ◌∷◌, ◌++◌, Bool, true, refl, ap, ◌∙◌, arith, lit<, w8, w64, full_share, SProp, emp, fat, fsep, froom, Fn, ty_int, Val}
+use Rattle.vme_arena.proofs.Steps.{vint, vptr, Env, WpFn, fact, fact_i, tables, ‵, raw, ◌⊛◌, prop, at_ret, ◌$◌, ◌∵◌, !, qed, by, move, keep, drop, use0, use1, use2, split, rewrite, regoal, fsplit}
+use Rattle.vme_arena.proofs.Steps.{fjoin, fpack, whole, sub, agg, stop, fld, lit, bin, init, of_opd, no_more, and_then, assigns_last, first, blocks, exec, returns, enter, alloc_all, pass_all}
+use Rattle.vme_arena.proofs.Steps.{free_all, look_at, get, get_in, through, sets, is, env, owns, Ptr, block_ptr, room_for, types_at, nothing, heard, alive, Stays, stay_dropped, walk_of}
+use Rattle.vme_arena.proofs.Steps.{Goes-dropped, Goes-blank, after, proved_at, leaves}
 use Rattle.vme_arena.proofs.Parts.{param}
 use Rattle.vme_arena.proofs.Values.{granules_val, granules_own, granules_told, granules_made}
 use Rattle.vme_arena.proofs.Units.{cuts}
@@ -18,12 +22,10 @@ mark_spec 𝓤 𝓛 𝓜 𝓡 wired =
     let stays : Stays ps ended.kept = (stay_dropped (param 0 ps) ended.kept.0, (stay_dropped (param 1 ps) ended.kept.1.0, tt)) in
     let c = clauses 𝓛 𝓜.mem 𝓡.returns in
     let 𝓣 = tables 𝓤 𝓛.H 𝓜 𝓡 𝓡.env in
-    proved_at 𝓛 ended stays c 𝓜 𝓡 (Goes-blank 𝓛 0 (param 0 ps) ended.kept.0 (λ κs x f. tt), (Goes-dropped 𝓛 0 (param 1 ps) ended.kept.1.0 (λ κs x f. refl), tt)) #self fn (compiled.unfolded 𝓤 𝓛.H 𝓜 𝓡 wired) (λ z are.
+    proved_at 𝓛 ended stays c 𝓜 𝓡 (Goes-blank 𝓛 0 (param 0 ps) ended.kept.0 (λ κs x f. tt), (Goes-dropped 𝓛 0 (param 1 ps) ended.kept.1.0 (λ κs x f. refl), tt)) #self fn
+    (compiled.unfolded 𝓤 𝓛.H 𝓜 𝓡 wired) (λ z are.
     let Post : Val → SProp 𝓤 = (walk_of 𝓛 ended stays c).post z in
-    let a = z.0.3 in
-    let vss = z.0.4 in
-    let x = a.0 in
-    let n = x.count in
+    let a = z.0.3 in let vss = z.0.4 in let x = a.0 in let n = x.count in
     let s : Spot = x.spot in
     let b = s.block in
     let lies = x.placed in let low = lies.2 in let high = lies.3 in
@@ -44,7 +46,8 @@ mark_spec 𝓤 𝓛 𝓜 𝓡 wired =
     move ! (2 ∷ 0 ∷ 5 ∷ 1 ∷ 3 ∷ 4 ∷ 7 ∷ []) $
     -- [the tag; the granule; those at home; the other granules; their tags; the padding; alive;
     -- nothing]
-    regoal ! (λ (us : List Val). prop (WpFn 𝓤 𝓛.H 𝓣.C 𝓣.Λ fn us Post)) (λ j. (granules_told x.bytes x.tags vss.0 are.0.0 ∙ (λ k. granules_val (lies.0 k) (lies.1 k) ∷ [])) j ++ (are.1.0.0 j ++ [])) refl $
+    regoal ! (λ (us : List Val). prop (WpFn 𝓤 𝓛.H 𝓣.C 𝓣.Λ fn us Post))
+    (λ j. (granules_told x.bytes x.tags vss.0 are.0.0 ∙ (λ k. granules_val (lies.0 k) (lies.1 k) ∷ [])) j ++ (are.1.0.0 j ++ [])) refl $
     enter ! 𝓣.C 𝓣.Λ fn (granules_val here tags ∷ vint w64 i ∷ []) Post $
     alloc_all ! (λ l. pass_all ! refl ((tt, (tt, (tt, tt))), ((tt, record { fits = are.1.0.1 }), tt)) $ let En : Env 𝓤 𝓛.H = env fn.locals l in
     sets ! (of_opd ! (get_in ! (fld ! refl (stop !)) (sub ! 0 refl (whole !)))) refl (tt, tt) $

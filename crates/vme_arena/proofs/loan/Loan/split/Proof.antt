@@ -1,5 +1,9 @@
 -- `split` cuts what is lent. Assumes `Logic`.
-use Rattle.vme_arena.proofs.Steps.{◌≡◌, ℕ, ◌+◌, ◌-◌, ◌*◌, ◌≤◌, List, [], ◌∷◌, ◌++◌, refl, sym, ap, ◌∙◌, arith, w64, SProp, emp, Lft, Share, ftrue, flft, fbor, Fn, Val, vint, vptr, Env, WpFn, fact, fact_i, tables, ‵, raw, ◌⊛◌, later, prop, at_ret, ◌$◌, ◌∵◌, !, qed, by, move, keep, drop, use0, use2, split, split3, join, rewrite, regoal, fsplit, fjoin, await, whole, sub, agg, stop, fld, lit, bin, of_opd, no_more, and_then, first, blocks, exec, returns, enter, alloc_all, pass_all, free_all, look_at, get, get_in, sets, sets_last, is, env, RattleType, owns, Ptr, block_ptr, types_at, type_at, nothing, heard, Tuple, Stays, stay_dropped, walk_of, Goes-dropped, Goes-blank, after, pair_of, pair_val, proved_at, leaves}
+use Rattle.vme_arena.proofs.Steps.{◌≡◌, ℕ, ◌+◌, ◌-◌, ◌*◌, ◌≤◌, List, [], ◌∷◌, ◌++◌, refl, sym, ap, ◌∙◌, arith, w64, SProp, emp, Lft, Share, ftrue, flft, fbor, Fn, Val, vint, vptr, Env, WpFn, fact}
+use Rattle.vme_arena.proofs.Steps.{fact_i, tables, ‵, raw, ◌⊛◌, later, prop, at_ret, ◌$◌, ◌∵◌, !, qed, by, move, keep, drop, use0, use2, split, split3, join, rewrite, regoal, fsplit, fjoin, await}
+use Rattle.vme_arena.proofs.Steps.{whole, sub, agg, stop, fld, lit, bin, of_opd, no_more, and_then, first, blocks, exec, returns, enter, alloc_all, pass_all, free_all, look_at, get, get_in, sets}
+use Rattle.vme_arena.proofs.Steps.{sets_last, is, env, RattleType, owns, Ptr, block_ptr, types_at, type_at, nothing, heard, Tuple, Stays, stay_dropped, walk_of, Goes-dropped, Goes-blank, after}
+use Rattle.vme_arena.proofs.Steps.{pair_of, pair_val, proved_at, leaves}
 use Rattle.vme_arena.proofs.Parts.{param}
 use Rattle.vme_arena.proofs.Values.{loan_val, loan_own, loan_told, loan_made}
 use Rattle.vme_arena.proofs.Homes.{cut_loan}
@@ -16,14 +20,13 @@ split_spec 𝓤 𝓛 𝓜 𝓡 wired =
     let stays : Stays ps ended.kept = (stay_dropped (param 0 ps) ended.kept.0, (stay_dropped (param 1 ps) ended.kept.1.0, tt)) in
     let c = clauses 𝓛 𝓜.mem 𝓡.returns in
     let 𝓣 = tables 𝓤 𝓛.H 𝓜 𝓡 𝓡.env in
-    proved_at 𝓛 ended stays c 𝓜 𝓡 (Goes-blank 𝓛 1 (param 0 ps) ended.kept.0 (λ κs x f. tt), (Goes-dropped 𝓛 1 (param 1 ps) ended.kept.1.0 (λ κs x f. refl), tt)) #self fn (compiled.unfolded 𝓤 𝓛.H 𝓜 𝓡 wired) (λ z are.
+    proved_at 𝓛 ended stays c 𝓜 𝓡 (Goes-blank 𝓛 1 (param 0 ps) ended.kept.0 (λ κs x f. tt), (Goes-dropped 𝓛 1 (param 1 ps) ended.kept.1.0 (λ κs x f. refl), tt)) #self fn
+    (compiled.unfolded 𝓤 𝓛.H 𝓜 𝓡 wired) (λ z are.
     let Post : Val → SProp 𝓤 = (walk_of 𝓛 ended stays c).post z in
-    let a = z.0.3 in
-    let vss = z.0.4 in
+    let a = z.0.3 in let vss = z.0.4 in
     let κ : Lft = z.0.0.0 in
     let q : Share = z.0.1.0 in
-    let x = a.0 in
-    let n = x.count in
+    let x = a.0 in let n = x.count in
     let s : Spot = x.spot in
     let lies = x.placed in let low = lies.2 in let high = lies.3 in
     let here : Ptr = block_ptr s.block s.at in
@@ -54,10 +57,14 @@ split_spec 𝓤 𝓛 𝓜 𝓡 wired =
     returns ! (look_at ! 0 refl) $ free_all ! refl $
     let R : RattleType = type_at (param 0 ps) z.0.0 in
     let y : R.Denot = record { bytes = here; tags = tags; marker = record {}; count = f; spot = s; placed = (refl, refl, omega arith, omega arith); name = x.name } in
-    let w : R.Denot = record { bytes = next; tags = tags'; marker = record {}; count = m; spot = record { block = s.block; at = s.at + far; tag = s.tag + f }; placed = (refl, refl, omega arith, omega arith); name = x.name } in
+    let w : R.Denot = record
+    { bytes = next; tags = tags'; marker = record {}; count = m; spot = record { block = s.block; at = s.at + far; tag = s.tag + f }; placed = (refl, refl, omega arith, omega arith); name = x.name }
+    in
     let Front : Type 0 = (f ≡ f) × (s ≡ s) in
     let Behind : Type 0 = (f + m ≡ n) × (s.block ≡ s.block) × (s.at + far ≡ s.at + far) in
-    use0 𝓛 (‵ (loan_own here tags (loan_val here tags ∷ []))) (loan_made 𝓛 here tags) $ fjoin ! $ move ! (1 ∷ []) $ use0 𝓛 (‵ (loan_own next tags' (loan_val next tags' ∷ []))) (loan_made 𝓛 next tags') $ fjoin ! $ move ! (0 ∷ 1 ∷ []) $
+    use0 𝓛 (‵ (loan_own here tags (loan_val here tags ∷ []))) (loan_made 𝓛 here tags) $ fjoin ! $ move ! (1 ∷ []) $
+    use0 𝓛 (‵ (loan_own next tags' (loan_val next tags' ∷ []))) (loan_made 𝓛 next tags') $ fjoin ! $ move ! (0 ∷ 1 ∷ []) $
     use2 𝓛 (‵ ((Tuple (R ∷ R ∷ [])).own_val (w, y) (pair_val (loan_val next tags') (loan_val here tags) ∷ []))) (pair_of 𝓛 R R w y (loan_val next tags') (loan_val here tags)) $
-    keep ! (1 ∷ 3 ∷ 0 ∷ []) $ join ! $ move ! (1 ∷ 0 ∷ []) $ use0 𝓛 (raw (fact 𝓤 Behind)) (fact_i 𝓤 Behind (emp 𝓤) (sym sum, refl, refl)) $ use0 𝓛 (raw (fact 𝓤 Front)) (fact_i 𝓤 Front (emp 𝓤) (refl, refl)) $ join ! $ nothing ! $ nothing ! $ fjoin ! $ nothing ! $ fjoin ! $ move ! (3 ∷ 0 ∷ 2 ∷ 1 ∷ []) $
+    keep ! (1 ∷ 3 ∷ 0 ∷ []) $ join ! $ move ! (1 ∷ 0 ∷ []) $ use0 𝓛 (raw (fact 𝓤 Behind)) (fact_i 𝓤 Behind (emp 𝓤) (sym sum, refl, refl)) $
+    use0 𝓛 (raw (fact 𝓤 Front)) (fact_i 𝓤 Front (emp 𝓤) (refl, refl)) $ join ! $ nothing ! $ nothing ! $ fjoin ! $ nothing ! $ fjoin ! $ move ! (3 ∷ 0 ∷ 2 ∷ 1 ∷ []) $
     by ! (leaves 𝓛 ended stays c z (pair_val (loan_val next tags') (loan_val here tags)) (w, y) (tt, (tt, tt)) (tt, (tt, tt))))))

@@ -1,5 +1,10 @@
 -- `take` opens what is lent, and takes a granule whose tag is set. Assumes `Logic`.
-use Rattle.vme_arena.proofs.Steps.{◌≡◌, ◌+◌, ◌*◌, ◌<◌, List, [], ◌∷◌, ◌++◌, Bool, false, Some, None, refl, ap, ◌∙◌, arith, lit<, w8, w64, full_share, SProp, emp, wand, apply∗, Lft, Share, Fml, ftrue, fat, fsep, flft, Fn, ty_int, Val, vint, vptr, vcons, vnil, Env, WpFn, fact, fact_i, tables, sem, ‵, raw, ◌⊛◌, prop, at_ret, ◌$◌, ◌∵◌, !, qed, by, move, keep, drop, use0, use1, use2, split, join, rewrite, regoal, fsplit, fjoin, fpick, fpack, whole, sub, agg, live, stop, fld, lit, bin, load, look, store, of_opd, no_more, and_then, assigns, first, blocks, branches, exec, returns, enter, alloc_all, pass_all, free_all, look_at, get, get_in, through, sets, sets_last, is, env, bor_open, obor_close, RattleType, owns, Ptr, block_ptr, types_at, type_at, nothing, heard, Tuple, Stays, stay_dropped, walk_of, Goes-dropped, Goes-blank, after, head, inside, Some-of, none_of, pair_of, pair_val, proved_at, leaves}
+use Rattle.vme_arena.proofs.Steps.{◌≡◌, ◌+◌, ◌*◌, ◌<◌, List, [], ◌∷◌, ◌++◌, Bool, false, Some, None, refl, ap, ◌∙◌, arith, lit<, w8, w64, full_share, SProp, emp, wand, apply∗, Lft, Share, Fml}
+use Rattle.vme_arena.proofs.Steps.{ftrue, fat, fsep, flft, Fn, ty_int, Val, vint, vptr, vcons, vnil, Env, WpFn, fact, fact_i, tables, sem, ‵, raw, ◌⊛◌, prop, at_ret, ◌$◌, ◌∵◌, !, qed, by, move}
+use Rattle.vme_arena.proofs.Steps.{keep, drop, use0, use1, use2, split, join, rewrite, regoal, fsplit, fjoin, fpick, fpack, whole, sub, agg, live, stop, fld, lit, bin, load, look, store, of_opd}
+use Rattle.vme_arena.proofs.Steps.{no_more, and_then, assigns, first, blocks, branches, exec, returns, enter, alloc_all, pass_all, free_all, look_at, get, get_in, through, sets, sets_last, is, env}
+use Rattle.vme_arena.proofs.Steps.{bor_open, obor_close, RattleType, owns, Ptr, block_ptr, types_at, type_at, nothing, heard, Tuple, Stays, stay_dropped, walk_of, Goes-dropped, Goes-blank, after}
+use Rattle.vme_arena.proofs.Steps.{head, inside, Some-of, none_of, pair_of, pair_val, proved_at, leaves}
 use Rattle.vme_arena.proofs.Parts.{param, going_on, leaving}
 use Rattle.vme_arena.proofs.Values.{loan_val, loan_own, loan_told, loan_made, piece_val, piece_own, piece_made}
 use Rattle.vme_arena.proofs.Homes.{reaches, tag_fits, is_home}
@@ -18,16 +23,14 @@ take_spec 𝓤 𝓛 𝓜 𝓡 wired =
     let stays : Stays ps ended.kept = (stay_dropped (param 0 ps) ended.kept.0, (stay_dropped (param 1 ps) ended.kept.1.0, tt)) in
     let c = clauses 𝓛 𝓜.mem 𝓡.returns in
     let 𝓣 = tables 𝓤 𝓛.H 𝓜 𝓡 𝓡.env in
-    let C = 𝓣.C in
-    let Λ = 𝓣.Λ in
-    proved_at 𝓛 ended stays c 𝓜 𝓡 (Goes-blank 𝓛 1 (param 0 ps) ended.kept.0 (λ κs x f. tt), (Goes-dropped 𝓛 1 (param 1 ps) ended.kept.1.0 (λ κs x f. refl), tt)) #self fn (compiled.unfolded 𝓤 𝓛.H 𝓜 𝓡 wired) (λ z are.
+    let C = 𝓣.C in let Λ = 𝓣.Λ in
+    proved_at 𝓛 ended stays c 𝓜 𝓡 (Goes-blank 𝓛 1 (param 0 ps) ended.kept.0 (λ κs x f. tt), (Goes-dropped 𝓛 1 (param 1 ps) ended.kept.1.0 (λ κs x f. refl), tt)) #self fn
+    (compiled.unfolded 𝓤 𝓛.H 𝓜 𝓡 wired) (λ z are.
     let Post : Val → SProp 𝓤 = (walk_of 𝓛 ended stays c).post z in
-    let a = z.0.3 in
-    let vss = z.0.4 in
+    let a = z.0.3 in let vss = z.0.4 in
     let κ : Lft = z.0.0.0 in
     let q : Share = z.0.1.0 in
-    let x = a.0 in
-    let n = x.count in
+    let x = a.0 in let n = x.count in
     let s : Spot = x.spot in
     let lies = x.placed in let low = lies.2 in let high = lies.3 in
     let b = s.block in
@@ -67,13 +70,16 @@ take_spec 𝓤 𝓛 𝓜 𝓡 wired =
     sets_last ! (of_opd ! (get ! refl)) refl (tt, ((tt, (tt, (tt, tt))), ((record { fits = lit< tt }, tt), tt))) $
     exec ! C Λ En (after 5 fn.body) (at_ret En Post) $
     sets ! (of_opd ! (get ! refl)) refl (tt, ((tt, (tt, (tt, tt))), ((record { fits = lit< tt }, tt), tt))) $
-    fjoin ! $ fpack ! Bool (λ u. fsep (fat full_share (ty_int w8) b Y (vint w8 (bit u))) (only_if u (units_at p 16))) t $ use2 𝓛 (‵ All) (apply∗ 𝓤 (sem 𝓛 Gr) (sem 𝓛 All)) $ move ! (1 ∷ 0 ∷ []) $ obor_close ! tt $
+    fjoin ! $ fpack ! Bool (λ u. fsep (fat full_share (ty_int w8) b Y (vint w8 (bit u))) (only_if u (units_at p 16))) t $
+    use2 𝓛 (‵ All) (apply∗ 𝓤 (sem 𝓛 Gr) (sem 𝓛 All)) $ move ! (1 ∷ 0 ∷ []) $ obor_close ! tt $
     returns ! (look_at ! 0 refl) $ free_all ! refl $
     let Shown : Type 0 = (x ≡ x) × Unit {0} in
-    use0 𝓛 (‵ (loan_own x.bytes x.tags (loan_val x.bytes x.tags ∷ []))) (loan_made 𝓛 x.bytes x.tags) $ rewrite ! 0 (λ (u : Ptr × Ptr). ‵ (loan_own x.bytes x.tags (loan_val u.0 u.1 ∷ []))) (λ j. (lies.0 j, lies.1 j)) refl $ fjoin ! $
+    use0 𝓛 (‵ (loan_own x.bytes x.tags (loan_val x.bytes x.tags ∷ []))) (loan_made 𝓛 x.bytes x.tags) $
+    rewrite ! 0 (λ (u : Ptr × Ptr). ‵ (loan_own x.bytes x.tags (loan_val u.0 u.1 ∷ []))) (λ j. (lies.0 j, lies.1 j)) refl $ fjoin ! $
     use0 𝓛 (‵ (Opt.own_val None (live 0 vnil ∷ []))) (none_of 𝓛 piece.the_row) $ move ! (1 ∷ 0 ∷ []) $
     use2 𝓛 (‵ ((Tuple (R ∷ Opt ∷ [])).own_val (x, None) (pair_val v (live 0 vnil) ∷ []))) (pair_of 𝓛 R Opt x None v (live 0 vnil)) $
-    keep ! (1 ∷ 3 ∷ 0 ∷ []) $ join ! $ move ! (1 ∷ 0 ∷ []) $ use0 𝓛 (raw (fact 𝓤 Shown)) (fact_i 𝓤 Shown (emp 𝓤) (refl, tt)) $ nothing ! $ nothing ! $ fjoin ! $ nothing ! $ fjoin ! $ move ! (3 ∷ 0 ∷ 2 ∷ 1 ∷ []) $
+    keep ! (1 ∷ 3 ∷ 0 ∷ []) $ join ! $ move ! (1 ∷ 0 ∷ []) $ use0 𝓛 (raw (fact 𝓤 Shown)) (fact_i 𝓤 Shown (emp 𝓤) (refl, tt)) $
+    nothing ! $ nothing ! $ fjoin ! $ nothing ! $ fjoin ! $ move ! (3 ∷ 0 ∷ 2 ∷ 1 ∷ []) $
     by ! (leaves 𝓛 ended stays c z (pair_val v (live 0 vnil)) (x, None) (tt, (tt, tt)) (tt, (tt, tt))))
     (λ there. assigns ! (of_opd ! (lit ! tt)) (through ! refl (stop !)) (store ! 0 refl (tt, record { fits = lit< tt })) $
     rewrite ! 1 (λ (u : Bool). ‵ (only_if u (units_at p 16))) (is_home t there) refl $
@@ -85,14 +91,17 @@ take_spec 𝓤 𝓛 𝓜 𝓡 wired =
     sets_last ! (of_opd ! (get ! refl)) refl (tt, ((tt, (tt, (tt, tt))), ((record { fits = lit< tt }, ((tt, tt), tt)), tt))) $
     exec ! C Λ En (after 5 fn.body) (at_ret En Post) $
     sets ! (of_opd ! (get ! refl)) refl (tt, ((tt, (tt, (tt, tt))), ((record { fits = lit< tt }, ((tt, tt), tt)), tt))) $
-    move ! (1 ∷ 0 ∷ []) $ nothing ! $ move ! (2 ∷ 0 ∷ 3 ∷ 4 ∷ 1 ∷ []) $ fjoin ! $ fpack ! Bool (λ u. fsep (fat full_share (ty_int w8) b Y (vint w8 (bit u))) (only_if u (units_at p 16))) false $ use2 𝓛 (‵ All) (apply∗ 𝓤 (sem 𝓛 Gr) (sem 𝓛 All)) $ move ! (1 ∷ 0 ∷ []) $ obor_close ! tt $
+    move ! (1 ∷ 0 ∷ []) $ nothing ! $ move ! (2 ∷ 0 ∷ 3 ∷ 4 ∷ 1 ∷ []) $ fjoin ! $ fpack ! Bool (λ u. fsep (fat full_share (ty_int w8) b Y (vint w8 (bit u))) (only_if u (units_at p 16))) false $
+    use2 𝓛 (‵ All) (apply∗ 𝓤 (sem 𝓛 Gr) (sem 𝓛 All)) $ move ! (1 ∷ 0 ∷ []) $ obor_close ! tt $
     returns ! (look_at ! 0 refl) $ free_all ! refl $
     let w : (piece.the_row).Denot = record { ptr = p; block = b; at = X; size = 16; placed = (refl, omega arith, refl) } in
     let Shown : Type 0 = (x ≡ x) × ((b ≡ b) × (X ≡ X) × (w.size ≡ 16)) in
     let u : Val = live 1 (vcons (piece_val p) vnil) in
     move ! (2 ∷ []) $ use0 𝓛 (‵ (piece_own p (piece_val p ∷ []))) (piece_made 𝓛 p) $ fjoin ! $ use1 𝓛 (‵ (Opt.own_val (Some w) (u ∷ []))) (Some-of 𝓛 piece.the_row w (piece_val p)) $ move ! (1 ∷ []) $
-    use0 𝓛 (‵ (loan_own x.bytes x.tags (loan_val x.bytes x.tags ∷ []))) (loan_made 𝓛 x.bytes x.tags) $ rewrite ! 0 (λ (u : Ptr × Ptr). ‵ (loan_own x.bytes x.tags (loan_val u.0 u.1 ∷ []))) (λ j. (lies.0 j, lies.1 j)) refl $ fjoin ! $
+    use0 𝓛 (‵ (loan_own x.bytes x.tags (loan_val x.bytes x.tags ∷ []))) (loan_made 𝓛 x.bytes x.tags) $
+    rewrite ! 0 (λ (u : Ptr × Ptr). ‵ (loan_own x.bytes x.tags (loan_val u.0 u.1 ∷ []))) (λ j. (lies.0 j, lies.1 j)) refl $ fjoin ! $
     move ! (0 ∷ 1 ∷ []) $
     use2 𝓛 (‵ ((Tuple (R ∷ Opt ∷ [])).own_val (x, Some w) (pair_val v u ∷ []))) (pair_of 𝓛 R Opt x (Some w) v u) $
-    keep ! (1 ∷ 3 ∷ 0 ∷ []) $ join ! $ move ! (1 ∷ 0 ∷ []) $ use0 𝓛 (raw (fact 𝓤 Shown)) (fact_i 𝓤 Shown (emp 𝓤) (refl, (refl, refl, refl))) $ nothing ! $ nothing ! $ fjoin ! $ nothing ! $ fjoin ! $ move ! (3 ∷ 0 ∷ 2 ∷ 1 ∷ []) $
+    keep ! (1 ∷ 3 ∷ 0 ∷ []) $ join ! $ move ! (1 ∷ 0 ∷ []) $ use0 𝓛 (raw (fact 𝓤 Shown)) (fact_i 𝓤 Shown (emp 𝓤) (refl, (refl, refl, refl))) $
+    nothing ! $ nothing ! $ fjoin ! $ nothing ! $ fjoin ! $ move ! (3 ∷ 0 ∷ 2 ∷ 1 ∷ []) $
     by ! (leaves 𝓛 ended stays c z (pair_val v u) (x, Some w) (tt, (tt, tt)) (tt, (tt, tt))))))))

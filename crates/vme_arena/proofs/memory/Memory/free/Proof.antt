@@ -1,5 +1,9 @@
 -- `free` gives the bytes back with the right to do so. Assumes `Logic`.
-use Rattle.vme_arena.proofs.Steps.{◌≡◌, ℕ, ◌*◌, ◌/◌, List, [], ◌∷◌, ◌++◌, refl, ap, ◌∙◌, arith, lit<, SProp, never, id⊢, Lft, Share, ftrue, flft, Ty, Fn, Val, vptr, vunit, capped_is, Env, WpFn, fact, tables, ‵, raw, ◌⊛◌, given, later, prop, at_ret, settles, ◌$◌, ◌∵◌, !, qed, by, move, drop, use1, use3, split, join, learn, rewrite, regoal, fsplit, fsplit3, fjoin, feq_i, await, whole, sub, stop, fld, lit, unit_lit, of_opd, no_more, and_then, first, blocks, exec, returns, enter, alloc_all, pass_all, free_all, look_at, get, get_in, sets, lands_last, env, owns, Ptr, block_ptr, in_a_block, types_at, nothing, heard, alive, Stays, stay_dropped, walk_of, Goes-dropped, Goes-blank, after, fm, proved_at, leaves}
+use Rattle.vme_arena.proofs.Steps.{◌≡◌, ℕ, ◌*◌, ◌/◌, List, [], ◌∷◌, ◌++◌, refl, ap, ◌∙◌, arith, lit<, SProp, never, id⊢, Lft, Share, ftrue, flft, Ty, Fn, Val, vptr, vunit, capped_is, Env, WpFn}
+use Rattle.vme_arena.proofs.Steps.{fact, tables, ‵, raw, ◌⊛◌, given, later, prop, at_ret, settles, ◌$◌, ◌∵◌, !, qed, by, move, drop, use1, use3, split, join, learn, rewrite, regoal, fsplit, fsplit3}
+use Rattle.vme_arena.proofs.Steps.{fjoin, feq_i, await, whole, sub, stop, fld, lit, unit_lit, of_opd, no_more, and_then, first, blocks, exec, returns, enter, alloc_all, pass_all, free_all, look_at}
+use Rattle.vme_arena.proofs.Steps.{get, get_in, sets, lands_last, env, owns, Ptr, block_ptr, in_a_block, types_at, nothing, heard, alive, Stays, stay_dropped, walk_of, Goes-dropped, Goes-blank}
+use Rattle.vme_arena.proofs.Steps.{after, fm, proved_at, leaves}
 use Rattle.vme_arena.proofs.Parts.{param, going_on, leaving}
 use mir.Syntax.{Args, a_type, dcons, dnil, place}
 use mir.MapTy.{inst_fn}
@@ -23,20 +27,17 @@ free_spec 𝓤 𝓛 𝓜 𝓡 wired A L g d dd met md =
     let stays : Stays ps En.kept = (stay_dropped (param 0 ps) En.kept.0, (stay_dropped (param 1 ps) En.kept.1.0, (stay_dropped (param 2 ps) En.kept.1.1.0, tt))) in
     let c = clauses A g d dd 𝓛 𝓜.mem 𝓡.returns in
     let 𝓣 = tables 𝓤 𝓛.H 𝓜 𝓡 𝓡.env in
-    proved_at 𝓛 En stays c 𝓜 𝓡 (Goes-blank 𝓛 2 (param 0 ps) En.kept.0 (λ κs x f. tt), (Goes-blank 𝓛 2 (param 1 ps) En.kept.1.0 (λ κs x f. tt), (Goes-dropped 𝓛 2 (param 2 ps) En.kept.1.1.0 (λ κs x f. refl), tt))) (#self args) fn (compiled.unfolded 𝓤 𝓛.H 𝓜 𝓡 wired (A, tt) d dd) (λ z are.
+    proved_at 𝓛 En stays c 𝓜 𝓡
+    (Goes-blank 𝓛 2 (param 0 ps) En.kept.0 (λ κs x f. tt), (Goes-blank 𝓛 2 (param 1 ps) En.kept.1.0 (λ κs x f. tt), (Goes-dropped 𝓛 2 (param 2 ps) En.kept.1.1.0 (λ κs x f. refl), tt)))
+    (#self args) fn (compiled.unfolded 𝓤 𝓛.H 𝓜 𝓡 wired (A, tt) d dd) (λ z are.
     let Post : Val → SProp 𝓤 = (walk_of 𝓛 En stays c).post z in
-    let a = z.0.3 in
-    let vss = z.0.4 in
+    let a = z.0.3 in let vss = z.0.4 in
     let Y : Al = record { row = A; laws = L; g = g; d = d; drops = dd } in
     let κ : Lft = z.0.0.0 in
     let q : Share = z.0.1.0 in
-    let α = z.0.0.1.0 in
-    let x = a.0 in
-    let n = x.size in
+    let α = z.0.0.1.0 in let x = a.0 in let n = x.size in
     let told = memory_told x.ptr n vss.0 are.0.0 in
-    let k = a.1.0 in
-    let h = a.1.1.0.now in
-    let handle = a.1.1.0.ref_ptr in
+    let k = a.1.0 in let h = a.1.1.0.now in let handle = a.1.1.0.ref_ptr in
     let τ : Ty = units_of n in
     let even = x.sized.0 in
     let Asked : Type 0 = (k.alloc ≡ h) × (k.ptr ≡ x.ptr) × (k.size ≡ n) in
@@ -53,7 +54,8 @@ free_spec 𝓤 𝓛 𝓜 𝓡 wired A L g d dd met md =
     sets ! (of_opd ! (get_in ! (fld ! refl (stop !)) (sub ! 0 refl (whole !)))) refl (tt, tt) $
     sets ! (of_opd ! (get_in ! (fld ! refl (stop !)) (sub ! 1 refl (whole !)))) refl (tt, record { fits = told.1 }) $
     first ! $ blocks ! $
-    use3 𝓛 (raw ((Gives Y 𝓛 𝓜.mem 𝓡.returns).pre y)) (Gives-goes Y 𝓛 𝓜.mem 𝓡.returns κ q handle h (⊑_trans κ α A.lives z.0.2.0 le) b o n 16 τ (capped_is (n / 16 * 16) (omega arith) ∙ omega arith) refl told.1 (lit< tt)) $
+    use3 𝓛 (raw ((Gives Y 𝓛 𝓜.mem 𝓡.returns).pre y)) (Gives-goes Y 𝓛 𝓜.mem 𝓡.returns κ q handle h
+    (⊑_trans κ α A.lives z.0.2.0 le) b o n 16 τ (capped_is (n / 16 * 16) (omega arith) ∙ omega arith) refl told.1 (lit< tt)) $
     calls_at_last ! (fm 𝓛 𝓜 𝓡) (Gives Y 𝓛 𝓜.mem 𝓡.returns) (met.deallocate dd) y (and_then ! (get ! refl) (and_then ! (get ! refl) (and_then ! (get ! refl) (and_then ! (lit ! tt) (no_more !))))) (λ v.
     use1 𝓛 (later (given (v ≡ vunit) (‵ (flft κ q)))) (Gives-Gives Y 𝓛 𝓜.mem 𝓡.returns κ q handle h b o n 16 τ v) $ await ! tt $ learn ! (λ e. join ! $
     regoal ! (λ (u : Val). settles E (place 6 []) u (leaving 𝓛 (going_on 𝓛 𝓣.C 𝓣.Λ E (after 3 fn.body) (at_ret E Post)))) e refl $ lands_last ! refl (tt, tt) $

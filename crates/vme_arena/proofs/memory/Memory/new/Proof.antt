@@ -1,5 +1,9 @@
 -- `new` requests units of 16 bytes. Assumes `Logic`.
-use Rattle.vme_arena.proofs.Steps.{◌≡◌, ◌*◌, ◌/◌, ◌^◌, ◌<◌, List, [], ◌∷◌, ◌++◌, Some, None, refl, ◌∙◌, arith, lit<, w64, SProp, emp, id⊢, Lft, Share, ftrue, flft, Ty, Fn, Val, vint, vptr, vcons, vnil, capped_is, Env, WpFn, fact, fact_i, tables, ‵, raw, ◌⊛◌, later, prop, at_ret, ◌$◌, ◌∵◌, !, qed, by, move, drop, use0, use1, use2, split, join, regoal, fsplit, fjoin, await, whole, agg, live, vrt, in_variant, stop, fld, lit, of_opd, no_more, and_then, first, switches_on, exec, returns, enter, alloc_all, pass_all, free_all, look_at, get, get_in, get_tag, sets, sets_last, lands_as, env, RattleType, owns, Ptr, block_ptr, types_at, type_at, nothing, heard, Tuple, alive, Stays, stay_dropped, walk_of, Goes-dropped, after, head, arm_body, fm, Some-of, none_of, pair_of, pair_val, proved_at, leaves}
+use Rattle.vme_arena.proofs.Steps.{◌≡◌, ◌*◌, ◌/◌, ◌^◌, ◌<◌, List, [], ◌∷◌, ◌++◌, Some, None, refl, ◌∙◌, arith, lit<, w64, SProp, emp, id⊢, Lft, Share, ftrue, flft, Ty, Fn, Val, vint, vptr, vcons}
+use Rattle.vme_arena.proofs.Steps.{vnil, capped_is, Env, WpFn, fact, fact_i, tables, ‵, raw, ◌⊛◌, later, prop, at_ret, ◌$◌, ◌∵◌, !, qed, by, move, drop, use0, use1, use2, split, join, regoal}
+use Rattle.vme_arena.proofs.Steps.{fsplit, fjoin, await, whole, agg, live, vrt, in_variant, stop, fld, lit, of_opd, no_more, and_then, first, switches_on, exec, returns, enter, alloc_all, pass_all}
+use Rattle.vme_arena.proofs.Steps.{free_all, look_at, get, get_in, get_tag, sets, sets_last, lands_as, env, RattleType, owns, Ptr, block_ptr, types_at, type_at, nothing, heard, Tuple, alive, Stays}
+use Rattle.vme_arena.proofs.Steps.{stay_dropped, walk_of, Goes-dropped, after, head, arm_body, fm, Some-of, none_of, pair_of, pair_val, proved_at, leaves}
 use Rattle.vme_arena.proofs.Parts.{param, going_on}
 use mir.Syntax.{Args, a_type, dcons, dnil}
 use mir.MapTy.{inst_fn}
@@ -26,17 +30,14 @@ new_spec 𝓤 𝓛 𝓜 𝓡 wired A L g d dd met md =
     let stays : Stays ps En.kept = (stay_dropped (param 0 ps) En.kept.0, (stay_dropped (param 1 ps) En.kept.1.0, tt)) in
     let c = clauses A g d dd 𝓛 𝓜.mem 𝓡.returns in
     let 𝓣 = tables 𝓤 𝓛.H 𝓜 𝓡 𝓡.env in
-    proved_at 𝓛 En stays c 𝓜 𝓡 (Goes-dropped 𝓛 2 (param 0 ps) En.kept.0 (λ κs x f. refl), (Goes-dropped 𝓛 2 (param 1 ps) En.kept.1.0 (λ κs x f. refl), tt)) (#self args) fn (compiled.unfolded 𝓤 𝓛.H 𝓜 𝓡 wired (A, tt) d dd) (λ z are.
+    proved_at 𝓛 En stays c 𝓜 𝓡 (Goes-dropped 𝓛 2 (param 0 ps) En.kept.0 (λ κs x f. refl), (Goes-dropped 𝓛 2 (param 1 ps) En.kept.1.0 (λ κs x f. refl), tt))
+    (#self args) fn (compiled.unfolded 𝓤 𝓛.H 𝓜 𝓡 wired (A, tt) d dd) (λ z are.
     let Post : Val → SProp 𝓤 = (walk_of 𝓛 En stays c).post z in
-    let a = z.0.3 in
-    let vss = z.0.4 in
+    let a = z.0.3 in let vss = z.0.4 in
     let Y : Al = record { row = A; laws = L; g = g; d = d; drops = dd } in
     let κ : Lft = z.0.0.0 in
     let q : Share = z.0.1.0 in
-    let α = z.0.0.1.0 in
-    let h = a.0.now in
-    let at = a.0.ref_ptr in
-    let n = a.1.0 in
+    let α = z.0.0.1.0 in let h = a.0.now in let at = a.0.ref_ptr in let n = a.1.0 in
     let fits : n < 2 ^ 64 = are.1.0.1 in
     let τ : Ty = units_of n in
     let y = at_takes Y 𝓛 𝓜.mem 𝓡.returns κ q at h n 16 τ in
@@ -46,12 +47,14 @@ new_spec 𝓤 𝓛 𝓜 𝓡 wired A L g d dd met md =
     let Asked : Type 0 = IsBlockSize n in
     qed 𝓛 ((raw (alive 𝓛 En.signature z.0.0 z.0.1) ⊛ ‵ (owns (types_at ps z.0.0) a vss)) ∷ (raw (fact 𝓤 (α ⊑ A.lives)) ⊛ raw (fact 𝓤 Asked)) ∷ []) ∵
     move ! (1 ∷ []) $ split ! $ heard ! (α ⊑ A.lives) (λ le. heard ! Asked (λ asked. split ! $ move ! (1 ∷ []) $
-    fsplit ! $ fsplit ! $ drop ! $ move ! (1 ∷ []) $ drop ! $ use1 𝓛 (‵ (seen Y κ at h)) (id⊢ 𝓤 _) $ move ! (1 ∷ []) $ use1 𝓛 (‵ (flft κ q) ⊛ ‵ (flft α z.0.1.1.0) ⊛ ‵ ftrue) (id⊢ 𝓤 _) $ split ! $ move ! (2 ∷ 0 ∷ []) $
+    fsplit ! $ fsplit ! $ drop ! $ move ! (1 ∷ []) $ drop ! $ use1 𝓛 (‵ (seen Y κ at h)) (id⊢ 𝓤 _) $
+    move ! (1 ∷ []) $ use1 𝓛 (‵ (flft κ q) ⊛ ‵ (flft α z.0.1.1.0) ⊛ ‵ ftrue) (id⊢ 𝓤 _) $ split ! $ move ! (2 ∷ 0 ∷ []) $
     let even = asked.0 in let small = asked.1 in
     regoal ! (λ (us : List Val). prop (WpFn 𝓤 𝓛.H 𝓣.C 𝓣.Λ fn us Post)) (λ i. are.0.0 i ++ (are.1.0.0 i ++ [])) refl $
     enter ! 𝓣.C 𝓣.Λ fn (vptr at.0 at.1 ∷ vint w64 n ∷ []) Post $
     alloc_all ! (λ l. pass_all ! refl ((tt, tt), ((tt, record { fits = fits }), tt)) $ let E : Env 𝓤 𝓛.H = env fn.locals l in
-    use2 𝓛 (raw ((Takes Y 𝓛 𝓜.mem 𝓡.returns).pre y)) (Takes-goes Y 𝓛 𝓜.mem 𝓡.returns κ q at h (⊑_trans κ α A.lives z.0.2.0 le) n 16 τ (capped_is (n / 16 * 16) (omega arith) ∙ omega arith) refl fits (lit< tt)) $
+    use2 𝓛 (raw ((Takes Y 𝓛 𝓜.mem 𝓡.returns).pre y)) (Takes-goes Y 𝓛 𝓜.mem 𝓡.returns κ q at h
+    (⊑_trans κ α A.lives z.0.2.0 le) n 16 τ (capped_is (n / 16 * 16) (omega arith) ∙ omega arith) refl fits (lit< tt)) $
     calls_at ! (fm 𝓛 𝓜 𝓡) (Takes Y 𝓛 𝓜.mem 𝓡.returns) (met.allocate dd) y (and_then ! (get ! refl) (and_then ! (get ! refl) (and_then ! (lit ! tt) (no_more !)))) (λ v.
     use1 𝓛 (later (raw (Answered Y 𝓛 𝓜.mem 𝓡.returns h τ v) ⊛ ‵ (flft κ q))) (Takes-gives Y 𝓛 𝓜.mem 𝓡.returns κ q at h n 16 τ v) $ await ! tt $ split ! $
     answers Y ! 𝓜.mem 𝓡.returns h τ v

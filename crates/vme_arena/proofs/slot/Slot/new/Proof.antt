@@ -1,5 +1,7 @@
 -- `new` wraps what is held. Assumes `Logic`.
-use Rattle.vme_arena.proofs.Steps.{◌≡◌, List, [], ◌∷◌, ◌++◌, Some, refl, lit<, SProp, emp, ftrue, Fn, Val, vcons, vnil, WpFn, fact, fact_i, tables, ‵, raw, ◌⊛◌, prop, ◌$◌, ◌∵◌, !, qed, by, move, drop, use0, use1, split, rewrite, regoal, fsplit, fjoin, fpack, agg, live, lit, no_more, and_then, returns, enter, alloc_all, pass_all, free_all, look_at, get, sets, RattleType, owns, types_at, nothing, alive, Stays, stay_dropped, walk_of, Goes-blank, Some-of, proved_at, leaves}
+use Rattle.vme_arena.proofs.Steps.{◌≡◌, List, [], ◌∷◌, ◌++◌, Some, refl, lit<, SProp, emp, ftrue, Fn, Val, vcons, vnil, WpFn, fact, fact_i, tables, ‵, raw, ◌⊛◌, prop, ◌$◌, ◌∵◌, !, qed, by, move}
+use Rattle.vme_arena.proofs.Steps.{drop, use0, use1, split, rewrite, regoal, fsplit, fjoin, fpack, agg, live, lit, no_more, and_then, returns, enter, alloc_all, pass_all, free_all, look_at, get}
+use Rattle.vme_arena.proofs.Steps.{sets, RattleType, owns, types_at, nothing, alive, Stays, stay_dropped, walk_of, Goes-blank, Some-of, proved_at, leaves}
 use Rattle.vme_arena.proofs.Parts.{param}
 use denote.Exit.{rest, yes}
 use denote.Laws.{Typed}
@@ -25,8 +27,7 @@ new_spec 𝓤 𝓛 𝓜 𝓡 wired =
     let 𝓣 = tables 𝓤 𝓛.H 𝓜 𝓡 𝓡.env in
     proved_at 𝓛 ended stays c 𝓜 𝓡 (Goes-blank 𝓛 1 (param 0 ps) ended.kept.0 (λ κs x f. tt), tt) #self fn (compiled.unfolded 𝓤 𝓛.H 𝓜 𝓡 wired) (λ z are.
     let Post : Val → SProp 𝓤 = (walk_of 𝓛 ended stays c).post z in
-    let a = z.0.3 in
-    let vss = z.0.4 in
+    let a = z.0.3 in let vss = z.0.4 in
     let ρ = denote.Signature.named_lft 1 0 tt z.0.0 in
     let R : RattleType = held.the_row ρ in
     let x = a.0 in

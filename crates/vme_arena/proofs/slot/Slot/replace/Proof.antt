@@ -1,6 +1,9 @@
 -- `replace` opens the slot with the token of the thread, reads it, writes it and closes it. Assumes
 -- `Logic`.
-use Rattle.vme_arena.proofs.Steps.{List, [], ◌∷◌, ◌++◌, refl, SProp, emp, Lft, Share, ftrue, flft, Fn, Val, vptr, Env, WpFn, fact, fact_i, ‵, raw, ◌⊛◌, prop, at_ret, ◌$◌, ◌∵◌, !, qed, by, move, keep, use0, split, join, rewrite, regoal, fsplit, fsplit3, fjoin, whole, sub, look_in, store_in, stop, fld, addr, load, of_opd, assigns, first, blocks, exec, returns, enter, alloc_all, pass_all, free_all, look_at, get, through, sets, sets_last, env, owns, types_at, nothing, heard, Stays, stay_dropped, walk_of, Goes-dropped, Goes-blank, after, leaves}
+use Rattle.vme_arena.proofs.Steps.{List, [], ◌∷◌, ◌++◌, refl, SProp, emp, Lft, Share, ftrue, flft, Fn, Val, vptr, Env, WpFn, fact, fact_i, ‵, raw, ◌⊛◌, prop, at_ret, ◌$◌, ◌∵◌, !, qed, by, move}
+use Rattle.vme_arena.proofs.Steps.{keep, use0, split, join, rewrite, regoal, fsplit, fsplit3, fjoin, whole, sub, look_in, store_in, stop, fld, addr, load, of_opd, assigns, first, blocks, exec}
+use Rattle.vme_arena.proofs.Steps.{returns, enter, alloc_all, pass_all, free_all, look_at, get, through, sets, sets_last, env, owns, types_at, nothing, heard, Stays, stay_dropped, walk_of}
+use Rattle.vme_arena.proofs.Steps.{Goes-dropped, Goes-blank, after, leaves}
 use Rattle.vme_arena.proofs.Parts.{param}
 use base.Fml.{ftok}
 use base.Mask.{every}
@@ -23,15 +26,15 @@ replace_spec 𝓤 𝓛 𝓜 𝓡 wired =
     let stays : Stays ps ended.kept = (stay_dropped (param 0 ps) ended.kept.0, (stay_dropped (param 1 ps) ended.kept.1.0, tt)) in
     let c₀ = clauses 𝓛 𝓜.mem 𝓡.returns in
     let c = tokened 𝓛 ended stays c₀ in
-    proved_tokened 𝓛 ended stays c₀ 𝓜 𝓡 (Goes-dropped 𝓛 2 (param 0 ps) ended.kept.0 (λ κs x f. refl), (Goes-blank 𝓛 2 (param 1 ps) ended.kept.1.0 (λ κs. content_blank (denote.Signature.named_lft 2 1 tt κs)), tt)) #self fn (wired.0.0 #self refl) (λ C Λ z are.
+    proved_tokened 𝓛 ended stays c₀ 𝓜 𝓡
+    (Goes-dropped 𝓛 2 (param 0 ps) ended.kept.0 (λ κs x f. refl), (Goes-blank 𝓛 2 (param 1 ps) ended.kept.1.0 (λ κs. content_blank (denote.Signature.named_lft 2 1 tt κs)), tt)) #self fn
+    (wired.0.0 #self refl) (λ C Λ z are.
     let Post : Val → SProp 𝓤 = (walk_of 𝓛 ended stays c).post z in
-    let a = z.0.3 in
-    let vss = z.0.4 in
+    let a = z.0.3 in let vss = z.0.4 in
     let κ : Lft = z.0.0.0 in
     let q : Share = z.0.1.0 in
     let ρ = denote.Signature.named_lft 2 1 tt z.0.0 in
-    let b = a.0.ref_ptr.0 in
-    let o = a.0.ref_ptr.1 in
+    let b = a.0.ref_ptr.0 in let o = a.0.ref_ptr.1 in
     let s : Stretch = a.0.now in
     let new = a.1.0 in
     let got = one (layout (Content ρ)) vss.1.0 ((content_Lawful ρ 𝓛).typed new vss.1.0 are.1.0) in
@@ -53,5 +56,6 @@ replace_spec 𝓤 𝓛 𝓜 𝓡 wired =
     sets ! (of_opd ! (get ! refl)) refl typed $
     move ! (0 ∷ 3 ∷ 2 ∷ []) $ shuts_slot ρ s b o ! tt new w asked $
     returns ! (look_at ! 0 refl) $ free_all ! refl $
-    use0 𝓛 (raw (fact 𝓤 (Fits ρ s x))) (fact_i 𝓤 (Fits ρ s x) (emp 𝓤) over) $ move ! (2 ∷ 0 ∷ []) $ join ! $ nothing ! $ nothing ! $ fjoin ! $ nothing ! $ fjoin ! $ move ! (2 ∷ 4 ∷ []) $ join ! $ move ! (0 ∷ 1 ∷ 3 ∷ []) $
+    use0 𝓛 (raw (fact 𝓤 (Fits ρ s x))) (fact_i 𝓤 (Fits ρ s x) (emp 𝓤) over) $ move ! (2 ∷ 0 ∷ []) $ join ! $
+    nothing ! $ nothing ! $ fjoin ! $ nothing ! $ fjoin ! $ move ! (2 ∷ 4 ∷ []) $ join ! $ move ! (0 ∷ 1 ∷ 3 ∷ []) $
     by ! (leaves 𝓛 ended stays c z v x (tt, (rest ((Content ρ).exit yes) new, tt)) (tt, (tt, tt)))))))

@@ -18,4 +18,5 @@ loop-page-preserved c =
     let pages = c.deref-page-items.result.now in
     let i = c.loop-page.page-index in
     let page = c.page-item.result in
-    (c.copy_page.ensures.items ∙ (ap (λ l. l ++ page) c.loop-page.invariant.0 ∙ (append_assoc old (edges_in (take i pages)) page ∙ ap (λ l. old ++ l) (sym (joined-next pages i page c.loop-page-test.true c.page-item.is)))), c.copy_page.ensures.capacity ∙ c.loop-page.invariant.1)
+    let joined = append_assoc old (edges_in (take i pages)) page ∙ ap (λ l. old ++ l) (sym (joined-next pages i page c.loop-page-test.true c.page-item.is)) in
+    (c.copy_page.ensures.items ∙ (ap (λ l. l ++ page) c.loop-page.invariant.0 ∙ joined), c.copy_page.ensures.capacity ∙ c.loop-page.invariant.1)

@@ -37,7 +37,8 @@ loop-driver-preserved g c =
     let held = c.loop-driver.self in
     let after = c.seat.new.self in
     let seat = c.seat.ensures in
-    (seated_more b ds n d held.seats.items after.seats.items _ held.book.total after.book.total after.rest.parts held.rest.parts within refl before.0 seat.seats counted seat.total seat.rest.0, seat.rest.1, omega (arith, seat.room, before.2))
+    let more = seated_more b ds n d held.seats.items after.seats.items _ held.book.total after.book.total after.rest.parts held.rest.parts within refl before.0 in
+    (more seat.seats counted seat.total seat.rest.0, seat.rest.1, omega (arith, seat.room, before.2))
 
 pub returns-clause-total : goal.returns-clause-total
 returns-clause-total g c =

@@ -1,0 +1,244 @@
+-- What is kept of the edges so far, with the next one.
+use Rattle.std.proofs.Common.{◌≡◌, inl, inr, ◌+◌, ◌<◌, ◌≤◌, ◌^◌, ◌++◌, ◌∷◌, [], ℕ, Bool, true, false, List, Option, Some, Result, Ok, Err, is_ok, length, take, drop, get_or, refl, sym, ◌∙◌, ap, append_assoc, append-nil, take-append-drop, subst, arith}
+use Rattle.std.specs.Prelude.{if◌then◌else◌}
+use Rattle.std.specs.Io.KnownBytes.{Appends}
+use Rattle.std.proofs.KnownBytes.{Appends-trans}
+use Rattle.std.proofs.Math.ListN.{length-append}
+use Rattle.vme_model.specs.declared.signals.Edge.{Edge}
+use Rattle.vme_model.specs.declared.signals.Version.{Version}
+use Rattle.vme_model.specs.declared.refusals.Refused.{Refused}
+use Rattle.vme_model.specs.Plan.{Plan}
+use Rattle.vme_model.specs.Numbered.{Numbered, edges_in, numbered, numbered_on, numbered_with}
+use Rattle.vme_model.specs.Verdict.{Judgement, State, after, judged, kept, made, verdict, verdict_but_full}
+use Rattle.vme_histories.proofs.Judged as judging
+use Rattle.vme_bus.specs.declared.states.BusState.{BusState}
+use Rattle.vme_bus.specs.States.{IsStateOf, OfHistory}
+use Rattle.vme_trace.specs.declared.Fault.{Fault}
+use Rattle.vme_trace.specs.declared.Fault.TheVariants.{Memory, Write}
+use Rattle.vme_trace.specs.Writing.{AppendsFront}
+use Rattle.vme_engines.specs.Outcomes.{bench}
+use Rattle.vme_engines.proofs.FollowedEdges.{edges_on, kept_plan, next_list, numbered_append}
+use Rattle.vme_engines.proofs.WrittenLines.{front_behind, kept_append}
+use Rattle.vme_races.specs.declared.racing.Counts.{Counts}
+use Rattle.vme_races.specs.declared.racing.Racing.{Racing}
+use Rattle.vme_races.specs.declared.walks.Stop.{Stop}
+use Rattle.vme_races.specs.declared.walks.Walk.{Walk}
+use Rattle.vme_races.specs.Walks.{AreWalks, IsWalk}
+use Rattle.vme_races.specs.Lines.{count_if, free_in, is_back, is_race, is_wait, race_line, race_lines, races_in, waits_in}
+use Rattle.vme_races.specs.Outcomes.{AreLines}
+use Rattle.vme_races.specs.Kept.{Advances, AreLast, Breaks, IsCounted, IsKept, Stands}
+
+-- ---- how many walks there are
+
+one_at_most : (t : Bool) → count_if t ≤ 1
+one_at_most true = omega arith
+one_at_most false = omega arith
+
+races_within : (walks : List Walk) → races_in walks ≤ length walks
+races_within [] = omega arith
+races_within (walk ∷ walks) =
+    let one = one_at_most (is_race walk.stop) in
+    let others = races_within walks in omega (arith, one, others)
+
+waits_within : (walks : List Walk) → waits_in walks ≤ length walks
+waits_within [] = omega arith
+waits_within (walk ∷ walks) =
+    let one = one_at_most (is_wait walk.stop) in
+    let others = waits_within walks in omega (arith, one, others)
+
+free_within : (walks : List Walk) → free_in walks ≤ length walks
+free_within [] = omega arith
+free_within (walk ∷ walks) =
+    let one = one_at_most (is_back walk) in
+    let others = free_within walks in omega (arith, one, others)
+
+pub counts_within : (walks : List Walk) (now : Counts) → IsCounted walks now
+    → (now.races ≤ length walks) × (now.waits ≤ length walks) × (now.free ≤ length walks)
+counts_within walks now is =
+    let races = races_within walks in
+    let waits = waits_within walks in
+    let free = free_within walks in
+    let r = is.races in
+    let w = is.waits in
+    let f = is.free in
+    (omega (arith, races, r), omega (arith, waits, w), omega (arith, free, f))
+
+-- one more was counted
+pub noted : (walks : List Walk) (walk : Walk) (old : Counts) (races waits free : ℕ)
+    → IsCounted walks old → length walks + 1 < 2 ^ 64
+    → (old.races + 1 < 2 ^ 64 → races ≡ old.races + count_if (is_race walk.stop))
+    → (old.waits + 1 < 2 ^ 64 → waits ≡ old.waits + count_if (is_wait walk.stop))
+    → (old.free + 1 < 2 ^ 64 → free ≡ old.free + count_if (is_back walk))
+    → IsCounted (walk ∷ walks) (record { races = races; waits = waits; free = free })
+noted walks walk old races waits free is few one two three =
+    let within = counts_within walks old is in
+    let races_room : old.races + 1 < 2 ^ 64 = (let w = within.0 in omega (arith, w, few)) in
+    let waits_room : old.waits + 1 < 2 ^ 64 = (let w = within.1 in omega (arith, w, few)) in
+    let free_room : old.free + 1 < 2 ^ 64 = (let w = within.2 in omega (arith, w, few)) in
+    record {
+      races = one races_room ∙ ap (λ n. n + count_if (is_race walk.stop)) is.races;
+      waits = two waits_room ∙ ap (λ n. n + count_if (is_wait walk.stop)) is.waits;
+      free = three free_room ∙ ap (λ n. n + count_if (is_back walk)) is.free;
+    }
+
+walks_count : (v : Version) (p : Plan) (k : Numbered) (walks : List Walk) → AreWalks v p k walks
+    → length walks ≡ length k
+walks_count v p [] [] h = refl
+walks_count v p [] (walk ∷ walks) h = absurd h
+walks_count v p ((n, e) ∷ k) [] h = absurd h
+walks_count v p ((n, e) ∷ k) (walk ∷ walks) h =
+    let others = walks_count v p k walks h.1 in omega (arith, others)
+
+within_one : (t : Bool) (n : ℕ) (e : Edge) (k : Numbered) → length (if t then (n, e) ∷ k else k) ≤ length k + 1
+within_one true n e k = omega arith
+within_one false n e k = omega arith
+
+numbered_on_within : (b : State) (n : ℕ) (k : Numbered) (es : List Edge) → length (numbered_on b n k es) ≤ length k + length es
+numbered_on_within b n k [] = omega arith
+numbered_on_within b n k (e ∷ es) =
+    let one = within_one (is_ok (verdict b e)) (n + 1) e k in
+    let others = numbered_on_within (after b e) (n + 1) (numbered_with b (n + 1) e k) es in omega (arith, one, others)
+
+-- no more walks than edges
+pub walks_within : (p : Plan) (v : Version) (es : List Edge) (walks : List Walk)
+    → AreWalks v p (numbered (bench p v) es) walks → length walks ≤ length es
+walks_within p v es walks h =
+    let count = walks_count v p (numbered (bench p v) es) walks h in
+    let all = numbered_on_within (bench p v) 0 [] es in omega (arith, count, all)
+
+-- ---- where the bus stands
+
+version_by : (t : Bool) (b : State) (e : Edge) → (if t then made b e else b).version ≡ b.version
+version_by true b e = refl
+version_by false b e = refl
+
+pub kept_version : (b : State) (es : List Edge) → (kept b es).version ≡ b.version
+kept_version b [] = refl
+kept_version b (e ∷ es) = kept_version (after b e) es ∙ version_by (is_ok (verdict b e)) b e
+
+pub ok_by : (v : Version) (p : Plan) (h : List Edge) (e : Edge) (rest j : Judgement)
+    → verdict_but_full v p h e ≡ j → is_ok (judged v p h e rest) ≡ true → verdict_but_full v p h e ≡ Ok tt
+ok_by v p h e rest (Ok u) is ok = is
+ok_by v p h e rest (Err r) is ok = absurd (cc (ap is_ok (judging.refused v p h e r rest is), ok))
+
+module _ (p : Plan) (v : Version) (es : List Edge) (e : Edge) where
+  edges_are : edges_in (numbered (bench p v) es) ≡ (kept (bench p v) es).history
+  edges_are = edges_on (bench p v) 0 [] es refl
+
+  ok_there : is_ok (verdict (kept (bench p v) es) e) ≡ true
+      → verdict_but_full v p (edges_in (numbered (bench p v) es)) e ≡ Ok tt
+  ok_there ok =
+      let b = kept (bench p v) es in
+      subst (λ (w : Version). verdict_but_full w p (edges_in (numbered (bench p v) es)) e ≡ Ok tt) (kept_version (bench p v) es)
+      (subst (λ (q : Plan). verdict_but_full b.version q (edges_in (numbered (bench p v) es)) e ≡ Ok tt) (kept_plan (bench p v) es)
+      (subst (λ (h : List Edge). verdict_but_full b.version b.plan h e ≡ Ok tt) (sym edges_are)
+      (ok_by b.version b.plan b.history e _ (verdict_but_full b.version b.plan b.history e) refl ok)))
+
+  from_start : 0 + length es ≡ length es
+  from_start = omega arith
+
+  numbered_next : numbered (bench p v) (es ++ e ∷ []) ≡ numbered_with (kept (bench p v) es) (length es + 1) e (numbered (bench p v) es)
+  numbered_next = numbered_append (bench p v) 0 [] es (e ∷ []) ∙ ap (λ m. numbered_with (kept (bench p v) es) (m + 1) e (numbered (bench p v) es)) from_start
+
+  numbered_by : (t : Bool) (n : ℕ) → is_ok (verdict (kept (bench p v) es) e) ≡ t → n ≡ length es + 1
+      → (if t then (n, e) ∷ numbered (bench p v) es else numbered (bench p v) es) ≡ numbered (bench p v) (es ++ e ∷ [])
+  numbered_by t n is count =
+      let k = numbered (bench p v) es in
+      ap (λ m. if t then (m, e) ∷ k else k) count ∙ ap (λ b. if b then (length es + 1, e) ∷ k else k) (sym is) ∙ sym numbered_next
+
+  module _ (walks : List Walk) (old now : Racing) (is : IsKept p v es walks old)
+      (bus : now.bus ≡ after old.bus e) (count : now.judged ≡ old.judged + 1) where
+    bus_next : now.bus ≡ kept (bench p v) (es ++ e ∷ [])
+    bus_next = bus ∙ ap (λ s. after s e) is.bus ∙ sym (kept_append (bench p v) es (e ∷ []))
+
+    judged_next : now.judged ≡ length (es ++ e ∷ [])
+    judged_next =
+        let was = is.judged in
+        let more = length-append es (e ∷ []) in omega (arith, was, count, more)
+
+    number_is : old.judged + 1 ≡ length es + 1
+    number_is = ap (λ m. m + 1) is.judged
+
+    judged_there : (t : Bool) → is_ok (verdict old.bus e) ≡ t → is_ok (verdict (kept (bench p v) es) e) ≡ t
+    judged_there t ok = ap (λ s. is_ok (verdict s e)) (sym is.bus) ∙ ok
+
+    -- the next edge is accepted
+    pub advances_accepted : (walk : Walk) (line : List ℕ) → is_ok (verdict old.bus e) ≡ true
+        → OfHistory old.state (λ w q h. verdict_but_full w q h e ≡ Ok tt → IsStateOf w q (e ∷ h) now.state)
+        → AreLast v p ((old.judged + 1, e) ∷ numbered (bench p v) es) now.recent
+        → IsCounted (walk ∷ walks) now.counts → IsWalk v p e (numbered (bench p v) es) walk
+        → line ≡ race_line (old.judged + 1) e walk.stop → Advances p v es walks e line now
+    advances_accepted walk line ok state last counts goes text =
+        let k = numbered (bench p v) es in
+        let there = judged_there true ok in
+        let all : (old.judged + 1, e) ∷ k ≡ numbered (bench p v) (es ++ e ∷ []) = numbered_by true (old.judged + 1) there number_is in (
+          walk ∷ walks,
+          record {
+            bus = bus_next;
+            state = subst (λ (m : Numbered). IsStateOf v p (edges_in m) now.state) all
+                (state v p (edges_in k) is.state (ok_there there));
+            judged = judged_next;
+            last = subst (λ (m : Numbered). AreLast v p m now.recent) all last;
+            counts = counts;
+            walked = subst (λ (m : Numbered). AreWalks v p m (walk ∷ walks)) all (goes, is.walked);
+          },
+          ap (λ m. race_lines m (walk ∷ walks)) (sym all) ∙ ap (λ l. race_lines k walks ++ l) (sym text),
+        )
+
+    -- it is refused
+    pub advances_refused : (line : List ℕ) → line ≡ [] → is_ok (verdict old.bus e) ≡ false
+        → now.state ≡ old.state → now.recent ≡ old.recent → now.counts ≡ old.counts
+        → Advances p v es walks e line now
+    advances_refused line empty refused state recent counts =
+        let k = numbered (bench p v) es in
+        let all : k ≡ numbered (bench p v) (es ++ e ∷ []) = numbered_by false (old.judged + 1) (judged_there false refused) number_is in (
+          walks,
+          record {
+            bus = bus_next;
+            state = subst (λ (m : Numbered). IsStateOf v p (edges_in m) now.state) all (subst (IsStateOf v p (edges_in k)) (sym state) is.state);
+            judged = judged_next;
+            last = subst (λ (m : Numbered). AreLast v p m now.recent) all (subst (AreLast v p k) (sym recent) is.last);
+            counts = subst (IsCounted walks) (sym counts) is.counts;
+            walked = subst (λ (m : Numbered). AreWalks v p m walks) all is.walked;
+          },
+          ap (λ m. race_lines m walks) (sym all) ∙ sym (append-nil (race_lines k walks))
+              ∙ ap (λ l. race_lines k walks ++ l) (sym empty),
+        )
+
+-- ---- in the loop over edges
+
+module _ (p : Plan) (v : Version) (before es : List Edge) (i : ℕ) (d : Edge) (h : i < length es)
+    (first a b : Option (List ℕ)) (old now : Racing) (line : List ℕ)
+    (on : (walks : List Walk) → IsKept p v (before ++ take i es) walks old → Advances p v (before ++ take i es) walks (get_or es i d) line now)
+    (stands : Stands p v (before ++ take i es) first a old) where
+  next : Advances p v (before ++ take i es) stands.0 (get_or es i d) line now
+  next = on stands.0 stands.1
+
+  pub stands_next : Appends a b line → Stands p v (before ++ take (i + 1) es) first b now
+  stands_next more =
+      subst (λ (l : List Edge). Stands p v l first b now) (next_list before es i d h)
+      (next.0, next.1, subst (Appends first b) (sym next.2) (Appends-trans first a b (race_lines (numbered (bench p v) (before ++ take i es)) stands.0) line stands.2 more))
+
+  -- the line was cut off
+  pub breaks_cut : (f : Fault) → f ≡ Write → AppendsFront a b line → Breaks p v before es first b f
+  breaks_cut f is more = (
+    take (i + 1) es,
+    drop (i + 1) es,
+    sym (take-append-drop (i + 1) es),
+    race_lines (numbered (bench p v) ((before ++ take i es) ++ get_or es i d ∷ [])) next.0,
+    subst (λ (l : List Edge). AreLines p (Some v) l (race_lines (numbered (bench p v) ((before ++ take i es) ++ get_or es i d ∷ [])) next.0))
+        (next_list before es i d h) (next.0, next.1.walked, refl),
+    inr (is, subst (AppendsFront first b) (sym next.2) (front_behind first a b (race_lines (numbered (bench p v) (before ++ take i es)) stands.0) line stands.2 more)),
+  )
+
+-- there was no memory for the next edge
+pub breaks_unheld : (p : Plan) (v : Version) (before es : List Edge) (i : ℕ) (first a : Option (List ℕ)) (old : Racing)
+    → Stands p v (before ++ take i es) first a old → (f : Fault) → f ≡ Memory → Breaks p v before es first a f
+breaks_unheld p v before es i first a old stands f is = (
+  take i es,
+  drop i es,
+  sym (take-append-drop i es),
+  race_lines (numbered (bench p v) (before ++ take i es)) stands.0,
+  (stands.0, stands.1.walked, refl),
+  inl (is, stands.2),
+)

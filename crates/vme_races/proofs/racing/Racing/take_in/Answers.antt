@@ -1,0 +1,28 @@
+use Rattle.std.proofs.Common.{◌≡◌, ◌∙◌, ◌+◌, ◌<◌, ◌^◌, ap, arith, false, is_ok, length, refl, rules, subst, sym, true}
+use Rattle.vme_model.specs.Numbered.{numbered}
+use Rattle.vme_model.specs.Verdict.{verdict}
+use Rattle.vme_engines.specs.Outcomes.{bench}
+use Rattle.vme_races.specs.Kept.{IsCounted}
+use Rattle.vme_races.proofs.TakenIn.{advances_accepted, advances_refused, walks_within}
+use Rattle.vme_races.proofs.racing.Racing.take_in.Goals as goal
+
+pub returns-then-is_err-clause-line : goal.returns-then-is_err-clause-line
+returns-then-is_err-clause-line c = λ p v es walks is.
+    let refused : is_ok (verdict c.args.self.now.bus c.args.edge.now) ≡ false = search rules in
+    advances_refused p v es c.args.edge.now walks c.args.self.now _ is c.step.ensures.state refl
+    c.new.result.items (search rules) refused refl refl refl
+
+pub returns-clause-line : goal.returns-clause-line
+returns-clause-line c = λ p v es walks is.
+    let k = numbered (bench p v) es in
+    let accepted : is_ok (verdict c.args.self.now.bus c.args.edge.now) ≡ true = search rules in
+    let within = walks_within p v es walks is.walked in
+    let count = is.judged in
+    let room = c.requires.room in
+    let few : length walks + 1 < 2 ^ 64 = omega (arith, within, count, room) in
+    advances_accepted p v es c.args.edge.now walks c.args.self.now _ is
+    (c.keep.ensures.bus ∙ c.step.ensures.state) c.keep.ensures.judged
+    c.walk-walk.result c.race_line.result.items accepted c.keep.ensures.state
+    (c.in_ok-keep.ensures.last v p k is.state is.last)
+    (c.note.ensures walks few (subst (IsCounted walks) (sym c.keep.ensures.counts) is.counts))
+    (c.walk-walk.ensures.walk v p k is.last) c.race_line.ensures

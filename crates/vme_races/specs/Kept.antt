@@ -1,0 +1,98 @@
+-- What is kept of the edges so far.
+use Rattle.std.specs.Prelude.{◌≡◌, ◌⊎◌, ◌+◌, ◌<◌, ◌≤◌, ◌++◌, ◌∷◌, [], ℕ, Bool, true, false, List, length, min, Option, Some}
+use Rattle.std.specs.Io.KnownBytes.{Appends}
+use Rattle.vme_model.specs.declared.signals.Version.{Version}
+use Rattle.vme_model.specs.declared.signals.Edge.{Edge}
+use Rattle.vme_model.specs.Plan.{Plan}
+use Rattle.vme_model.specs.Numbered.{Numbered, edges_in, numbered}
+use Rattle.vme_model.specs.Verdict.{kept}
+use Rattle.vme_bus.specs.States.{IsStateOf}
+use Rattle.vme_trace.specs.declared.Fault.{Fault}
+use Rattle.vme_trace.specs.declared.Fault.TheVariants.{Memory, Write}
+use Rattle.vme_trace.specs.Writing.{AppendsFront}
+use Rattle.vme_engines.specs.Outcomes.{bench}
+use Rattle.vme_races.specs.declared.earlier.Earlier.{Earlier}
+use Rattle.vme_races.specs.declared.recent.Recent.{Recent}
+use Rattle.vme_races.specs.declared.racing.Counts.{Counts}
+use Rattle.vme_races.specs.declared.racing.Racing.{Racing}
+use Rattle.vme_races.specs.declared.walks.Walk.{Walk}
+use Rattle.vme_races.specs.Walks.{AreWalks, most_passed}
+use Rattle.vme_races.specs.Lines.{free_in, race_lines, races_in, waits_in}
+use Rattle.vme_races.specs.Outcomes.{AreLines, IsText}
+
+-- ---- the last accepted edges
+
+-- these are the last of the numbered edges, the newest first, each with the bus before it
+abbrev pub AreHeld : Version → Plan → Numbered → List Earlier → Type 0
+AreHeld v p k [] = Unit {0}
+AreHeld v p [] (a ∷ others) = ⊥
+AreHeld v p ((n, e) ∷ k) (a ∷ others) =
+    (a.number ≡ n) × (a.edge ≡ e) × IsStateOf v p (edges_in k) a.before × AreHeld v p k others
+
+-- all of them that can be passed are there
+pub record AreLast (v : Version) (p : Plan) (k : Numbered) (now : Recent) : Type 0 where
+  pub held : AreHeld v p k now.edges.items
+  pub count : length now.edges.items ≡ min most_passed (length k)
+  pub more : now.has_more ≡ true → most_passed < length k
+  pub whole : now.has_more ≡ false → length k ≤ most_passed
+
+-- the same, but for one more edge behind k
+pub record IsReady (v : Version) (p : Plan) (k : Numbered) (now : Recent) : Type 0 where
+  pub held : AreHeld v p k now.edges.items
+  pub count : length now.edges.items + 1 ≡ min most_passed (length k + 1)
+  pub more : now.has_more ≡ true → most_passed < length k + 1
+  pub whole : now.has_more ≡ false → length k + 1 ≤ most_passed
+
+-- what holds of all edges of which these are the last
+abbrev pub OfLast : Recent → (Version → Plan → Numbered → Type 0) → Type 0
+OfLast r P = (v : Version) (p : Plan) (k : Numbered) → AreLast v p k r → P v p k
+
+-- ---- all that is kept
+
+pub record IsCounted (walks : List Walk) (now : Counts) : Type 0 where
+  pub races : now.races ≡ races_in walks
+  pub waits : now.waits ≡ waits_in walks
+  pub free : now.free ≡ free_in walks
+
+-- the edges of a trace of this version were taken in, on a plan, and these are their walks
+pub record IsKept (p : Plan) (v : Version) (es : List Edge) (walks : List Walk) (now : Racing)
+    : Type 0 where
+  pub bus : now.bus ≡ kept (bench p v) es
+  pub state : IsStateOf v p (edges_in (numbered (bench p v) es)) now.state
+  pub judged : now.judged ≡ length es
+  pub last : AreLast v p (numbered (bench p v) es) now.recent
+  pub counts : IsCounted walks now.counts
+  pub walked : AreWalks v p (numbered (bench p v) es) walks
+
+-- one more edge was taken in, and this is its line
+abbrev pub Advances :
+    Plan → Version → List Edge → List Walk → Edge → List ℕ → Racing → Type 0
+Advances p v es walks e line now =
+    (others : List Walk) × IsKept p v (es ++ e ∷ []) others now
+    × (race_lines (numbered (bench p v) (es ++ e ∷ [])) others
+    ≡ race_lines (numbered (bench p v) es) walks ++ line)
+
+-- ---- what was written since the first edge
+
+-- the lines of these edges were written
+abbrev pub Stands :
+    Plan → Version → List Edge → Option (List ℕ) → Option (List ℕ) → Racing → Type 0
+Stands p v es old new now =
+    (walks : List Walk) × IsKept p v es walks now
+    × Appends old new (race_lines (numbered (bench p v) es) walks)
+
+-- a fault came at one of these edges
+abbrev pub Breaks :
+    Plan → Version → List Edge → List Edge → Option (List ℕ) → Option (List ℕ) → Fault → Type 0
+Breaks p v before es old new f =
+    (front : List Edge) × (rest : List Edge) × (es ≡ front ++ rest)
+    × (bytes : List ℕ) × AreLines p (Some v) (before ++ front) bytes
+    × (((f ≡ Memory) × Appends old new bytes) ⊎ ((f ≡ Write) × AppendsFront old new bytes))
+
+-- all was written, or a prefix
+abbrev pub Ends : Plan → Version → List Edge → Option (List ℕ) → Option (List ℕ) → Type 0
+Ends p v es old new = (bytes : List ℕ) × IsText p (Some v) es bytes × Appends old new bytes
+
+abbrev pub EndsCut : Plan → Version → List Edge → Option (List ℕ) → Option (List ℕ) → Type 0
+EndsCut p v es old new =
+    (bytes : List ℕ) × IsText p (Some v) es bytes × AppendsFront old new bytes

@@ -1,0 +1,166 @@
+//! A trace whose accepted edges go back, edge by edge.
+ghost use Rattle.std.specs.Prelude.{◌≡◌, ◌+◌, ◌<◌, ◌^◌, ◌++◌, ◌∷◌, [], IfErr, IfOk, IsTrue, List, Ok, OnOk, Option, length, ℕ};
+ghost use Rattle.vme_model.specs.declared.signals.Edge.{Edge as EdgeValue};
+ghost use Rattle.vme_model.specs.declared.signals.Version.{Version as VersionValue};
+ghost use Rattle.vme_model.specs.Locality.{AreWellFormed};
+ghost use Rattle.vme_model.specs.Plan.{Plan as PlanValue};
+ghost use Rattle.vme_model.specs.Signals.{is_well_formed};
+ghost use Rattle.vme_engines.specs.Outcomes.{bench};
+ghost use Rattle.vme_races.specs.declared.walks.Walk.{Walk as WalkValue};
+ghost use Rattle.vme_model.specs.Numbered.{Numbered, edges_in};
+ghost use Rattle.vme_bus.specs.States.{IsStateOf, OfHistory};
+ghost use Rattle.vme_model.specs.Verdict.{verdict_but_full};
+ghost use Rattle.vme_races.specs.Lines.{count_if};
+ghost use Rattle.vme_races.specs.Kept.{Advances, AreLast, Breaks, IsCounted, IsKept, Stands};
+
+use crate::earlier::Earlier;
+use crate::lines::{Line, race_line};
+use crate::recent::Recent;
+use crate::walks::Walk;
+use arrayvec::ArrayVec;
+use std::alloc::Global;
+use std::io::Write;
+use vme_bus::{Bus, BusState};
+use vme_model::Edge;
+use vme_trace::{Fault, put};
+
+/// How many edges went back, and how.
+#[derive(Clone, Copy)]
+pub(crate) struct Counts {
+    /// How many race.
+    pub(crate) races: u64,
+    /// How many wait.
+    pub(crate) waits: u64,
+    /// How many come back over one edge at the least.
+    pub(crate) free: u64,
+}
+
+/// A trace under way.
+#[derive(Drop)]
+pub(crate) struct Racing {
+    pub(crate) bus: Bus,
+    /// Where the bus stands.
+    pub(crate) state: BusState,
+    /// How many edges were judged.
+    pub(crate) judged: u64,
+    pub(crate) recent: Recent,
+    pub(crate) counts: Counts,
+}
+
+/// A count, with one more if the test holds.
+fn counted(count: u64, test: bool) -> u64
+    ensures { count + 1 < 2 ^ 64 → result ≡ count + count_if test }
+{
+    if test { count.saturating_add(1) } else { count }
+}
+
+impl Counts {
+    /// Of no edges.
+    fn new() -> Counts
+        ensures { IsCounted [] result }
+    {
+        Counts {
+            races: 0,
+            waits: 0,
+            free: 0,
+        }
+    }
+
+    /// Counts the walk of the next edge.
+    fn note(&mut self, walk: &Walk)
+        ensures { (walks : List WalkValue) → length walks + 1 < 2 ^ 64
+            → IsCounted walks self.old → IsCounted (walk.now ∷ walks) self.new }
+    {
+        self.races = counted(self.races, walk.stop.is_race());
+        self.waits = counted(self.waits, walk.stop.is_wait());
+        self.free = counted(self.free, walk.is_back());
+    }
+}
+
+impl Racing {
+    /// Before the first edge.
+    pub(crate) fn new(alloc: Global, bus: Bus) -> Racing
+        ensures judged { result.judged ≡ 0 }
+        ensures kept { (p : PlanValue) (v : VersionValue) → bus ≡ bench p v
+            → IsKept p v [] [] result }
+    {
+        Racing {
+            state: BusState::new(bus.plan(), bus.version()),
+            bus,
+            judged: 0,
+            recent: Recent::new(alloc),
+            counts: Counts::new(),
+        }
+    }
+
+    /// Keeps the next accepted edge, which has this number.
+    ///
+    /// Errors: X6.
+    fn keep(&mut self, number: u64, edge: &Edge) -> Result<(), Fault>
+        requires { IsTrue (is_well_formed edge.now) }
+        ensures state { OfHistory self.old.state (λ v p h.
+            verdict_but_full v p h edge.now ≡ Ok tt
+            → IsStateOf v p (edge.now ∷ h) self.new.state) }
+        ensures last { OnOk result ((v : VersionValue) (p : PlanValue) (k : Numbered)
+            → IsStateOf v p (edges_in k) self.old.state → AreLast v p k self.old.recent
+            → AreLast v p ((number, edge.now) ∷ k) self.new.recent) }
+        ensures bus { self.new.bus ≡ self.old.bus }
+        ensures judged { self.new.judged ≡ self.old.judged }
+        ensures counts { self.new.counts ≡ self.old.counts }
+        ensures fault { IfErr result (λ fault. fault ≡ Fault.Memory) }
+    {
+        let before = self.state;
+        self.state.note(*edge);
+        self.recent.push(Earlier {
+            number,
+            edge: *edge,
+            before,
+        })
+    }
+
+    /// Takes in the next edge. Gives its line, if it is accepted and races.
+    ///
+    /// Errors: X6.
+    pub(crate) fn take_in(&mut self, edge: &Edge) -> Result<Line, Fault>
+        requires room { self.old.judged + 1 < 2 ^ 64 }
+        requires well_formed { IsTrue (is_well_formed edge.now) }
+        ensures judged { OnOk result (self.new.judged ≡ self.old.judged + 1) }
+        ensures line { IfOk result (λ line. (p : PlanValue) (v : VersionValue)
+            (es : List EdgeValue) (walks : List WalkValue) → IsKept p v es walks self.old
+            → Advances p v es walks edge.now line.items self.new) }
+        ensures fault { IfErr result (λ fault. fault ≡ Fault.Memory) }
+    {
+        self.judged += 1;
+        if self.bus.step(*edge).is_err() {
+            return Ok(ArrayVec::new());
+        }
+        let walk = self.recent.walk(edge);
+        let number = self.judged;
+        self.keep(number, edge)?;
+        self.counts.note(&walk);
+        Ok(race_line(number, edge, &walk.stop))
+    }
+
+    /// Takes in the next edges, and writes their lines.
+    ///
+    /// Errors: X6, and the lines of the edges before were written then; X8, and a prefix of the
+    /// lines was.
+    pub(crate) fn take_edges<W: Write>(&mut self, edges: &[Edge], out: &mut W) -> Result<(), Fault>
+        requires room { self.old.judged + length edges.now < 2 ^ 64 }
+        requires well_formed { AreWellFormed edges.now }
+        ensures judged { OnOk result (self.new.judged ≡ self.old.judged + length edges.now) }
+        ensures stands { OnOk result ((p : PlanValue) (v : VersionValue) (es : List EdgeValue)
+            (first : Option (List ℕ)) → Stands p v es first (W.contents out.old) self.old
+            → Stands p v (es ++ edges.now) first (W.contents out.new) self.new) }
+        ensures breaks { IfErr result (λ fault. (p : PlanValue) (v : VersionValue)
+            (es : List EdgeValue) (first : Option (List ℕ))
+            → Stands p v es first (W.contents out.old) self.old
+            → Breaks p v es edges.now first (W.contents out.new) fault) }
+    {
+        for edge in edges {
+            let line = self.take_in(edge)?;
+            put(out, line.as_slice())?;
+        }
+        Ok(())
+    }
+}
