@@ -94,9 +94,9 @@ impl Bus {
         let _state = &self.state;
     }
 
-    /// The numbers that the edges so far lead to.
+    /// Where the bus stands: what the edges so far lead to. It can be copied and kept.
     #[inline(always)]
-    pub(crate) fn state(&self) -> &BusState
+    pub fn state(&self) -> &BusState
         ensures { IsStateOf self.now.version self.now.plan self.now.history result.now }
     {
         &self.state
