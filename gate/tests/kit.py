@@ -9,9 +9,13 @@ import time
 
 from tests import small
 
-# What plays the kit: it notes how it was called, and prints a total. Of the crate `endless` it
-# leaves a process behind when it is stopped.
+# What plays the kit: it notes how it was called at the top of a repository, and prints a total. Of
+# the crate `endless` it leaves a process behind when it is stopped.
 KIT = r"""#!/usr/bin/env bash
+if [[ ! -f crates.txt ]]; then
+    echo "rt: rt ci runs at the top of the repository"
+    exit 2
+fi
 echo "$*" >>"$CALLS"
 if [[ $2 == endless ]]; then
     setsid sleep 30 >/dev/null 2>&1 &
@@ -20,6 +24,12 @@ if [[ $2 == endless ]]; then
     exec sleep 30
 fi
 echo "2 passed, 0 failed (1 crate)"
+"""
+# What plays a kit that keeps nothing of `rt ci`, and takes no word after it.
+OLDER = """#!/usr/bin/env bash
+echo "usage: rt new FOLDER" >&2
+echo "       rt check|verdict|lib|run|test [NAME]" >&2
+exit 2
 """
 TOTAL = "2 passed, 0 failed (1 crate)"
 
@@ -36,7 +46,7 @@ def test_all(count, room):
     small.write(f"{root}/bin/rt", KIT)
     os.chmod(f"{root}/bin/rt", 0o755)
     os.mkdir(f"{room}/scratch")
-    for test in (test_names, test_help, test_passes, test_background, test_interrupt):
+    for test in (test_names, test_help, test_passes, test_background, test_interrupt, test_older):
         test(count, root)
 
 
@@ -123,6 +133,16 @@ def test_interrupt(count, root):
     rest = [it for it in filter(str.isdigit, os.listdir("/proc")) if works_in(it, scratch(root))]
     is_well = made.returncode == 1 and not rest and not os.listdir(scratch(root))
     count.tell("an interrupt of gate/kit", is_well, f"{made.returncode} {said} {rest}")
+
+
+def test_older(count, root):
+    """A kit that keeps nothing of its gate is named in one line, also in the background."""
+    small.write(f"{root}/bin/rt", OLDER)
+    said = "gate/kit: this kit keeps nothing of rt ci, so a later ./check proves these crates anyway\n"
+    for words in (("numbers",), ("--background", "numbers", "endless")):
+        ran = run(root, *words)
+        is_well = ran == (1, said, "") and not os.listdir(scratch(root))
+        count.tell(f"gate/kit {' '.join(words)} by an older kit", is_well, str(ran))
 
 
 def works_in(process, folder):
