@@ -1,5 +1,5 @@
 //! Logs, and the memory of a worker.
-ghost use Rattle.std.specs.Prelude.{◌≡◌, ◌+◌, ◌-◌, ◌*◌, ◌<◌, ◌≤◌, ◌++◌, [], ◌∷◌, ◌↔◌, ◌==◌, IfOk, IsTrue, OnOk, Some, length, slice_get, true, vec_capacity};
+ghost use Rattle.std.specs.Prelude.{◌≡◌, ◌+◌, ◌-◌, ◌*◌, ◌<◌, ◌≤◌, ◌++◌, [], ◌∷◌, ◌==◌, IfOk, OnOk, Some, length, slice_get, true, vec_capacity};
 ghost use Rattle.std.specs.Int.{div_ceil};
 ghost use Rattle.vme_model.specs.Signals.{is_well_formed};
 ghost use Rattle.vme_lock.specs.Logs.{Filling};
@@ -45,13 +45,6 @@ impl<'r> Log<'r> {
         ensures { result ≡ length self.now }
     {
         self.edges.len() as u32
-    }
-
-    /// Whether the log has no edge.
-    pub fn is_empty(&self) -> bool
-        ensures { IsTrue result ↔ (self.now ≡ []) }
-    {
-        self.edges.is_empty()
     }
 
     /// The edge at a place, counted from 0. The place has to be below `len`.
