@@ -130,7 +130,7 @@ fn edge_option<'a>(alloc: Global, help: &'a str) -> Arg<'a>
 fn other_option<'a>(alloc: Global) -> Arg<'a>
     ensures { rule_of result ≡ said.other }
 {
-    let help = "Which edge that races, 1 the first: prints the trace of the other order";
+    let help = "Print the trace of the other order of edge N, 1 the first, which has to race";
     whole_option(alloc, "other", "N", 1, help)
 }
 

@@ -202,7 +202,7 @@ Examples:
   vmebus summary board.toml drawn-1.vme drawn-2.vme drawn-3.vme";
 
 pub(crate) const RACES: &str =
-    "Prints the edges that could have come before another edge with a different outcome";
+    "Prints which edges could have come in another order, and with which outcome";
 
 pub(crate) const RACES_USAGE: &str = "vmebus races <SCENARIO> <TRACE> [--edge <N> | --other <N>]";
 
@@ -210,27 +210,32 @@ pub(crate) const RACES_EXAMPLE: &str =
     "It judges the edges as `vmebus replay` does. Each accepted edge then changes places with the
 accepted edge before it, and with the next one before that, as long as this changes nothing:
 both edges are accepted in both orders, they deliver the same, and the bus stands the same
-after them. If edge N stops after edge I, and would be accepted before it, the two race:
+after them. If edge N comes to stand right behind edge I, would be accepted before edge I, and
+may not change places with it, the two race:
   N EDGE races I EDGE OUTCOME
-OUTCOME is the verdict on edge I after edge N, such as `E3 G11`, or `other` if it is accepted and
-the bus stands differently after both. The last line, `accepted A races R waits W free F`,
-counts the accepted edges, those that race, those that would be refused before the edge at
-which they stop, and those that could come at least one place earlier. N and I count refused
-edges too. The exit status is 2 if an edge was refused, 0 if none was, and 1 at a fault.
-docs/COMMANDS.md has each line.
+OUTCOME is the verdict on edge I after edge N, such as `E3 G11`, or `other` if edge I is accepted
+and the bus stands differently after both. The last line, `accepted A races R waits W free F`,
+counts the accepted edges, those that race, those that wait (each would be refused before the
+edge that stops it), and those that could come at least one place earlier. N and I count refused
+edges too. The exit status is 2 if an edge was refused, 0 if none was, and 1 at a fault; races
+do not change it. docs/COMMANDS.md describes each line.
 
-With --edge it prints of edge N alone how far it could come earlier, and what stops it:
-  N EDGE free since S races I EDGE OUTCOME, .. waits for I EDGE VERDICT, .. begins, .. far
-Edge N can come before edge S. ` far` says that it has passed 200 edges. With --other it prints
-the trace of the other order of edge N's race, which ends with edge I. With either option no
-edge after edge N is judged. The exit status is 2 if the edge of --edge is refused.
+With --edge it prints one line about edge N: `N EDGE`, then ` free since S` if edge N could have
+come as early as just before edge S, and then what stops it there:
+  races I EDGE OUTCOME        as above
+  waits for I EDGE VERDICT    before edge I, edge N would have this verdict
+  begins                      no edge is before it
+  far                         it has passed 200 edges
+With --other it prints the trace of the other order of edge N's race. It ends with edge N and
+then edge I. If edge N does not race, that is a fault. With either option no edge after edge N is
+judged, and with --edge the exit status is 2 only if edge N is refused.
 
 Examples:
   vmebus races board.toml tenure.vme
   vmebus races board.toml tenure.vme --other 8 > other.vme";
 
 pub(crate) const RACES_EDGE: &str =
-    "Which edge, 1 the first: how far it could come earlier [default: the races of all]";
+    "Print how much earlier edge N could have come, 1 the first [default: print all races]";
 
 pub(crate) const ORDER: &str =
     "Prints a legal order of edges that were seen at the same moments, if there is one";
