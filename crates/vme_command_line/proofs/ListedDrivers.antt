@@ -7,10 +7,10 @@ use Rattle.vme_model.specs.declared.signals.Driver.TheVariants.{Controller, Slot
 use Rattle.vme_model.specs.Signals.{is_same_driver}
 use Rattle.vme_trace.specs.Fronts.{IsDriver}
 use Rattle.vme_moments.specs.declared.slacks.Slacks.{Slacks}
-use Rattle.vme_moments.specs.Before.{IsKnown, names, slack_of}
-use Rattle.vme_command_line.specs.Slacks.{AreAll, AreApart, AreLate, HaveSlacks, IsLate, Late, is_late, late_slack}
+use Rattle.vme_moments.specs.Before.{names, slack_of}
+use Rattle.vme_command_line.specs.Slacks.{AreApart, AreLate, HaveSlacks, IsLate, Late, is_late, late_slack}
 use Rattle.vme_command_line.specs.Naming.{HasNamed, IsOnlyLate, NameApart, NameNoneApart, NamesNone, NamesOne}
-use Rattle.vme_command_line.proofs.NamedDrivers.{Lacks, cut_once, known, late_lacks, lacks_not}
+use Rattle.vme_command_line.proofs.NamedDrivers.{Lacks, cut_once, late_lacks, lacks_not}
 
 -- ---- one driver, or two
 
@@ -180,17 +180,6 @@ module _ (old new : Slacks) (text : Text) (late : Late) (only : IsOnlyLate text 
 
 -- ---- the drivers so far
 
-pub none_named : (text : Text) (x : Slacks)
-    → ((d : Driver) → IsKnown d → slack_of x d ≡ 0) → ((d : Driver) → names x d ≡ false)
-    → HasNamed text text x
-none_named text x slack unnamed = record {
-  lates = [];
-  apart = tt;
-  slacks = λ d h. (slack d (known d h), unnamed d);
-  behind = λ more h. h;
-  only = λ all h. (all, refl, h);
-}
-
 module _ (text rest : Text) (x y : Slacks) (had : HasNamed text rest x) (part : Text)
     (one : NamesOne x part y) where
   new_driver : is_late had.lates one.late.driver ≡ false
@@ -273,8 +262,3 @@ module _ (text rest : Text) (x : Slacks) (had : HasNamed text rest x) (part : Te
       let last = late_alone part lacks found.0 (subst (λ t. AreLate t found.0) is found.2) in
       refused last.0 [] last.2
       (subst (λ l. AreApart l) (found.1 ∙ ap (λ l. had.lates ++ l) last.1) apart)
-
--- every driver has this slack
-pub all_have : (n : ℕ) (x : Slacks) → ((d : Driver) → IsKnown d → slack_of x d ≡ n)
-    → ((d : Driver) → names x d ≡ false) → AreAll n x
-all_have n x slack unnamed d h = (slack d (known d h), unnamed d)

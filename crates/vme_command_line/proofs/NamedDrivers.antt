@@ -99,20 +99,6 @@ some_same m n h = cc
 none_some : (n : ℕ) → (let o : Option ℕ = None in o ≡ Some n) → ⊥
 none_some n h = cc
 
--- `c` is no number of a slot
-slot_not_c : (s : ℕ) → s ≤ 21 → number s ≢ codes "c"
-slot_not_c s most = by (ltb s 10) refl
-  where
-    first : (x y : ℕ) (xs ys : Text) → x ∷ xs ≡ y ∷ ys → x ≡ y
-    first x y xs ys h = cc
-
-    by : (p : Bool) → ltb s 10 ≡ p
-        → cond p ((48 + s) ∷ []) ((48 + s / 10) ∷ (48 + s % 10) ∷ []) ≢ codes "c"
-    by true e h = let is : 48 + s ≡ 99 = first (48 + s) 99 [] [] h in absurd (omega arith)
-    by false e h =
-        let is : 48 + s / 10 ≡ 99 = first (48 + s / 10) 99 ((48 + s % 10) ∷ []) [] h in
-        absurd (omega arith)
-
 pub not_c : (name : Text) → false ≡ bytes_eq name (codes "c") → name ≢ codes "c"
 not_c name unequal is = never (unequal ∙ ap (λ (l : Text). bytes_eq l (codes "c")) is)
   where

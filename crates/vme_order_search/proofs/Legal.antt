@@ -111,15 +111,6 @@ accepted_legal t q j s b f is accepted leads free legal = record {
       (accepted_ok t q s.edge b f accepted leads, legal.legal);
 }
 
--- a state of the bus is one still after an edge, refused or not
-pub still_a_state : (t : Task) (q : List ℕ) (j : ℕ) (s : Seen) (b c : BusState)
-    (f : Option Delivery) → slice_get t.seen j ≡ Some s
-    → OfHistory b (λ version p h. Ok f ≡ answer_but_full version p h s.edge)
-    → OfHistory b (λ version p h. IsStateOf version p (kept_but_full version p h s.edge) c)
-    → LeadsTo t q b → (places : List ℕ) × LeadsTo t places c
-still_a_state t q j s b c f is accepted state leads =
-    (j ∷ q, accepted_leads t q j s b c f is accepted state leads)
-
 -- ---- a beginning has each place once
 
 not_one : (i j : ℕ) (b : Bool) → ((i == j) || b) ≡ false → eqb j i ≡ false

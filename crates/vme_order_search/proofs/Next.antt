@@ -174,18 +174,6 @@ pub record AreNextBelow (x : Slacks) (ms : List Seen) (places next : List ℕ) (
   pub free : (j : ℕ) → has next j ≡ true → IsFree x ms places j
   pub all : (j : ℕ) → j < from → IsFree x ms places j → has next j ≡ true
 
-no_place : (j : ℕ) → has [] j ≡ true → ⊥
-no_place j h = true_false (sym h)
-
-pub none_next : (x : Slacks) (ms : List Seen) (places : List ℕ)
-    → AreNextBelow x ms places [] 0
-none_next x ms places = record {
-  ascending = tt;
-  below = λ j is. absurd (no_place j is);
-  free = λ j is. absurd (no_place j is);
-  all = λ j lt free. absurd (omega arith);
-}
-
 next_all : (x : Slacks) (ms : List Seen) (places next : List ℕ) (from place j : ℕ)
     → AreNextBelow x ms places next from → AreUnfree x ms places from place
     → IsFree x ms places j → (j < from) ⊎ (from ≤ j) → (j < place) ⊎ (place ≤ j) → j < place + 1

@@ -225,10 +225,3 @@ pub ok_next : (t : Task) (r : Result Found OrderFault) → IfOk r (IsAnswer t)
     → IfOk r (λ f. AreNext t.slacks t.seen (reverse f.order.items) f.next.items)
 ok_next t (Ok f) h = h.next
 ok_next t (Err e) h = tt
-
--- all places are in, or nothing was left out
-pub whole_or_not : (n count : ℕ) (cut : Bool) → n ≤ count → (n < count → cut ≡ true → ⊥)
-    → (n < count) ⊎ (count ≤ n) → (cut ≡ false) ⊎ (n ≡ count)
-whole_or_not n count true few never (inl lt) = absurd (never lt refl)
-whole_or_not n count false few never (inl lt) = inl refl
-whole_or_not n count cut few never (inr le) = inr (omega arith)

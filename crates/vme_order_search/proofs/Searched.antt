@@ -363,10 +363,6 @@ next_front t n m from s front w is unfree = record {
   cut = w.cut;
 }
 
--- the layer that the others were made from is there still
-pub layer_stays : (t : Task) (n m from : ℕ) (s : Search) → IsUnderWay t n m from s → HasLayer t n s
-layer_stays t n m from s w = record { bus = w.bus; paths = w.paths; layer = w.layer; cut = w.cut }
-
 pub all_longer : (t : Task) (n m from : ℕ) (s : Search) → IsUnderWay t n m from s
     → length s.layer.kept.items ≤ m → HasLonger t n s
 all_longer t n m from s w past = record {

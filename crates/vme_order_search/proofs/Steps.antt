@@ -61,9 +61,6 @@ pub record WentBack (t : Trail) (at : ℕ) (path places : List ℕ) : Type 0 whe
   pub is : path ≡ places ++ rest
   pub ends : Ends t at rest
 
-pub before_way : (t : Trail) (at : ℕ) (path : List ℕ) → Ends t at path → WentBack t at path []
-before_way t at path h = record { rest = path; is = refl; ends = h }
-
 append_one : (places : List ℕ) (j : ℕ) (rest : List ℕ) → places ++ j ∷ rest ≡ (places ++ j ∷ []) ++ rest
 append_one [] j rest = refl
 append_one (p ∷ places) j rest = ap (λ l. p ∷ l) (append_one places j rest)

@@ -11,25 +11,9 @@ use Rattle.vme_order_search.specs.declared.layers.Beginning.{Beginning}
 use Rattle.vme_order_search.specs.declared.layers.Layer.{Layer}
 use Rattle.vme_order_search.specs.Layers.{IsTable, StandsAt, StandsBelow}
 use Rattle.vme_order_search.specs.Places.{bucket_of}
-use Rattle.vme_order_search.proofs.Lists.{get_before, get_last, get_past, get_there, length_more, one_there}
-
--- one of a bucket stands below
-below_there : (l : Layer) (bucket at i : ℕ) (b : Beginning) → StandsBelow l bucket at → i ≡ at - 1
-    → StandsAt l i b → bucket_of b.taken ≡ bucket
-below_there l bucket at i b below is there =
-    let same : below.0 ≡ b = one_there l.kept.items i below.0 b
-    (ap (slice_get l.kept.items) is ∙ below.1) there in
-    sym (ap (λ (x : Beginning). bucket_of x.taken) same) ∙ below.2
+use Rattle.vme_order_search.proofs.Lists.{get_before, get_last, get_past, get_there, length_more}
 
 -- ---- the last of a bucket
-
-pub last_all : (l : Layer) (bucket i : ℕ) (b : Beginning) → IsTable l → StandsAt l i b
-    → bucket_of b.taken ≡ bucket
-    → (i < get_or l.last.items bucket 0) × StandsBelow l bucket (get_or l.last.items bucket 0)
-last_all l bucket i b table there is = (
-  subst (λ k. i < get_or l.last.items k 0) is (table.last i b there),
-  subst (λ k. StandsBelow l k (get_or l.last.items k 0)) is (table.ends i b there),
-)
 
 -- ---- on the way through a bucket
 

@@ -1,9 +1,8 @@
 -- Traces that are added up, file by file, and the answer that is passed on.
-use Rattle.std.proofs.Common.{◌≡◌, ◌⊎◌, ◌∙◌, inl, inr, ℕ, ◌+◌, List, [], ◌∷◌, length, Some, None, Result, Ok, Err, refl, sym, ap, subst, arith}
+use Rattle.std.proofs.Common.{◌≡◌, ◌⊎◌, ◌∙◌, inl, inr, ℕ, ◌+◌, List, [], ◌∷◌, length, None, Result, Ok, Err, refl, sym, ap, subst, arith}
 use Rattle.std.specs.Io.KnownBytes.{Keeps}
 use Rattle.std.specs.Borrow.{Bor}
 use Rattle.std.specs.List.{Contains}
-use Rattle.std.specs.Prelude.{slice_get}
 use Rattle.std.proofs.KnownBytes.{Keeps-refl}
 use Rattle.vme_model.specs.Plan.{Plan}
 use Rattle.vme_model.specs.Text.{read_of}
@@ -21,7 +20,7 @@ use Rattle.vme_command_line.specs.declared.Job.{Job}
 use Rattle.vme_command_line.specs.Asked.{texts_of}
 use Rattle.vme_program.specs.declared.faults.ProgramFault.{ProgramFault}
 use Rattle.vme_program.specs.declared.faults.ProgramFault.TheVariants.{CannotRead, TooLong, Engine, InTrace, SomeTraces, NoRace, Boards, Ordering}
-use Rattle.vme_program.specs.Adding.{AddsFile, Blames, IsFaulty}
+use Rattle.vme_program.specs.Adding.{AddsFile, Blames}
 use Rattle.vme_program.specs.Done.{Alone, Hands, Known}
 use Rattle.vme_program.specs.Names.{IsFaultOf, IsFileOf, scenario_name, answer_named, trace_answer_named}
 use Rattle.vme_program.specs.Together.{StopsAt, SumsUp, WereRead}
@@ -49,13 +48,6 @@ file_done text scenario trace old new from to (Err (fault.Trace f)) h = (refl, h
 file_done text scenario trace old new from to (Err (fault.Beyond edges)) h = absurd h.3.2
 file_done text scenario trace old new from to (Err fault.NoMemory) h = tt
 
--- a file that does not open, or no memory for what is passed to the engine
-pub unopened_file : (text : List ℕ) (scenario trace : Bor (List ℕ)) (old new : Added) (f : ProgramFault) → (f ≡ CannotRead trace) ⊎ (f ≡ Engine fault.NoMemory) → AddsFile text scenario trace old new (Err f)
-unopened_file text scenario trace old new f why = elim why [
-  | inl is ↦ subst (λ (g : ProgramFault). AddsFile text scenario trace old new (Err g)) (sym is) refl
-  | inr is ↦ subst (λ (g : ProgramFault). AddsFile text scenario trace old new (Err g)) (sym is) tt
-]
-
 -- ---- all files
 
 -- what has been added up after so many files were read
@@ -74,28 +66,6 @@ one_more text old new before h so_far p is =
       (h.2 ∷ had.1.0, (let n = had.1.1 in omega (arith, n)), (subst (λ (x : Plan). IsWhole x (read_of h.2) h.3) same h.4, had.1.2)),
       h.5 had.0 had.2,
     )
-
-pub fault_at : (text : List ℕ) (scenario : Bor (List ℕ)) (traces : List (Bor (List ℕ))) (trace : Bor (List ℕ)) (sums : Added) (i : ℕ) (f : ProgramFault) → slice_get (texts_of traces) i ≡ Some trace.now → Contains (texts_of traces) trace.now → SoFar text i sums
-    → Blames text scenario (λ name. name ≡ trace.now) (λ p name g. IsFaulty g) f → Blames text scenario (Contains (texts_of traces)) (λ p name g. StopsAt (texts_of traces) name g p) f
-fault_at text scenario traces trace sums i (CannotRead name) at among so_far h = subst (Contains (texts_of traces)) (sym h) among
-fault_at text scenario traces trace sums i (TooLong name) at among so_far h = h
-fault_at text scenario traces trace sums i (Engine (fault.Scenario e)) at among so_far h = h
-fault_at text scenario traces trace sums i (Engine fault.NoMemory) at among so_far h = tt
-fault_at text scenario traces trace sums i (Engine fault.CannotRead) at among so_far h = absurd h
-fault_at text scenario traces trace sums i (Engine fault.TooLong) at among so_far h = absurd h
-fault_at text scenario traces trace sums i (Engine (fault.Trace f)) at among so_far h = absurd h
-fault_at text scenario traces trace sums i (Engine (fault.Beyond edges)) at among so_far h = absurd h
-fault_at text scenario traces trace sums i (InTrace name f) at among so_far h =
-    let had = so_far h.1 h.2 in (
-      subst (Contains (texts_of traces)) (sym h.0) among,
-      h.1,
-      h.2,
-      (i, at ∙ ap Some (sym h.0), had.0, had.1, h.3.0, h.3.1, h.3.2, h.3.3),
-    )
-fault_at text scenario traces trace sums i SomeTraces at among so_far h = absurd h
-fault_at text scenario traces trace sums i (NoRace edge) at among so_far h = absurd h
-fault_at text scenario traces trace sums i (Boards f) at among so_far h = absurd h
-fault_at text scenario traces trace sums i (Ordering f) at among so_far h = absurd h
 
 -- ---- the job
 

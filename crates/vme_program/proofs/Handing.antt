@@ -1,5 +1,5 @@
 -- The answer of an engine, as a job passes it on.
-use Rattle.std.proofs.Common.{◌≡◌, ◌⊎◌, inl, inr, ℕ, Bool, List, Option, Result, Ok, Err, refl, sym, subst}
+use Rattle.std.proofs.Common.{◌≡◌, ◌⊎◌, inl, inr, ℕ, Bool, List, Result, Ok, Err, refl, sym, subst}
 use Rattle.std.specs.Io.KnownBytes.{Keeps}
 use Rattle.std.specs.Borrow.{Bor}
 use Rattle.std.proofs.KnownBytes.{Keeps-refl}
@@ -11,8 +11,6 @@ use Rattle.vme_engines.specs.declared.Status.{Status}
 use Rattle.vme_engines.specs.declared.EngineFault.TheVariants as fault
 use Rattle.vme_engines.specs.Streams.{Streams, ReadNothing, WroteNothing, streams}
 use Rattle.vme_engines.specs.Outcomes.{Answer, Lent, LentAsking}
-use Rattle.vme_engines.specs.Driving.{Drives}
-use Rattle.vme_engines.specs.Drawing.{Draws}
 use Rattle.vme_engines.specs.Found.{Found, Finds, found_answer}
 use Rattle.vme_engines.specs.Joining.{Joins}
 use Rattle.vme_engines.specs.Readings.{ReadsInput, ReadsLent}
@@ -28,7 +26,7 @@ use Rattle.vme_order.specs.declared.Form.{Form}
 use Rattle.vme_order.specs.declared.OrderingFault.TheVariants as order
 use Rattle.vme_order.specs.Ordering.{Answer as OrderAnswer, LentText, OrdersInput}
 use Rattle.vme_command_line.specs.declared.Job.{Job}
-use Rattle.vme_command_line.specs.declared.Job.TheVariants.{Joined, OtherOrder, Order, Drive, Draw, Search, Run}
+use Rattle.vme_command_line.specs.declared.Job.TheVariants.{Joined, OtherOrder, Order, Search, Run}
 use Rattle.vme_program.specs.declared.faults.ProgramFault.{ProgramFault}
 use Rattle.vme_program.specs.declared.faults.ProgramFault.TheVariants.{CannotRead, TooLong, Engine}
 use Rattle.vme_program.specs.Done.{Alone, Hands, IsDone, Known, OnTrace}
@@ -58,18 +56,6 @@ pub on_trace : (Stops : List ℕ → Fault → Type 0) (Ends : Streams → Plan 
 on_trace Stops Ends name text from to old new answer does =
     handed Stops (λ f. ⊥) (OnTrace Ends old new) (Keeps old new) name answer (text, from, to, does) (λ h. absurd h.3) (λ h. h.3.1.1)
 
-pub drive_done : (scenario : Bor (List ℕ)) (text : List ℕ) (edges : ℕ) (version : Version) (old new : Known) (answer : Answer)
-    → Lent text (Keeps old new) (Drives version edges old new) answer → IsDone (Drive scenario edges version) old new (answer_named scenario answer)
-drive_done scenario text edges version old new answer does =
-    handed _ (λ f. ⊥) (λ a. (t : List ℕ) × Lent t (Keeps old new) (Drives version edges old new) a)
-    (Keeps old new) scenario answer (text, does) (λ h. absurd h.1) (λ h. h.1.1)
-
-pub draw_done : (scenario : Bor (List ℕ)) (text : List ℕ) (edges seed : ℕ) (until : Option Goal) (version : Version) (old new : Known) (answer : Answer)
-    → Lent text (Keeps old new) (Draws version seed edges until old new) answer → IsDone (Draw scenario edges seed until version) old new (answer_named scenario answer)
-draw_done scenario text edges seed until version old new answer does =
-    handed _ (λ f. ⊥) (λ a. (t : List ℕ) × Lent t (Keeps old new) (Draws version seed edges until old new) a)
-    (Keeps old new) scenario answer (text, does) (λ h. absurd h.1) (λ h. h.1.1)
-
 pub search_done : (scenario : Bor (List ℕ)) (text : List ℕ) (edges first last : ℕ) (goal : Goal) (version : Version) (progress : Bool) (old new : Known) (found : Found)
     → Lent text (Keeps old new) (Finds version edges first last goal old new found) (found_answer found)
     → IsDone (Search scenario edges first last goal version progress) old new (answer_named scenario (found_answer found))
@@ -89,9 +75,6 @@ unread job name held f why = elim why [
 pub unopened : (job : Job) (name : Bor (List ℕ)) (held : Known) (f : ProgramFault)
     → (f ≡ CannotRead name) ⊎ (f ≡ Engine fault.NoMemory) → IsDone job held held (Err f)
 unopened job name held f why = unread job name held f (elim why [ inl is ↦ inl is | inr is ↦ inr (inr is) ])
-
-pub unbuffered : (job : Job) (held : Known) (f : ProgramFault) → f ≡ Engine fault.NoMemory → IsDone job held held (Err f)
-unbuffered job held f is = subst (λ (g : ProgramFault). IsDone job held held (Err g)) (sym is) (inr (refl, Keeps-refl held))
 
 pub run_done : (scenario : Bor (List ℕ)) (text : List ℕ) (edges turns : ℕ) (version : Version) (old new : Known) (answer : Result Status RunFault)
     → Runs text version edges turns old new answer → IsDone (Run scenario edges turns version) old new (run_answer_named scenario answer)

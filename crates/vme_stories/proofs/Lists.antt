@@ -187,10 +187,6 @@ pub made_more : (b : State) (e : Edge) (list new : List Edge) → list ≡ rever
 made_more b e list new is more ok =
     more_by b e new (is_ok (verdict b e)) (more ∙ ap (λ l. l ++ e ∷ []) is) ok
 
-pub made_same : (b : State) (e : Edge) (list : List Edge) → list ≡ reverse b.history
-    → is_ok (verdict b e) ≡ false → list ≡ reverse (after b e).history
-made_same b e list is refused = same_by b e list (is_ok (verdict b e)) is refused
-
 -- the next edge of those that are gone on with
 pub kept_next : (b s now : State) (es : List Edge) (i : ℕ) (d : Edge) → i < length es
     → s ≡ kept b (take i es) → now ≡ after s (get_or es i d) → now ≡ kept b (take (i + 1) es)
