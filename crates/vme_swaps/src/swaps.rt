@@ -73,10 +73,14 @@ pub fn step_back(before: &BusState, first: Edge, edge: Edge) -> StepBack
     }
     let mut between = *before;
     between.note(edge);
-    let outcome = between.judge(first);
-    if outcome.is_ok() && !is_request_served(before, first, edge) {
-        StepBack::Passes
-    } else {
-        StepBack::Races(outcome)
+    match between.judge(first) {
+        Ok(()) => {
+            if is_request_served(before, first, edge) {
+                StepBack::Races(Ok(()))
+            } else {
+                StepBack::Passes
+            }
+        }
+        Err(refused) => StepBack::Races(Err(refused)),
     }
 }
