@@ -1,7 +1,7 @@
 -- Two edges that are allowed in both orders are free, unless one of them is an answer that serves the
 -- request that the other makes.
-use Rattle.std.proofs.Common.{◌≡◌, ◌∙◌, refl, sym, ap, Bool, true, false, List, ◌∷◌}
-use Rattle.std.specs.Prelude.{◌&&◌, ◌||◌, ◌↔◌, not, if◌then◌else◌, Option, Some, None, Ok, Err, IsTrue}
+use Rattle.std.proofs.Common.{◌≡◌, ◌∙◌, refl, sym, ap, subst, Bool, true, false, List, ◌∷◌}
+use Rattle.std.specs.Prelude.{◌&&◌, ◌||◌, ◌↔◌, not, if◌then◌else◌, Option, Some, None, Ok, Err, IsTrue, is_ok}
 use Rattle.std.specs.Option.{option_map_or}
 use Rattle.vme_model.specs.declared.boards.Row.{Row}
 use Rattle.vme_model.specs.declared.boards.InterrupterRow.{InterrupterRow}
@@ -16,11 +16,15 @@ use Rattle.vme_model.specs.Signals.{is_fall_of, is_same_wire, is_same_driver}
 use Rattle.vme_model.specs.Plan.{Plan, board_of}
 use Rattle.vme_model.specs.Accepted.{IsAccepted}
 use Rattle.vme_model.specs.History.{shown, addressing, served_since_request, serves}
-use Rattle.vme_model.specs.Deliveries.{delivery, delivered_by}
+use Rattle.vme_model.specs.declared.deliveries.Delivery.{Delivery}
+use Rattle.vme_model.specs.Deliveries.{delivery, delivered_by, with_delivery}
 use Rattle.vme_model.specs.GrantSafety.{is_fall_on}
-use Rattle.vme_model.specs.Verdict.{IsLegal, verdict_but_full}
+use Rattle.vme_model.specs.Verdict.{IsLegal, Judgement, verdict_but_full}
 use Rattle.vme_model.proofs.Bools.{and_left, and_right, not_true}
 use Rattle.vme_histories.proofs.Others.{same_wire}
+use Rattle.vme_bus.specs.declared.states.BusState.{BusState}
+use Rattle.vme_bus.specs.States.{IsStateOf}
+use Rattle.vme_bus.specs.Steps.{answer_but_full, kept_but_full}
 use Rattle.vme_swaps.specs.Alike.{StandAlike}
 use Rattle.vme_swaps.specs.declared.swaps.StepBack.TheVariants.{Passes, Waits, Races}
 use Rattle.vme_swaps.specs.Swaps.{IsFree, StepsBack}
@@ -224,3 +228,28 @@ module _ (version : Version) (p : Plan) (h : List Edge) (a b : Edge) where
 
       pub races_served : served ≡ true → StepsBack version p h a b (Races (Ok tt))
       races_served so = (λ free. (let other = free_so.1 free in absurd (cc (other, so))), alone, behind)
+
+-- ---- by the whole answers
+
+refused_by : (j : Judgement) (d : Option Delivery) (r : Refused) → Err r ≡ with_delivery j d → j ≡ Err r
+refused_by (Ok u) d r is = absurd (cc)
+refused_by (Err s) d r is = (let same : s ≡ r = cc in ap (λ x. Err x) same)
+
+pub refused_so : (version : Version) (p : Plan) (h : List Edge) (e : Edge) (r : Refused)
+    → Err r ≡ answer_but_full version p h e → verdict_but_full version p h e ≡ Err r
+refused_so version p h e r is = refused_by (verdict_but_full version p h e) (delivery p h e) r is
+
+accepted_by : (j : Judgement) (d x : Option Delivery) → Ok x ≡ with_delivery j d → j ≡ Ok tt
+accepted_by (Ok u) d x is = refl
+accepted_by (Err s) d x is = absurd (cc)
+
+pub accepted_so : (version : Version) (p : Plan) (h : List Edge) (e : Edge) (x : Option Delivery)
+    → Ok x ≡ answer_but_full version p h e → verdict_but_full version p h e ≡ Ok tt
+accepted_so version p h e x is = accepted_by (verdict_but_full version p h e) (delivery p h e) x is
+
+-- the state behind an accepted edge
+pub behind_so : (version : Version) (p : Plan) (h : List Edge) (e : Edge) (s : BusState)
+    → verdict_but_full version p h e ≡ Ok tt → IsStateOf version p (kept_but_full version p h e) s
+    → IsStateOf version p (e ∷ h) s
+behind_so version p h e s is state =
+    subst (λ (j : Judgement). IsStateOf version p (if is_ok j then e ∷ h else h) s) is state
