@@ -63,15 +63,16 @@ fn is_request_served(state: &BusState, first: Edge, second: Edge) -> bool
 /// So only their other order is judged. The two orders need not be compared by all that they lead
 /// to. If both are legal, one thing alone can differ: an answer serves an interrupt request of its
 /// own board that was there before it, and not one that comes after it. At most two edges are
-/// judged, and the state is copied once.
+/// judged, and the state is copied at most once.
 pub fn step_back(before: &BusState, first: Edge, edge: Edge) -> StepBack
     ensures { OfHistory before.now (λ version p h. IsLegal version p (edge ∷ first ∷ h)
         → StepsBack version p h first edge result) }
 {
-    let mut behind = *before;
-    if let Err(refused) = behind.step(edge) {
+    if let Err(refused) = before.judge(edge) {
         return StepBack::Waits(refused);
     }
+    let mut behind = *before;
+    behind.note(edge);
     if let Err(refused) = behind.step(first) {
         return StepBack::Races(Err(refused));
     }
