@@ -25,13 +25,13 @@ use Rattle.vme_trace.proofs.ReadBack.{text_read}
 use Rattle.vme_engines.specs.Checking.{IsLegalTrace, first_refusal}
 use Rattle.vme_engines.specs.Outcomes.{bench}
 use Rattle.vme_engines.proofs.CheckPieces.{all_kept}
-use Rattle.vme_engines.proofs.FollowedEdges.{edges_on, kept_plan}
+use Rattle.vme_engines.proofs.FollowedEdges.{edges_on}
 use Rattle.vme_engines.proofs.LegalTrace.{all_well_formed, legal_trace}
 use Rattle.vme_races.specs.declared.walks.Stop.{Stop}
 use Rattle.vme_races.specs.declared.walks.Stop.TheVariants.{Races}
 use Rattle.vme_races.specs.Other.{IsLegalButLast, IsOtherOrder}
 use Rattle.vme_races.specs.Walks.{Stops}
-use Rattle.vme_races.proofs.TakenIn.{kept_legal, kept_version, ok_by}
+use Rattle.vme_races.proofs.TakenIn.{kept_legal, ok_by}
 
 -- ---- what is kept fits
 
