@@ -1,0 +1,86 @@
+-- Two traces that are read side by side: `Input::read_piece` and `read_out`, src/pairs.rt.
+use Rattle.std.proofs.Common.{◌≡◌, ◌⊎◌, inl, inr, ℕ, ◌+◌, ◌<◌, List, [], ◌++◌, Bool, true, false, Option, Some, None, unwrap_or, Result, Ok, Err, refl, sym, ◌∙◌, subst, arith}
+use Rattle.vme_model.specs.declared.signals.Version.{Version}
+use Rattle.vme_model.specs.declared.signals.Edge.{Edge}
+use Rattle.vme_trace.specs.declared.Fault.{Fault}
+use Rattle.vme_trace.specs.declared.Fault.TheVariants.{Read, Memory}
+use Rattle.vme_trace.specs.Reading as trace
+use Rattle.vme_trace.specs.Pieces.{PumpedUpTo}
+use Rattle.vme_engines.specs.Streams.{streams}
+use Rattle.vme_engines.specs.Steps.{Comes}
+use Rattle.vme_engines.specs.Pairs.{IsReadWhole, MeetsFault}
+use Rattle.vme_engines.specs.Sides.{HasCome, goes_on, turns_left}
+use Rattle.vme_engines.specs.declared.traces.Input.{Input}
+use Rattle.vme_engines.proofs.CanGoOn.{can_go_on}
+use Rattle.vme_engines.proofs.TraceReads.{IsReading, reading_of, begins_more, came, stays_known, read_out}
+use Rattle.vme_engines.proofs.ReadOn.{came_is, came_begins}
+use Rattle.vme_engines.proofs.Waits.{waits_now}
+
+-- ---- a piece
+
+module _ (from at : Option (List ℕ)) (v : Version) (es : List Edge) (input : Input) (h : HasCome from at v es input) (goes : input.more ≡ Ok true) where
+  reading : IsReading [] from at input.reader input.reads es
+  reading = reading_of [] from at input.reader input.reads es (subst (λ (a : Result Bool Fault). Comes from at [] input.reads input.reader es a) goes h.came)
+
+  -- no read is left
+  pub unread_came : (left : ℕ) → Comes from at [] left input.reader es (Err Read)
+  unread_came left =
+      let later = reading.later in
+      let read = reading.read in (
+        later,
+        reading.taken,
+        inl (
+          refl,
+          record {
+            version = sym read.version;
+            edges = read.edges;
+            goes_on = can_go_on input.reader later es read;
+            begins = λ w e. begins_more w input.reader later es read e (unwrap_or at []);
+          },
+        ),
+      )
+
+  module _ (to : Option (List ℕ)) (left : ℕ) (one_less : input.reads ≡ left + 1) where
+    pub one_read : IsReading [] from at input.reader (left + 1) es
+    one_read = subst (λ (n : ℕ). IsReading [] from at input.reader n es) one_less reading
+
+    module _ (next : trace.ReaderState) (new : List Edge) (answer : Result Bool Fault) (pumped : PumpedUpTo 69632 at to one_read.later es [] new next answer) where
+      pub piece_known : next.version ≡ Some v
+      piece_known = stays_known [] from at to input.reader next left es new one_read v h.known answer pumped
+
+      pub piece_came : Comes from to [] left next (es ++ new) answer
+      piece_came = came [] from at to input.reader next left es new one_read answer pumped
+
+pub fewer_turns : (more : Result Bool Fault) (left reads : ℕ) → left < reads → turns_left more left < turns_left (Ok true) reads
+fewer_turns (Ok true) left reads h = omega (arith, h)
+fewer_turns (Ok false) left reads h = omega (arith, h)
+fewer_turns (Err f) left reads h = omega (arith, h)
+
+-- ---- the end
+
+pub has_stopped : (more : Result Bool Fault) (m : Bool) → more ≡ Ok m → goes_on more ≡ false → more ≡ Ok false
+has_stopped more true is h = absurd cc
+has_stopped more false is h = is
+
+module _ (from to : Option (List ℕ)) (v : Version) (es : List Edge) (input : Input) (h : HasCome from to v es input) where
+  pub is_whole : input.more ≡ Ok false → IsReadWhole (streams from to None None) v es
+  is_whole is =
+      let end = subst (λ (a : Result Bool Fault). Comes from to [] input.reads input.reader es a) is h.came in
+      record {
+        trace = end.0;
+        input = read_out from to end.0 end.1 end.2;
+        read_out = end.2;
+        named = sym end.3 ∙ h.known;
+        edges = end.4;
+        whole = end.5;
+      }
+
+  -- a fault that the read reported, or that there was no room for its edges
+  pub meets : (f : Fault) → (input.more ≡ Err f) ⊎ (f ≡ Memory) → MeetsFault (streams from to None None) f
+  meets f which =
+      let all = came_is v from to [] input.reads input.reader es h.known input.more h.came in
+      let begins = came_begins v all.0 from to es input.more all.2 in
+      (all.0, all.1, elim which [
+        | inl is ↦ waits_now (λ w fs. Unit {0}) v all.0 (streams from to None None) es input.more all.2 tt f is
+        | inr is ↦ rw is (es, begins.others, begins.edges, tt)
+      ])
