@@ -1,20 +1,31 @@
 -- Two traces that are read side by side: `Input::read_piece` and `read_out`, src/pairs.rt.
-use Rattle.std.proofs.Common.{◌≡◌, ◌⊎◌, inl, inr, ℕ, ◌+◌, ◌<◌, List, [], ◌++◌, Bool, true, false, Option, Some, None, unwrap_or, Result, Ok, Err, refl, sym, ◌∙◌, subst, arith}
+use Rattle.std.proofs.Common.{◌≡◌, ◌⊎◌, inl, inr, ℕ, ◌+◌, ◌^◌, ◌<◌, ◌≤◌, length, List, [], ◌++◌, Bool, true, false, Option, Some, None, unwrap_or, Result, Ok, Err, refl, sym, ◌∙◌, ap, subst, arith}
 use Rattle.vme_model.specs.declared.signals.Version.{Version}
 use Rattle.vme_model.specs.declared.signals.Edge.{Edge}
+use Rattle.vme_model.specs.Locality.{AreWellFormed}
+use Rattle.vme_model.specs.Plan.{Plan}
+use Rattle.vme_scenario.specs.Format.{scenario}
 use Rattle.vme_trace.specs.declared.Fault.{Fault}
 use Rattle.vme_trace.specs.declared.Fault.TheVariants.{Read, Memory}
 use Rattle.vme_trace.specs.Reading as trace
 use Rattle.vme_trace.specs.Pieces.{PumpedUpTo}
-use Rattle.vme_engines.specs.Streams.{streams}
+use Rattle.vme_engines.specs.Streams.{Streams, streams}
+use Rattle.vme_engines.specs.Outcomes.{scenario_limit}
 use Rattle.vme_engines.specs.Steps.{Comes}
-use Rattle.vme_engines.specs.Pairs.{IsReadWhole, MeetsFault}
-use Rattle.vme_engines.specs.Sides.{HasCome, goes_on, turns_left}
+use Rattle.vme_engines.specs.Pairs.{IsReadWhole, LentPair, MeetsFault, ReadsPair}
+use Rattle.vme_engines.specs.Begun.{HasBegun, IsUnbegun}
+use Rattle.vme_engines.specs.Sides.{HasCome, goes_on, turns_left, next_turn}
 use Rattle.vme_engines.specs.declared.traces.Input.{Input}
+use Rattle.vme_engines.specs.declared.pairs.Turn.{Turn}
+use Rattle.vme_engines.specs.declared.pairs.Turn.TheVariants.{First, Second}
+use Rattle.vme_engines.specs.declared.pairs.PairFault.{PairFault}
+use Rattle.vme_engines.specs.declared.pairs.PairFault.TheVariants as pair
 use Rattle.vme_engines.proofs.CanGoOn.{can_go_on}
-use Rattle.vme_engines.proofs.TraceReads.{IsReading, reading_of, begins_more, came, stays_known, read_out}
+use Rattle.vme_engines.proofs.TraceReads.{IsReading, reading_of, begins_more, came, stays_known, read_out, counted_few}
 use Rattle.vme_engines.proofs.ReadOn.{came_is, came_begins}
-use Rattle.vme_engines.proofs.Waits.{waits_now}
+use Rattle.vme_engines.proofs.FirstReads.{counted_first}
+use Rattle.vme_engines.proofs.FormedEdges.{formed_both, formed_first}
+use Rattle.vme_engines.proofs.Waits.{stops_unread, waits_now}
 
 -- ---- a piece
 
@@ -84,3 +95,62 @@ module _ (from to : Option (List ℕ)) (v : Version) (es : List Edge) (input : I
         | inl is ↦ waits_now (λ w fs. Unit {0}) v all.0 (streams from to None None) es input.more all.2 tt f is
         | inr is ↦ rw is (es, begins.others, begins.edges, tt)
       ])
+
+-- ---- two traces
+
+pub has_come : (from to : Option (List ℕ)) (v : Version) (input : Input) → HasBegun from to v input → HasCome from to v input.edges.items input
+has_come from to v input h = record { known = h.known; came = h.came }
+
+pub unbegun_meets : (from to : Option (List ℕ)) (f : Fault) → IsUnbegun from to f → MeetsFault (streams from to None None) f
+unbegun_meets from to f h = (h.0, h.1, stops_unread (λ w fs. Unit {0}) tt h.0 (streams from to None None) f h.2)
+
+pub few : (from at : Option (List ℕ)) (v : Version) (es : List Edge) (input : Input) → HasCome from at v es input → input.more ≡ Ok true → length es ≤ 2 ^ 41
+few from at v es input h is = counted_few input.reader input.reads (length es) (counted_first from at [] input.reader es input.more input.reads h.came is)
+
+pub formed_new : (from to : Option (List ℕ)) (v : Version) (es new : List Edge) (input : Input) → HasCome from to v (es ++ new) input → AreWellFormed new
+formed_new from to v es new input h = (formed_both es new (formed_first from to [] input.reads input.reader (es ++ new) input.more h.came)).1
+
+-- ---- whose turn it is
+
+first_turn : (wanted first second : Bool) → next_turn wanted first second ≡ Some First → first ≡ true
+first_turn true true second is = refl
+first_turn false true false is = refl
+first_turn false true true is = refl
+first_turn wanted false true is = absurd cc
+first_turn wanted false false is = absurd cc
+
+second_turn : (wanted first second : Bool) → next_turn wanted first second ≡ Some Second → second ≡ true
+second_turn true true second is = absurd cc
+second_turn false true false is = absurd cc
+second_turn false true true is = refl
+second_turn wanted false true is = refl
+second_turn wanted false false is = absurd cc
+
+no_turn : (wanted first second : Bool) → next_turn wanted first second ≡ None → (first ≡ false) × (second ≡ false)
+no_turn true true second is = absurd cc
+no_turn false true false is = absurd cc
+no_turn false true true is = absurd cc
+no_turn wanted false true is = absurd cc
+no_turn wanted false false is = (refl, refl)
+
+module _ (wanted first second : Bool) (next : Option Turn) (is : next ≡ next_turn wanted first second) (more others : Result Bool Fault)
+    (first_is : first ≡ goes_on more) (second_is : second ≡ goes_on others) (first_whole : more ≡ Ok (goes_on more)) (second_whole : others ≡ Ok (goes_on others)) where
+  pub first_goes : (turn : Turn) → next ≡ Some turn → turn ≡ First → more ≡ Ok true
+  first_goes turn some here = first_whole ∙ ap Ok (sym first_is ∙ first_turn wanted first second (sym is ∙ some ∙ ap Some here))
+
+  pub second_goes : (turn : Turn) → next ≡ Some turn → turn ≡ Second → others ≡ Ok true
+  second_goes turn some here = second_whole ∙ ap Ok (sym second_is ∙ second_turn wanted first second (sym is ∙ some ∙ ap Some here))
+
+  pub both_ended : next ≡ None → (more ≡ Ok false) × (others ≡ Ok false)
+  both_ended none =
+      let ended = no_turn wanted first second (sym is ∙ none) in
+      (first_whole ∙ ap Ok (sym first_is ∙ ended.0), second_whole ∙ ap Ok (sym second_is ∙ ended.1))
+
+-- ---- the scenario
+
+pub lent_pair : {J : Type 0} (text : List ℕ) (nothing : Type 0) (stands : Plan → Version → Version → List Edge → List Edge → J → Type 0) (s t : Streams) (p : Plan) (r : Result J PairFault)
+    → length text ≤ scenario_limit → scenario text ≡ Ok p → ReadsPair (stands p) s t r → LentPair text nothing (λ q. ReadsPair (stands q) s t) r
+lent_pair text nothing stands s t p (Ok judge) short is h = (p, short, is, h)
+lent_pair text nothing stands s t p (Err (pair.First f)) short is h = (p, short, is, h)
+lent_pair text nothing stands s t p (Err (pair.Second f)) short is h = (p, short, is, h)
+lent_pair text nothing stands s t p (Err (pair.Engine f)) short is h = absurd h
