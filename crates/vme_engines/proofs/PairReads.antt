@@ -1,25 +1,20 @@
 -- Two traces that are read side by side: `Input::read_piece` and `read_out`, src/pairs.rt.
-use Rattle.std.proofs.Common.{◌≡◌, ◌⊎◌, inl, inr, ℕ, ◌+◌, ◌^◌, ◌<◌, ◌≤◌, length, List, [], ◌++◌, Bool, true, false, Option, Some, None, unwrap_or, Result, Ok, Err, refl, sym, ◌∙◌, ap, subst, arith}
+use Rattle.std.proofs.Common.{◌≡◌, ◌⊎◌, inl, inr, ℕ, ◌+◌, ◌^◌, ◌<◌, ◌≤◌, length, List, [], ◌++◌, Bool, true, false, Option, Some, None, unwrap_or, Result, Ok, Err, refl, sym, ◌∙◌, ap, subst, arith, length-append}
 use Rattle.vme_model.specs.declared.signals.Version.{Version}
 use Rattle.vme_model.specs.declared.signals.Edge.{Edge}
 use Rattle.vme_model.specs.Locality.{AreWellFormed}
-use Rattle.vme_model.specs.Plan.{Plan}
-use Rattle.vme_scenario.specs.Format.{scenario}
 use Rattle.vme_trace.specs.declared.Fault.{Fault}
 use Rattle.vme_trace.specs.declared.Fault.TheVariants.{Read, Memory}
 use Rattle.vme_trace.specs.Reading as trace
 use Rattle.vme_trace.specs.Pieces.{PumpedUpTo}
-use Rattle.vme_engines.specs.Streams.{Streams, streams}
-use Rattle.vme_engines.specs.Outcomes.{scenario_limit}
+use Rattle.vme_engines.specs.Streams.{streams}
 use Rattle.vme_engines.specs.Steps.{Comes}
-use Rattle.vme_engines.specs.Pairs.{IsReadWhole, LentPair, MeetsFault, ReadsPair}
-use Rattle.vme_engines.specs.Begun.{HasBegun, IsUnbegun}
-use Rattle.vme_engines.specs.Sides.{HasCome, goes_on, turns_left, next_turn}
+use Rattle.vme_engines.specs.Pairs.{IsReadWhole, MeetsFault}
+use Rattle.vme_engines.specs.Begun.{HasCome, HasBegun, IsUnbegun}
+use Rattle.vme_engines.specs.Sides.{IsSide, goes_on, turns_left, next_turn}
 use Rattle.vme_engines.specs.declared.traces.Input.{Input}
 use Rattle.vme_engines.specs.declared.pairs.Turn.{Turn}
 use Rattle.vme_engines.specs.declared.pairs.Turn.TheVariants.{First, Second}
-use Rattle.vme_engines.specs.declared.pairs.PairFault.{PairFault}
-use Rattle.vme_engines.specs.declared.pairs.PairFault.TheVariants as pair
 use Rattle.vme_engines.proofs.CanGoOn.{can_go_on}
 use Rattle.vme_engines.proofs.TraceReads.{IsReading, reading_of, begins_more, came, stays_known, read_out, counted_few}
 use Rattle.vme_engines.proofs.ReadOn.{came_is, came_begins}
@@ -90,25 +85,39 @@ module _ (from to : Option (List ℕ)) (v : Version) (es : List Edge) (input : I
   pub meets : (f : Fault) → (input.more ≡ Err f) ⊎ (f ≡ Memory) → MeetsFault (streams from to None None) f
   meets f which =
       let all = came_is v from to [] input.reads input.reader es h.known input.more h.came in
-      let begins = came_begins v all.0 from to es input.more all.2 in
-      (all.0, all.1, elim which [
-        | inl is ↦ waits_now (λ w fs. Unit {0}) v all.0 (streams from to None None) es input.more all.2 tt f is
-        | inr is ↦ rw is (es, begins.others, begins.edges, tt)
-      ])
-
--- ---- two traces
-
-pub has_come : (from to : Option (List ℕ)) (v : Version) (input : Input) → HasBegun from to v input → HasCome from to v input.edges.items input
-has_come from to v input h = record { known = h.known; came = h.came }
+      let begins = came_begins v all.0 from to es input.more all.2 in (
+        all.0,
+        all.1,
+        elim which [
+          | inl is ↦ waits_now (λ w fs. Unit {0}) v all.0 (streams from to None None) es input.more all.2 tt f is
+          | inr is ↦ rw is (es, begins.others, begins.edges, tt)
+        ],
+      )
 
 pub unbegun_meets : (from to : Option (List ℕ)) (f : Fault) → IsUnbegun from to f → MeetsFault (streams from to None None) f
 unbegun_meets from to f h = (h.0, h.1, stops_unread (λ w fs. Unit {0}) tt h.0 (streams from to None None) f h.2)
 
-pub few : (from at : Option (List ℕ)) (v : Version) (es : List Edge) (input : Input) → HasCome from at v es input → input.more ≡ Ok true → length es ≤ 2 ^ 41
-few from at v es input h is = counted_few input.reader input.reads (length es) (counted_first from at [] input.reader es input.more input.reads h.came is)
+-- ---- one side
 
 pub formed_new : (from to : Option (List ℕ)) (v : Version) (es new : List Edge) (input : Input) → HasCome from to v (es ++ new) input → AreWellFormed new
 formed_new from to v es new input h = (formed_both es new (formed_first from to [] input.reads input.reader (es ++ new) input.more h.came)).1
+
+pub side_begun : (from at : Option (List ℕ)) (v : Version) (input : Input) (none count : ℕ) → HasBegun from at v input → input.more ≡ Ok (goes_on input.more) → none ≡ 0 → count ≡ none + length input.edges.items
+    → IsSide from at v input.edges.items count input
+side_begun from at v input none count h unfaulted is more = record { came = h; unfaulted = unfaulted; counted = omega (arith, is, more) }
+
+module _ (from at : Option (List ℕ)) (v : Version) (es : List Edge) (count : ℕ) (input : Input) (h : IsSide from at v es count input) where
+  pub side_few : input.more ≡ Ok true → count ≤ 2 ^ 41
+  side_few is = subst (λ (n : ℕ). n ≤ 2 ^ 41) (sym h.counted) (counted_few input.reader input.reads (length es) (counted_first from at [] input.reader es input.more input.reads h.came.came is))
+
+  -- one more piece
+  pub side_more : (to : Option (List ℕ)) (now : Input) (more : ℕ) → HasCome from to v (es ++ now.edges.items) now → now.more ≡ Ok (goes_on now.more) → more ≡ count + length now.edges.items
+      → IsSide from to v (es ++ now.edges.items) more now
+  side_more to now more came unfaulted grown = record { came = came; unfaulted = unfaulted; counted = grown ∙ ap (λ n. n + length now.edges.items) h.counted ∙ sym (length-append es now.edges.items) }
+
+  -- the judge took edges of the other side
+  pub side_stays : (same : ℕ) → same ≡ count → IsSide from at v es same input
+  side_stays same is = record { came = h.came; unfaulted = h.unfaulted; counted = is ∙ h.counted }
 
 -- ---- whose turn it is
 
@@ -145,12 +154,3 @@ module _ (wanted first second : Bool) (next : Option Turn) (is : next ≡ next_t
   both_ended none =
       let ended = no_turn wanted first second (sym is ∙ none) in
       (first_whole ∙ ap Ok (sym first_is ∙ ended.0), second_whole ∙ ap Ok (sym second_is ∙ ended.1))
-
--- ---- the scenario
-
-pub lent_pair : {J : Type 0} (text : List ℕ) (nothing : Type 0) (stands : Plan → Version → Version → List Edge → List Edge → J → Type 0) (s t : Streams) (p : Plan) (r : Result J PairFault)
-    → length text ≤ scenario_limit → scenario text ≡ Ok p → ReadsPair (stands p) s t r → LentPair text nothing (λ q. ReadsPair (stands q) s t) r
-lent_pair text nothing stands s t p (Ok judge) short is h = (p, short, is, h)
-lent_pair text nothing stands s t p (Err (pair.First f)) short is h = (p, short, is, h)
-lent_pair text nothing stands s t p (Err (pair.Second f)) short is h = (p, short, is, h)
-lent_pair text nothing stands s t p (Err (pair.Engine f)) short is h = absurd h

@@ -42,7 +42,7 @@ pub mod Pieces
 pub mod Readings
 -- words: a trace that stands alone, up to its header line
 pub mod Begun
--- words: one of two traces that are read side by side, as far as it was read
+-- words: two traces that are read side by side, as far as they were read
 pub mod Sides
 -- words: what the edges of a trace do to `explain` and `state`
 pub mod Followed

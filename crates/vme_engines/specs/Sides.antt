@@ -1,5 +1,5 @@
--- One of two traces that are read side by side, as far as it was read.
-use Rattle.std.specs.Prelude.{◌≡◌, [], ◌+◌, ℕ, Bool, true, false, not, List, length, Option, Some, None, Result, Ok, Err}
+-- Two traces that are read side by side, as far as they were read.
+use Rattle.std.specs.Prelude.{◌≡◌, ◌+◌, ℕ, Bool, true, false, not, List, length, Option, Some, None, Result, Ok, Err}
 use Rattle.vme_model.specs.declared.signals.Version.{Version}
 use Rattle.vme_model.specs.declared.signals.Edge.{Edge}
 use Rattle.vme_trace.specs.declared.Fault.{Fault}
@@ -7,24 +7,12 @@ use Rattle.vme_engines.specs.declared.traces.Input.{Input}
 use Rattle.vme_engines.specs.declared.pairs.Turn.{Turn}
 use Rattle.vme_engines.specs.declared.pairs.Turn.TheVariants.{First, Second}
 use Rattle.vme_engines.specs.Streams.{Streams}
-use Rattle.vme_engines.specs.Steps.{Comes}
-
--- The trace was read up to there: it is of this version, and these are its edges so far.
-pub record HasCome
-    (from at : Option (List ℕ)) (version : Version) (es : List Edge) (input : Input)
-    : Type 0 where
-  pub known : input.reader.version ≡ Some version
-  pub came : Comes from at [] input.reads input.reader es input.more
+use Rattle.vme_engines.specs.Begun.{HasCome}
 
 -- whether more of a trace may come, by what its last read answered
 abbrev pub goes_on : Result Bool Fault → Bool
 goes_on (Ok more) = more
 goes_on (Err f) = false
-
--- whether a trace ended without fault, by what its last read answered
-abbrev pub has_ended : Result Bool Fault → Bool
-has_ended (Ok more) = not more
-has_ended (Err f) = false
 
 -- how many pieces may come at most, the last one without a read
 abbrev pub turns_left : Result Bool Fault → ℕ → ℕ
@@ -40,6 +28,14 @@ next_turn false true true = Some Second
 next_turn wanted false true = Some Second
 next_turn wanted false false = None
 
+-- One of the traces was read up to there without a fault, and its edges so far were counted.
+pub record IsSide
+    (from at : Option (List ℕ)) (version : Version) (es : List Edge) (count : ℕ) (input : Input)
+    : Type 0 where
+  pub came : HasCome from at version es input
+  pub unfaulted : input.more ≡ Ok (goes_on input.more)
+  pub counted : count ≡ length es
+
 -- Both traces were read up to there, and the judge stands behind their edges.
 pub record AreUnderWay
     {J : Type 0} (stands : Version → Version → List Edge → Bool → List Edge → J → Type 0)
@@ -49,10 +45,6 @@ pub record AreUnderWay
   pub w : Version
   pub es : List Edge
   pub fs : List Edge
-  pub first_came : HasCome s.from s.to v es first
-  pub second_came : HasCome t.from t.to w fs second
-  pub first_whole : first.more ≡ Ok (goes_on first.more)
-  pub second_whole : second.more ≡ Ok (goes_on second.more)
-  pub first_counted : first_count judge ≡ length es
-  pub second_counted : second_count judge ≡ length fs
-  pub stands_so : stands v w es (has_ended first.more) fs judge
+  pub first_side : IsSide s.from s.to v es (first_count judge) first
+  pub second_side : IsSide t.from t.to w fs (second_count judge) second
+  pub stands_so : stands v w es (not (goes_on first.more)) fs judge

@@ -1,13 +1,13 @@
 //! The one reading of two traces side by side: a judge takes the edges of both piece by piece.
-ghost use Rattle.std.specs.Prelude.{◌≡◌, ◌⊎◌, ◌+◌, ◌<◌, ◌^◌, ◌++◌, ℕ, List, [], Option, None, Bool, Ok, Err, true, false, length, OnOk, IfOk, IfErr};
+ghost use Rattle.std.specs.Prelude.{◌≡◌, ◌⊎◌, ◌+◌, ◌<◌, ◌^◌, ◌++◌, ℕ, List, [], Option, None, Bool, Ok, Err, true, false, not, length, OnOk, IfOk, IfErr};
 ghost use Rattle.vme_model.specs.declared.signals.Edge.{Edge as EdgeValue};
 ghost use Rattle.vme_model.specs.declared.signals.Version.{Version as VersionValue};
 ghost use Rattle.vme_model.specs.Plan.{Plan as PlanValue};
 ghost use Rattle.vme_model.specs.Locality.{AreWellFormed};
-ghost use Rattle.vme_engines.specs.Begun.{IsUntouched};
+ghost use Rattle.vme_engines.specs.Begun.{HasCome, IsUntouched};
 ghost use Rattle.vme_engines.specs.Streams.{Streams, streams, ReadNothing};
 ghost use Rattle.vme_engines.specs.Pairs.{EitherMeets, LentPair, MeetsFault, ReadsPair};
-ghost use Rattle.vme_engines.specs.Sides.{AreUnderWay, HasCome, goes_on, has_ended, next_turn};
+ghost use Rattle.vme_engines.specs.Sides.{AreUnderWay, goes_on, next_turn};
 
 use crate::EngineFault;
 use crate::pieces::buffer_of;
@@ -42,8 +42,10 @@ pub trait Pair: Drop {
         ensures second_count { second_count result ≡ 0 }
         ensures stands { stands task.now plan first second [] false [] result };
 
-    /// Whether it is to get more edges of the first trace before further ones of the second. Its
-    /// answer decides how much it has to keep, and nothing else.
+    /// Whether further edges of the first trace are to come before further ones of the second.
+    ///
+    /// The answer decides how many edges it has to keep, and nothing else. The first piece of
+    /// either trace comes unasked.
     fn wants_first(&self) -> bool;
 
     /// Takes the next edges of the first trace. X6 is its only fault.
@@ -121,14 +123,14 @@ fn turn_of(is_wanted: bool, first_goes_on: bool, second_goes_on: bool) -> Option
 fn hand_first<J: Pair>(judge: &mut J, input: &Input) -> Result<(), Fault>
     requires count { J.first_count judge.old + length input.now.edges.items < 2 ^ 64 }
     requires well_formed { AreWellFormed input.now.edges.items }
-    ensures whole { OnOk result (input.now.more ≡ Ok (goes_on input.now.more)) }
+    ensures unfaulted { OnOk result (input.now.more ≡ Ok (goes_on input.now.more)) }
     ensures first_count { OnOk result
         (J.first_count judge.new ≡ J.first_count judge.old + length input.now.edges.items) }
     ensures second_count { OnOk result (J.second_count judge.new ≡ J.second_count judge.old) }
     ensures takes { OnOk result ((task : J.Task) (p : PlanValue) (v : VersionValue)
         (w : VersionValue) (es : List EdgeValue) (fs : List EdgeValue)
         → J.stands task p v w es false fs judge.old
-        → J.stands task p v w (es ++ input.now.edges.items) (has_ended input.now.more) fs
+        → J.stands task p v w (es ++ input.now.edges.items) (not (goes_on input.now.more)) fs
         judge.new) }
     ensures fault { IfErr result (λ fault.
         (input.now.more ≡ Err fault) ⊎ (fault ≡ Fault.Memory)) }
@@ -147,7 +149,7 @@ fn hand_first<J: Pair>(judge: &mut J, input: &Input) -> Result<(), Fault>
 fn hand_second<J: Pair>(judge: &mut J, input: &Input) -> Result<(), Fault>
     requires count { J.second_count judge.old + length input.now.edges.items < 2 ^ 64 }
     requires well_formed { AreWellFormed input.now.edges.items }
-    ensures whole { OnOk result (input.now.more ≡ Ok (goes_on input.now.more)) }
+    ensures unfaulted { OnOk result (input.now.more ≡ Ok (goes_on input.now.more)) }
     ensures first_count { OnOk result (J.first_count judge.new ≡ J.first_count judge.old) }
     ensures second_count { OnOk result
         (J.second_count judge.new ≡ J.second_count judge.old + length input.now.edges.items) }
@@ -162,8 +164,9 @@ fn hand_second<J: Pair>(judge: &mut J, input: &Input) -> Result<(), Fault>
     judge.take_second(&input.edges)
 }
 
-/// The fault of two traces, if the second has this one: that of the first, if it has any.
-fn fault_behind<A: Read>(
+/// The fault that is reported if the second trace has this one. The first is read to its end, and
+/// its own fault comes before.
+fn reported_fault<A: Read>(
     fault: Fault,
     input: &mut Input,
     buffer: &mut [u8],
@@ -196,8 +199,8 @@ fn begin_both<J: Pair, A: Read, B: Read>(
     ensures begun { IfOk result (λ judge.
         let s = streams (A.remaining first.old) (A.remaining first.new) None None in
         let t = streams (B.remaining second.old) (B.remaining second.new) None None in
-        AreUnderWay (J.stands task.now plan) J.first_count J.second_count s t one.new other.new
-        judge) }
+        AreUnderWay (J.stands task.now plan) J.first_count J.second_count
+        s t one.new other.new judge) }
     ensures fault { IfErr result (λ fault.
         let s = streams (A.remaining first.old) (A.remaining first.new) None None in
         let t = streams (B.remaining second.old) (B.remaining second.new) None None in
@@ -209,7 +212,7 @@ fn begin_both<J: Pair, A: Read, B: Read>(
     };
     let named = match other.begin(buffer, second) {
         Ok(named) => named,
-        Err(fault) => return Err(fault_behind(fault, one, buffer, first)),
+        Err(fault) => return Err(reported_fault(fault, one, buffer, first)),
     };
     let mut judge = J::begin(task, plan, version, named);
     if let Err(fault) = hand_first(&mut judge, one) {
@@ -217,7 +220,7 @@ fn begin_both<J: Pair, A: Read, B: Read>(
     }
     match hand_second(&mut judge, other) {
         Ok(()) => Ok(judge),
-        Err(fault) => Err(fault_behind(fault, one, buffer, first)),
+        Err(fault) => Err(reported_fault(fault, one, buffer, first)),
     }
 }
 
@@ -238,11 +241,8 @@ fn read_both<J: Pair, A: Read, B: Read>(
 {
     let mut one = Input::new(alloc);
     let mut other = Input::new(alloc);
-    let mut judge =
-        begin_both::<J, A, B>(task, plan, buffer, &mut one, first, &mut other, second)?;
-    'reads: while let Some(turn) =
-        turn_of(judge.wants_first(), one.goes_on(), other.goes_on())
-    {
+    let mut judge: J = begin_both(task, plan, buffer, &mut one, first, &mut other, second)?;
+    'reads: while let Some(turn) = turn_of(judge.wants_first(), one.goes_on(), other.goes_on()) {
         match turn {
             Turn::First => {
                 one.read_piece(buffer, first);
@@ -253,7 +253,7 @@ fn read_both<J: Pair, A: Read, B: Read>(
             Turn::Second => {
                 other.read_piece(buffer, second);
                 if let Err(fault) = hand_second(&mut judge, &other) {
-                    return Err(fault_behind(fault, &mut one, buffer, first));
+                    return Err(reported_fault(fault, &mut one, buffer, first));
                 }
             }
         }
@@ -264,8 +264,9 @@ fn read_both<J: Pair, A: Read, B: Read>(
 /// Reads two traces side by side, on the plan of a scenario, and gives the judge that took their
 /// edges.
 ///
-/// Of each trace it keeps a piece of 69,632 bytes at most, and its edges; the first is read on as
-/// the judge asks for it. It makes at most 16,777,216 reads of each.
+/// The first is read on while the judge wants it, and once the second has ended. The bytes of one
+/// piece are kept, 69,632 at most, and of each trace the edges of its last piece. It makes at most
+/// 16,777,216 reads of each.
 ///
 /// # Errors
 /// F2, the faults of the scenario and F3, before anything is read. X1 to X6 of the first trace. X1

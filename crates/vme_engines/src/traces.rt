@@ -1,5 +1,5 @@
 //! A trace that stands alone: it is read up to its header line, and from there piece by piece.
-ghost use Rattle.std.specs.Prelude.{◌≡◌, ◌≢◌, ◌++◌, ◌<◌, ℕ, List, Option, [], Ok, None, true, false, length, OnOk, IfOk, IfErr};
+ghost use Rattle.std.specs.Prelude.{◌≡◌, ◌≢◌, ◌++◌, ◌-◌, ◌<◌, ℕ, List, Option, [], Ok, None, true, false, length, OnOk, IfOk, IfErr};
 ghost use Rattle.vme_model.specs.declared.signals.Edge.{Edge as EdgeValue};
 ghost use Rattle.vme_model.specs.declared.signals.Version.{Version as VersionValue};
 ghost use Rattle.vme_trace.specs.Reading.{HasRead};
@@ -7,9 +7,9 @@ ghost use Rattle.vme_engines.specs.Streams.{streams};
 ghost use Rattle.vme_engines.specs.Steps.{Opens};
 ghost use Rattle.vme_engines.specs.Readings.{ReadsInput};
 ghost use Rattle.vme_model.specs.Plan.{Plan as PlanValue};
-ghost use Rattle.vme_engines.specs.Begun.{IsUntouched, IsReady, HasBegun, IsUnbegun};
+ghost use Rattle.vme_engines.specs.Begun.{IsUntouched, IsReady, HasCome, HasBegun, IsUnbegun};
 ghost use Rattle.vme_engines.specs.Pairs.{IsReadWhole, MeetsFault};
-ghost use Rattle.vme_engines.specs.Sides.{HasCome, goes_on, turns_left};
+ghost use Rattle.vme_engines.specs.Sides.{goes_on, turns_left};
 
 use crate::READS;
 use crate::readings::{Judge, read_on};
@@ -120,6 +120,7 @@ impl Input {
             → HasCome from (R.remaining trace.new) v (es ++ self.new.edges.items) self.new }
         ensures fewer { turns_left self.new.more self.new.reads
             < turns_left self.old.more self.old.reads }
+        ensures counts { self.new.reads ≡ self.old.reads - 1 }
     {
         self.edges.clear();
         if self.reads == 0 {

@@ -1,7 +1,8 @@
 use Rattle.std.proofs.Common.{ℕ, List, Option}
 use Rattle.vme_model.specs.declared.signals.Version.{Version}
 use Rattle.vme_model.specs.declared.signals.Edge.{Edge}
-use Rattle.vme_engines.specs.Sides.{HasCome, turns_left}
+use Rattle.vme_engines.specs.Begun.{HasCome}
+use Rattle.vme_engines.specs.Sides.{turns_left}
 use Rattle.vme_engines.proofs.traces.Input.read_out.Given as goal
 
 abbrev pub invariant-reads : goal.invariant-reads

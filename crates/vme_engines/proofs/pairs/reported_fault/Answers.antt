@@ -1,4 +1,4 @@
-use Rattle.vme_engines.proofs.pairs.fault_behind.Goals as goal
+use Rattle.vme_engines.proofs.pairs.reported_fault.Goals as goal
 
 pub returns-in-Ok : goal.returns-in-Ok
 returns-in-Ok g c = λ from v es t h meets.
