@@ -115,7 +115,7 @@ module _ (e : Edge) (place : ℕ) (xs : List Left) (at : IsAt e place xs) where
       ∙ ap (λ l. at.behind ++ l) (drop_behind at.behind at.left at.before)
 
   -- it is the first such edge of what is left, whatever comes behind
-  split_of : (more : Numbered) → more ++ numbers xs
+  pub split_of : (more : Numbered) → more ++ numbers xs
       ≡ (more ++ numbers at.behind) ++ (at.left.number, e) ∷ numbers at.before
   split_of more =
       ap (λ l. more ++ numbers l) at.split
@@ -123,7 +123,7 @@ module _ (e : Edge) (place : ℕ) (xs : List Left) (at : IsAt e place xs) where
       ∙ ap (λ a. more ++ (numbers at.behind ++ (at.left.number, a) ∷ numbers at.before)) at.is
       ∙ sym (append_assoc more (numbers at.behind) ((at.left.number, e) ∷ numbers at.before))
 
-  pub place_of : (more : Numbered) → IsPlace e (more ++ numbers xs)
+  abbrev pub place_of : (more : Numbered) → IsPlace e (more ++ numbers xs)
   place_of more = record {
     behind = more ++ numbers at.behind;
     number = at.left.number;

@@ -98,11 +98,18 @@ IsSure p v w k fs ended over found =
     (more : Numbered) (later : List Edge) → (ended ≡ true → more ≡ [])
     → (over ≡ true → later ≡ []) → IsOutcome p v w (more ++ k) (fs ++ later) found
 
+abbrev pub GoesBy :
+    Plan → Version → Version → Numbered → List Edge → Bool → Bool → List Next → Rest → ℕ
+    → Progress → Type 0
+GoesBy p v w k fs ended over next rest n Open = IsOpen p v w k fs (edges_of next) rest n
+GoesBy p v w k fs ended over next rest n (Seeks m e) =
+    (ended ≡ false) × IsSought p v w k fs m e
+GoesBy p v w k fs ended over next rest n (Finds found) = IsSure p v w k fs ended over found
+
 abbrev pub Goes :
     Plan → Version → Version → Numbered → List Edge → Pairing → Progress → Type 0
-Goes p v w k fs now Open = IsOpen p v w k fs (edges_of now.waiting.items) now.rest now.taken
-Goes p v w k fs now (Seeks n e) = (now.has_ended ≡ false) × IsSought p v w k fs n e
-Goes p v w k fs now (Finds found) = IsSure p v w k fs now.has_ended now.is_over found
+Goes p v w k fs now progress =
+    GoesBy p v w k fs now.has_ended now.is_over now.waiting.items now.rest now.taken progress
 
 -- the edges k of the first trace and fs of the second one were taken in; none was refused
 abbrev pub IsGoing : Plan → Version → Version → Numbered → List Edge → Pairing → Type 0

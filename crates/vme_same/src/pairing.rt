@@ -280,7 +280,8 @@ impl Pairing {
                 Ok(()) => Ok(()),
                 Err(_) => Err(Fault::Memory),
             },
-            Progress::Seeks { .. } | Progress::Finds(_) => Ok(()),
+            Progress::Seeks { .. } => Ok(()),
+            Progress::Finds(_) => Ok(()),
         }
     }
 

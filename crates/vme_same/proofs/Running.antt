@@ -1,0 +1,1 @@
+-- Both traces with the next edge.
