@@ -168,20 +168,18 @@ impl Matching {
             → IsComparison p v w es fs result }
         ensures formed { IsTrue (is_formed_found result) }
     {
-        if let Some((number, refused)) = self.first.refusal {
-            return Comparison::Refuses {
+        match (self.first.refusal, self.second.refusal) {
+            (Some((number, refused)), _) => Comparison::Refuses {
                 in_first: true,
                 number,
                 refused,
-            };
-        }
-        if let Some((number, refused)) = self.second.refusal {
-            return Comparison::Refuses {
+            },
+            (None, Some((number, refused))) => Comparison::Refuses {
                 in_first: false,
                 number,
                 refused,
-            };
+            },
+            (None, None) => self.pairing.found(),
         }
-        self.pairing.found()
     }
 }
