@@ -44,13 +44,10 @@ module _ (v : Version) (p : Plan) where
           whole = λ t. (let whole = last.whole t in omega (arith, count, room, whole));
         }
 
-  -- the next one comes in front of those that are left
-  pub pushed : (k : Numbered) (mid now : Recent) (a : Earlier) (others : List Earlier)
-      → IsReady v p k mid → IsStateOf v p (edges_in k) a.before → now.edges.items ≡ a ∷ others
-      → others ≡ mid.edges.items → now.has_more ≡ mid.has_more
-      → AreLast v p ((a.number, a.edge) ∷ k) now
-  pushed k mid now a others ready state front left same =
-      let is = front ∙ ap (λ l. a ∷ l) left in
+  pub pushed : (k : Numbered) (mid now : Recent) (a : Earlier) → IsReady v p k mid
+      → IsStateOf v p (edges_in k) a.before → now.edges.items ≡ a ∷ mid.edges.items
+      → now.has_more ≡ mid.has_more → AreLast v p ((a.number, a.edge) ∷ k) now
+  pushed k mid now a ready state is same =
       let new = ap length is in
       let count = ready.count in
       record {

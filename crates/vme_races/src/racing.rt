@@ -12,6 +12,7 @@ ghost use Rattle.vme_model.specs.Verdict.{kept, made, verdict};
 ghost use Rattle.vme_races.specs.Lines.{count_if};
 ghost use Rattle.vme_races.specs.Kept.{Advances, AreLast, Breaks, IsCounted, IsKept, Stands};
 
+use crate::earlier::Earlier;
 use crate::lines::{Line, race_line};
 use crate::recent::Recent;
 use crate::walks::Walk;
@@ -103,7 +104,11 @@ impl Racing {
         ensures counts { self.new.counts ≡ self.old.counts }
         ensures fault { IfErr result (λ fault. fault ≡ Fault.Memory) }
     {
-        self.recent.push(number, edge, self.bus.state())?;
+        self.recent.push(Earlier {
+            number,
+            edge: *edge,
+            before: *self.bus.state(),
+        })?;
         self.bus.make(*edge);
         Ok(())
     }

@@ -3,7 +3,6 @@ ghost use Rattle.std.specs.Prelude.{◌≡◌, ◌∷◌, [], IfErr, IsTrue, OnO
 ghost use Rattle.vme_model.specs.declared.signals.Version.{Version};
 ghost use Rattle.vme_model.specs.Plan.{Plan};
 ghost use Rattle.vme_model.specs.Numbered.{edges_in};
-ghost use Rattle.vme_model.specs.Signals.{is_well_formed};
 ghost use Rattle.vme_model.specs.Verdict.{IsLegal};
 ghost use Rattle.vme_bus.specs.States.{IsStateOf};
 ghost use Rattle.vme_races.specs.Walks.{IsWalk};
@@ -14,7 +13,6 @@ use crate::earlier::Earlier;
 use crate::walks::{Stop, Walk};
 use std::alloc::Global;
 use std::collections::VecDeque;
-use vme_bus::BusState;
 use vme_model::Edge;
 use vme_trace::Fault;
 
@@ -88,27 +86,19 @@ impl Recent {
         let _ = self.edges.pop_back();
     }
 
-    /// Takes in the next accepted edge, with its number and the bus before it.
-    ///
-    /// There is room before the state is copied, so that it is copied once.
+    /// Takes in the next accepted edge.
     ///
     /// Errors: X6.
-    pub(crate) fn push(&mut self, number: u64, edge: &Edge, before: &BusState) -> Result<(), Fault>
-        requires { IsTrue (is_well_formed edge.now) }
+    pub(crate) fn push(&mut self, earlier: Earlier) -> Result<(), Fault>
         ensures last { OnOk result (OfLast self.old (λ v p k.
-            IsStateOf v p (edges_in k) before.now
-            → AreLast v p ((number, edge.now) ∷ k) self.new)) }
+            IsStateOf v p (edges_in k) earlier.before
+            → AreLast v p ((earlier.number, earlier.edge) ∷ k) self.new)) }
         ensures fault { IfErr result (λ fault. fault ≡ Fault.Memory) }
     {
         self.make_room();
-        if self.edges.reserve(1).is_err() {
-            return Err(Fault::Memory);
+        match self.edges.push_front(earlier) {
+            Ok(()) => Ok(()),
+            Err(_) => Err(Fault::Memory),
         }
-        self.edges.push_front_reserved(Earlier {
-            number,
-            edge: *edge,
-            before: *before,
-        });
-        Ok(())
     }
 }

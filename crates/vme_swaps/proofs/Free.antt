@@ -16,13 +16,15 @@ use Rattle.vme_model.specs.Signals.{is_fall_of, is_same_wire, is_same_driver}
 use Rattle.vme_model.specs.Plan.{Plan, board_of}
 use Rattle.vme_model.specs.Accepted.{IsAccepted}
 use Rattle.vme_model.specs.History.{shown, addressing, served_since_request, serves}
-use Rattle.vme_model.specs.Deliveries.{delivery, delivered_by}
+use Rattle.vme_model.specs.declared.deliveries.Delivery.{Delivery}
+use Rattle.vme_model.specs.Deliveries.{delivery, delivered_by, with_delivery}
 use Rattle.vme_model.specs.GrantSafety.{is_fall_on}
-use Rattle.vme_model.specs.Verdict.{IsLegal, verdict_but_full}
+use Rattle.vme_model.specs.Verdict.{IsLegal, Judgement, verdict_but_full}
 use Rattle.vme_model.proofs.Bools.{and_left, and_right, not_true}
 use Rattle.vme_histories.proofs.Others.{same_wire}
+use Rattle.vme_bus.specs.Steps.{answer_but_full}
 use Rattle.vme_swaps.specs.Alike.{StandAlike}
-use Rattle.vme_swaps.specs.declared.swaps.StepBack.TheVariants.{Passes, Waits, Races}
+use Rattle.vme_swaps.specs.declared.swaps.StepBack.TheVariants.{Passes, Races}
 use Rattle.vme_swaps.specs.Swaps.{IsFree, StepsBack}
 use Rattle.vme_swaps.specs.Served.{is_serving, serves_request}
 use Rattle.vme_swaps.proofs.Alike.{shown_kept, addressing_kept, alike_sym}
@@ -204,10 +206,6 @@ differs version p h a b accepted legal swapped =
 -- how the second goes back over the first
 
 module _ (version : Version) (p : Plan) (h : List Edge) (a b : Edge) where
-  -- it is refused in front of the first
-  pub waits : (r : Refused) → verdict_but_full version p h b ≡ Err r → StepsBack version p h a b (Waits r)
-  waits r is = (λ free. (let alone = free.swapped.1.0 in absurd (cc (alone, is))), is)
-
   module _ (accepted : IsAccepted p) (legal : IsLegal version p (b ∷ a ∷ h)) (alone : verdict_but_full version p h b ≡ Ok tt) where
     -- the first is refused behind it
     pub races : (r : Refused) → Err r ≡ verdict_but_full version p (b ∷ h) a → StepsBack version p h a b (Races (Err r))
@@ -224,3 +222,21 @@ module _ (version : Version) (p : Plan) (h : List Edge) (a b : Edge) where
 
       pub races_served : served ≡ true → StepsBack version p h a b (Races (Ok tt))
       races_served so = (λ free. (let other = free_so.1 free in absurd (cc (other, so))), alone, behind)
+
+-- ---- by the whole answers
+
+refused_by : (j : Judgement) (d : Option Delivery) (r : Refused) → Err r ≡ with_delivery j d → j ≡ Err r
+refused_by (Ok u) d r is = absurd (cc)
+refused_by (Err s) d r is = (let same : s ≡ r = cc in ap (λ x. Err x) same)
+
+pub refused_so : (version : Version) (p : Plan) (h : List Edge) (e : Edge) (r : Refused)
+    → Err r ≡ answer_but_full version p h e → verdict_but_full version p h e ≡ Err r
+refused_so version p h e r is = refused_by (verdict_but_full version p h e) (delivery p h e) r is
+
+accepted_by : (j : Judgement) (d x : Option Delivery) → Ok x ≡ with_delivery j d → j ≡ Ok tt
+accepted_by (Ok u) d x is = refl
+accepted_by (Err s) d x is = absurd (cc)
+
+pub accepted_so : (version : Version) (p : Plan) (h : List Edge) (e : Edge) (x : Option Delivery)
+    → Ok x ≡ answer_but_full version p h e → verdict_but_full version p h e ≡ Ok tt
+accepted_so version p h e x is = accepted_by (verdict_but_full version p h e) (delivery p h e) x is

@@ -2,13 +2,12 @@
 ghost use Rattle.std.specs.Prelude.{◌≡◌, ◌∷◌, ◌||◌};
 ghost use Rattle.vme_model.specs.History.{shown};
 ghost use Rattle.vme_model.specs.Plan.{board_of};
-ghost use Rattle.vme_model.specs.Verdict.{IsLegal, verdict_but_full};
+ghost use Rattle.vme_model.specs.Verdict.{IsLegal};
 ghost use Rattle.vme_bus.specs.States.{OfHistory};
 ghost use Rattle.vme_swaps.specs.Served.{is_serving, serves_request};
 ghost use Rattle.vme_swaps.specs.Swaps.{StepsBack};
 
 use vme_bus::BusState;
-use vme_histories::by_wire;
 use vme_interrupter::serves;
 use vme_model::{Driver, Edge, Refused, Wire};
 
@@ -58,14 +57,6 @@ fn is_request_served(state: &BusState, first: Edge, second: Edge) -> bool
     serves_request(state, first, second) || serves_request(state, second, first)
 }
 
-/// The verdict on an edge, apart from the end of the trace, in an arm for each wire.
-#[inline(always)]
-fn judge(state: &BusState, edge: Edge) -> Result<(), Refused>
-    ensures { OfHistory state.now (λ version p h. result ≡ verdict_but_full version p h edge) }
-{
-    by_wire!(edge => state.judge(edge))
-}
-
 /// How an edge goes back over `first`, the edge before it, after the edges that lead to the state
 /// `before`. The two are legal as they came.
 ///
@@ -77,19 +68,17 @@ pub fn step_back(before: &BusState, first: Edge, edge: Edge) -> StepBack
     ensures { OfHistory before.now (λ version p h. IsLegal version p (edge ∷ first ∷ h)
         → StepsBack version p h first edge result) }
 {
-    if let Err(refused) = judge(before, edge) {
+    if let Err(refused) = before.judge(edge) {
         return StepBack::Waits(refused);
     }
-    let mut between = *before;
-    between.note(edge);
-    match judge(&between, first) {
-        Ok(()) => {
-            if is_request_served(before, first, edge) {
-                StepBack::Races(Ok(()))
-            } else {
-                StepBack::Passes
-            }
-        }
-        Err(refused) => StepBack::Races(Err(refused)),
+    let mut behind = *before;
+    behind.note(edge);
+    if let Err(refused) = behind.step(first) {
+        return StepBack::Races(Err(refused));
+    }
+    if is_request_served(before, first, edge) {
+        StepBack::Races(Ok(()))
+    } else {
+        StepBack::Passes
     }
 }
