@@ -8,3 +8,5 @@ pub mod Brought
 pub mod Leading
 -- `Matching`: both traces
 pub mod Running
+-- the laws
+pub mod OneTrace

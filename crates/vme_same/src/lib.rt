@@ -6,6 +6,8 @@
 
 mod comparisons;
 mod edges;
+pub mod laws;
+mod lines;
 mod matching;
 mod pairing;
 mod progress;
@@ -13,4 +15,5 @@ mod rest;
 mod sides;
 
 pub use comparisons::{Comparison, Why};
+pub use lines::line_of;
 pub use matching::Matching;
