@@ -8,7 +8,7 @@ Where to begin: rules.py has G1 to G26 and S1 to S4, and bus.py the words in whi
 - explain.py with readings.py, state.py, show.py, summary.py with events.py: what is told of a trace;
 - shrink.py: a few of the edges before an edge, with which it has the same answer;
 - cycles.py: the transactions of a trace;
-- swaps.py and races.py: which orders of edges matter;
+- swaps.py, races.py and same.py: which orders of edges matter;
 - moments.py and order.py: a legal order of edges that were seen at the same moments;
 - drive.py and draw.py: traces that the program makes, in rounds and by a seed;
 - embedded.py: what a program in C sees of the bus;

@@ -123,6 +123,14 @@ def free_swaps(draw, plan, version, edges, chance):
         bus.accept(edges[place], place + 1)
 
 
+def shuffled(draw, plan, version, edges):
+    """Legal edges in another order, to which free swaps lead."""
+    for _ in range(draw.choice([1, 2, 5, 20])):
+        for _, edges in free_swaps(draw, plan, version, edges, draw.choice([0.2, 0.5, 0.9])):
+            pass
+    return edges
+
+
 def spoiled_trace(draw, text):
     """A trace that is cut off, has another header, or a character more or less."""
     way, at = draw.randrange(4), draw.randrange(len(text) + 1)

@@ -12,16 +12,16 @@ from pathlib import Path
 from .bus import Bus
 from .cases import Kept, first_difference
 from .draw import goals
-from .drawing import plan_of, scenario_of, some, spoiled_scenario, trace_of
+from .drawing import plan_of, scenario_of, shuffled, some, spoiled_scenario, trace_of
 from .faults import Fault
 from .program import main, rest_of
 from .races import ways_of
 from .sources import TABLE
-from .traces import HEADERS, Trace
+from .traces import HEADERS, Trace, text_of
 from .words import COMMANDS, FLAGS, GREATEST, NEEDED, RANGES, job_of
 
 SECONDS = 60
-FILES = ["scenario.toml", "trace.vme", "second.vme"]
+FILES = ["scenario.toml", "trace.vme", "second.vme", "accepted.vme", "shuffled.vme"]
 
 # Values of options: two that are right, and others; those of the options that are not named here are NUMBERS.
 NUMBERS = ("0", "1", "2", "+3", "007", "-1", "1.5", "", " 1", "x", "1_0", "+", "0x1", str(GREATEST), str(GREATEST + 1), "1" * 30)
@@ -49,10 +49,10 @@ def words_of(draw, edges, racing):
     window = draw.choice([[], ["--from", str(begin)], ["--to", str(begin)], ["--from", str(begin), "--to", str(end)]])
     yield ["show", *files, *window, *draw.choice([[], ["--color"]])]
     yield ["replay", *files, "--full"]
-    yield ["check", *FILES, *draw.choice([[], ["trace.vme"], ["none.vme", "second.vme"]])]
+    yield ["check", *FILES[:3], *draw.choice([[], ["trace.vme"], ["none.vme", "second.vme"]])]
     yield ["cycles", *files]
     yield ["summary", *files]
-    yield ["summary", *FILES, *draw.choice([[], ["trace.vme"], ["none.vme"]])]
+    yield ["summary", *FILES[:3], *draw.choice([[], ["trace.vme"], ["none.vme"]])]
     yield from words_of_orders(draw, edges, racing)
     yield ["rule", *draw.choice([[], [draw.choice(list(TABLE))]])]
     yield from words_that_drive(draw)
@@ -65,6 +65,10 @@ def words_of_orders(draw, edges, racing):
     yield ["races", *files]
     yield from (["races", *files, "--edge", str(draw.randint(1, edges + 1))] for _ in range(2))
     yield from (["races", *files, "--other", str(it)] for it in others)
+    scenario, _, second, accepted, shuffled_ = FILES
+    yield ["same", scenario, accepted, shuffled_]
+    yield ["same", scenario, *draw.choice([(shuffled_, accepted), (accepted, second)])]
+    yield ["same", *FILES[:3]]
 
 
 def words_that_drive(draw):
@@ -105,27 +109,40 @@ def option(draw, name):
     return [f"{name}={value}"] if some(draw, 0.3) else [name, value]
 
 
-def racing_of(plan, text):
-    """The numbers of the edges of a trace that race, up to its fault."""
-    racing = []
+def judged(plan, text):
+    """The bus after the edges of a trace, up to its fault, and the numbers of those that race; no bus if there is no header."""
     try:
-        trace = Trace(rest_of(text.encode(), False))
-        for number, _, way in ways_of(Bus(plan, trace.version), trace):
+        trace, racing = Trace(rest_of(text.encode(), False)), []
+    except Fault:
+        return None, []
+    bus = Bus(plan, trace.version)
+    try:
+        for number, _, way in ways_of(bus, trace):
             racing += [number] if way and way.stop == "races" else []
     except Fault:
         pass
-    return racing
+    return bus, racing
+
+
+def two_orders(draw, bus):
+    """The accepted edges as a trace, and as one in another order, to which free swaps lead."""
+    if bus is None:
+        return ["vme 1\n"] * 2
+    edges = [it.edge for it in bus.past]
+    orders = edges, shuffled(draw, bus.plan, bus.version, edges)
+    return [text_of(bus.version, it) for it in orders]
 
 
 class Draw:
-    """One draw: a scenario, two traces, and the runs over them."""
+    """One draw: a scenario, its traces, and the runs over them."""
 
     def __init__(self, seed):
         draw = random.Random(seed)
         scenario = scenario_of(draw)
         plan = plan_of(scenario)
         self.traces = [trace_of(draw, plan), trace_of(draw, plan)] if plan else ["vme 1\n1 br-\n"] * 2
-        racing = racing_of(plan, self.traces[0]) if plan else []
+        bus, racing = judged(plan, self.traces[0]) if plan else (None, [])
+        self.traces += two_orders(draw, bus)
         is_spoiled = some(draw, 0.2)
         self.scenario = spoiled_scenario(draw, scenario) if is_spoiled else scenario
         self.words = list(words_of(draw, max(1, self.traces[0].count("\n") - 1), racing))

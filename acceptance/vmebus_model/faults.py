@@ -20,3 +20,8 @@ def escaped(text):
 def told(path):
     """The path of a key as a fault has it: of a longer one 200 characters, and two dots."""
     return escaped(path if len(path) <= MOST_OF_A_KEY else path[:MOST_OF_A_KEY] + "..")
+
+
+def of_file(name, fault):
+    """A fault of one of several files, which it names."""
+    return Fault(f"{escaped(name)}: {fault}")

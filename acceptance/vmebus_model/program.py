@@ -13,6 +13,7 @@ from .faults import Fault, WrongWords, escaped
 from .judging import check, check_all, replay
 from .order import order
 from .races import races
+from .same import same
 from .show import show
 from .shrink import shrink
 from .sources import rule
@@ -137,6 +138,7 @@ def done(job, console):
     if job.command == "check" and len(trace_names) > 1:
         return check_all(backplane.read(scenario), trace_names, console)
     first = console.open(trace_names[0]) if trace_names else None
+    other = console.open(trace_names[1]) if job.command == "same" else None
     options = job.options
     plan = backplane.read(scenario)
     if "--progress" in options:
@@ -149,6 +151,8 @@ def done(job, console):
         return (drive_seeds if "--seeds" in options else drive_drawn if "--seed" in options else drive)(plan, options, console)
     if job.command == "order":
         return order(plan, first, options, console)
+    if job.command == "same":
+        return same(plan, (first, other), trace_names, console)
     trace = Trace(first)
     if job.command == "replay":
         return replay(plan, trace, console, "--full" in options)

@@ -4,7 +4,7 @@ from collections import Counter, defaultdict
 
 from .bus import Bus
 from .events import EVENTS, events_of
-from .faults import Fault, escaped
+from .faults import Fault, of_file
 from .rules import GUARDS, name_of_rule
 from .traces import Trace
 from .verdicts import refusal, step
@@ -106,6 +106,6 @@ def summary(plan, traces, console):
         try:
             sums.add(Trace(read))
         except Fault as fault:
-            raise fault if is_alone else Fault(f"{escaped(name)}: {fault}") from None
+            raise fault if is_alone else of_file(name, fault) from None
     console.write("".join(f"{line}\n" for line in sums.lines(count == 1)))
     return 2 if sums.refused else 0

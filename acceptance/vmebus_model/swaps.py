@@ -1,5 +1,5 @@
 """Free swaps: neighbours that can change places without any difference; and how far back they bring an edge, by which `races`
-judges."""
+and `same` judge."""
 
 from typing import NamedTuple
 
@@ -52,17 +52,17 @@ def what_stops(bus, first, second):
     return "races", "other" if is_ok(verdicts[1]) else verdicts[1]
 
 
-def way_back(bus, edge):
-    """How an edge that would be accepted now goes back in the history."""
+def way_back(bus, edge, kept=0):
+    """How an edge that would be accepted now goes back in the history, whose first `kept` edges are not passed."""
     passed, found = [], None
-    while bus.past and len(passed) < MOST_PASSED:
+    while len(bus.past) > kept and len(passed) < MOST_PASSED:
         front = bus.take_back()
         found = what_stops(bus, front[0], edge)
         if found:
             bus.accept(*front)
             break
         passed.append(front)
-    stop, outcome = found or ("far" if bus.past else "begins", "")
+    stop, outcome = found or ("far" if len(bus.past) > kept else "begins", "")
     for it in reversed(passed):
         bus.accept(*it)
     return Way(len(passed), stop, outcome)

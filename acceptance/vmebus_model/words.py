@@ -26,6 +26,7 @@ COMMANDS = {
     "cycles": (2, 2, ()),
     "summary": (2, None, ()),
     "races": (2, 2, ("--edge", "--other")),
+    "same": (3, 3, ()),
     "order": (2, 2, ("--slack", "--where")),
     "rule": (0, 1, ()),
     "drive": (1, 1, ("--edges", "--version", "--seed", "--seeds", "--until", "--of", "--after", "--progress")),

@@ -15,7 +15,7 @@ use Rattle.vme_command_line.specs.Aims.{IsNameOf, NamesNobody}
 use Rattle.vme_command_line.specs.Alone.{aim_named}
 use Rattle.vme_command_line.specs.Commands.{commands}
 use Rattle.vme_command_line.specs.declared.Job.{Job}
-use Rattle.vme_command_line.specs.declared.Job.TheVariants.{Joined, OwnVersion, Replay, Check, Checks, Explain, Shrink, Rules, State, Show, Cycles, Summary, Sums, Races, Walk, OtherOrder, Order, Drive, Draw, Search, Run}
+use Rattle.vme_command_line.specs.declared.Job.TheVariants.{Joined, OwnVersion, Replay, Check, Checks, Explain, Shrink, Rules, State, Show, Cycles, Summary, Sums, Races, Walk, OtherOrder, Same, Order, Drive, Draw, Search, Run}
 use Rattle.vme_command_line.specs.Limits.{IsNoWindow}
 use Rattle.vme_moments.specs.declared.slacks.Slacks.{Slacks}
 use Rattle.vme_command_line.specs.Numbers.{IsSeed}
@@ -170,6 +170,9 @@ AsksFor name rows (Walk scenario trace edge) = (name ≡ codes "races")
 AsksFor name rows (OtherOrder scenario trace edge) = (name ≡ codes "races")
     × IsFile (codes "SCENARIO") rows scenario.now × IsFile (codes "TRACE") rows trace.now
     × (spelled (codes "edge") rows ≡ None) × (spelled (codes "other") rows ≡ Some edge)
+AsksFor name rows (Same scenario trace other) = (name ≡ codes "same")
+    × IsFile (codes "SCENARIO") rows scenario.now × IsFile (codes "TRACE") rows trace.now
+    × IsFile (codes "OTHER") rows other.now
 AsksFor name rows (Order scenario moments slacks places) = (name ≡ codes "order")
     × IsFile (codes "SCENARIO") rows scenario.now × IsFile (codes "MOMENTS") rows moments.now
     × AreTheSlacks rows slacks × IsFlag (codes "where") rows places

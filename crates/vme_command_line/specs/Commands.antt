@@ -146,6 +146,9 @@ summary = (leaf (codes "summary") (files (codes "TRACE") ∷ [])).top
 abbrev pub races : Shape
 races = (leaf (codes "races") (file (codes "TRACE") ∷ edge ∷ other ∷ [])).top
 
+abbrev pub same : Shape
+same = (leaf (codes "same") (file (codes "TRACE") ∷ file (codes "OTHER") ∷ [])).top
+
 abbrev pub order : Shape
 order = (leaf (codes "order") (file (codes "MOMENTS") ∷ slack ∷ places ∷ [])).top
 
@@ -165,6 +168,6 @@ commands = record {
     has_version = true;
   };
   subs =
-      replay ∷ check ∷ explain ∷ shrink ∷ rule ∷ state ∷ show ∷ cycles ∷ summary ∷ races ∷ order
-      ∷ drive ∷ run ∷ [];
+      replay ∷ check ∷ explain ∷ shrink ∷ rule ∷ state ∷ show ∷ cycles ∷ summary ∷ races ∷ same
+      ∷ order ∷ drive ∷ run ∷ [];
 }

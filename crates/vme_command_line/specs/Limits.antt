@@ -2,7 +2,7 @@
 use Rattle.std.specs.Prelude.{◌≤◌, ◌<◌, ◌+◌, ◌⊎◌, ℕ, IfSome}
 use Rattle.vme_model.specs.Report.{trace_limit}
 use Rattle.vme_command_line.specs.declared.Job.{Job}
-use Rattle.vme_command_line.specs.declared.Job.TheVariants.{Joined, OwnVersion, Replay, Check, Checks, Explain, Shrink, Rules, State, Show, Cycles, Summary, Sums, Races, Walk, OtherOrder, Order, Drive, Draw, Search, Run}
+use Rattle.vme_command_line.specs.declared.Job.TheVariants.{Joined, OwnVersion, Replay, Check, Checks, Explain, Shrink, Rules, State, Show, Cycles, Summary, Sums, Races, Walk, OtherOrder, Same, Order, Drive, Draw, Search, Run}
 
 abbrev pub most_turns : ℕ
 most_turns = 1000000
@@ -38,6 +38,7 @@ IsWithin (Sums scenario traces) = Unit {0}
 IsWithin (Races scenario trace) = Unit {0}
 IsWithin (Walk scenario trace edge) = 1 ≤ edge
 IsWithin (OtherOrder scenario trace edge) = 1 ≤ edge
+IsWithin (Same scenario trace other) = Unit {0}
 IsWithin (Order scenario moments slacks places) = Unit {0}
 IsWithin (Run scenario edges turns version) =
     (1 ≤ edges) × (edges ≤ trace_limit) × (1 ≤ turns) × (turns ≤ most_turns)

@@ -32,6 +32,12 @@ fn trace_file<'a>(alloc: Global) -> Arg<'a>
     file(alloc, "TRACE", "The edges, one per line")
 }
 
+fn other_file<'a>(alloc: Global) -> Arg<'a>
+    ensures { rule_of result ≡ said.file (codes "OTHER") }
+{
+    file(alloc, "OTHER", "The edges of the other trace, one per line")
+}
+
 fn moments_file<'a>(alloc: Global) -> Arg<'a>
     ensures { rule_of result ≡ said.file (codes "MOMENTS") }
 {
@@ -387,6 +393,13 @@ pub(crate) fn races<'a>(alloc: Global) -> Result<Command<'a>, AllocError>
     taking(command, other_option(alloc))
 }
 
+fn same<'a>(alloc: Global) -> Result<Command<'a>, AllocError>
+    ensures { IfOk result (λ c. shape_of c ≡ said.same) }
+{
+    let command = command_on_trace(alloc, "same", SAME, SAME_USAGE, SAME_EXAMPLE);
+    taking(command, other_file(alloc))
+}
+
 /// The command `order`.
 pub(crate) fn order<'a>(alloc: Global) -> Result<Command<'a>, AllocError>
     ensures { IfOk result (λ c. shape_of c ≡ said.order) }
@@ -462,6 +475,7 @@ pub(crate) fn commands<'a>(alloc: Global) -> Result<Command<'a>, AllocError>
     let program = offering(program, cycles(alloc));
     let program = offering(program, summary(alloc));
     let program = offering(program, races(alloc));
+    let program = offering(program, same(alloc));
     let program = offering(program, order(alloc));
     let program = offering(program, drive(alloc));
     offering(program, run(alloc))

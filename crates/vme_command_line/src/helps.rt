@@ -16,9 +16,9 @@ prints, byte for byte, docs/FAULTS.md has the faults, and examples/ has scenario
 start from.
 
 Exit status: 0 done; 1 a fault (one line on standard error), or a text such as this one, which
-goes to standard error, too (`vmebus --help 2>&1 | less`); 2 some edge was refused, or no order
-of moments is legal; 3 the limit of edges was reached, or `--until` did not come to its event.
-Under `set -e` the statuses 2 and 3 end a script.";
+goes to standard error, too (`vmebus --help 2>&1 | less`); 2 some edge was refused, no order of
+moments is legal, or two traces differ; 3 the limit of edges was reached, or `--until` did not
+come to its event. Under `set -e` the statuses 2 and 3 end a script.";
 
 pub(crate) const REFUSED_EDGE: &str =
     "Which edge, 1 the first [default: the first that is refused]";
@@ -236,6 +236,34 @@ Examples:
 
 pub(crate) const RACES_EDGE: &str =
     "Print how much earlier edge N could have come, 1 the first [default: print all races]";
+
+pub(crate) const SAME: &str =
+    "Says whether two traces differ only in the order of edges, and in none that matters";
+
+pub(crate) const SAME_USAGE: &str = "vmebus same <SCENARIO> <TRACE> <OTHER>";
+
+pub(crate) const SAME_EXAMPLE: &str =
+    "Each edge of OTHER in turn has to come to the front of what is left of TRACE, and is then taken
+out of it. It changes places with the edge before it, and with the next one before that, as long
+as this changes nothing, as edges do for `vmebus races`. If all edges of both are used up, it
+prints `same N`, with the number of edges: both deliver the same, and the bus stands the same
+after them. Otherwise it prints the first of these lines that applies:
+  refused FILE N VERDICT
+          edge N of this file is refused
+  differ version
+          the first lines of the files differ
+  differ N EDGE missing, differ N EDGE far
+          no such edge is left of TRACE, or more than 200 edges are left before it
+  differ N EDGE waits for I EDGE VERDICT, differ N EDGE races I EDGE OUTCOME
+          edge I of TRACE stops edge N of OTHER
+  differ N EDGE left
+          OTHER has ended, and edge N of TRACE is left
+`differ` does not mean that no swaps join the traces, only that these do not. Both files are
+read side by side, to their ends. The exit status is 0 if the traces are the same, 2 if they
+are not, and 1 at a fault. docs/COMMANDS.md has each line.
+
+Example:
+  vmebus same board.toml tenure.vme other.vme";
 
 pub(crate) const ORDER: &str =
     "Prints a legal order of edges that were seen at the same moments, if there is one";

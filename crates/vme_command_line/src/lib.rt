@@ -18,6 +18,7 @@ mod errors;
 mod helps;
 mod mistakes;
 mod races;
+mod same;
 mod slacks;
 
 use aims::goal_of;
@@ -26,6 +27,7 @@ use clap::{ArgMatches, Error};
 use commands::commands;
 use errors::error_of;
 use races::races_of;
+use same::same_of;
 use slacks::slacks_in;
 use std::alloc::Global;
 use vme_goals::Goal;
@@ -173,6 +175,15 @@ pub enum Job<'a> {
         trace: &'a str,
         /// The edge that races, counted from 1.
         edge: u64,
+    },
+    /// Say whether two traces differ only in orders that do not matter.
+    Same {
+        /// The file of the scenario.
+        scenario: &'a str,
+        /// The file of the one trace.
+        trace: &'a str,
+        /// The file of the other trace.
+        other: &'a str,
     },
     /// Find a legal order of edges that were seen at moments.
     Order {
@@ -674,6 +685,7 @@ fn job_on_scenario<'a>(
         }),
         "summary" => summary_of(alloc, scenario, operands),
         "races" => races_of(scenario, operands),
+        "same" => same_of(scenario, operands),
         "order" => order_of(scenario, operands),
         "drive" => drive_of(scenario, operands),
         "run" => run_of(scenario, operands),

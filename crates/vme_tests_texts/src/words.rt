@@ -71,6 +71,20 @@ fn reads_two_files(rt: HostRuntime) {
 }
 
 #[test]
+fn reads_two_traces_to_compare(rt: HostRuntime) {
+    let (scenario, trace, other) = ("board.toml", "a.vme", "-b.vme");
+    assert_job(
+        &rt,
+        &["same", scenario, trace, "--", other],
+        Job::Same {
+            scenario,
+            trace,
+            other,
+        },
+    );
+}
+
+#[test]
 fn reads_several_traces(rt: HostRuntime) {
     let given = ["summary", "board.toml", "a.vme", "--", "b.vme", "-c.vme"];
     match words(rt.alloc(), &given) {

@@ -2,7 +2,7 @@ use Rattle.std.proofs.Common.{true, refl, codes}
 use Rattle.std.proofs.lemmas.Result.{IfOk-weaker}
 use Rattle.clap.specs.Words.{App, new_app, with_subcommand}
 use Rattle.clap.specs.Simple.{on_top}
-use Rattle.vme_command_line.specs.Commands.{check, cycles, drive, explain, order, races, replay, rule, run, show, shrink, state, summary}
+use Rattle.vme_command_line.specs.Commands.{check, cycles, drive, explain, order, races, replay, rule, run, same, show, shrink, state, summary}
 use Rattle.vme_command_line.proofs.commands.commands.Goals as goal
 
 abbrev bare : App
@@ -20,8 +20,11 @@ showing = with_subcommand (with_subcommand ruling state) show
 abbrev counting : App
 counting = with_subcommand (with_subcommand showing cycles) summary
 
+abbrev comparing : App
+comparing = with_subcommand (with_subcommand counting races) same
+
 abbrev ordering : App
-ordering = with_subcommand (with_subcommand counting races) order
+ordering = with_subcommand comparing order
 
 pub returns : goal.returns
 returns c =
@@ -35,6 +38,7 @@ returns c =
     let eight = IfOk-weaker c.offering-program-8.result _ _ (λ made adds. adds showing cycles seven c.cycles.ensures refl) c.offering-program-8.ensures in
     let nine = IfOk-weaker c.offering-program-9.result _ _ (λ made adds. adds (with_subcommand showing cycles) summary eight c.summary.ensures refl) c.offering-program-9.ensures in
     let ten = IfOk-weaker c.offering-program-10.result _ _ (λ made adds. adds counting races nine c.races.ensures refl) c.offering-program-10.ensures in
-    let eleven = IfOk-weaker c.offering-program-11.result _ _ (λ made adds. adds (with_subcommand counting races) order ten c.order.ensures refl) c.offering-program-11.ensures in
-    let twelve = IfOk-weaker c.offering-program-12.result _ _ (λ made adds. adds ordering drive eleven c.drive.ensures refl) c.offering-program-12.ensures in
-    IfOk-weaker c.offering.result _ _ (λ made adds. adds (with_subcommand ordering drive) run twelve c.run.ensures refl) c.offering.ensures
+    let eleven = IfOk-weaker c.offering-program-11.result _ _ (λ made adds. adds (with_subcommand counting races) same ten c.same.ensures refl) c.offering-program-11.ensures in
+    let twelve = IfOk-weaker c.offering-program-12.result _ _ (λ made adds. adds comparing order eleven c.order.ensures refl) c.offering-program-12.ensures in
+    let thirteen = IfOk-weaker c.offering-program-13.result _ _ (λ made adds. adds ordering drive twelve c.drive.ensures refl) c.offering-program-13.ensures in
+    IfOk-weaker c.offering.result _ _ (λ made adds. adds (with_subcommand ordering drive) run thirteen c.run.ensures refl) c.offering.ensures

@@ -1,0 +1,26 @@
+//! The job for which `same` asks.
+ghost use Rattle.std.specs.Prelude.{IfErr, IfOk, codes};
+ghost use Rattle.clap.specs.Words.{found_of, rows_of};
+ghost use Rattle.vme_command_line.specs.Asked.{AsksFor, IsFile};
+ghost use Rattle.vme_command_line.specs.Limits.{IsWithin};
+ghost use Rattle.vme_command_line.specs.Unfits.{IsUnfit};
+
+use crate::{Job, Unfit, file_of};
+use clap::ArgMatches;
+
+/// The comparison of two traces of the scenario.
+pub(crate) fn same_of<'a>(
+    scenario: &'a str,
+    operands: &ArgMatches<'a>,
+) -> Result<Job<'a>, Unfit<'a>>
+    ensures within { IfOk result IsWithin }
+    ensures asked { IsFile (codes "SCENARIO") (rows_of (found_of operands.now)) scenario.now
+        → IfOk result (AsksFor (codes "same") (rows_of (found_of operands.now))) }
+    ensures unfit { IfErr result (IsUnfit (codes "same") (rows_of (found_of operands.now))) }
+{
+    Ok(Job::Same {
+        scenario,
+        trace: file_of(operands, "TRACE")?,
+        other: file_of(operands, "OTHER")?,
+    })
+}
