@@ -46,7 +46,6 @@ same_count m n h = grind (arith, nat_tests)
 other_count : (m n : ℕ) → m < n → (m == n) ≡ false
 other_count m n h = grind (arith, nat_tests)
 
-
 edges_count : (k : Numbered) → length (edges_in k) ≡ length k
 edges_count [] = refl
 edges_count (m ∷ k) =

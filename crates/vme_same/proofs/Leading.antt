@@ -77,8 +77,10 @@ module _ (p : Plan) (v w : Version) where
         leads = subst (λ k. Leads p v w [] [] [] k taken (edges_of waiting)) left
             (subst (λ es. Leads p v w [] [] [] [] taken es) next
             (subst (λ n. Leads p v w [] [] [] [] n []) (sym first)
-            (λ more later found compares. inr (same,
-            subst (λ k. Compares v p [] k 0 later found) refl compares))));
+            (λ more later found compares. inr (
+              same,
+              subst (λ k. Compares v p [] k 0 later found) refl compares,
+            ))));
         all = subst (λ es. taken + length es ≡ 0) next (omega (arith, first));
         few = omega arith;
       }

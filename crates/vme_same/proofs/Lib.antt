@@ -8,5 +8,7 @@ pub mod Brought
 pub mod Leading
 -- `Matching`: both traces
 pub mod Running
+-- `compare`: two traces that were read
+pub mod Read
 -- the laws
 pub mod OneTrace

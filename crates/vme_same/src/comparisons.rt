@@ -20,7 +20,9 @@ pub enum Why {
 #[derive(Clone, Copy, PartialEq, Eq, Debug)]
 pub enum Comparison {
     /// They are the same but for free swaps: so many edges.
-    Same { edges: u64 },
+    Same {
+        edges: u64,
+    },
     /// A trace has a refused edge, the n-th, counted from 1. It is the first one if both have some.
     Refuses {
         in_first: bool,
@@ -31,5 +33,9 @@ pub enum Comparison {
     OtherVersion,
     /// An edge keeps them from being the same. It is one of the second trace, with its number there;
     /// but one that is left is of the first.
-    Differs { number: u64, edge: Edge, why: Why },
+    Differs {
+        number: u64,
+        edge: Edge,
+        why: Why,
+    },
 }

@@ -6,6 +6,7 @@
 
 mod comparisons;
 mod edges;
+mod judge;
 pub mod laws;
 mod lines;
 mod matching;
@@ -15,5 +16,4 @@ mod rest;
 mod sides;
 
 pub use comparisons::{Comparison, Why};
-pub use lines::line_of;
-pub use matching::Matching;
+pub use judge::{compare, write_found};

@@ -56,7 +56,7 @@ fn push_found(line: &mut Line, found: &Comparison)
 
 /// The line that reports what is found of two traces. Of a refusal it is only what comes behind the
 /// name of the file: the number of the edge, and its verdict.
-pub fn line_of(found: &Comparison) -> Line
+pub(crate) fn line_of(found: &Comparison) -> Line
     requires { IsTrue (is_formed_found found.now) }
     ensures { result.items ≡ found_line found.now }
 {

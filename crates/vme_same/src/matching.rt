@@ -22,7 +22,7 @@ use vme_trace::Fault;
 /// The edges of both come in pieces, in any order of pieces. It keeps the edges of the first trace
 /// that are left, and those of the second one that wait for more of the first.
 #[derive(Drop)]
-pub struct Matching {
+pub(crate) struct Matching {
     pub(crate) first: Side,
     pub(crate) second: Side,
     pub(crate) pairing: Pairing,
@@ -30,7 +30,7 @@ pub struct Matching {
 
 impl Matching {
     /// Before the first edge of either trace, on the plan of both.
-    pub fn new(alloc: Global, plan: &Plan, first: Version, second: Version) -> Matching
+    pub(crate) fn new(alloc: Global, plan: &Plan, first: Version, second: Version) -> Matching
         ensures { Stands plan.now first second [] false [] false result }
     {
         Matching {
@@ -42,7 +42,7 @@ impl Matching {
 
     /// Whether the next edges to take are those of the first trace: it goes on, and at most 200 of
     /// its edges are left.
-    pub fn wants_first(&self) -> bool {
+    pub(crate) fn lacks_first(&self) -> bool {
         self.pairing.wants_first()
     }
 
@@ -95,9 +95,8 @@ impl Matching {
 
     /// Takes in the next edges of the first trace.
     ///
-    /// # Errors
-    /// X6.
-    pub fn take_first(&mut self, edges: &[Edge]) -> Result<(), Fault>
+    /// Errors: X6.
+    pub(crate) fn add_to_first(&mut self, edges: &[Edge]) -> Result<(), Fault>
         requires count { self.old.first.judged + length edges.now < 2 ^ 64 }
         requires formed { AreWellFormed edges.now }
         ensures judged { OnOk result
@@ -117,9 +116,8 @@ impl Matching {
 
     /// Takes in the next edges of the second trace.
     ///
-    /// # Errors
-    /// X6.
-    pub fn take_second(&mut self, edges: &[Edge]) -> Result<(), Fault>
+    /// Errors: X6.
+    pub(crate) fn add_to_second(&mut self, edges: &[Edge]) -> Result<(), Fault>
         requires count { self.old.second.judged + length edges.now < 2 ^ 64 }
         requires formed { AreWellFormed edges.now }
         ensures judged { OnOk result
@@ -138,7 +136,7 @@ impl Matching {
     }
 
     /// Learns that the first trace has ended.
-    pub fn end_first(&mut self)
+    pub(crate) fn close_first(&mut self)
         ensures stands { (p : PlanValue) (v w : VersionValue) (es : List EdgeValue)
             (fs : List EdgeValue) (over : Bool) → Stands p v w es false fs over self.old
             → Stands p v w es true fs over self.new }
@@ -150,7 +148,7 @@ impl Matching {
     }
 
     /// Learns that the second trace has ended.
-    pub fn end_second(&mut self)
+    pub(crate) fn close_second(&mut self)
         ensures stands { (p : PlanValue) (v w : VersionValue) (es : List EdgeValue)
             (ended : Bool) (fs : List EdgeValue) → Stands p v w es ended fs false self.old
             → Stands p v w es ended fs true self.new }
@@ -162,7 +160,7 @@ impl Matching {
     }
 
     /// What is found of the two traces, which have ended.
-    pub fn outcome(&self) -> Comparison
+    pub(crate) fn outcome(&self) -> Comparison
         ensures found { (p : PlanValue) (v w : VersionValue) (es : List EdgeValue)
             (fs : List EdgeValue) → Stands p v w es true fs true self.now
             → IsComparison p v w es fs result }

@@ -1,6 +1,6 @@
 use Rattle.std.proofs.Common.{◌∙◌, false, true}
 use Rattle.vme_same.proofs.Running.{runs_on}
-use Rattle.vme_same.proofs.matching.Matching.end_first.Goals as goal
+use Rattle.vme_same.proofs.matching.Matching.close_first.Goals as goal
 
 pub returns-clause-stands : goal.returns-clause-stands
 returns-clause-stands c = λ p v w es fs over stands. (

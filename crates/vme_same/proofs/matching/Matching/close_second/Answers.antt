@@ -1,6 +1,6 @@
 use Rattle.std.proofs.Common.{◌∙◌, false, true}
 use Rattle.vme_same.proofs.Running.{runs_on}
-use Rattle.vme_same.proofs.matching.Matching.end_second.Goals as goal
+use Rattle.vme_same.proofs.matching.Matching.close_second.Goals as goal
 
 pub returns-clause-stands : goal.returns-clause-stands
 returns-clause-stands c = λ p v w es ended fs stands. (

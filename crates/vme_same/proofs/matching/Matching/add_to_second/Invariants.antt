@@ -3,7 +3,7 @@ use Rattle.vme_model.specs.declared.signals.Edge.{Edge}
 use Rattle.vme_model.specs.declared.signals.Version.{Version}
 use Rattle.vme_model.specs.Plan.{Plan}
 use Rattle.vme_same.specs.Kept.{Runs}
-use Rattle.vme_same.proofs.matching.Matching.take_second.Given as goal
+use Rattle.vme_same.proofs.matching.Matching.add_to_second.Given as goal
 
 abbrev pub invariant-loop-edge : goal.invariant-loop-edge
 invariant-loop-edge l = record {

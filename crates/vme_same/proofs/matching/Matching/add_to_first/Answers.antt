@@ -3,7 +3,7 @@ use Rattle.std.proofs.lemmas.List.{take_all}
 use Rattle.vme_engines.proofs.FollowedEdges.{next_list}
 use Rattle.vme_same.specs.Kept.{Runs}
 use Rattle.vme_same.proofs.Running.{runs_on}
-use Rattle.vme_same.proofs.matching.Matching.take_first.Goals as goal
+use Rattle.vme_same.proofs.matching.Matching.add_to_first.Goals as goal
 
 pub take_of_first-requires-clause-count : goal.take_of_first-requires-clause-count
 take_of_first-requires-clause-count c =
