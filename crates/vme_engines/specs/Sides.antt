@@ -38,7 +38,8 @@ pub record IsSide
 
 -- Both traces were read up to there, and the judge stands behind their edges.
 pub record AreUnderWay
-    {J : Type 0} (stands : Version → Version → List Edge → Bool → List Edge → J → Type 0)
+    {J : Type 0}
+    (stands : Version → Version → List Edge → Bool → List Edge → Bool → J → Type 0)
     (first_count second_count : J → ℕ) (s t : Streams) (first second : Input) (judge : J)
     : Type 0 where
   pub v : Version
@@ -47,4 +48,4 @@ pub record AreUnderWay
   pub fs : List Edge
   pub first_side : IsSide s.from s.to v es (first_count judge) first
   pub second_side : IsSide t.from t.to w fs (second_count judge) second
-  pub stands_so : stands v w es (not (goes_on first.more)) fs judge
+  pub stands_so : stands v w es (not (goes_on first.more)) fs (not (goes_on second.more)) judge

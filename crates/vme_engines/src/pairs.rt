@@ -32,15 +32,15 @@ pub trait Pair: Drop {
     ghost second_count: { Self → ℕ };
 
     /// It was asked this, began on a plan for two traces of these versions, and took these edges of
-    /// the first since and these of the second; whether it was told that the first has ended.
+    /// the first since and these of the second; whether it was told that each has ended.
     ghost stands: { Self.Task → PlanValue → VersionValue → VersionValue → List EdgeValue → Bool
-        → List EdgeValue → Self → Type 0 };
+        → List EdgeValue → Bool → Self → Type 0 };
 
     /// Begins on a plan for two traces of these versions, before their first edges.
     fn begin(task: &Self::Task, plan: Plan, first: Version, second: Version) -> Self
         ensures first_count { first_count result ≡ 0 }
         ensures second_count { second_count result ≡ 0 }
-        ensures stands { stands task.now plan first second [] false [] result };
+        ensures stands { stands task.now plan first second [] false [] false result };
 
     /// Whether further edges of the first trace are to come before further ones of the second.
     ///
@@ -56,9 +56,9 @@ pub trait Pair: Drop {
             (first_count self.new ≡ first_count self.old + length edges.now) }
         ensures second_count { OnOk result (second_count self.new ≡ second_count self.old) }
         ensures takes { OnOk result ((task : Self.Task) (p : PlanValue) (v : VersionValue)
-            (w : VersionValue) (es : List EdgeValue) (fs : List EdgeValue)
-            → stands task p v w es false fs self.old
-            → stands task p v w (es ++ edges.now) false fs self.new) }
+            (w : VersionValue) (es : List EdgeValue) (fs : List EdgeValue) (over : Bool)
+            → stands task p v w es false fs over self.old
+            → stands task p v w (es ++ edges.now) false fs over self.new) }
         ensures fault { IfErr result (λ fault. fault ≡ Fault.Memory) };
 
     /// Takes the next edges of the second trace. X6 is its only fault.
@@ -70,8 +70,8 @@ pub trait Pair: Drop {
             (second_count self.new ≡ second_count self.old + length edges.now) }
         ensures takes { OnOk result ((task : Self.Task) (p : PlanValue) (v : VersionValue)
             (w : VersionValue) (es : List EdgeValue) (ended : Bool) (fs : List EdgeValue)
-            → stands task p v w es ended fs self.old
-            → stands task p v w es ended (fs ++ edges.now) self.new) }
+            → stands task p v w es ended fs false self.old
+            → stands task p v w es ended (fs ++ edges.now) false self.new) }
         ensures fault { IfErr result (λ fault. fault ≡ Fault.Memory) };
 
     /// Learns that the first trace has ended, without a fault.
@@ -79,8 +79,18 @@ pub trait Pair: Drop {
         ensures first_count { first_count self.new ≡ first_count self.old }
         ensures second_count { second_count self.new ≡ second_count self.old }
         ensures ends { (task : Self.Task) (p : PlanValue) (v : VersionValue) (w : VersionValue)
-            (es : List EdgeValue) (fs : List EdgeValue) → stands task p v w es false fs self.old
-            → stands task p v w es true fs self.new };
+            (es : List EdgeValue) (fs : List EdgeValue) (over : Bool)
+            → stands task p v w es false fs over self.old
+            → stands task p v w es true fs over self.new };
+
+    /// Learns that the second trace has ended, without a fault.
+    fn end_second(&mut self)
+        ensures first_count { first_count self.new ≡ first_count self.old }
+        ensures second_count { second_count self.new ≡ second_count self.old }
+        ensures ends { (task : Self.Task) (p : PlanValue) (v : VersionValue) (w : VersionValue)
+            (es : List EdgeValue) (ended : Bool) (fs : List EdgeValue)
+            → stands task p v w es ended fs false self.old
+            → stands task p v w es ended fs true self.new };
 }
 
 /// Why two traces could not be read.
@@ -128,10 +138,10 @@ fn hand_first<J: Pair>(judge: &mut J, input: &Input) -> Result<(), Fault>
         (J.first_count judge.new ≡ J.first_count judge.old + length input.now.edges.items) }
     ensures second_count { OnOk result (J.second_count judge.new ≡ J.second_count judge.old) }
     ensures takes { OnOk result ((task : J.Task) (p : PlanValue) (v : VersionValue)
-        (w : VersionValue) (es : List EdgeValue) (fs : List EdgeValue)
-        → J.stands task p v w es false fs judge.old
+        (w : VersionValue) (es : List EdgeValue) (fs : List EdgeValue) (over : Bool)
+        → J.stands task p v w es false fs over judge.old
         → J.stands task p v w (es ++ input.now.edges.items) (not (goes_on input.now.more)) fs
-        judge.new) }
+        over judge.new) }
     ensures fault { IfErr result (λ fault.
         (input.now.more ≡ Err fault) ⊎ (fault ≡ Fault.Memory)) }
 {
@@ -143,7 +153,7 @@ fn hand_first<J: Pair>(judge: &mut J, input: &Input) -> Result<(), Fault>
     Ok(())
 }
 
-/// Hands the last piece of the second trace to a judge.
+/// Hands the last piece of the second trace to a judge, and whether the trace ends with it.
 ///
 /// Errors: what the read of the piece answered; X6.
 fn hand_second<J: Pair>(judge: &mut J, input: &Input) -> Result<(), Fault>
@@ -155,13 +165,18 @@ fn hand_second<J: Pair>(judge: &mut J, input: &Input) -> Result<(), Fault>
         (J.second_count judge.new ≡ J.second_count judge.old + length input.now.edges.items) }
     ensures takes { OnOk result ((task : J.Task) (p : PlanValue) (v : VersionValue)
         (w : VersionValue) (es : List EdgeValue) (ended : Bool) (fs : List EdgeValue)
-        → J.stands task p v w es ended fs judge.old
-        → J.stands task p v w es ended (fs ++ input.now.edges.items) judge.new) }
+        → J.stands task p v w es ended fs false judge.old
+        → J.stands task p v w es ended (fs ++ input.now.edges.items)
+        (not (goes_on input.now.more)) judge.new) }
     ensures fault { IfErr result (λ fault.
         (input.now.more ≡ Err fault) ⊎ (fault ≡ Fault.Memory)) }
 {
-    let _more = input.more?;
-    judge.take_second(&input.edges)
+    let more = input.more?;
+    judge.take_second(&input.edges)?;
+    if !more {
+        judge.end_second();
+    }
+    Ok(())
 }
 
 /// The fault that is reported if the second trace has this one. The first is read to its end, and
@@ -237,7 +252,7 @@ fn read_both<J: Pair, A: Read, B: Read>(
     requires room { length buffer.old ≡ 69632 }
     ensures { let s = streams (A.remaining first.old) (A.remaining first.new) None None in
         let t = streams (B.remaining second.old) (B.remaining second.new) None None in
-        ReadsPair (λ v w es fs. J.stands task.now plan v w es true fs) s t result }
+        ReadsPair (λ v w es fs. J.stands task.now plan v w es true fs true) s t result }
 {
     let mut one = Input::new(alloc);
     let mut other = Input::new(alloc);
@@ -281,7 +296,7 @@ pub fn read_pair<J: Pair, A: Read, B: Read>(
     ensures { let s = streams (A.remaining first.old) (A.remaining first.new) None None in
         let t = streams (B.remaining second.old) (B.remaining second.new) None None in
         LentPair scenario.now (ReadNothing s × ReadNothing t)
-        (λ p. ReadsPair (λ v w es fs. J.stands task.now p v w es true fs) s t) result }
+        (λ p. ReadsPair (λ v w es fs. J.stands task.now p v w es true fs true) s t) result }
 {
     let plan = match plan_of(alloc, scenario) {
         Ok(plan) => plan,

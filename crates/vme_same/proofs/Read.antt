@@ -1,5 +1,5 @@
 -- Two traces that were read, and what is found of them.
-use Rattle.std.proofs.Common.{List, Ok, true, false, ℕ}
+use Rattle.std.proofs.Common.{List, Ok, true, ℕ}
 use Rattle.vme_model.specs.declared.signals.Edge.{Edge}
 use Rattle.vme_model.specs.declared.signals.Version.{Version}
 use Rattle.vme_model.specs.Plan.{Plan}
@@ -12,8 +12,8 @@ use Rattle.vme_same.specs.Kept.{Stands}
 
 module _ (text : List ℕ) (nothing : Type 0) (s t : Streams) (now : Matching) (found : Comparison) where
   pub compared : LentPair text nothing
-      (λ p. ReadsPair (λ v w es fs judge. Stands p v w es true fs false judge) s t) (Ok now)
-      → ((p : Plan) (v w : Version) (es fs : List Edge) → Stands p v w es true fs false now
+      (λ p. ReadsPair (λ v w es fs judge. Stands p v w es true fs true judge) s t) (Ok now)
+      → ((p : Plan) (v w : Version) (es fs : List Edge) → Stands p v w es true fs true now
       → IsComparison p v w es fs found)
       → LentPair text nothing
       (λ p. ReadsPair (λ v w es fs result. IsComparison p v w es fs result) s t) (Ok found)

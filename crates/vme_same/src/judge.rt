@@ -1,5 +1,5 @@
 //! Reading two traces side by side, and finding whether they are the same.
-ghost use Rattle.std.specs.Prelude.{◌≡◌, IfErr, IfOk, IsTrue, None, OnErr, OnOk, false};
+ghost use Rattle.std.specs.Prelude.{◌≡◌, IfErr, IfOk, IsTrue, None, OnErr, OnOk};
 ghost use Rattle.std.specs.Io.KnownBytes.{Appends};
 ghost use Rattle.vme_trace.specs.Writing.{AppendsFront};
 ghost use Rattle.vme_engines.specs.Pairs.{LentPair, ReadsPair};
@@ -26,7 +26,7 @@ impl Pair for Matching {
 
     ghost second_count = { λ now. now.second.judged };
 
-    ghost stands = { λ _ p v w es ended fs now. Stands p v w es ended fs false now };
+    ghost stands = { λ _ p v w es ended fs over now. Stands p v w es ended fs over now };
 
     fn begin(task: &Global, plan: Plan, first: Version, second: Version) -> Matching {
         Matching::new(*task, &plan, first, second)
@@ -46,6 +46,10 @@ impl Pair for Matching {
 
     fn end_first(&mut self) {
         self.close_first();
+    }
+
+    fn end_second(&mut self) {
+        self.close_second();
     }
 }
 
@@ -72,8 +76,7 @@ pub fn compare<A: Read, B: Read>(
         (λ p. ReadsPair (λ v w es fs found. IsComparison p v w es fs found) s t) result }
     ensures formed { IfOk result (λ found. IsTrue (is_formed_found found)) }
 {
-    let mut matching = read_pair::<Matching, A, B>(alloc, scenario, &alloc, first, second)?;
-    matching.close_second();
+    let matching = read_pair::<Matching, A, B>(alloc, scenario, &alloc, first, second)?;
     Ok(matching.outcome())
 }
 

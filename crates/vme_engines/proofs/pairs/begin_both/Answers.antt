@@ -1,4 +1,4 @@
-use Rattle.std.proofs.Common.{[], ◌∙◌, None}
+use Rattle.std.proofs.Common.{[], ◌∙◌, None, false}
 use Rattle.vme_engines.specs.Streams.{streams}
 use Rattle.vme_engines.proofs.PairReads.{unbegun_meets, meets, side_begun}
 use Rattle.vme_engines.proofs.pairs.begin_both.Goals as goal
@@ -26,7 +26,7 @@ returns-in-Ok-hand_second-clause-begun g c =
       second_side =
           side_begun _ _ _ c.begin-2.new.self _ _ c.in-Ok-begin.ensures.begun c.in-Ok-hand_second.ensures.unfaulted (c.in_default.ensures.second_count ∙ c.begin-judge.ensures.second_count)
           c.in-Ok-hand_second.ensures.second_count;
-      stands_so = c.in-Ok-hand_second.ensures.takes c.args.task.now c.args.plan _ _ _ _ [] (c.in_default.ensures.takes c.args.task.now c.args.plan _ _ [] [] c.begin-judge.ensures.stands);
+      stands_so = c.in-Ok-hand_second.ensures.takes c.args.task.now c.args.plan _ _ _ _ [] (c.in_default.ensures.takes c.args.task.now c.args.plan _ _ [] [] false c.begin-judge.ensures.stands);
     }
 
 pub returns-in-Err-hand_second-clause-fault : goal.returns-in-Err-hand_second-clause-fault

@@ -1,4 +1,4 @@
-use Rattle.std.proofs.Common.{◌≤◌, ◌^◌, ◌++◌, Bool, None, Result, arith, not, subst}
+use Rattle.std.proofs.Common.{◌≤◌, ◌^◌, ◌++◌, Bool, None, Result, arith, not, subst, true}
 use Rattle.vme_trace.specs.declared.Fault.{Fault}
 use Rattle.vme_engines.specs.Streams.{streams}
 use Rattle.vme_engines.specs.Sides.{goes_on}
@@ -34,8 +34,8 @@ reads-preserved-in_default-hand_first g c =
           c.in_default-hand_first.ensures.unfaulted c.in_default-hand_first.ensures.first_count;
       second_side = side_stays _ _ u.w u.fs _ c.reads.other u.second_side _ c.in_default-hand_first.ensures.second_count;
       stands_so =
-          c.in_default-hand_first.ensures.takes c.args.task.now c.args.plan u.v u.w u.es u.fs
-          (subst (λ (a : Result Bool Fault). g.J.Pair.stands c.args.task.now c.args.plan u.v u.w u.es (not (goes_on a)) u.fs c.reads.judge) goes u.stands_so);
+          c.in_default-hand_first.ensures.takes c.args.task.now c.args.plan u.v u.w u.es u.fs (not (goes_on c.reads.other.more))
+          (subst (λ (a : Result Bool Fault). g.J.Pair.stands c.args.task.now c.args.plan u.v u.w u.es (not (goes_on a)) u.fs (not (goes_on c.reads.other.more)) c.reads.judge) goes u.stands_so);
     }
 
 pub hand_second-requires-clause-count : goal.hand_second-requires-clause-count
@@ -58,6 +58,7 @@ returns-in-Err-hand_second g c =
 pub reads-preserved : goal.reads-preserved
 reads-preserved g c =
     let u = c.reads.invariant in
+    let goes = second_goes _ _ _ _ c.turn_of.ensures _ _ c.goes_on.ensures c.goes_on-in-reads.ensures u.first_side.unfaulted u.second_side.unfaulted c.in-Some.turn c.in-Some.is c.in-Second.is in
     record {
       v = u.v;
       w = u.w;
@@ -67,7 +68,9 @@ reads-preserved g c =
       second_side =
           side_more _ _ u.w u.fs _ c.reads.other u.second_side _ c.read_piece-in-Second.new.self _ (c.read_piece-in-Second.ensures.comes _ u.w u.fs u.second_side.came)
           c.in_default-hand_second.ensures.unfaulted c.in_default-hand_second.ensures.second_count;
-      stands_so = c.in_default-hand_second.ensures.takes c.args.task.now c.args.plan u.v u.w u.es _ u.fs u.stands_so;
+      stands_so =
+          c.in_default-hand_second.ensures.takes c.args.task.now c.args.plan u.v u.w u.es (not (goes_on c.reads.one.more)) u.fs
+          (subst (λ (a : Result Bool Fault). g.J.Pair.stands c.args.task.now c.args.plan u.v u.w u.es (not (goes_on c.reads.one.more)) u.fs (not (goes_on a)) c.reads.judge) goes u.stands_so);
     }
 
 pub returns : goal.returns
@@ -80,5 +83,6 @@ returns g c =
       u.fs,
       is_whole _ _ u.v u.es c.reads.one u.first_side.came ended.0,
       is_whole _ _ u.w u.fs c.reads.other u.second_side.came ended.1,
-      subst (λ (a : Result Bool Fault). g.J.Pair.stands c.args.task.now c.args.plan u.v u.w u.es (not (goes_on a)) u.fs c.reads.judge) ended.0 u.stands_so,
+      subst (λ (b : Result Bool Fault). g.J.Pair.stands c.args.task.now c.args.plan u.v u.w u.es true u.fs (not (goes_on b)) c.reads.judge) ended.1
+          (subst (λ (a : Result Bool Fault). g.J.Pair.stands c.args.task.now c.args.plan u.v u.w u.es (not (goes_on a)) u.fs (not (goes_on c.reads.other.more)) c.reads.judge) ended.0 u.stands_so),
     )

@@ -1,4 +1,4 @@
-use Rattle.std.proofs.Common.{None, true}
+use Rattle.std.proofs.Common.{None}
 use Rattle.vme_engines.specs.Streams.{ReadNothing, streams}
 use Rattle.vme_same.proofs.Read.{compared}
 use Rattle.vme_same.proofs.judge.compare.Goals as goal
@@ -9,5 +9,4 @@ returns-clause-reads g c =
     let t = streams (g.B.Read.remaining c.args.second.now) (g.B.Read.remaining c.read_pair.new.second) None None in
     compared c.args.scenario.now (ReadNothing s × ReadNothing t) s t c.in_ok-matching.matching
     c.outcome.result c.in_ok-matching.ensures
-    (λ p v w es fs stands.
-    c.outcome.ensures.found p v w es fs (c.close_second.ensures.stands p v w es true fs stands))
+    c.outcome.ensures.found
