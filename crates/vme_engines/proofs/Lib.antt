@@ -28,6 +28,8 @@ pub mod FirstReads
 pub mod AfterScenario
 -- a fault of a trace before what an engine waits for
 pub mod Waits
+-- two traces that are read side by side: `Input::read_piece` and `read_out`, src/pairs.rt
+pub mod PairReads
 -- a check, piece by piece: src/checks.rt
 pub mod CheckPieces
 -- a trace that is followed edge by edge: src/following.rt

@@ -17,14 +17,21 @@ pub record IsUntouched (input : Input) : Type 0 where
 
 -- The edges of the trace so far can be judged, and all that are to come be counted.
 pub record IsReady (input : Input) : Type 0 where
-  pub counted : input.first ≡ Ok true
+  pub counted : input.more ≡ Ok true
       → IsCounted input.reader input.reads (length input.edges.items)
   pub well_formed : AreWellFormed input.edges.items
 
--- The trace was read up to there, and its header line names this version.
-pub record HasBegun (from at : Option (List ℕ)) (version : Version) (input : Input) : Type 0 where
+-- The trace was read up to there: its header line names this version, and these are its edges so
+-- far.
+pub record HasCome
+    (from at : Option (List ℕ)) (version : Version) (es : List Edge) (input : Input)
+    : Type 0 where
   pub known : input.reader.version ≡ Some version
-  pub came : Comes from at [] input.reads input.reader input.edges.items input.first
+  pub came : Comes from at [] input.reads input.reader es input.more
+
+-- the same up to the header line
+abbrev pub HasBegun : Option (List ℕ) → Option (List ℕ) → Version → Input → Type 0
+HasBegun from at version input = HasCome from at version input.edges.items input
 
 -- no header line was read, and so no edge
 abbrev pub IsUnread : Option Version → List Edge → Type 0

@@ -21,6 +21,8 @@ pub mod Showing
 pub mod Summing
 -- believe, for `add_trace` and `print_sums`: what several traces come to together
 pub mod Totals
+-- believe, for `read_pair` alone: what is read of two traces side by side
+pub mod Pairs
 -- believe, for `drive` alone: what the drivers make, and what is written of it
 pub mod Driving
 -- believe, for `drive_drawn` and `drive_found`: a walk that seeks a goal, and how it ends
@@ -40,6 +42,8 @@ pub mod Pieces
 pub mod Readings
 -- words: a trace that stands alone, up to its header line
 pub mod Begun
+-- words: two traces that are read side by side, as far as they were read
+pub mod Sides
 -- words: what the edges of a trace do to `explain` and `state`
 pub mod Followed
 -- words: a stretch that is shown, and how far it came

@@ -1,12 +1,15 @@
-//! The one beginning of a trace that stands alone: it is read up to its header line.
-ghost use Rattle.std.specs.Prelude.{◌≡◌, ◌≢◌, ℕ, List, Option, [], Ok, None, true, false, length, OnOk, IfOk, IfErr};
+//! A trace that stands alone: it is read up to its header line, and from there piece by piece.
+ghost use Rattle.std.specs.Prelude.{◌≡◌, ◌≢◌, ◌++◌, ◌-◌, ◌<◌, ℕ, List, Option, [], Ok, None, true, false, length, OnOk, IfOk, IfErr};
+ghost use Rattle.vme_model.specs.declared.signals.Edge.{Edge as EdgeValue};
 ghost use Rattle.vme_model.specs.declared.signals.Version.{Version as VersionValue};
 ghost use Rattle.vme_trace.specs.Reading.{HasRead};
 ghost use Rattle.vme_engines.specs.Streams.{streams};
 ghost use Rattle.vme_engines.specs.Steps.{Opens};
 ghost use Rattle.vme_engines.specs.Readings.{ReadsInput};
 ghost use Rattle.vme_model.specs.Plan.{Plan as PlanValue};
-ghost use Rattle.vme_engines.specs.Begun.{IsUntouched, IsReady, HasBegun, IsUnbegun};
+ghost use Rattle.vme_engines.specs.Begun.{IsUntouched, IsReady, HasCome, HasBegun, IsUnbegun};
+ghost use Rattle.vme_engines.specs.Pairs.{IsReadWhole, MeetsFault};
+ghost use Rattle.vme_engines.specs.Sides.{goes_on, turns_left};
 
 use crate::READS;
 use crate::readings::{Judge, read_on};
@@ -20,9 +23,9 @@ use vme_trace::{Fault, Reader, pump_with};
 pub(crate) struct Input {
     reader: Reader,
     /// The edges of the last piece.
-    edges: Vec<Edge>,
-    /// What the read of the header line answered.
-    first: Result<bool, Fault>,
+    pub(crate) edges: Vec<Edge>,
+    /// What the last read answered.
+    pub(crate) more: Result<bool, Fault>,
     /// How many reads are left after it.
     reads: u32,
 }
@@ -35,7 +38,7 @@ impl Input {
         Input {
             reader: Reader::new(),
             edges: Vec::new(alloc),
-            first: Ok(true),
+            more: Ok(true),
             reads: 0,
         }
     }
@@ -56,7 +59,7 @@ impl Input {
         ensures unbegun { IfErr result (IsUnbegun (R.remaining trace.old) (R.remaining trace.new)) }
     {
         let (first, reads) = open(&mut self.reader, trace, &mut self.edges, buffer);
-        self.first = first;
+        self.more = first;
         self.reads = reads;
         match self.reader.version() {
             Some(version) => Ok(version),
@@ -89,12 +92,67 @@ impl Input {
             judge,
             &mut self.reader,
             &mut self.edges,
-            self.first,
+            self.more,
             self.reads,
             buffer,
             trace,
             out,
         )
+    }
+
+    /// Whether more of the trace may come.
+    pub(crate) fn goes_on(&self) -> bool
+        ensures { result ≡ goes_on self.now.more }
+    {
+        match self.more {
+            Ok(more) => more,
+            Err(_) => false,
+        }
+    }
+
+    /// Reads the next piece of the trace into the buffer of a piece. The edges are then those of
+    /// this piece alone.
+    pub(crate) fn read_piece<R: Read>(&mut self, buffer: &mut [u8], trace: &mut R)
+        requires room { length buffer.old ≡ 69632 }
+        requires goes_on { self.old.more ≡ Ok true }
+        ensures comes { (from : Option (List ℕ)) (v : VersionValue) (es : List EdgeValue)
+            → HasCome from (R.remaining trace.old) v es self.old
+            → HasCome from (R.remaining trace.new) v (es ++ self.new.edges.items) self.new }
+        ensures fewer { turns_left self.new.more self.new.reads
+            < turns_left self.old.more self.old.reads }
+        ensures counts { self.new.reads ≡ self.old.reads - 1 }
+    {
+        self.edges.clear();
+        if self.reads == 0 {
+            self.more = Err(Fault::Read);
+            return;
+        }
+        self.reads -= 1;
+        self.more = pump_with(&mut self.reader, trace, &mut self.edges, buffer);
+    }
+
+    /// Reads the rest of the trace, for its fault.
+    pub(crate) fn read_out<R: Read>(
+        &mut self,
+        buffer: &mut [u8],
+        trace: &mut R,
+    ) -> Result<(), Fault>
+        requires room { length buffer.old ≡ 69632 }
+        ensures whole { OnOk result ((from : Option (List ℕ)) (v : VersionValue)
+            (es : List EdgeValue) → HasCome from (R.remaining trace.old) v es self.old
+            → (fs : List EdgeValue)
+            × IsReadWhole (streams from (R.remaining trace.new) None None) v fs) }
+        ensures fault { IfErr result (λ fault. (from : Option (List ℕ)) (v : VersionValue)
+            (es : List EdgeValue) → HasCome from (R.remaining trace.old) v es self.old
+            → MeetsFault (streams from (R.remaining trace.new) None None) fault) }
+    {
+        'reads: while self.goes_on() {
+            self.read_piece(buffer, trace);
+        }
+        match self.more {
+            Ok(_) => Ok(()),
+            Err(fault) => Err(fault),
+        }
     }
 }
 

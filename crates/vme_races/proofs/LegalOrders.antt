@@ -31,27 +31,9 @@ use Rattle.vme_races.specs.declared.walks.Stop.{Stop}
 use Rattle.vme_races.specs.declared.walks.Stop.TheVariants.{Races}
 use Rattle.vme_races.specs.Other.{IsLegalButLast, IsOtherOrder}
 use Rattle.vme_races.specs.Walks.{Stops}
-use Rattle.vme_races.proofs.TakenIn.{kept_version, ok_by}
+use Rattle.vme_races.proofs.TakenIn.{kept_legal, kept_version, ok_by}
 
--- ---- what is kept is legal, and fits
-
-legal_by : (v : Version) (p : Plan) (b : State) (e : Edge) → b.version ≡ v → b.plan ≡ p
-    → IsLegal v p b.history → (t : Bool) → is_ok (verdict b e) ≡ t
-    → IsLegal v p (if t then made b e else b).history
-legal_by v p b e version plan legal true ok = (
-  subst (λ (w : Version). verdict_but_full w p b.history e ≡ Ok tt) version
-      (subst (λ (q : Plan). verdict_but_full b.version q b.history e ≡ Ok tt) plan
-      (ok_by b.version b.plan b.history e _ (verdict_but_full b.version b.plan b.history e) refl ok)),
-  legal,
-)
-legal_by v p b e version plan legal false ok = legal
-
-kept_legal : (v : Version) (p : Plan) (b : State) (es : List Edge) → b.version ≡ v → b.plan ≡ p
-    → IsLegal v p b.history → IsLegal v p (kept b es).history
-kept_legal v p b [] version plan legal = legal
-kept_legal v p b (e ∷ es) version plan legal =
-    kept_legal v p (after b e) es (kept_version b (e ∷ []) ∙ version) (kept_plan b (e ∷ []) ∙ plan)
-    (legal_by v p b e version plan legal (is_ok (verdict b e)) refl)
+-- ---- what is kept fits
 
 room_by : (t : Bool) → is_ok (check t TraceFull (Ok tt)) ≡ true → t ≡ true
 room_by true ok = refl

@@ -6,6 +6,7 @@ use Rattle.vme_model.specs.declared.signals.Edge.{Edge}
 use Rattle.vme_model.specs.declared.signals.Version.{Version}
 use Rattle.vme_model.specs.Plan.{Plan}
 use Rattle.vme_model.specs.Numbered.{Numbered, edges_in}
+use Rattle.vme_model.specs.Verdict.{IsLegal}
 use Rattle.vme_bus.specs.States.{OfHistory}
 use Rattle.vme_swaps.specs.Swaps.{IsFree}
 use Rattle.vme_races.specs.declared.earlier.Earlier.{Earlier}
@@ -26,6 +27,7 @@ pub record IsBack
   pub many : length passed ≡ count
   pub passes : Passes v p e passed rest
   pub since : from ≡ oldest passed
+  pub legal : IsLegal v p (e ∷ edges_in rest)
   pub held : AreHeld v p rest others
 
 module _ (v : Version) (p : Plan) (e : Edge) where
@@ -50,70 +52,81 @@ module _ (v : Version) (p : Plan) (e : Edge) where
   stops_by count n b k (Races m c outcome) less fixed meets = (less, fixed, meets)
 
   module _ (k : Numbered) where
-    pub back_first : (others : List Earlier) → AreHeld v p k others → IsBack v p e k 0 None others
-    back_first others held = record {
+    pub back_first : (others : List Earlier) → AreHeld v p k others → IsLegal v p (e ∷ edges_in k)
+        → IsBack v p e k 0 None others
+    back_first others held legal = record {
       passed = [];
       rest = k;
       split = refl;
       many = refl;
       passes = tt;
       since = refl;
+      legal = legal;
       held = held;
     }
 
     module _ (count : ℕ) (a : Earlier) (others : List Earlier) where
       more_by : (passed rest : Numbered) → k ≡ passed ++ rest → length passed ≡ count
-          → Passes v p e passed rest → AreHeld v p rest (a ∷ others)
-          → OfHistory a.before (λ w q h. IsFree w q h a.edge e)
+          → Passes v p e passed rest → IsLegal v p (e ∷ edges_in rest) → AreHeld v p rest (a ∷ others)
+          → OfHistory a.before (λ w q h. IsLegal w q (e ∷ a.edge ∷ h) → IsFree w q h a.edge e)
           → IsBack v p e k (count + 1) (Some a.number) others
-      more_by passed [] split many passes held free = absurd held
-      more_by passed ((n, b) ∷ rest) split many passes held free = record {
-        passed = passed ++ (n, b) ∷ [];
-        rest = rest;
-        split = split ∙ sym (append_assoc passed ((n, b) ∷ []) rest);
-        many = length-append passed ((n, b) ∷ []) ∙ ap (λ m. m + 1) many;
-        passes = passes_more passed rest n b passes
-            (subst (λ (x : Edge). IsFree v p (edges_in rest) x e) held.1 (free v p (edges_in rest) held.2));
-        since = ap (λ m. Some m) held.0 ∙ sym (oldest_more passed n b);
-        held = held.3;
-      }
+      more_by passed [] split many passes legal held free = absurd held
+      more_by passed ((n, b) ∷ rest) split many passes legal held free =
+          let goes : IsFree v p (edges_in rest) b e =
+          subst (λ (x : Edge). IsFree v p (edges_in rest) x e) held.1
+          (free v p (edges_in rest) held.2
+          (subst (λ (x : Edge). IsLegal v p (e ∷ x ∷ edges_in rest)) (sym held.1) legal)) in
+          record {
+            passed = passed ++ (n, b) ∷ [];
+            rest = rest;
+            split = split ∙ sym (append_assoc passed ((n, b) ∷ []) rest);
+            many = length-append passed ((n, b) ∷ []) ∙ ap (λ m. m + 1) many;
+            passes = passes_more passed rest n b passes goes;
+            since = ap (λ m. Some m) held.0 ∙ sym (oldest_more passed n b);
+            legal = goes.swapped.1;
+            held = held.3;
+          }
 
       -- over one more
       pub back_more : (from : Option ℕ) → IsBack v p e k count from (a ∷ others)
-          → OfHistory a.before (λ w q h. IsFree w q h a.edge e)
+          → OfHistory a.before (λ w q h. IsLegal w q (e ∷ a.edge ∷ h) → IsFree w q h a.edge e)
           → IsBack v p e k (count + 1) (Some a.number) others
-      back_more from is free = more_by is.passed is.rest is.split is.many is.passes is.held free
+      back_more from is free =
+          more_by is.passed is.rest is.split is.many is.passes is.legal is.held free
 
       stop_by : (from : Option ℕ) (stop : Stop) (passed rest : Numbered) → k ≡ passed ++ rest
-          → length passed ≡ count → Passes v p e passed rest → AreHeld v p rest (a ∷ others)
-          → from ≡ oldest passed → count < most_passed
-          → OfHistory a.before (λ w q h. ¬ IsFree w q h a.edge e)
-          → OfHistory a.before (λ w q h. Meets w q e a.number a.edge h stop)
+          → length passed ≡ count → Passes v p e passed rest → IsLegal v p (e ∷ edges_in rest)
+          → AreHeld v p rest (a ∷ others) → from ≡ oldest passed → count < most_passed
+          → OfHistory a.before (λ w q h. IsLegal w q (e ∷ a.edge ∷ h) → ¬ IsFree w q h a.edge e
+          × Meets w q e a.number a.edge h stop)
           → IsWalk v p e k (record { passed = count; since = from; stop = stop })
-      stop_by from stop passed [] split many passes held since less fixed meets = absurd held
-      stop_by from stop passed ((n, b) ∷ rest) split many passes held since less fixed meets = record {
-        passed = passed;
-        rest = (n, b) ∷ rest;
-        split = split;
-        passes = passes;
-        most = omega (arith, many, less);
-        count = sym many;
-        since = since;
-        stops = stops_by (length passed) n b rest stop (omega (arith, many, less))
-            (λ free. fixed v p (edges_in rest) held.2
-            (subst (λ (x : Edge). IsFree v p (edges_in rest) x e) (sym held.1) free))
-            (subst (λ (x : Edge). Meets v p e n x (edges_in rest) stop) held.1
-            (subst (λ (m : ℕ). Meets v p e m a.edge (edges_in rest) stop) held.0
-            (meets v p (edges_in rest) held.2)));
-      }
+      stop_by from stop passed [] split many passes legal held since less stops = absurd held
+      stop_by from stop passed ((n, b) ∷ rest) split many passes legal held since less stops =
+          let meets = stops v p (edges_in rest) held.2
+          (subst (λ (x : Edge). IsLegal v p (e ∷ x ∷ edges_in rest)) (sym held.1) legal) in
+          record {
+            passed = passed;
+            rest = (n, b) ∷ rest;
+            split = split;
+            passes = passes;
+            most = omega (arith, many, less);
+            count = sym many;
+            since = since;
+            stops = stops_by (length passed) n b rest stop (omega (arith, many, less))
+                (λ free. meets.0 (subst (λ (x : Edge). IsFree v p (edges_in rest) x e) (sym held.1) free))
+                (subst (λ (x : Edge). Meets v p e n x (edges_in rest) stop) held.1
+                (subst (λ (m : ℕ). Meets v p e m a.edge (edges_in rest) stop) held.0 meets.1));
+          }
 
       -- the next one stops it
       pub back_stops : (from : Option ℕ) (stop : Stop) → IsBack v p e k count from (a ∷ others)
-          → count < most_passed → OfHistory a.before (λ w q h. ¬ IsFree w q h a.edge e)
-          → OfHistory a.before (λ w q h. Meets w q e a.number a.edge h stop)
+          → count < most_passed
+          → OfHistory a.before (λ w q h. IsLegal w q (e ∷ a.edge ∷ h) → ¬ IsFree w q h a.edge e
+          × Meets w q e a.number a.edge h stop)
           → IsWalk v p e k (record { passed = count; since = from; stop = stop })
-      back_stops from stop is less fixed meets =
-          stop_by from stop is.passed is.rest is.split is.many is.passes is.held is.since less fixed meets
+      back_stops from stop is less stops =
+          stop_by from stop is.passed is.rest is.split is.many is.passes is.legal is.held is.since less
+          stops
 
     module _ (now : Recent) (last : AreLast v p k now) where
       end_by : (t : Bool) → now.has_more ≡ t → (passed rest : Numbered) → k ≡ passed ++ rest

@@ -9,10 +9,10 @@ use Rattle.vme_model.specs.declared.signals.Version.{Version}
 use Rattle.vme_model.specs.declared.refusals.Refused.{Refused}
 use Rattle.vme_model.specs.Plan.{Plan}
 use Rattle.vme_model.specs.Numbered.{Numbered, edges_in, numbered, numbered_on, numbered_with}
-use Rattle.vme_model.specs.Verdict.{Judgement, State, after, judged, kept, made, verdict, verdict_but_full}
+use Rattle.vme_model.specs.Verdict.{IsLegal, Judgement, State, after, judged, kept, made, verdict, verdict_but_full}
 use Rattle.vme_histories.proofs.Judged as judging
 use Rattle.vme_bus.specs.declared.states.BusState.{BusState}
-use Rattle.vme_bus.specs.States.{IsStateOf, OfHistory}
+use Rattle.vme_bus.specs.States.{IsStateOf}
 use Rattle.vme_trace.specs.declared.Fault.{Fault}
 use Rattle.vme_trace.specs.declared.Fault.TheVariants.{Memory, Write}
 use Rattle.vme_trace.specs.Writing.{AppendsFront}
@@ -121,6 +121,24 @@ pub ok_by : (v : Version) (p : Plan) (h : List Edge) (e : Edge) (rest j : Judgem
 ok_by v p h e rest (Ok u) is ok = is
 ok_by v p h e rest (Err r) is ok = absurd (cc (ap is_ok (judging.refused v p h e r rest is), ok))
 
+legal_by : (v : Version) (p : Plan) (b : State) (e : Edge) → b.version ≡ v → b.plan ≡ p
+    → IsLegal v p b.history → (t : Bool) → is_ok (verdict b e) ≡ t
+    → IsLegal v p (if t then made b e else b).history
+legal_by v p b e version plan legal true ok = (
+  subst (λ (w : Version). verdict_but_full w p b.history e ≡ Ok tt) version
+      (subst (λ (q : Plan). verdict_but_full b.version q b.history e ≡ Ok tt) plan
+      (ok_by b.version b.plan b.history e _ (verdict_but_full b.version b.plan b.history e) refl ok)),
+  legal,
+)
+legal_by v p b e version plan legal false ok = legal
+
+pub kept_legal : (v : Version) (p : Plan) (b : State) (es : List Edge) → b.version ≡ v → b.plan ≡ p
+    → IsLegal v p b.history → IsLegal v p (kept b es).history
+kept_legal v p b [] version plan legal = legal
+kept_legal v p b (e ∷ es) version plan legal =
+    kept_legal v p (after b e) es (kept_version b (e ∷ []) ∙ version) (kept_plan b (e ∷ []) ∙ plan)
+    (legal_by v p b e version plan legal (is_ok (verdict b e)) refl)
+
 module _ (p : Plan) (v : Version) (es : List Edge) (e : Edge) where
   edges_are : edges_in (numbered (bench p v) es) ≡ (kept (bench p v) es).history
   edges_are = edges_on (bench p v) 0 [] es refl
@@ -133,6 +151,14 @@ module _ (p : Plan) (v : Version) (es : List Edge) (e : Edge) where
       (subst (λ (q : Plan). verdict_but_full b.version q (edges_in (numbered (bench p v) es)) e ≡ Ok tt) (kept_plan (bench p v) es)
       (subst (λ (h : List Edge). verdict_but_full b.version b.plan h e ≡ Ok tt) (sym edges_are)
       (ok_by b.version b.plan b.history e _ (verdict_but_full b.version b.plan b.history e) refl ok)))
+
+  -- the next edge is legal behind those that are kept
+  pub legal_there : is_ok (verdict (kept (bench p v) es) e) ≡ true
+      → IsLegal v p (e ∷ edges_in (numbered (bench p v) es))
+  legal_there ok = (
+    ok_there ok,
+    subst (IsLegal v p) (sym edges_are) (kept_legal v p (bench p v) es refl refl tt),
+  )
 
   from_start : 0 + length es ≡ length es
   from_start = omega arith
@@ -164,19 +190,16 @@ module _ (p : Plan) (v : Version) (es : List Edge) (e : Edge) where
 
     -- the next edge is accepted
     pub advances_accepted : (walk : Walk) (line : List ℕ) → is_ok (verdict old.bus e) ≡ true
-        → OfHistory old.state (λ w q h. verdict_but_full w q h e ≡ Ok tt → IsStateOf w q (e ∷ h) now.state)
         → AreLast v p ((old.judged + 1, e) ∷ numbered (bench p v) es) now.recent
         → IsCounted (walk ∷ walks) now.counts → IsWalk v p e (numbered (bench p v) es) walk
         → line ≡ race_line (old.judged + 1) e walk.stop → Advances p v es walks e line now
-    advances_accepted walk line ok state last counts goes text =
+    advances_accepted walk line ok last counts goes text =
         let k = numbered (bench p v) es in
         let there = judged_there true ok in
         let all : (old.judged + 1, e) ∷ k ≡ numbered (bench p v) (es ++ e ∷ []) = numbered_by true (old.judged + 1) there number_is in (
           walk ∷ walks,
           record {
             bus = bus_next;
-            state = subst (λ (m : Numbered). IsStateOf v p (edges_in m) now.state) all
-                (state v p (edges_in k) is.state (ok_there there));
             judged = judged_next;
             last = subst (λ (m : Numbered). AreLast v p m now.recent) all last;
             counts = counts;
@@ -187,15 +210,14 @@ module _ (p : Plan) (v : Version) (es : List Edge) (e : Edge) where
 
     -- it is refused
     pub advances_refused : (line : List ℕ) → line ≡ [] → is_ok (verdict old.bus e) ≡ false
-        → now.state ≡ old.state → now.recent ≡ old.recent → now.counts ≡ old.counts
+        → now.recent ≡ old.recent → now.counts ≡ old.counts
         → Advances p v es walks e line now
-    advances_refused line empty refused state recent counts =
+    advances_refused line empty refused recent counts =
         let k = numbered (bench p v) es in
         let all : k ≡ numbered (bench p v) (es ++ e ∷ []) = numbered_by false (old.judged + 1) (judged_there false refused) number_is in (
           walks,
           record {
             bus = bus_next;
-            state = subst (λ (m : Numbered). IsStateOf v p (edges_in m) now.state) all (subst (IsStateOf v p (edges_in k)) (sym state) is.state);
             judged = judged_next;
             last = subst (λ (m : Numbered). AreLast v p m now.recent) all (subst (AreLast v p k) (sym recent) is.last);
             counts = subst (IsCounted walks) (sym counts) is.counts;
@@ -204,6 +226,25 @@ module _ (p : Plan) (v : Version) (es : List Edge) (e : Edge) where
           ap (λ m. race_lines m walks) (sym all) ∙ sym (append-nil (race_lines k walks))
               ∙ ap (λ l. race_lines k walks ++ l) (sym empty),
         )
+
+-- a bus after an edge that it refuses, and after one that it accepts
+pub refused_same : (b : State) (e : Edge) → is_ok (verdict b e) ≡ false → b ≡ after b e
+refused_same b e refused = sym (ap (λ (t : Bool). if t then made b e else b) refused)
+
+pub accepted_made : (b : State) (e : Edge) → is_ok (verdict b e) ≡ true → after b e ≡ made b e
+accepted_made b e accepted = ap (λ (t : Bool). if t then made b e else b) accepted
+
+-- where the bus stands is kept of its edges
+pub state_there : (p : Plan) (v : Version) (es : List Edge) (b : State) (s : BusState)
+    → b ≡ kept (bench p v) es → IsStateOf b.version b.plan b.history s
+    → IsStateOf v p (edges_in (numbered (bench p v) es)) s
+state_there p v es b s is state =
+    subst (λ (w : Version). IsStateOf w p (edges_in (numbered (bench p v) es)) s)
+    (ap (λ (c : State). c.version) is ∙ kept_version (bench p v) es)
+    (subst (λ (q : Plan). IsStateOf b.version q (edges_in (numbered (bench p v) es)) s)
+    (ap (λ (c : State). c.plan) is ∙ kept_plan (bench p v) es)
+    (subst (λ (h : List Edge). IsStateOf b.version b.plan h s)
+    (ap (λ (c : State). c.history) is ∙ sym (edges_on (bench p v) 0 [] es refl)) state))
 
 -- ---- in the loop over edges
 

@@ -58,7 +58,6 @@ pub record IsCounted (walks : List Walk) (now : Counts) : Type 0 where
 pub record IsKept (p : Plan) (v : Version) (es : List Edge) (walks : List Walk) (now : Racing)
     : Type 0 where
   pub bus : now.bus ≡ kept (bench p v) es
-  pub state : IsStateOf v p (edges_in (numbered (bench p v) es)) now.state
   pub judged : now.judged ≡ length es
   pub last : AreLast v p (numbered (bench p v) es) now.recent
   pub counts : IsCounted walks now.counts

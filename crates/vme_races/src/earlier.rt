@@ -1,6 +1,7 @@
 //! An accepted edge of a trace that a later one may pass.
-ghost use Rattle.std.specs.Prelude.{◌≡◌, ◌↔◌, IsTrue, true};
+ghost use Rattle.std.specs.Prelude.{◌≡◌, ◌∷◌, IfNone, IfSome, IsTrue, true};
 ghost use Rattle.vme_model.specs.Signals.{is_well_formed};
+ghost use Rattle.vme_model.specs.Verdict.{IsLegal};
 ghost use Rattle.vme_bus.specs.States.{OfHistory};
 ghost use Rattle.vme_swaps.specs.Swaps.{IsFree};
 ghost use Rattle.vme_races.specs.Walks.{Meets};
@@ -9,7 +10,7 @@ ghost use Rattle.vme_races.specs.Formed.{is_formed};
 use crate::walks::Stop;
 use vme_bus::BusState;
 use vme_model::Edge;
-use vme_swaps::is_free;
+use vme_swaps::{StepBack, step_back};
 
 /// An accepted edge, with its number in the trace and the bus before it.
 #[derive(Clone, Copy)]
@@ -21,35 +22,27 @@ pub(crate) struct Earlier {
 }
 
 impl Earlier {
-    /// Whether it and the next edge may change places.
-    pub(crate) fn is_free_with(&self, edge: &Edge) -> bool
-        ensures { OfHistory self.now.before (λ v p h.
-            IsTrue result ↔ IsFree v p h self.now.edge edge.now) }
+    /// What stops the next edge behind this one. None if it passes: the two may change places.
+    pub(crate) fn stop(&self, edge: &Edge) -> Option<Stop>
+        ensures passes { IfNone result (OfHistory self.now.before (λ v p h.
+            IsLegal v p (edge.now ∷ self.now.edge ∷ h) → IsFree v p h self.now.edge edge.now)) }
+        ensures stops { IfSome result (λ stop. OfHistory self.now.before (λ v p h.
+            IsLegal v p (edge.now ∷ self.now.edge ∷ h) → ¬ IsFree v p h self.now.edge edge.now
+            × Meets v p edge.now self.now.number self.now.edge h stop)) }
+        ensures formed { IfSome result (λ stop. IsTrue (is_formed stop)) }
     {
-        is_free(&self.before, self.edge, *edge)
-    }
-
-    /// What stops the next edge behind this one, if the two may not change places.
-    pub(crate) fn meet(&self, edge: &Edge) -> Stop
-        ensures meets { OfHistory self.now.before (λ v p h.
-            Meets v p edge.now self.now.number self.now.edge h result) }
-        ensures formed { IsTrue (is_formed result) }
-    {
-        match self.before.judge(*edge) {
-            Err(refused) => Stop::Waits {
+        match step_back(&self.before, self.edge, *edge) {
+            StepBack::Passes => None,
+            StepBack::Waits(refused) => Some(Stop::Waits {
                 number: self.number,
                 edge: self.edge,
                 refused,
-            },
-            Ok(()) => {
-                let mut between = self.before;
-                between.note(*edge);
-                Stop::Races {
-                    number: self.number,
-                    edge: self.edge,
-                    outcome: between.judge(self.edge),
-                }
-            }
+            }),
+            StepBack::Races(outcome) => Some(Stop::Races {
+                number: self.number,
+                edge: self.edge,
+                outcome,
+            }),
         }
     }
 }

@@ -17,10 +17,10 @@ use vme_trace::spelling_of;
 const LINE: usize = 160;
 
 /// A line, as far as it was put together.
-pub(crate) type Line = ArrayVec<u8, LINE>;
+pub type Line = ArrayVec<u8, LINE>;
 
 /// Appends an edge by its number, and as it is spelled: at most 33 bytes.
-fn push_edge(line: &mut Line, number: u64, edge: &Edge)
+pub fn push_edge(line: &mut Line, number: u64, edge: &Edge)
     requires room { array_vec_len line.old + 33 ≤ 160 }
     requires formed { IsTrue (is_well_formed edge.now) }
     ensures items { line.new.items ≡ line.old.items ++ edge_text number edge.now }
@@ -128,7 +128,7 @@ fn push_waits(line: &mut Line, number: u64, edge: &Edge, refused: Refused)
 }
 
 /// Appends what stops an edge: at most 82 bytes.
-fn push_stop(line: &mut Line, stop: &Stop)
+pub fn push_stop(line: &mut Line, stop: &Stop)
     requires room { array_vec_len line.old + 82 ≤ 160 }
     requires met { IsTrue (is_formed stop.now) }
     ensures items { line.new.items ≡ line.old.items ++ stop_text stop.now }

@@ -7,9 +7,8 @@ ghost use Rattle.vme_model.specs.Plan.{Plan as PlanValue};
 ghost use Rattle.vme_model.specs.Signals.{is_well_formed};
 ghost use Rattle.vme_engines.specs.Outcomes.{bench};
 ghost use Rattle.vme_races.specs.declared.walks.Walk.{Walk as WalkValue};
-ghost use Rattle.vme_model.specs.Numbered.{Numbered, edges_in};
-ghost use Rattle.vme_bus.specs.States.{IsStateOf, OfHistory};
-ghost use Rattle.vme_model.specs.Verdict.{verdict_but_full};
+ghost use Rattle.vme_model.specs.Numbered.{numbered};
+ghost use Rattle.vme_model.specs.Verdict.{kept, made, verdict};
 ghost use Rattle.vme_races.specs.Lines.{count_if};
 ghost use Rattle.vme_races.specs.Kept.{Advances, AreLast, Breaks, IsCounted, IsKept, Stands};
 
@@ -20,7 +19,7 @@ use crate::walks::Walk;
 use arrayvec::ArrayVec;
 use std::alloc::Global;
 use std::io::Write;
-use vme_bus::{Bus, BusState};
+use vme_bus::Bus;
 use vme_model::Edge;
 use vme_trace::{Fault, put};
 
@@ -39,8 +38,6 @@ pub(crate) struct Counts {
 #[derive(Drop)]
 pub(crate) struct Racing {
     pub(crate) bus: Bus,
-    /// Where the bus stands.
-    pub(crate) state: BusState,
     /// How many edges were judged.
     pub(crate) judged: u64,
     pub(crate) recent: Recent,
@@ -85,7 +82,6 @@ impl Racing {
             → IsKept p v [] [] result }
     {
         Racing {
-            state: BusState::new(bus.plan(), bus.version()),
             bus,
             judged: 0,
             recent: Recent::new(alloc),
@@ -93,29 +89,28 @@ impl Racing {
         }
     }
 
-    /// Keeps the next accepted edge, which has this number.
+    /// Makes the next edge, which is accepted and has this number, and keeps it.
     ///
     /// Errors: X6.
     fn keep(&mut self, number: u64, edge: &Edge) -> Result<(), Fault>
-        requires { IsTrue (is_well_formed edge.now) }
-        ensures state { OfHistory self.old.state (λ v p h.
-            verdict_but_full v p h edge.now ≡ Ok tt
-            → IsStateOf v p (edge.now ∷ h) self.new.state) }
-        ensures last { OnOk result ((v : VersionValue) (p : PlanValue) (k : Numbered)
-            → IsStateOf v p (edges_in k) self.old.state → AreLast v p k self.old.recent
-            → AreLast v p ((number, edge.now) ∷ k) self.new.recent) }
-        ensures bus { self.new.bus ≡ self.old.bus }
+        requires formed { IsTrue (is_well_formed edge.now) }
+        requires accepted { verdict self.old.bus edge.now ≡ Ok tt }
+        ensures bus { OnOk result (self.new.bus ≡ made self.old.bus edge.now) }
+        ensures last { OnOk result ((p : PlanValue) (v : VersionValue) (es : List EdgeValue)
+            → self.old.bus ≡ kept (bench p v) es
+            → AreLast v p (numbered (bench p v) es) self.old.recent
+            → AreLast v p ((number, edge.now) ∷ numbered (bench p v) es) self.new.recent) }
         ensures judged { self.new.judged ≡ self.old.judged }
         ensures counts { self.new.counts ≡ self.old.counts }
         ensures fault { IfErr result (λ fault. fault ≡ Fault.Memory) }
     {
-        let before = self.state;
-        self.state.note(*edge);
         self.recent.push(Earlier {
             number,
             edge: *edge,
-            before,
-        })
+            before: *self.bus.state(),
+        })?;
+        self.bus.make(*edge);
+        Ok(())
     }
 
     /// Takes in the next edge. Gives its line, if it is accepted and races.
@@ -131,7 +126,7 @@ impl Racing {
         ensures fault { IfErr result (λ fault. fault ≡ Fault.Memory) }
     {
         self.judged += 1;
-        if self.bus.step(*edge).is_err() {
+        if self.bus.verdict(*edge).is_err() {
             return Ok(ArrayVec::new());
         }
         let walk = self.recent.walk(edge);

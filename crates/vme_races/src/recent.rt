@@ -3,6 +3,7 @@ ghost use Rattle.std.specs.Prelude.{◌≡◌, ◌∷◌, [], IfErr, IsTrue, OnO
 ghost use Rattle.vme_model.specs.declared.signals.Version.{Version};
 ghost use Rattle.vme_model.specs.Plan.{Plan};
 ghost use Rattle.vme_model.specs.Numbered.{edges_in};
+ghost use Rattle.vme_model.specs.Verdict.{IsLegal};
 ghost use Rattle.vme_bus.specs.States.{IsStateOf};
 ghost use Rattle.vme_races.specs.Walks.{IsWalk};
 ghost use Rattle.vme_races.specs.Formed.{is_formed};
@@ -50,14 +51,14 @@ impl Recent {
 
     /// How far back the next edge goes, if it is accepted.
     pub(crate) fn walk(&self, edge: &Edge) -> Walk
-        ensures walk { OfLast self.now (λ v p k. IsWalk v p edge.now k result) }
+        ensures walk { OfLast self.now (λ v p k. IsLegal v p (edge.now ∷ edges_in k)
+            → IsWalk v p edge.now k result) }
         ensures formed { IsTrue (is_formed result.stop) }
     {
         let mut since = None;
         for place in 0..self.edges.len() {
             let earlier = &self.edges[place];
-            if !earlier.is_free_with(edge) {
-                let stop = earlier.meet(edge);
+            if let Some(stop) = earlier.stop(edge) {
                 return Walk {
                     passed: place,
                     since,

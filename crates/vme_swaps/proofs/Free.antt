@@ -1,11 +1,12 @@
 -- Two edges that are allowed in both orders are free, unless one of them is an answer that serves the
 -- request that the other makes.
 use Rattle.std.proofs.Common.{◌≡◌, ◌∙◌, refl, sym, ap, Bool, true, false, List, ◌∷◌}
-use Rattle.std.specs.Prelude.{◌&&◌, ◌||◌, ◌↔◌, not, if◌then◌else◌, Option, Some, None, IsTrue}
+use Rattle.std.specs.Prelude.{◌&&◌, ◌||◌, ◌↔◌, not, if◌then◌else◌, Option, Some, None, Ok, Err, IsTrue}
 use Rattle.std.specs.Option.{option_map_or}
 use Rattle.vme_model.specs.declared.boards.Row.{Row}
 use Rattle.vme_model.specs.declared.boards.InterrupterRow.{InterrupterRow}
 use Rattle.vme_model.specs.declared.boards.IrqKind.{IrqKind}
+use Rattle.vme_model.specs.declared.refusals.Refused.{Refused}
 use Rattle.vme_model.specs.declared.signals.Version.{Version}
 use Rattle.vme_model.specs.declared.signals.Edge.{Edge}
 use Rattle.vme_model.specs.declared.signals.Driver.{Driver}
@@ -15,13 +16,16 @@ use Rattle.vme_model.specs.Signals.{is_fall_of, is_same_wire, is_same_driver}
 use Rattle.vme_model.specs.Plan.{Plan, board_of}
 use Rattle.vme_model.specs.Accepted.{IsAccepted}
 use Rattle.vme_model.specs.History.{shown, addressing, served_since_request, serves}
-use Rattle.vme_model.specs.Deliveries.{delivery, delivered_by}
+use Rattle.vme_model.specs.declared.deliveries.Delivery.{Delivery}
+use Rattle.vme_model.specs.Deliveries.{delivery, delivered_by, with_delivery}
 use Rattle.vme_model.specs.GrantSafety.{is_fall_on}
-use Rattle.vme_model.specs.Verdict.{IsLegal}
+use Rattle.vme_model.specs.Verdict.{IsLegal, Judgement, verdict_but_full}
 use Rattle.vme_model.proofs.Bools.{and_left, and_right, not_true}
 use Rattle.vme_histories.proofs.Others.{same_wire}
+use Rattle.vme_bus.specs.Steps.{answer_but_full}
 use Rattle.vme_swaps.specs.Alike.{StandAlike}
-use Rattle.vme_swaps.specs.Swaps.{IsFree}
+use Rattle.vme_swaps.specs.declared.swaps.StepBack.TheVariants.{Passes, Races}
+use Rattle.vme_swaps.specs.Swaps.{IsFree, StepsBack}
 use Rattle.vme_swaps.specs.Served.{is_serving, serves_request}
 use Rattle.vme_swaps.proofs.Alike.{shown_kept, addressing_kept, alike_sym}
 use Rattle.vme_swaps.proofs.Apart.{AreAllowed, turned, both, same_self, edge_of, driver_of, falls, swap_since, address_stays, same_low, same_shown, same_level, same_cycles, same_strobed}
@@ -198,3 +202,41 @@ differs version p h a b accepted legal swapped =
     let s = serves_request p h a b || serves_request p h b a in
     let d = decided version p h a b s accepted legal swapped refl in
     (λ f. not_true s (d.1 f), λ e. d.0 (ap not e))
+
+-- how the second goes back over the first
+
+module _ (version : Version) (p : Plan) (h : List Edge) (a b : Edge) where
+  module _ (accepted : IsAccepted p) (legal : IsLegal version p (b ∷ a ∷ h)) (alone : verdict_but_full version p h b ≡ Ok tt) where
+    -- the first is refused behind it
+    pub races : (r : Refused) → Err r ≡ verdict_but_full version p (b ∷ h) a → StepsBack version p h a b (Races (Err r))
+    races r is = (λ free. (let behind = free.swapped.0 in absurd (cc (behind, is))), alone, is)
+
+    -- both orders are legal
+    module _ (behind : Ok tt ≡ verdict_but_full version p (b ∷ h) a) (served : Bool)
+        (is : served ≡ (serves_request p h a b || serves_request p h b a)) where
+      free_so : IsTrue (not served) ↔ IsFree version p h a b
+      free_so = decided version p h a b served accepted legal (sym behind, (alone, legal.1.1)) is
+
+      pub passes : served ≡ false → StepsBack version p h a b Passes
+      passes so = free_so.0 (ap not so)
+
+      pub races_served : served ≡ true → StepsBack version p h a b (Races (Ok tt))
+      races_served so = (λ free. (let other = free_so.1 free in absurd (cc (other, so))), alone, behind)
+
+-- ---- by the whole answers
+
+refused_by : (j : Judgement) (d : Option Delivery) (r : Refused) → Err r ≡ with_delivery j d → j ≡ Err r
+refused_by (Ok u) d r is = absurd (cc)
+refused_by (Err s) d r is = (let same : s ≡ r = cc in ap (λ x. Err x) same)
+
+pub refused_so : (version : Version) (p : Plan) (h : List Edge) (e : Edge) (r : Refused)
+    → Err r ≡ answer_but_full version p h e → verdict_but_full version p h e ≡ Err r
+refused_so version p h e r is = refused_by (verdict_but_full version p h e) (delivery p h e) r is
+
+accepted_by : (j : Judgement) (d x : Option Delivery) → Ok x ≡ with_delivery j d → j ≡ Ok tt
+accepted_by (Ok u) d x is = refl
+accepted_by (Err s) d x is = absurd (cc)
+
+pub accepted_so : (version : Version) (p : Plan) (h : List Edge) (e : Edge) (x : Option Delivery)
+    → Ok x ≡ answer_but_full version p h e → verdict_but_full version p h e ≡ Ok tt
+accepted_so version p h e x is = accepted_by (verdict_but_full version p h e) (delivery p h e) x is

@@ -3,7 +3,8 @@
 
 -- believe: when the bus stands alike after two histories
 pub mod Alike
--- believe: which two edges may change places, and histories that are one but for such swaps
+-- believe: which two edges may change places, how an edge goes back over the one before it, and
+-- histories that are one but for free swaps
 pub mod Swaps
 -- words: an answer that serves the interrupt request of its own board; to be believed for
 -- `legal_orders_differ_by_a_served_request` alone

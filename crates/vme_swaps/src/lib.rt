@@ -5,4 +5,4 @@
 pub mod laws;
 mod swaps;
 
-pub use swaps::is_free;
+pub use swaps::{StepBack, step_back};

@@ -1,27 +1,26 @@
 //! Whether two edges may change places.
-ghost use Rattle.std.specs.Prelude.{◌≡◌, ◌∷◌, ◌↔◌, ◌||◌, IsTrue};
+ghost use Rattle.std.specs.Prelude.{◌≡◌, ◌∷◌, ◌||◌};
 ghost use Rattle.vme_model.specs.History.{shown};
 ghost use Rattle.vme_model.specs.Plan.{board_of};
 ghost use Rattle.vme_model.specs.Verdict.{IsLegal};
 ghost use Rattle.vme_bus.specs.States.{OfHistory};
 ghost use Rattle.vme_swaps.specs.Served.{is_serving, serves_request};
-ghost use Rattle.vme_swaps.specs.Swaps.{IsFree};
+ghost use Rattle.vme_swaps.specs.Swaps.{StepsBack};
 
 use vme_bus::BusState;
 use vme_interrupter::serves;
-use vme_model::{Driver, Edge, Wire};
+use vme_model::{Driver, Edge, Refused, Wire};
 
-/// Whether the rules allow the first edge, and behind it the second.
-fn are_allowed(state: &BusState, first: Edge, second: Edge) -> bool
-    ensures { OfHistory state.now (λ version p h.
-        IsTrue result ↔ IsLegal version p (second ∷ first ∷ h)) }
-{
-    if state.judge(first).is_err() {
-        return false;
-    }
-    let mut behind = *state;
-    behind.note(first);
-    behind.judge(second).is_ok()
+/// How an edge goes back over the edge before it.
+#[derive(Clone, Copy, PartialEq, Eq, Debug)]
+pub enum StepBack {
+    /// It passes: the two may change places.
+    Passes,
+    /// It waits: in front of the other edge it is refused.
+    Waits(Refused),
+    /// It races: in front of the other edge it is accepted, and then not all is the same. This is
+    /// the verdict on that edge if it comes second.
+    Races(Result<(), Refused>),
 }
 
 /// Whether an answer of the driver's board to what is shown serves its interrupter.
@@ -50,17 +49,6 @@ fn serves_request(state: &BusState, answer: Edge, request: Edge) -> bool
         && is_serving(state, answer.driver)
 }
 
-/// Whether the rules allow both orders of two edges.
-fn are_both_allowed(state: &BusState, first: Edge, second: Edge) -> bool
-    ensures { OfHistory state.now (λ version p h. IsTrue result
-        ↔ (IsLegal version p (second ∷ first ∷ h) × IsLegal version p (first ∷ second ∷ h))) }
-{
-    if !are_allowed(state, first, second) {
-        return false;
-    }
-    are_allowed(state, second, first)
-}
-
 /// Whether one of two edges is an answer that serves the interrupt request which the other makes.
 fn is_request_served(state: &BusState, first: Edge, second: Edge) -> bool
     ensures { OfHistory state.now (λ _ p h.
@@ -69,18 +57,28 @@ fn is_request_served(state: &BusState, first: Edge, second: Edge) -> bool
     serves_request(state, first, second) || serves_request(state, second, first)
 }
 
-/// Whether two edges may change places after the edges that lead to the state: both orders are
-/// legal, each edge delivers the same in both, and the bus stands alike behind them.
+/// How an edge goes back over `first`, the edge before it, after the edges that lead to the state
+/// `before`. The two are legal as they came.
 ///
-/// The two orders need not be compared by all that they lead to. Where both are legal, one thing
-/// alone can differ: an answer serves an interrupt request of its own board that was there before
-/// it, and not one that comes after it. At most four edges are judged, and the state is copied at
-/// most twice.
-pub fn is_free(state: &BusState, first: Edge, second: Edge) -> bool
-    ensures { OfHistory state.now (λ version p h. IsTrue result ↔ IsFree version p h first second) }
+/// So only their other order is judged. The two orders need not be compared by all that they lead
+/// to. If both are legal, one thing alone can differ: an answer serves an interrupt request of its
+/// own board that was there before it, and not one that comes after it. At most two edges are
+/// judged, and the state is copied at most once.
+pub fn step_back(before: &BusState, first: Edge, edge: Edge) -> StepBack
+    ensures { OfHistory before.now (λ version p h. IsLegal version p (edge ∷ first ∷ h)
+        → StepsBack version p h first edge result) }
 {
-    if !are_both_allowed(state, first, second) {
-        return false;
+    if let Err(refused) = before.judge(edge) {
+        return StepBack::Waits(refused);
     }
-    !is_request_served(state, first, second)
+    let mut behind = *before;
+    behind.note(edge);
+    if let Err(refused) = behind.step(first) {
+        return StepBack::Races(Err(refused));
+    }
+    if is_request_served(before, first, edge) {
+        StepBack::Races(Ok(()))
+    } else {
+        StepBack::Passes
+    }
 }

@@ -1,0 +1,211 @@
+-- The edges that are left of the first trace, the newest first.
+use Rattle.std.proofs.Common.{◌≡◌, inl, inr, ◌+◌, ◌-◌, ◌<◌, ◌≤◌, ◌++◌, ◌∷◌, [], ℕ, suc, List, Option, Some, None, Ok, length, get_or, map, take, drop, refl, sym, ◌∙◌, ap, append_assoc, append-nil, take-append-drop, subst, arith}
+use Rattle.std.specs.Prelude.{◌⊎◌, ◌≢◌}
+use Rattle.std.specs.List.{remove}
+use Rattle.std.proofs.Math.ListN.{length-append}
+use Rattle.std.proofs.lemmas.List.{drop_all, drop_more, length-drop}
+use Rattle.vme_model.specs.declared.signals.Edge.{Edge}
+use Rattle.vme_model.specs.declared.signals.Version.{Version}
+use Rattle.vme_model.specs.Plan.{Plan}
+use Rattle.vme_model.specs.Numbered.{Numbered, edges_in}
+use Rattle.vme_model.specs.Verdict.{IsLegal, verdict_but_full}
+use Rattle.vme_bus.specs.declared.states.BusState.{BusState}
+use Rattle.vme_bus.specs.States.{IsStateOf, OfHistory}
+use Rattle.vme_swaps.specs.Swaps.{IsFree}
+use Rattle.vme_races.specs.declared.walks.Stop.{Stop}
+use Rattle.vme_races.specs.Walks.{Meets}
+use Rattle.vme_same.specs.declared.edges.Left.{Left}
+use Rattle.vme_same.specs.Comparing.{GoesBack, IsMissing, IsPlace}
+use Rattle.vme_same.specs.Kept.{IsAt, numbers}
+
+pub numbers_append : (xs ys : List Left) → numbers (xs ++ ys) ≡ numbers xs ++ numbers ys
+numbers_append [] ys = refl
+numbers_append (x ∷ xs) ys = ap (λ l. (x.number, x.edge) ∷ l) (numbers_append xs ys)
+
+pub numbers_count : (xs : List Left) → length (numbers xs) ≡ length xs
+numbers_count [] = refl
+numbers_count (x ∷ xs) =
+    let others = numbers_count xs in omega (arith, others)
+
+-- the edge before which so many are left
+pub at_place : (xs : List Left) (n i : ℕ) (x : Left) → i + 1 + n ≡ length xs → get_or xs i x ≡ x
+    → drop (length xs - (n + 1)) xs ≡ x ∷ drop (length xs - n) xs
+at_place xs n i x sum is =
+    let here : length xs - (n + 1) ≡ i = omega arith in
+    let next : length xs - n ≡ i + 1 = omega arith in
+    ap (λ m. drop m xs) here ∙ drop_more xs i x (omega arith) ∙ ap (λ y. y ∷ drop (i + 1) xs) is
+    ∙ ap (λ m. x ∷ drop m xs) (sym next)
+
+-- the first edge that is left
+pub front_of : (xs : List Left) (x : Left) → drop (length xs - (0 + 1)) xs ≡ x ∷ drop (length xs - 0) xs
+    → (behind : List Left) × (xs ≡ behind ++ x ∷ [])
+front_of xs x is =
+    let none : drop (length xs - 0) xs ≡ [] = drop_all (length xs - 0) xs (omega arith) in
+    let n = length xs - (0 + 1) in (
+      take n xs,
+      sym (take-append-drop n xs) ∙ ap (λ l. take n xs ++ l) (is ∙ ap (λ l. x ∷ l) none),
+    )
+
+-- ---- the search for an edge
+
+module _ (e : Edge) (xs : List Left) where
+  pub none_yet : IsMissing e (numbers (drop (length xs - 0) xs))
+  none_yet = subst (λ l. IsMissing e (numbers l)) (sym (drop_all (length xs - 0) xs (omega arith))) tt
+
+  pub none_more : (n : ℕ) (x : Left) → drop (length xs - (n + 1)) xs ≡ x ∷ drop (length xs - n) xs
+      → x.edge ≢ e → IsMissing e (numbers (drop (length xs - n) xs))
+      → IsMissing e (numbers (drop (length xs - (n + 1)) xs))
+  none_more n x is other before =
+      subst (λ l. IsMissing e (numbers l)) (sym is) (other, before)
+
+  pub none_there : (n : ℕ) → n ≡ length xs → IsMissing e (numbers (drop (length xs - n) xs))
+      → IsMissing e (numbers xs)
+  none_there n all missing =
+      let first : length xs - n ≡ 0 = omega arith in
+      subst (λ m. IsMissing e (numbers (drop m xs))) first missing
+
+  pub found_at : (n : ℕ) (x : Left) → n < length xs
+      → drop (length xs - (n + 1)) xs ≡ x ∷ drop (length xs - n) xs
+      → x.edge ≡ e → IsMissing e (numbers (drop (length xs - n) xs)) → IsAt e n xs
+  found_at n x within is same missing = record {
+    behind = take (length xs - (n + 1)) xs;
+    left = x;
+    before = drop (length xs - n) xs;
+    split = sym (take-append-drop (length xs - (n + 1)) xs) ∙ ap (λ l. take (length xs - (n + 1)) xs ++ l) is;
+    is = same;
+    count = length-drop (length xs - n) xs ∙ omega arith;
+    first = missing;
+  }
+
+-- ---- what stands before an edge, and the list without it
+
+drop_behind : (ys : List Left) (x : Left) (zs : List Left) → drop (length ys + 1) (ys ++ x ∷ zs) ≡ zs
+drop_behind [] x zs = refl
+drop_behind (y ∷ ys) x zs =
+    let n : length (y ∷ ys) + 1 ≡ suc (length ys + 1) = omega arith in
+    ap (λ m. drop m (y ∷ (ys ++ x ∷ zs))) n ∙ drop_behind ys x zs
+
+take_behind : (ys zs : List Left) → take (length ys) (ys ++ zs) ≡ ys
+take_behind [] zs = refl
+take_behind (y ∷ ys) zs = ap (λ l. y ∷ l) (take_behind ys zs)
+
+module _ (e : Edge) (place : ℕ) (xs : List Left) (at : IsAt e place xs) where
+  all_count : length xs ≡ length at.behind + (1 + place)
+  all_count =
+      let all = ap length at.split ∙ length-append at.behind (at.left ∷ at.before) in
+      let count = at.count in omega (arith, all, count)
+
+  pub before_is : at.before ≡ drop (length xs - place) xs
+  before_is =
+      let count = all_count in
+      let n : length xs - place ≡ length at.behind + 1 = omega (arith, count) in
+      sym (ap (λ l. drop (length xs - place) l) at.split
+      ∙ ap (λ m. drop m (at.behind ++ at.left ∷ at.before)) n
+      ∙ drop_behind at.behind at.left at.before)
+
+  pub taken_out : (i : ℕ) → i + 1 + place ≡ length xs → remove xs i ≡ at.behind ++ at.before
+  taken_out i sum =
+      let count = all_count in
+      let n : i ≡ length at.behind = omega (arith, count) in
+      let after : suc (length at.behind) ≡ length at.behind + 1 = omega arith in
+      ap (λ m. remove xs m) n ∙ ap (λ l. remove l (length at.behind)) at.split
+      ∙ ap (λ l. l ++ drop (suc (length at.behind)) (at.behind ++ at.left ∷ at.before))
+      (take_behind at.behind (at.left ∷ at.before))
+      ∙ ap (λ m. at.behind ++ drop m (at.behind ++ at.left ∷ at.before)) after
+      ∙ ap (λ l. at.behind ++ l) (drop_behind at.behind at.left at.before)
+
+  -- it is the first such edge of what is left, whatever comes behind
+  pub split_of : (more : Numbered) → more ++ numbers xs
+      ≡ (more ++ numbers at.behind) ++ (at.left.number, e) ∷ numbers at.before
+  split_of more =
+      ap (λ l. more ++ numbers l) at.split
+      ∙ ap (λ l. more ++ l) (numbers_append at.behind (at.left ∷ at.before))
+      ∙ ap (λ a. more ++ (numbers at.behind ++ (at.left.number, a) ∷ numbers at.before)) at.is
+      ∙ sym (append_assoc more (numbers at.behind) ((at.left.number, e) ∷ numbers at.before))
+
+  abbrev pub place_of : (more : Numbered) → IsPlace e (more ++ numbers xs)
+  place_of more = record {
+    behind = more ++ numbers at.behind;
+    number = at.left.number;
+    before = numbers at.before;
+    split = split_of more;
+    first = at.first;
+  }
+
+  pub before_count : length (numbers at.before) ≡ place
+  before_count = numbers_count at.before ∙ at.count
+
+-- ---- the way back
+
+module _ (v : Version) (p : Plan) (taken : Numbered) where
+  pub legal_from : (xs ys : List Left) → IsLegal v p (edges_in (numbers (xs ++ ys) ++ taken))
+      → IsLegal v p (edges_in (numbers ys ++ taken))
+  legal_from [] ys legal = legal
+  legal_from (x ∷ xs) ys legal = legal_from xs ys legal.1
+
+  pub legal_drop : (n : ℕ) (xs : List Left) → IsLegal v p (edges_in (numbers xs ++ taken))
+      → IsLegal v p (edges_in (numbers (drop n xs) ++ taken))
+  legal_drop n xs legal = legal_from (take n xs) (drop n xs)
+      (subst (λ l. IsLegal v p (edges_in (numbers l ++ taken))) (sym (take-append-drop n xs)) legal)
+
+  pub over_one : (e : Edge) (x : Left) (xs : List Left) (stop result : Option Stop)
+      → (IsLegal v p (e ∷ edges_in (numbers xs ++ taken)) → GoesBack v p e taken (numbers xs) stop)
+      → (IsFree v p (edges_in (numbers xs ++ taken)) x.edge e × (result ≡ stop))
+      ⊎ (¬ IsFree v p (edges_in (numbers xs ++ taken)) x.edge e
+      × (met : Stop) × (result ≡ Some met)
+      × Meets v p e x.number x.edge (edges_in (numbers xs ++ taken)) met)
+      → GoesBack v p e taken (numbers (x ∷ xs)) result
+  over_one e x xs stop result on (inl w) =
+      inl (w.0, subst (GoesBack v p e taken (numbers xs)) (sym w.1) (on w.0.swapped.1))
+  over_one e x xs stop result on (inr w) = inr w
+
+-- the edge has gone back over so many
+pub record HasGone
+    (v : Version) (p : Plan) (taken : Numbered) (e : Edge) (xs : List Left) (state : BusState)
+    (stop : Option Stop)
+    : Type 0 where
+  pub stands : IsStateOf v p (edges_in (numbers xs ++ taken)) state
+  pub back : IsLegal v p (e ∷ edges_in (numbers xs ++ taken)) → GoesBack v p e taken (numbers xs) stop
+
+module _ (v : Version) (p : Plan) (taken : Numbered) (e : Edge) (xs : List Left) where
+  pub gone_none : (state : BusState) → IsStateOf v p (edges_in taken) state
+      → HasGone v p taken e (drop (length xs - 0) xs) state None
+  gone_none state is =
+      let none : [] ≡ drop (length xs - 0) xs = sym (drop_all (length xs - 0) xs (omega arith)) in
+      subst (λ l. HasGone v p taken e l state None) none (record { stands = is; back = λ legal. refl })
+
+  pub gone_more : (n : ℕ) (x : Left) (old state : BusState) (stop result : Option Stop)
+      → drop (length xs - (n + 1)) xs ≡ x ∷ drop (length xs - n) xs
+      → IsLegal v p (edges_in (numbers xs ++ taken))
+      → HasGone v p taken e (drop (length xs - n) xs) old stop
+      → OfHistory old (λ w q h. IsLegal w q (e ∷ x.edge ∷ h)
+      → (IsFree w q h x.edge e × (result ≡ stop))
+      ⊎ (¬ IsFree w q h x.edge e × (met : Stop) × (result ≡ Some met)
+      × Meets w q e x.number x.edge h met))
+      → OfHistory old (λ w q h. verdict_but_full w q h x.edge ≡ Ok tt
+      → IsStateOf w q (x.edge ∷ h) state)
+      → HasGone v p taken e (drop (length xs - (n + 1)) xs) state result
+  gone_more n x old state stop result is legal gone over moves =
+      let ys = drop (length xs - n) xs in
+      let h = edges_in (numbers ys ++ taken) in
+      let there : IsLegal v p (x.edge ∷ h) = subst (λ l. IsLegal v p (edges_in (numbers l ++ taken))) is
+      (legal_drop v p taken (length xs - (n + 1)) xs legal) in
+      subst (λ l. HasGone v p taken e l state result) (sym is) (record {
+        stands = moves v p h gone.stands there.0;
+        back = λ allowed. over_one v p taken e x ys stop result gone.back (over v p h gone.stands allowed);
+      })
+
+  -- it has gone back over all that stand before it
+  pub gone_all : (place : ℕ) (at : IsAt e place xs) (state : BusState) (stop : Option Stop)
+      → IsLegal v p (edges_in (numbers xs ++ taken))
+      → HasGone v p taken e (drop (length xs - place) xs) state stop
+      → GoesBack v p e taken (numbers at.before) stop
+  gone_all place at state stop legal gone =
+      let here : IsLegal v p (edges_in (numbers (at.left ∷ at.before) ++ taken)) =
+      legal_from v p taken at.behind (at.left ∷ at.before)
+      (subst (λ l. IsLegal v p (edges_in (numbers l ++ taken))) at.split legal) in
+      let allowed : IsLegal v p (e ∷ edges_in (numbers at.before ++ taken)) =
+      subst (λ (a : Edge). IsLegal v p (a ∷ edges_in (numbers at.before ++ taken))) at.is here in
+      let all : HasGone v p taken e at.before state stop =
+      subst (λ l. HasGone v p taken e l state stop) (sym (before_is e place xs at)) gone in
+      all.back allowed

@@ -1,0 +1,36 @@
+use Rattle.std.proofs.Common.{◌≡◌, ◌∙◌, ◌++◌, arith, false, subst, take}
+use Rattle.std.proofs.lemmas.List.{take_all}
+use Rattle.vme_engines.proofs.FollowedEdges.{next_list}
+use Rattle.vme_same.specs.Kept.{Runs}
+use Rattle.vme_same.proofs.Running.{runs_on}
+use Rattle.vme_same.proofs.matching.Matching.add_to_first.Goals as goal
+
+pub take_of_first-requires-clause-count : goal.take_of_first-requires-clause-count
+take_of_first-requires-clause-count c =
+    let was = c.loop-edge.invariant.judged in
+    let room = c.requires.count in
+    omega (arith, was, room)
+
+pub loop-edge-preserved : goal.loop-edge-preserved
+loop-edge-preserved c =
+    let i = c.loop-edge.edge-index in
+    let edges = c.args.edges.now in record {
+      judged = (let was = c.loop-edge.invariant.judged in let now = c.take_of_first.ensures.judged in omega (arith, was, now));
+      others = c.take_of_first.ensures.second ∙ c.loop-edge.invariant.others;
+      runs = λ p v w es fs over runs.
+          subst (λ l. Runs p v w l false fs over c.take_of_first.new.self)
+          (next_list es edges i _ c.loop-edge-test.true)
+          (c.in_ok-take_of_first.ensures.runs p v w (es ++ take i edges) fs over
+          (c.loop-edge.invariant.runs p v w es fs over runs));
+    }
+
+pub returns-clause-stands : goal.returns-clause-stands
+returns-clause-stands c = λ p v w es fs over stands.
+    let runs = subst (λ l. Runs p v w (es ++ l) false fs over c.loop-edge.self)
+    (take_all c.loop-edge.edge-index c.args.edges.now (omega arith))
+    (c.loop-edge.invariant.runs p v w es fs over stands.0) in (
+      runs_on p v w (es ++ c.args.edges.now) fs false over false over c.loop-edge.self c.advance.new.self runs
+          c.advance.ensures.going (c.advance.ensures.ended ∙ runs.first_ends)
+          (c.advance.ensures.over ∙ runs.second_ends),
+      c.advance.ensures.idle,
+    )

@@ -1,0 +1,41 @@
+//! What is found of two traces.
+ghost use Rattle.std.specs.Prelude.{◌≡◌};
+
+use vme_model::{Edge, Refused};
+use vme_races::Stop;
+
+/// Why an edge keeps two traces from being the same.
+#[derive(Clone, Copy, PartialEq, Eq, Debug)]
+pub enum Why {
+    /// No such edge is left of the first trace.
+    Missing,
+    /// The second trace is at its end, and this edge of the first one is left.
+    Left,
+    /// The edge does not come to the front of what is left of the first trace. It is far, or waits
+    /// for another edge there, or races with it.
+    Stops(Stop),
+}
+
+/// What is found of two traces.
+#[derive(Clone, Copy, PartialEq, Eq, Debug)]
+pub enum Comparison {
+    /// They are the same but for free swaps: so many edges.
+    Same {
+        edges: u64,
+    },
+    /// A trace has a refused edge, the n-th, counted from 1. It is the first one if both have some.
+    Refuses {
+        in_first: bool,
+        number: u64,
+        refused: Refused,
+    },
+    /// The traces are of different versions.
+    OtherVersion,
+    /// An edge keeps them from being the same. It is one of the second trace, with its number there;
+    /// but one that is left is of the first.
+    Differs {
+        number: u64,
+        edge: Edge,
+        why: Why,
+    },
+}

@@ -1,0 +1,36 @@
+//! The edges that are kept of the two traces.
+ghost use Rattle.std.specs.Prelude.{◌≡◌, IsTrue, true};
+ghost use Rattle.vme_model.specs.Signals.{is_well_formed};
+ghost use Rattle.vme_same.specs.Formed.{is_formed_found};
+
+use crate::comparisons::{Comparison, Why};
+use vme_model::Edge;
+
+/// An edge that is left of the first trace, with its number there.
+#[derive(Clone, Copy)]
+pub(crate) struct Left {
+    pub(crate) number: u64,
+    pub(crate) edge: Edge,
+    ghost formed: { is_well_formed edge ≡ true },
+}
+
+/// An edge of the second trace that was not yet looked for.
+#[derive(Clone, Copy)]
+pub(crate) struct Next {
+    pub(crate) edge: Edge,
+    ghost formed: { is_well_formed edge ≡ true },
+}
+
+impl Left {
+    /// That the edge is left when the second trace is over.
+    pub(crate) fn differs(&self) -> Comparison
+        ensures found { result ≡ Comparison.Differs self.now.number self.now.edge Why.Left }
+        ensures formed { IsTrue (is_formed_found result) }
+    {
+        Comparison::Differs {
+            number: self.number,
+            edge: self.edge,
+            why: Why::Left,
+        }
+    }
+}
