@@ -42,3 +42,8 @@ module _ (a b c d : Option (List ℕ)) (x y z : List ℕ) where
     pub line_third : (r : Result (Unit {0}) Fault) → OnErr r (AppendsFront c d z) → OnErr r (AppendsFront a d ((x ++ y) ++ z))
     line_third (Ok u) w = tt
     line_third (Err f) w = front_behind a c d (x ++ y) z (Appends-trans a b c x y first second) w
+
+-- the second of two parts
+pub two_second : (a b c : Option (List ℕ)) (x y : List ℕ) → Appends a b x → (r : Result (Unit {0}) Fault) → OnErr r (AppendsFront b c y) → OnErr r (AppendsFront a c (x ++ y))
+two_second a b c x y first (Ok u) w = tt
+two_second a b c x y first (Err f) w = front_behind a b c x y first w

@@ -6,5 +6,7 @@ pub mod Handing
 pub mod Adding
 -- src/escapes.rt: a name on one line, character by character
 pub mod EscapedNames
+-- src/jobs.rt: two traces that are compared, and the fault that is passed on
+pub mod Compared
 -- src/checks.rt: traces that are checked, file by file
 pub mod CheckedFiles

@@ -39,10 +39,11 @@ use Rattle.vme_order.specs.declared.Form.{Form}
 use Rattle.vme_order.specs.declared.OrderingFault.TheVariants as order
 use Rattle.vme_order.specs.Ordering.{Answer as OrderAnswer, LentText, OrdersInput}
 use Rattle.vme_command_line.specs.declared.Job.{Job}
-use Rattle.vme_command_line.specs.declared.Job.TheVariants.{Joined, OwnVersion, Replay, Check, Checks, Cycles, Explain, Shrink, Rules, State, Show, Summary, Sums, Races, Walk, OtherOrder, Order, Drive, Draw, Search, Run}
+use Rattle.vme_command_line.specs.declared.Job.TheVariants.{Joined, OwnVersion, Replay, Check, Checks, Cycles, Explain, Shrink, Rules, State, Show, Summary, Sums, Races, Walk, OtherOrder, Same, Order, Drive, Draw, Search, Run}
 use Rattle.vme_command_line.specs.Asked.{Ask, texts_of}
 use Rattle.vme_command_line.specs.declared.TheConstants.{VERSION}
 use Rattle.vme_program.specs.CheckedFiles.{ChecksFiles, HasFaulty}
+use Rattle.vme_program.specs.Comparisons.{ComparesFiles, SecondStops}
 use Rattle.vme_program.specs.Names.{form_of, line_form}
 use Rattle.vme_program.specs.Statuses.{exit_code}
 use Rattle.vme_program.specs.Together.{StopsAt, SumsUp}
@@ -126,6 +127,9 @@ Does (Sums scenario traces) old new = Alone (λ answer.
 Does (Races scenario trace) old new = Alone (OnTrace ReportsRaces old new)
 Does (Walk scenario trace edge) old new = Alone (OnTrace (PrintsWalkInput edge) old new)
 Does (OtherOrder scenario trace edge) old new = Reordered (OnRace edge old new)
+Does (Same scenario trace other) old new = Alone (λ answer.
+    (text : List ℕ)
+    × LentAsking text (Keeps old new) (ComparesFiles trace.now other.now old new) answer)
 Does (Order scenario moments slacks places) old new =
     Ordered (OnMoments (form_of places) slacks old new)
 Does (Drive scenario edges version) old new = Alone (λ answer.
@@ -142,6 +146,8 @@ Does (Run scenario edges turns version) old new = λ answer.
 abbrev pub Stops : Job → List ℕ → Fault → Type 0
 Stops (Sums scenario traces) name f =
     (text : List ℕ) × (p : Plan) × (read text ≡ Ok p) × StopsAt (texts_of traces.items) name f p
+Stops (Same scenario trace other) name f =
+    (text : List ℕ) × (p : Plan) × (read text ≡ Ok p) × (name ≡ other.now) × SecondStops f
 Stops job name f = ⊥
 
 -- a job ends with a fault that it has alone

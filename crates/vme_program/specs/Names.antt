@@ -8,6 +8,8 @@ use Rattle.vme_engines.specs.declared.Status.{Status}
 use Rattle.vme_engines.specs.declared.Status.TheVariants as ends
 use Rattle.vme_engines.specs.declared.EngineFault.{EngineFault}
 use Rattle.vme_engines.specs.declared.EngineFault.TheVariants as fault
+use Rattle.vme_engines.specs.declared.pairs.PairFault.{PairFault}
+use Rattle.vme_engines.specs.declared.pairs.PairFault.TheVariants as pair
 use Rattle.vme_run.specs.declared.RunFault.{RunFault}
 use Rattle.vme_run.specs.declared.RunFault.TheVariants as run
 use Rattle.vme_order.specs.declared.Form.{Form}
@@ -18,7 +20,7 @@ use Rattle.vme_races.specs.declared.other.OtherOrder.{OtherOrder as Other}
 use Rattle.vme_races.specs.declared.other.OtherOrder.TheVariants as other
 use Rattle.vme_command_line.specs.Asked.{texts_of}
 use Rattle.vme_command_line.specs.declared.Job.{Job}
-use Rattle.vme_command_line.specs.declared.Job.TheVariants.{Joined, OwnVersion, Replay, Check, Checks, Cycles, Explain, Shrink, Rules, State, Show, Summary, Sums, Races, Walk, OtherOrder, Order, Drive, Draw, Search, Run}
+use Rattle.vme_command_line.specs.declared.Job.TheVariants.{Joined, OwnVersion, Replay, Check, Checks, Cycles, Explain, Shrink, Rules, State, Show, Summary, Sums, Races, Walk, OtherOrder, Same, Order, Drive, Draw, Search, Run}
 use Rattle.vme_program.specs.declared.faults.ProgramFault.{ProgramFault}
 use Rattle.vme_program.specs.declared.faults.ProgramFault.TheVariants.{CannotRead, TooLong, Engine, InTrace, SomeTraces, NoRace, Boards, Ordering}
 
@@ -40,6 +42,7 @@ scenario_name (Sums scenario traces) = scenario.now
 scenario_name (Races scenario trace) = scenario.now
 scenario_name (Walk scenario trace edge) = scenario.now
 scenario_name (OtherOrder scenario trace edge) = scenario.now
+scenario_name (Same scenario trace other) = scenario.now
 scenario_name (Order scenario moments slacks places) = scenario.now
 scenario_name (Drive scenario edges version) = scenario.now
 scenario_name (Draw scenario edges seed until version) = scenario.now
@@ -66,6 +69,8 @@ IsFileOf (Sums scenario traces) name =
 IsFileOf (Races scenario trace) name = (name ≡ scenario.now) ⊎ (name ≡ trace.now)
 IsFileOf (Walk scenario trace edge) name = (name ≡ scenario.now) ⊎ (name ≡ trace.now)
 IsFileOf (OtherOrder scenario trace edge) name = (name ≡ scenario.now) ⊎ (name ≡ trace.now)
+IsFileOf (Same scenario trace other) name =
+    (name ≡ scenario.now) ⊎ (name ≡ trace.now) ⊎ (name ≡ other.now)
 IsFileOf (Order scenario moments slacks places) name =
     (name ≡ scenario.now) ⊎ (name ≡ moments.now)
 IsFileOf (Drive scenario edges version) name = name ≡ scenario.now
@@ -129,6 +134,12 @@ other_answer_named name edge (Ok other.Written) = Ok ends.Done
 other_answer_named name edge (Ok other.NoRace) = Err (NoRace edge)
 other_answer_named name edge (Ok (other.Beyond edges)) = Err (Engine (fault.Beyond edges))
 other_answer_named name edge (Err f) = Err (fault_named name f)
+
+-- a fault of an engine on two traces; that of the first trace names no file
+abbrev pub pair_fault_named : Bor (List ℕ) → Bor (List ℕ) → PairFault → ProgramFault
+pair_fault_named scenario second (pair.Engine f) = fault_named scenario f
+pair_fault_named scenario second (pair.First f) = Engine (fault.Trace f)
+pair_fault_named scenario second (pair.Second f) = InTrace second f
 
 -- a file of this name cannot be read, or there is no memory for it
 abbrev pub IsFileFault : Bor (List ℕ) → ProgramFault → Type 0

@@ -2,14 +2,14 @@
 ghost use Rattle.std.specs.Prelude.{◌≡◌, ◌≢◌};
 ghost use Rattle.std.specs.IoError.{error_kind};
 ghost use Rattle.std.specs.Process.{exit_status};
-ghost use Rattle.vme_program.specs.Names.{fault_named, trace_fault_named};
+ghost use Rattle.vme_program.specs.Names.{fault_named, pair_fault_named, trace_fault_named};
 
 use crate::lines::OneLine;
 use std::fmt;
 use std::io::{self, ErrorKind};
 use std::process::ExitCode;
 use thiserror::Error;
-use vme_engines::EngineFault;
+use vme_engines::{EngineFault, PairFault};
 use vme_order::OrderingFault;
 use vme_run::RunFault;
 use vme_trace::Fault;
@@ -27,7 +27,7 @@ pub enum ProgramFault<'a> {
     /// An engine's fault, or F3 if there is no memory for what the program passes to one.
     #[error("{0}")]
     Engine(EngineFault),
-    /// A fault of the trace of this name, one of several.
+    /// A fault of the trace of this name, one of several, or the second of two.
     #[error("{name}: {fault}")]
     InTrace {
         /// The file of the trace.
@@ -82,6 +82,21 @@ impl<'a> ProgramFault<'a> {
         match fault {
             EngineFault::Trace(fault) => ProgramFault::InTrace { name: trace, fault },
             other => ProgramFault::of_engine(scenario, other),
+        }
+    }
+
+    /// A fault of an engine on two traces, given the name of the scenario and that of the second
+    /// trace. A fault of the first one names no file.
+    pub fn of_pair(scenario: &'a str, second: &'a str, fault: PairFault) -> Self
+        ensures { result ≡ pair_fault_named scenario.entry second.entry fault }
+    {
+        match fault {
+            PairFault::Engine(fault) => ProgramFault::of_engine(scenario, fault),
+            PairFault::First(fault) => ProgramFault::Engine(EngineFault::Trace(fault)),
+            PairFault::Second(fault) => ProgramFault::InTrace {
+                name: second,
+                fault,
+            },
         }
     }
 }

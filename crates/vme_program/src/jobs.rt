@@ -17,6 +17,7 @@ ghost use Rattle.vme_program.specs.Statuses.{exit_code};
 ghost use Rattle.vme_program.specs.Adding.{AddsFile, AddsFiles};
 
 use crate::checks::check_files;
+use crate::comparisons::report_comparison;
 use crate::faults::ProgramFault;
 use crate::files::{buffered, open, read_scenario};
 use crate::reporters::Reporter;
@@ -37,6 +38,7 @@ use vme_order::{Form, OrderingFault, order};
 use vme_races::{OtherOrder, other_order, races, walk_of_edge};
 use vme_rulebook::{all_rules, one_rule};
 use vme_run::{RunFault, run as run_scenario};
+use vme_same::compare;
 use vme_shrink::shrink;
 use vme_summary::Sums;
 use vme_text::Text;
@@ -505,6 +507,30 @@ fn run_other<'a, W: Write>(
     answer_of_other(scenario, edge, answer)
 }
 
+/// Prints whether two traces are the same but for orders that do not matter. Both files are opened
+/// before either is read.
+#[inline(never)]
+fn run_same<'a, W: Write>(
+    rt: &HostRuntime,
+    scenario: &'a str,
+    trace: &'a str,
+    other: &'a str,
+    out: &mut W,
+) -> Result<Status, ProgramFault<'a>>
+    ensures fault { IfErr result
+        (IsFaultOf (Job.Same scenario.entry trace.entry other.entry)) }
+    ensures done { IsDone (Job.Same scenario.entry trace.entry other.entry)
+        (W.contents out.old) (W.contents out.new) result }
+{
+    let text = read_scenario(rt, scenario)?;
+    let mut first = open(rt, trace)?;
+    let mut second = open(rt, other)?;
+    match compare(rt.alloc(), &text, &mut first, &mut second) {
+        Ok(found) => report_comparison(trace, other, found, out),
+        Err(fault) => Err(ProgramFault::of_pair(scenario, other, fault)),
+    }
+}
+
 /// What is written of an order, with `--where` and without.
 fn form_of(places: bool) -> Form
     ensures { result ≡ form_of places }
@@ -687,6 +713,11 @@ pub fn run<'a, R: Threads + Wait + Sync, W: Write>(
             trace,
             edge,
         } => run_other(rt, scenario, trace, edge, out),
+        Job::Same {
+            scenario,
+            trace,
+            other,
+        } => run_same(rt, scenario, trace, other, out),
         Job::Order {
             scenario,
             moments,
