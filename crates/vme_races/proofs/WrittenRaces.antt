@@ -1,5 +1,5 @@
 -- What is written of a trace.
-use Rattle.std.proofs.Common.{◌≡◌, inl, inr, ◌+◌, ◌-◌, ◌++◌, [], ℕ, Bool, false, List, Option, Some, None, Result, Ok, Err, length, refl, sym, ◌∙◌, ap, append_assoc, subst, arith}
+use Rattle.std.proofs.Common.{◌≡◌, inl, inr, ◌-◌, ◌++◌, [], ℕ, Bool, false, List, Option, Some, None, Result, Ok, Err, length, refl, sym, ◌∙◌, ap, append_assoc, subst, arith}
 use Rattle.std.specs.Io.KnownBytes.{Appends, Keeps}
 use Rattle.std.proofs.KnownBytes.{Appends-trans, Appends-nil, Appends-kept}
 use Rattle.std.proofs.lemmas.List.{length-map}
@@ -10,7 +10,7 @@ use Rattle.vme_model.specs.Plan.{Plan}
 use Rattle.vme_model.specs.Text.{Reading, read_of}
 use Rattle.vme_model.specs.Verdict.{kept}
 use Rattle.vme_trace.specs.declared.Fault.{Fault}
-use Rattle.vme_trace.specs.declared.Fault.TheVariants.{Memory, Write}
+use Rattle.vme_trace.specs.declared.Fault.TheVariants.{Write}
 use Rattle.vme_trace.specs.Writing.{AppendsFront}
 use Rattle.vme_engines.specs.declared.Status.{Status}
 use Rattle.vme_engines.specs.declared.EngineFault.TheVariants as fault
@@ -28,7 +28,7 @@ use Rattle.vme_engines.proofs.WrittenLines.{appends_behind, front_behind, front_
 use Rattle.vme_races.specs.declared.racing.Racing.{Racing}
 use Rattle.vme_races.specs.declared.walks.Walk.{Walk}
 use Rattle.vme_races.specs.Lines.{counts_text, last_line, race_lines, races_in, waits_in}
-use Rattle.vme_races.specs.Outcomes.{AreLines, IsText, Reports, StopsWriting}
+use Rattle.vme_races.specs.Outcomes.{AreLines, IsText, Reports}
 use Rattle.vme_races.specs.Kept.{Breaks, Ends, EndsCut, IsKept, Stands}
 
 -- what a judge that waits for the end has left

@@ -1,5 +1,5 @@
 -- What is kept of the edges so far.
-use Rattle.std.specs.Prelude.{◌≡◌, ◌⊎◌, ◌+◌, ◌<◌, ◌≤◌, ◌++◌, ◌∷◌, [], ℕ, Bool, true, false, List, length, min, Option, Some}
+use Rattle.std.specs.Prelude.{◌≡◌, ◌⊎◌, ◌+◌, ◌<◌, ◌≤◌, ◌++◌, ◌∷◌, [], ℕ, true, false, List, length, min, Option, Some, None}
 use Rattle.std.specs.Io.KnownBytes.{Appends}
 use Rattle.vme_model.specs.declared.signals.Version.{Version}
 use Rattle.vme_model.specs.declared.signals.Edge.{Edge}
@@ -15,9 +15,10 @@ use Rattle.vme_races.specs.declared.earlier.Earlier.{Earlier}
 use Rattle.vme_races.specs.declared.recent.Recent.{Recent}
 use Rattle.vme_races.specs.declared.racing.Counts.{Counts}
 use Rattle.vme_races.specs.declared.racing.Racing.{Racing}
+use Rattle.vme_races.specs.declared.walks.Stop.{Stop}
 use Rattle.vme_races.specs.declared.walks.Walk.{Walk}
 use Rattle.vme_races.specs.Walks.{AreWalks, most_passed}
-use Rattle.vme_races.specs.Lines.{free_in, race_lines, races_in, waits_in}
+use Rattle.vme_races.specs.Lines.{free_in, race_line, race_lines, races_in, waits_in}
 use Rattle.vme_races.specs.Outcomes.{AreLines, IsText}
 
 -- ---- the last accepted edges
@@ -62,6 +63,11 @@ pub record IsKept (p : Plan) (v : Version) (es : List Edge) (walks : List Walk) 
   pub last : AreLast v p (numbered (bench p v) es) now.recent
   pub counts : IsCounted walks now.counts
   pub walked : AreWalks v p (numbered (bench p v) es) walks
+
+-- the line of an edge that was taken in, the n-th, by what stops it; None if it is refused
+abbrev pub taken_line : ℕ → Edge → Option Stop → List ℕ
+taken_line n e None = []
+taken_line n e (Some stop) = race_line n e stop
 
 -- one more edge was taken in, and this is its line
 abbrev pub Advances :

@@ -1,22 +1,24 @@
 //! A trace whose accepted edges go back, edge by edge.
-ghost use Rattle.std.specs.Prelude.{◌≡◌, ◌+◌, ◌<◌, ◌^◌, ◌++◌, ◌∷◌, [], IfErr, IfOk, IsTrue, List, Ok, OnOk, Option, length, ℕ};
+ghost use Rattle.std.specs.Prelude.{◌≡◌, ◌+◌, ◌<◌, ◌^◌, ◌++◌, ◌∷◌, [], IfErr, IfOk, IfSome, IsTrue, List, Ok, OnErr, OnOk, Option, length, ℕ};
+ghost use Rattle.std.specs.Io.KnownBytes.{Appends};
 ghost use Rattle.vme_model.specs.declared.signals.Edge.{Edge as EdgeValue};
 ghost use Rattle.vme_model.specs.declared.signals.Version.{Version as VersionValue};
 ghost use Rattle.vme_model.specs.Locality.{AreWellFormed};
 ghost use Rattle.vme_model.specs.Plan.{Plan as PlanValue};
 ghost use Rattle.vme_model.specs.Signals.{is_well_formed};
+ghost use Rattle.vme_trace.specs.Writing.{AppendsFront};
+ghost use Rattle.vme_races.specs.Formed.{is_formed};
 ghost use Rattle.vme_engines.specs.Outcomes.{bench};
 ghost use Rattle.vme_races.specs.declared.walks.Walk.{Walk as WalkValue};
 ghost use Rattle.vme_model.specs.Numbered.{numbered};
 ghost use Rattle.vme_model.specs.Verdict.{kept, made, verdict};
 ghost use Rattle.vme_races.specs.Lines.{count_if};
-ghost use Rattle.vme_races.specs.Kept.{Advances, AreLast, Breaks, IsCounted, IsKept, Stands};
+ghost use Rattle.vme_races.specs.Kept.{Advances, AreLast, Breaks, IsCounted, IsKept, Stands, taken_line};
 
 use crate::earlier::Earlier;
-use crate::lines::{Line, race_line};
+use crate::lines::race_line;
 use crate::recent::Recent;
-use crate::walks::Walk;
-use arrayvec::ArrayVec;
+use crate::walks::{Stop, Walk};
 use std::alloc::Global;
 use std::io::Write;
 use vme_bus::Bus;
@@ -113,27 +115,52 @@ impl Racing {
         Ok(())
     }
 
-    /// Takes in the next edge. Gives its line, if it is accepted and races.
+    /// Takes in the next edge. Gives what stops it, if it is accepted.
     ///
     /// Errors: X6.
-    pub(crate) fn take_in(&mut self, edge: &Edge) -> Result<Line, Fault>
+    pub(crate) fn take_in(&mut self, edge: &Edge) -> Result<Option<Stop>, Fault>
         requires room { self.old.judged + 1 < 2 ^ 64 }
         requires well_formed { IsTrue (is_well_formed edge.now) }
         ensures judged { OnOk result (self.new.judged ≡ self.old.judged + 1) }
-        ensures line { IfOk result (λ line. (p : PlanValue) (v : VersionValue)
+        ensures line { IfOk result (λ stop. (p : PlanValue) (v : VersionValue)
             (es : List EdgeValue) (walks : List WalkValue) → IsKept p v es walks self.old
-            → Advances p v es walks edge.now line.items self.new) }
+            → Advances p v es walks edge.now (taken_line self.new.judged edge.now stop) self.new) }
+        ensures formed { IfOk result (λ stop. IfSome stop (λ s. IsTrue (is_formed s))) }
         ensures fault { IfErr result (λ fault. fault ≡ Fault.Memory) }
     {
         self.judged += 1;
         if self.bus.verdict(*edge).is_err() {
-            return Ok(ArrayVec::new());
+            return Ok(None);
         }
         let walk = self.recent.walk(edge);
         let number = self.judged;
         self.keep(number, edge)?;
         self.counts.note(&walk);
-        Ok(race_line(number, edge, &walk.stop))
+        Ok(Some(walk.stop))
+    }
+
+    /// Writes the line of the edge that was taken in last, if it is accepted and races.
+    fn write_taken<W: Write>(
+        &self,
+        edge: &Edge,
+        stop: Option<Stop>,
+        out: &mut W,
+    ) -> Result<(), Fault>
+        requires well_formed { IsTrue (is_well_formed edge.now) }
+        requires met { IfSome stop (λ s. IsTrue (is_formed s)) }
+        ensures ok { OnOk result (Appends (W.contents out.old) (W.contents out.new)
+            (taken_line self.now.judged edge.now stop)) }
+        ensures front { OnErr result (AppendsFront (W.contents out.old) (W.contents out.new)
+            (taken_line self.now.judged edge.now stop)) }
+        ensures fault { IfErr result (λ fault. fault ≡ Fault.Write) }
+    {
+        let Some(stop) = stop else {
+            return Ok(());
+        };
+        if !stop.is_race() {
+            return Ok(());
+        }
+        put(out, race_line(self.judged, edge, &stop).as_slice())
     }
 
     /// Takes in the next edges, and writes their lines.
@@ -153,8 +180,8 @@ impl Racing {
             → Breaks p v es edges.now first (W.contents out.new) fault) }
     {
         for edge in edges {
-            let line = self.take_in(edge)?;
-            put(out, line.as_slice())?;
+            let stop = self.take_in(edge)?;
+            self.write_taken(edge, stop, out)?;
         }
         Ok(())
     }

@@ -5,12 +5,12 @@ use Rattle.vme_races.proofs.other.Reordering.keep.Goals as goal
 
 pub returns-then-len-before-clause-kept : goal.returns-then-len-before-clause-kept
 returns-then-len-before-clause-kept c = λ p v es are.
-    listed_same p v es c.args.edge.now c.args.self.now.racing c.take_in.new.self c.in_ok-take_in.field-0.items
+    listed_same p v es c.args.edge.now c.args.self.now.racing c.take_in.new.self _
     (c.in_ok-take_in.ensures.line p v es) c.args.self.now.edges.items are (omega arith)
 
 pub returns-in-Ok-clause-kept : goal.returns-in-Ok-clause-kept
 returns-in-Ok-clause-kept c = λ p v es are.
-    listed_more p v es c.args.edge.now c.args.self.now.racing c.take_in.new.self c.in_ok-take_in.field-0.items
+    listed_more p v es c.args.edge.now c.args.self.now.racing c.take_in.new.self _
     (c.in_ok-take_in.ensures.line p v es) c.args.self.now.edges.items are _ (λ same. omega arith)
     (c.in-Ok.ensures.items ∙ ap (λ d. c.args.self.now.edges.items ++ d ∷ []) c.of.ensures)
 

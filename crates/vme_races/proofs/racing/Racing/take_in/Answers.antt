@@ -1,8 +1,9 @@
-use Rattle.std.proofs.Common.{◌≡◌, ◌∙◌, ◌+◌, ◌<◌, ◌^◌, ap, arith, false, is_ok, length, refl, rules, subst, sym, true}
+use Rattle.std.proofs.Common.{◌≡◌, ◌∙◌, ◌+◌, ◌<◌, ◌^◌, [], ap, arith, false, is_ok, length, refl, rules, subst, sym, true}
 use Rattle.vme_model.specs.Numbered.{numbered}
 use Rattle.vme_model.specs.Verdict.{verdict}
 use Rattle.vme_engines.specs.Outcomes.{bench}
 use Rattle.vme_races.specs.Kept.{IsCounted}
+use Rattle.vme_races.specs.Lines.{race_line}
 use Rattle.vme_races.proofs.TakenIn.{accepted_made, advances_accepted, advances_refused, legal_there, refused_same, walks_within}
 use Rattle.vme_races.proofs.racing.Racing.take_in.Goals as goal
 
@@ -11,7 +12,7 @@ returns-then-is_err-clause-line c = λ p v es walks is.
     let refused : is_ok (verdict c.args.self.now.bus c.args.edge.now) ≡ false = search rules in
     advances_refused p v es c.args.edge.now walks c.args.self.now _ is
     (refused_same c.args.self.now.bus c.args.edge.now refused) refl
-    c.new.result.items (search rules) refused refl refl
+    [] refl refused refl refl
 
 pub returns-clause-line : goal.returns-clause-line
 returns-clause-line c = λ p v es walks is.
@@ -23,9 +24,9 @@ returns-clause-line c = λ p v es walks is.
     let few : length walks + 1 < 2 ^ 64 = omega (arith, within, count, room) in
     advances_accepted p v es c.args.edge.now walks c.args.self.now _ is
     (c.in_ok-keep.ensures.bus ∙ sym (accepted_made c.args.self.now.bus c.args.edge.now accepted))
-    c.keep.ensures.judged c.walk-walk.result c.race_line.result.items accepted
+    c.keep.ensures.judged c.walk-walk.result _ accepted
     (c.in_ok-keep.ensures.last p v es is.bus is.last)
     (c.note.ensures walks few (subst (IsCounted walks) (sym c.keep.ensures.counts) is.counts))
     (c.walk-walk.ensures.walk v p k is.last
     (legal_there p v es c.args.edge.now (ap (λ s. is_ok (verdict s c.args.edge.now)) (sym is.bus) ∙ accepted)))
-    c.race_line.ensures
+    (ap (λ n. race_line n c.args.edge.now c.walk-walk.result.stop) c.keep.ensures.judged)

@@ -1,4 +1,4 @@
-use Rattle.std.proofs.Common.{◌≡◌, ◌+◌, ◌-◌, ◌≤◌, length, refl, rules}
+use Rattle.std.proofs.Common.{◌-◌, refl, rules}
 use Rattle.vme_races.proofs.Pushed.{ready_full}
 use Rattle.vme_races.proofs.recent.Recent.make_room.Goals as goal
 

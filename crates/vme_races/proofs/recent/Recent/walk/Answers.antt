@@ -1,4 +1,4 @@
-use Rattle.std.proofs.Common.{◌≡◌, ◌∙◌, ◌+◌, ◌<◌, ◌∷◌, ap, arith, drop, length, rules, subst, sym}
+use Rattle.std.proofs.Common.{◌∙◌, ◌+◌, ◌<◌, ◌∷◌, ap, arith, drop, length, rules, subst, sym}
 use Rattle.std.proofs.lemmas.List.{drop_more}
 use Rattle.vme_races.proofs.Passed.{IsBack, back_more, back_stops}
 use Rattle.vme_races.proofs.recent.Recent.walk.Goals as goal
