@@ -171,9 +171,9 @@ fn hand_second<J: Pair>(judge: &mut J, input: &Input) -> Result<(), Fault>
     ensures fault { IfErr result (λ fault.
         (input.now.more ≡ Err fault) ⊎ (fault ≡ Fault.Memory)) }
 {
-    let more = input.more?;
+    let has_more = input.more?;
     judge.take_second(&input.edges)?;
-    if !more {
+    if !has_more {
         judge.end_second();
     }
     Ok(())

@@ -1,6 +1,6 @@
 -- When two traces are the same but for free swaps, and what differs otherwise. (The definitions are
--- this project's own.) One edge of the second trace after another comes to the front of what is left
--- of the first one, and is taken out of it. Edges of the first trace have their numbers in it.
+-- this project's own.) One edge of the second trace after another comes to the front of what is
+-- left of the first one, and is taken out of it. Edges of the first trace have their numbers in it.
 -- Edges that were taken, those that are left and those before an edge have the newest one first.
 use Rattle.std.specs.Prelude.{◌≡◌, ◌≢◌, ◌⊎◌, ◌<◌, ◌≤◌, ◌+◌, ◌++◌, ◌∷◌, [], ℕ, true, false, List, length, Option, Some, None}
 use Rattle.vme_model.specs.declared.refusals.Refused.{Refused}

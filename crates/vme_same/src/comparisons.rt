@@ -31,8 +31,8 @@ pub enum Comparison {
     },
     /// The traces are of different versions.
     OtherVersion,
-    /// An edge keeps them from being the same. It is one of the second trace, with its number there;
-    /// but one that is left is of the first.
+    /// An edge keeps them from being the same. It is one of the second trace, with its number
+    /// there; but one that is left is of the first.
     Differs {
         number: u64,
         edge: Edge,

@@ -53,8 +53,8 @@ impl Pair for Matching {
     }
 }
 
-/// Reads two traces side by side, on the plan of a scenario, and finds whether they are the same but
-/// for free swaps.
+/// Reads two traces side by side, on the plan of a scenario, and finds whether they are the same
+/// but for free swaps.
 ///
 /// Both are read to their ends, whatever is found. One edge of the second trace after another comes
 /// to the front of what is left of the first one, by free swaps with the edge before it, past at
@@ -80,8 +80,8 @@ pub fn compare<A: Read, B: Read>(
     Ok(matching.outcome())
 }
 
-/// Writes what is found of two traces on a line, and has the writer hand on what it holds back. Of a
-/// refusal it writes only what comes behind the name of the file.
+/// Writes what is found of two traces on a line, and has the writer hand on what it holds back. Of
+/// a refusal it writes only what comes behind the name of the file.
 ///
 /// # Errors
 /// X8 if the output cannot be written; then a prefix of the line was written.

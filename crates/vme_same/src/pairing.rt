@@ -246,7 +246,8 @@ impl Pairing {
     pub(crate) fn take_first(&mut self, number: u64, edge: &Edge) -> Result<(), Fault>
         requires { is_well_formed edge.now ≡ true }
         ensures going { OnOk result (OfGoing self.old (λ p v w k fs. self.old.has_ended ≡ false
-            → IsLegal v p (edge.now ∷ edges_in k) → IsGoing p v w ((number, edge.now) ∷ k) fs self.new)) }
+            → IsLegal v p (edge.now ∷ edges_in k)
+            → IsGoing p v w ((number, edge.now) ∷ k) fs self.new)) }
         ensures ended { self.new.has_ended ≡ self.old.has_ended }
         ensures over { self.new.is_over ≡ self.old.is_over }
         ensures fault { IfErr result (λ fault. fault ≡ Fault.Memory) }
