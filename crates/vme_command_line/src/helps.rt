@@ -238,29 +238,33 @@ pub(crate) const RACES_EDGE: &str =
     "Print how much earlier edge N could have come, 1 the first [default: print all races]";
 
 pub(crate) const SAME: &str =
-    "Says whether two traces differ only in the order of edges, and in none that matters";
+    "Says whether two traces have the same edges, in orders that make no difference";
 
 pub(crate) const SAME_USAGE: &str = "vmebus same <SCENARIO> <TRACE> <OTHER>";
 
 pub(crate) const SAME_EXAMPLE: &str =
-    "Each edge of OTHER in turn has to come to the front of what is left of TRACE, and is then taken
-out of it. It changes places with the edge before it, and with the next one before that, as long
-as this changes nothing, as edges do for `vmebus races`. If all edges of both are used up, it
-prints `same N`, with the number of edges: both deliver the same, and the bus stands the same
-after them. Otherwise it prints the first of these lines that applies:
+    "It takes the edges of OTHER one by one, finds the first such edge that is left in TRACE, and
+moves it to the front there, past one edge at a time, as long as this changes nothing: no
+verdict, no delivery, and not where the bus stands. Then it takes that edge out of TRACE. If all
+edges of both are used up, it prints `same N`, with the number of edges. Otherwise it prints the
+first of these lines that applies:
   refused FILE N VERDICT
           edge N of this file is refused
   differ version
           the first lines of the files differ
-  differ N EDGE missing, differ N EDGE far
-          no such edge is left of TRACE, or more than 200 edges are left before it
-  differ N EDGE waits for I EDGE VERDICT, differ N EDGE races I EDGE OUTCOME
-          edge I of TRACE stops edge N of OTHER
+  differ N EDGE missing
+          no such edge is left in TRACE
+  differ N EDGE far
+          more than 200 edges that are left in TRACE stand before it
+  differ N EDGE waits for I EDGE VERDICT
+          edge N of OTHER would be refused before edge I of TRACE, with this verdict
+  differ N EDGE races I EDGE OUTCOME
+          edge N of OTHER could come before edge I of TRACE, with this outcome: see `races`
   differ N EDGE left
           OTHER has ended, and edge N of TRACE is left
-`differ` does not mean that no swaps join the traces, only that these do not. Both files are
-read side by side, to their ends. The exit status is 0 if the traces are the same, 2 if they
-are not, and 1 at a fault. docs/COMMANDS.md has each line.
+`differ` is no proof that the traces are not the same: other swaps may still join them. Both
+files are read side by side, to their ends. The exit status is 0 if the traces are the same, 2 if
+they are not, and 1 after a fault. docs/COMMANDS.md describes each line.
 
 Example:
   vmebus same board.toml tenure.vme other.vme";
