@@ -1,5 +1,14 @@
 -- Two traces that are compared, and the fault that is passed on.
-use Rattle.std.proofs.Common.{inl, ℕ, List, Result, Err, refl}
+use Rattle.std.proofs.Common.{◌≡◌, inl, inr, ℕ, List, Result, Ok, Err, refl, subst, sym}
+use Rattle.std.specs.Prelude.{IfOk, IfErr, OnErr}
+use Rattle.std.specs.Io.KnownBytes.{Appends}
+use Rattle.vme_trace.specs.declared.Fault.TheVariants.{Write}
+use Rattle.vme_trace.specs.Writing.{AppendsFront}
+use Rattle.vme_model.specs.Plan.{Plan}
+use Rattle.vme_engines.specs.declared.Status.{Status}
+use Rattle.vme_program.specs.Comparisons.{WasFound, comparison_line, comparison_status}
+use Rattle.vme_program.specs.declared.faults.ProgramFault.{ProgramFault}
+use Rattle.vme_program.specs.declared.faults.ProgramFault.TheVariants.{Engine}
 use Rattle.std.specs.Borrow.{Bor}
 use Rattle.std.proofs.KnownBytes.{Keeps-refl}
 use Rattle.vme_engines.specs.declared.EngineFault.TheVariants as fault
@@ -29,3 +38,18 @@ same_faulty scenario trace other text s t held (pair.Engine (fault.Beyond n)) h 
 same_faulty scenario trace other text s t held (pair.Engine fault.NoMemory) h = inl (text, (h.0, h.1, h.2, Keeps-refl held))
 same_faulty scenario trace other text s t held (pair.First f) h = inl (text, (h.0, h.1, h.2, inl ((s, t, h.3), Keeps-refl held)))
 same_faulty scenario trace other text s t held (pair.Second f) h = ((text, h.0, h.2, refl, (s, t, h.3)), Keeps-refl held)
+
+-- what was found is of two whole traces
+was_found : (p : Plan) (s t : Streams) (found : Comparison)
+    → ReadsPair (λ v w es fs found. IsComparison p v w es fs found) s t (Ok found) → WasFound p found
+was_found p s t found h = (h.0, h.1, h.2, h.3, s, t, h.4, h.5, h.6)
+
+-- its line is written, or a prefix of it
+pub same_found : (scenario trace other : Bor (List ℕ)) (text : List ℕ) (s t : Streams) (old new : Known) (found : Comparison) (answer : Result Status ProgramFault) → ComparesText text s t (Ok found)
+    → IfOk answer (λ status. (status ≡ comparison_status found) × Appends old new (comparison_line trace.now other.now found))
+    → OnErr answer (AppendsFront old new (comparison_line trace.now other.now found))
+    → IfErr answer (λ f. f ≡ Engine (fault.Trace Write))
+    → IsDone (Same scenario trace other) old new answer
+same_found scenario trace other text s t old new found (Ok status) h ok front is = (text, (h.0, h.1, h.2, (found, was_found h.0 s t found h.3, ok.0, ok.1)))
+same_found scenario trace other text s t old new found (Err f) h ok front is =
+    subst (λ (g : ProgramFault). IsDone (Same scenario trace other) old new (Err g)) (sym is) (inl (text, (h.0, h.1, h.2, inr (refl, found, was_found h.0 s t found h.3, front))))
