@@ -1,6 +1,6 @@
 -- Two edges that are allowed in both orders: what one of them changes, the other does not.
 use Rattle.std.proofs.Common.{◌≡◌, ◌∙◌, refl, sym, ap, ℕ, zero, suc, Bool, true, false, List, [], ◌∷◌, ◌+◌, ◌<◌, arith}
-use Rattle.std.specs.Prelude.{◌&&◌, ◌||◌, ◌==◌, not, if◌then◌else◌, Option, Some, None, Ok, find}
+use Rattle.std.specs.Prelude.{◌&&◌, ◌||◌, not, if◌then◌else◌, Option, Some, None, Ok, find}
 use Rattle.std.specs.List.{list_all}
 use Rattle.std.specs.Option.{option_and_then}
 use Rattle.std.proofs.lemmas.Bool.Decides.{nat_tests}
@@ -18,7 +18,7 @@ use Rattle.vme_model.specs.Accepted.{IsAccepted}
 use Rattle.vme_model.specs.History.{drive, line, shown, last_value, last_level, cycles, has_strobed}
 use Rattle.vme_model.specs.Readings.{Readings, readings}
 use Rattle.vme_model.specs.Guards.{holds}
-use Rattle.vme_model.specs.Rules.{rule, are_grants_high, bus_numbers, answer_guard, burst_guard, show_guard}
+use Rattle.vme_model.specs.Rules.{rule, are_grants_high, bus_numbers, answer_guard, burst_guard}
 use Rattle.vme_model.specs.GrantSafety.{is_fall_on}
 use Rattle.vme_model.specs.CycleSafety.{KeepsItsAddress, OneAnswers, Answers}
 use Rattle.vme_model.specs.Safe.{OnEachPrefix}
