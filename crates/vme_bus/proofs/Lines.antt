@@ -22,13 +22,18 @@ use Rattle.vme_bus.specs.declared.sets.SlotSet.{SlotSet}
 use Rattle.vme_bus.specs.Sets.{has}
 use Rattle.vme_bus.specs.Layouts.{HoldsLine}
 use Rattle.vme_bus.specs.States.{HoldsWire}
+use Rattle.vme_bus.proofs.Masks.{with_false}
 
 -- a set holds the slots whose boards pass a test
 abbrev pub HoldsBoards : Plan → (Row → Bool) → SlotSet → Type 0
 HoldsBoards p f set = (s : ℕ) → has set s ≡ option_map_or f (board p s) false
 
+-- so it is of each bit that says whether a set holds a slot
+abbrev pub Tells : SlotSet → (Bool → Type 0) → Type 0
+Tells set P = (b : Bool) → (b ≡ true → (s : ℕ) × (has set s ≡ true)) → ((s : ℕ) → has set s ≡ true → b ≡ true) → P b
+
 -- whether it holds a slot is whether a board passes
-pub lit : (p : Plan) (f : Row → Bool) (set : SlotSet) → IsAccepted p → HoldsBoards p f set → (b : Bool) → (b ≡ true → (s : ℕ) × (has set s ≡ true)) → ((s : ℕ) → has set s ≡ true → b ≡ true) → b ≡ list_any f p.rows
+pub lit : (p : Plan) (f : Row → Bool) (set : SlotSet) → IsAccepted p → HoldsBoards p f set → Tells set (λ b. b ≡ list_any f p.rows)
 lit p f set ok held true some none = by_board (some refl).0 (sym (held (some refl).0) ∙ (some refl).1)
   where
     of_board : (s : ℕ) (o : Option Row) → board p s ≡ o → option_map_or f o false ≡ true → true ≡ list_any f p.rows
@@ -64,34 +69,23 @@ swapped true false c e = refl
 swapped false true c e = e
 swapped false false c e = refl
 
+pub line_is : (version : Version) (p : Plan) (h : List Edge) (w : Wire) (set : SlotSet) → IsAccepted p → IsLegal version p h → HoldsWire h w set → Tells set (λ b. b ≡ line p h w)
+line_is version p h w set ok legal held = lit p (pulls_line h w) set ok (wire_held version p h w set ok legal held)
+
 -- those on a line of one level
-pub request_held : (p : Plan) (h : List Edge) (n : ℕ) (set low on : SlotSet) → IsAccepted p → HoldsWire h Br low → HoldsLine p (on_line.Request n) on → ((s : ℕ) → has set s ≡ (has low s && has on s)) → HoldsBoards p (pulls_request h n) set
-request_held p h n set low on ok pulled placed both s = both s ∙ ap (λ b. b && has on s) (pulled s) ∙ ap (λ b. drive h (Slot s) Br && b) (placed s) ∙ by_board (board p s) refl
-  where
-    shut : (b : Bool) → (b && false) ≡ false
-    shut true = refl
-    shut false = refl
+abbrev HoldsBoth : SlotSet → SlotSet → SlotSet → Type 0
+HoldsBoth low on set = (s : ℕ) → has set s ≡ (has low s && has on s)
 
-    by_board : (o : Option Row) → board p s ≡ o → (drive h (Slot s) Br && option_map_or (requests_on n) o false) ≡ option_map_or (pulls_request h n) o false
-    by_board None is = shut (drive h (Slot s) Br)
-    by_board (Some r) is = swapped (drive h (Slot s) Br) (requests_on n r) (drive h (Slot r.slot) Br) (ap (λ x. drive h (Slot x) Br) (sym (stands p s r ok is).slot))
+module _ (p : Plan) (h : List Edge) (n : ℕ) (set low on : SlotSet) (ok : IsAccepted p) where
+  level_held : (w : Wire) (f : Row → Bool) → HoldsWire h w low → HoldsBoards p f on → HoldsBoth low on set → HoldsBoards p (λ r. f r && drive h (Slot r.slot) w) set
+  level_held w f pulled placed both s = both s ∙ ap (λ b. b && has on s) (pulled s) ∙ ap (λ b. drive h (Slot s) w && b) (placed s) ∙ by_board (board p s) refl
+    where
+      by_board : (o : Option Row) → board p s ≡ o → (drive h (Slot s) w && option_map_or f o false) ≡ option_map_or (λ r. f r && drive h (Slot r.slot) w) o false
+      by_board None is = with_false (drive h (Slot s) w)
+      by_board (Some r) is = swapped (drive h (Slot s) w) (f r) (drive h (Slot r.slot) w) (ap (λ x. drive h (Slot x) w) (sym (stands p s r ok is).slot))
 
-pub interrupt_held : (p : Plan) (h : List Edge) (n : ℕ) (set low on : SlotSet) → IsAccepted p → HoldsWire h Irq low → HoldsLine p (on_line.Interrupt n) on → ((s : ℕ) → has set s ≡ (has low s && has on s)) → HoldsBoards p (pulls_interrupt h n) set
-interrupt_held p h n set low on ok pulled placed both s = both s ∙ ap (λ b. b && has on s) (pulled s) ∙ ap (λ b. drive h (Slot s) Irq && b) (placed s) ∙ by_board (board p s) refl
-  where
-    shut : (b : Bool) → (b && false) ≡ false
-    shut true = refl
-    shut false = refl
+  pub request_is : HoldsWire h Br low → HoldsLine p (on_line.Request n) on → HoldsBoth low on set → Tells set (λ b. b ≡ request_line p h n)
+  request_is pulled placed both = lit p (pulls_request h n) set ok (level_held Br (requests_on n) pulled placed both)
 
-    by_board : (o : Option Row) → board p s ≡ o → (drive h (Slot s) Irq && option_map_or (interrupts_on n) o false) ≡ option_map_or (pulls_interrupt h n) o false
-    by_board None is = shut (drive h (Slot s) Irq)
-    by_board (Some r) is = swapped (drive h (Slot s) Irq) (interrupts_on n r) (drive h (Slot r.slot) Irq) (ap (λ x. drive h (Slot x) Irq) (sym (stands p s r ok is).slot))
-
-pub line_is : (version : Version) (p : Plan) (h : List Edge) (w : Wire) (set : SlotSet) → IsAccepted p → IsLegal version p h → HoldsWire h w set → (b : Bool) → (b ≡ true → (s : ℕ) × (has set s ≡ true)) → ((s : ℕ) → has set s ≡ true → b ≡ true) → b ≡ line p h w
-line_is version p h w set ok legal held b some none = lit p (pulls_line h w) set ok (wire_held version p h w set ok legal held) b some none
-
-pub request_is : (p : Plan) (h : List Edge) (n : ℕ) (set low on : SlotSet) → IsAccepted p → HoldsWire h Br low → HoldsLine p (on_line.Request n) on → ((s : ℕ) → has set s ≡ (has low s && has on s)) → (b : Bool) → (b ≡ true → (s : ℕ) × (has set s ≡ true)) → ((s : ℕ) → has set s ≡ true → b ≡ true) → b ≡ request_line p h n
-request_is p h n set low on ok pulled placed both b some none = lit p (pulls_request h n) set ok (request_held p h n set low on ok pulled placed both) b some none
-
-pub interrupt_is : (p : Plan) (h : List Edge) (n : ℕ) (set low on : SlotSet) → IsAccepted p → HoldsWire h Irq low → HoldsLine p (on_line.Interrupt n) on → ((s : ℕ) → has set s ≡ (has low s && has on s)) → (b : Bool) → (b ≡ true → (s : ℕ) × (has set s ≡ true)) → ((s : ℕ) → has set s ≡ true → b ≡ true) → b ≡ interrupt_line p h n
-interrupt_is p h n set low on ok pulled placed both b some none = lit p (pulls_interrupt h n) set ok (interrupt_held p h n set low on ok pulled placed both) b some none
+  pub interrupt_is : HoldsWire h Irq low → HoldsLine p (on_line.Interrupt n) on → HoldsBoth low on set → Tells set (λ b. b ≡ interrupt_line p h n)
+  interrupt_is pulled placed both = lit p (pulls_interrupt h n) set ok (level_held Irq (interrupts_on n) pulled placed both)

@@ -149,7 +149,7 @@ with_true : (b : Bool) → (b && true) ≡ b
 with_true true = refl
 with_true false = refl
 
-with_false : (b : Bool) → (b && false) ≡ false
+pub with_false : (b : Bool) → (b && false) ≡ false
 with_false true = refl
 with_false false = refl
 

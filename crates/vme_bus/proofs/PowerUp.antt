@@ -1,5 +1,5 @@
 -- Before any edge: `BusState::new`.
-use Rattle.std.proofs.Common.{◌≡◌, ◌∙◌, refl, sym, ap, ℕ, Bool, true, false, [], ◌<◌, get_or}
+use Rattle.std.proofs.Common.{◌≡◌, ◌∙◌, refl, sym, ap, ℕ, false, [], ◌<◌, get_or}
 use Rattle.std.specs.Prelude.{Option, Some, None, min, replicate, ◌==◌, ◌&&◌, is_some}
 use Rattle.std.specs.Option.{option_map_or}
 use Rattle.std.proofs.Math.Nat.{zero-min}
@@ -18,6 +18,7 @@ use Rattle.vme_master.specs.Local.{most_cycles}
 use Rattle.vme_bus.specs.declared.sets.SlotSet.{SlotSet}
 use Rattle.vme_bus.specs.Sets.{has}
 use Rattle.vme_bus.specs.States.{counted}
+use Rattle.vme_bus.proofs.Masks.{with_false}
 
 abbrev no_slot : SlotSet
 no_slot = record { bits = 0 }
@@ -46,13 +47,9 @@ none_granted p s = none_held s ∙ sym (by_board (board p s))
 pub none_acknowledged : (p : Plan) (s : ℕ) → has no_slot s ≡ iack_in p [] (Slot s)
 none_acknowledged p s = none_held s ∙ sym (by_board (board p s))
   where
-    shut : (b : Bool) → (b && false) ≡ false
-    shut true = refl
-    shut false = refl
-
     by_board : (o : Option Row) → option_map_or (λ r. is_some r.interrupter && input p [] chain.Iack r.slot) o false ≡ false
     by_board None = refl
-    by_board (Some r) = ap (λ b. is_some r.interrupter && b) (no_input p chain.Iack r.slot) ∙ shut (is_some r.interrupter)
+    by_board (Some r) = ap (λ b. is_some r.interrupter && b) (no_input p chain.Iack r.slot) ∙ with_false (is_some r.interrupter)
 
 pub none_served : (p : Plan) (s : ℕ) → has no_slot s ≡ is_served p [] (Slot s)
 none_served p s = none_held s ∙ sym (by_board (board p s))

@@ -1,5 +1,5 @@
 -- The lines at edges, one after another.
-use Rattle.std.proofs.Common.{◌≡◌, ℕ, ◌+◌, ◌<◌, List, [], ◌∷◌, ◌++◌, length, take, drop, get_or, Bool, true, false, Option, is_ok, refl, sym, ◌∙◌, ap, append_assoc, subst, arith}
+use Rattle.std.proofs.Common.{◌≡◌, ℕ, ◌+◌, ◌<◌, List, [], ◌∷◌, ◌++◌, length, take, drop, get_or, Bool, true, false, Option, is_ok, sym, ◌∙◌, ap, append_assoc, subst, arith}
 use Rattle.std.specs.Prelude.{if◌then◌else◌}
 use Rattle.std.proofs.Math.ListN.{length-append}
 use Rattle.std.proofs.lemmas.List.{drop_more}
@@ -49,12 +49,6 @@ module _ (p : Plan) (v : Version) (es : List Edge) where
 
 -- ---- one edge
 
-then_is : {A : Type 0} (t : Bool) (x y : A) → t ≡ true → (if t then x else y) ≡ x
-then_is t x y is = rw is refl
-
-else_is : {A : Type 0} (t : Bool) (x y : A) → t ≡ false → (if t then x else y) ≡ y
-else_is t x y is = rw is refl
-
 -- the next edge, on the bus behind the edges so far
 module _ (p : Plan) (v : Version) (es : List Edge) (e : Edge) (b : State) (n : ℕ) (behind : b ≡ kept (bench p v) es) (count : n ≡ length es + 1) where
   judged : (t : Bool) → is_ok (verdict b e) ≡ t → is_ok (verdict (kept (bench p v) es) e) ≡ t
@@ -63,42 +57,51 @@ module _ (p : Plan) (v : Version) (es : List Edge) (e : Edge) (b : State) (n : �
   pub numbered_accepted : is_ok (verdict b e) ≡ true → (n, e) ∷ numbered (bench p v) es ≡ numbered (bench p v) (es ++ e ∷ [])
   numbered_accepted ok =
       let k = numbered (bench p v) es in
-      ap (λ m. (m, e) ∷ k) count ∙ sym (then_is (is_ok (verdict (kept (bench p v) es) e)) ((length es + 1, e) ∷ k) k (judged true ok)) ∙ sym (numbered_next p v es e)
+      ap (λ m. (m, e) ∷ k) count ∙ sym (ap (λ (t : Bool). if t then (length es + 1, e) ∷ k else k) (judged true ok)) ∙ sym (numbered_next p v es e)
 
   pub numbered_refused : is_ok (verdict b e) ≡ false → numbered (bench p v) es ≡ numbered (bench p v) (es ++ e ∷ [])
   numbered_refused refused =
       let k = numbered (bench p v) es in
-      sym (else_is (is_ok (verdict (kept (bench p v) es) e)) ((length es + 1, e) ∷ k) k (judged false refused)) ∙ sym (numbered_next p v es e)
+      sym (ap (λ (t : Bool). if t then (length es + 1, e) ∷ k else k) (judged false refused)) ∙ sym (numbered_next p v es e)
 
   pub line_accepted : (x : List ℕ) → is_ok (verdict b e) ≡ true → x ≡ ended_line p n e (numbered (bench p v) es) → x ≡ next_line p v es e
   line_accepted x ok is =
       let k = numbered (bench p v) es in
       let s = kept (bench p v) es in
       is ∙ ap (λ m. ended_line p m e k) count ∙ ap (λ q. ended_line q (length es + 1) e k) (sym (kept_plan (bench p v) es))
-      ∙ sym (then_is (is_ok (verdict s e)) (ended_line s.plan (length es + 1) e k) (refused_text (length es + 1) e (answer s e)) (judged true ok))
+      ∙ sym (ap (λ (t : Bool). if t then ended_line s.plan (length es + 1) e k else refused_text (length es + 1) e (answer s e)) (judged true ok))
 
   pub line_refused : (x : List ℕ) → is_ok (verdict b e) ≡ false → x ≡ refused_text n e (answer b e) → x ≡ next_line p v es e
   line_refused x refused is =
       let k = numbered (bench p v) es in
       let s = kept (bench p v) es in
       is ∙ ap (λ m. refused_text m e (answer b e)) count ∙ ap (λ t. refused_text (length es + 1) e (answer t e)) behind
-      ∙ sym (else_is (is_ok (verdict s e)) (ended_line s.plan (length es + 1) e k) (refused_text (length es + 1) e (answer s e)) (judged false refused))
+      ∙ sym (ap (λ (t : Bool). if t then ended_line s.plan (length es + 1) e k else refused_text (length es + 1) e (answer s e)) (judged false refused))
 
 -- ---- in the loop over edges
 
 module _ (p : Plan) (v : Version) (before es : List Edge) (i : ℕ) (d : Edge) (h : i < length es) where
-  next_of : next_lines p v (before ++ take i es) (drop i es) ≡ next_line p v (before ++ take i es) (get_or es i d) ++ next_lines p v (before ++ take (i + 1) es) (drop (i + 1) es)
+  abbrev here : List ℕ
+  here = next_line p v (before ++ take i es) (get_or es i d)
+
+  abbrev left : List ℕ
+  left = next_lines p v (before ++ take i es) (drop i es)
+
+  abbrev rest : List ℕ
+  rest = next_lines p v (before ++ take (i + 1) es) (drop (i + 1) es)
+
+  next_of : left ≡ here ++ rest
   next_of =
       ap (next_lines p v (before ++ take i es)) (drop_more es i d h)
       ∙ next_split p v (before ++ take i es) (get_or es i d) (drop (i + 1) es)
-      ∙ ap (λ l. next_line p v (before ++ take i es) (get_or es i d) ++ next_lines p v l (drop (i + 1) es)) (next_list before es i d h)
+      ∙ ap (λ l. here ++ next_lines p v l (drop (i + 1) es)) (next_list before es i d h)
 
-  module _ (a b c : Option (List ℕ)) (x : List ℕ) (is : x ≡ next_line p v (before ++ take i es) (get_or es i d)) (wrote : Wrote a b (next_lines p v before es) (next_lines p v (before ++ take i es) (drop i es))) where
-    rest_is : Wrote a b (next_lines p v before es) (x ++ next_lines p v (before ++ take (i + 1) es) (drop (i + 1) es))
-    rest_is = subst (Wrote a b (next_lines p v before es)) (next_of ∙ ap (λ l. l ++ next_lines p v (before ++ take (i + 1) es) (drop (i + 1) es)) (sym is)) wrote
+  module _ (a b c : Option (List ℕ)) (x : List ℕ) (is : x ≡ here) (wrote : Wrote a b (next_lines p v before es) left) where
+    rest_is : Wrote a b (next_lines p v before es) (x ++ rest)
+    rest_is = subst (Wrote a b (next_lines p v before es)) (next_of ∙ ap (λ l. l ++ rest) (sym is)) wrote
 
-    pub one_written : Appends b c x → Wrote a c (next_lines p v before es) (next_lines p v (before ++ take (i + 1) es) (drop (i + 1) es))
-    one_written more = wrote_all a b c (next_lines p v before es) x (next_lines p v (before ++ take (i + 1) es) (drop (i + 1) es)) rest_is more
+    pub one_written : Appends b c x → Wrote a c (next_lines p v before es) rest
+    one_written more = wrote_all a b c (next_lines p v before es) x rest rest_is more
 
     pub one_cut : AppendsFront b c x → AppendsFront a c (next_lines p v before es)
-    one_cut more = wrote_front a b c (next_lines p v before es) x (next_lines p v (before ++ take (i + 1) es) (drop (i + 1) es)) rest_is more
+    one_cut more = wrote_front a b c (next_lines p v before es) x rest rest_is more

@@ -1,6 +1,6 @@
 -- Each cycle of a legal list is answered once before it ends.
 use Rattle.std.proofs.Common.{◌≡◌, ◌≢◌, ◌⊎◌, inl, inr, ℕ, Bool, true, false, List, [], ◌∷◌, Option, Some, None, is_some, refl, sym, ◌∙◌, ap, subst}
-use Rattle.std.specs.Prelude.{◌&&◌, ◌||◌, ◌==◌, not, if◌then◌else◌}
+use Rattle.std.specs.Prelude.{◌||◌, ◌==◌, if◌then◌else◌}
 use Rattle.std.specs.Option.{option_map_or}
 use Rattle.vme_model.specs.declared.boards.Row.{Row}
 use Rattle.vme_model.specs.declared.signals.Version.{Version}
@@ -10,7 +10,7 @@ use Rattle.vme_model.specs.declared.signals.Driver.TheVariants.{Controller, Slot
 use Rattle.vme_model.specs.declared.signals.Wire.{Wire}
 use Rattle.vme_model.specs.declared.signals.Wire.TheVariants.{Berr, Addr, AddressStrobe, DataStrobe, Dtack}
 use Rattle.vme_model.specs.declared.signals.Edge.{Edge}
-use Rattle.vme_model.specs.Signals.{driver_number, is_same_driver, is_same_wire}
+use Rattle.vme_model.specs.Signals.{is_same_driver}
 use Rattle.vme_model.specs.Plan.{Plan, board, drives}
 use Rattle.vme_model.specs.Accepted.{IsAccepted}
 use Rattle.vme_model.specs.History.{drive, has_strobed, line, pulls_line}
@@ -23,8 +23,8 @@ use Rattle.vme_model.proofs.CyclePhases.{Quiet, Fresh, Asking, Done}
 use Rattle.vme_model.proofs.Cycles.{Going, going_of, has_board, line_from, masters}
 use Rattle.vme_model.proofs.Members.{found_row}
 use Rattle.vme_model.proofs.Ranges.{IsInRange, IsRowInRange, in_range}
-use Rattle.vme_cycles.specs.Transactions.{answered, cycle_of, is_answer}
-use Rattle.vme_cycles.proofs.NamedEdges.{both}
+use Rattle.vme_cycles.specs.Transactions.{answered, cycle_of, is_answer, is_rise_on}
+use Rattle.vme_cycles.proofs.NamedEdges.{edge, IsNext, AtEach, both}
 use Rattle.vme_cycles.proofs.OneCycle.{low_is_under_way, low_other, one_strobe, own_low, self, still_low}
 
 -- ---- lines
@@ -56,12 +56,12 @@ record IsOver (h : List Edge) (s : ℕ) : Type 0 where
   data_high : drive h (Slot s) DataStrobe ≡ false
 
 -- a cycle is answered as its wires say
-record IsAnsweredSo (p : Plan) (k : Numbered) : Type 0 where
-  fresh : (s : ℕ) → drive (edges_in k) (Slot s) AddressStrobe ≡ true → has_strobed (edges_in k) (Slot s) ≡ false → is_some (answered p k) ≡ false
-  silent_dtack : (s : ℕ) → drive (edges_in k) (Slot s) DataStrobe ≡ true → is_some (answered p k) ≡ false → (t : ℕ) → drive (edges_in k) (Slot t) Dtack ≡ false
-  silent_berr : (s : ℕ) → drive (edges_in k) (Slot s) DataStrobe ≡ true → is_some (answered p k) ≡ false → drive (edges_in k) Controller Berr ≡ false
-  stays : (s : ℕ) → drive (edges_in k) (Slot s) DataStrobe ≡ true → is_some (answered p k) ≡ true → ((t : ℕ) × (drive (edges_in k) (Slot t) Dtack ≡ true)) ⊎ (drive (edges_in k) Controller Berr ≡ true)
-  done : (s : ℕ) → drive (edges_in k) (Slot s) AddressStrobe ≡ true → has_strobed (edges_in k) (Slot s) ≡ true → drive (edges_in k) (Slot s) DataStrobe ≡ false → is_some (answered p k) ≡ true
+record IsAnsweredSo (h : List Edge) (yes : Bool) : Type 0 where
+  fresh : (s : ℕ) → drive h (Slot s) AddressStrobe ≡ true → has_strobed h (Slot s) ≡ false → yes ≡ false
+  silent_dtack : (s : ℕ) → drive h (Slot s) DataStrobe ≡ true → yes ≡ false → (t : ℕ) → drive h (Slot t) Dtack ≡ false
+  silent_berr : (s : ℕ) → drive h (Slot s) DataStrobe ≡ true → yes ≡ false → drive h Controller Berr ≡ false
+  stays : (s : ℕ) → drive h (Slot s) DataStrobe ≡ true → yes ≡ true → ((t : ℕ) × (drive h (Slot t) Dtack ≡ true)) ⊎ (drive h Controller Berr ≡ true)
+  done : (s : ℕ) → drive h (Slot s) AddressStrobe ≡ true → has_strobed h (Slot s) ≡ true → drive h (Slot s) DataStrobe ≡ false → yes ≡ true
 
 not_slot : (t : ℕ) → Controller ≡ Slot t → ⊥
 not_slot t same = never (sym (ap (λ d. is_same_driver Controller d) same))
@@ -115,11 +115,16 @@ module _ (v : Version) (p : Plan) (range : IsInRange p) where
   alone : (h : List Edge) → IsLegal v p h → (s t : ℕ) → drive h (Slot s) DataStrobe ≡ true → drive h (Slot t) AddressStrobe ≡ true → s ≡ t
   alone h l s t asking low = one_strobe v p range h l s t (asks h l s asking).strobe low
 
-  module _ (k : Numbered) (n : ℕ) (c : Option Cycle) (so : IsAnsweredSo p k) where
-    after_strobe : (t : ℕ) → IsLegal v p (record { driver = Slot t; wire = AddressStrobe; fall = true; value = c } ∷ edges_in k) → IsAnsweredSo p ((n, record { driver = Slot t; wire = AddressStrobe; fall = true; value = c }) ∷ k)
+  module _ (k : Numbered) (n : ℕ) (c : Option Cycle) (so : IsAnsweredSo (edges_in k) (is_some (answered p k))) where
+    abbrev h : List Edge
+    h = edges_in k
+
+    abbrev After : Driver → Wire → Bool → Type 0
+    After d w fall = IsNext v p k (edge d w fall c) → IsAnsweredSo (edge d w fall c ∷ h) (is_some (answered p ((n, edge d w fall c) ∷ k)))
+
+    after_strobe : (t : ℕ) → After (Slot t) AddressStrobe true
     after_strobe t l =
-        let h = edges_in k in
-        let e : Edge = record { driver = Slot t; wire = AddressStrobe; fall = true; value = c } in
+        let e = edge (Slot t) AddressStrobe true c in
         let unstrobed : has_strobed (e ∷ h) (Slot t) ≡ false = ap (λ (b : Bool). if b then false else has_strobed h (Slot t)) (self t) in
         let mine : (s : ℕ) → drive (e ∷ h) (Slot s) AddressStrobe ≡ true → has_strobed (e ∷ h) (Slot s) ≡ true → ⊥ = λ s low strobed.
         never (sym unstrobed ∙ subst (λ x. has_strobed (e ∷ h) (Slot x) ≡ true) (one_strobe v p range (e ∷ h) l s t low (own_low v p range h t c)) strobed) in
@@ -132,10 +137,9 @@ module _ (v : Version) (p : Plan) (range : IsInRange p) where
           done = λ s low strobed high. absurd (mine s low strobed);
         }
 
-    after_strobe_rise : (t : ℕ) → IsLegal v p (record { driver = Slot t; wire = AddressStrobe; fall = false; value = c } ∷ edges_in k) → IsAnsweredSo p ((n, record { driver = Slot t; wire = AddressStrobe; fall = false; value = c }) ∷ k)
+    after_strobe_rise : (t : ℕ) → After (Slot t) AddressStrobe false
     after_strobe_rise t l =
-        let h = edges_in k in
-        let e : Edge = record { driver = Slot t; wire = AddressStrobe; fall = false; value = c } in
+        let e = edge (Slot t) AddressStrobe false c in
         let a = all_passed v p h (Slot t) AddressStrobe false c l.0 in
         let off : (s : ℕ) → drive (e ∷ h) (Slot s) AddressStrobe ≡ true → ⊥ = λ s low.
         let q = low_other (t == s) (drive h (Slot s) AddressStrobe) low in
@@ -148,9 +152,8 @@ module _ (v : Version) (p : Plan) (range : IsInRange p) where
           done = λ s low strobed high. absurd (off s low);
         }
 
-    after_data : (t : ℕ) → IsLegal v p (record { driver = Slot t; wire = DataStrobe; fall = true; value = c } ∷ edges_in k) → IsAnsweredSo p ((n, record { driver = Slot t; wire = DataStrobe; fall = true; value = c }) ∷ k)
+    after_data : (t : ℕ) → After (Slot t) DataStrobe true
     after_data t l =
-        let h = edges_in k in
         let a = all_passed v p h (Slot t) DataStrobe true c l.0 in
         let r = and_left _ _ a.rule in
         let r2 = and_left _ _ r in
@@ -167,9 +170,8 @@ module _ (v : Version) (p : Plan) (range : IsInRange p) where
         now : (t s : ℕ) → t ≡ s → (b : Bool) → (if t == s then true else b) ≡ true
         now t s same b = ap (λ (x : Bool). if x then true else b) (subst (λ x. (t == x) ≡ true) same (self t))
 
-    after_data_rise : (t : ℕ) → IsLegal v p (record { driver = Slot t; wire = DataStrobe; fall = false; value = c } ∷ edges_in k) → IsAnsweredSo p ((n, record { driver = Slot t; wire = DataStrobe; fall = false; value = c }) ∷ k)
+    after_data_rise : (t : ℕ) → After (Slot t) DataStrobe false
     after_data_rise t l =
-        let h = edges_in k in
         let a = all_passed v p h (Slot t) DataStrobe false c l.0 in
         let off : (s : ℕ) → (if t == s then false else drive h (Slot s) DataStrobe) ≡ true → ⊥ = λ s low.
         let q = low_other (t == s) (drive h (Slot s) DataStrobe) low in
@@ -187,15 +189,13 @@ module _ (v : Version) (p : Plan) (range : IsInRange p) where
         }
 
     -- an answer comes only while a data strobe is low
-    unfresh : IsLegal v p (edges_in k) → line p (edges_in k) DataStrobe ≡ true → (s : ℕ) → drive (edges_in k) (Slot s) AddressStrobe ≡ true → has_strobed (edges_in k) (Slot s) ≡ false → ⊥
+    unfresh : IsLegal v p h → line p h DataStrobe ≡ true → (s : ℕ) → drive h (Slot s) AddressStrobe ≡ true → has_strobed h (Slot s) ≡ false → ⊥
     unfresh l low s strobe un =
-        let h = edges_in k in
         let w = line_from p range h DataStrobe low in
         never (sym un ∙ subst (λ x. has_strobed h (Slot x) ≡ true) (alone h l w.0 s w.1 strobe) (asks h l w.0 w.1).strobed)
 
-    after_dtack : (t : ℕ) → IsLegal v p (record { driver = Slot t; wire = Dtack; fall = true; value = c } ∷ edges_in k) → IsAnsweredSo p ((n, record { driver = Slot t; wire = Dtack; fall = true; value = c }) ∷ k)
+    after_dtack : (t : ℕ) → After (Slot t) Dtack true
     after_dtack t l =
-        let h = edges_in k in
         let a = all_passed v p h (Slot t) Dtack true c l.0 in
         record {
           fresh = λ s low un. absurd (unfresh l.1 (and_left _ _ (and_left _ _ a.rule)) s low un);
@@ -205,9 +205,8 @@ module _ (v : Version) (p : Plan) (range : IsInRange p) where
           done = λ s low strobed high. refl;
         }
 
-    after_berr : IsLegal v p (record { driver = Controller; wire = Berr; fall = true; value = c } ∷ edges_in k) → IsAnsweredSo p ((n, record { driver = Controller; wire = Berr; fall = true; value = c }) ∷ k)
+    after_berr : After Controller Berr true
     after_berr l =
-        let h = edges_in k in
         let a = all_passed v p h Controller Berr true c l.0 in
         record {
           fresh = λ s low un. absurd (unfresh l.1 (and_left _ _ a.rule) s low un);
@@ -218,9 +217,8 @@ module _ (v : Version) (p : Plan) (range : IsInRange p) where
         }
 
     -- an answer goes off only while every data strobe is high
-    after_dtack_rise : (t : ℕ) → IsLegal v p (record { driver = Slot t; wire = Dtack; fall = false; value = c } ∷ edges_in k) → IsAnsweredSo p ((n, record { driver = Slot t; wire = Dtack; fall = false; value = c }) ∷ k)
+    after_dtack_rise : (t : ℕ) → After (Slot t) Dtack false
     after_dtack_rise t l =
-        let h = edges_in k in
         let high = data_high h l.1 (not_true _ (all_passed v p h (Slot t) Dtack false c l.0).rule) in
         record {
           fresh = so.fresh;
@@ -230,9 +228,8 @@ module _ (v : Version) (p : Plan) (range : IsInRange p) where
           done = so.done;
         }
 
-    after_berr_rise : IsLegal v p (record { driver = Controller; wire = Berr; fall = false; value = c } ∷ edges_in k) → IsAnsweredSo p ((n, record { driver = Controller; wire = Berr; fall = false; value = c }) ∷ k)
+    after_berr_rise : After Controller Berr false
     after_berr_rise l =
-        let h = edges_in k in
         let high = data_high h l.1 (not_true _ (all_passed v p h Controller Berr false c l.0).rule) in
         record {
           fresh = so.fresh;
@@ -242,7 +239,7 @@ module _ (v : Version) (p : Plan) (range : IsInRange p) where
           done = so.done;
         }
 
-    after_other : (d : Driver) (w : Wire) (fall : Bool) → IsLegal v p (record { driver = d; wire = w; fall = fall; value = c } ∷ edges_in k) → IsAnsweredSo p ((n, record { driver = d; wire = w; fall = fall; value = c }) ∷ k)
+    after_other : (d : Driver) (w : Wire) (fall : Bool) → After d w fall
     after_other (Slot t) AddressStrobe true l = after_strobe t l
     after_other (Slot t) AddressStrobe false l = after_strobe_rise t l
     after_other (Slot t) DataStrobe true l = after_data t l
@@ -251,15 +248,15 @@ module _ (v : Version) (p : Plan) (range : IsInRange p) where
     after_other (Slot t) Dtack false l = after_dtack_rise t l
     after_other Controller Berr true l = after_berr l
     after_other Controller Berr false l = after_berr_rise l
-    after_other Controller AddressStrobe fall l = absurd (cc (all_passed v p (edges_in k) Controller AddressStrobe fall c l.0).wire)
-    after_other Controller DataStrobe fall l = absurd (cc (all_passed v p (edges_in k) Controller DataStrobe fall c l.0).wire)
-    after_other Controller Dtack fall l = absurd (cc (all_passed v p (edges_in k) Controller Dtack fall c l.0).wire)
-    after_other (Slot t) Berr fall l = absurd (cc (all_passed v p (edges_in k) (Slot t) Berr fall c l.0).wire)
+    after_other Controller AddressStrobe fall l = absurd (cc (all_passed v p h Controller AddressStrobe fall c l.0).wire)
+    after_other Controller DataStrobe fall l = absurd (cc (all_passed v p h Controller DataStrobe fall c l.0).wire)
+    after_other Controller Dtack fall l = absurd (cc (all_passed v p h Controller Dtack fall c l.0).wire)
+    after_other (Slot t) Berr fall l = absurd (cc (all_passed v p h (Slot t) Berr fall c l.0).wire)
     after_other d w true l = record { fresh = so.fresh; silent_dtack = so.silent_dtack; silent_berr = so.silent_berr; stays = so.stays; done = so.done }
     after_other d w false l = record { fresh = so.fresh; silent_dtack = so.silent_dtack; silent_berr = so.silent_berr; stays = so.stays; done = so.done }
 
-  answered_so : (k : Numbered) → IsLegal v p (edges_in k) → IsAnsweredSo p k
-  answered_so [] l = record { fresh = λ s low un. refl; silent_dtack = λ s asking no. absurd (never asking); silent_berr = λ s asking no. absurd (never asking); stays = λ s asking yes. absurd (never asking); done = λ s low strobed high. absurd (never low) }
+  answered_so : (k : Numbered) → IsLegal v p (edges_in k) → IsAnsweredSo (edges_in k) (is_some (answered p k))
+  answered_so [] l = record { fresh = λ s low un. refl; silent_dtack = λ s e. absurd (never e); silent_berr = λ s e. absurd (never e); stays = λ s e. absurd (never e); done = λ s e. absurd (never e) }
   answered_so ((n, e) ∷ k) l = after_other k n e.value (answered_so k l.1) e.driver e.wire e.fall l
 
   -- ---- the claims
@@ -272,24 +269,23 @@ module _ (v : Version) (p : Plan) (range : IsInRange p) where
   there k d is none = never (sym (ap is_some none) ∙ ap is_some is)
 
   -- an answer comes in a cycle that has none
-  once : (k : Numbered) (d : Driver) (w : Wire) (fall : Bool) (c : Option Cycle) → IsLegal v p (record { driver = d; wire = w; fall = fall; value = c } ∷ edges_in k)
-      → is_answer (record { driver = d; wire = w; fall = fall; value = c }) ≡ true → (cycle_of k ≢ None) × (answered p k ≡ None)
+  once : AtEach v p (λ k e. is_answer e ≡ true → (cycle_of k ≢ None) × (answered p k ≡ None))
   once k (Slot t) Dtack true c l is =
       let h = edges_in k in
-      let e : Edge = record { driver = Slot t; wire = Dtack; fall = true; value = c } in
+      let e = edge (Slot t) Dtack true c in
       let a = all_passed v p h (Slot t) Dtack true c l.0 in
       let w = line_from p range h DataStrobe (and_left _ _ (and_left _ _ a.rule)) in
       let own : drive (e ∷ h) (Slot t) Dtack ≡ true = ap (λ (b : Bool). if b then true else drive h (Slot t) Dtack) (self t) in
       let only = one_answers p (e ∷ h) (going_of v p range (e ∷ h) l) in (
         there k (Slot w.0) (low_is_under_way v p range k l.1 w.0 (asks h l.1 w.0 w.1).strobe),
         no_answer (answered p k) (is_false (is_some (answered p k)) (λ yes. elim ((answered_so k l.1).stays w.0 w.1 yes) [
-          | inl low ↦ never (sym a.before ∙ subst (λ x. drive h (Slot x) Dtack ≡ true) (ap driver_number (only (Slot low.0) (Slot t) (still_low (t == low.0) (drive h (Slot low.0) Dtack) low.1) own)) low.1)
+          | inl low ↦ never (sym a.before ∙ subst (λ x. drive h x Dtack ≡ true) (only (Slot low.0) (Slot t) (still_low (t == low.0) (drive h (Slot low.0) Dtack) low.1) own) low.1)
           | inr low ↦ not_slot t (only Controller (Slot t) low own)
         ])),
       )
   once k Controller Berr true c l is =
       let h = edges_in k in
-      let e : Edge = record { driver = Controller; wire = Berr; fall = true; value = c } in
+      let e = edge Controller Berr true c in
       let a = all_passed v p h Controller Berr true c l.0 in
       let w = line_from p range h DataStrobe (and_left _ _ a.rule) in
       let only = one_answers p (e ∷ h) (going_of v p range (e ∷ h) l) in (
@@ -305,8 +301,7 @@ module _ (v : Version) (p : Plan) (range : IsInRange p) where
   once k d w false c l is = absurd (cc)
 
   -- a cycle ends only answered
-  over : (k : Numbered) (d : Driver) (w : Wire) (fall : Bool) (c : Option Cycle) → IsLegal v p (record { driver = d; wire = w; fall = fall; value = c } ∷ edges_in k)
-      → (not fall && is_same_wire w AddressStrobe) ≡ true → is_some (answered p k) ≡ true
+  over : AtEach v p (λ k e. is_rise_on AddressStrobe e ≡ true → is_some (answered p k) ≡ true)
   over k (Slot t) AddressStrobe false c l is =
       let h = edges_in k in
       let a = all_passed v p h (Slot t) AddressStrobe false c l.0 in
@@ -316,8 +311,9 @@ module _ (v : Version) (p : Plan) (range : IsInRange p) where
   over k d w true c l is = absurd (cc)
   over k d w false c l is = absurd (cc)
 
-pub cycle_ends_answered : (v : Version) (p : Plan) (k : Numbered) (n : ℕ) (e : Edge) → IsAccepted p → IsLegal v p (edges_in ((n, e) ∷ k)) → (not e.fall && is_same_wire e.wire AddressStrobe) ≡ true → answered p k ≢ None
+pub cycle_ends_answered : (v : Version) (p : Plan) (k : Numbered) (n : ℕ) (e : Edge) → IsAccepted p → IsNext v p k e → is_rise_on AddressStrobe e ≡ true → answered p k ≢ None
 cycle_ends_answered v p k n e fit l is = λ none. never (sym (ap is_some none) ∙ over v p (in_range p fit) k e.driver e.wire e.fall e.value l is)
 
-pub cycle_is_answered_once : (v : Version) (p : Plan) (k : Numbered) (n : ℕ) (e : Edge) → IsAccepted p → IsLegal v p (edges_in ((n, e) ∷ k)) → is_answer e ≡ true → (cycle_of k ≢ None) × (answered p k ≡ None)
+pub cycle_is_answered_once : (v : Version) (p : Plan) (k : Numbered) (n : ℕ) (e : Edge) → IsAccepted p → IsNext v p k e
+    → is_answer e ≡ true → (cycle_of k ≢ None) × (answered p k ≡ None)
 cycle_is_answered_once v p k n e fit l is = once v p (in_range p fit) k e.driver e.wire e.fall e.value l is

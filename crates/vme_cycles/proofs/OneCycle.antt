@@ -1,6 +1,6 @@
 -- The cycles of a legal list do not overlap.
 use Rattle.std.proofs.Common.{◌≡◌, ℕ, Bool, true, false, List, [], ◌∷◌, Option, Some, None, unwrap_or, refl, sym, ◌∙◌, ap, subst, arith}
-use Rattle.std.specs.Prelude.{◌&&◌, ◌==◌, not, if◌then◌else◌}
+use Rattle.std.specs.Prelude.{◌&&◌, ◌==◌, if◌then◌else◌}
 use Rattle.std.proofs.lemmas.Bool.Decides.{nat_tests}
 use Rattle.vme_model.specs.declared.signals.Version.{Version}
 use Rattle.vme_model.specs.declared.signals.Cycle.{Cycle}
@@ -12,6 +12,7 @@ use Rattle.vme_model.specs.declared.signals.Edge.{Edge}
 use Rattle.vme_model.specs.Signals.{has_wire, is_same_driver, is_same_wire}
 use Rattle.vme_model.specs.Plan.{Plan}
 use Rattle.vme_model.specs.Accepted.{IsAccepted}
+use Rattle.vme_model.specs.GrantSafety.{is_fall_on}
 use Rattle.vme_model.specs.History.{drive}
 use Rattle.vme_model.specs.Numbered.{Numbered, edges_in}
 use Rattle.vme_model.specs.Verdict.{IsLegal}
@@ -20,7 +21,8 @@ use Rattle.vme_model.proofs.Bools.{never}
 use Rattle.vme_model.proofs.CyclePhases.{Quiet, Fresh, Asking, Done}
 use Rattle.vme_model.proofs.Cycles.{Going, going_of}
 use Rattle.vme_model.proofs.Ranges.{IsInRange, in_range}
-use Rattle.vme_cycles.specs.Transactions.{cycle_of}
+use Rattle.vme_cycles.specs.Transactions.{cycle_of, is_rise_on}
+use Rattle.vme_cycles.proofs.NamedEdges.{edge, IsNext, AtEach}
 
 -- ---- drivers
 
@@ -78,16 +80,16 @@ module _ (v : Version) (p : Plan) (range : IsInRange p) where
   controller_high (e ∷ h) l =
       ap (λ (b : Bool). if b then e.fall else drive h Controller AddressStrobe) (not_controller e.driver e.wire (all_passed v p h e.driver e.wire e.fall e.value l.0).wire) ∙ controller_high h l.1
 
-  pub own_low : (h : List Edge) (t : ℕ) (c : Option Cycle) → drive (record { driver = Slot t; wire = AddressStrobe; fall = true; value = c } ∷ h) (Slot t) AddressStrobe ≡ true
+  pub own_low : (h : List Edge) (t : ℕ) (c : Option Cycle) → drive (edge (Slot t) AddressStrobe true c ∷ h) (Slot t) AddressStrobe ≡ true
   own_low h t c = ap (λ (b : Bool). if b then true else drive h (Slot t) AddressStrobe) (self t)
 
   -- whose strobe is low, its cycle is under way
-  after_edge : (k : Numbered) (n : ℕ) (d : Driver) (w : Wire) (fall : Bool) (c : Option Cycle) → IsLegal v p (record { driver = d; wire = w; fall = fall; value = c } ∷ edges_in k)
-      → ((s : ℕ) → drive (edges_in k) (Slot s) AddressStrobe ≡ true → cycle_of k ≡ Some (Slot s))
-      → (s : ℕ) → drive (record { driver = d; wire = w; fall = fall; value = c } ∷ edges_in k) (Slot s) AddressStrobe ≡ true
-      → cycle_of ((n, record { driver = d; wire = w; fall = fall; value = c }) ∷ k) ≡ Some (Slot s)
+  abbrev IsLowsOwn : Numbered → Type 0
+  IsLowsOwn k = (s : ℕ) → drive (edges_in k) (Slot s) AddressStrobe ≡ true → cycle_of k ≡ Some (Slot s)
+
+  after_edge : (k : Numbered) (n : ℕ) (d : Driver) (w : Wire) (fall : Bool) (c : Option Cycle) → IsNext v p k (edge d w fall c) → IsLowsOwn k → IsLowsOwn ((n, edge d w fall c) ∷ k)
   after_edge k n (Slot t) AddressStrobe true c l before s low =
-      ap (λ x. Some (Slot x)) (one_strobe (record { driver = Slot t; wire = AddressStrobe; fall = true; value = c } ∷ edges_in k) l t s (own_low (edges_in k) t c) low)
+      ap (λ x. Some (Slot x)) (one_strobe (edge (Slot t) AddressStrobe true c ∷ edges_in k) l t s (own_low (edges_in k) t c) low)
   after_edge k n (Slot t) AddressStrobe false c l before s low =
       let q = low_other (t == s) (drive (edges_in k) (Slot s) AddressStrobe) low in
       let a = all_passed v p (edges_in k) (Slot t) AddressStrobe false c l.0 in
@@ -95,36 +97,36 @@ module _ (v : Version) (p : Plan) (range : IsInRange p) where
   after_edge k n Controller AddressStrobe fall c l before s low = absurd (cc (all_passed v p (edges_in k) Controller AddressStrobe fall c l.0).wire)
   after_edge k n d w fall c l before s low = before s low
 
-  pub low_is_under_way : (k : Numbered) → IsLegal v p (edges_in k) → (s : ℕ) → drive (edges_in k) (Slot s) AddressStrobe ≡ true → cycle_of k ≡ Some (Slot s)
+  pub low_is_under_way : (k : Numbered) → IsLegal v p (edges_in k) → IsLowsOwn k
   low_is_under_way [] l s low = absurd (cc)
   low_is_under_way ((n, e) ∷ k) l s low = after_edge k n e.driver e.wire e.fall e.value l (low_is_under_way k l.1) s low
 
   -- no strobe is low before one falls
-  all_high : (k : Numbered) (t : ℕ) (c : Option Cycle) → IsLegal v p (record { driver = Slot t; wire = AddressStrobe; fall = true; value = c } ∷ edges_in k) → (o : Option Driver) → cycle_of k ≡ o → cycle_of k ≡ None
+  all_high : (k : Numbered) (t : ℕ) (c : Option Cycle) → IsNext v p k (edge (Slot t) AddressStrobe true c) → (o : Option Driver) → cycle_of k ≡ o → cycle_of k ≡ None
   all_high k t c l None is = is
   all_high k t c l (Some Controller) is = absurd (never (sym (controller_high (edges_in k) l.1) ∙ under_way_low k Controller is))
   all_high k t c l (Some (Slot s)) is =
       let h = edges_in k in
-      let e : Edge = record { driver = Slot t; wire = AddressStrobe; fall = true; value = c } in
+      let e = edge (Slot t) AddressStrobe true c in
       let low = under_way_low k (Slot s) is in
       let same = one_strobe (e ∷ h) l t s (own_low h t c) (still_low (t == s) (drive h (Slot s) AddressStrobe) low) in
       let a = all_passed v p h (Slot t) AddressStrobe true c l.0 in
       absurd (never (sym a.before ∙ subst (λ x. drive h (Slot x) AddressStrobe ≡ true) (sym same) low))
 
-  begins_alone : (k : Numbered) (d : Driver) (w : Wire) (fall : Bool) (c : Option Cycle) → IsLegal v p (record { driver = d; wire = w; fall = fall; value = c } ∷ edges_in k) → (fall && is_same_wire w AddressStrobe) ≡ true → cycle_of k ≡ None
+  begins_alone : AtEach v p (λ k e. is_fall_on AddressStrobe e ≡ true → cycle_of k ≡ None)
   begins_alone k (Slot t) AddressStrobe true c l is = all_high k t c l (cycle_of k) refl
   begins_alone k Controller AddressStrobe true c l is = absurd (cc (all_passed v p (edges_in k) Controller AddressStrobe true c l.0).wire)
   begins_alone k d w true c l is = absurd (cc)
   begins_alone k d w false c l is = absurd (cc)
 
-  ends_own : (k : Numbered) (d : Driver) (w : Wire) (fall : Bool) (c : Option Cycle) → IsLegal v p (record { driver = d; wire = w; fall = fall; value = c } ∷ edges_in k) → (not fall && is_same_wire w AddressStrobe) ≡ true → cycle_of k ≡ Some d
+  ends_own : AtEach v p (λ k e. is_rise_on AddressStrobe e ≡ true → cycle_of k ≡ Some e.driver)
   ends_own k (Slot t) AddressStrobe false c l is = low_is_under_way k l.1 t (all_passed v p (edges_in k) (Slot t) AddressStrobe false c l.0).before
   ends_own k Controller AddressStrobe false c l is = absurd (cc (all_passed v p (edges_in k) Controller AddressStrobe false c l.0).wire)
   ends_own k d w true c l is = absurd (cc)
   ends_own k d w false c l is = absurd (cc)
 
-pub cycle_begins_alone : (v : Version) (p : Plan) (k : Numbered) (n : ℕ) (e : Edge) → IsAccepted p → IsLegal v p (edges_in ((n, e) ∷ k)) → (e.fall && is_same_wire e.wire AddressStrobe) ≡ true → cycle_of k ≡ None
+pub cycle_begins_alone : (v : Version) (p : Plan) (k : Numbered) (n : ℕ) (e : Edge) → IsAccepted p → IsNext v p k e → is_fall_on AddressStrobe e ≡ true → cycle_of k ≡ None
 cycle_begins_alone v p k n e fit l is = begins_alone v p (in_range p fit) k e.driver e.wire e.fall e.value l is
 
-pub cycle_ends_by_its_board : (v : Version) (p : Plan) (k : Numbered) (n : ℕ) (e : Edge) → IsAccepted p → IsLegal v p (edges_in ((n, e) ∷ k)) → (not e.fall && is_same_wire e.wire AddressStrobe) ≡ true → cycle_of k ≡ Some e.driver
+pub cycle_ends_by_its_board : (v : Version) (p : Plan) (k : Numbered) (n : ℕ) (e : Edge) → IsAccepted p → IsNext v p k e → is_rise_on AddressStrobe e ≡ true → cycle_of k ≡ Some e.driver
 cycle_ends_by_its_board v p k n e fit l is = ends_own v p (in_range p fit) k e.driver e.wire e.fall e.value l is

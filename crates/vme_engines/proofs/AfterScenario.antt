@@ -28,7 +28,8 @@ no_plan_of before text fault.CannotRead which h = absurd h
 no_plan_of before text fault.NoMemory which h = absurd h
 no_plan_of before text (fault.Beyond n) which h = absurd h
 
-pub plan_of_text : (before text : List ℕ) (p : Plan) → IsTextOf before text → length text ≤ scenario_limit → scenario text ≡ Ok p → (length before ≤ scenario_limit) × (scenario before ≡ Ok p)
+pub plan_of_text : (before text : List ℕ) (p : Plan) → IsTextOf before text → length text ≤ scenario_limit → scenario text ≡ Ok p
+    → (length before ≤ scenario_limit) × (scenario before ≡ Ok p)
 plan_of_text before text p which short is = elim which [
   | inl same ↦ (rw same at short, rw same at is)
   | inr long ↦ absurd (let wide = long.0 in omega arith)

@@ -51,7 +51,8 @@ refusal_behind n b (e ∷ es) fs h =
     let here : first_refusal n b (e ∷ (es ++ fs)) ≡ first_refusal (n + 1) (after b e) (es ++ fs) = ap (λ j. or_refusal n j (first_refusal (n + 1) (after b e) (es ++ fs))) both.0 in
     here ∙ refusal_behind (n + 1) (after b e) es fs both.1 ∙ ap (λ m. first_refusal m (kept (after b e) es) fs) (omega arith)
 
-some_first : (n : ℕ) (j : Judgement) (later more : Option (ℕ × Refused)) (x : ℕ × Refused) → (later ≡ Some x → more ≡ Some x) → or_refusal n j later ≡ Some x → or_refusal n j more ≡ Some x
+some_first : (n : ℕ) (j : Judgement) (later more : Option (ℕ × Refused)) (x : ℕ × Refused) → (later ≡ Some x → more ≡ Some x) → or_refusal n j later ≡ Some x
+    → or_refusal n j more ≡ Some x
 some_first n (Ok u) later more x go h = go h
 some_first n (Err r) later more x go h = h
 
@@ -152,7 +153,8 @@ module _ (p : Plan) (v : Version) (before es : List Edge) (b : State) (n : ℕ) 
   }
 
   -- an edge of the piece is the first that is refused
-  pub finds_refused : (more : Result Bool Fault) (old new : Option (List ℕ)) (k : ℕ) (refused : Refused) → Some (k, refused) ≡ first_refusal (n + 1) b es → LeavesNow (Finds p) v (before ++ es) more old new (Ok (Illegal k refused))
+  pub finds_refused : (more : Result Bool Fault) (old new : Option (List ℕ)) (k : ℕ) (refused : Refused) → Some (k, refused) ≡ first_refusal (n + 1) b es
+      → LeavesNow (Finds p) v (before ++ es) more old new (Ok (Illegal k refused))
   finds_refused more old new k refused is = λ trace from to came.
       let begins = came_begins v trace from to (before ++ es) more came in
       refusal_known p v (read_of trace).edges (read_of trace).version begins.version ∙ ap (first_refusal 1 (bench p v)) begins.edges
@@ -160,7 +162,8 @@ module _ (p : Plan) (v : Version) (before es : List Edge) (b : State) (n : ℕ) 
 
 module _ (p : Plan) (v : Version) (es : List Edge) (more : Result Bool Fault) (old new : Option (List ℕ)) (b : State) (n : ℕ) (run : AreAccepted p v es b n) where
   -- at the end of the trace all edges are legal
-  legal_trace : (r : Reading) → r.version ≡ Some v → r.edges ≡ es → r.fault ≡ None → IsLegal b.version b.plan b.history → IsSafe b.plan b.history → length b.history ≤ b.max → IsLegalTrace p r
+  legal_trace : (r : Reading) → r.version ≡ Some v → r.edges ≡ es → r.fault ≡ None → IsLegal b.version b.plan b.history → IsSafe b.plan b.history → length b.history ≤ b.max
+      → IsLegalTrace p r
   legal_trace r named edges whole legal safe fits =
       let is : b ≡ record (bench p v) { history = reverse r.edges } =
       run.bus ∙ all_kept 1 (bench p v) es run.unrefused ∙ ap (λ l. record (bench p v) { history = l }) (append-nil (reverse es))

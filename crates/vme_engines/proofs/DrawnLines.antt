@@ -19,7 +19,8 @@ use Rattle.vme_engines.proofs.WrittenLines.{front_of_more, front_behind, lines_b
 
 -- ---- edges are only added
 
-walked_by : (more : ℕ) (w : Walk) (o : Option Edge) → ((v : Walk) → IsBefore v.state (walked more v).state) → IsBefore w.state (option_map_or (λ e. walked more (with_edge (drawn w) e)) o (drawn w)).state
+walked_by : (more : ℕ) (w : Walk) (o : Option Edge) → ((v : Walk) → IsBefore v.state (walked more v).state)
+    → IsBefore w.state (option_map_or (λ e. walked more (with_edge (drawn w) e)) o (drawn w)).state
 walked_by more w None rest = itself w.state
 walked_by more w (Some e) rest = before_both w.state (with_edge (drawn w) e).state (walked more (with_edge (drawn w) e)).state (e ∷ [], refl) (rest (with_edge (drawn w) e))
 
@@ -39,7 +40,8 @@ module _ (g : Goal) where
   pub before_turned : (w : Walk) → IsBefore w.state (turned g w).state
   before_turned w = turned_by w (missed_by g w.state)
 
-  ended_by : (w : Walk) (o : Option Ending) (rest : Ended) → IsBefore w.state rest.walk.state → IsBefore w.state (option_map_or (λ x. (let r : Ended = record { walk = w; ending = x } in r)) o rest).walk.state
+  ended_by : (w : Walk) (o : Option Ending) (rest : Ended) → IsBefore w.state rest.walk.state
+      → IsBefore w.state (option_map_or (λ x. (let r : Ended = record { walk = w; ending = x } in r)) o rest).walk.state
   ended_by w None rest later = later
   ended_by w (Some x) rest later = itself w.state
 
@@ -53,7 +55,8 @@ module _ (g : Goal) where
   sought_behind more w = ended_by (turned g w) (ends_at g w) (sought g more (turned g w)) (before_sought more (turned g w))
 
   -- the lines up to a turn that was cut off
-  pub turn_front : (more : ℕ) (w : Walk) (end : State) → end ≡ (sought g (suc more) w).walk.state → (first new : Option (List ℕ)) → AppendsFront first new (lines_made (turned g w).state) → AppendsFront first new (lines_made end)
+  pub turn_front : (more : ℕ) (w : Walk) (end : State) → end ≡ (sought g (suc more) w).walk.state → (first new : Option (List ℕ)) → AppendsFront first new (lines_made (turned g w).state)
+      → AppendsFront first new (lines_made end)
   turn_front more w end is first new f =
       subst (λ (s : State). AppendsFront first new (lines_made s)) (sym is) (front_later first new (turned g w).state (sought g (suc more) w).walk.state (sought_behind more w) f)
 

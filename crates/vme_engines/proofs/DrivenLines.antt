@@ -58,7 +58,8 @@ module _ (r n : ℕ) (b now : State) (d : Driver) (old new : Option (List ℕ)) 
 -- ---- turns and rounds
 
 -- what is made and listed, and more behind it
-pub listed_both : {A : Type 0} (b b₁ b₂ end all : State) (held held₁ held₂ : List ℕ) (old mid new : Option (List ℕ)) → KeepsListed b held old mid b₁ held₁ → end ≡ all → (result : Result A Fault)
+pub listed_both : {A : Type 0} (b b₁ b₂ end all : State) (held held₁ held₂ : List ℕ) (old mid new : Option (List ℕ)) → KeepsListed b held old mid b₁ held₁ → end ≡ all
+    → (result : Result A Fault)
     → ListsOn b₁ held₁ mid new end b₂ held₂ result → ListsOn b held old new all b₂ held₂ result
 listed_both b b₁ b₂ end all held held₁ held₂ old mid new keeps same (Ok a) w = (w.0 ∙ same, λ first listed. w.1 first (keeps first listed))
 listed_both b b₁ b₂ end all held held₁ held₂ old mid new keeps same (Err f) w =
@@ -114,7 +115,8 @@ module _ (b : State) (n : ℕ) (old headed : Option (List ℕ)) (header_line : L
 
   module _ (wrote : Appends old headed header_line) (held : List ℕ) (empty : held ≡ []) (start : b.history ≡ []) (listed : Option (List ℕ)) (now : State) (left : List ℕ) where
     -- the rounds were cut off
-    pub cut_off : ((first : Option (List ℕ)) → IsListed first headed held (lines_made b) → AppendsFront first listed (lines_made (rounds b n))) → AppendsFront old listed (trace_made (rounds b n))
+    pub cut_off : ((first : Option (List ℕ)) → IsListed first headed held (lines_made b) → AppendsFront first listed (lines_made (rounds b n)))
+        → AppendsFront old listed (trace_made (rounds b n))
     cut_off h = part_behind listed wrote (lines_cut headed listed held left b now (rounds b n) empty start h)
 
     module _ (is_end : now ≡ rounds b n) (keeps : KeepsListed b held headed listed now left) (new : Option (List ℕ)) where

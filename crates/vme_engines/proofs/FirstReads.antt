@@ -103,5 +103,6 @@ module _ (form : LineForm) (p : Plan) (all : List ℕ) (s : Streams) (kept : Wro
   stops_unknown Failed h = absurd h
   stops_unknown Write h = absurd h
 
-pub replay_unbegun : (form : LineForm) (p : Plan) (all : List ℕ) (s : Streams) (f : Fault) → WroteNothing s → StopsWaiting IsUnread all (streams s.from s.to None None) f → Replays form p [] all s (Err (fault.Trace f))
+pub replay_unbegun : (form : LineForm) (p : Plan) (all : List ℕ) (s : Streams) (f : Fault) → WroteNothing s → StopsWaiting IsUnread all (streams s.from s.to None None) f
+    → Replays form p [] all s (Err (fault.Trace f))
 replay_unbegun form p all s f kept h = stops_unknown form p all s kept f h

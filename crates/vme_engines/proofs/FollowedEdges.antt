@@ -80,7 +80,8 @@ numbered_refused t n e k is = rw is refl
 -- ---- what was followed
 
 -- what a text says of the numbered edges
-pub of_after : (f : Following) (T : ℕ → State → Numbered → List ℕ) (W : List ℕ → Type 0) → OfTrace f.bus f.marks (λ k. W (T f.judged f.bus k)) → OfAfter f (λ p v es. W (printed_behind T p v es))
+pub of_after : (f : Following) (T : ℕ → State → Numbered → List ℕ) (W : List ℕ → Type 0) → OfTrace f.bus f.marks (λ k. W (T f.judged f.bus k))
+    → OfAfter f (λ p v es. W (printed_behind T p v es))
 of_after f T W h =
     λ p v es is.
     let k = numbered (bench p v) es in
@@ -109,7 +110,8 @@ after_next p v es e old now is made_so same noted_so =
     }
 
 -- a refused edge is not noted
-pub after_next_refused : (p : Plan) (v : Version) (es : List Edge) (e : Edge) (old now : Following) → IsAfter p v es old → now.bus ≡ after old.bus e → now.judged ≡ old.judged → now.marks ≡ old.marks → is_ok (verdict old.bus e) ≡ false
+pub after_next_refused : (p : Plan) (v : Version) (es : List Edge) (e : Edge) (old now : Following) → IsAfter p v es old → now.bus ≡ after old.bus e → now.judged ≡ old.judged
+    → now.marks ≡ old.marks → is_ok (verdict old.bus e) ≡ false
     → IsAfter p v (es ++ e ∷ []) (counted now)
 after_next_refused p v es e old now is made_so same marks refused =
     after_next p v es e old now is made_so same
@@ -126,7 +128,8 @@ ok_none n (Ok u) h = refl
 ok_none n (Err r) h = absurd cc
 
 -- none is refused, with the next one
-pub none_more : (p : Plan) (v : Version) (es : List Edge) (e : Edge) (mid : Following) → IsAfter p v es mid → first_refusal 1 (bench p v) es ≡ None → is_ok (verdict mid.bus e) ≡ true → first_refusal 1 (bench p v) (es ++ e ∷ []) ≡ None
+pub none_more : (p : Plan) (v : Version) (es : List Edge) (e : Edge) (mid : Following) → IsAfter p v es mid → first_refusal 1 (bench p v) es ≡ None → is_ok (verdict mid.bus e) ≡ true
+    → first_refusal 1 (bench p v) (es ++ e ∷ []) ≡ None
 none_more p v es e mid is none accepted =
     refusal_behind 1 (bench p v) es (e ∷ []) none ∙ ap (λ s. first_refusal (1 + length es) s (e ∷ [])) (sym is.bus) ∙ ok_none (1 + length es) (verdict mid.bus e) accepted
 
@@ -152,7 +155,8 @@ comes_to_refused first mid now es i d r h count after_so refused answered same =
 }
 
 -- the n-th of the trace
-pub comes_to_number : (n : ℕ) (first now : Following) (es : List Edge) (i : ℕ) (e : Edge) (r : Result (Option Delivery) Refused) → i < length es → e ≡ get_or es i e → n ≡ now.judged + 1 → now.judged ≡ first.judged + i
+pub comes_to_number : (n : ℕ) (first now : Following) (es : List Edge) (i : ℕ) (e : Edge) (r : Result (Option Delivery) Refused) → i < length es → e ≡ get_or es i e → n ≡ now.judged + 1
+    → now.judged ≡ first.judged + i
     → OfAfter first (λ p v before. IsAfter p v (before ++ take i es) now) → r ≡ answer now.bus e → ComesTo (Some n) first es (record { edge = e; answer = r }) now
 comes_to_number n first now es i e r h at is count after_so answered = record {
   front = take i es;

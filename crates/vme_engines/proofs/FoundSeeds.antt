@@ -36,7 +36,8 @@ kept_append (Some xs) None c x k w = absurd k
 kept_append (Some xs) (Some ys) None x k w = absurd w
 kept_append (Some xs) (Some ys) (Some zs) x k w = w ∙ ap (λ l. l ++ x) k
 
-draws_kept : (version : Version) (seed n : ℕ) (g : Option Goal) (a b c : Option (List ℕ)) (p : Plan) (answer : Answer) → Keeps a b → Draws version seed n g b c p answer → Draws version seed n g a c p answer
+draws_kept : (version : Version) (seed n : ℕ) (g : Option Goal) (a b c : Option (List ℕ)) (p : Plan) (answer : Answer) → Keeps a b → Draws version seed n g b c p answer
+    → Draws version seed n g a c p answer
 draws_kept version seed n g a b c p (Ok status) k d = (kept_append a b c _ k d.0, d.1, d.2, d.3)
 draws_kept version seed n g a b c p (Err fault.TooLong) k d = absurd d
 draws_kept version seed n g a b c p (Err (fault.Scenario e)) k d = absurd d
@@ -66,7 +67,8 @@ module _ (p : Plan) (version : Version) (seed n : ℕ) (g : Goal) (start : Walk)
   over_is_of = ap is_over ending_is
 
   -- it comes to it, and is drawn once more
-  pub attempt_came : (a b : Option (List ℕ)) (came : Bool) (status : Status) → came ≡ not (is_over (walk_to (Some g) n start).ending) → came ≡ true → Draws version seed n (Some g) a b p (Ok status)
+  pub attempt_came : (a b : Option (List ℕ)) (came : Bool) (status : Status) → came ≡ not (is_over (walk_to (Some g) n start).ending) → came ≡ true
+      → Draws version seed n (Some g) a b p (Ok status)
       → Attempts p version seed n g a b (Ok true)
   attempt_came a b came status seen is_true d =
       let x = walk p version seed n (Some g) in

@@ -72,7 +72,8 @@ took_byte f g bytes b h ne line held = record {
   held = held;
 }
 
-pub took_feed : (f g : Front) (bytes : List ℕ) → IsFront f bytes → version_of f.line.items ≡ None → g.line.items ≡ [] → IsHeld g.held.items (bytes ++ 10 ∷ []) → IsFront g (bytes ++ 10 ∷ [])
+pub took_feed : (f g : Front) (bytes : List ℕ) → IsFront f bytes → version_of f.line.items ≡ None → g.line.items ≡ [] → IsHeld g.held.items (bytes ++ 10 ∷ [])
+    → IsFront g (bytes ++ 10 ∷ [])
 took_feed f g bytes h other line held =
     let other_part : version_of (take 6 h.part) ≡ None = ap version_of (sym h.line) ∙ other in
     record {

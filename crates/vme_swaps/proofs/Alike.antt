@@ -31,6 +31,13 @@ use Rattle.vme_histories.proofs.Addressing.{shown_at}
 use Rattle.vme_histories.proofs.Others.{same_wire}
 use Rattle.vme_swaps.specs.Alike.{StandAlike}
 
+-- whether an interrupter was served, and a board's, by its row
+abbrev pub served_on : Plan → List Edge → Driver → Option InterrupterRow → Bool
+served_on p h d o = option_map_or (λ i. served_since_request p h d i.kind) o false
+
+abbrev pub served_by : Plan → List Edge → Driver → Option Row → Bool
+served_by p h d o = option_map_or (λ r. served_on p h d r.interrupter) o false
+
 -- what the rules read of the wires
 
 segment_alike : (g h : List Edge) → drive g ≡ drive h → (c : ChainId) (o : Option ℕ) → segment g c o ≡ segment h c o
@@ -76,7 +83,8 @@ module _ (p : Plan) (g h : List Edge) (a : StandAlike p g h) where
   settling_alike : (version : Version) (w : Wire) (fall : Bool) → settling_guard version p g w fall ≡ settling_guard version p h w fall
   settling_alike version AddressStrobe true = λ i. (1, as_settles (not (segments_alike i chain.Iack None) && list_all (λ s. not (segments_alike i chain.Iack (Some s))) (active p chain.Iack)))
   settling_alike version Berr true = ap (λ b. (2, berr_settles b)) (unanswerable_alike (shown p g) ∙ ap (is_unanswerable p h) a.shown)
-  settling_alike version (Bg n) false = λ i. (3, bg_rise_settles version (list_any (λ r. drives Bbsy r && a.low (Slot r.slot) Bbsy i) p.rows) (segments_alike i (grant_chain n) (last_active p (grant_chain n))))
+  settling_alike version (Bg n) false = λ i.
+      (3, bg_rise_settles version (list_any (λ r. drives Bbsy r && a.low (Slot r.slot) Bbsy i) p.rows) (segments_alike i (grant_chain n) (last_active p (grant_chain n))))
   settling_alike version (Bg n) true = λ i. (4, bg_fall_settles version (list_all (λ r. not (a.low (Slot r.slot) BgOut i)) p.rows))
   settling_alike version w fall = refl
 
@@ -92,6 +100,9 @@ module _ (p : Plan) (g h : List Edge) (a : StandAlike p g h) where
   pub delivery_alike : (e : Edge) → delivery p g e ≡ delivery p h e
   delivery_alike e = λ i. if e.fall && is_same_wire e.wire Dtack then delivered_by (a.shown i) (addressing_alike i) (board_of p e.driver) else None
 
+abbrev by : Driver → Wire → Bool → Option Cycle → Edge
+by d w fall v = record { driver = d; wire = w; fall = fall; value = v }
+
 -- what is shown, and by whom, after a further edge
 
 pub shown_kept : (p : Plan) (h : List Edge) (e : Edge) → is_same_wire e.wire Addr ≡ false → shown p (e ∷ h) ≡ shown p h
@@ -102,28 +113,28 @@ shown_kept p h e off = λ i.
 pub addressing_kept : (p : Plan) (h : List Edge) (e : Edge) → is_same_wire e.wire Addr ≡ false → addressing p (e ∷ h) ≡ addressing p h
 addressing_kept p h e off = λ i. find (λ s. if off i && is_same_driver e.driver (Slot s) then e.fall else drive h (Slot s) Addr) (up_to p.slots)
 
-shown_by_slot : (version : Version) (p : Plan) (h : List Edge) (s : ℕ) (w : Wire) (fall : Bool) (v : Option Cycle) → IsAccepted p → IsLegal version p h → verdict_but_full version p h (at s w fall v) ≡ Ok tt → w ≡ Addr → shown p (at s w fall v ∷ h) ≡ v
-shown_by_slot version p h s w fall v ok legal allowed is = on_board (board p s) refl
-  where
-    on_board : (o : Option Row) → board p s ≡ o → shown p (at s w fall v ∷ h) ≡ v
-    on_board None found =
-        let exists = (all_passed version p h (Slot s) w fall v allowed).exists in
-        let lacks : option_map_or (drives w) (board p s) false ≡ false = ap (λ o. option_map_or (drives w) o false) found in
-        absurd (cc)
-    on_board (Some r) found = (shown_at version p h s r w fall v ok legal allowed (stands p s r ok found) (driven version p h s r w fall v found allowed) is).shown
-
-shown_by_driver : (version : Version) (p : Plan) (h : List Edge) (d : Driver) (w : Wire) (fall : Bool) (v : Option Cycle) → IsAccepted p → IsLegal version p h → verdict_but_full version p h (record { driver = d; wire = w; fall = fall; value = v }) ≡ Ok tt → w ≡ Addr → shown p (record { driver = d; wire = w; fall = fall; value = v } ∷ h) ≡ v
-shown_by_driver version p h Controller w fall v ok legal allowed is =
-    let has = (all_passed version p h Controller w fall v allowed).wire in
-    let lacks : has_wire Controller w ≡ false = ap (has_wire Controller) is in
-    absurd (cc)
-shown_by_driver version p h (Slot s) w fall v ok legal allowed is = shown_by_slot version p h s w fall v ok legal allowed is
-
 -- an edge of an address group shows its value
-pub shown_by : (version : Version) (p : Plan) (h : List Edge) (e : Edge) → IsAccepted p → IsLegal version p h → verdict_but_full version p h e ≡ Ok tt → is_same_wire e.wire Addr ≡ true → shown p (e ∷ h) ≡ e.value
-shown_by version p h e ok legal allowed on = shown_by_driver version p h e.driver e.wire e.fall e.value ok legal allowed (same_wire e.wire Addr on)
+module _ (version : Version) (p : Plan) (h : List Edge) where
+  shown_by_driver : (d : Driver) (w : Wire) (fall : Bool) (v : Option Cycle) → IsAccepted p → IsLegal version p h → verdict_but_full version p h (by d w fall v) ≡ Ok tt
+      → w ≡ Addr → shown p (by d w fall v ∷ h) ≡ v
+  shown_by_driver Controller w fall v ok legal allowed is =
+      let has = (all_passed version p h Controller w fall v allowed).wire in
+      let lacks : has_wire Controller w ≡ false = ap (has_wire Controller) is in
+      absurd (cc)
+  shown_by_driver (Slot s) w fall v ok legal allowed is = on_board (board p s) refl
+    where
+      on_board : (o : Option Row) → board p s ≡ o → shown p (at s w fall v ∷ h) ≡ v
+      on_board None found =
+          let exists = (all_passed version p h (Slot s) w fall v allowed).exists in
+          let lacks : option_map_or (drives w) (board p s) false ≡ false = ap (λ o. option_map_or (drives w) o false) found in
+          absurd (cc)
+      on_board (Some r) found = (shown_at version p h s r w fall v ok legal allowed (stands p s r ok found) (driven version p h s r w fall v found allowed) is).shown
 
-module _ (version : Version) (p : Plan) (g h : List Edge) (e : Edge) (ok : IsAccepted p) (legal : IsLegal version p g) (allowed : verdict_but_full version p g e ≡ Ok tt) (also : IsLegal version p h) (a : StandAlike p g h) where
+  pub shown_by : (e : Edge) → IsAccepted p → IsLegal version p h → verdict_but_full version p h e ≡ Ok tt → is_same_wire e.wire Addr ≡ true → shown p (e ∷ h) ≡ e.value
+  shown_by e ok legal allowed on = shown_by_driver e.driver e.wire e.fall e.value ok legal allowed (same_wire e.wire Addr on)
+
+module _ (version : Version) (p : Plan) (g h : List Edge) (e : Edge) (ok : IsAccepted p) (legal : IsLegal version p g)
+    (allowed : verdict_but_full version p g e ≡ Ok tt) (also : IsLegal version p h) (a : StandAlike p g h) where
   pub allowed_alike : verdict_but_full version p h e ≡ Ok tt
   allowed_alike = sym (verdict_alike p g h a version e) ∙ allowed
 
@@ -131,17 +142,11 @@ module _ (version : Version) (p : Plan) (g h : List Edge) (e : Edge) (ok : IsAcc
   shown_behind true on = shown_by version p g e ok legal allowed on ∙ sym (shown_by version p h e ok also allowed_alike on)
   shown_behind false off = shown_kept p g e off ∙ a.shown ∙ sym (shown_kept p h e off)
 
-  served_behind : (d : Driver) (o : Option Row) →
-      option_map_or (λ r. option_map_or (λ i. served_since_request p g d i.kind) r.interrupter false) o false
-      ≡ option_map_or (λ r. option_map_or (λ i. served_since_request p h d i.kind) r.interrupter false) o false
-      → option_map_or (λ r. option_map_or (λ i. served_since_request p (e ∷ g) d i.kind) r.interrupter false) o false
-      ≡ option_map_or (λ r. option_map_or (λ i. served_since_request p (e ∷ h) d i.kind) r.interrupter false) o false
+  served_behind : (d : Driver) (o : Option Row) → served_by p g d o ≡ served_by p h d o → served_by p (e ∷ g) d o ≡ served_by p (e ∷ h) d o
   served_behind d None same = refl
   served_behind d (Some r) same = by_interrupter r.interrupter same
     where
-      by_interrupter : (o : Option InterrupterRow) →
-          option_map_or (λ i. served_since_request p g d i.kind) o false ≡ option_map_or (λ i. served_since_request p h d i.kind) o false
-          → option_map_or (λ i. served_since_request p (e ∷ g) d i.kind) o false ≡ option_map_or (λ i. served_since_request p (e ∷ h) d i.kind) o false
+      by_interrupter : (o : Option InterrupterRow) → served_on p g d o ≡ served_on p h d o → served_on p (e ∷ g) d o ≡ served_on p (e ∷ h) d o
       by_interrupter None same = refl
       by_interrupter (Some x) same = λ i. if is_fall_of d Irq e then false else (is_fall_of d Dtack e && serves x.kind (a.shown i)) || same i
 

@@ -19,7 +19,8 @@ use Rattle.vme_swaps.specs.Alike.{StandAlike}
 use Rattle.vme_swaps.specs.Swaps.{IsFree}
 use Rattle.vme_swaps.proofs.Alike.{judged_alike, delivery_alike, allowed_alike, alike_behind}
 
-all_ok : (a b c d : Bool) (w x y z : Refused) (rest : Judgement) → is_ok (check a w (check b x (check c y (check d z rest)))) ≡ true → check a w (check b x (check c y (check d z (Ok tt)))) ≡ Ok tt
+all_ok : (a b c d : Bool) (w x y z : Refused) (rest : Judgement)
+    → is_ok (check a w (check b x (check c y (check d z rest)))) ≡ true → check a w (check b x (check c y (check d z (Ok tt)))) ≡ Ok tt
 all_ok true true true true w x y z rest e = refl
 all_ok true true true false w x y z rest e = absurd (cc)
 all_ok true true false d w x y z rest e = absurd (cc)
@@ -68,8 +69,12 @@ module _ (version : Version) (p : Plan) (max : ℕ) (accepted : IsAccepted p) wh
   alike_answers [] = λ g h legal also same a. record { answers = refl; stand = a }
   alike_answers (e ∷ es) = one_more e es (alike_answers es)
 
-pub free_answers : (b : State) (first second : Edge) (later : List Edge) → IsAccepted b.plan → IsFree b.version b.plan b.history first second → answers (made (made b first) second) later ≡ answers (made (made b second) first) later
-free_answers b first second later accepted f = (alike_answers b.version b.plan b.max accepted later (second ∷ first ∷ b.history) (first ∷ second ∷ b.history) f.legal f.swapped refl f.alike).answers
+module _ (b : State) (first second : Edge) (later : List Edge) (accepted : IsAccepted b.plan) (f : IsFree b.version b.plan b.history first second) where
+  both : AnswerAlike b.plan (made (made b first) second) (made (made b second) first) later
+  both = alike_answers b.version b.plan b.max accepted later (second ∷ first ∷ b.history) (first ∷ second ∷ b.history) f.legal f.swapped refl f.alike
 
-pub free_stands : (b : State) (first second : Edge) (later : List Edge) → IsAccepted b.plan → IsFree b.version b.plan b.history first second → StandAlike b.plan (kept (made (made b first) second) later).history (kept (made (made b second) first) later).history
-free_stands b first second later accepted f = (alike_answers b.version b.plan b.max accepted later (second ∷ first ∷ b.history) (first ∷ second ∷ b.history) f.legal f.swapped refl f.alike).stand
+  pub free_answers : answers (made (made b first) second) later ≡ answers (made (made b second) first) later
+  free_answers = both.answers
+
+  pub free_stands : StandAlike b.plan (kept (made (made b first) second) later).history (kept (made (made b second) first) later).history
+  free_stands = both.stand

@@ -1,6 +1,6 @@
 -- Two edges that are allowed in both orders: what one of them changes, the other does not.
 use Rattle.std.proofs.Common.{◌≡◌, ◌∙◌, refl, sym, ap, ℕ, zero, suc, Bool, true, false, List, [], ◌∷◌, ◌+◌, ◌<◌, arith}
-use Rattle.std.specs.Prelude.{◌&&◌, ◌||◌, ◌==◌, not, if◌then◌else◌, Option, Some, None, Ok, find}
+use Rattle.std.specs.Prelude.{◌&&◌, ◌||◌, not, if◌then◌else◌, Option, Some, None, Ok, find}
 use Rattle.std.specs.List.{list_all}
 use Rattle.std.specs.Option.{option_and_then}
 use Rattle.std.proofs.lemmas.Bool.Decides.{nat_tests}
@@ -18,7 +18,7 @@ use Rattle.vme_model.specs.Accepted.{IsAccepted}
 use Rattle.vme_model.specs.History.{drive, line, shown, last_value, last_level, cycles, has_strobed}
 use Rattle.vme_model.specs.Readings.{Readings, readings}
 use Rattle.vme_model.specs.Guards.{holds}
-use Rattle.vme_model.specs.Rules.{rule, are_grants_high, bus_numbers, answer_guard, burst_guard, show_guard}
+use Rattle.vme_model.specs.Rules.{rule, are_grants_high, bus_numbers, answer_guard, burst_guard}
 use Rattle.vme_model.specs.GrantSafety.{is_fall_on}
 use Rattle.vme_model.specs.CycleSafety.{KeepsItsAddress, OneAnswers, Answers}
 use Rattle.vme_model.specs.Safe.{OnEachPrefix}
@@ -55,42 +55,29 @@ pub falls : (d : Driver) (w : Wire) (e : Edge) → is_fall_of d w e ≡ true →
 falls d w e is = and_left e.fall (is_edge_of d w e) is
 
 -- what an allowed edge has passed
-pub before : (version : Version) (p : Plan) (h : List Edge) (d : Driver) (w : Wire) (e : Edge) → verdict_but_full version p h e ≡ Ok tt → is_edge_of d w e ≡ true → drive h d w ≡ not e.fall
-before version p h d w e allowed is =
-    let at = sym (driver_of d w e is) in
-    let on = sym (wire_of d w e is) in
-    let same : drive h d w ≡ drive h e.driver e.wire = λ i. drive h (at i) (on i) in
-    same ∙ (all_passed version p h e.driver e.wire e.fall e.value allowed).before
+module _ (version : Version) (p : Plan) (h : List Edge) where
+  pub before : (d : Driver) (w : Wire) (e : Edge) → verdict_but_full version p h e ≡ Ok tt → is_edge_of d w e ≡ true → drive h d w ≡ not e.fall
+  before d w e allowed is = (λ i. drive h (sym (driver_of d w e is) i) (sym (wire_of d w e is) i)) ∙ (all_passed version p h e.driver e.wire e.fall e.value allowed).before
 
-ruled : (version : Version) (p : Plan) (h : List Edge) (d : Driver) (w : Wire) (fall : Bool) (e : Edge) → verdict_but_full version p h e ≡ Ok tt → e.driver ≡ d → e.wire ≡ w → e.fall ≡ fall → (rule version (readings p h d) w fall e.value).1 ≡ true
-ruled version p h d w fall e allowed driver wire way =
-    let at = sym driver in
-    let on = sym wire in
-    let to = sym way in
-    let same : (rule version (readings p h d) w fall e.value).1 ≡ (rule version (readings p h e.driver) e.wire e.fall e.value).1 = λ i. (rule version (readings p h (at i)) (on i) (to i) e.value).1 in
-    same ∙ (all_passed version p h e.driver e.wire e.fall e.value allowed).rule
+  ruled : (d : Driver) (w : Wire) (fall : Bool) (e : Edge) → verdict_but_full version p h e ≡ Ok tt
+      → e.driver ≡ d → e.wire ≡ w → e.fall ≡ fall → (rule version (readings p h d) w fall e.value).1 ≡ true
+  ruled d w fall e allowed driver wire way =
+      (λ i. (rule version (readings p h (sym driver i)) (sym wire i) (sym way i) e.value).1) ∙ (all_passed version p h e.driver e.wire e.fall e.value allowed).rule
 
-fall_ruled : (version : Version) (p : Plan) (h : List Edge) (d : Driver) (w : Wire) (e : Edge) → verdict_but_full version p h e ≡ Ok tt → is_fall_of d w e ≡ true → (rule version (readings p h d) w true e.value).1 ≡ true
-fall_ruled version p h d w e allowed is = ruled version p h d w true e allowed (driver_of d w e (edge_of d w e is)) (wire_of d w e (edge_of d w e is)) (falls d w e is)
+  fall_ruled : (d : Driver) (w : Wire) (e : Edge) → verdict_but_full version p h e ≡ Ok tt → is_fall_of d w e ≡ true → (rule version (readings p h d) w true e.value).1 ≡ true
+  fall_ruled d w e allowed is = ruled d w true e allowed (driver_of d w e (edge_of d w e is)) (wire_of d w e (edge_of d w e is)) (falls d w e is)
 
-pub has : (version : Version) (p : Plan) (h : List Edge) (d : Driver) (w : Wire) (e : Edge) → verdict_but_full version p h e ≡ Ok tt → e.driver ≡ d → e.wire ≡ w → has_wire d w ≡ true
-has version p h d w e allowed driver wire =
-    let at = sym driver in
-    let on = sym wire in
-    let same : has_wire d w ≡ has_wire e.driver e.wire = λ i. has_wire (at i) (on i) in
-    same ∙ (all_passed version p h e.driver e.wire e.fall e.value allowed).wire
+  pub has : (d : Driver) (w : Wire) (e : Edge) → verdict_but_full version p h e ≡ Ok tt → e.driver ≡ d → e.wire ≡ w → has_wire d w ≡ true
+  has d w e allowed driver wire = (λ i. has_wire (sym driver i) (sym wire i)) ∙ (all_passed version p h e.driver e.wire e.fall e.value allowed).wire
 
-valued : (version : Version) (p : Plan) (h : List Edge) (e : Edge) → verdict_but_full version p h e ≡ Ok tt → has_value e.wire e.fall e.value ≡ true
-valued version p h e allowed =
-    let a = checked (is_well_formed e && has_driver p e.driver e.wire) NoSuchDriver _ allowed in
-    and_right (has_wire e.driver e.wire) (has_value e.wire e.fall e.value) (and_left (is_well_formed e) (has_driver p e.driver e.wire) a.0)
+  valued : (e : Edge) → verdict_but_full version p h e ≡ Ok tt → has_value e.wire e.fall e.value ≡ true
+  valued e allowed =
+      let a = checked (is_well_formed e && has_driver p e.driver e.wire) NoSuchDriver _ allowed in
+      and_right (has_wire e.driver e.wire) (has_value e.wire e.fall e.value) (and_left (is_well_formed e) (has_driver p e.driver e.wire) a.0)
 
 -- Boolean shapes of what a history says of two edges
 opposite : (x y : Bool) → x ≡ not y → not x ≡ not y → ⊥
-opposite true true e f = cc
-opposite true false e f = cc
-opposite false true e f = cc
-opposite false false e f = cc
+opposite x y e f = grind arith
 
 swap_if : {A : Type 0} (s t : Bool) → (s ≡ true → t ≡ true → ⊥) → (x y z : A) → (if t then y else (if s then x else z)) ≡ (if s then x else (if t then y else z))
 swap_if true true one x y z = absurd (one refl refl)
@@ -112,10 +99,7 @@ swap_counts false false true b1 x y c = refl
 swap_counts false a1 false b1 x y c = exchanged (if b1 then 1 else 0) (if a1 then 1 else 0) c
 
 or_exchanged : (x y z : Bool) → (x || (y || z)) ≡ (y || (x || z))
-or_exchanged true true z = refl
-or_exchanged true false z = refl
-or_exchanged false true z = refl
-or_exchanged false false z = refl
+or_exchanged x y z = grind arith
 
 pub swap_since : (a0 a1 b0 b1 : Bool) → (a0 ≡ true → b1 ≡ true → ⊥) → (b0 ≡ true → a1 ≡ true → ⊥) → (z : Bool) →
     (if b0 then false else b1 || (if a0 then false else a1 || z))
@@ -128,16 +112,17 @@ swap_since false false true b1 x y z = refl
 swap_since false a1 false b1 x y z = or_exchanged b1 a1 z
 
 -- what a grant asks for
-grants_high : (version : Version) (r : Readings) (w : Wire) (fall : Bool) (v : Option Cycle) → (fall && is_grant_wire w) ≡ true → (rule version r w fall v).1 ≡ true → are_grants_high r ≡ true
+grants_high : (version : Version) (r : Readings) (w : Wire) (fall : Bool) (v : Option Cycle)
+    → (fall && is_grant_wire w) ≡ true → (rule version r w fall v).1 ≡ true → are_grants_high r ≡ true
 grants_high version r (Bg n) true v is passed = and_left _ _ (and_left _ _ passed)
 grants_high version r w true v is passed = absurd (cc)
 grants_high version r w false v is passed = absurd (cc)
 
 each_high : (f : ℕ → Bool) → list_all (λ n. not (f n)) bus_numbers ≡ true → (n : ℕ) → n < 4 → not (f n) ≡ true
-each_high f all zero near = and_left (not (f 0)) (not (f 1) && (not (f 2) && (not (f 3) && true))) all
-each_high f all (suc zero) near = and_left (not (f 1)) (not (f 2) && (not (f 3) && true)) (and_right (not (f 0)) (not (f 1) && (not (f 2) && (not (f 3) && true))) all)
-each_high f all (suc (suc zero)) near = and_left (not (f 2)) (not (f 3) && true) (and_right (not (f 1)) (not (f 2) && (not (f 3) && true)) (and_right (not (f 0)) (not (f 1) && (not (f 2) && (not (f 3) && true))) all))
-each_high f all (suc (suc (suc zero))) near = and_left (not (f 3)) true (and_right (not (f 2)) (not (f 3) && true) (and_right (not (f 1)) (not (f 2) && (not (f 3) && true)) (and_right (not (f 0)) (not (f 1) && (not (f 2) && (not (f 3) && true))) all)))
+each_high f all zero near = and_left (not (f 0)) _ all
+each_high f all (suc zero) near = and_left (not (f 1)) _ (and_right (not (f 0)) _ all)
+each_high f all (suc (suc zero)) near = and_left (not (f 2)) _ (and_right (not (f 1)) _ (and_right (not (f 0)) _ all))
+each_high f all (suc (suc (suc zero))) near = and_left (not (f 3)) true (and_right (not (f 2)) _ (and_right (not (f 1)) _ (and_right (not (f 0)) _ all)))
 each_high f all (suc (suc (suc (suc n)))) near = absurd (omega (arith, near))
 
 grant_number : (d : Driver) (w : Wire) → is_grant_wire w ≡ true → has_wire d w ≡ true → (d ≡ Controller) × (w ≡ Bg (grant_level w)) × (grant_level w < 4)
@@ -175,81 +160,80 @@ turned version p h a b k = record {
   first_behind = k.second;
 }
 
--- they are edges of two wires
-pub apart : (version : Version) (p : Plan) (h : List Edge) (a b : Edge) → AreAllowed version p h a b → (d : Driver) (w : Wire) → is_edge_of d w a ≡ true → is_edge_of d w b ≡ true → ⊥
-apart version p h a b k d w is_a is_b =
-    let x = before version p h d w a k.first is_a in
-    let y = before version p h d w b k.second_alone is_b in
-    let z = before version p (a ∷ h) d w b k.second is_b in
-    let after : a.fall ≡ not b.fall = sym (ap (λ t. if t then a.fall else drive h d w) is_a) ∙ z in
-    opposite a.fall b.fall after (sym x ∙ y)
-
--- they are not two grants
-one_grants : (version : Version) (p : Plan) (h : List Edge) (a b : Edge) → AreAllowed version p h a b → is_grant a ≡ true → is_grant b ≡ true → ⊥
-one_grants version p h a b k is_a is_b =
-    let pa = all_passed version p h a.driver a.wire a.fall a.value k.first in
-    let pb = all_passed version p (a ∷ h) b.driver b.wire b.fall b.value k.second in
-    let ga = grant_number a.driver a.wire (and_right a.fall (is_grant_wire a.wire) is_a) pa.wire in
-    let gb = grant_number b.driver b.wire (and_right b.fall (is_grant_wire b.wire) is_b) pb.wire in
-    let high = grants_high version (readings p (a ∷ h) b.driver) b.wire b.fall b.value is_b pb.rule in
-    let off = each_high (λ n. drive (a ∷ h) b.driver (Bg n)) high (grant_level a.wire) ga.2 in
-    let own : is_edge_of b.driver (Bg (grant_level a.wire)) a ≡ true =
-    both (is_same_wire a.wire (Bg (grant_level a.wire))) (is_same_driver a.driver b.driver)
-    ((λ i. is_same_wire (ga.1 i) (Bg (grant_level a.wire))) ∙ same_level (grant_level a.wire))
-    ((λ i. is_same_driver (ga.0 i) (gb.0 i))) in
-    let low : drive (a ∷ h) b.driver (Bg (grant_level a.wire)) ≡ true =
-    ap (λ t. if t then a.fall else drive h b.driver (Bg (grant_level a.wire))) own ∙ and_left a.fall (is_grant_wire a.wire) is_a in
-    let bad : not true ≡ true = ap not (sym low) ∙ off in cc
-  where
-    same_level : (n : ℕ) → (n == n) ≡ true
-    same_level n = grind (arith, nat_tests)
-
--- a board that takes the bus does not begin a cycle at once
-strobed_address : (h : List Edge) → KeepsItsAddress h → (d : Driver) → has_wire d AddressStrobe ≡ true → drive h d Addr ≡ true → drive h d Bbsy ≡ false → drive h d AddressStrobe ≡ true
+strobed_address : (h : List Edge) → KeepsItsAddress h → (d : Driver) → has_wire d AddressStrobe ≡ true
+    → drive h d Addr ≡ true → drive h d Bbsy ≡ false → drive h d AddressStrobe ≡ true
 strobed_address h keeps Controller has on free = absurd (cc)
 strobed_address h keeps (Slot s) has on free = keeps s on free
 
-no_cycle : (version : Version) (p : Plan) (h : List Edge) (a b : Edge) → AreAllowed version p h a b → (d : Driver) → is_fall_of d Bbsy a ≡ true → is_fall_of d AddressStrobe b ≡ true → ⊥
-no_cycle version p h a b k d is_a is_b =
-    let on_b = edge_of d AddressStrobe b is_b in
-    let free : drive h d Bbsy ≡ false = before version p h d Bbsy a k.first (edge_of d Bbsy a is_a) ∙ ap not (falls d Bbsy a is_a) in
-    let high : drive h d AddressStrobe ≡ false = before version p h d AddressStrobe b k.second_alone on_b ∙ ap not (falls d AddressStrobe b is_b) in
-    let on : drive h d Addr ≡ true = and_left _ _ (fall_ruled version p h d AddressStrobe b k.second_alone is_b) in
-    let keeps = whole KeepsItsAddress h (legal_is_orderly version p h k.accepted k.legal).keeps_address in
-    let low = strobed_address h keeps d (has version p h d AddressStrobe b k.second_alone (driver_of d AddressStrobe b on_b) (wire_of d AddressStrobe b on_b)) on free in
-    let bad : false ≡ true = sym high ∙ low in cc
+module _ (version : Version) (p : Plan) (h : List Edge) (a b : Edge) (k : AreAllowed version p h a b) where
+  -- they are edges of two wires
+  pub apart : (d : Driver) (w : Wire) → is_edge_of d w a ≡ true → is_edge_of d w b ≡ true → ⊥
+  apart d w is_a is_b =
+      let x = before version p h d w a k.first is_a in
+      let y = before version p h d w b k.second_alone is_b in
+      let z = before version p (a ∷ h) d w b k.second is_b in
+      let after : a.fall ≡ not b.fall = sym (ap (λ t. if t then a.fall else drive h d w) is_a) ∙ z in
+      opposite a.fall b.fall after (sym x ∙ y)
 
--- a board does not strobe data while it begins a cycle
-no_strobe : (version : Version) (p : Plan) (h : List Edge) (a b : Edge) → AreAllowed version p h a b → (d : Driver) → is_fall_of d AddressStrobe a ≡ true → is_fall_of d DataStrobe b ≡ true → ⊥
-no_strobe version p h a b k d is_a is_b =
-    let high : drive h d AddressStrobe ≡ false = before version p h d AddressStrobe a k.first (edge_of d AddressStrobe a is_a) ∙ ap not (falls d AddressStrobe a is_a) in
-    let low : drive h d AddressStrobe ≡ true = and_left _ _ (and_left _ _ (and_left _ _ (and_left _ _ (fall_ruled version p h d DataStrobe b k.second_alone is_b)))) in
-    let bad : false ≡ true = sym high ∙ low in cc
+  -- they are not two grants
+  one_grants : is_grant a ≡ true → is_grant b ≡ true → ⊥
+  one_grants is_a is_b =
+      let pa = all_passed version p h a.driver a.wire a.fall a.value k.first in
+      let pb = all_passed version p (a ∷ h) b.driver b.wire b.fall b.value k.second in
+      let ga = grant_number a.driver a.wire (and_right a.fall (is_grant_wire a.wire) is_a) pa.wire in
+      let gb = grant_number b.driver b.wire (and_right b.fall (is_grant_wire b.wire) is_b) pb.wire in
+      let high = grants_high version (readings p (a ∷ h) b.driver) b.wire b.fall b.value is_b pb.rule in
+      let off = each_high (λ n. drive (a ∷ h) b.driver (Bg n)) high (grant_level a.wire) ga.2 in
+      let own : is_edge_of b.driver (Bg (grant_level a.wire)) a ≡ true =
+      both (is_same_wire a.wire (Bg (grant_level a.wire))) (is_same_driver a.driver b.driver)
+      ((λ i. is_same_wire (ga.1 i) (Bg (grant_level a.wire))) ∙ same_self (Slot (grant_level a.wire)))
+      ((λ i. is_same_driver (ga.0 i) (gb.0 i))) in
+      let low : drive (a ∷ h) b.driver (Bg (grant_level a.wire)) ≡ true =
+      ap (λ t. if t then a.fall else drive h b.driver (Bg (grant_level a.wire))) own ∙ and_left a.fall (is_grant_wire a.wire) is_a in
+      let bad : not true ≡ true = ap not (sym low) ∙ off in cc
 
--- beside an answer no address changes
-pub address_stays : (version : Version) (p : Plan) (h : List Edge) (a b : Edge) → AreAllowed version p h a b → is_fall_on Dtack a ≡ true → is_same_wire b.wire Addr ≡ false
-address_stays version p h a b k answers = is_false (is_same_wire b.wire Addr) (λ on. by_way on b.fall refl)
-  where
-    wire : a.wire ≡ Dtack
-    wire = same_wire a.wire Dtack (and_right a.fall (is_same_wire a.wire Dtack) answers)
+  -- a board that takes the bus does not begin a cycle at once
+  no_cycle : (d : Driver) → is_fall_of d Bbsy a ≡ true → is_fall_of d AddressStrobe b ≡ true → ⊥
+  no_cycle d is_a is_b =
+      let on_b = edge_of d AddressStrobe b is_b in
+      let free : drive h d Bbsy ≡ false = before version p h d Bbsy a k.first (edge_of d Bbsy a is_a) ∙ ap not (falls d Bbsy a is_a) in
+      let high : drive h d AddressStrobe ≡ false = before version p h d AddressStrobe b k.second_alone on_b ∙ ap not (falls d AddressStrobe b is_b) in
+      let on : drive h d Addr ≡ true = and_left _ _ (fall_ruled version p h d AddressStrobe b k.second_alone is_b) in
+      let keeps = whole KeepsItsAddress h (legal_is_orderly version p h k.accepted k.legal).keeps_address in
+      let low = strobed_address h keeps d (has version p h d AddressStrobe b k.second_alone (driver_of d AddressStrobe b on_b) (wire_of d AddressStrobe b on_b)) on free in
+      let bad : false ≡ true = sym high ∙ low in cc
 
-    way : a.fall ≡ true
-    way = and_left a.fall (is_same_wire a.wire Dtack) answers
+  -- a board does not strobe data while it begins a cycle
+  no_strobe : (d : Driver) → is_fall_of d AddressStrobe a ≡ true → is_fall_of d DataStrobe b ≡ true → ⊥
+  no_strobe d is_a is_b =
+      let high : drive h d AddressStrobe ≡ false = before version p h d AddressStrobe a k.first (edge_of d AddressStrobe a is_a) ∙ ap not (falls d AddressStrobe a is_a) in
+      let low : drive h d AddressStrobe ≡ true = and_left _ _ (and_left _ _ (and_left _ _ (and_left _ _ (fall_ruled version p h d DataStrobe b k.second_alone is_b)))) in
+      let bad : false ≡ true = sym high ∙ low in cc
 
-    by_way : is_same_wire b.wire Addr ≡ true → (fall : Bool) → b.fall ≡ fall → ⊥
-    by_way on true falls =
-        let reads = readings p h b.driver in
-        let low = and_right (line p h DataStrobe) (line p h AddressStrobe) (and_left (line p h DataStrobe && line p h AddressStrobe) (holds (answer_guard (readings p h a.driver) (shown p h))) (ruled version p h a.driver Dtack true a k.first refl wire way)) in
-        let begins = and_left (drive h b.driver Bbsy && not (line p h AddressStrobe)) (holds (burst_guard reads))
-        (and_left ((drive h b.driver Bbsy && not (line p h AddressStrobe)) && holds (burst_guard reads)) (holds (show_guard reads b.value)) (ruled version p h b.driver Addr true b k.second_alone refl (same_wire b.wire Addr on) falls)) in
-        let high = and_right (drive h b.driver Bbsy) (not (line p h AddressStrobe)) begins in
-        let bad : not true ≡ true = ap not (sym low) ∙ high in cc
-    by_way on false rises =
-        let ended : b.value ≡ None = no_value b.value ((λ i. has_value (sym (same_wire b.wire Addr on) i) (sym rises i) b.value) ∙ valued version p h b k.second_alone) in
-        let nothing : shown p (b ∷ h) ≡ None = shown_by version p h b k.accepted k.legal k.second_alone on ∙ ended in
-        let answered = and_right (line p (b ∷ h) DataStrobe && line p (b ∷ h) AddressStrobe) (holds (answer_guard (readings p (b ∷ h) a.driver) (shown p (b ∷ h)))) (ruled version p (b ∷ h) a.driver Dtack true a k.first_behind refl wire way) in
-        let none = none_answers (readings p (b ∷ h) a.driver) (shown p (b ∷ h)) nothing in
-        let bad : false ≡ true = sym none ∙ answered in cc
+  -- beside an answer no address changes
+  pub address_stays : is_fall_on Dtack a ≡ true → is_same_wire b.wire Addr ≡ false
+  address_stays answers = is_false (is_same_wire b.wire Addr) (λ on. by_way on b.fall refl)
+    where
+      wire : a.wire ≡ Dtack
+      wire = same_wire a.wire Dtack (and_right a.fall (is_same_wire a.wire Dtack) answers)
+
+      way : a.fall ≡ true
+      way = and_left a.fall (is_same_wire a.wire Dtack) answers
+
+      by_way : is_same_wire b.wire Addr ≡ true → (fall : Bool) → b.fall ≡ fall → ⊥
+      by_way on true falls =
+          let reads = readings p h b.driver in
+          let low = and_right (line p h DataStrobe) (line p h AddressStrobe) (and_left _ _ (ruled version p h a.driver Dtack true a k.first refl wire way)) in
+          let begins = and_left (drive h b.driver Bbsy && not (line p h AddressStrobe)) (holds (burst_guard reads))
+          (and_left _ _ (ruled version p h b.driver Addr true b k.second_alone refl (same_wire b.wire Addr on) falls)) in
+          let high = and_right (drive h b.driver Bbsy) (not (line p h AddressStrobe)) begins in
+          let bad : not true ≡ true = ap not (sym low) ∙ high in cc
+      by_way on false rises =
+          let ended : b.value ≡ None = no_value b.value ((λ i. has_value (sym (same_wire b.wire Addr on) i) (sym rises i) b.value) ∙ valued version p h b k.second_alone) in
+          let nothing : shown p (b ∷ h) ≡ None = shown_by version p h b k.accepted k.legal k.second_alone on ∙ ended in
+          let answered = and_right _ (holds (answer_guard (readings p (b ∷ h) a.driver) (shown p (b ∷ h)))) (ruled version p (b ∷ h) a.driver Dtack true a k.first_behind refl wire way) in
+          let none = none_answers (readings p (b ∷ h) a.driver) (shown p (b ∷ h)) nothing in
+          let bad : false ≡ true = sym none ∙ answered in cc
 
 -- what both orders leave the same, whatever the two edges are
 module _ (version : Version) (p : Plan) (h : List Edge) (a b : Edge) (k : AreAllowed version p h a b) where
@@ -266,10 +250,10 @@ module _ (version : Version) (p : Plan) (h : List Edge) (a b : Edge) (k : AreAll
   same_level = swap_if (is_grant a) (is_grant b) (one_grants version p h a b k) (grant_level a.wire) (grant_level b.wire) (last_level h)
 
   pub same_cycles : (d : Driver) → cycles (b ∷ a ∷ h) d ≡ cycles (a ∷ b ∷ h) d
-  same_cycles d = swap_counts (is_fall_of d Bbsy a) (is_fall_of d AddressStrobe a) (is_fall_of d Bbsy b) (is_fall_of d AddressStrobe b) (no_cycle version p h a b k d) (no_cycle version p h b a (turned version p h a b k) d) (cycles h d)
+  same_cycles d = swap_counts _ _ _ _ (no_cycle version p h a b k d) (no_cycle version p h b a (turned version p h a b k) d) (cycles h d)
 
   pub same_strobed : (d : Driver) → has_strobed (b ∷ a ∷ h) d ≡ has_strobed (a ∷ b ∷ h) d
-  same_strobed d = swap_since (is_fall_of d AddressStrobe a) (is_fall_of d DataStrobe a) (is_fall_of d AddressStrobe b) (is_fall_of d DataStrobe b) (no_strobe version p h a b k d) (no_strobe version p h b a (turned version p h a b k) d) (has_strobed h d)
+  same_strobed d = swap_since _ _ _ _ (no_strobe version p h a b k d) (no_strobe version p h b a (turned version p h a b k) d) (has_strobed h d)
 
   -- one of the two at most is an answer
   answers_low : (g : List Edge) (d : Driver) → has_wire d Dtack ≡ true → drive g d Dtack ≡ true → Answers g d

@@ -27,12 +27,8 @@ use Rattle.vme_swaps.specs.Alike.{StandAlike}
 use Rattle.vme_swaps.specs.declared.swaps.StepBack.TheVariants.{Passes, Races}
 use Rattle.vme_swaps.specs.Swaps.{IsFree, StepsBack}
 use Rattle.vme_swaps.specs.Served.{is_serving, serves_request}
-use Rattle.vme_swaps.proofs.Alike.{shown_kept, addressing_kept, alike_sym}
+use Rattle.vme_swaps.proofs.Alike.{served_on, served_by, shown_kept, addressing_kept, alike_sym}
 use Rattle.vme_swaps.proofs.Apart.{AreAllowed, turned, both, same_self, edge_of, driver_of, falls, swap_since, address_stays, same_low, same_shown, same_level, same_cycles, same_strobed}
-
--- whether a board's interrupter was served, by its row
-abbrev served_by : Plan → List Edge → Driver → Option Row → Bool
-served_by p h d o = option_map_or (λ r. option_map_or (λ i. served_since_request p h d i.kind) r.interrupter false) o false
 
 fall_on : (d : Driver) (w : Wire) (e : Edge) → is_fall_of d w e ≡ true → is_fall_on w e ≡ true
 fall_on d w e is = both e.fall (is_same_wire e.wire w) (falls d w e is) (and_left (is_same_wire e.wire w) (is_same_driver e.driver d) (edge_of d w e is))
@@ -52,7 +48,8 @@ delivery_beside version p h a b k = by_test (is_fall_on Dtack a) refl
         λ i. delivered_by (shown_kept p h b off i) (addressing_kept p h b off i) (board_of p a.driver)
     by_test false is = refl
 
-serves_beside : (version : Version) (p : Plan) (h : List Edge) (a b : Edge) → AreAllowed version p h a b → (d : Driver) (kind : IrqKind) → (is_fall_of d Dtack a && serves kind (shown p (b ∷ h))) ≡ (is_fall_of d Dtack a && serves kind (shown p h))
+serves_beside : (version : Version) (p : Plan) (h : List Edge) (a b : Edge) → AreAllowed version p h a b → (d : Driver) (kind : IrqKind)
+    → (is_fall_of d Dtack a && serves kind (shown p (b ∷ h))) ≡ (is_fall_of d Dtack a && serves kind (shown p h))
 serves_beside version p h a b k d kind = by_test (is_fall_of d Dtack a) refl
   where
     by_test : (t : Bool) → is_fall_of d Dtack a ≡ t → (t && serves kind (shown p (b ∷ h))) ≡ (t && serves kind (shown p h))
@@ -63,15 +60,19 @@ serves_beside version p h a b k d kind = by_test (is_fall_of d Dtack a) refl
 abbrev IsUnserved : Plan → List Edge → Driver → Edge → Edge → Bool → Type 0
 IsUnserved p h d request answer serves = is_fall_of d Irq request ≡ true → is_fall_of d Dtack answer ≡ true → serves ≡ true → ⊥
 
-unserved : (p : Plan) (h : List Edge) (request answer : Edge) → (serves_request p h answer request ≡ true → ⊥) → (d : Driver) → IsUnserved p h d request answer (is_serving (board_of p d) (shown p h))
+unserved : (p : Plan) (h : List Edge) (request answer : Edge) → (serves_request p h answer request ≡ true → ⊥) → (d : Driver)
+    → IsUnserved p h d request answer (is_serving (board_of p d) (shown p h))
 unserved p h request answer none d is_request is_answer serving =
     let at = driver_of d Dtack answer (edge_of d Dtack answer is_answer) in
     none (both _ _ (fall_on d Dtack answer is_answer)
     (both _ _ ((λ i. is_fall_of (at i) Irq request) ∙ is_request) ((λ i. is_serving (board_of p (at i)) (shown p h)) ∙ serving)))
 
 module _ (version : Version) (p : Plan) (h : List Edge) (a b : Edge) (k : AreAllowed version p h a b) where
-  served_same : (d : Driver) (kind : IrqKind) → IsUnserved p h d a b (serves kind (shown p h)) → IsUnserved p h d b a (serves kind (shown p h)) → served_since_request p (b ∷ a ∷ h) d kind ≡ served_since_request p (a ∷ b ∷ h) d kind
-  served_same d kind x y =
+  abbrev AreUnserved : Driver → Bool → Type 0
+  AreUnserved d serves = IsUnserved p h d a b serves × IsUnserved p h d b a serves
+
+  served_same : (d : Driver) (kind : IrqKind) → AreUnserved d (serves kind (shown p h)) → served_since_request p (b ∷ a ∷ h) d kind ≡ served_since_request p (a ∷ b ∷ h) d kind
+  served_same d kind (x, y) =
       let of_a = serves_beside version p h a b k d kind in
       let of_b = serves_beside version p h b a (turned version p h a b k) d kind in
       let serve = serves kind (shown p h) in
@@ -86,14 +87,13 @@ module _ (version : Version) (p : Plan) (h : List Edge) (a b : Edge) (k : AreAll
       (served_since_request p h d kind)
       ∙ sym right
 
-  served_at : (d : Driver) (o : Option Row) → IsUnserved p h d a b (is_serving o (shown p h)) → IsUnserved p h d b a (is_serving o (shown p h)) → served_by p (b ∷ a ∷ h) d o ≡ served_by p (a ∷ b ∷ h) d o
-  served_at d None x y = refl
-  served_at d (Some r) x y = by_interrupter r.interrupter x y
+  served_at : (d : Driver) (o : Option Row) → AreUnserved d (is_serving o (shown p h)) → served_by p (b ∷ a ∷ h) d o ≡ served_by p (a ∷ b ∷ h) d o
+  served_at d None un = refl
+  served_at d (Some r) un = by_interrupter r.interrupter un
     where
-      by_interrupter : (o : Option InterrupterRow) → IsUnserved p h d a b (option_map_or (λ i. serves i.kind (shown p h)) o false) → IsUnserved p h d b a (option_map_or (λ i. serves i.kind (shown p h)) o false) →
-          option_map_or (λ i. served_since_request p (b ∷ a ∷ h) d i.kind) o false ≡ option_map_or (λ i. served_since_request p (a ∷ b ∷ h) d i.kind) o false
-      by_interrupter None x y = refl
-      by_interrupter (Some i) x y = served_same d i.kind x y
+      by_interrupter : (o : Option InterrupterRow) → AreUnserved d (option_map_or (λ i. serves i.kind (shown p h)) o false) → served_on p (b ∷ a ∷ h) d o ≡ served_on p (a ∷ b ∷ h) d o
+      by_interrupter None un = refl
+      by_interrupter (Some i) un = served_same d i.kind un
 
   pub free_unless : (serves_request p h a b ≡ true → ⊥) → (serves_request p h b a ≡ true → ⊥) → IsFree version p h a b
   free_unless none also = record {
@@ -107,7 +107,7 @@ module _ (version : Version) (p : Plan) (h : List Edge) (a b : Edge) (k : AreAll
       last_level = same_level version p h a b k;
       cycles = same_cycles version p h a b k;
       strobed = same_strobed version p h a b k;
-      served = λ d. served_at d (board_of p d) (unserved p h a b also d) (unserved p h b a none d);
+      served = λ d. served_at d (board_of p d) (unserved p h a b also d, unserved p h b a none d);
     };
   }
 
@@ -116,10 +116,10 @@ module _ (version : Version) (p : Plan) (h : List Edge) (a b : Edge) (k : AreAll
   unlike is alike = at_board (board_of p a.driver) (and_right _ _ (and_right _ _ is)) (alike.served a.driver)
     where
       answers : is_fall_on Dtack a ≡ true
-      answers = and_left (is_fall_on Dtack a) (is_fall_of a.driver Irq b && is_serving (board_of p a.driver) (shown p h)) is
+      answers = and_left (is_fall_on Dtack a) _ is
 
       requests : is_fall_of a.driver Irq b ≡ true
-      requests = and_left (is_fall_of a.driver Irq b) (is_serving (board_of p a.driver) (shown p h)) (and_right (is_fall_on Dtack a) (is_fall_of a.driver Irq b && is_serving (board_of p a.driver) (shown p h)) is)
+      requests = and_left (is_fall_of a.driver Irq b) (is_serving (board_of p a.driver) (shown p h)) (and_right (is_fall_on Dtack a) _ is)
 
       way : a.fall ≡ true
       way = and_left a.fall (is_same_wire a.wire Dtack) answers
@@ -144,8 +144,8 @@ module _ (version : Version) (p : Plan) (h : List Edge) (a b : Edge) (k : AreAll
       at_board None serving same = cc
       at_board (Some r) serving same = by_interrupter r.interrupter serving same
         where
-          by_interrupter : (o : Option InterrupterRow) → option_map_or (λ i. serves i.kind (shown p h)) o false ≡ true →
-              option_map_or (λ i. served_since_request p (b ∷ a ∷ h) a.driver i.kind) o false ≡ option_map_or (λ i. served_since_request p (a ∷ b ∷ h) a.driver i.kind) o false → ⊥
+          by_interrupter : (o : Option InterrupterRow) → option_map_or (λ i. serves i.kind (shown p h)) o false ≡ true
+              → served_on p (b ∷ a ∷ h) a.driver o ≡ served_on p (a ∷ b ∷ h) a.driver o → ⊥
           by_interrupter None serving same = cc
           by_interrupter (Some i) serving same = by_kind i.kind serving same
 
@@ -170,7 +170,8 @@ allowed version p h a b accepted legal swapped = record {
 }
 
 -- the decision
-pub decided : (version : Version) (p : Plan) (h : List Edge) (a b : Edge) (s : Bool) → IsAccepted p → IsLegal version p (b ∷ a ∷ h) → IsLegal version p (a ∷ b ∷ h) → s ≡ (serves_request p h a b || serves_request p h b a) → IsTrue (not s) ↔ IsFree version p h a b
+pub decided : (version : Version) (p : Plan) (h : List Edge) (a b : Edge) (s : Bool) → IsAccepted p → IsLegal version p (b ∷ a ∷ h) → IsLegal version p (a ∷ b ∷ h)
+    → s ≡ (serves_request p h a b || serves_request p h b a) → IsTrue (not s) ↔ IsFree version p h a b
 decided version p h a b s accepted legal swapped is = (forth s is, back s is)
   where
     k : AreAllowed version p h a b
@@ -197,7 +198,8 @@ decided version p h a b s accepted legal swapped is = (forth s is, back s is)
         (λ y. unlike version p h b a (turned version p h a b k) y (alike_sym p (b ∷ a ∷ h) (a ∷ b ∷ h) f.alike)))
 
 -- two orders that are both legal lead to the same, exactly if no answer serves the request
-pub differs : (version : Version) (p : Plan) (h : List Edge) (a b : Edge) → IsAccepted p → IsLegal version p (b ∷ a ∷ h) → IsLegal version p (a ∷ b ∷ h) → IsFree version p h a b ↔ ((serves_request p h a b || serves_request p h b a) ≡ false)
+pub differs : (version : Version) (p : Plan) (h : List Edge) (a b : Edge) → IsAccepted p → IsLegal version p (b ∷ a ∷ h) → IsLegal version p (a ∷ b ∷ h)
+    → IsFree version p h a b ↔ ((serves_request p h a b || serves_request p h b a) ≡ false)
 differs version p h a b accepted legal swapped =
     let s = serves_request p h a b || serves_request p h b a in
     let d = decided version p h a b s accepted legal swapped refl in

@@ -7,5 +7,5 @@ returns-in_err-put-clause-front g c =
 
 pub returns-clause-front : goal.returns-clause-front
 returns-clause-front g c =
-    on_err_map c.put-2.result _ _ (second_front (g.W.Write.contents c.args.out.now) (g.W.Write.contents c.put.new.out) (g.W.Write.contents c.put-2.new.out) c.args.first.now.items c.args.second.now.items (rw (c.as_slice.ensures.value) at c.in_ok-put.ensures.ok))
+    on_err_map c.put-2.result _ _ (second_front _ (g.W.Write.contents c.put.new.out) _ c.args.first.now.items c.args.second.now.items (rw (c.as_slice.ensures.value) at c.in_ok-put.ensures.ok))
     (rw (c.as_slice-2.ensures.value) at c.put-2.ensures.front)

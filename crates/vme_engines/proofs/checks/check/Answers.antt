@@ -6,9 +6,8 @@ use Rattle.vme_engines.proofs.checks.check.Goals as goal
 pub returns-in_err-finding : goal.returns-in_err-finding
 returns-in_err-finding g c =
     let e = err_from_is_err_and c.from_residual.result c.from_residual.ensures.1 in
-    rw (e.1, e.2)
-    (check_unfound c.args.scenario.now (g.R.Read.remaining c.args.trace.now) (g.R.Read.remaining c.finding_of.new.trace) (g.W.Write.contents c.args.out.now) (g.W.Write.contents c.args.out.now) c.in_err-finding.field-0.0 (Keeps-refl _) c.in_err-finding.ensures)
+    rw (e.1, e.2) (check_unfound _ _ _ _ _ _ (Keeps-refl _) c.in_err-finding.ensures)
 
 pub returns-in-Ok : goal.returns-in-Ok
 returns-in-Ok g c =
-    check_done c.args.scenario.now (g.R.Read.remaining c.args.trace.now) (g.R.Read.remaining c.finding_of.new.trace) (g.W.Write.contents c.args.out.now) (g.W.Write.contents c.report.new.out) c.in_ok-finding.finding _ c.in_ok-finding.ensures c.in-Ok.ensures.status c.in-Ok.ensures.ok
+    check_done _ _ _ _ _ _ _ c.in_ok-finding.ensures c.in-Ok.ensures.status c.in-Ok.ensures.ok

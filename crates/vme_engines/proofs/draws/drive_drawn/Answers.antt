@@ -3,8 +3,8 @@ use Rattle.vme_engines.proofs.draws.drive_drawn.Goals as goal
 
 pub returns-clause-outcome : goal.returns-clause-outcome
 returns-clause-outcome g c =
-    drawn_lent c.args.scenario.now c.in_ok-plan.plan c.in_ok-plan.ensures.ok.0 c.in_ok-plan.ensures.ok.1 c.args.version c.args.edges (g.W.Write.contents c.args.out.now) (g.W.Write.contents c.draw_on.new.out) c.args.seed c.args.until c.draw_on.result c.draw_on.ensures.outcome
+    drawn_lent _ _ c.in_ok-plan.ensures.ok.0 c.in_ok-plan.ensures.ok.1 _ c.args.edges _ _ c.args.seed c.args.until _ c.draw_on.ensures.outcome
 
 pub returns-clause-safe : goal.returns-clause-safe
 returns-clause-safe g c =
-    drawn_safely c.args.scenario.now c.in_ok-plan.plan c.in_ok-plan.ensures.ok.0 c.in_ok-plan.ensures.ok.1 c.args.version c.args.edges (g.W.Write.contents c.args.out.now) (g.W.Write.contents c.draw_on.new.out) c.args.seed c.args.until c.draw_on.result c.draw_on.ensures.safe
+    drawn_safely _ _ c.in_ok-plan.ensures.ok.0 c.in_ok-plan.ensures.ok.1 c.args.version c.args.edges (g.W.Write.contents c.args.out.now) (g.W.Write.contents c.draw_on.new.out) c.args.seed c.args.until _ c.draw_on.ensures.safe

@@ -46,7 +46,7 @@ loop-made-preserved g c =
       rest =
           c.loop-made.invariant.rest ∙ ap (λ n. walked n c.loop-made.walk) one_less
           ∙ walk_goes_on more c.loop-made.walk c.draw.new.self c.draw.ensures.state c.in-Some.edge c.make.new.self (sym c.in-Some.is ∙ c.draw.ensures.edge) c.make.ensures;
-      listed = λ first listed. edge_listed c.loop-made.walk.state c.make.new.self.state c.in-Some.edge _ _ _ _ is c.in_ok-put_line-in-Some.ensures.ok first (c.loop-made.invariant.listed first listed);
+      listed = λ first listed. edge_listed _ _ _ _ _ _ _ is c.in_ok-put_line-in-Some.ensures.ok first (c.loop-made.invariant.listed first listed);
     }
 
 pub returns : goal.returns

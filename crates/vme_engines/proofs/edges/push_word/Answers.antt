@@ -7,7 +7,7 @@ use Rattle.vme_engines.proofs.edges.push_word.Goals as goal
 
 pub append-requires-clause-many : goal.append-requires-clause-many
 append-requires-clause-many c =
-    let fits : c.from.result ≤ 8 = subst (λ n. n ≤ 8) (sym (c.from.ensures ∙ ap (λ k. get_or SIZES k 0) c.move_place-place.ensures.place)) (size_fits c.args.wire c.args.fall c.requires.word) in
+    let fits : c.from.result ≤ 8 = subst (λ n. n ≤ 8) (sym (c.from.ensures ∙ ap (λ k. get_or SIZES k 0) c.move_place-place.ensures.place)) (size_fits _ _ c.requires.word) in
     omega arith
 
 text_is : goal.returns-clause-text

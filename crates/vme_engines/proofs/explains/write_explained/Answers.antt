@@ -20,17 +20,17 @@ status_by b e r ok is h = ap (λ t. if t then Done else SomeRefused) (sym h ∙ 
 
 pub returns-in_err-write_why-clause-front : goal.returns-in_err-write_why-clause-front
 returns-in_err-write_why-clause-front g c =
-    on_err c.from_residual.result _ (of_after c.args.following.now (λ n b k. why_text (n + 1) b k c.args.found.now.edge) (AppendsFront (g.W.Write.contents c.args.out.now) (g.W.Write.contents c.write_why.new.out)) c.in_err-write_why.ensures.front)
+    on_err _ _ (of_after _ (λ n b k. why_text (n + 1) b k c.args.found.now.edge) (AppendsFront _ _) c.in_err-write_why.ensures.front)
 
 pub returns-in_err-flush-clause-front : goal.returns-in_err-flush-clause-front
 returns-in_err-flush-clause-front g c =
     on_err c.from_residual-in_err-flush.result _ (λ p v es is. front_kept _ _ _ _ (of_after c.args.following.now (λ n b k. why_text (n + 1) b k c.args.found.now.edge) (Appends (g.W.Write.contents c.args.out.now) (g.W.Write.contents c.write_why.new.out)) c.in_ok-write_why.ensures.ok p v es is) c.flush.ensures.kept)
 
 pub returns-in-Ok-clause-ok : goal.returns-in-Ok-clause-ok
-returns-in-Ok-clause-ok g c = λ p v es is. Appends-kept _ _ _ _ (of_after c.args.following.now (λ n b k. why_text (n + 1) b k c.args.found.now.edge) (Appends (g.W.Write.contents c.args.out.now) (g.W.Write.contents c.write_why.new.out)) c.in_ok-write_why.ensures.ok p v es is) c.flush.ensures.kept
+returns-in-Ok-clause-ok g c = λ p v es is. Appends-kept _ _ _ _ (of_after _ (λ n b k. why_text (n + 1) b k c.args.found.now.edge) (Appends _ _) c.in_ok-write_why.ensures.ok p v es is) c.flush.ensures.kept
 
 pub returns-in-Err-clause-ok : goal.returns-in-Err-clause-ok
-returns-in-Err-clause-ok g c = λ p v es is. Appends-kept _ _ _ _ (of_after c.args.following.now (λ n b k. why_text (n + 1) b k c.args.found.now.edge) (Appends (g.W.Write.contents c.args.out.now) (g.W.Write.contents c.write_why.new.out)) c.in_ok-write_why.ensures.ok p v es is) c.flush.ensures.kept
+returns-in-Err-clause-ok g c = λ p v es is. Appends-kept _ _ _ _ (of_after _ (λ n b k. why_text (n + 1) b k c.args.found.now.edge) (Appends _ _) c.in_ok-write_why.ensures.ok p v es is) c.flush.ensures.kept
 
 pub returns-in-Ok-clause-status : goal.returns-in-Ok-clause-status
 returns-in-Ok-clause-status g c = status_by c.args.following.now.bus c.args.found.now.edge c.args.found.now.answer true c.requires.answered (ap is_ok c.in-Ok.is)

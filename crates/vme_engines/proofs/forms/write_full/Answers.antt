@@ -27,7 +27,7 @@ loop-edge-preserved g c =
     let more : suc i ≡ i + 1 = omega arith in
     let next : drop i es ≡ e ∷ behind = drop-cons es i some_edge c.loop-edge-test.true ∙ ap (λ k. e ∷ drop k es) more in
     let put =
-    lines_put (g.W.Write.contents c.args.out.now) (g.W.Write.contents c.loop-edge.out) (full_lines c.args.bus.now (c.args.judged + 1) es) c.loop-edge.text (full_lines c.loop-edge.bus n (drop i es)) (edge_verdict n c.loop-edge.bus e)
+    lines_put _ _ (full_lines _ (c.args.judged + 1) es) _ (full_lines _ n (drop i es)) (edge_verdict n c.loop-edge.bus e)
     (full_lines c.write_full_line.new.bus (n + 1) behind) (c.loop-edge.text ++ edge_verdict n c.loop-edge.bus e) c.loop-edge.invariant.run
     (full_next c.loop-edge.bus c.write_full_line.new.bus n (drop i es) behind e next c.in_ok-write_full_line.ensures.state) refl in
     record {

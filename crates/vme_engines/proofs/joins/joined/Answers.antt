@@ -38,7 +38,7 @@ pub returns-in-Ok-Some : goal.returns-in-Ok-Some
 returns-in-Ok-Some g c =
     let at = c.reads.invariant.front in
     let piece = take c.in-Ok.count c.read_piece.new.buffer in
-    let found = found_at at.bytes piece c.find.new.self c.find.result c.in-Ok-Some.found (c.find.ensures at.bytes at.front) (c.in-Ok-Some.is ∙ ap (λ (o : Option Found). Ok o) c.in-Ok-Some.field-0-is) in
+    let found = found_at at.bytes piece _ _ _ (c.find.ensures at.bytes at.front) (c.in-Ok-Some.is ∙ ap (λ (o : Option Found). Ok o) c.in-Ok-Some.field-0-is) in
     joins_found _ _ _ _ _ at.bytes piece c.in-Ok-Some.found.taken c.find.new.self c.in-Ok-Some.found.version c.replay_behind.result at.taken c.in-Ok.ensures.ok.1 found.1 _
     (rw (c.behind-rest.ensures.rest, c.reads.invariant.out) at c.replay_behind.ensures)
 

@@ -24,5 +24,5 @@ returns g c =
     let ran = c.read_on.ensures Short c.args.plan v (c.begin-replay.ensures.stands c.args.plan v _ c.new.ensures) mid.0 head c.start-first.ensures.version came in (
       ran.0,
       input_of from mid.0 before (head ++ ran.0) mid.1 ran.1,
-      replays_behind Short c.args.plan before (head ++ ran.0) from mid.0 (g.R.Read.remaining c.read_on.new.input) (g.W.Write.contents c.args.out.now) (g.W.Write.contents c.read_on.new.out) mid.1 c.read_on.result ran.2,
+      replays_behind Short _ before (head ++ ran.0) from mid.0 _ _ _ mid.1 _ ran.2,
     )

@@ -5,4 +5,4 @@ use Rattle.vme_engines.proofs.lines.close.Goals as goal
 
 pub returns-clause-front : goal.returns-clause-front
 returns-clause-front g c =
-    on_err c.flush.result _ (front_kept _ _ _ _ (subst (Appends (g.W.Write.contents c.args.out.now) (g.W.Write.contents c.put.new.out)) (c.as_slice.ensures.value ∙ c.closing_line.ensures) c.in_ok-put.ensures.ok) c.flush.ensures.kept)
+    on_err _ _ (front_kept _ _ _ _ (subst (Appends _ _) (c.as_slice.ensures.value ∙ c.closing_line.ensures) c.in_ok-put.ensures.ok) c.flush.ensures.kept)

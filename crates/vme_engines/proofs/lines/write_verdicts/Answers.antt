@@ -19,12 +19,11 @@ returns-in_err-write_lines-clause-front g c =
 
 pub loop-rest-preserved : goal.loop-rest-preserved
 loop-rest-preserved g c =
-    let size : length (take (length c.split_at.result.0.now) c.step_all.new.records) ≡ length c.split_at.result.0.now = length-take-le (length c.split_at.result.0.now) c.step_all.new.records (omega arith) in
+    let size : length (take (length c.split_at.result.0.now) c.step_all.new.records) ≡ length c.split_at.result.0.now = length-take-le (length _) _ (omega arith) in
     let later : c.write_lines.new.count ≡ c.loop-rest.count + length c.split_at.result.0.now = c.in_ok-write_lines.ensures.count ∙ ap (λ n. c.loop-rest.count + n) size in
     let number : c.write_lines.new.count + length c.split_at.result.1.now ≡ c.args.judged + 1 + length c.args.edges.now = omega (arith, later) in
     let put =
-    lines_put _ _ _ _ _ _ _ _ c.loop-rest.invariant.run
-    (lines_of_chunk _ c.step_all.new.self _ c.write_lines.new.count _ c.split_at.result.0.now c.split_at.result.1.now _ c.split_at.ensures.by_index.0 c.step_all.ensures.state later c.step_all.ensures.answers) refl in
+    lines_put _ _ _ _ _ _ _ _ c.loop-rest.invariant.run (lines_of_chunk _ _ _ _ _ _ _ _ c.split_at.ensures.by_index.0 c.step_all.ensures.state later c.step_all.ensures.answers) refl in
     record {
       number = number;
       formed = (formed_both c.split_at.result.0.now c.split_at.result.1.now (subst AreWellFormed c.split_at.ensures.by_index.0 c.loop-rest.invariant.formed)).1;

@@ -11,13 +11,13 @@ pub returns-in_err-answer : goal.returns-in_err-answer
 returns-in_err-answer g c =
     λ task p v begun from head known came_first.
     let e = err_from_is_err_and c.from_residual.result c.from_residual.ensures.1 in
-    let took = took_err (g.J.Judge.stands task p v) (g.J.Judge.leaves task p) v _ _ c.args.first _ _ c.take.new.self c.deref.ensures.value c.in_err-answer.field-0.0 (c.in_err-answer.ensures.takes task p v [] (g.W.Write.contents c.args.out.now) begun) in
+    let took = took_err (g.J.Judge.stands task p v) (g.J.Judge.leaves task p) v _ _ _ _ _ c.take.new.self c.deref.ensures.value _ (c.in_err-answer.ensures.takes task p v [] _ begun) in
     rw (e.1, e.2) (leaves_so v head from _ _ _ c.args.reads c.args.reader.now c.args.edges.now.items known (g.J.Judge.leaves task p) c.args.first (Err c.in_err-answer.field-0.0) came_first took)
 
 pub returns-in-Some : goal.returns-in-Some
 returns-in-Some g c =
     λ task p v begun from head known came_first.
-    let took = took_some (g.J.Judge.stands task p v) (g.J.Judge.leaves task p) v _ _ c.args.first _ _ c.take.new.self c.deref.ensures.value _ c.in-Some.answer c.in-Some.is (c.in_ok-answer.ensures.takes task p v [] (g.W.Write.contents c.args.out.now) begun) in
+    let took = took_some (g.J.Judge.stands task p v) (g.J.Judge.leaves task p) v _ _ _ _ _ _ c.deref.ensures.value _ _ c.in-Some.is (c.in_ok-answer.ensures.takes task p v [] _ begun) in
     leaves_so v head from _ _ _ c.args.reads c.args.reader.now c.args.edges.now.items known (g.J.Judge.leaves task p) c.args.first (Ok c.in-Some.answer) came_first took
 
 pub reads-init : goal.reads-init
@@ -29,7 +29,7 @@ reads-init g c =
     record {
       counted = subst (λ (n : ℕ). IsCounted c.args.reader.now n (g.J.Judge.count c.take.new.self)) all (rw count (c.requires.counted on.0));
       under_way = λ task p v from head begun known came_first.
-          let took = took_none (g.J.Judge.stands task p v) (g.J.Judge.leaves task p) v _ _ c.args.first _ _ c.take.new.self c.deref.ensures.value _ c.in-None.is (c.in_ok-answer.ensures.takes task p v [] (g.W.Write.contents c.args.out.now) begun) in
+          let took = took_none (g.J.Judge.stands task p v) (g.J.Judge.leaves task p) v _ _ _ _ _ _ c.deref.ensures.value _ c.in-None.is (c.in_ok-answer.ensures.takes task p v [] _ begun) in
           subst (IsUnderWay (g.J.Judge.stands task p v) v head from _ _ _ c.take.new.self c.args.reader.now) all
           (under_way v head from _ _ _ c.args.reads c.args.reader.now c.args.edges.now.items known (g.J.Judge.stands task p v) c.args.first c.take.new.self on.0 came_first took);
     }
@@ -43,7 +43,7 @@ take-requires-in-reads g c =
       well_formed = rw c.deref-in-reads.ensures.value
           (let counted = c.reads.invariant.counted in
           let size : length c.reads.buffer ≡ 69632 = omega (arith, c.reads.auto.buffer, c.requires.room) in
-          formed_piece _ _ counted.bytes c.pump_counted-more.new.reader counted.es c.pump_counted-more.new.edges.items c.pump_counted-more.result.0 (rw (c.clear.ensures.items, size) at (c.pump_counted-more.ensures.reads counted.bytes counted.es counted.read)));
+          formed_piece _ _ counted.bytes _ counted.es _ _ (rw (c.clear.ensures.items, size) at (c.pump_counted-more.ensures.reads counted.bytes counted.es counted.read)));
     }
 
 pub returns-in_err-answer-2 : goal.returns-in_err-answer-2
@@ -56,8 +56,8 @@ returns-in_err-answer-2 g c =
     let h = rw (c.clear.ensures.items, size) at (c.pump_counted-more.ensures.reads (head ++ r.reading.later) r.es r.reading.read) in
     let next = came head from _ _ _ _ _ r.es _ r.reading c.pump_counted-more.result.0 h in
     let stays = stays_known head from _ _ _ _ _ r.es _ r.reading v r.known c.pump_counted-more.result.0 h in
-    let took = took_err (g.J.Judge.stands task p v) (g.J.Judge.leaves task p) v _ _ c.pump_counted-more.result.0 _ _ c.take-in-reads.new.self (ap (λ l. r.es ++ l) c.deref-in-reads.ensures.value) c.in_err-answer-2.field-0.0 (c.in_err-answer-2.ensures.takes task p v r.es (g.W.Write.contents c.args.out.now) r.stands_so) in
-    rw (e.1, e.2) (leaves_so v head from _ _ _ (c.args.reads - (c.reads.counter + 1)) c.pump_counted-more.new.reader (r.es ++ c.pump_counted-more.new.edges.items) stays (g.J.Judge.leaves task p) c.pump_counted-more.result.0 (Err c.in_err-answer-2.field-0.0) next took)
+    let took = took_err (g.J.Judge.stands task p v) (g.J.Judge.leaves task p) v _ _ _ _ _ c.take-in-reads.new.self (ap (λ l. r.es ++ l) c.deref-in-reads.ensures.value) _ (c.in_err-answer-2.ensures.takes task p v r.es _ r.stands_so) in
+    rw (e.1, e.2) (leaves_so v head from _ _ _ (c.args.reads - (c.reads.counter + 1)) _ (r.es ++ _) stays (g.J.Judge.leaves task p) _ (Err _) next took)
 
 pub returns-in-Some-2 : goal.returns-in-Some-2
 returns-in-Some-2 g c =
@@ -68,8 +68,8 @@ returns-in-Some-2 g c =
     let h = rw (c.clear.ensures.items, size) at (c.pump_counted-more.ensures.reads (head ++ r.reading.later) r.es r.reading.read) in
     let next = came head from _ _ _ _ _ r.es _ r.reading c.pump_counted-more.result.0 h in
     let stays = stays_known head from _ _ _ _ _ r.es _ r.reading v r.known c.pump_counted-more.result.0 h in
-    let took = took_some (g.J.Judge.stands task p v) (g.J.Judge.leaves task p) v _ _ c.pump_counted-more.result.0 _ _ c.take-in-reads.new.self (ap (λ l. r.es ++ l) c.deref-in-reads.ensures.value) _ c.in-Some-2.answer c.in-Some-2.is (c.in_ok-answer-2.ensures.takes task p v r.es (g.W.Write.contents c.args.out.now) r.stands_so) in
-    leaves_so v head from _ _ _ (c.args.reads - (c.reads.counter + 1)) c.pump_counted-more.new.reader (r.es ++ c.pump_counted-more.new.edges.items) stays (g.J.Judge.leaves task p) c.pump_counted-more.result.0 (Ok c.in-Some-2.answer) next took
+    let took = took_some (g.J.Judge.stands task p v) (g.J.Judge.leaves task p) v _ _ _ _ _ _ (ap (λ l. r.es ++ l) c.deref-in-reads.ensures.value) _ _ c.in-Some-2.is (c.in_ok-answer-2.ensures.takes task p v r.es _ r.stands_so) in
+    leaves_so v head from _ _ _ (c.args.reads - (c.reads.counter + 1)) _ (r.es ++ _) stays (g.J.Judge.leaves task p) _ (Ok _) next took
 
 pub reads-preserved : goal.reads-preserved
 reads-preserved g c =
@@ -86,8 +86,8 @@ reads-preserved g c =
           let h = rw (c.clear.ensures.items, size) at (c.pump_counted-more.ensures.reads (head ++ r.reading.later) r.es r.reading.read) in
           let next = came head from _ _ _ _ _ r.es _ r.reading c.pump_counted-more.result.0 h in
           let stays = stays_known head from _ _ _ _ _ r.es _ r.reading v r.known c.pump_counted-more.result.0 h in
-          let took = took_none (g.J.Judge.stands task p v) (g.J.Judge.leaves task p) v _ _ c.pump_counted-more.result.0 _ _ c.take-in-reads.new.self (ap (λ l. r.es ++ l) c.deref-in-reads.ensures.value) _ c.in-None-2.is (c.in_ok-answer-2.ensures.takes task p v r.es (g.W.Write.contents c.args.out.now) r.stands_so) in
-          under_way v head from _ _ _ (c.args.reads - (c.reads.counter + 1)) c.pump_counted-more.new.reader (r.es ++ c.pump_counted-more.new.edges.items) stays (g.J.Judge.stands task p v) c.pump_counted-more.result.0 c.take-in-reads.new.self on.0 next took;
+          let took = took_none (g.J.Judge.stands task p v) (g.J.Judge.leaves task p) v _ _ _ _ _ _ (ap (λ l. r.es ++ l) c.deref-in-reads.ensures.value) _ c.in-None-2.is (c.in_ok-answer-2.ensures.takes task p v r.es _ r.stands_so) in
+          under_way v head from _ _ _ (c.args.reads - (c.reads.counter + 1)) _ (r.es ++ _) stays (g.J.Judge.stands task p v) _ _ on.0 next took;
     }
 
 pub take-requires-2 : goal.take-requires-2
@@ -100,14 +100,14 @@ returns-in_err-answer-3 g c =
     λ task p v begun from head known came_first.
     let e = err_from_is_err_and c.from_residual-in_err-answer-3.result c.from_residual-in_err-answer-3.ensures.1 in
     let r = c.reads.invariant.under_way task p v from head begun known came_first in
-    let took = took_err (g.J.Judge.stands task p v) (g.J.Judge.leaves task p) v _ _ (Err Read) _ _ c.take-2.new.self (append-nil r.es) c.in_err-answer-3.field-0.0 (c.in_err-answer-3.ensures.takes task p v r.es (g.W.Write.contents c.args.out.now) r.stands_so) in
+    let took = took_err (g.J.Judge.stands task p v) (g.J.Judge.leaves task p) v _ _ (Err Read) _ _ c.take-2.new.self (append-nil r.es) _ (c.in_err-answer-3.ensures.takes task p v r.es _ r.stands_so) in
     rw (e.1, e.2) (leaves_unread v head from _ _ _ (c.args.reads - c.reads.counter) c.reads.reader r.es r.known (g.J.Judge.leaves task p) (Err c.in_err-answer-3.field-0.0) r.reading took)
 
 pub returns-in-Some-3 : goal.returns-in-Some-3
 returns-in-Some-3 g c =
     λ task p v begun from head known came_first.
     let r = c.reads.invariant.under_way task p v from head begun known came_first in
-    let took = took_some (g.J.Judge.stands task p v) (g.J.Judge.leaves task p) v _ _ (Err Read) _ _ c.take-2.new.self (append-nil r.es) _ c.in-Some-3.answer c.in-Some-3.is (c.in_ok-answer-3.ensures.takes task p v r.es (g.W.Write.contents c.args.out.now) r.stands_so) in
+    let took = took_some (g.J.Judge.stands task p v) (g.J.Judge.leaves task p) v _ _ (Err Read) _ _ _ (append-nil r.es) _ _ c.in-Some-3.is (c.in_ok-answer-3.ensures.takes task p v r.es _ r.stands_so) in
     leaves_unread v head from _ _ _ (c.args.reads - c.reads.counter) c.reads.reader r.es r.known (g.J.Judge.leaves task p) (Ok c.in-Some-3.answer) r.reading took
 
 pub returns-in-None-3 : goal.returns-in-None-3

@@ -10,7 +10,7 @@ returns-in_err-version g c =
     rw (e.1, e.2) (
       none.0,
       none.1,
-      c.unbegun.ensures c.args.plan none.0 (streams (g.R.Read.remaining c.args.trace.now) (g.R.Read.remaining c.begin.new.trace) (g.W.Write.contents c.args.out.now) (g.W.Write.contents c.args.out.now)) c.in_err-version.field-0.0 (Keeps-refl _) none.2,
+      c.unbegun.ensures _ none.0 (streams _ _ _ _) _ (Keeps-refl _) none.2,
     )
 
 pub returns : goal.returns

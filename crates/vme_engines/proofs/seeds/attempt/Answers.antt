@@ -18,21 +18,18 @@ pub returns-in_err-draw_trace-clause-outcome : goal.returns-in_err-draw_trace-cl
 returns-in_err-draw_trace-clause-outcome g c =
     let w = c.args.walk.now in
     let e = err_from_is_err_and c.from_residual-in_err-draw_trace.result c.from_residual-in_err-draw_trace.ensures.1 in
-    rw (e.1, e.2)
-    (redrawn w.state.plan w.state.version c.args.seed c.args.edges c.args.goal c.restart.new.self c.restart.ensures c.comes_to.new.walk.state c.in_ok-comes_to.ensures.state c.restart-2.new.self c.restart-2.ensures
+    rw (e.1, e.2) (redrawn _ _ _ c.args.edges c.args.goal _ c.restart.ensures _ c.in_ok-comes_to.ensures.state _ c.restart-2.ensures
     (g.W.Write.contents c.args.out.now) (g.W.Write.contents c.draw_trace.new.out) (Err c.in_err-draw_trace.field-0.0) c.in_err-draw_trace.ensures.outcome)
 
 pub returns-clause-outcome : goal.returns-clause-outcome
 returns-clause-outcome g c =
     let w = c.args.walk.now in
-    attempt_came w.state.plan w.state.version c.args.seed c.args.edges c.args.goal c.restart.new.self c.restart.ensures (g.W.Write.contents c.args.out.now) (g.W.Write.contents c.draw_trace.new.out) c.in_ok-comes_to.field-0 c.in_ok-draw_trace.field-0
-    c.in_ok-comes_to.ensures.answer c.if-not-branch.false
-    (redrawn w.state.plan w.state.version c.args.seed c.args.edges c.args.goal c.restart.new.self c.restart.ensures c.comes_to.new.walk.state c.in_ok-comes_to.ensures.state c.restart-2.new.self c.restart-2.ensures
+    attempt_came _ _ _ c.args.edges c.args.goal _ c.restart.ensures _ _ _ _
+    c.in_ok-comes_to.ensures.answer c.if-not-branch.false (redrawn _ _ _ c.args.edges c.args.goal _ c.restart.ensures _ c.in_ok-comes_to.ensures.state _ c.restart-2.ensures
     (g.W.Write.contents c.args.out.now) (g.W.Write.contents c.draw_trace.new.out) (Ok c.in_ok-draw_trace.field-0) c.in_ok-draw_trace.ensures.outcome)
 
 pub returns-clause-safe : goal.returns-clause-safe
 returns-clause-safe g c =
     let w = c.args.walk.now in
     λ has_come.
-    safely_redrawn w.state.plan w.state.version c.args.seed c.args.edges c.args.goal c.restart.new.self c.restart.ensures c.comes_to.new.walk.state c.in_ok-comes_to.ensures.state c.restart-2.new.self c.restart-2.ensures
-    c.in_ok-draw_trace.ensures.safe
+    safely_redrawn _ _ _ c.args.edges c.args.goal _ c.restart.ensures _ c.in_ok-comes_to.ensures.state _ c.restart-2.ensures c.in_ok-draw_trace.ensures.safe

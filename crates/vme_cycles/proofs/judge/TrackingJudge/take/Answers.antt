@@ -53,10 +53,10 @@ returns-else-paused-clause-takes g c =
 pub returns-in_ok-finish-in-Ok-false-clause-takes : goal.returns-in_ok-finish-in-Ok-false-clause-takes
 returns-in_ok-finish-in-Ok-false-clause-takes g c =
     λ task p v es old h.
-    let all = es ++ c.args.edges.now in
     let wrote = edge_lines_next p v es c.args.edges.now old _ _ h.0 (c.in_ok-take_edges.ensures.ok p v es h.1) in
     let tracked = c.in_ok-take_edges.ensures.tracked p v es h.1 in
-    end_now p v all c.args.more old _ _ wrote _ (c.in-Ok-false.is ∙ ap (λ b. Ok b) c.in-Ok-false.field-0-test) (c.in_ok-finish-in-Ok-false.ensures.status p v all tracked) (c.in_ok-finish-in-Ok-false.ensures.ok p v all tracked)
+    let done = c.in_ok-finish-in-Ok-false.ensures in
+    end_now p v (es ++ c.args.edges.now) c.args.more old _ _ wrote _ (c.in-Ok-false.is ∙ ap (λ b. Ok b) c.in-Ok-false.field-0-test) (done.status p v _ tracked) (done.ok p v _ tracked)
 
 pub returns-in_ok-flush-in-Err-clause-takes : goal.returns-in_ok-flush-in-Err-clause-takes
 returns-in_ok-flush-in-Err-clause-takes g c =

@@ -10,9 +10,9 @@ use Rattle.vme_cycles.proofs.tracking.Tracking.open_tenure.Goals as goal
 pub returns-in-Some : goal.returns-in-Some
 returns-in-Some c = λ p v es is.
     c.tenure_line.ensures p v es is
-    ∙ sym (ap (λ o. option_map_or (λ s. tenure_line None (Slot s) (numbered (bench p v) es)) o []) (holder_is p v es c.args.self.now.following is.follows c.holder.result c.holder.ensures.slot ∙ c.in-Some.is))
+    ∙ sym (ap (λ o. option_map_or (λ s. tenure_line None (Slot s) (numbered (bench p v) es)) o []) (holder_is p v es _ is.follows _ c.holder.ensures.slot ∙ c.in-Some.is))
 
 pub returns-in-None : goal.returns-in-None
 returns-in-None c = λ p v es is.
     c.new.ensures
-    ∙ sym (ap (λ o. option_map_or (λ s. tenure_line None (Slot s) (numbered (bench p v) es)) o []) (holder_is p v es c.args.self.now.following is.follows c.holder.result c.holder.ensures.slot ∙ c.in-None.is))
+    ∙ sym (ap (λ o. option_map_or (λ s. tenure_line None (Slot s) (numbered (bench p v) es)) o []) (holder_is p v es _ is.follows _ c.holder.ensures.slot ∙ c.in-None.is))

@@ -1,4 +1,4 @@
-use Rattle.std.proofs.Common.{◌++◌, List, arith, subst, take}
+use Rattle.std.proofs.Common.{List, arith, subst}
 use Rattle.vme_model.specs.declared.signals.Edge.{Edge}
 use Rattle.vme_trace.proofs.WrittenLines.{on_err}
 use Rattle.vme_engines.proofs.FollowedEdges.{next_list}
@@ -13,12 +13,12 @@ loop-edge-preserved g c = record {
       subst (λ (l : List Edge). IsTracked p v l c.take_in-line.new.self) (next_list es c.args.edges.now c.loop-edge.edge-index _ c.loop-edge-test.true)
       (c.take_in-line.ensures.tracked p v _ (c.loop-edge.invariant.tracked p v es is));
   lines = λ p v es is.
-      one_written p v es c.args.edges.now c.loop-edge.edge-index _ c.loop-edge-test.true (g.W.Write.contents c.args.out.now) (g.W.Write.contents c.loop-edge.out) (g.W.Write.contents c.put.new.out) c.take_in-line.result.items
-      (c.take_in-line.ensures.line p v (es ++ take c.loop-edge.edge-index c.args.edges.now) (c.loop-edge.invariant.tracked p v es is)) (c.loop-edge.invariant.lines p v es is) (rw (c.as_slice.ensures.value) at c.in_ok-put.ensures.ok);
+      one_written p v es c.args.edges.now c.loop-edge.edge-index _ c.loop-edge-test.true _ (g.W.Write.contents c.loop-edge.out) (g.W.Write.contents c.put.new.out) _
+      (c.take_in-line.ensures.line p v _ (c.loop-edge.invariant.tracked p v es is)) (c.loop-edge.invariant.lines p v es is) (rw (c.as_slice.ensures.value) at c.in_ok-put.ensures.ok);
 }
 
 pub returns-in_err-put-clause-front : goal.returns-in_err-put-clause-front
 returns-in_err-put-clause-front g c =
     on_err c.from_residual.result _ (λ p v es is.
-    one_cut p v es c.args.edges.now c.loop-edge.edge-index _ c.loop-edge-test.true (g.W.Write.contents c.args.out.now) (g.W.Write.contents c.loop-edge.out) (g.W.Write.contents c.put.new.out) c.take_in-line.result.items
-    (c.take_in-line.ensures.line p v (es ++ take c.loop-edge.edge-index c.args.edges.now) (c.loop-edge.invariant.tracked p v es is)) (c.loop-edge.invariant.lines p v es is) (rw (c.as_slice.ensures.value) at c.in_err-put.ensures.front))
+    one_cut p v es c.args.edges.now c.loop-edge.edge-index _ c.loop-edge-test.true _ (g.W.Write.contents c.loop-edge.out) (g.W.Write.contents c.put.new.out) _
+    (c.take_in-line.ensures.line p v _ (c.loop-edge.invariant.tracked p v es is)) (c.loop-edge.invariant.lines p v es is) (rw (c.as_slice.ensures.value) at c.in_err-put.ensures.front))

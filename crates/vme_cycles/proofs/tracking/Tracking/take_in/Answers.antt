@@ -31,7 +31,7 @@ returns-in-Ok-clause-tracked c = λ p v es is.
 pub returns-in-Ok-clause-line : goal.returns-in-Ok-clause-line
 returns-in-Ok-clause-line c = λ p v es is.
     let f = c.args.self.now.following in
-    line_accepted p v es c.args.edge.now f.bus (f.judged + 1) is.follows.bus (ap (λ m. m + 1) is.follows.judged) c.ended_line-ended.result.items (sym c.step-answer.ensures.accepted ∙ ap is_ok c.in-Ok.is) (c.ended_line-ended.ensures p v es is)
+    line_accepted p v es _ f.bus _ is.follows.bus (ap (λ m. m + 1) is.follows.judged) _ (sym c.step-answer.ensures.accepted ∙ ap is_ok c.in-Ok.is) (c.ended_line-ended.ensures p v es is)
 
 pub returns-in-Err-clause-tracked : goal.returns-in-Err-clause-tracked
 returns-in-Err-clause-tracked c = λ p v es is.

@@ -4,5 +4,5 @@ use Rattle.vme_engines.proofs.drives.Driving.take_turn.Goals as goal
 
 pub returns-in-Some : goal.returns-in-Some
 returns-in-Some g c =
-    turn_listed c.args.round c.args.edges c.args.self.now.bus c.make_offer.new.self c.args.driver _ _ c.args.self.now.text c.put_line.new.text c.make_offer.result c.make_offer.ensures.offer c.make_offer.ensures.state c.in-Some.edge c.in-Some.is
+    turn_listed c.args.round _ _ _ c.args.driver _ _ _ _ _ c.make_offer.ensures.offer c.make_offer.ensures.state _ c.in-Some.is
     (λ e. c.if-len-edges.false (c.len.ensures ∙ e)) c.put_line.result c.put_line.ensures.ok c.put_line.ensures.front c.put_line.ensures.fault

@@ -8,4 +8,4 @@ returns c =
     let there = c.in_ok-place.ensures in
     let less = c.checked_sub.ensures in
     let number : c.args.n ≡ (c.args.self.now.judged + c.in_ok-place.place) + 1 = grind (arith) in
-    comes_to_number c.args.n c.args.self.now c.follow_through.new.self c.args.edges.now c.in_ok-place.place _ _ at.3.0 at.1 (number ∙ ap (λ m. m + 1) (sym there.2)) there.2 there.3 c.answer-answer.ensures
+    comes_to_number _ _ _ _ _ _ _ at.3.0 at.1 (number ∙ ap (λ m. m + 1) (sym there.2)) there.2 there.3 c.answer-answer.ensures

@@ -8,7 +8,7 @@ use Rattle.vme_engines.proofs.following.Following.follow_to_refused.Goals as goa
 
 pub returns-then-is_err : goal.returns-then-is_err
 returns-then-is_err c =
-    comes_to_refused c.args.self.now c.loop-edge.self c.step-answer.new.self c.args.edges.now c.loop-edge.edge-index _ c.step-answer.result c.loop-edge-test.true c.loop-edge.invariant.judged c.loop-edge.invariant.after
+    comes_to_refused _ _ _ _ _ _ _ c.loop-edge-test.true c.loop-edge.invariant.judged c.loop-edge.invariant.after
     (sym c.step-answer.ensures.accepted ∙ search rules) c.step-answer.ensures.answer (refused_same c.step-answer.result _ _ (search rules) c.step-answer.ensures.refused)
 
 pub loop-edge-preserved : goal.loop-edge-preserved

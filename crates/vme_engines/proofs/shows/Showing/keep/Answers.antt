@@ -11,7 +11,7 @@ returns-in-Some-clause-shown c = λ b es h.
     let old : Stage = record { bus = c.self.inside.bus; stretch = c.self.inside.stretch; judged = c.self.inside.judged; window = c.self.inside.window } in
     let was : IsShown b es old = subst (λ (s : Stage). IsShown b es s) (sym c.self.view_is) h in
     next_shown b es c.args.edge old _ c.step.ensures.bus refl refl was
-    (grown b c.self.inside.bus es c.args.edge from c.in-Some.window c.step.new.self was.bus (begun_before b es from c.in-Some.window (subst (λ (w : Option Seen). IsKept b es from w) c.in-Some.is was.window)) c.step.ensures.window)
+    (grown b _ es _ from _ _ was.bus (begun_before b es from _ (subst (λ (w : Option Seen). IsKept b es from w) c.in-Some.is was.window)) c.step.ensures.window)
 
 pub returns-in-None-clause-shown : goal.returns-in-None-clause-shown
 returns-in-None-clause-shown c = λ b es h.
@@ -21,4 +21,4 @@ returns-in-None-clause-shown c = λ b es h.
     let low : length es < from = subst (λ (w : Option Seen). IsKept b es from w) c.in-None.is was.window in
     let high : from ≤ length es + 1 = (let is = h.judged in let asked = c.requires.from in let same = ap (λ (s : Stage). s.stretch.from) c.self.view_is in omega (arith, is, asked, same)) in
     next_shown b es c.args.edge old _ c.step-in-None.ensures.bus refl refl was
-    (grown b c.self.inside.bus es c.args.edge from c.new-window.result c.step-in-None.new.self was.bus (begun_now b c.self.inside.bus es from c.new-window.result was.bus low high c.new-window.ensures) c.step-in-None.ensures.window)
+    (grown b _ es _ from _ _ was.bus (begun_now b _ es from _ was.bus low high c.new-window.ensures) c.step-in-None.ensures.window)
