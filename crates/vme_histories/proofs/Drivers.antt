@@ -17,7 +17,7 @@ use Rattle.vme_model.proofs.AllowedEdges.{all_passed}
 use Rattle.vme_histories.proofs.Others.{same_wire}
 
 -- a driver without such a wire never drove it
-same_driver : (a b : Driver) → is_same_driver a b ≡ true → a ≡ b
+pub same_driver : (a b : Driver) → is_same_driver a b ≡ true → a ≡ b
 same_driver Controller Controller e = refl
 same_driver (Slot s) (Slot t) e = ap (λ x. Slot x) (same_number s t e)
 same_driver a b e = absurd (cc)
