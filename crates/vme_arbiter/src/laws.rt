@@ -1,6 +1,6 @@
 //! What holds for every policy's picks, and what a controller's rules read. The functions are laws:
 //! a call costs nothing, and gives the fact to the prover.
-ghost use Rattle.std.specs.Prelude.{◌≡◌, ◌==◌, ◌<◌, ℕ, Bool, true, false, Option, Some};
+ghost use Rattle.std.specs.Prelude.{◌≡◌, ◌==◌, ◌<◌, ℕ, Bool, true, false, Option};
 ghost use Rattle.std.specs.Option.{option_map_or};
 ghost use Rattle.vme_model.specs.declared.boards.ArbiterKind.{ArbiterKind};
 ghost use Rattle.vme_model.specs.declared.pins.Pins.{Pins};

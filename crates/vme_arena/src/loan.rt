@@ -1,5 +1,5 @@
 //! Granules of a region that are lent for a lifetime.
-ghost use Rattle.std.specs.Prelude.{◌≡◌, ℕ, ◌+◌, ◌-◌, ◌*◌, ◌<◌, ◌≤◌, nat_lt, IfSome, MatchResult};
+ghost use Rattle.std.specs.Prelude.{◌≡◌, ℕ, ◌+◌, ◌-◌, ◌*◌, ◌<◌, ◌≤◌, nat_lt, IfSome};
 ghost use base.Fml.{GName, fbor};
 ghost use Rattle.vme_arena.specs.Ownership.{Spot, IsSpot, homes_at};
 

@@ -1,5 +1,5 @@
 //! A region of memory, and the part of it that has not been carved yet.
-ghost use Rattle.std.specs.Prelude.{◌≡◌, ℕ, ◌+◌, ◌*◌, ◌%◌, ◌^◌, ◌<◌, ◌≤◌, ◌↔◌, IfOk, IfErr, IsErr};
+ghost use Rattle.std.specs.Prelude.{◌≡◌, ◌+◌, ◌*◌, ◌%◌, ◌^◌, ◌<◌, ◌≤◌, ◌↔◌, IfOk, IfErr, IsErr};
 ghost use denote.RawPtr.{block_ptr};
 ghost use Rattle.vme_arena.specs.Stretch.{rounded};
 

@@ -2,7 +2,7 @@
 //!
 //! The functions do nothing and cost nothing. Each states a theorem by its contract, and a call of
 //! it gives the theorem to the prover. docs/SAFETY.md explains the claims.
-ghost use Rattle.std.specs.Prelude.{◌≡◌, List};
+ghost use Rattle.std.specs.Prelude.{List};
 ghost use Rattle.vme_model.specs.Accepted.{IsAccepted};
 ghost use Rattle.vme_model.specs.Locality.{AreWellFormed, IsLocal};
 ghost use Rattle.vme_model.specs.Plan.{Plan};

@@ -15,10 +15,6 @@ pub one_bit : (k : ℕ) → k < 32 → 1 * 2 ^ k % 2 ^ 32 ≡ 2 ^ k
 one_bit k near =
     ap (λ x. x % 2 ^ 32) (let e : 1 * 2 ^ k ≡ 2 ^ k = omega arith in e) ∙ mod-eq_of_lt (pow-lt near)
 
--- a bit is set, or not
-is_bit : (n : ℕ) → n < 2 → ((n == 0) ≡ not (n == 1))
-is_bit n l = grind (arith, nat_tests)
-
 pub turned_same : (n k : ℕ) → k < 32 → (bit_at (bit_xor n (1 * 2 ^ k % 2 ^ 32)) k == 1) ≡ not (bit_at n k == 1)
 turned_same n k near =
     ap (λ m. bit_at (bit_xor n m) k == 1) (one_bit k near)

@@ -34,10 +34,6 @@ opens true false true false n m e = refl
 opens true false false b n m e = refl
 opens false low a b n m e = absurd (cc)
 
-shuts : (there low a b : Bool) (n m : ℕ) → there ≡ false → false ≡ is_ok (check there NoSuchDriver (check (is_other_state low (not low)) AlreadyThere (check a (Rule n) (check b (NotSettled m) (Ok tt)))))
-shuts false low a b n m e = refl
-shuts true low a b n m e = absurd (cc)
-
 alone : (a b : Bool) → b ≡ true → a ≡ (a && b)
 alone true true e = refl
 alone false b e = refl
@@ -57,10 +53,6 @@ module _ (version : Version) (p : Plan) (h : List Edge) (d : Driver) (w : Wire) 
   -- by its rule alone, where no settling rule names it
   pub open_by_rule : exists p (turned h d w) ≡ true → by_settling.1 ≡ true → by_rule.1 ≡ is_open version p h (turned h d w)
   open_by_rule there free = alone by_rule.1 by_settling.1 free ∙ open_where there
-
-  -- where there is none
-  pub shut_where : exists p (turned h d w) ≡ false → false ≡ is_open version p h (turned h d w)
-  shut_where none = shuts (exists p (turned h d w)) (drive h d w) by_rule.1 by_settling.1 by_rule.0 by_settling.0 none
 
 -- no board stands beyond the last slot
 pub beyond_shut : (version : Version) (p : Plan) (h : List Edge) (s : ℕ) (w : Wire) → IsAccepted p → 22 ≤ s → false ≡ is_open version p h (turned h (Slot s) w)

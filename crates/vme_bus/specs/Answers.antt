@@ -21,7 +21,7 @@ refusal_in n =
     else (if n == 3 then TraceFull
     else (if nat_lt n 32 then NotSettled (n - 16) else Rule (n - 32))))
 
--- the answer of a number, with what is delivered where something is
+-- the answer of a number, with what is delivered, if anything is
 abbrev pub answer_in : ℕ → Delivery → Result (Option Delivery) Refused
 answer_in n d =
     if n == 0 then Ok None else (if n == 64 then Ok (Some d) else Err (refusal_in n))

@@ -16,8 +16,8 @@ use Rattle.vme_bus.specs.declared.sets.SlotSet.{SlotSet}
 use Rattle.vme_bus.specs.Sets.{has}
 use Rattle.vme_bus.specs.Records.{seat_in}
 
--- Where a chain's controller stands in the set of its low segments: the heads of the four grants stand
--- from 24 on, and that of the acknowledge at 24, behind every slot.
+-- Where a chain's controller stands in the set of its low segments: the heads of the four grants
+-- stand from 24 on, and that of the acknowledge at 24, behind every slot.
 abbrev pub grant_head : ℕ → ℕ
 grant_head level = 24 + level
 
@@ -29,7 +29,7 @@ abbrev pub place_of : ℕ → Option ℕ → ℕ
 place_of head None = head
 place_of head (Some s) = s
 
--- the place of a board's input on its grant chain; 0 where it has no requester
+-- the place of a board's input on its grant chain; 0 if it has no requester
 abbrev pub grant_source : Plan → Row → ℕ
 grant_source p r =
     option_map_or (λ q. place_of (grant_head q.level) (upstream p (grant_chain q.level) r.slot))

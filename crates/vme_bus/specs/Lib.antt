@@ -4,9 +4,11 @@ pub mod Sets
 pub mod Records
 -- words: what a plan says of each slot and line
 pub mod Layouts
--- words: which numbers a history leads to; `BusState::new` and `note` say all that a user needs of it
+-- words: which numbers a history leads to; `BusState::new` and `note` say all that a user needs of
+-- it
 pub mod States
--- words: whether a board asks at the level that is shown, which rule names an edge, and whose its wire is
+-- words: whether a board asks at the level that is shown, which rule names an edge, and whose its
+-- wire is
 pub mod Asks
 -- words: what an edge makes of the numbers of a state
 pub mod Moves
@@ -14,7 +16,8 @@ pub mod Moves
 pub mod Steps
 -- words: the arm of an edge
 pub mod Arms
--- believe, for who keeps `AnswerRecord`s: the answers to edges, and what the numbers of one stand for
+-- believe, for who keeps `AnswerRecord`s: the answers to edges, and what the numbers of one stand
+-- for
 pub mod Answers
 -- words: which parts of the boards have no edge to make
 pub mod Choices

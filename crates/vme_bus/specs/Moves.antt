@@ -39,7 +39,7 @@ grant_turned_by wire low =
 abbrev pub FollowsGrants : Wire → SlotSet → SlotSet → Type 0
 FollowsGrants wire = MovesPlace (grant_turned_by wire) (grant_head (grant_level wire))
 
--- whether a board was served, where its answer would serve it or not
+-- whether a board was served, by whether its answer would serve it
 abbrev pub served_by : Wire → Bool → Bool → Bool → Bool
 served_by Irq true serves served = false
 served_by Dtack true serves served = serves || served

@@ -23,7 +23,7 @@ use Rattle.vme_bus.specs.Layouts.{IsLayoutOf, grant_head, acknowledge_head}
 abbrev pub HoldsWire : List Edge → Wire → SlotSet → Type 0
 HoldsWire h w set = (s : ℕ) → has set s ≡ drive h (Slot s) w
 
--- the same of the slots, whatever stands behind them
+-- a set holds the slots below 22 whose wire is low, whatever stands behind them
 abbrev pub HoldsOutputs : List Edge → Wire → SlotSet → Type 0
 HoldsOutputs h w set = (s : ℕ) → s < 22 → has set s ≡ drive h (Slot s) w
 
@@ -74,7 +74,7 @@ abbrev pub OfHistory : BusState → (Version → Plan → List Edge → Type 0) 
 OfHistory b P =
     (version : Version) (p : Plan) (h : List Edge) → IsStateOf version p h b → P version p h
 
--- the same, and of the board in a slot
+-- what holds of each history that a state is of, and of the board in a slot
 abbrev pub OfBoard : BusState → ℕ → (Version → Plan → List Edge → Row → Type 0) → Type 0
 OfBoard b s P =
     (version : Version) (p : Plan) (h : List Edge) (r : Row)

@@ -17,7 +17,7 @@ use Rattle.vme_model.specs.Verdict.{verdict_but_full}
 abbrev pub answer_but_full : Version → Plan → List Edge → Edge → Result (Option Delivery) Refused
 answer_but_full version p h e = with_delivery (verdict_but_full version p h e) (delivery p h e)
 
--- the history after an edge: with it where it is accepted, and else as it was
+-- the history after an edge: with it if it is accepted, and otherwise as it was
 abbrev pub kept_but_full : Version → Plan → List Edge → Edge → List Edge
 kept_but_full version p h e = if is_ok (verdict_but_full version p h e) then e ∷ h else h
 

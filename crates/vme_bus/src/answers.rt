@@ -39,8 +39,8 @@ pub(crate) const NO_DELIVERY: Delivery = Delivery {
 /// Each number has a meaning, also one that no code here writes.
 #[derive(Clone, Copy)]
 pub struct AnswerRecord {
-    /// 0 accepted, 1 E1, 2 E2, 3 E5, 64 accepted with a delivery; below 32 else E4 by the settling rule of so much less
-    /// 16, and any other E3 by the rule of so much less 32.
+    /// 0 accepted, 1 E1, 2 E2, 3 E5, 64 accepted with a delivery; otherwise below 32 E4 by the
+    /// settling rule of so much less 16, and any other E3 by the rule of so much less 32.
     pub number: u8,
     /// What is delivered, if the number is 64.
     pub delivery: Delivery,

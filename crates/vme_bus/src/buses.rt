@@ -1,5 +1,5 @@
 //! A bus, which takes edges one by one and stores none of them.
-ghost use Rattle.std.specs.Prelude.{◌≡◌, ◌==◌, ◌&&◌, ◌+◌, ◌%◌, ◌≤◌, ◌↔◌, IsTrue, Ok, false, true, is_ok, length, map, take};
+ghost use Rattle.std.specs.Prelude.{◌≡◌, ◌==◌, ◌&&◌, ◌+◌, ◌≤◌, ◌↔◌, IsTrue, Ok, false, true, is_ok, length, map, take};
 ghost use Rattle.vme_model.specs.Verdict.{verdict, verdict_but_full, made, after, kept, IsLegal};
 ghost use Rattle.vme_model.specs.Failing.{tested, tested_but_full, unmet, unmet_but_full};
 ghost use Rattle.vme_model.specs.Safe.{IsSafe, IsOrderly};
@@ -84,7 +84,8 @@ impl Bus {
         self.past = Past::new();
     }
 
-    /// The laws that every bus keeps.
+    /// A law: what holds for every bus. The call costs nothing, and gives these facts to the
+    /// prover.
     pub fn laws(&self)
         ensures accepted { IsAccepted self.now.plan }
         ensures legal { IsLegal self.now.version self.now.plan self.now.history }
@@ -102,7 +103,8 @@ impl Bus {
         &self.state
     }
 
-    /// What follows for its history: it is safe and orderly.
+    /// A law: the history of every bus is safe and orderly. The call costs nothing, and gives these
+    /// facts to the prover.
     #[tactic(auto, using(vme_model::proofs::Safety::legal_is_safe, vme_model::proofs::Safety::legal_is_orderly))]
     pub fn safety(&self)
         ensures safe { IsSafe self.now.plan self.now.history }
@@ -354,7 +356,7 @@ impl Bus {
         self.made += 1;
     }
 
-    /// The same, with an arm for each wire.
+    /// Makes an edge that would be accepted, as `verdict` says, with an arm for each wire.
     #[inline(always)]
     pub(crate) fn make_by_wire(&mut self, edge: Edge)
         requires { verdict self.old edge ≡ Ok tt }

@@ -1,4 +1,5 @@
-//! Which parts of the boards may have an edge to make, all at once, and a bus whose drivers take turns.
+//! Which parts of the boards may have an edge to make, all at once, and a bus whose drivers take
+//! turns.
 ghost use Rattle.std.specs.Prelude.{◌≡◌, ◌&&◌, ◌||◌, ◌%◌, ◌<◌, ◌≤◌, ℕ, [], Ok, false, if◌then◌else◌, length, not, slice_get};
 ghost use Rattle.std.specs.Option.{option_map_or};
 ghost use Rattle.vme_model.specs.declared.signals.Driver.TheVariants.{Slot};
@@ -62,7 +63,8 @@ impl Ready {
 impl BusState {
     ghost use Rattle.vme_bus.specs.States.{OfHistory};
 
-    /// The slots whose grant chain's output is not as its input: it is to rise, or the board does not hold the bus.
+    /// The slots whose grant chain's output is not as its input: it is to rise, or the board does
+    /// not hold the bus.
     #[inline(always)]
     fn passing_on(&self) -> SlotSet
         ensures { (s : ℕ) → has result s
@@ -154,7 +156,8 @@ impl BusState {
         }
     }
 
-    /// The slots that an acknowledge has reached, which they do not pass on, or an access, and that do not answer.
+    /// The slots that an acknowledge has reached, which they do not pass on, or an access, and that
+    /// do not answer.
     #[inline(always)]
     fn called(&self) -> SlotSet
         ensures { (s : ℕ) → s < 22 → has result s
@@ -271,7 +274,8 @@ impl Bus {
 
 /// A bus whose drivers take turns: beside it stands which parts of its boards may have an offer.
 ///
-/// It is the bus, and gets to be another only by `make_offer`, which then looks at all boards at once.
+/// It is the bus, and gets to be another only by `make_offer`, which then looks at all boards at
+/// once.
 #[derive(Drop)]
 pub struct Turns {
     bus: Bus,
@@ -298,7 +302,8 @@ impl Turns {
         Turns { bus, ready }
     }
 
-    /// What holds of every bus.
+    /// A law: what holds for every bus. The call costs nothing, and gives these facts to the
+    /// prover.
     pub fn laws(&self)
         ensures accepted { IsAccepted self.now.plan }
         ensures legal { IsLegal self.now.version self.now.plan self.now.history }
@@ -308,7 +313,8 @@ impl Turns {
         self.bus.laws();
     }
 
-    /// What follows for its history: it is safe and orderly.
+    /// A law: the history of every bus is safe and orderly. The call costs nothing, and gives these
+    /// facts to the prover.
     pub fn safety(&self)
         ensures safe { IsSafe self.now.plan self.now.history }
         ensures orderly { IsOrderly self.now.version self.now.plan self.now.history }
@@ -348,8 +354,8 @@ impl Turns {
         self.bus.ready_offer(self.ready, driver, round)
     }
 
-    /// Makes the offer that the driver makes in a round, if it has any, and answers it: of k offers the one at place
-    /// `round mod k`.
+    /// Makes the offer that the driver makes in a round, if it has any, and answers it: of k offers
+    /// the one at place `round mod k`.
     #[inline(always)]
     pub fn make_offer(&mut self, driver: Driver, round: u32) -> Option<Edge>
         ensures offer { result

@@ -71,9 +71,9 @@ impl BusState {
         }
     }
 
-    /// The conditions that an edge fails, of the first of E1 to E4 that applies, in the order of its
-    /// guard: none if the edge would be accepted. The end of a trace is not among them, since a state
-    /// has no length. Source: profile.
+    /// The conditions that an edge fails, of the first of E1 to E4 that applies, in the order of
+    /// its guard: none if the edge would be accepted. The end of a trace is not among them, since a
+    /// state has no length. Source: profile.
     pub fn failing(&self, edge: Edge) -> ArrayVec<Condition, 5>
         ensures { OfHistory self.now (λ version p h.
             result.items ≡ unmet_but_full version p h edge) }

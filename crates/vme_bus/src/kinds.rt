@@ -65,8 +65,8 @@ impl BusState {
         }
     }
 
-    /// Takes this in place of its own, and is then of the histories of its plan and version that lead
-    /// to this.
+    /// Takes this in place of its own, and is then of the histories of its plan and version that
+    /// lead to this.
     #[inline(always)]
     pub fn set_kind(&mut self, kind: &BusKind)
         ensures { (version : Version) (p : Plan) (h k : List Edge) (b : BusStateValue)

@@ -65,7 +65,7 @@ pub struct Layout {
     pub slots: u8,
     /// By the place of each segment of the grant chains, the slots whose input it is.
     pub granted_by: [SlotSet; 28],
-    /// The same of the acknowledge chain.
+    /// By the place of each segment of the acknowledge chain, the slots whose input it is.
     pub acknowledged_by: [SlotSet; 28],
 }
 

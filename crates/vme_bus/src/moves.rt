@@ -205,7 +205,8 @@ impl BusState {
         self.controls = low_after(bus_clear, Wire::Berr, BUS_ERROR, edge.wire);
     }
 
-    /// Takes in an edge of the slot's requester that is allowed after a history that the state is of.
+    /// Takes in an edge of the slot's requester that is allowed after a history that the state is
+    /// of.
     #[inline(always)]
     fn move_requester(&mut self, slot: u8, edge: Edge)
         requires slot { slot < 22 }
@@ -245,7 +246,8 @@ impl BusState {
         self.addressing = addressing_after(self.addressing, slot, edge);
     }
 
-    /// Takes in an edge of the slot's interrupter, or an answer of its board, that is allowed after a history that the state is of.
+    /// Takes in an edge of the slot's interrupter, or an answer of its board, that is allowed after
+    /// a history that the state is of.
     #[inline(always)]
     fn move_interrupter(&mut self, slot: u8, edge: Edge)
         requires slot { slot < 22 }
@@ -265,7 +267,8 @@ impl BusState {
         self.served = served_after(self.served, slot, edge, serves);
     }
 
-    /// Takes in an edge of the controller that the rules allow after a history that the state is of.
+    /// Takes in an edge of the controller that the rules allow after a history that the state is
+    /// of.
     #[inline(always)]
     pub(crate) fn note_controller(&mut self, edge: Edge)
         requires { is_of parts.Controller edge.wire ≡ true }
@@ -278,7 +281,8 @@ impl BusState {
         }
     }
 
-    /// Takes in an edge of a board's requester that the rules allow after a history that the state is of.
+    /// Takes in an edge of a board's requester that the rules allow after a history that the state
+    /// is of.
     #[inline(always)]
     pub(crate) fn note_requester(&mut self, edge: Edge)
         requires { is_of parts.Requester edge.wire ≡ true }
@@ -296,7 +300,8 @@ impl BusState {
         }
     }
 
-    /// Takes in an edge of a board's master that the rules allow after a history that the state is of.
+    /// Takes in an edge of a board's master that the rules allow after a history that the state is
+    /// of.
     #[inline(always)]
     pub(crate) fn note_master(&mut self, edge: Edge)
         requires { is_of parts.Master edge.wire ≡ true }
@@ -314,7 +319,8 @@ impl BusState {
         }
     }
 
-    /// Takes in an edge of a board's interrupter, or an answer, that the rules allow after a history that the state is of.
+    /// Takes in an edge of a board's interrupter, or an answer, that the rules allow after a
+    /// history that the state is of.
     #[inline(always)]
     pub(crate) fn note_interrupter(&mut self, edge: Edge)
         requires { is_of parts.Interrupter edge.wire ≡ true }

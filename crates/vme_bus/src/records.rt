@@ -1,4 +1,5 @@
-//! What enums and options say, as numbers alone, so that a record of them may lie in the memory of a program in C.
+//! What enums and options say, as numbers alone, so that a record of them may lie in the memory of
+//! a program in C.
 //!
 //! Each number has a meaning, also one that no code here writes.
 ghost use Rattle.std.specs.Prelude.{◌≡◌, is_some};

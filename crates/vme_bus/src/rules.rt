@@ -357,7 +357,8 @@ impl BusState {
         answers(iack_in, iackout, is_pending, is_accessed, self.shown())
     }
 
-    /// The rule that names an edge of a board's interrupter, or of its answer, and what its guard answers (G21 to G26).
+    /// The rule that names an edge of a board's interrupter, or of its answer, and what its guard
+    /// answers (G21 to G26).
     #[inline(always)]
     pub(crate) fn interrupter_rule<A: Outcome>(&self, slot: u8, wire: Wire, fall: bool) -> (u8, A)
         requires { slot < 22 }

@@ -1,5 +1,5 @@
 //! Sets of slots.
-ghost use Rattle.std.specs.Prelude.{◌≡◌, ◌≢◌, ◌&&◌, ◌||◌, ◌*◌, ◌^◌, ◌%◌, ◌<◌, ℕ, not, false, true, if◌then◌else◌, nat_lt, MatchOption};
+ghost use Rattle.std.specs.Prelude.{◌≡◌, ◌≢◌, ◌&&◌, ◌||◌, ◌^◌, ◌<◌, ℕ, not, false, true, if◌then◌else◌, nat_lt, MatchOption};
 
 /// A set of slots, a bit for each.
 #[repr(C)]
@@ -29,7 +29,7 @@ impl SlotSet {
     /// With the slot, if it was not in it; and else without it.
     #[inline(always)]
     #[tactic(auto, using(crate::proofs::Masks::turned_same, crate::proofs::Masks::turned_other))]
-    pub fn turned(self, slot: u8) -> SlotSet
+    pub(crate) fn turned(self, slot: u8) -> SlotSet
         requires { slot < 32 }
         ensures same { has result slot ≡ not (has self slot) }
         ensures others { (s : ℕ) → s ≢ slot → has result s ≡ has self s }
@@ -55,7 +55,7 @@ impl SlotSet {
     /// Without the slot.
     #[inline(always)]
     #[tactic(auto, using(crate::proofs::Masks::without_same, crate::proofs::Masks::without_other))]
-    pub fn without(self, slot: u8) -> SlotSet
+    pub(crate) fn without(self, slot: u8) -> SlotSet
         requires { slot < 32 }
         ensures same { has result slot ≡ false }
         ensures others { (s : ℕ) → s ≢ slot → has result s ≡ has self s }
@@ -68,7 +68,7 @@ impl SlotSet {
     /// Of the slots that it holds, those that a backplane can have.
     #[inline(always)]
     #[tactic(auto, using(crate::proofs::Outputs::slots_are))]
-    pub fn of_slots(self) -> SlotSet
+    pub(crate) fn of_slots(self) -> SlotSet
         ensures { (s : ℕ) → has result s ≡ (has self s && nat_lt s 22) }
     {
         self.and(SlotSet::SLOTS)
@@ -77,7 +77,7 @@ impl SlotSet {
     /// The slots that both hold.
     #[inline(always)]
     #[tactic(auto, using(crate::proofs::Masks::and_bits))]
-    pub fn and(self, other: SlotSet) -> SlotSet
+    pub(crate) fn and(self, other: SlotSet) -> SlotSet
         ensures { (s : ℕ) → has result s ≡ (has self s && has other s) }
     {
         SlotSet {
@@ -99,7 +99,7 @@ impl SlotSet {
     /// The slots that it holds and the other does not.
     #[inline(always)]
     #[tactic(auto, using(crate::proofs::Masks::except_bits))]
-    pub fn except(self, other: SlotSet) -> SlotSet
+    pub(crate) fn except(self, other: SlotSet) -> SlotSet
         ensures { (s : ℕ) → has result s ≡ (has self s && not (has other s)) }
     {
         SlotSet {
@@ -110,7 +110,7 @@ impl SlotSet {
     /// The slots that just one of them holds.
     #[inline(always)]
     #[tactic(auto, using(crate::proofs::Masks::xor_bits))]
-    pub fn xor(self, other: SlotSet) -> SlotSet
+    pub(crate) fn xor(self, other: SlotSet) -> SlotSet
         ensures { (s : ℕ) → has result s
             ≡ (if has other s then not (has self s) else has self s) }
     {

@@ -278,7 +278,7 @@ impl BusState {
 
     /// What an edge delivers.
     #[inline(always)]
-    pub fn delivery(&self, edge: Edge) -> Option<Delivery>
+    pub(crate) fn delivery(&self, edge: Edge) -> Option<Delivery>
         ensures { OfHistory self.now (λ _ p h. result ≡ delivery p h edge) }
     {
         if !(edge.fall && edge.wire.is_same(Wire::Dtack)) {

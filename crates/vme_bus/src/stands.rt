@@ -19,7 +19,8 @@ const MOST_SLOTS: u8 = 21;
 impl BusState {
     ghost use Rattle.vme_bus.specs.States.{OfHistory};
 
-    /// Whether it has as many slots as a backplane can have: false of a record that no bus was made in.
+    /// Whether it has as many slots as a backplane can have: false of a record that no bus was made
+    /// in.
     #[inline(always)]
     pub fn is_bus(&self) -> bool
         ensures bus { OfHistory self.now (λ _ _ _. result ≡ true) }
@@ -47,8 +48,8 @@ impl BusState {
         self.granted.except(self.grants).except(self.bbsy).has(slot)
     }
 
-    /// The slot at which a grant travels: its input is low, while its board has neither passed the grant on nor taken
-    /// the bus (chapter 3 of the standard). There is one at most.
+    /// The slot at which a grant travels: its input is low, while its board has neither passed the
+    /// grant on nor taken the bus (chapter 3 of the standard). There is one at most.
     pub fn grant_at(&self) -> Option<u8>
         ensures { OfHistory self.now (λ _ p h.
             result ≡ option_map (λ at. at.1) (grant_at p h)) }

@@ -1,5 +1,5 @@
 //! What the edges so far lead to, as numbers.
-ghost use Rattle.std.specs.Prelude.{◌≡◌, []};
+ghost use Rattle.std.specs.Prelude.{[]};
 
 use crate::layouts::Layout;
 use crate::records::{CycleRecord, NO_SLOT, number_of_kind, number_of_version};
@@ -16,8 +16,8 @@ pub(crate) const BUS_ERROR: u8 = 1;
 /// What the edges so far lead to: of each wire the set of the slots that drive it low, of each
 /// kind of chain the set of the slots whose input is low, and a few numbers.
 ///
-/// It holds no history and no memory but its own, so that it may be copied and kept; and it holds numbers alone, so that
-/// a program in C may keep it too.
+/// It holds no history and no memory but its own, so that it may be copied and kept; and it holds
+/// numbers alone, so that a program in C may keep it too.
 #[repr(C)]
 #[derive(Clone, Copy)]
 pub struct BusState {

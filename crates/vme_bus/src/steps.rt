@@ -29,8 +29,8 @@ impl BusState {
 
     /// Takes an edge if the rules allow it, and returns what it delivers.
     ///
-    /// A refusal is the first that applies of E1 to E4, and leaves everything as it was. No edge is stored, so that no
-    /// trace ends.
+    /// A refusal is the first that applies of E1 to E4, and leaves everything as it was. No edge is
+    /// stored, so that no trace ends.
     #[inline(always)]
     pub fn step(&mut self, edge: Edge) -> Result<Option<Delivery>, Refused>
         ensures answer { OfHistory self.old (λ version p h.
@@ -106,8 +106,8 @@ impl BusState {
         }
     }
 
-    /// The same of an edge of the controller, in an arm whose wire and direction are constants, so that the
-    /// compiler leaves out what other edges need.
+    /// Takes an edge of the controller if the rules allow it, in an arm whose wire and direction
+    /// are constants, so that the compiler leaves out what other edges need.
     #[inline(always)]
     pub(crate) fn step_controller(
         &mut self,
@@ -137,8 +137,8 @@ impl BusState {
         }
     }
 
-    /// The same of an edge of a board's requester, in an arm whose wire and direction are constants, so that the
-    /// compiler leaves out what other edges need.
+    /// Takes an edge of a board's requester if the rules allow it, in an arm whose wire and
+    /// direction are constants, so that the compiler leaves out what other edges need.
     #[inline(always)]
     pub(crate) fn step_requester(
         &mut self,
@@ -169,8 +169,8 @@ impl BusState {
         }
     }
 
-    /// The same of an edge of a board's master, in an arm whose wire and direction are constants, so that the
-    /// compiler leaves out what other edges need.
+    /// Takes an edge of a board's master if the rules allow it, in an arm whose wire and direction
+    /// are constants, so that the compiler leaves out what other edges need.
     #[inline(always)]
     pub(crate) fn step_master(
         &mut self,
@@ -201,8 +201,9 @@ impl BusState {
         }
     }
 
-    /// The same of an edge of a board's interrupter, or of its answer, in an arm whose wire and direction are constants, so that the
-    /// compiler leaves out what other edges need.
+    /// Takes an edge of a board's interrupter, or its answer, if the rules allow it, in an arm
+    /// whose wire and direction are constants, so that the compiler leaves out what other edges
+    /// need.
     #[inline(always)]
     pub(crate) fn step_interrupter(
         &mut self,
@@ -269,7 +270,8 @@ impl BusState {
         None
     }
 
-    /// Takes an edge of a board's interrupter, or an answer, that the rules allow, and returns what it delivers.
+    /// Takes an edge of a board's interrupter, or an answer, that the rules allow, and returns what
+    /// it delivers.
     #[inline(always)]
     fn take_interrupter(&mut self, edge: Edge) -> Option<Delivery>
         requires { is_of parts.Interrupter edge.wire ≡ true }

@@ -41,7 +41,8 @@ impl BusState {
         is_allowed & settles
     }
 
-    /// Whether the rules allow the slot's requester to move the wire to its other state, without a value.
+    /// Whether the rules allow the slot's requester to move the wire to its other state, without a
+    /// value.
     #[inline(always)]
     pub(crate) fn may_request(&self, slot: u8, wire: Wire) -> bool
         requires { is_of parts.Requester wire ≡ true }
@@ -60,7 +61,8 @@ impl BusState {
         is_allowed
     }
 
-    /// Whether the rules allow the slot's master to move the wire to its other state, without a value.
+    /// Whether the rules allow the slot's master to move the wire to its other state, without a
+    /// value.
     #[inline(always)]
     pub(crate) fn may_transfer(&self, slot: u8, wire: Wire) -> bool
         requires { is_of parts.Master wire ≡ true }
@@ -80,7 +82,8 @@ impl BusState {
         is_allowed & settles
     }
 
-    /// Whether the rules allow the slot's interrupter, or what answers cycles, to move the wire to its other state, without a value.
+    /// Whether the rules allow the slot's interrupter, or what answers cycles, to move the wire to
+    /// its other state, without a value.
     #[inline(always)]
     pub(crate) fn may_interrupt(&self, slot: u8, wire: Wire) -> bool
         requires { is_of parts.Interrupter wire ≡ true }

@@ -18,13 +18,15 @@ use vme_model::{ChainId, Cycle, Driver, Edge, Part, Refused, Wire};
 use vme_rules::settlings::{as_settles, berr_settles, bg_fall_settles, bg_rise_settles};
 use vme_rules::{Outcome, allowed};
 
-/// E2 and E3 of an edge, by whether its wire is low, whether the edge falls, and the number of its rule with what the guard answers.
+/// E2 and E3 of an edge, by whether its wire is low, whether the edge falls, and the number of its
+/// rule with what the guard answers.
 #[inline(always)]
 fn asked(low: bool, fall: bool, ruled: (u8, bool)) -> Result<(), Refused>
     ensures { result ≡ check (is_other_state low fall) Refused.AlreadyThere
         (check ruled.1 (Refused.Rule ruled.0) (Ok tt)) }
 {
-    // Both at once, by `&`, so that an edge that passes takes one branch: what refuses another is found out behind it.
+    // Both at once, by `&`, so that an edge that passes takes one branch: what refuses another is
+    // found out behind it.
     if (low != fall) & ruled.1 {
         return Ok(());
     }
@@ -155,7 +157,8 @@ impl BusState {
         }
     }
 
-    /// The settling rule that names the edge, and what its guard answers; 0 and a free one if none does.
+    /// The settling rule that names the edge, and what its guard answers; 0 and a free one if none
+    /// does.
     #[inline(always)]
     pub(crate) fn settling<A: Outcome>(&self, wire: Wire, fall: bool) -> (u8, A)
         ensures number { OfHistory self.now (λ version p h.
@@ -316,7 +319,8 @@ impl BusState {
         }
     }
 
-    /// The first of E1 to E4 that applies to a well-formed edge of a board's interrupter, or of its answer.
+    /// The first of E1 to E4 that applies to a well-formed edge of a board's interrupter, or of its
+    /// answer.
     #[inline(always)]
     pub(crate) fn judge_interrupter(&self, edge: Edge) -> Result<(), Refused>
         requires part { is_of parts.Interrupter edge.wire ≡ true }

@@ -1,5 +1,5 @@
 -- What the bus and the marks say behind the edges that were followed.
-use Rattle.std.proofs.Common.{◌≡◌, ℕ, ◌+◌, ◌-◌, ◌<◌, ◌≤◌, ◌^◌, List, [], ◌∷◌, length, Bool, true, false, Option, Some, Result, Ok, Err, is_ok, refl, sym, ◌∙◌, ap, subst, arith}
+use Rattle.std.proofs.Common.{◌≡◌, ℕ, ◌+◌, ◌<◌, ◌≤◌, ◌^◌, List, [], ◌∷◌, length, Bool, true, false, Option, Result, Ok, Err, is_ok, refl, sym, ◌∙◌, ap, subst, arith}
 use Rattle.std.specs.Prelude.{if◌then◌else◌}
 use Rattle.vme_model.specs.declared.deliveries.Delivery.{Delivery}
 use Rattle.vme_model.specs.declared.refusals.Refused.{Refused}
@@ -10,13 +10,13 @@ use Rattle.vme_model.specs.Plan.{Plan}
 use Rattle.vme_model.specs.History.{cycles}
 use Rattle.vme_model.specs.Stands.{holder}
 use Rattle.vme_model.specs.Deliveries.{with_delivery}
-use Rattle.vme_model.specs.Verdict.{Judgement, State, after, kept, verdict}
+use Rattle.vme_model.specs.Verdict.{Judgement, State, after, verdict}
 use Rattle.vme_model.specs.Numbered.{Numbered, edges_in, numbered, numbered_on, numbered_with}
 use Rattle.vme_explain.specs.Marked.{IsMarksOf}
 use Rattle.vme_explain.specs.Traced.{OfTrace}
 use Rattle.vme_explain.proofs.Witnessed.{cycles_within}
 use Rattle.vme_engines.specs.declared.following.Following.{Following}
-use Rattle.vme_engines.specs.Outcomes.{bench, refused_count}
+use Rattle.vme_engines.specs.Outcomes.{bench}
 use Rattle.vme_engines.specs.Followed.{IsAfter}
 use Rattle.vme_engines.proofs.FollowedEdges.{edges_on, kept_plan}
 
@@ -34,12 +34,6 @@ module _ (p : Plan) (v : Version) (es : List Edge) (f : Following) (is : IsAfter
   -- a board's cycles are few enough to be counted
   pub few_cycles : (d : Driver) → length f.bus.history < 2 ^ 64 → cycles (edges_in (numbered (bench p v) es)) d < 2 ^ 64
   few_cycles d few = subst (λ (h : List Edge). cycles h d < 2 ^ 64) (sym edges_are) (let most = cycles_within f.bus.history d in omega (arith, few, most))
-
-  -- how many edges were refused
-  pub refused_is : f.judged - length f.bus.history ≡ refused_count p (Some v) es
-  refused_is =
-      let none : length (kept (bench p v) es).history - 0 ≡ length (kept (bench p v) es).history = omega arith in
-      ap (λ n. n - length f.bus.history) is.judged ∙ ap (λ s. length es - length s.history) is.bus ∙ ap (λ n. length es - n) (sym none)
 
   -- who holds the bus
   pub holder_is : (o : Option ℕ) → o ≡ holder f.bus.plan f.bus.history → holder p (edges_in (numbered (bench p v) es)) ≡ o

@@ -1,7 +1,7 @@
 -- What is left of a trace.
-use Rattle.std.proofs.Common.{◌≡◌, inl, inr, ℕ, List, [], ◌++◌, Bool, false, Option, Some, None, Result, Ok, Err, refl, sym, ◌∙◌, ap, append_assoc, subst}
+use Rattle.std.proofs.Common.{◌≡◌, inl, inr, ℕ, List, ◌++◌, Bool, false, Option, Some, None, Result, Ok, Err, refl, sym, ◌∙◌, ap, append_assoc, subst}
 use Rattle.std.specs.Io.KnownBytes.{Appends, Keeps}
-use Rattle.std.proofs.KnownBytes.{Appends-trans, Appends-nil, Appends-kept}
+use Rattle.std.proofs.KnownBytes.{Appends-trans, Appends-kept}
 use Rattle.vme_model.specs.declared.signals.Edge.{Edge}
 use Rattle.vme_model.specs.declared.signals.Version.{Version}
 use Rattle.vme_model.specs.declared.signals.Wire.TheVariants.{AddressStrobe, Bbsy}
@@ -14,16 +14,14 @@ use Rattle.vme_trace.specs.Writing.{AppendsFront}
 use Rattle.vme_trace.proofs.WrittenLines.{second_front}
 use Rattle.vme_engines.specs.declared.Status.{Status}
 use Rattle.vme_engines.specs.declared.EngineFault.TheVariants as fault
-use Rattle.vme_engines.specs.Streams.{Streams, streams, WroteNothing}
+use Rattle.vme_engines.specs.Streams.{streams}
 use Rattle.vme_engines.specs.Outcomes.{bench, refused_count, status_with}
-use Rattle.vme_engines.specs.Begun.{IsUnread}
 use Rattle.vme_engines.specs.Pieces.{Came}
 use Rattle.vme_engines.specs.Readings.{LeavesNow}
 use Rattle.vme_engines.specs.Steps.{traced}
-use Rattle.vme_engines.specs.Waiting.{StopsWaiting}
 use Rattle.vme_engines.proofs.ReadOn.{came_begins}
-use Rattle.vme_engines.proofs.Waits.{stops_unread, waits_now}
-use Rattle.vme_engines.proofs.WrittenLines.{appends_behind, front_behind, front_kept, front_of_more}
+use Rattle.vme_engines.proofs.Waits.{waits_now}
+use Rattle.vme_engines.proofs.WrittenLines.{front_behind, front_kept, front_of_more}
 use Rattle.vme_cycles.specs.Outcomes.{Reports, cycles_text, ending, last_lines, edge_lines, lines_by}
 use Rattle.vme_cycles.specs.declared.tracking.Tracking.{Tracking}
 use Rattle.vme_cycles.specs.Kept.{IsTracked, next_lines}
@@ -90,13 +88,6 @@ module _ (p : Plan) (v : Version) (es : List Edge) (more : Result Bool Fault) wh
     pub end_cut_now : (f : Fault) → more ≡ Ok false → f ≡ Write → AppendsFront mid new (last_lines p v es) → Leaves old new (Err f)
     end_cut_now f is write last = λ trace from to came.
         inr (write, subst (AppendsFront old new) (sym (all_text trace from to (subst (Came v trace from to es) is came))) (front_behind old mid new (lines_by p v es) (last_lines p v es) wrote last))
-
--- ---- without a header line
-
-pub unbegun : (task : Unit {0}) (p : Plan) (trace : List ℕ) (s : Streams) (f : Fault)
-    → WroteNothing s → StopsWaiting IsUnread trace (streams s.from s.to None None) f → Reports p trace s (Err (fault.Trace f))
-unbegun task p trace s f kept h =
-    inl (stops_unread (λ w gs. Appends s.old s.new (edge_lines p w gs)) (appends_behind s.old s.new s.new [] kept (Appends-nil s.new)) trace s f h)
 
 -- ---- the last lines
 

@@ -71,13 +71,6 @@ module _ (p : Plan) (v : Version) (es : List Edge) (e : Edge) (b : State) (n : �
       is ∙ ap (λ m. ended_line p m e k) count ∙ ap (λ q. ended_line q (length es + 1) e k) (sym (kept_plan (bench p v) es))
       ∙ sym (ap (λ (t : Bool). if t then ended_line s.plan (length es + 1) e k else refused_text (length es + 1) e (answer s e)) (judged true ok))
 
-  pub line_refused : (x : List ℕ) → is_ok (verdict b e) ≡ false → x ≡ refused_text n e (answer b e) → x ≡ next_line p v es e
-  line_refused x refused is =
-      let k = numbered (bench p v) es in
-      let s = kept (bench p v) es in
-      is ∙ ap (λ m. refused_text m e (answer b e)) count ∙ ap (λ t. refused_text (length es + 1) e (answer t e)) behind
-      ∙ sym (ap (λ (t : Bool). if t then ended_line s.plan (length es + 1) e k else refused_text (length es + 1) e (answer s e)) (judged false refused))
-
 -- ---- in the loop over edges
 
 module _ (p : Plan) (v : Version) (before es : List Edge) (i : ℕ) (d : Edge) (h : i < length es) where

@@ -17,7 +17,7 @@ use Rattle.vme_cycles.specs.Transactions.{ended, lines_on, open_lines, totals_te
 abbrev pub lines_by : Plan → Version → List Edge → List ℕ
 lines_by p v es = lines_on (bench p v) 0 [] es
 
--- the same of edges whose trace names its version before the first of them
+-- the lines at the edges of a trace, whose header line names this version, if any
 abbrev pub edge_lines : Plan → Option Version → List Edge → List ℕ
 edge_lines p None es = []
 edge_lines p (Some v) es = lines_by p v es
@@ -29,7 +29,7 @@ last_lines p v es =
     open_lines p k
     ++ totals_text (ended AddressStrobe k) (ended Bbsy k) (refused_count p (Some v) es)
 
--- the same, which stands only after a whole trace
+-- the last lines, which stand only after a whole trace
 abbrev pub ending : Option TextFault → Plan → Option Version → List Edge → List ℕ
 ending None p (Some v) es = last_lines p v es
 ending _ p version es = []
@@ -49,6 +49,6 @@ Reports p trace s (Err (fault.Trace f)) =
     ⊎ ((f ≡ Write) × WroteFront s (cycles_text p (read_of trace)))
 Reports p trace s (Err _) = ⊥
 
--- the same of the whole input
+-- what `cycles` leaves of the whole input, as a trace on a plan
 abbrev pub ReportsInput : Streams → Plan → Answer → Type 0
 ReportsInput s p answer = (trace : List ℕ) × IsInput s.from trace × Reports p trace s answer

@@ -153,7 +153,7 @@ abbrev pub line_at : State → ℕ → Edge → Numbered → List ℕ
 line_at b n e k =
     if is_ok (verdict b e) then ended_line b.plan n e k else refused_text n e (answer b e)
 
--- the same at each of the edges after the n-th, each judged on what was kept before it
+-- what is written at the edges after the n-th, each judged on what was kept before it
 abbrev pub lines_on : State → ℕ → Numbered → List Edge → List ℕ
 lines_on b n k [] = []
 lines_on b n k (e ∷ es) =

@@ -154,7 +154,8 @@ impl Tracking {
 
     /// Takes in the next edges, and writes their lines.
     ///
-    /// Errors: X8 if that failed; a prefix of the lines was written then.
+    /// # Errors
+    /// X8 if that failed; a prefix of the lines was written then.
     pub(crate) fn take_edges<W: Write>(&mut self, edges: &[Edge], out: &mut W) -> Result<(), Fault>
         requires room { self.old.following.judged + length edges.now < 2 ^ 64 }
         requires well_formed { AreWellFormed edges.now }

@@ -1,5 +1,5 @@
 -- A check of a trace: src/checks.rt.
-use Rattle.std.proofs.Common.{◌≡◌, inl, inr, ℕ, ◌+◌, ◌≤◌, List, [], ◌∷◌, ◌++◌, length, Bool, true, false, Option, Some, None, Result, Ok, Err, refl, sym, ◌∙◌, ap, append_assoc, append-nil, subst, arith, reverse}
+use Rattle.std.proofs.Common.{◌≡◌, inl, ℕ, ◌+◌, ◌≤◌, List, [], ◌∷◌, ◌++◌, length, Bool, true, false, Option, Some, None, Result, Ok, Err, refl, sym, ◌∙◌, ap, append_assoc, append-nil, subst, arith, reverse}
 use Rattle.std.proofs.Math.ListN.{length-append}
 use mathlib.Core.List.{reverse-cons}
 use Rattle.std.proofs.lemmas.List.{length-reverse}
@@ -16,7 +16,6 @@ use Rattle.vme_bus.specs.Answers.{answers}
 use Rattle.vme_model.specs.Text.{Reading, read_of}
 use Rattle.vme_model.specs.Report.{trace_limit}
 use Rattle.vme_trace.specs.declared.Fault.{Fault}
-use Rattle.vme_trace.specs.Writing.{AppendsFront}
 use Rattle.vme_trace.specs.declared.Fault.TheVariants.{Header, Line, TooLong, CutOff, Read, Memory, Failed, Write}
 use Rattle.vme_engines.specs.declared.Status.{Status}
 use Rattle.vme_engines.specs.declared.EngineFault.{EngineFault}
@@ -230,6 +229,3 @@ module _ (text : List ℕ) (from to old new : Option (List ℕ)) where
   -- the line is written, or a front of it
   pub check_done : (found : Finding) (status : Status) → FindsIn (Ok found) → status ≡ finding_status found → Appends old new (finding_line found) → ChecksIn (Ok status)
   check_done found status h ends wrote = (h.0, h.1, h.2, (h.3.0, h.3.1, (found, found_so h.0 h.3.0 from to old new found h.3.2, ends, wrote)))
-
-  pub check_cut : (found : Finding) (f : Fault) → FindsIn (Ok found) → f ≡ Write → AppendsFront old new (finding_line found) → ChecksIn (Err (fault.Trace f))
-  check_cut found f h write wrote = (h.0, h.1, h.2, (h.3.0, h.3.1, inr (write, found, found_so h.0 h.3.0 from to old new found h.3.2, wrote)))

@@ -1,6 +1,5 @@
 -- The walk of a seed, and what was written of it.
-use Rattle.std.proofs.Common.{◌≡◌, refl, ◌∙◌, ap, subst, ℕ, ◌≤◌, List, length, Option, Ok, Err, Result}
-use Rattle.std.specs.Prelude.{OnOk, OnErr}
+use Rattle.std.proofs.Common.{◌≡◌, refl, ◌∙◌, ap, subst, ℕ, ◌≤◌, List, length, Option, Ok}
 use Rattle.std.specs.Io.KnownBytes.{Appends}
 use Rattle.vme_model.specs.declared.signals.Version.{Version}
 use Rattle.vme_model.specs.declared.signals.Edge.{Edge}
@@ -19,14 +18,6 @@ use Rattle.vme_engines.specs.Outcomes.{bench}
 use Rattle.vme_engines.specs.Drawing.{walk, walk_text, EndsRightly, status_to, Draws, WalksSafely}
 use Rattle.vme_engines.proofs.LegalTrace.{legal_trace}
 use Rattle.vme_engines.proofs.SoughtGoals.{walk_stays, refused_end}
-
-pub on_ok_more : {E A : Type 0} (r : Result A E) (P Q : Type 0) → (P → Q) → OnOk r P → OnOk r Q
-on_ok_more (Ok a) P Q f h = f h
-on_ok_more (Err e) P Q f h = tt
-
-pub on_err_more : {E A : Type 0} (r : Result A E) (P Q : Type 0) → (P → Q) → OnErr r P → OnErr r Q
-on_err_more (Ok a) P Q f h = tt
-on_err_more (Err e) P Q f h = f h
 
 module _ (p : Plan) (version : Version) (seed n : ℕ) (g : Option Goal) (b : State) (ending : Ending) (is : b ≡ (walk p version seed n g).walk.state) (ends : ending ≡ (walk p version seed n g).ending) where
   on : IsOn version p (walk p version seed n g).walk

@@ -28,13 +28,6 @@ use Rattle.vme_engines.proofs.LegalTrace.{all_well_formed, legal_trace}
 
 -- ---- a turn
 
-turn_when : (t : Bool) (b : State) (o : Option Edge) → t ≡ true → (if t then b else option_map_or (made b) o b) ≡ b
-turn_when t b o e = rw e refl
-
--- enough edges were made
-pub turn_enough : (r n : ℕ) (b : State) (d : Driver) → length b.history ≡ n → b ≡ turn r n b d
-turn_enough r n b d e = sym (turn_when (length b.history == n) b _ (eq-eqb (length b.history) n e))
-
 turn_else : (t : Bool) (b : State) (o : Option Edge) → o ≡ None → (if t then b else option_map_or (made b) o b) ≡ b
 turn_else true b o e = refl
 turn_else false b o e = rw e refl

@@ -1,8 +1,7 @@
 -- Where the first header line of an input is.
-use Rattle.std.proofs.Common.{◌≡◌, ◌≢◌, ℕ, ◌≤◌, ◌||◌, ◌==◌, List, [], ◌∷◌, ◌++◌, length, take, Bool, true, false, Option, Some, None, refl, sym, ◌∙◌, ap, append_assoc, subst, arith, codes, if◌then◌else◌, zero, suc}
+use Rattle.std.proofs.Common.{◌≡◌, ◌≢◌, ℕ, ◌||◌, ◌==◌, List, [], ◌∷◌, ◌++◌, take, Bool, true, false, Option, Some, None, refl, sym, ◌∙◌, ap, append_assoc, subst, codes, zero, suc}
 use Rattle.std.proofs.lemmas.Bool.{false_from_ne_true, ne_eqb}
 use Rattle.std.proofs.lemmas.Slice.Eq.{bytes_eq-Decides}
-use Rattle.std.proofs.lemmas.List.{length-take, take_all}
 use Rattle.std.specs.Str.{bytes_eq}
 use Rattle.vme_model.specs.declared.signals.Version.{Version}
 use Rattle.vme_model.specs.declared.signals.Version.TheVariants.{One, Two}
@@ -53,10 +52,6 @@ pub behind_behind : (x y : List ℕ) (o : Option (List ℕ × List ℕ)) → beh
 behind_behind x y None = refl
 behind_behind x y (Some p) = ap (λ l. Some (l, p.1)) (sym (append_assoc x y p.0))
 
-pub behind_none : (o : Option (List ℕ × List ℕ)) → behind [] o ≡ o
-behind_none None = refl
-behind_none (Some p) = refl
-
 -- behind a line that has begun, and is no header line
 cut_rest : (part more : List ℕ) → IsOneLine part → cut false (part ++ 10 ∷ more) ≡ behind (part ++ 10 ∷ []) (cut true more)
 unfolding cut
@@ -77,29 +72,6 @@ pub cut_here : (v : Version) (more : List ℕ) → cut true ((header v ++ 10 ∷
 unfolding cut
 cut_here One more = refl
 cut_here Two more = refl
-
-version_by : (a b : Bool) (line : List ℕ) (v : Version) → (a ≡ true → line ≡ codes "vme 1") → (b ≡ true → line ≡ codes "vme 2")
-    → (if a then Some One else (if b then Some Two else None)) ≡ Some v → line ≡ header v
-version_by true b line v one two h = let is : One ≡ v = cc in subst (λ (w : Version). line ≡ header w) is (one refl)
-version_by false true line v one two h = let is : Two ≡ v = cc in subst (λ (w : Version). line ≡ header w) is (two refl)
-version_by false false line v one two h = absurd cc
-
--- a line that names a version is its header
-version_is : (line : List ℕ) (v : Version) → version_of line ≡ Some v → line ≡ header v
-version_is line v h =
-    version_by (bytes_eq line (codes "vme 1")) (bytes_eq line (codes "vme 2")) line v (bytes_eq-Decides line (codes "vme 1")).0 (bytes_eq-Decides line (codes "vme 2")).0 h
-
-pub length_header : (v : Version) → length (header v) ≡ 5
-length_header One = refl
-length_header Two = refl
-
--- so is a line whose first six bytes name it
-pub named : (part : List ℕ) (v : Version) → version_of (take 6 part) ≡ Some v → part ≡ header v
-named part v h =
-    let is : take 6 part ≡ header v = version_is (take 6 part) v h in
-    let count : length (take 6 part) ≡ 5 = ap length is ∙ length_header v in
-    let short : length part ≤ 6 = (let m = length-take 6 part in omega (arith, m)) in
-    sym (take_all 6 part short) ∙ is
 
 names_by : (a b : Bool) (part : List ℕ) → (a ≡ true → part ≡ codes "vme 1") → (b ≡ true → part ≡ codes "vme 2") → version_of (take 6 part) ≡ None → (a || b) ≡ true → ⊥
 names_by true b part one two h e = let is : version_of (take 6 (codes "vme 1")) ≡ None = subst (λ (l : List ℕ). version_of (take 6 l) ≡ None) (one refl) h in cc

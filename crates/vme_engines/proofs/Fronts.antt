@@ -1,7 +1,6 @@
 -- The input before its trace, byte by byte.
-use Rattle.std.proofs.Common.{◌≡◌, ◌≢◌, ℕ, ◌+◌, ◌-◌, ◌<◌, ◌≤◌, min, List, [], ◌∷◌, ◌++◌, length, take, drop, true, Option, Some, None, Result, Ok, refl, sym, ◌∙◌, ap, append_assoc, append-nil, take-append-drop, subst, arith, inl, inr, ◌⊎◌, zero, suc, get_or}
-use Rattle.std.proofs.lemmas.List.{length-take, take_all, take-append-le, take_more}
-use Rattle.std.proofs.Math.ListN.{length-append}
+use Rattle.std.proofs.Common.{◌≡◌, ◌≢◌, ℕ, ◌+◌, ◌-◌, ◌<◌, ◌≤◌, List, [], ◌∷◌, ◌++◌, length, take, drop, true, Option, Some, None, Result, Ok, sym, ◌∙◌, ap, append_assoc, append-nil, take-append-drop, subst, inl, inr, get_or}
+use Rattle.std.proofs.lemmas.List.{take_more}
 use Rattle.std.specs.Io.KnownBytes.{Consumes}
 use Rattle.std.proofs.KnownBytes.{Consumes-trans, Keeps-refl}
 use Rattle.vme_model.specs.declared.signals.Version.{Version}
@@ -12,53 +11,10 @@ use Rattle.vme_engines.specs.declared.joins.Front.{Front}
 use Rattle.vme_engines.specs.Streams.{streams}
 use Rattle.vme_engines.specs.Outcomes.{Answer}
 use Rattle.vme_engines.specs.Joining.{cut, FindsNoTrace, Joins}
-use Rattle.vme_engines.specs.Front.{behind, held_limit, IsHeld, IsFront, EndsFront, IsTextOf, Finds, JoinsBehind}
-use Rattle.vme_engines.proofs.FirstHeader.{cut_part, cut_line, cut_here, behind_behind, behind_none, named, unnamed, one_line_more, length_header}
-
--- ---- what is held
-
-pub held_pushed : (old new bytes : List ℕ) (b : ℕ) → IsHeld old bytes → length old < held_limit → new ≡ old ++ b ∷ [] → IsHeld new (bytes ++ b ∷ [])
-held_pushed old new bytes b h room is =
-    let count : length old ≡ min (length bytes) held_limit = h.count in
-    let all : old ≡ bytes = h.all (omega arith) in
-    let more = length-append bytes (b ∷ []) in
-    let grown : length new ≡ length old + 1 = ap length is ∙ length-append old (b ∷ []) in
-    record { count = omega (arith, more); all = λ _. is ∙ ap (λ l. l ++ b ∷ []) all }
-
-pub held_full : (old bytes : List ℕ) (b : ℕ) → IsHeld old bytes → held_limit ≤ length old → IsHeld old (bytes ++ b ∷ [])
-held_full old bytes b h full =
-    let count : length old ≡ min (length bytes) held_limit = h.count in
-    let more = length-append bytes (b ∷ []) in
-    record { count = omega (arith, more); all = λ k. absurd (omega (arith, more)) }
-
--- ---- the line that is not complete
-
-pub line_full : (line part : List ℕ) (b : ℕ) → line ≡ take 6 part → 6 ≤ length line → line ≡ take 6 (part ++ b ∷ [])
-line_full line part b is full =
-    let count : length line ≡ length (take 6 part) = ap length is in
-    let long : 6 ≤ length part = (let m = length-take 6 part in omega (arith, m)) in
-    is ∙ sym (take-append-le 6 part (b ∷ []) long)
-
-pub line_more : (line part : List ℕ) (b : ℕ) → line ≡ take 6 part → length line < 6 → line ++ b ∷ [] ≡ take 6 (part ++ b ∷ [])
-line_more line part b is room =
-    let count : length line ≡ length (take 6 part) = ap length is in
-    let short : length part < 6 = (let m = length-take 6 part in omega (arith, m)) in
-    let same : line ≡ part = is ∙ take_all 6 part (omega arith) in
-    let grown = length-append part (b ∷ []) in
-    ap (λ l. l ++ b ∷ []) same ∙ sym (take_all 6 (part ++ b ∷ []) (omega (arith, grown)))
+use Rattle.vme_engines.specs.Front.{behind, IsHeld, IsFront, EndsFront, Finds, JoinsBehind}
+use Rattle.vme_engines.proofs.FirstHeader.{cut_part, cut_line, cut_here, behind_behind, unnamed, one_line_more}
 
 -- ---- what a byte does
-
-pub front_new : (f : Front) → f.held.items ≡ [] → f.line.items ≡ [] → IsFront f []
-front_new f held line = record {
-  before = [];
-  part = [];
-  whole = refl;
-  none = λ more. sym (behind_none (cut true more));
-  one_line = tt;
-  line = line;
-  held = record { count = ap length held; all = λ _. held };
-}
 
 pub took_byte : (f g : Front) (bytes : List ℕ) (b : ℕ) → IsFront f bytes → b ≢ 10
     → ((part : List ℕ) → f.line.items ≡ take 6 part → g.line.items ≡ take 6 (part ++ b ∷ [])) → IsHeld g.held.items (bytes ++ b ∷ []) → IsFront g (bytes ++ b ∷ [])
@@ -90,36 +46,6 @@ took_feed f g bytes h other line held =
       line = line;
       held = held;
     }
-
-pub took_header : (f : Front) (bytes : List ℕ) (v : Version) → IsFront f bytes → version_of f.line.items ≡ Some v → EndsFront f (bytes ++ 10 ∷ []) v
-took_header f bytes v h is =
-    let part : h.part ≡ header v = named h.part v (ap version_of (sym h.line) ∙ is) in
-    let all : bytes ≡ h.before ++ header v = h.whole ∙ ap (λ l. h.before ++ l) part in
-    record {
-      before = h.before;
-      whole = ap (λ l. l ++ 10 ∷ []) all ∙ append_assoc h.before (header v) (10 ∷ []);
-      none = h.none;
-      held = subst (IsHeld f.held.items) all h.held;
-    }
-
--- ---- the text of the scenario
-
-short_or : (n m : ℕ) → (n ≤ m) ⊎ (m < n)
-short_or zero m = inl (omega arith)
-short_or (suc n) zero = inr (omega arith)
-short_or (suc n) (suc m) = elim (short_or n m) [ inl h ↦ inl (omega arith) | inr h ↦ inr (omega arith) ]
-
-pub text_of : (held before : List ℕ) (v : Version) (n : ℕ) (text : List ℕ) → IsHeld held (before ++ header v) → n ≡ length held - 5 → text ≡ take n held → IsTextOf before text
-text_of held before v n text h count is =
-    let total : length (before ++ header v) ≡ length before + 5 = length-append before (header v) ∙ ap (λ k. length before + k) (length_header v) in
-    let held_count : length held ≡ min (length (before ++ header v)) held_limit = h.count in
-    let sized : length text ≡ min n (length held) = ap length is ∙ length-take n held in
-    elim (short_or (length (before ++ header v)) held_limit) [
-      | inl short ↦ (let all : held ≡ before ++ header v = h.all short in
-          let number : n ≡ length before = omega arith in
-          inl (is ∙ ap (take n) all ∙ take-append-le n before (header v) (omega arith) ∙ take_all n before (omega arith)))
-      | inr long ↦ inr (omega arith, omega arith)
-    ]
 
 -- ---- in the loops
 

@@ -1,5 +1,5 @@
 -- Two traces that are read side by side: `Input::read_piece` and `read_out`, src/pairs.rt.
-use Rattle.std.proofs.Common.{◌≡◌, ◌⊎◌, inl, inr, ℕ, ◌+◌, ◌^◌, ◌<◌, ◌≤◌, length, List, [], ◌++◌, Bool, true, false, Option, Some, None, unwrap_or, Result, Ok, Err, refl, sym, ◌∙◌, ap, subst, arith, length-append}
+use Rattle.std.proofs.Common.{◌≡◌, ◌⊎◌, inl, inr, ℕ, ◌+◌, ◌^◌, ◌≤◌, length, List, [], ◌++◌, Bool, true, false, Option, Some, None, unwrap_or, Result, Ok, Err, refl, sym, ◌∙◌, ap, subst, arith, length-append}
 use Rattle.vme_model.specs.declared.signals.Version.{Version}
 use Rattle.vme_model.specs.declared.signals.Edge.{Edge}
 use Rattle.vme_model.specs.Locality.{AreWellFormed}
@@ -11,7 +11,7 @@ use Rattle.vme_engines.specs.Streams.{streams}
 use Rattle.vme_engines.specs.Steps.{Comes}
 use Rattle.vme_engines.specs.Pairs.{IsReadWhole, MeetsFault}
 use Rattle.vme_engines.specs.Begun.{HasCome, HasBegun, IsUnbegun}
-use Rattle.vme_engines.specs.Sides.{IsSide, goes_on, turns_left, next_turn}
+use Rattle.vme_engines.specs.Sides.{IsSide, goes_on, next_turn}
 use Rattle.vme_engines.specs.declared.traces.Input.{Input}
 use Rattle.vme_engines.specs.declared.pairs.Turn.{Turn}
 use Rattle.vme_engines.specs.declared.pairs.Turn.TheVariants.{First, Second}
@@ -56,11 +56,6 @@ module _ (from at : Option (List ℕ)) (v : Version) (es : List Edge) (input : I
 
       pub piece_came : Comes from to [] left next (es ++ new) answer
       piece_came = came [] from at to input.reader next left es new one_read answer pumped
-
-pub fewer_turns : (more : Result Bool Fault) (left reads : ℕ) → left < reads → turns_left more left < turns_left (Ok true) reads
-fewer_turns (Ok true) left reads h = omega (arith, h)
-fewer_turns (Ok false) left reads h = omega (arith, h)
-fewer_turns (Err f) left reads h = omega (arith, h)
 
 -- ---- the end
 

@@ -60,7 +60,7 @@ lent_known text nothing Runs (Err (fault.Beyond n)) h = absurd h
 
 -- ---- the edges before a place
 
-slice_at : (front rest : List Edge) (e : Edge) → slice_get (front ++ (e ∷ rest)) (length front) ≡ Some e
+pub slice_at : (front rest : List Edge) (e : Edge) → slice_get (front ++ (e ∷ rest)) (length front) ≡ Some e
 slice_at [] rest e = refl
 slice_at (d ∷ front) rest e = slice_at front rest e
 
@@ -74,12 +74,12 @@ module _ (all es front rest others : List Edge) (begins : all ≡ es ++ others) 
   front_short : length front ≤ length all
   front_short = let is = ap length whole_is in let both = length-append front (rest ++ others) in omega (arith, is, both)
 
-refused_by : (j : Judgement) → is_ok j ≡ false → (r : Refused) × (j ≡ Err r)
+pub refused_by : (j : Judgement) → is_ok j ≡ false → (r : Refused) × (j ≡ Err r)
 refused_by (Ok u) h = absurd cc
 refused_by (Err r) h = (r, refl)
 
 -- the first that is refused, behind those that are not
-first_behind : (b : State) (front rest : List Edge) (e : Edge) (r : Refused) → first_refusal 1 b front ≡ None → verdict (kept b front) e ≡ Err r
+pub first_behind : (b : State) (front rest : List Edge) (e : Edge) (r : Refused) → first_refusal 1 b front ≡ None → verdict (kept b front) e ≡ Err r
     → first_refusal 1 b (front ++ (e ∷ rest)) ≡ Some (length front + 1, r)
 first_behind b front rest e r none is =
     refusal_behind 1 b front (e ∷ rest) none

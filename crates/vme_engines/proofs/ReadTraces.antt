@@ -11,7 +11,7 @@ use Rattle.vme_engines.specs.declared.EngineFault.{EngineFault}
 use Rattle.vme_engines.specs.declared.EngineFault.TheVariants as fault
 use Rattle.vme_engines.specs.Streams.{streams, IsInput}
 use Rattle.vme_engines.specs.Outcomes.{Answer, LentAsking}
-use Rattle.vme_engines.specs.Steps.{Comes, IsNoPlan, traced}
+use Rattle.vme_engines.specs.Steps.{Comes, traced}
 use Rattle.vme_engines.specs.Readings.{GoesOn, Leaving, LeavesNow, ReadsLent, Takes}
 use Rattle.vme_engines.proofs.TraceReads.{IsReading, reading_of}
 use Rattle.vme_engines.proofs.ReadOn.{came_is, unread}
@@ -66,14 +66,6 @@ module _ (v : Version) (head : List ℕ) (from to old new : Option (List ℕ)) (
   }
 
 -- ---- the scenario
-
-pub unplanned : {A : Type 0} (text : List ℕ) (nothing : Type 0) (Reads : Plan → Result A Fault → Type 0) (f : EngineFault) → IsNoPlan text f → nothing → ReadsLent text nothing Reads (Err f)
-unplanned text nothing Reads fault.TooLong h done = (h, done)
-unplanned text nothing Reads (fault.Scenario e) h done = (h.0, h.1, done)
-unplanned text nothing Reads (fault.Trace f) h done = absurd h
-unplanned text nothing Reads fault.CannotRead h done = absurd h
-unplanned text nothing Reads fault.NoMemory h done = absurd h
-unplanned text nothing Reads (fault.Beyond n) h done = absurd h
 
 -- less is known of what was done
 pub lent_reading : {A : Type 0} (text : List ℕ) (nothing more : Type 0) (Reads : Plan → Result A Fault → Type 0) (r : Result A EngineFault) → ReadsLent text (nothing × more) Reads r → ReadsLent text nothing Reads r

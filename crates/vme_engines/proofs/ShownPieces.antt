@@ -1,5 +1,5 @@
 -- What is shown of a trace, edge by edge and piece by piece.
-use Rattle.std.proofs.Common.{◌≡◌, ◌⊎◌, inl, inr, ℕ, ◌+◌, ◌-◌, ◌<◌, ◌≤◌, List, [], ◌∷◌, ◌++◌, length, take, drop, map, Bool, false, Option, Some, None, Result, Ok, Err, OnErr, refl, sym, ◌∙◌, ap, subst, arith, append_assoc, append-nil, take-append-drop}
+use Rattle.std.proofs.Common.{◌≡◌, ◌⊎◌, inl, inr, ℕ, ◌+◌, ◌-◌, ◌<◌, ◌≤◌, List, [], ◌∷◌, ◌++◌, length, take, drop, map, Bool, Option, Some, None, Result, Ok, Err, OnErr, refl, sym, ◌∙◌, ap, subst, arith, append_assoc, append-nil, take-append-drop}
 use Rattle.std.proofs.lemmas.List.{length-append, length-take-le, take_all, take-take, take-append-le, drop-append-le, drop_all, map_push, nil_from_length, take_at}
 use Rattle.std.specs.Io.KnownBytes.{Keeps, Appends}
 use Rattle.std.proofs.KnownBytes.{Keeps-trans}
@@ -117,14 +117,6 @@ flushed r s w x y z wrote kept_so within first same =
     (subst (Appends x y) (window_text b es s w within first h)
     (wrote (kept b (take (s.stretch.from - 1) es)) (drop (s.stretch.from - 1) es) (subst (λ n. IsWindowOf (kept b (take (s.stretch.from - 1) es)) n (drop (s.stretch.from - 1) es) w) (sym first) window.1))) kept_so)
 
--- before the stretch nothing is drawn
-pub no_text : (s : Stretch) (b : State) (es : List Edge) → length es < s.from → [] ≡ stretch_text s b es
-no_text s b es low =
-    ap (picture s.color s.from (kept b (take (s.from - 1) es))) (sym (drop_all (s.from - 1) (take s.to es) (let short = take_short s.to es in omega (arith, short))))
-  where
-    take_short : (n : ℕ) (l : List Edge) → length (take n l) ≤ length l
-    take_short n l = let is = ap length (take-append-drop n l) in let both = length-append (take n l) (drop n l) in omega (arith, is, both)
-
 -- ---- the end of a piece
 
 -- the stretch is through
@@ -156,13 +148,6 @@ ends_then s b es fs more old new now mid r n order same few last shown ends =
     let whole = length-append es fs in
     ends_at_last s b (es ++ fs) more old new now r order (omega (arith, sum, few, whole))
     (subst (λ l. EndsStretch s b l old new r) (here_is es fs n s.to few sum) (subst (λ (t : Stretch). EndsStretch t b (es ++ take n fs) old new r) same (ends b (es ++ take n fs) shown)))
-
--- the trace is
-pub ends_at_end : (s : Stretch) (b : State) (es : List Edge) (more : Result Bool Fault) (old new : Option (List ℕ)) (now : Stage) (r : Result Printed Fault) → more ≡ Ok false
-    → EndsStretch s b es old new r → Ends s b es more old new now (answered r)
-ends_at_end s b es more old new now (Ok (Block status)) is h = (h.0, inr is, h.1, h.2)
-ends_at_end s b es more old new now (Ok (Beyond n)) is h = (is, h.0, h.1, h.2)
-ends_at_end s b es more old new now (Err f) is h = inr (h.0, inr (inl is), h.1)
 
 -- ---- pieces, one behind the other
 

@@ -1,5 +1,5 @@
 -- A walk that seeks a goal, turn by turn.
-use Rattle.std.proofs.Common.{◌≡◌, ◌∙◌, refl, sym, ap, subst, length, ◌+◌, Ok, ℕ, zero, suc, Bool, true, false, List, [], ◌∷◌}
+use Rattle.std.proofs.Common.{◌≡◌, ◌∙◌, refl, sym, ap, subst, length, ◌+◌, ℕ, zero, suc, Bool, true, false, List, [], ◌∷◌}
 use Rattle.std.specs.Prelude.{◌&&◌, Option, Some, None, find, if◌then◌else◌}
 use Rattle.std.specs.Option.{option_map_or}
 use Rattle.vme_model.specs.declared.conditions.Condition.{Condition}
@@ -13,7 +13,6 @@ use Rattle.vme_model.specs.declared.signals.Cycle.{Cycle}
 use Rattle.vme_model.specs.Failing.{unmet}
 use Rattle.vme_model.specs.History.{shown}
 use Rattle.vme_model.specs.Numbered.{Numbered, edges_in}
-use Rattle.vme_model.proofs.AllowedEdges.{checked}
 use Rattle.vme_model.proofs.Bools.{and_left, and_right}
 use Rattle.vme_seeds.specs.Walks.{Walk, next_edge, drawn, with_edge}
 use Rattle.vme_seeds.proofs.Walked.{IsOn, stays_on}
@@ -44,13 +43,6 @@ module _ (g : Goal) (w : Walk) where
 
   abbrev turned_with : Option Edge → Walk
   turned_with o = option_map_or (λ _. w) o (drawn_on w)
-
-  -- an edge is missed
-  pub missed_ends : (e : Edge) → Some e ≡ missed_by g w.state → Some (Missed e) ≡ ends_at g w
-  missed_ends e is = ap ends_with is
-
-  pub missed_turns : (e : Edge) → Some e ≡ missed_by g w.state → w ≡ turned g w
-  missed_turns e is = ap turned_with is
 
   module _ (unmissed : None ≡ missed_by g w.state) where
     -- no edge is open
@@ -219,6 +211,3 @@ marked_more b s m next e n v same at is marked noted =
     let place : n ≡ length s.history + 1 = at ∙ ap (λ (x : State). length x.history + 1) same in
     let showing : v ≡ shown s.plan (edges_in (by_place s.history)) = is ∙ ap (λ (x : State). shown x.plan x.history) same ∙ ap (shown s.plan) (sym (edges_placed s.history)) in
     subst (λ i. IsMarksOf s.plan ((i, e) ∷ by_place s.history) next) place (noted s.plan (by_place s.history) marked showing)
-
-pub is_formed_ok : (b : State) (e : Edge) → verdict b e ≡ Ok tt → is_well_formed e ≡ true
-is_formed_ok b e ok = and_left (is_well_formed e) (has_driver b.plan e.driver e.wire) (checked (is_well_formed e && has_driver b.plan e.driver e.wire) NoSuchDriver _ ok).0

@@ -15,7 +15,6 @@ use Rattle.vme_goals.specs.declared.events.Event.{Event}
 use Rattle.vme_events.specs.Events.{events_of}
 use Rattle.vme_events.specs.Ordered.{OfOrdered}
 use Rattle.vme_events.proofs.Places.{numbers_below}
-use Rattle.vme_summary.specs.declared.tallies.Tally.{Tally}
 use Rattle.vme_summary.specs.Tally.{Answers as Printed, answered_edge, answered_on, answered, is_accepted, accepted, refused}
 use Rattle.vme_summary.specs.Tallied.{IsTallyOf}
 use Rattle.vme_summary.proofs.Counted.{count_step}
@@ -33,12 +32,11 @@ use Rattle.vme_engines.specs.Summing.{IsSummedUp, IsWaiting, Sums}
 use Rattle.vme_engines.specs.Summed.{IsSumOf, Tallies, sum_text}
 use Rattle.vme_engines.proofs.FollowedEdges.{kept_plan, edges_on, ok_with}
 use Rattle.std.specs.Io.KnownBytes.{Appends, Keeps}
-use Rattle.std.proofs.KnownBytes.{Keeps-trans}
 use Rattle.vme_trace.specs.Writing.{AppendsFront}
 use Rattle.vme_engines.specs.Steps.{traced}
 use Rattle.vme_engines.specs.Readings.{LeavesNow}
 use Rattle.vme_engines.proofs.WrittenLines.{appends_behind, front_after}
-use Rattle.vme_engines.proofs.Waits.{stops_unread, waits_now}
+use Rattle.vme_engines.proofs.Waits.{stops_unread}
 
 -- ---- lists of edges
 
@@ -108,9 +106,6 @@ module _ (p : Plan) (v : Version) (all : List ℕ) (s : Streams) (es : List Edge
   sums_cut : (f : Fault) → f ≡ Write → WroteFront s (sum_text p v es) → Sums p all s (Err (fault.Trace f))
   sums_cut f is wrote = inr (is, sum_text p v es, summed_up, wrote)
 
-  tallies_done : (tally : Tally) → IsTallyOf (answered (bench p v) es) tally → Tallies p all s (Ok tally)
-  tallies_done tally is = (answered (bench p v) es, record { version = v; named = came.0.version; whole = came.2; answers = ap (λ l. answered (bench p v) l) (sym came.1) }, came.3, is)
-
 -- by the last piece
 module _ (p : Plan) (v : Version) (es : List Edge) (more : Result Bool Fault) (old mid new : Option (List ℕ)) (kept_so : Keeps old mid) where
   at_end : (trace : List ℕ) (from to : Option (List ℕ)) → more ≡ Ok false → Came v trace from to es more → Came v trace from to es (Ok false)
@@ -123,15 +118,6 @@ module _ (p : Plan) (v : Version) (es : List Edge) (more : Result Bool Fault) (o
   pub sums_cut_now : (f : Fault) → more ≡ Ok false → f ≡ Write → AppendsFront mid new (sum_text p v es) → LeavesNow (λ trace s a. Sums p trace s (traced a)) v es more old new (Err f)
   sums_cut_now f is write wrote = λ trace from to came.
       sums_cut p v trace (streams from to old new) es (at_end trace from to is came) f write (front_after old mid new (sum_text p v es) kept_so wrote)
-
-  pub sums_stop_now : (f : Fault) → more ≡ Err f → Keeps mid new → LeavesNow (λ trace s a. Sums p trace s (traced a)) v es more old new (Err f)
-  sums_stop_now f is kept_too = λ trace from to came. inl (waits_now IsWaiting v trace (streams from to old new) es more came tt f is, Keeps-trans old mid new kept_so kept_too)
-
-pub tallies_now : (p : Plan) (v : Version) (es : List Edge) (more : Result Bool Fault) (old new : Option (List ℕ)) (tally : Tally) → more ≡ Ok false → IsTallyOf (answered (bench p v) es) tally → LeavesNow (Tallies p) v es more old new (Ok tally)
-tallies_now p v es more old new tally is h = λ trace from to came. tallies_done p v trace (streams from to old new) es (subst (Came v trace from to es) is came) tally h
-
-pub tallies_stop_now : (p : Plan) (v : Version) (es : List Edge) (more : Result Bool Fault) (old new : Option (List ℕ)) (f : Fault) → more ≡ Err f → LeavesNow (Tallies p) v es more old new (Err f)
-tallies_stop_now p v es more old new f is = λ trace from to came. waits_now IsWaiting v trace (streams from to old new) es more came tt f is
 
 pub sums_unbegun : (task : Unit {0}) (p : Plan) (trace : List ℕ) (s : Streams) (f : Fault) → WroteNothing s → StopsWaiting IsUnread trace (streams s.from s.to None None) f → Sums p trace s (Err (fault.Trace f))
 sums_unbegun task p trace s f kept_so h = inl (stops_unread IsWaiting tt trace s f h, kept_so)

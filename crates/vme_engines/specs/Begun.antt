@@ -29,7 +29,7 @@ pub record HasCome
   pub known : input.reader.version ≡ Some version
   pub came : Comes from at [] input.reads input.reader es input.more
 
--- the same up to the header line
+-- the trace was read up to its header line, which names this version
 abbrev pub HasBegun : Option (List ℕ) → Option (List ℕ) → Version → Input → Type 0
 HasBegun from at version input = HasCome from at version input.edges.items input
 

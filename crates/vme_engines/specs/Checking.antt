@@ -85,8 +85,8 @@ abbrev pub Finds : Plan → List ℕ → Streams → Result Finding Fault → Ty
 Finds p trace s (Ok found) = IsFound p (read_of trace) s found
 Finds p trace s (Err f) = FindsNothing p trace s f
 
--- What a check of a trace on a plan leaves: the line of what it found, at X8 a prefix of it; where
--- it finds nothing, nothing.
+-- What a check of a trace on a plan leaves: the line of what it found, at X8 a prefix of it; if it
+-- finds nothing, nothing.
 abbrev pub Checks : Plan → List ℕ → Streams → Answer → Type 0
 Checks p trace s (Ok status) =
     (found : Finding) × IsFound p (read_of trace) s found

@@ -1,7 +1,8 @@
--- A number whose last digit stands apart, and the others in a row of bytes before some that do not matter.
+-- A number whose last digit stands apart, and the others in a row of bytes before some that do not
+-- matter.
 use Rattle.std.specs.Prelude.{◌≡◌, ◌+◌, ◌-◌, ◌*◌, ◌^◌, ◌<◌, ◌≤◌, ℕ, zero, suc, List, [], ◌++◌, length, drop, codes, decimal}
 
--- the digits before a number's last one, where these are its tens
+-- the digits before a number's last one, if these are its tens
 abbrev pub tens_text : ℕ → List ℕ
 tens_text zero = []
 tens_text (suc n) = decimal (suc n)

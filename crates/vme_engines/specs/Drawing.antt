@@ -69,8 +69,8 @@ status_to None n made ending = if made == n then Limit else Done
 status_to (Some g) n made Over = Limit
 status_to (Some g) n made _ = Done
 
--- What a drive with a seed leaves, by what the writer held and holds: the trace of a legal list, with
--- the edge that was missed after it; at X8 a prefix of that.
+-- What a drive with a seed leaves, by what the writer held and holds: the trace of a legal list,
+-- with the edge that was missed after it; at X8 a prefix of that.
 abbrev pub Draws :
     Version → ℕ → ℕ → Option Goal → Option (List ℕ) → Option (List ℕ)
     → Plan → Answer → Type 0

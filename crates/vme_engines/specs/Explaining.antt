@@ -28,7 +28,7 @@ abbrev pub IsUnasked : Option ℕ → Plan → Option Version → List Edge → 
 IsUnasked (Some asked) p version es = 0 < asked → length es < asked
 IsUnasked None p version es = refusal_of p version es ≡ None
 
--- the status where this edge is explained
+-- the status if this edge is explained
 abbrev pub edge_status : State → Edge → Status
 edge_status b e = if is_ok (verdict b e) then Done else SomeRefused
 
@@ -62,7 +62,7 @@ abbrev pub IsPrinted : Option ℕ → Plan → Reading → Streams → Status �
 IsPrinted edge p r s status text = IsExplained edge p r status text ⊎ IsAllLegal edge p r s status text
 
 -- What an explanation of an edge of a trace on a plan leaves: the block of the edge, or that all
--- are legal, at X8 a prefix of it; where there is neither, nothing. X9: of a whole trace with so
+-- are legal, at X8 a prefix of it; if there is neither, nothing. X9: of a whole trace with so
 -- many edges.
 abbrev pub Explains : Option ℕ → Plan → List ℕ → Streams → Answer → Type 0
 Explains edge p trace s (Ok status) =

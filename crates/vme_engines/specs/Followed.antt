@@ -25,7 +25,7 @@ printed_answer (Ok (Block status)) = Ok status
 printed_answer (Ok (Beyond edges)) = Err (fault.Beyond edges)
 printed_answer (Err f) = Err (fault.Trace f)
 
--- the same, where it may have no plan
+-- the answer of a command that is to print a block, if it may have no plan
 abbrev pub printed_status : Result Printed EngineFault → Answer
 printed_status (Ok (Block status)) = Ok status
 printed_status (Ok (Beyond edges)) = Err (fault.Beyond edges)

@@ -29,7 +29,7 @@ abbrev pub NoneBelow : Plan → Version → ℕ → Goal → ℕ → ℕ → Typ
 NoneBelow p version n g first seed =
     (s : ℕ) → first ≤ s → s < seed → (walk p version s n (Some g)).ending ≡ Over
 
--- What a try of one seed leaves: what a drive with it leaves where it comes to the goal, and else
+-- What a try of one seed leaves: what a drive with it leaves if it reaches the goal, and otherwise
 -- nothing.
 abbrev pub Attempts :
     Plan → Version → ℕ → ℕ → Goal → Option (List ℕ) → Option (List ℕ) → Tried → Type 0
@@ -38,8 +38,8 @@ Attempts p version seed n g old new (Ok false) =
     ((walk p version seed n (Some g)).ending ≡ Over) × Keeps old new
 Attempts p version seed n g old new (Err f) = Draws version seed n (Some g) old new p (Err f)
 
--- What a drive over seeds leaves: what a drive leaves with the first of them that comes to the goal,
--- and nothing where none does.
+-- What a drive over seeds leaves: what a drive leaves with the first of them that reaches the goal,
+-- and nothing if none does.
 abbrev pub Finds :
     Version → ℕ → ℕ → ℕ → Goal → Option (List ℕ) → Option (List ℕ)
     → Found → Plan → Answer → Type 0

@@ -20,7 +20,7 @@ cut at_line (b ∷ bytes) =
     if at_line && begins_trace (b ∷ bytes) then Some ([], b ∷ bytes)
     else option_map (λ parts. (b ∷ parts.0, parts.1)) (cut (b == 10) bytes)
 
--- No header line was found in these bytes: X1 at the end of the input, F1 or X5 where it could not
+-- No header line was found in these bytes: X1 at the end of the input, F1 or X5 if it could not
 -- be read on, or F3.
 abbrev pub FindsNoTrace : Streams → List ℕ → Answer → Type 0
 FindsNoTrace s bytes (Err (fault.Trace Header)) = (cut true bytes ≡ None) × IsReadOut s
@@ -29,8 +29,8 @@ FindsNoTrace s bytes (Err fault.CannotRead) = cut true bytes ≡ None
 FindsNoTrace s bytes (Err fault.NoMemory) = Unit {0}
 FindsNoTrace s bytes _ = ⊥
 
--- What `joined` leaves: a replay of the trace, in short lines, on the scenario before it, or nothing
--- where there is no trace.
+-- What `joined` leaves: a replay of the trace, in short lines, on the scenario before it, or
+-- nothing if there is no trace.
 abbrev pub Joins : Streams → Answer → Type 0
 Joins s answer =
     ((text : List ℕ) × (trace : List ℕ) × IsInput s.from (text ++ trace)

@@ -44,9 +44,9 @@ Lent text nothing Runs (Err fault.CannotRead) = ⊥
 Lent text nothing Runs (Ok status) =
     (p : Plan) × (length text ≤ scenario_limit) × (scenario text ≡ Ok p) × Runs p (Ok status)
 
--- The same of an engine that asks for memory once the scenario has its plan: where that is refused,
--- F3 is answered and `nothing` is done. No clause can say that memory was refused, as the allocator
--- says nothing by itself.
+-- What an engine does on the plan of a scenario's text if it asks for memory once the scenario has
+-- its plan: if that is refused, it answers F3, and `nothing` is done. No clause can say that memory
+-- was refused, since the allocator says nothing by itself.
 abbrev pub LentAsking : List ℕ → Type 0 → (Plan → Answer → Type 0) → Answer → Type 0
 LentAsking text nothing Runs (Err fault.NoMemory) =
     (p : Plan) × (length text ≤ scenario_limit) × (scenario text ≡ Ok p) × nothing
@@ -103,8 +103,8 @@ abbrev pub CanGoOn : List ℕ → Type 0
 CanGoOn bytes =
     ((read_of bytes).fault ≡ None) ⊎ ((read_of bytes).fault ≡ Some cut_off) ⊎ (bytes ≡ [])
 
--- What a replay of a trace leaves at a fault, where the trace stands in the input after a text. X1
--- to X4: the verdicts on the edges before it. X5: on the edges of what was read, which can go on.
+-- What a replay of a trace leaves at a fault, if the trace stands in the input after a text. X1 to
+-- X4: the verdicts on the edges before it. X5: on the edges of what was read, which can go on.
 -- X6: on the edges that found room. X8: a prefix of the report.
 abbrev pub ReplayStops : LineForm → Plan → List ℕ → List ℕ → Streams → Fault → Type 0
 ReplayStops form p text trace s Header = HasFault trace Header × Wrote s (report form p trace)

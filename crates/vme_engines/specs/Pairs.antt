@@ -43,7 +43,8 @@ ReadsPair stands s t (Ok judge) =
     × IsReadWhole s v es × IsReadWhole t w fs × stands v w es fs judge
 ReadsPair stands s t (Err f) = EitherMeets s t f
 
--- The same on the plan of a scenario's text. Without a plan, or without memory, `nothing` is done.
+-- What is read of two traces on the plan of a scenario's text. Without a plan, or without memory,
+-- `nothing` is done.
 abbrev pub LentPair :
     {J : Type 0} → List ℕ → Type 0 → (Plan → Result J PairFault → Type 0)
     → Result J PairFault → Type 0

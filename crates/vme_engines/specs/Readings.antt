@@ -41,7 +41,7 @@ Takes stands leaves v es more old new now (Ok None) = stands es old new now
 Takes stands leaves v es more old new now (Ok (Some a)) = LeavesNow leaves v es more old new (Ok a)
 Takes stands leaves v es more old new now (Err f) = LeavesNow leaves v es more old new (Err f)
 
--- Where a trace is read on after a first read, it leaves that of the whole trace.
+-- If a trace is read on after a first read, it leaves that of the whole trace.
 abbrev pub ReadsOn :
     {A : Type 0} → Leaving A → Version → trace.ReaderState → List Edge → Result Bool Fault → ℕ
     → Option (List ℕ) → Option (List ℕ) → Option (List ℕ) → Option (List ℕ)
@@ -52,11 +52,12 @@ ReadsOn leaves v reader es first left at to old new answer =
     → (rest : List ℕ) × IsInput from (head ++ rest)
     × leaves (head ++ rest) (streams from to old new) answer
 
--- the same of a whole input
+-- what a reading leaves of a whole input, as a trace
 abbrev pub ReadsInput : {A : Type 0} → Leaving A → Streams → Result A Fault → Type 0
 ReadsInput leaves s answer = (trace : List ℕ) × IsInput s.from trace × leaves trace s answer
 
--- The same on the plan of a scenario's text. Without a plan, or without memory, `nothing` is done.
+-- What a reading leaves on the plan of a scenario's text. Without a plan, or without memory,
+-- `nothing` is done.
 abbrev pub ReadsLent :
     {A : Type 0} → List ℕ → Type 0 → (Plan → Result A Fault → Type 0)
     → Result A EngineFault → Type 0

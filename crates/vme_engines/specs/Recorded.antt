@@ -9,7 +9,8 @@ abbrev pub answer_lines : ℕ → List (Result (Option Delivery) Refused) → Li
 answer_lines n [] = []
 answer_lines n (a ∷ xs) = verdict_line n a ++ answer_lines (n + 1) xs
 
--- the verdict lines of so many edges that are accepted and deliver nothing, the first of them the n-th
+-- the verdict lines of so many edges that are accepted and deliver nothing, the first of them the
+-- n-th
 abbrev pub plain_lines : ℕ → ℕ → List ℕ
 plain_lines n zero = []
 plain_lines n (suc many) = verdict_line n (Ok None) ++ plain_lines (n + 1) many

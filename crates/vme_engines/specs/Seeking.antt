@@ -28,7 +28,8 @@ is_over _ = false
 abbrev pub missed_once_due : Goal → Miss → State → Option Edge
 missed_once_due g m b = if is_due g (length b.history) then misses b g.driver m else None
 
--- the same by the goal's aim: none if that is an event
+-- the first edge that the goal's aim alone refuses, once enough edges are made: none if that is an
+-- event
 abbrev pub missed_for : Goal → Aim → State → Option Edge
 missed_for g (aim.Event v) b = None
 missed_for g (aim.Miss m) b = missed_once_due g m b
@@ -74,7 +75,7 @@ sought g (suc more) w =
     option_map_or (λ x. record { walk = turned g w; ending = x }) (ends_at g w)
     (sought g more (turned g w))
 
--- the same with a goal or without one
+-- the walk of n edges at most, with a goal or without one
 abbrev pub walk_to : Option Goal → ℕ → Walk → Ended
 walk_to None n w = record { walk = walked n w; ending = Over }
 walk_to (Some g) n w = sought g n w

@@ -19,7 +19,7 @@ abbrev pub picture_of : Bool → ℕ → ℕ → State → List Edge → List �
 picture_of color from to b es =
     picture color from (kept b (take (from - 1) es)) (drop (from - 1) (take to es))
 
--- the same of a trace, whose header line names this version, if any
+-- the picture of the edges `from` to `to` of a trace, whose header line names this version, if any
 abbrev pub shown_text : Bool → ℕ → ℕ → Plan → Option Version → List Edge → List ℕ
 shown_text color from to p None es = []
 shown_text color from to p (Some version) es = picture_of color from to (bench p version) es
@@ -28,7 +28,7 @@ shown_text color from to p (Some version) es = picture_of color from to (bench p
 abbrev pub IsShownOut : ℕ → Reading → Streams → Type 0
 IsShownOut to r s = (to ≤ length r.edges) ⊎ ((r.fault ≡ None) × IsReadOut s)
 
--- What is left where the edges `from` to `to` of a trace are shown, of which these stand before a
+-- What is left if the edges `from` to `to` of a trace are shown, of which these stand before a
 -- fault of it: the picture of those among them that are.
 abbrev pub StopsShowing :
     Bool → ℕ → ℕ → Plan → List ℕ → Streams → (List ℕ → Type 0) → Fault → Type 0
@@ -37,7 +37,7 @@ StopsShowing color from to p trace s Writes f =
     (λ version es. (length es < to) × Writes (shown_text color from to p version es))
     trace s f
 
--- What is left where the edges `from` to `to` of a trace on a plan are shown: their picture, at a
+-- What is left if the edges `from` to `to` of a trace on a plan are shown: their picture, at a
 -- fault of the trace that of those before it, at X8 a prefix. The status is by what is refused up
 -- to the last of them. X9: of a whole trace with so many edges.
 abbrev pub Shows : ℕ → ℕ → Bool → Plan → List ℕ → Streams → Answer → Type 0
@@ -57,7 +57,7 @@ Shows from to color p trace s (Err (fault.Beyond edges)) =
     (edges < from) × (edges ≡ length r.edges) × (r.fault ≡ None) × IsReadOut s × WroteNothing s
 Shows from to color p trace s (Err _) = ⊥
 
--- the same of the whole input
+-- what is left if the edges `from` to `to` of the whole input are shown, as a trace on a plan
 abbrev pub ShowsInput : ℕ → ℕ → Bool → Streams → Plan → Answer → Type 0
 ShowsInput from to color s p answer =
     (trace : List ℕ) × IsInput s.from trace × Shows from to color p trace s answer

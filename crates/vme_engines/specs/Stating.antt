@@ -39,8 +39,8 @@ pub record IsStated
   pub reached : IsReached after r s n
   pub block : text ≡ stands_behind (bench p version) r.edges n
 
--- What is left where a trace on a plan is asked where the bus stands: the block, at X8 a prefix of
--- it; where there is none, nothing. X9: of a whole trace with so many edges.
+-- What is left if a trace on a plan is asked where the bus stands: the block, at X8 a prefix of it;
+-- if there is none, nothing. X9: of a whole trace with so many edges.
 abbrev pub States : Option ℕ → Plan → List ℕ → Streams → Answer → Type 0
 States after p trace s (Ok status) =
     (text : List ℕ) × IsStated after p (read_of trace) s text × Wrote s text × (status ≡ Done)
@@ -54,7 +54,7 @@ States after p trace s (Err (fault.Beyond edges)) =
     × IsReadOut s × WroteNothing s
 States after p trace s (Err _) = ⊥
 
--- the same of the whole input
+-- what is left if the whole input is asked where the bus stands, as a trace on a plan
 abbrev pub StatesInput : Option ℕ → Streams → Plan → Answer → Type 0
 StatesInput after s p answer =
     (trace : List ℕ) × IsInput s.from trace × States after p trace s answer

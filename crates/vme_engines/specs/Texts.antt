@@ -32,7 +32,7 @@ KeepsListed b held old new b' held' =
     (first : Option (List ℕ)) → IsListed first old held (lines_made b)
     → IsListed first new held' (lines_made b')
 
--- What becomes of a bus and of such a text, where edges are made up to an end and each line is put
+-- What becomes of a bus and of such a text, if edges are made up to an end and each line is put
 -- to the text: at X8 a prefix of the lines of all was written.
 abbrev pub ListsOn :
     {A : Type 0} → State → List ℕ → Option (List ℕ) → Option (List ℕ)

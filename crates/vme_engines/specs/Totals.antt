@@ -32,7 +32,7 @@ Adds p trace s old new (Ok status) =
 Adds p trace s old new (Err (fault.Trace f)) = StopsWaiting IsWaiting trace s f
 Adds p trace s old new (Err _) = ⊥
 
--- the same of the whole input
+-- what the whole input, as one more trace of a plan, does to the sums of those before it
 abbrev pub AddsInput : Streams → Sums → Sums → Plan → Answer → Type 0
 AddsInput s old new p answer =
     (trace : List ℕ) × IsInput s.from trace × Adds p trace s old new answer

@@ -43,7 +43,8 @@ impl Finding {
     }
 }
 
-/// The first refusal among the answers to edges after the first `judged`: the number of its edge, and why.
+/// The first refusal among the answers to edges after the first `judged`: the number of its edge,
+/// and why.
 fn first_refused_of(judged: u64, records: &[AnswerRecord]) -> Option<(u64, Refused)>
     requires { judged + length records.now < 2 ^ 64 }
     ensures { result ≡ first_refused_of (judged + 1) (map answer_of records.now) }
@@ -61,9 +62,10 @@ fn first_refused_of(judged: u64, records: &[AnswerRecord]) -> Option<(u64, Refus
     None
 }
 
-/// Judges the edges of a chunk, which are those after the first `judged`, and gives the first refusal among the answers.
+/// Judges the edges of a chunk, which are those after the first `judged`, and gives the first
+/// refusal among the answers.
 ///
-/// Where the trace grew by each of them, none was refused, and no answer is looked at.
+/// If the trace grew by each of them, none was refused, and no answer is looked at.
 fn first_refused_in(
     bus: &mut Bus,
     judged: u64,
@@ -85,7 +87,8 @@ fn first_refused_in(
     first_refused_of(judged, &records[..chunk.len()])
 }
 
-/// Judges the edges after the first `judged`, and answers the first that is refused: its number, and why.
+/// Judges the edges after the first `judged`, and answers the first that is refused: its number,
+/// and why.
 ///
 /// Those after it may be judged too.
 fn first_refused(bus: &mut Bus, judged: u64, edges: &[Edge]) -> Option<(u64, Refused)>
@@ -109,8 +112,8 @@ fn first_refused(bus: &mut Bus, judged: u64, edges: &[Edge]) -> Option<(u64, Ref
     None
 }
 
-/// Writes what a check finds, and has the writer hand on what it holds back. The status says whether
-/// an edge is refused.
+/// Writes what a check finds, and has the writer hand on what it holds back. The status says
+/// whether an edge is refused.
 fn report<W: Write>(finding: Finding, out: &mut W) -> Result<Status, Fault>
     ensures status { IfOk result (λ status. status ≡ finding_status finding) }
     ensures ok { OnOk result
@@ -150,8 +153,8 @@ impl Judge for Checking {
 
     fn unbegun(_task: &()) {}
 
-    /// Judges the edges, up to the first that is refused. At the end of a trace without one, all are
-    /// legal.
+    /// Judges the edges, up to the first that is refused. At the end of a trace without one, all
+    /// are legal.
     fn take<W: Write>(
         &mut self,
         edges: &[Edge],
@@ -180,8 +183,9 @@ impl Judge for Checking {
 /// What a check finds in a trace, on the plan of a scenario: the first edge that is refused, behind
 /// which it reads no further, or that all are legal. It makes at most 16,777,216 reads.
 ///
-/// Errors: F2, the faults of the scenario and F3, before anything is read; those of the trace, if
-/// no edge before them is refused.
+/// # Errors
+/// F2, the faults of the scenario and F3, before anything is read; those of the trace, if no edge
+/// before them is refused.
 pub fn finding_of<R: Read>(
     alloc: Global,
     scenario: &[u8],
@@ -195,11 +199,14 @@ pub fn finding_of<R: Read>(
 
 /// Checks a trace on the plan of a scenario.
 ///
-/// Writes `illegal N VERDICT` if the N-th edge is the first that is refused, and reads no further; or `legal N` if
-/// all N edges are accepted, which are then a legal list and so a safe one. The status is `SomeRefused` or `Done`. It makes at most 16,777,216 reads.
+/// Writes `illegal N VERDICT` if the N-th edge is the first that is refused, and reads no further;
+/// or `legal N` if all N edges are accepted, which are then a legal list and so a safe one. The
+/// status is `SomeRefused` or `Done`. It makes at most 16,777,216 reads.
 ///
-/// Errors: F2, the faults of the scenario and F3, before anything is read or written; those of the trace, if no edge
-/// before them is refused, and then nothing is written; X8 if the output cannot be written.
+/// # Errors
+/// F2, the faults of the scenario and F3, before anything is read or written; those of the trace,
+/// if no edge before them is refused, and then nothing is written; X8 if the output cannot be
+/// written.
 pub fn check<R: Read, W: Write>(
     alloc: Global,
     scenario: &[u8],

@@ -12,9 +12,9 @@ const END: usize = 20;
 /// How many bytes of a number's row are copied at once.
 const ROW: usize = 24;
 
-/// The number of an edge, at most 2^64, kept in decimal. The digits of all its tens, none of 0, stand
-/// before bytes that do not matter, so that they can be copied as a row of fixed length. The last
-/// digit stands apart, since a row is slow to read just after one byte of it was stored.
+/// The number of an edge, at most 2^64, kept in decimal. The digits of all its tens, none of 0,
+/// stand before bytes that do not matter, so that they can be copied as a row of fixed length. The
+/// last digit stands apart, since a row is slow to read just after one byte of it was stored.
 #[derive(Drop)]
 pub(crate) struct Count {
     tens: u64,
@@ -84,7 +84,8 @@ impl Count {
         }
     }
 
-    /// Appends the number with these tens and this last digit, in decimal, and the first `size` bytes of a tail.
+    /// Appends the number with these tens and this last digit, in decimal, and the first `size`
+    /// bytes of a tail.
     #[inline(always)]
     pub(crate) fn push_line(&self, text: &mut Text, digit: u8, tail: [u8; 8], size: usize)
         requires least { 48 ≤ digit }

@@ -41,7 +41,8 @@ fn take<W: Write>(walk: &mut Walk, edges: u32, text: &mut Text, out: &mut W) -> 
     Ok(())
 }
 
-/// The same up to a goal, if there is one, and how the walk ended.
+/// Draws edges and makes them, at most so many, up to a goal if there is one. Returns how the walk
+/// ended.
 fn walk_to<W: Write>(
     walk: &mut Walk,
     goal: Option<Goal>,
@@ -106,7 +107,8 @@ fn write_edges<W: Write>(
 
 /// Writes the trace of a walk: the header line, and the line of each edge as it is made.
 ///
-/// Errors: X8 if the output cannot be written; a prefix of the trace was then written.
+/// # Errors
+/// X8 if the output cannot be written; a prefix of the trace was then written.
 #[inline(never)]
 pub(crate) fn write_walk<W: Write>(
     walk: &mut Walk,
@@ -146,7 +148,8 @@ fn status_to(goal: Option<Goal>, edges: u32, made: u32, ending: Ending) -> Statu
 /// Draws edges and makes them, at most so many and up to the goal, on a walk that has none, and
 /// writes their trace.
 ///
-/// Errors: X8 if the output cannot be written.
+/// # Errors
+/// X8 if the output cannot be written.
 pub(crate) fn draw_trace<W: Write>(
     walk: &mut Walk,
     edges: u32,
@@ -174,7 +177,8 @@ pub(crate) fn draw_trace<W: Write>(
 /// Draws edges on a plan by the numbers of a seed, at most so many and up to the goal, and writes
 /// their trace. Its frame is large.
 ///
-/// Errors: X8 if the output cannot be written.
+/// # Errors
+/// X8 if the output cannot be written.
 #[inline(never)]
 fn draw_on<W: Write>(
     plan: Plan,
@@ -192,16 +196,19 @@ fn draw_on<W: Write>(
     draw_trace(walk, edges, until, out)
 }
 
-/// Draws edges of a scenario's bus among all that the rules allow, by the numbers of a seed, and writes their
-/// trace: at most `edges`, and with a goal up to the edge that brings it about. Where the goal is a condition, it ends
-/// with the first edge that this condition alone refuses, which is written after the others and counts as one of them.
+/// Draws edges of a scenario's bus among all that the rules allow, by the numbers of a seed, and
+/// writes their trace: at most `edges`, and with a goal up to the edge that brings it about. If the
+/// goal is a condition, it ends with the first edge that this condition alone refuses, which is
+/// written after the others and counts as one of them.
 ///
-/// The status without a goal is `Limit` if `edges` of them were made, otherwise `Done`; with one it is `Done` if the
-/// goal came, and else `Limit`.
+/// The status without a goal is `Limit` if `edges` of them were made, otherwise `Done`; with one it
+/// is `Done` if the goal came, otherwise `Limit`.
 ///
 /// The lines are written as the edges are made, and no edge is kept.
 ///
-/// Errors: F2 and the faults of the scenario, before anything is written; X8 if the output cannot be written.
+/// # Errors
+/// F2 and the faults of the scenario, before anything is written; X8 if the output cannot be
+/// written.
 pub fn drive_drawn<W: Write>(
     alloc: Global,
     scenario: &[u8],

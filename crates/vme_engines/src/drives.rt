@@ -129,7 +129,8 @@ impl Driving {
 
 /// Puts the line of an edge to a text, which is written first if it has no room for it.
 ///
-/// Errors: X8 if that failed; a prefix of the text was then written.
+/// # Errors
+/// X8 if that failed; a prefix of the text was then written.
 #[inline(always)]
 pub(crate) fn put_line<W: Write>(text: &mut Text, edge: &Edge, out: &mut W) -> Result<(), Fault>
     requires { IsTrue (is_well_formed edge.now) }
@@ -156,7 +157,8 @@ pub fn status_of(made: u32, edges: u32) -> Status
     }
 }
 
-/// Lets the drivers of a plan make edges in turn, at most `edges`, and writes their trace. Its frame is large.
+/// Lets the drivers of a plan make edges in turn, at most `edges`, and writes their trace. Its
+/// frame is large.
 #[inline(never)]
 fn drive_on<W: Write>(
     plan: Plan,
@@ -177,12 +179,14 @@ fn drive_on<W: Write>(
 
 /// Lets the drivers of a scenario make edges in turn, at most `edges`, and writes their trace.
 ///
-/// The status is `Limit` if `edges` of them were made, otherwise `Done`. A driver with k offers makes, in round r, the
-/// one at place `r mod k`; a round that makes no edge is the last.
+/// The status is `Limit` if `edges` of them were made, otherwise `Done`. A driver with k offers
+/// makes, in round r, the one at place `r mod k`; a round that makes no edge is the last.
 ///
 /// The lines are written as the edges are made, and no edge is kept.
 ///
-/// Errors: F2 and the faults of the scenario, before anything is written; X8 if the output cannot be written.
+/// # Errors
+/// F2 and the faults of the scenario, before anything is written; X8 if the output cannot be
+/// written.
 pub fn drive<W: Write>(
     alloc: Global,
     scenario: &[u8],

@@ -16,7 +16,8 @@ static DRIVERS: [[u8; 4]; 22] = [
     *b"18 .", *b"19 .", *b"20 .", *b"21 .",
 ];
 
-/// The word of each wire with the sign of a rise, and of a fall, and a line feed. A grant has a word for each level.
+/// The word of each wire with the sign of a rise, and of a fall, and a line feed. A grant has a
+/// word for each level.
 static WORDS: [[u8; 16]; 32] = [
     *b"bg0+\n...........",
     *b"bg0-\n...........",

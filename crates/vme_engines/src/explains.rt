@@ -21,8 +21,8 @@ use vme_explain::write_why;
 use vme_model::Edge;
 use vme_trace::{Fault, flush};
 
-/// Writes the block of the edge that was found, and has the writer hand on what it holds back. The status says whether
-/// the edge is refused.
+/// Writes the block of the edge that was found, and has the writer hand on what it holds back. The
+/// status says whether the edge is refused.
 fn write_explained<W: Write>(
     following: &Following,
     found: &Found,
@@ -88,8 +88,8 @@ impl Judge for Explaining {
 
     fn unbegun(_task: &Option<u64>) {}
 
-    /// Explains the edge that is asked for once it comes, before it is made. At the end of a trace without
-    /// one that is refused, it prints that all are legal.
+    /// Explains the edge that is asked for once it comes, before it is made. At the end of a trace
+    /// without one that is refused, it prints that all are legal.
     fn take<W: Write>(
         &mut self,
         edges: &[Edge],
@@ -114,16 +114,18 @@ impl Judge for Explaining {
     }
 }
 
-/// Explains an edge of a trace on the plan of a scenario: the one with the number `edge`, counted from 1, or without one
-/// the first that is refused.
+/// Explains an edge of a trace on the plan of a scenario: the one with the number `edge`, counted
+/// from 1, or without one the first that is refused.
 ///
-/// Writes the edge with its verdict, and the conditions of its rule, each with whether it holds and since when. The
-/// status is `SomeRefused` if the edge is refused, otherwise `Done`. Without a number, if no edge is refused, it
-/// writes `legal N`. Behind that edge it judges none. It makes at most 16,777,216 reads.
+/// Writes the edge with its verdict, and the conditions of its rule, each with whether it holds and
+/// since when. The status is `SomeRefused` if the edge is refused, otherwise `Done`. Without a
+/// number, if no edge is refused, it writes `legal N`. Behind that edge it judges none. It makes at
+/// most 16,777,216 reads.
 ///
-/// Errors: F2, the faults of the scenario and F3, before anything is read or written; those of the trace before the
-/// edge, and X9 if a trace without fault has fewer edges, or the number is 0: then nothing is written; X8 if the
-/// output cannot be written.
+/// # Errors
+/// F2, the faults of the scenario and F3, before anything is read or written; those of the trace
+/// before the edge, and X9 if a trace without fault has fewer edges, or the number is 0: then
+/// nothing is written; X8 if the output cannot be written.
 pub fn explain<R: Read, W: Write>(
     alloc: Global,
     scenario: &[u8],

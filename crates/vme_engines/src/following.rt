@@ -56,7 +56,8 @@ pub(crate) fn status_of(printed: Result<Printed, EngineFault>) -> Result<Status,
     }
 }
 
-/// How many of `len` edges after the first `judged` are among the first `n`, unless all are and more.
+/// How many of `len` edges after the first `judged` are among the first `n`, unless all are and
+/// more.
 fn count_up_to(n: Option<u64>, judged: u64, len: usize) -> Option<usize>
     ensures some { IfSome result (λ count. (n ≡ Some (judged + count)) × (count ≤ len)) }
     ensures none { IfNone result
@@ -96,7 +97,7 @@ impl Following {
     }
 
     /// The situations that an edge brings about that is about to be made.
-    pub fn events(&self, edge: &Edge) -> ArrayVec<Event, 2>
+    pub(crate) fn events(&self, edge: &Edge) -> ArrayVec<Event, 2>
         ensures { OfOrdered self.now.bus self.now.marks (λ _. result.items
             ≡ events_of self.now.bus.plan self.now.bus.history edge.now) }
     {
@@ -166,7 +167,8 @@ impl Following {
         Some(Found { edge, answer })
     }
 
-    /// Follows the edges up to the one that is asked for, which it gives: that of a number, or the first that is refused.
+    /// Follows the edges up to the one that is asked for, which it gives: that of a number, or the
+    /// first that is refused.
     pub(crate) fn follow_to(&mut self, edge: Option<u64>, edges: &[Edge]) -> Option<Found>
         requires { self.old.judged + length edges.now < 2 ^ 64 }
         ensures { Seeks edge self.old edges.now self.new result }
@@ -177,7 +179,8 @@ impl Following {
         }
     }
 
-    /// Follows the edges among the first `n` of the trace, or all. How many those are, if the n-th was the last.
+    /// Follows the edges among the first `n` of the trace, or all. How many those are, if the n-th
+    /// was the last.
     pub(crate) fn follow_through(&mut self, n: Option<u64>, edges: &[Edge]) -> Option<usize>
         requires { self.old.judged + length edges.now < 2 ^ 64 }
         ensures { Reaches n self.old edges.now self.new result }

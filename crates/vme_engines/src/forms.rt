@@ -21,7 +21,8 @@ use vme_trace::Fault;
 /// Judges the n-th edge, and puts its full line to a text, which is written out if it has no room
 /// for ten short lines.
 ///
-/// Errors: X8 if that failed; a prefix of the text was then written.
+/// # Errors
+/// X8 if that failed; a prefix of the text was then written.
 fn write_full_line<W: Write>(
     bus: &mut Bus,
     n: u64,
@@ -47,7 +48,8 @@ fn write_full_line<W: Write>(
 /// Judges the edges after the first `judged`, and writes the full line of each. The lines are put
 /// together in `text`, whatever it held.
 ///
-/// Errors: X8 if that failed; a prefix of the lines was then written.
+/// # Errors
+/// X8 if that failed; a prefix of the lines was then written.
 #[inline(never)]
 fn write_full<W: Write>(
     bus: &mut Bus,
@@ -76,10 +78,11 @@ fn write_full<W: Write>(
     hand_on(text, out)
 }
 
-/// Judges the edges after the first `judged`, and writes the line of each in this form. The lines are
-/// put together in `text`, whatever it held.
+/// Judges the edges after the first `judged`, and writes the line of each in this form. The lines
+/// are put together in `text`, whatever it held.
 ///
-/// Errors: X8 if that failed; a prefix of the lines was then written.
+/// # Errors
+/// X8 if that failed; a prefix of the lines was then written.
 pub(crate) fn write_form<W: Write>(
     form: LineForm,
     bus: &mut Bus,

@@ -1,5 +1,5 @@
 //! A scenario and a trace in one input.
-ghost use Rattle.std.specs.Prelude.{◌≡◌, ◌≢◌, ◌+◌, ◌<◌, ◌≤◌, ◌++◌, ◌∷◌, ℕ, List, [], length, take, drop, Some, None, Ok, Err, OnOk, OnErr};
+ghost use Rattle.std.specs.Prelude.{◌≡◌, ◌+◌, ◌<◌, ◌≤◌, ◌++◌, ◌∷◌, ℕ, List, [], length, take, drop, Some, None, Ok, Err, OnOk};
 ghost use Rattle.vme_model.specs.Text.{header};
 ghost use Rattle.vme_trace.specs.Reading.{HasRead};
 ghost use Rattle.vme_engines.specs.Streams.{streams};
@@ -75,7 +75,7 @@ impl Front {
         }
     }
 
-    /// Takes the next byte. Where it ends a header line, the version that is named there.
+    /// Takes the next byte. If it ends a header line, returns the version that the line names.
     fn take(&mut self, byte: u8) -> Result<Option<Version>, AllocError>
         ensures { (bytes : List ℕ) → IsFront self.old bytes → Takes bytes byte self.new result }
     {
@@ -209,8 +209,11 @@ fn replay_behind<R: Read, W: Write>(
 
 /// Replays what stands in one input: a scenario, and from the first header line on a trace.
 ///
-/// Writes and answers what [`replay`](crate::replay) does in the short form. Errors: X1 if no line is a header line; F1 if a read
-/// fails before one was read; F2 if more than 1,048,576 bytes stand before it.
+/// Writes and answers what [`replay`](crate::replay) does in the short form.
+///
+/// # Errors
+/// X1 if no line is a header line; F1 if a read fails before one was read; F2 if more than
+/// 1,048,576 bytes stand before it.
 pub fn joined<R: Read, W: Write>(
     alloc: Global,
     input: &mut R,

@@ -1,5 +1,5 @@
 //! What the definitions of the engines say together.
-ghost use Rattle.std.specs.Prelude.{◌≡◌, ◌≤◌, List, length};
+ghost use Rattle.std.specs.Prelude.{◌≤◌, List, length};
 ghost use Rattle.vme_model.specs.declared.signals.Version.{Version};
 ghost use Rattle.vme_model.specs.declared.signals.Edge.{Edge};
 ghost use Rattle.vme_model.specs.Plan.{Plan};
@@ -11,7 +11,8 @@ ghost use Rattle.vme_model.specs.Text.{text, read_of};
 ghost use Rattle.vme_engines.specs.Bringing.{EndsWithItsEvent};
 ghost use Rattle.vme_engines.specs.Checking.{IsLegalTrace};
 
-/// The trace of a legal list is what `check` calls legal. Such lists are what `drive` and `run` write.
+/// The trace of a legal list is what `check` calls legal. Such lists are what `drive` and `run`
+/// write.
 pub fn the_trace_of_a_legal_list_is_legal()
     ensures { (plan : Plan) (version : Version) (history : List Edge)
         → IsAccepted plan → IsLegal version plan history → length history ≤ trace_limit

@@ -1,6 +1,8 @@
-//! The engines of the program: each reads a scenario and a trace, and writes what the rules say of it.
+//! The engines of the program: each reads a scenario and a trace, and writes what the rules say of
+//! it.
 //!
-//! They are generic over the reader and the writer. `specs/Outcomes.antt` says what each leaves behind and answers.
+//! They are generic over the reader and the writer. `specs/Outcomes.antt` says what each leaves
+//! behind and answers.
 #![tactic(auto)]
 
 mod checks;
@@ -56,8 +58,8 @@ pub const SCENARIO_LIMIT: usize = 1_048_576;
 /// The most reads of one engine.
 pub const READS: u32 = 16_777_216;
 
-/// How many bytes of a trace are asked for at once: more than a pipe or a terminal has waiting, so that their pieces are
-/// short. Of a file the last piece alone is.
+/// How many bytes of a trace are asked for at once: more than a pipe or a terminal has waiting, so
+/// that their pieces are short. Of a file the last piece alone is.
 const PIECE: usize = 69_632;
 
 /// How an engine ended that met no fault.

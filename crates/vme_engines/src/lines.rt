@@ -1,7 +1,6 @@
 //! The lines that engines write.
 ghost use Rattle.std.specs.Prelude.{◌≡◌, ◌+◌, ◌-◌, ◌%◌, ◌<◌, ◌≤◌, ◌^◌, ◌++◌, [], length, map, Err, IfErr, OnOk, OnErr};
 ghost use Rattle.std.specs.Io.KnownBytes.{Appends};
-ghost use Rattle.arrayvec.specs.ArrayVec.{array_vec_len};
 ghost use Rattle.vme_model.specs.Verdict.{kept};
 ghost use Rattle.vme_model.specs.Locality.{AreWellFormed};
 ghost use Rattle.vme_model.specs.Report.{verdict_lines, closing_text};
@@ -28,7 +27,8 @@ const LINE: usize = 80;
 
 /// Has a text written, and forgets it.
 ///
-/// Errors: X8 if that failed; a prefix of the text was then written.
+/// # Errors
+/// X8 if that failed; a prefix of the text was then written.
 #[inline(never)]
 pub(crate) fn hand_on<W: Write>(text: &mut Text, out: &mut W) -> Result<(), Fault>
     ensures empty { OnOk result (text.new ≡ []) }
@@ -44,7 +44,8 @@ pub(crate) fn hand_on<W: Write>(text: &mut Text, out: &mut W) -> Result<(), Faul
 
 /// Has a text written if it has no room for ten further lines.
 ///
-/// Errors: X8 if that failed; a prefix of the text was then written.
+/// # Errors
+/// X8 if that failed; a prefix of the text was then written.
 #[inline(always)]
 pub(crate) fn make_room<W: Write>(text: &mut Text, out: &mut W) -> Result<(), Fault>
     ensures room { OnOk result (length text.new + 640 ≤ 8192) }
@@ -114,10 +115,11 @@ fn push_lines(text: &mut Text, count: &Count, records: &[AnswerRecord])
     }
 }
 
-/// Appends the verdict lines of edges, from `count` on, to a text that is written out whenever it has no room for ten lines
-/// more, and counts on after them.
+/// Appends the verdict lines of edges, from `count` on, to a text that is written out whenever it
+/// has no room for ten lines more, and counts on after them.
 ///
-/// Errors: X8 if that failed; a prefix of the lines was then written.
+/// # Errors
+/// X8 if that failed; a prefix of the lines was then written.
 #[inline(always)]
 fn write_lines<W: Write>(
     records: &[AnswerRecord],
@@ -147,10 +149,11 @@ fn write_lines<W: Write>(
     Ok(())
 }
 
-/// Judges the edges after the first `judged`, and writes the verdict line of each. The lines are put
-/// together in `text`, whatever it held.
+/// Judges the edges after the first `judged`, and writes the verdict line of each. The lines are
+/// put together in `text`, whatever it held.
 ///
-/// Errors: X8 if that failed; a prefix of the lines was then written.
+/// # Errors
+/// X8 if that failed; a prefix of the lines was then written.
 pub(crate) fn write_verdicts<W: Write>(
     bus: &mut Bus,
     judged: u64,

@@ -32,7 +32,7 @@ pub trait Pair: Drop {
     ghost second_count: { Self → ℕ };
 
     /// It was asked this, began on a plan for two traces of these versions, and took these edges of
-    /// the first since and these of the second; whether it was told that each has ended.
+    /// the first since and these of the second; whether it has learnt that each has ended.
     ghost stands: { Self.Task → PlanValue → VersionValue → VersionValue → List EdgeValue → Bool
         → List EdgeValue → Bool → Self → Type 0 };
 
@@ -129,7 +129,8 @@ fn turn_of(is_wanted: bool, first_goes_on: bool, second_goes_on: bool) -> Option
 
 /// Hands the last piece of the first trace to a judge, and whether the trace ends with it.
 ///
-/// Errors: what the read of the piece answered; X6.
+/// # Errors
+/// What the read of the piece answered; X6.
 fn hand_first<J: Pair>(judge: &mut J, input: &Input) -> Result<(), Fault>
     requires count { J.first_count judge.old + length input.now.edges.items < 2 ^ 64 }
     requires well_formed { AreWellFormed input.now.edges.items }
@@ -155,7 +156,8 @@ fn hand_first<J: Pair>(judge: &mut J, input: &Input) -> Result<(), Fault>
 
 /// Hands the last piece of the second trace to a judge, and whether the trace ends with it.
 ///
-/// Errors: what the read of the piece answered; X6.
+/// # Errors
+/// What the read of the piece answered; X6.
 fn hand_second<J: Pair>(judge: &mut J, input: &Input) -> Result<(), Fault>
     requires count { J.second_count judge.old + length input.now.edges.items < 2 ^ 64 }
     requires well_formed { AreWellFormed input.now.edges.items }

@@ -4,12 +4,15 @@ ghost use Rattle.std.specs.Prelude.{◌≡◌, length, IfOk, IfErr};
 use crate::{EngineFault, PIECE};
 use std::alloc::Global;
 
-/// How many edges of a piece are judged before their answers are looked at: so few that the answers stay at hand.
+/// How many edges of a piece are judged before their answers are looked at: so few that the answers
+/// stay at hand.
 pub(crate) const JUDGED_AT_ONCE: usize = 512;
 
-/// The buffer of a piece, on the heap. An engine asks for it once the scenario has its plan, and lends it to each read.
+/// The buffer of a piece, on the heap. An engine asks for it once the scenario has its plan, and
+/// lends it to each read.
 ///
-/// Errors: F3 if its memory is refused. An engine that reads a trace asks for no other memory by that name.
+/// # Errors
+/// F3 if its memory is refused. An engine that reads a trace asks for no other memory by that name.
 pub(crate) fn buffer_of(alloc: Global) -> Result<Vec<u8>, EngineFault>
     ensures room { IfOk result (λ buffer. length buffer.items ≡ 69632) }
     ensures fault { IfErr result (λ fault. fault ≡ EngineFault.NoMemory) }
@@ -21,8 +24,8 @@ pub(crate) fn buffer_of(alloc: Global) -> Result<Vec<u8>, EngineFault>
     }
 }
 
-/// Whether whoever writes the trace may wait behind a read that gave so many bytes: nothing else was waiting, or they
-/// end with a whole line.
+/// Whether whoever writes the trace may wait behind a read that gave so many bytes: nothing else
+/// was waiting, or they end with a whole line.
 pub(crate) fn has_paused(buffer: &[u8], count: usize) -> bool {
     count < buffer.len() || buffer.ends_with(b"\n")
 }

@@ -10,7 +10,8 @@ use vme_slots::Plan;
 
 /// The plan of a scenario's text.
 ///
-/// Errors: F2 if the text has more than 1,048,576 bytes, else the first fault of the scenario.
+/// # Errors
+/// F2 if the text has more than 1,048,576 bytes, else the first fault of the scenario.
 #[inline(never)]
 pub fn plan_of(alloc: Global, text: &[u8]) -> Result<Plan, EngineFault>
     ensures ok { IfOk result

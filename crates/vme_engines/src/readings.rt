@@ -1,5 +1,5 @@
 //! The one reading of a trace: a judge takes its edges piece by piece, until it has an answer.
-ghost use Rattle.std.specs.Prelude.{◌≡◌, ◌+◌, ◌<◌, ◌^◌, ◌++◌, ℕ, List, [], Option, None, Bool, Result, Ok, Err, true, length};
+ghost use Rattle.std.specs.Prelude.{◌≡◌, ◌+◌, ◌<◌, ◌^◌, ◌++◌, ℕ, List, [], Option, None, Result, Ok, Err, true, length};
 ghost use Rattle.vme_model.specs.declared.signals.Edge.{Edge as EdgeValue};
 ghost use Rattle.vme_model.specs.declared.signals.Version.{Version as VersionValue};
 ghost use Rattle.vme_model.specs.Plan.{Plan as PlanValue};
@@ -37,8 +37,8 @@ pub trait Judge: Drop {
     /// How many edges it took.
     ghost count: { Self → ℕ };
 
-    /// It was asked this, began on a plan for a trace of a version, and took these edges since; what the
-    /// writer held then and holds.
+    /// It was asked this, began on a plan for a trace of a version, and took these edges since;
+    /// what the writer held then and holds.
     ghost stands: { Self.Task → PlanValue → VersionValue → List EdgeValue
         → Option (List ℕ) → Option (List ℕ) → Self → Type 0 };
 
@@ -62,8 +62,8 @@ pub trait Judge: Drop {
 
     /// Takes the edges of a piece. None if it has no answer yet, and the trace goes on.
     ///
-    /// `more` is what the read of the piece answered. If whoever writes the trace has `paused` behind
-    /// it, all that is written so far is to be handed on.
+    /// `more` is what the read of the piece answered. If whoever writes the trace has `paused`
+    /// behind it, all that is written so far is to be handed on.
     fn take<W: Write>(
         &mut self,
         edges: &[Edge],
@@ -83,8 +83,9 @@ pub trait Judge: Drop {
 /// Has a judge take the edges of a trace whose first piece was read, with at most so many further
 /// reads, and gives what it answers.
 ///
-/// Behind the first piece, and each one that is shorter than was asked for or ends with a whole line,
-/// the judge hands on what it has written, since the next read may wait for whoever reads that.
+/// Behind the first piece, and each one that is shorter than was asked for or ends with a whole
+/// line, the judge hands on what it has written, since the next read may wait for whoever reads
+/// that.
 pub(crate) fn read_on<J: Judge, R: Read, W: Write>(
     judge: &mut J,
     reader: &mut Reader,
@@ -149,8 +150,8 @@ fn read_trace<J: Judge, R: Read, W: Write>(
 
 /// Reads a trace by a judge, on the plan of a scenario. It makes at most 16,777,216 reads.
 ///
-/// Errors: F2, the faults of the scenario and F3, before anything is read or written; those of the
-/// judge.
+/// # Errors
+/// F2, the faults of the scenario and F3, before anything is read or written; those of the judge.
 pub fn read<J: Judge, R: Read, W: Write>(
     alloc: Global,
     scenario: &[u8],

@@ -29,8 +29,8 @@ pub(crate) fn status_of(refused: u64) -> Status
 
 /// Writes the lines of the edges of a piece, and at the end of the trace the closing line.
 ///
-/// `more` is what the read of the piece answered. None if the trace goes on; if its writer has `paused`, `out`
-/// hands on what it holds back.
+/// `more` is what the read of the piece answered. None if the trace goes on; if its writer has
+/// `paused`, `out` hands on what it holds back.
 fn take_piece<W: Write>(
     form: LineForm,
     bus: &mut Bus,
@@ -131,8 +131,9 @@ impl Judge for Replaying {
 /// `n EDGE VERDICT`, which takes more time. It makes at most 16,777,216 reads. If one gave fewer
 /// bytes than were asked for, the writer hands on what it holds back before the next.
 ///
-/// Errors: F2, the faults of the scenario and F3, before anything is read or written; those of the trace, after the
-/// verdicts on the edges before them; X8 if the output cannot be written.
+/// # Errors
+/// F2, the faults of the scenario and F3, before anything is read or written; those of the trace,
+/// after the verdicts on the edges before them; X8 if the output cannot be written.
 pub fn replay<R: Read, W: Write>(
     alloc: Global,
     scenario: &[u8],

@@ -123,13 +123,13 @@ fn search_on<W: Write, P: Progress>(
 }
 
 /// Draws edges of a scenario's bus by one seed after the other, from the first to the last, until
-/// the walk of one comes to the goal within `edges`. Its trace is written, and the seed is answered.
-/// Where none comes to it, nothing is written, and the answer is none. The scenario is read once,
-/// before the first seed. `progress` hears of each seed before it is tried, and while it is tried of
-/// how many edges were drawn.
+/// the walk of one reaches the goal within `edges`. Its trace is written, and the seed is answered.
+/// If none reaches it, nothing is written, and the answer is none. The scenario is read once,
+/// before the first seed. `progress` hears of each seed before it is tried, and while it is tried
+/// of how many edges were drawn.
 ///
-/// Errors: F2 and the faults of the scenario, before a seed is tried; X8 if the output cannot be
-/// written.
+/// # Errors
+/// F2 and the faults of the scenario, before a seed is tried; X8 if the output cannot be written.
 pub fn drive_found<W: Write, P: Progress>(
     alloc: Global,
     scenario: &[u8],

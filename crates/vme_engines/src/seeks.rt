@@ -133,8 +133,8 @@ fn take_turn<W: Write>(
     }
 }
 
-/// Draws edges and makes them, so many, or until the goal has come, or none is open. The line of each
-/// is put to a text, which is written whenever it has no room for the next.
+/// Draws edges and makes them, so many, or until the goal has come, or none is open. The line of
+/// each is put to a text, which is written whenever it has no room for the next.
 pub(crate) fn seek<W: Write>(
     walk: &mut Walk,
     goal: Goal,

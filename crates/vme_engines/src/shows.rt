@@ -141,7 +141,8 @@ impl Showing {
         self.keep_all(&edges[before..]);
     }
 
-    /// Writes the picture of what is kept of the stretch, if anything, and has the writer hand on what it holds back.
+    /// Writes the picture of what is kept of the stretch, if anything, and has the writer hand on
+    /// what it holds back.
     fn draw<W: Write>(&self, out: &mut W) -> Result<(), Fault>
         ensures ok { OnOk result ((b : State) (es : List EdgeValue) → IsShown b es self.now
             → Appends (W.contents out.old) (W.contents out.new)
@@ -169,7 +170,8 @@ impl Showing {
         status_of(self.judged.saturating_sub(accepted))
     }
 
-    /// Ends a stretch, or a trace: what is kept of the stretch is drawn, unless the trace ends before it.
+    /// Ends a stretch, or a trace: what is kept of the stretch is drawn, unless the trace ends
+    /// before it.
     fn end<W: Write>(&self, out: &mut W) -> Result<Printed, Fault>
         ensures { (b : State) (es : List EdgeValue) → IsShown b es self.now
             → EndsStretch self.now.stretch b es (W.contents out.old) (W.contents out.new) result }
@@ -246,16 +248,18 @@ impl Judge for Showing {
     }
 }
 
-/// Shows the edges with the numbers `from` to `to` of a trace, on the plan of a scenario, as a picture: a row for each wire
-/// that moves among them, a column for each edge.
+/// Shows the edges with the numbers `from` to `to` of a trace, on the plan of a scenario, as a
+/// picture: a row for each wire that moves among them, a column for each edge.
 ///
-/// Writes the picture of those of them that the trace has. With `color` each `x` of a refused edge is red, and each `!` of a
-/// delivery green. The status is `SomeRefused` if an edge up to the last of them is refused, otherwise `Done`. After
-/// that edge it judges none. It makes at most 16,777,216 reads.
+/// Writes the picture of those of them that the trace has. With `color` each `x` of a refused edge
+/// is red, and each `!` of a delivery green. The status is `SomeRefused` if an edge up to the last
+/// of them is refused, otherwise `Done`. After that edge it judges none. It makes at most
+/// 16,777,216 reads.
 ///
-/// Errors: F2, the faults of the scenario and F3, before anything is read or written; those of the trace up to the edge
-/// `to`, after the picture of the edges before them; X9 if a trace without fault has fewer than `from` edges: then
-/// nothing is written; X8 if the output cannot be written.
+/// # Errors
+/// F2, the faults of the scenario and F3, before anything is read or written; those of the trace up
+/// to the edge `to`, after the picture of the edges before them; X9 if a trace without fault has
+/// fewer than `from` edges: then nothing is written; X8 if the output cannot be written.
 pub fn show<R: Read, W: Write>(
     alloc: Global,
     scenario: &[u8],

@@ -87,15 +87,17 @@ impl Judge for Stating {
     }
 }
 
-/// Prints where the bus stands after the first `after` edges of a trace, or after all, on the plan of a scenario.
+/// Prints where the bus stands after the first `after` edges of a trace, or after all, on the plan
+/// of a scenario.
 ///
-/// Writes how many edges were accepted, who holds the bus, where the grant stands, what is shown, who asks, which
-/// interrupts are pending, which wires are low and which edges are open. The status is `Done`. Behind the first `after`
-/// edges it judges none. It makes at most 16,777,216 reads.
+/// Writes how many edges were accepted, who holds the bus, where the grant stands, what is shown,
+/// who asks, which interrupts are pending, which wires are low and which edges are open. The status
+/// is `Done`. Behind the first `after` edges it judges none. It makes at most 16,777,216 reads.
 ///
-/// Errors: F2, the faults of the scenario and F3, before anything is read or written; those of the trace up to that
-/// place, and X9 if a trace without fault ends before it: then nothing is written; X8 if the output cannot be
-/// written.
+/// # Errors
+/// F2, the faults of the scenario and F3, before anything is read or written; those of the trace up
+/// to that place, and X9 if a trace without fault ends before it: then nothing is written; X8 if
+/// the output cannot be written.
 pub fn state<R: Read, W: Write>(
     alloc: Global,
     scenario: &[u8],

@@ -56,8 +56,8 @@ impl Summing {
         }
     }
 
-    /// Writes what the edges came to, and has the writer hand on what it holds back. The status says
-    /// whether some edge was refused.
+    /// Writes what the edges came to, and has the writer hand on what it holds back. The status
+    /// says whether some edge was refused.
     fn print_summary<W: Write>(&self, out: &mut W) -> Result<Status, Fault>
         ensures status { IfOk result (λ status. OfSum self.now (λ p v es.
             status ≡ status_with (refused (answered (bench p v) es)))) }
@@ -116,12 +116,13 @@ impl Judge for Summing {
 /// Sums a trace up, on the plan of a scenario.
 ///
 /// Writes at its end how many edges were accepted and refused, and by which rules; which rules let
-/// none pass; which situations came, and which never; how long each board waited for the bus and held
-/// it, and how many cycles and answers it made. The status is that of a replay. It makes at most
-/// 16,777,216 reads.
+/// none pass; which situations came, and which never; how long each board waited for the bus and
+/// held it, and how many cycles and answers it made. The status is that of a replay. It makes at
+/// most 16,777,216 reads.
 ///
-/// Errors: F2, the faults of the scenario and F3, before anything is read or written; those of the
-/// trace, and then nothing is written; X8 if the output cannot be written.
+/// # Errors
+/// F2, the faults of the scenario and F3, before anything is read or written; those of the trace,
+/// and then nothing is written; X8 if the output cannot be written.
 pub fn summary<R: Read, W: Write>(
     alloc: Global,
     scenario: &[u8],

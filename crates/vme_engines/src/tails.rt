@@ -15,8 +15,8 @@ use vme_text::{Text, push};
 /// How many numbers of answers have an end of their own: all that are used but that of a delivery.
 const ENDS_COUNT: usize = 64;
 
-/// The end of the verdict line of each such number, in eight bytes, of which dots do not count. 4 to 15 are of no answer, and
-/// read as S0.
+/// The end of the verdict line of each such number, in eight bytes, of which dots do not count. 4
+/// to 15 are of no answer, and read as S0.
 static ENDS: [[u8; 8]; ENDS_COUNT] = [
     *b" ok\n....",
     *b" E1\n....",
@@ -104,9 +104,11 @@ fn push_rare(text: &mut Text, answer: Result<Option<Delivery>, Refused>)
     text.push(end.as_slice());
 }
 
-/// Appends the verdict line of the edge whose number has the tens of `count` and this last digit: at most 64 bytes.
+/// Appends the verdict line of the edge whose number has the tens of `count` and this last digit:
+/// at most 64 bytes.
 ///
-/// Its end comes from the table by the number of the answer, so that one test asks what the answer is: whether it is a delivery.
+/// Its end comes from the table by the number of the answer, so that one test asks what the answer
+/// is: whether it is a delivery.
 #[inline(always)]
 pub(crate) fn push_line(text: &mut Text, count: &Count, digit: u8, found: &AnswerRecord)
     requires least { 48 ≤ digit }
@@ -126,7 +128,8 @@ pub(crate) fn push_line(text: &mut Text, count: &Count, digit: u8, found: &Answe
     }
 }
 
-/// Whether edges are all accepted and deliver nothing. It looks at all of them, since no processor foretells where the first other one stands.
+/// Whether edges are all accepted and deliver nothing. It looks at all of them, since no processor
+/// foretells where the first other one stands.
 #[inline(always)]
 pub(crate) fn are_plain(records: &[AnswerRecord]) -> bool
     ensures { result ≡ list_all is_plain (map answer_of records.now) }
@@ -138,7 +141,8 @@ pub(crate) fn are_plain(records: &[AnswerRecord]) -> bool
     are
 }
 
-/// Appends the verdict lines of ten edges that are accepted and deliver nothing, from `count` on, which ends in 0.
+/// Appends the verdict lines of ten edges that are accepted and deliver nothing, from `count` on,
+/// which ends in 0.
 ///
 /// Their ends are one constant, so that a line takes half of the work.
 #[inline(always)]

@@ -73,8 +73,9 @@ impl Judge for Tallying {
 /// The trace begins at power-up, whatever was added before. The status says whether some edge of it
 /// was refused. It makes at most 16,777,216 reads.
 ///
-/// Errors: F2, the faults of the scenario and F3, before anything is read; those of the trace.
-/// Nothing is added then.
+/// # Errors
+/// F2, the faults of the scenario and F3, before anything is read; those of the trace. Nothing is
+/// added then.
 pub fn add_trace<R: Read>(
     alloc: Global,
     scenario: &[u8],
@@ -110,8 +111,9 @@ fn print_totals<W: Write>(plan: &Plan, sums: &Sums, out: &mut W) -> Result<Statu
 /// the sums of their numbers and their greatest waits and holds. The status says whether some edge
 /// was refused in some trace.
 ///
-/// Errors: F2 and the faults of the scenario, before anything is written; X8 if the output cannot
-/// be written.
+/// # Errors
+/// F2 and the faults of the scenario, before anything is written; X8 if the output cannot be
+/// written.
 pub fn print_sums<W: Write>(
     alloc: Global,
     scenario: &[u8],

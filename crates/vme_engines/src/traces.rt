@@ -45,7 +45,8 @@ impl Input {
 
     /// Reads up to the header line into the buffer of a piece, and gives the version that it names.
     ///
-    /// Errors: those of the trace up to there.
+    /// # Errors
+    /// The faults of the trace up to there.
     pub(crate) fn begin<R: Read>(
         &mut self,
         buffer: &mut [u8],

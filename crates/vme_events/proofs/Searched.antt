@@ -1,12 +1,11 @@
 -- `searches`: an edge to the state that its wire is in is refused by E2, and a search as far as it has
 -- come.
-use Rattle.std.proofs.Common.{◌≡◌, ◌∙◌, ℕ, ◌+◌, ◌<◌, ◌≤◌, Bool, true, false, List, [], ◌∷◌, ◌++◌, map, drop, get_or, length, Option, Some, None, refl, sym, ap}
+use Rattle.std.proofs.Common.{◌≡◌, ◌∙◌, ℕ, ◌+◌, ◌<◌, Bool, true, false, List, [], ◌∷◌, ◌++◌, map, drop, get_or, length, Option, Some, None, refl, sym, ap}
 use Rattle.std.specs.Prelude.{◌&&◌, if◌then◌else◌, not, find, option_map, is_some, Ok, Err}
 use Rattle.std.specs.Result.{result_err}
 use Rattle.std.specs.List.{flat_map}
 use Rattle.std.specs.Option.{option_or}
 use Rattle.std.proofs.lemmas.List.{drop_more}
-use Rattle.std.proofs.Math.ListN.{drop_of_length-le}
 use Rattle.std.proofs.lemmas.List.Folds.{find-append}
 use Rattle.vme_model.specs.declared.conditions.Condition.{Condition}
 use Rattle.vme_model.specs.declared.deliveries.Delivery.{Delivery}
@@ -174,6 +173,3 @@ pub found_later : {X : Type 0} (test : Edge → Bool) (f : X → List Edge) (xs 
     → e ≡ find test (f (get_or xs i x)) → is_some e ≡ false → find test (flat_map f (drop i xs)) ≡ find test (flat_map f (drop (i + 1) xs))
 found_later {X} test f xs i x (Some e) lt at some = absurd (cc)
 found_later {X} test f xs i x None lt at some = one_more test f xs i x lt ∙ ap (λ o. option_or o (find test (flat_map f (drop (i + 1) xs)))) (sym at)
-
-pub found_nowhere : {X : Type 0} (test : Edge → Bool) (f : X → List Edge) (xs : List X) (i : ℕ) → length xs ≤ i → find test (flat_map f (drop i xs)) ≡ None
-found_nowhere {X} test f xs i le = ap (λ (ys : List X). find test (flat_map f ys)) (drop_of_length-le xs le)

@@ -12,7 +12,7 @@ use Rattle.vme_goals.specs.declared.events.Event.{Event}
 use Rattle.vme_goals.specs.declared.events.Event.TheVariants as event
 use Rattle.vme_events.specs.Events.{fills_burst, has_rival, is_access, overtakes}
 
--- the situation where the test holds
+-- the situation, if the test holds
 abbrev pub when : Bool → Event → List Event
 when holds e = if holds then e ∷ [] else []
 

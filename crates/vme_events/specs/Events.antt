@@ -33,7 +33,7 @@ abbrev pub is_access : Option Cycle → Bool
 is_access (Some (Access s)) = true
 is_access _ = false
 
--- the place of the driver's last fall of the wire, from 1; 0 where it made none
+-- the place of the driver's last fall of the wire, from 1; 0 if it made none
 abbrev pub fell_at : List Edge → Driver → Wire → ℕ
 fell_at [] d w = 0
 fell_at (e ∷ h) d w = if is_fall_of d w e then length h + 1 else fell_at h d w
@@ -43,7 +43,7 @@ abbrev pub asked_before : List Edge → Driver → ℕ → Bool
 asked_before h d s =
     drive h (Slot s) Br && nat_lt (fell_at h (Slot s) Br) (fell_at h d Br)
 
--- the driver's own request is low, as it is where it takes the bus, and a slot's is older
+-- the driver's own request is low, as it is when it takes the bus, and a slot's is older
 abbrev pub overtakes : Plan → List Edge → Driver → Bool
 overtakes p h d = drive h d Br && list_any (asked_before h d) (up_to p.slots)
 

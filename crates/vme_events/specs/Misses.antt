@@ -3,7 +3,6 @@ use Rattle.std.specs.Prelude.{◌==◌, ◌&&◌, ℕ, Bool, true, false, Option
 use Rattle.std.specs.List.{flat_map}
 use Rattle.std.specs.Option.{option_map_or, option_and_then}
 use denote.Enum.Bare.{sameb}
-use Rattle.vme_model.specs.contracts.conditions.Condition.{the_type}
 use Rattle.vme_model.specs.contracts.sentences.Rule.{the_type as rule_type}
 use Rattle.vme_model.specs.declared.boards.Row.{Row}
 use Rattle.vme_model.specs.declared.boards.IrqKind.{IrqKind}
@@ -18,21 +17,17 @@ use Rattle.vme_model.specs.Verdict.{State, Judgement, verdict}
 use Rattle.vme_model.specs.Failing.{unmet}
 use Rattle.vme_model.specs.Offers.{wires}
 use Rattle.vme_model.specs.Open.{moves}
-use Rattle.vme_model.specs.Sources.{rule_of}
+use Rattle.vme_model.specs.Sources.{is_same_condition, rule_of}
 use Rattle.vme_goals.specs.declared.misses.Miss.{Miss}
 use Rattle.vme_goals.specs.declared.misses.Miss.TheVariants as miss
 use Rattle.vme_goals.specs.Goals.{counts}
-
--- the same condition
-abbrev pub is_same_condition : Condition → Condition → Bool
-is_same_condition = sameb the_type
 
 -- that condition, and no other
 abbrev pub is_alone : Condition → List Condition → Bool
 is_alone c (d ∷ []) = is_same_condition d c
 is_alone c _ = false
 
--- the same way to be served (chapter 4)
+-- whether two kinds of interrupter are served in the same way (chapter 4)
 abbrev pub is_same_kind : IrqKind → IrqKind → Bool
 is_same_kind Roak Roak = true
 is_same_kind Rora Rora = true
@@ -76,7 +71,8 @@ abbrev pub is_missed : State → Option Driver → Miss → Edge → Bool
 is_missed b only m e = counts only e.driver && refuses b m e
 
 -- every edge that moves a wire to its other state: by driver, the controller first, then by slot;
--- by wire in the order of offers; of an address group that goes on by acknowledges, then by accesses
+-- by wire in the order of offers; of an address group that goes on by acknowledges, then by
+-- accesses
 abbrev pub all_moves : State → List Edge
 all_moves b = flat_map (λ d. flat_map (moves b.history d) (wires d)) (drivers b.plan)
 

@@ -1,4 +1,4 @@
--- What holds of all numbered edges that the marks are of, where these are the edges of a backplane
+-- What holds of all numbered edges that the marks are of, if these are the edges of a backplane
 -- and their numbers grow.
 use Rattle.std.specs.Prelude.{◌≡◌, ℕ}
 use Rattle.vme_model.specs.Verdict.{State}

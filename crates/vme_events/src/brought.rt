@@ -27,7 +27,7 @@ fn alone(holds: bool, event: Event) -> ArrayVec<Event, 2>
     events
 }
 
-/// Those of two situations whose tests hold.
+/// The situations whose tests hold, of two.
 fn both(holds: bool, event: Event, other_holds: bool, other: Event) -> ArrayVec<Event, 2>
     ensures { result.items ≡ when holds event ++ when other_holds other }
 {

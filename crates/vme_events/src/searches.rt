@@ -1,9 +1,8 @@
 //! The first edge that one condition alone refuses.
-ghost use Rattle.std.specs.Prelude.{◌≡◌, ◌++◌, [], ◌∷◌, find, map};
+ghost use Rattle.std.specs.Prelude.{◌≡◌, [], ◌∷◌, find};
 ghost use Rattle.std.specs.List.{flat_map};
-ghost use Rattle.std.specs.Option.{option_and_then};
 ghost use Rattle.vme_model.specs.Offers.{turned, wires};
-ghost use Rattle.vme_model.specs.Open.{accesses, acknowledges, moves, showing};
+ghost use Rattle.vme_model.specs.Open.{moves, showing};
 ghost use Rattle.vme_model.specs.Failing.{unmet};
 ghost use Rattle.vme_model.specs.Plan.{board_of};
 ghost use Rattle.vme_model.specs.Verdict.{verdict};
@@ -124,8 +123,8 @@ fn is_by_one(refused: Option<Refused>, failing: &[Condition]) -> bool
     }
 }
 
-/// Whether one condition of the edge's rule refuses the edge, and no other does, or its settling rule
-/// does.
+/// Whether one condition of the edge's rule refuses the edge, and no other does, or its settling
+/// rule does.
 fn is_lone(bus: &Bus, edge: Edge) -> bool
     ensures { result ≡ is_lone (verdict bus.now edge) (unmet bus.now edge) }
 {
@@ -275,10 +274,10 @@ fn of_drivers(bus: &Bus, only: Option<Driver>, miss: Miss, drivers: &[Driver]) -
     None
 }
 
-/// The first edge that this alone refuses, of all that move a wire to its other state, or of those of
-/// one driver alone: by driver, the controller first, then by slot; by wire in the order of offers;
-/// of an address group that goes on by acknowledges, then by accesses. None if there is none, or if
-/// the one driver is none of the plan.
+/// The first edge that this alone refuses, of all that move a wire to its other state, or of those
+/// of one driver alone: by driver, the controller first, then by slot; by wire in the order of
+/// offers; of an address group that goes on by acknowledges, then by accesses. None if there is
+/// none, or if the one driver is none of the plan.
 ///
 /// It tries some 800 edges at most.
 pub fn miss(bus: &Bus, only: Option<Driver>, miss: Miss) -> Option<Edge>

@@ -6,8 +6,6 @@ pub mod OnPlan
 pub mod Witnessed
 -- lists that grow by what passes a test
 pub mod Grown
--- the groups together are all that is printed
-pub mod Grouped
 -- every wire that is named for a condition has a word: `blocks::write_reason`
 pub mod SpokenWitnesses
 -- pieces of a text that are written one after another: src/blocks.rt

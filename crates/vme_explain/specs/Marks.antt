@@ -18,7 +18,7 @@ strobe_after AddressStrobe n before = None
 strobe_after DataStrobe n before = Some n
 strobe_after w n before = before
 
--- the answer that served its interrupter, where the fall was made while this was shown
+-- the answer that served its interrupter, if the fall was made while this was shown
 abbrev pub served_after : IrqKind → Wire → ℕ → Option Cycle → Option ℕ → Option ℕ
 served_after kind Irq n v before = None
 served_after kind Dtack n v before = option_or before (if serves kind v then Some n else None)

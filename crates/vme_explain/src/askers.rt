@@ -1,4 +1,5 @@
-//! What is printed about those that ask for the bus or for an interrupt, and of what they are granted.
+//! What is printed about those that ask for the bus or for an interrupt, and of what they are
+//! granted.
 ghost use Rattle.std.specs.Prelude.{◌≡◌, ◌≤◌, ◌+◌, ◌++◌, ◌∷◌, [], length};
 ghost use Rattle.vme_model.specs.Spoken.{level_of};
 ghost use Rattle.vme_model.specs.Witnesses.{requests, granted, picked};

@@ -1,5 +1,5 @@
 //! The block that says why an edge has its verdict.
-ghost use Rattle.std.specs.Prelude.{◌≡◌, ◌++◌, IsTrue, IfErr, OnOk, OnErr, All};
+ghost use Rattle.std.specs.Prelude.{◌≡◌, IsTrue, IfErr, OnOk, OnErr, All};
 ghost use Rattle.std.specs.Io.KnownBytes.{Appends};
 ghost use Rattle.vme_model.specs.Deliveries.{answer as answer_to};
 ghost use Rattle.vme_model.specs.Signals.{is_well_formed};
@@ -118,8 +118,8 @@ fn write_reasons<W: Write>(
     Ok(())
 }
 
-/// Writes why an edge has its verdict: a line with its number `n`, the edge and the verdict, and for
-/// each condition that is tested of it a line, with one behind it for each of its witnesses.
+/// Writes why an edge has its verdict: a line with its number `n`, the edge and the verdict, and
+/// for each condition that is tested of it a line, with one behind it for each of its witnesses.
 ///
 /// The edge is well formed and not yet made, `answer` is the answer to it, and the marks are of the
 /// bus's edges.

@@ -133,9 +133,9 @@ fn others(bus: &Bus, marks: &Marks, edge: &Edge, condition: Condition) -> ArrayV
     witnesses
 }
 
-/// What is printed about a condition of an edge that is well formed and not yet made: the wires that the
-/// condition speaks of, or that hold its line low, since which edges they are so, and what it
-/// counts.
+/// What is printed about a condition of an edge that is well formed and not yet made: the wires
+/// that the condition speaks of, or that hold its line low, since which edges they are so, and what
+/// it counts.
 ///
 /// The marks are to be of the edges of the bus.
 pub fn witnesses(

@@ -1,5 +1,6 @@
-//! The edges of a trace since which a bus is as it is, by their numbers, what is printed about a condition
-//! by them, the block that says why an edge has its verdict, and that of where the bus stands.
+//! The edges of a trace since which a bus is as it is, by their numbers, what is printed about a
+//! condition by them, the block that says why an edge has its verdict, and that of where the bus
+//! stands.
 #![tactic(auto)]
 
 mod askers;

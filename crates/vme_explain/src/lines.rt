@@ -1,6 +1,5 @@
 //! Who holds a line low.
 ghost use Rattle.std.specs.Prelude.{◌≡◌, ◌≤◌, ◌<◌, ◌+◌, ◌++◌, ◌∷◌, [], true, length, map, filter, option_map};
-ghost use Rattle.std.specs.Option.{option_to_list};
 ghost use Rattle.vme_model.specs.declared.signals.Driver.TheVariants.{Controller};
 ghost use Rattle.vme_model.specs.declared.signals.Wire.TheVariants.{Bg, Br, Irq};
 ghost use Rattle.vme_model.specs.Signals.{has_wire};
@@ -17,8 +16,8 @@ use vme_arbiter::{AnyPolicy, Policy};
 use vme_bus::Bus;
 use vme_model::{Driver, Wire, Witness};
 
-/// Room for what is printed about any condition: of bus clear 22 that hold BBSY* low, four grants, 22
-/// requests and the level last granted; of two lines at most 22 each, and four more.
+/// Room for what is printed about any condition: of bus clear 22 that hold BBSY* low, four grants,
+/// 22 requests and the level last granted; of two lines at most 22 each, and four more.
 pub(crate) const ROOM: usize = 64;
 
 /// Puts the driver's wire behind the others if it is low.

@@ -1,11 +1,11 @@
 //! The numbers, moved at each accepted edge.
-ghost use Rattle.std.specs.Prelude.{◌≡◌, ◌<◌, ◌^◌, ◌∷◌, [], ℕ, IsTrue};
+ghost use Rattle.std.specs.Prelude.{◌≡◌, ◌<◌, ◌^◌, ◌∷◌, [], IsTrue};
 ghost use Rattle.vme_model.specs.declared.signals.Driver.TheVariants.{Slot};
 ghost use Rattle.vme_model.specs.declared.signals.Wire.TheVariants.{Dtack};
 ghost use Rattle.vme_model.specs.Signals.{has_wire, is_well_formed};
 ghost use Rattle.vme_model.specs.Plan.{Plan};
 ghost use Rattle.vme_model.specs.History.{cycles, shown};
-ghost use Rattle.vme_model.specs.Numbered.{Numbered, edges_in, since, granted_since, served_since, strobed_at};
+ghost use Rattle.vme_model.specs.Numbered.{edges_in, since, granted_since, served_since, strobed_at};
 
 use crate::moves::Moves;
 use crate::services::Services;
@@ -26,7 +26,7 @@ pub struct Marks {
 impl Marks {
     ghost use Rattle.vme_explain.specs.Marked.{IsMarksOf, OfNumbered};
 
-    /// Those of a trace before its first edge.
+    /// The marks of a trace before its first edge.
     pub fn new() -> Marks
         ensures { (p : Plan) → IsMarksOf p [] result }
     {
@@ -50,7 +50,7 @@ impl Marks {
     }
 
     /// The last edge of a driver's wire; none if it never moved.
-    pub fn since(&self, driver: Driver, wire: Wire) -> Option<u64>
+    pub(crate) fn since(&self, driver: Driver, wire: Wire) -> Option<u64>
         requires { IsTrue (has_wire driver wire) }
         ensures { OfNumbered self.now (λ _ k. result ≡ since k driver wire) }
     {
@@ -58,7 +58,7 @@ impl Marks {
     }
 
     /// The last grant.
-    pub fn granted_since(&self) -> Option<u64>
+    pub(crate) fn granted_since(&self) -> Option<u64>
         ensures { OfNumbered self.now (λ _ k. result ≡ granted_since k) }
     {
         self.moves.granted_since()
@@ -74,7 +74,7 @@ impl Marks {
     }
 
     /// The last `ds-` of a slot below 22 since its last `as-`.
-    pub fn strobed_at(&self, slot: u8) -> Option<u64>
+    pub(crate) fn strobed_at(&self, slot: u8) -> Option<u64>
         requires { slot < 22 }
         ensures { OfNumbered self.now (λ _ k. result ≡ strobed_at k (Slot slot)) }
     {

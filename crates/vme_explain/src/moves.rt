@@ -16,7 +16,7 @@ pub(crate) struct Moves {
 impl Moves {
     ghost use Rattle.vme_explain.specs.Marked.{IsMovesOf};
 
-    /// Those of a trace before its first edge.
+    /// The edges of a trace before its first one: none.
     pub(crate) fn new() -> Moves
         ensures { IsMovesOf [] result }
     {

@@ -1,10 +1,10 @@
 //! What each board's interrupter, strobes and cycles have come to.
-ghost use Rattle.std.specs.Prelude.{◌≡◌, ◌<◌, ◌^◌, ◌∷◌, [], ℕ, IsTrue, slice_index_or, set, None};
+ghost use Rattle.std.specs.Prelude.{◌≡◌, ◌<◌, ◌^◌, ◌∷◌, [], IsTrue, slice_index_or, set, None};
 ghost use Rattle.vme_model.specs.declared.signals.Driver.TheVariants.{Slot};
 ghost use Rattle.vme_model.specs.declared.signals.Wire.TheVariants.{Dtack};
 ghost use Rattle.vme_model.specs.Signals.{is_well_formed};
 ghost use Rattle.vme_model.specs.Plan.{Plan};
-ghost use Rattle.vme_model.specs.History.{cycles, serves, shown};
+ghost use Rattle.vme_model.specs.History.{cycles, shown};
 ghost use Rattle.vme_model.specs.Numbered.{Numbered, edges_in, served_since, strobed_at};
 ghost use Rattle.vme_explain.specs.Marks.{strobe_after, served_after, made_after};
 
@@ -29,7 +29,7 @@ pub(crate) struct Services {
 impl Services {
     ghost use Rattle.vme_explain.specs.Marked.{IsServicesOf};
 
-    /// Those of a trace before its first edge.
+    /// The services of a trace before its first edge: none.
     pub(crate) fn new() -> Services
         ensures { (p : Plan) → IsServicesOf p [] result }
     {

@@ -1,10 +1,8 @@
 //! Where a bus stands, and the block that says it.
-ghost use Rattle.std.specs.Prelude.{◌≡◌, ◌+◌, ◌<◌, ◌≤◌, ◌++◌, ◌∷◌, [], ℕ, List, decimal, length, max, IfErr, OnOk, OnErr};
+ghost use Rattle.std.specs.Prelude.{◌≡◌, ◌+◌, ◌<◌, ◌≤◌, ◌++◌, ◌∷◌, [], ℕ, List, length, max, IfErr, OnOk, OnErr};
 ghost use Rattle.std.specs.Io.KnownBytes.{Appends};
 ghost use Rattle.arrayvec.specs.ArrayVec.{array_vec_len};
-ghost use Rattle.vme_model.specs.Spoken.{driver_name};
-ghost use Rattle.vme_model.specs.Text.{HasWord, argument, number, sign};
-ghost use Rattle.vme_model.specs.Why.{since_text};
+ghost use Rattle.vme_model.specs.Text.{HasWord, sign};
 ghost use Rattle.vme_model.specs.Stands.{after_text, asks_text, at_level, grant_text, holder_text, is_later_access, lines_of, listed, low_text, open_line, open_text, pending_text, shown_text, stands_text};
 ghost use Rattle.vme_trace.specs.Writing.{AppendsFront};
 ghost use Rattle.vme_explain.specs.Traced.{OfTrace};
@@ -22,8 +20,8 @@ use vme_model::{Cycle, Driver, Edge, Wire};
 use vme_text::{push, push_number};
 use vme_trace::{Fault, put};
 
-/// Room for any line: a driver's has a word, with a comma and a blank, for each of its open edges, of
-/// which there are 36 at most.
+/// Room for any line: a driver's has a word, with a comma and a blank, for each of its open edges,
+/// of which there are 36 at most.
 const LINE: usize = 680;
 
 /// A line, as far as it was put together.
@@ -306,11 +304,13 @@ fn write_drivers<W: Write>(bus: &Bus, marks: &Marks, out: &mut W) -> Result<(), 
 }
 
 /// Writes where the bus stands behind the first `n` edges of a trace, of which the bus took in
-/// those that were accepted, and the marks are of these: how many there are, who holds the bus, where
-/// the grant travels and what is shown; and of the drivers, the controller first and then by slot, who
-/// asks, whose interrupter is pending, the wires that each holds low, and the edges that each can make.
+/// those that were accepted, and the marks are of these: how many there are, who holds the bus,
+/// where the grant travels and what is shown; and of the drivers, the controller first and then by
+/// slot, who asks, whose interrupter is pending, the wires that each holds low, and the edges that
+/// each can make.
 ///
-/// Errors: X8 if a write failed or took no byte; a front of the block was then written.
+/// # Errors
+/// X8 if a write failed or took no byte; a front of the block was then written.
 pub fn write_stands<W: Write>(n: u64, bus: &Bus, marks: &Marks, out: &mut W) -> Result<(), Fault>
     ensures ok { OnOk result (OfTrace bus.now marks.now (λ k.
         Appends (W.contents out.old) (W.contents out.new) (stands_text n bus.now k))) }

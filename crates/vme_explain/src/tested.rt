@@ -1,5 +1,5 @@
 //! All that is tested of an edge, the room of its trace included.
-ghost use Rattle.std.specs.Prelude.{◌≡◌, ◌≤◌, ◌+◌, ◌++◌, length};
+ghost use Rattle.std.specs.Prelude.{◌≡◌, ◌≤◌};
 ghost use Rattle.vme_model.specs.Guards.{conditions};
 ghost use Rattle.vme_rules.specs.Room.{most};
 

@@ -1,5 +1,5 @@
 //! The lines of a block, each put together in a buffer.
-ghost use Rattle.std.specs.Prelude.{◌≡◌, ◌+◌, ◌≤◌, ◌++◌, codes, length, decimal};
+ghost use Rattle.std.specs.Prelude.{◌≡◌, ◌+◌, ◌≤◌, ◌++◌, codes, length};
 ghost use Rattle.arrayvec.specs.ArrayVec.{array_vec_len};
 ghost use Rattle.vme_model.specs.Report.{delivery_text, verdict_text};
 ghost use Rattle.vme_model.specs.Spoken.{driver_name, state_text};

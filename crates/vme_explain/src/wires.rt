@@ -1,5 +1,5 @@
 //! Wires as they are printed.
-ghost use Rattle.std.specs.Prelude.{◌≡◌, IsTrue, true};
+ghost use Rattle.std.specs.Prelude.{◌≡◌, true};
 ghost use Rattle.std.specs.Option.{option_to_list};
 ghost use Rattle.vme_model.specs.Signals.{has_wire};
 ghost use Rattle.vme_model.specs.History.{shown};
@@ -45,7 +45,7 @@ pub(crate) fn wire_at(
     }
 }
 
-/// The same without a level.
+/// A driver's wire, without a level beside it.
 pub(crate) fn seen(bus: &Bus, marks: &Marks, driver: Driver, wire: Wire) -> Witness
     requires { has_wire driver wire ≡ true }
     ensures { OfTrace bus.now marks.now (λ k. result ≡ seen bus.now k driver wire) }

@@ -17,7 +17,7 @@ all_events =
     ∷ event.AnsweredAgain ∷ event.Spurious ∷ event.BusError ∷ event.Withdrawn
     ∷ event.GrantTimeout ∷ []
 
--- the same event
+-- whether two events are the same
 abbrev pub is_same_event : Event → Event → Bool
 is_same_event = sameb the_type
 

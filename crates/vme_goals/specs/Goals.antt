@@ -3,7 +3,6 @@ use Rattle.std.specs.Prelude.{◌==◌, ◌&&◌, ◌||◌, ℕ, Bool, true, fal
 use Rattle.std.specs.Option.{option_map_or}
 use Rattle.std.specs.Str.{bytes_eq}
 use Rattle.vme_model.specs.declared.boards.IrqKind.TheVariants.{Roak, Rora}
-use Rattle.vme_model.specs.declared.conditions.Condition.{Condition}
 use Rattle.vme_model.specs.declared.sentences.Rule.{Rule}
 use Rattle.vme_model.specs.declared.sentences.Rule.TheVariants.{G1, G2, G3, G4, G5, G6, G7, G8, G9, G10, G11, G12, G13, G14, G15, G16, G17, G18, G19, G20, G22, G23, G24, G25, G26}
 use Rattle.vme_model.specs.declared.signals.Driver.{Driver}
@@ -68,8 +67,8 @@ abbrev pub is_withdrawal : Rule → Bool
 is_withdrawal G10 = true
 is_withdrawal _ = false
 
--- in the second version G2 and G10 ask for nothing, but the edge of G2 still has S3, and in the first
--- there are no S3 and S4
+-- in the second version G2 and G10 ask for nothing, but the edge of G2 still has S3, and in the
+-- first there are no S3 and S4
 abbrev pub has_miss : Version → Miss → Bool
 has_miss version (miss.Rule k c) = not (is_two version) || not (k == 2 || k == 10)
 has_miss version (miss.Unserved kind) = true

@@ -98,7 +98,7 @@ impl Event {
     }
 
     /// Whether the event can happen in that version of the rules.
-    pub fn is_of(self, version: Version) -> bool
+    pub(crate) fn is_of(self, version: Version) -> bool
         ensures { result ≡ has_event version self }
     {
         match self {

@@ -51,7 +51,7 @@ pub fn counts(only: Option<Driver>, driver: Driver) -> bool
 impl Aim {
     /// Whether a trace can reach the aim in that version of the rules, as far as the version
     /// decides.
-    pub fn is_of(self, version: Version) -> bool
+    pub(crate) fn is_of(self, version: Version) -> bool
         ensures { result ≡ has_aim version self }
     {
         match self {
@@ -125,9 +125,9 @@ fn miss_of(misses: &[Miss], words: &str, version: Version) -> Option<Miss>
 }
 
 /// The aim that these words name: an event by its name, a condition such as `G13 own br is low`,
-/// with N for a level and with the mark of `explain` or without it, a settling rule such as `S2`, or
-/// a rule such as `G13` for any of its conditions. It is none if no aim has these words, or if the
-/// version of the rules cannot reach it.
+/// with N for a level and with the mark of `explain` or without it, a settling rule such as `S2`,
+/// or a rule such as `G13` for any of its conditions. It is none if no aim has these words, or if
+/// the version of the rules cannot reach it.
 pub fn aim_of(words: &str, version: Version) -> Option<Aim>
     ensures { result ≡ aim_of words.now version }
 {

@@ -1,5 +1,5 @@
 //! Misses: edges that one condition alone refuses.
-ghost use Rattle.std.specs.Prelude.{◌≡◌, ◌≤◌, ◌+◌, ◌++◌, decimal, length};
+ghost use Rattle.std.specs.Prelude.{◌≡◌, ◌≤◌, ◌+◌, ◌++◌, length};
 ghost use Rattle.arrayvec.specs.ArrayVec.{array_vec_len};
 ghost use Rattle.vme_goals.specs.Goals.{has_miss, is_withdrawal, miss_mark, miss_text};
 
@@ -19,8 +19,8 @@ pub enum Miss {
     Unserved(IrqKind),
     /// The guard of the rule holds, and this settling rule, S1 to S4, does not.
     Settling(u8),
-    /// In the guard of this edge rule one condition fails and no other does, whichever it is, or the
-    /// guard holds and the edge's settling rule does not.
+    /// In the guard of this edge rule one condition fails and no other does, whichever it is, or
+    /// the guard holds and the edge's settling rule does not.
     AnyOf(Rule),
 }
 
@@ -32,8 +32,8 @@ fn is_withdrawal(rule: Rule) -> bool
 }
 
 impl Miss {
-    /// All misses that have words: the conditions of G1 to G26 in the order of their guards, then S1
-    /// to S4, and then G1 to G26 without a condition, but not G21, which asks for nothing.
+    /// All misses that have words: the conditions of G1 to G26 in the order of their guards, then
+    /// S1 to S4, and then G1 to G26 without a condition, but not G21, which asks for nothing.
     pub const ALL: [Miss; 91] = [
         Miss::Rule(1, Condition::GrantsHigh),
         Miss::Rule(1, Condition::BusyHigh),
@@ -129,7 +129,7 @@ impl Miss {
     ];
 
     /// Whether the version of the rules has such a condition.
-    pub fn is_of(self, version: Version) -> bool
+    pub(crate) fn is_of(self, version: Version) -> bool
         ensures { result ≡ has_miss version self }
     {
         match self {

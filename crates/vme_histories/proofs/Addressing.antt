@@ -1,5 +1,5 @@
 -- The slot whose address group is on, and what it shows, after an edge of an address group.
-use Rattle.std.proofs.Common.{◌≡◌, ◌≢◌, ◌∙◌, refl, sym, ap, subst, ℕ, zero, suc, Bool, true, false, List, [], ◌∷◌, ◌++◌, arith}
+use Rattle.std.proofs.Common.{◌≡◌, ◌∙◌, refl, sym, ap, subst, ℕ, zero, suc, Bool, true, false, List, [], ◌∷◌, ◌++◌, arith}
 use Rattle.std.specs.Prelude.{◌==◌, if◌then◌else◌, Option, Some, None, Ok, find}
 use Rattle.std.specs.Option.{option_and_then}
 use Rattle.std.proofs.lemmas.Bool.Decides.{nat_tests}
@@ -30,13 +30,6 @@ whole P (e ∷ h) each = each.0
 
 pub one_addresses : (version : Version) (p : Plan) (h : List Edge) → IsAccepted p → IsLegal version p h → OneAddresses h
 one_addresses version p h ok legal = whole OneAddresses h (legal_is_safe version p h ok legal).one_addresses
-
-apart : (s t : ℕ) → t ≢ s → (s == t) ≡ false
-apart s t differ = first (s == t) refl
-  where
-    first : (b : Bool) → (s == t) ≡ b → b ≡ false
-    first true e = absurd (differ (grind (arith, nat_tests)))
-    first false e = refl
 
 -- if an address group goes on, no other one is on
 going_on : (p : Plan) (h : List Edge) (s : ℕ) (r : Row) (v : Option Cycle) → Stands p s r → OneAddresses (at s Addr true v ∷ h) → addressing p (at s Addr true v ∷ h) ≡ Some s

@@ -1,6 +1,6 @@
 -- Who drives a wire.
-use Rattle.std.proofs.Common.{◌≡◌, ◌∙◌, refl, sym, ap, subst, ℕ, Bool, true, false, List, [], ◌∷◌, ◌≤◌}
-use Rattle.std.specs.Prelude.{◌==◌, ◌&&◌, if◌then◌else◌, Option, Some, None, Ok}
+use Rattle.std.proofs.Common.{◌≡◌, ◌∙◌, refl, sym, ap, subst, ℕ, Bool, true, false, List, [], ◌∷◌}
+use Rattle.std.specs.Prelude.{◌&&◌, if◌then◌else◌, Option, Some, None, Ok}
 use Rattle.std.specs.Option.{option_map_or}
 use Rattle.vme_model.specs.declared.boards.Row.{Row}
 use Rattle.vme_model.specs.declared.signals.Version.{Version}
@@ -17,7 +17,7 @@ use Rattle.vme_model.proofs.AllowedEdges.{all_passed}
 use Rattle.vme_histories.proofs.Others.{same_wire}
 
 -- a driver without such a wire never drove it
-same_driver : (a b : Driver) → is_same_driver a b ≡ true → a ≡ b
+pub same_driver : (a b : Driver) → is_same_driver a b ≡ true → a ≡ b
 same_driver Controller Controller e = refl
 same_driver (Slot s) (Slot t) e = ap (λ x. Slot x) (same_number s t e)
 same_driver a b e = absurd (cc)

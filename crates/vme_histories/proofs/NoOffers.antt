@@ -1,8 +1,8 @@
 -- Edges that the rules do not allow.
 use Rattle.std.proofs.Common.{◌≡◌, ◌∙◌, refl, sym, ap, ℕ, Bool, true, false, List, [], ◌∷◌, ◌++◌, map, append_assoc}
-use Rattle.std.specs.Prelude.{◌&&◌, ◌==◌, not, if◌then◌else◌, Option, Some, None, Ok, filter, is_ok, is_some}
+use Rattle.std.specs.Prelude.{◌&&◌, not, if◌then◌else◌, Option, Some, None, Ok, filter, is_ok, is_some}
 use Rattle.std.specs.Option.{option_map_or, option_and_then}
-use Rattle.std.specs.List.{flat_map, list_all}
+use Rattle.std.specs.List.{flat_map}
 use Rattle.std.proofs.lemmas.List.Elements.{filter-append}
 use Rattle.vme_model.specs.declared.boards.Row.{Row}
 use Rattle.vme_model.specs.declared.boards.InterrupterRow.{InterrupterRow}
@@ -10,22 +10,21 @@ use Rattle.vme_model.specs.declared.refusals.Refused.{Refused}
 use Rattle.vme_model.specs.declared.refusals.Refused.TheVariants.{NoSuchDriver, AlreadyThere, Rule, NotSettled}
 use Rattle.vme_model.specs.declared.signals.Version.{Version}
 use Rattle.vme_model.specs.declared.signals.Driver.{Driver}
-use Rattle.vme_model.specs.declared.signals.Driver.TheVariants.{Controller, Slot}
+use Rattle.vme_model.specs.declared.signals.Driver.TheVariants.{Slot}
 use Rattle.vme_model.specs.declared.signals.Wire.{Wire}
-use Rattle.vme_model.specs.declared.signals.Wire.TheVariants.{Bg, Br, BgOut, Bbsy, Addr, AddressStrobe, DataStrobe, Irq, IackOut, Dtack}
+use Rattle.vme_model.specs.declared.signals.Wire.TheVariants.{Br, BgOut, Bbsy, Addr, AddressStrobe, DataStrobe, Irq, IackOut, Dtack}
 use Rattle.vme_model.specs.declared.signals.Cycle.{Cycle}
 use Rattle.vme_model.specs.declared.signals.Cycle.TheVariants.{Acknowledge, Access}
 use Rattle.vme_model.specs.declared.signals.Edge.{Edge}
 use Rattle.vme_model.specs.Signals.{is_well_formed, is_two}
 use Rattle.vme_model.specs.Plan.{Plan, board, has_driver, drives}
-use Rattle.vme_model.specs.History.{drive, shown, line, last_level, request_line}
+use Rattle.vme_model.specs.History.{drive, shown, line}
 use Rattle.vme_model.specs.Readings.{readings, grant_in, iack_in, is_served}
-use Rattle.vme_model.specs.Rules.{rule, may_answer, bus_numbers, is_pick}
+use Rattle.vme_model.specs.Rules.{rule, may_answer}
 use Rattle.vme_model.specs.Settling.{settling}
 use Rattle.vme_model.specs.Verdict.{Judgement, check, is_other_state, settled, IsLegal}
 use Rattle.vme_model.specs.Offers.{turned, considered, cycles_of, going_on}
 use Rattle.vme_histories.specs.Offered.{is_open, offered_on, offered_but_full, requester_wires, master_wires, interrupter_wires}
-use Rattle.vme_histories.specs.Judged.{may_grant}
 use Rattle.vme_histories.specs.Shown.{is_access_to}
 use Rattle.vme_histories.proofs.Drivers.{own_of_none}
 
@@ -194,20 +193,3 @@ interrupter_of_none version p h s empty =
 
 pub nobody_in : (version : Version) (p : Plan) (h : List Edge) (s : ℕ) → IsLegal version p h → board p s ≡ None → offered_but_full version p h (Slot s) ≡ []
 nobody_in version p h s legal empty = none_waits version p h s (requester_of_none version p h s empty) (master_of_none version p h s legal empty) (interrupter_of_none version p h s empty)
-
--- while the bus is busy, no grant falls
-and_stops : (a b c : Bool) → (a && b) ≡ false → (a && b && c) ≡ false
-and_stops true true c none = absurd (cc)
-and_stops true false c none = refl
-and_stops false b c none = refl
-
-module _ (version : Version) (p : Plan) (h : List Edge) where
-  abbrev grants_high : (Wire → Bool) → Bool
-  grants_high f = list_all (λ n. not (f (Bg n))) bus_numbers
-
-  pub no_grant : (n : ℕ) → drive h Controller (Bg n) ≡ false → may_grant p h ≡ false → filter (is_open version p h) (turned h Controller (Bg n) ∷ []) ≡ []
-  no_grant n high busy =
-      let shut : is_open version p h (turned h Controller (Bg n)) ≡ false =
-      closed version p h Controller (Bg n) false high
-      (and_stops (grants_high (drive h Controller)) (not (line p h Bbsy)) (is_pick p.arbiter (request_line p h) (last_level h) n) busy) in
-      rw shut

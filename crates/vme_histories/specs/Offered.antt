@@ -14,7 +14,7 @@ use Rattle.vme_model.specs.Offers.{considered, wires}
 abbrev pub is_open : Version → Plan → List Edge → Edge → Bool
 is_open version p h e = is_ok (verdict_but_full version p h e)
 
--- those of the edges considered for these wires that the rules allow
+-- of the edges considered for these wires, those that the rules allow
 abbrev pub offered_on : Version → Plan → List Edge → Driver → List Wire → List Edge
 offered_on version p h d ws = filter (is_open version p h) (flat_map (considered p h d) ws)
 

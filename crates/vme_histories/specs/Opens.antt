@@ -9,6 +9,6 @@ use Rattle.vme_model.specs.Offers.{wires}
 use Rattle.vme_model.specs.Open.{moves}
 use Rattle.vme_histories.specs.Offered.{is_open}
 
--- those of the edges that move the driver's wires that the rules allow
+-- of the edges that move the driver's wires, those that the rules allow
 abbrev pub open_but_full : Version → Plan → List Edge → Driver → List Edge
 open_but_full version p h d = filter (is_open version p h) (flat_map (moves h d) (wires d))

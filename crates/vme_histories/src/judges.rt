@@ -10,8 +10,6 @@ ghost use Rattle.vme_model.specs.Open.{showing};
 ghost use Rattle.vme_model.specs.Sets.{irq_levels};
 ghost use Rattle.vme_histories.specs.Offered.{is_open};
 ghost use Rattle.vme_histories.specs.Judged.{OfState, may_grant};
-ghost use Rattle.vme_model.specs.Settling.{settling_guard};
-ghost use Rattle.vme_model.specs.Verdict.{IsLegal, verdict_but_full};
 ghost use Rattle.vme_model.specs.declared.signals.Part.TheVariants as parts;
 ghost use Rattle.vme_model.specs.Signals.{is_of as is_wire_of};
 
@@ -29,8 +27,8 @@ pub struct Waiting {
 
 /// A state of the bus, to which its edges so far lead.
 ///
-/// The offers of a driver and its open edges are made of these answers, once for all kinds of state:
-/// by `put_controller`, `put_parts` and `open_edges_of`.
+/// The offers of a driver and its open edges are made of these answers, once for all kinds of
+/// state: by `put_controller`, `put_parts` and `open_edges_of`.
 pub trait Judges {
     /// It is the state to which the history leads.
     ghost is_of: { VersionValue → PlanValue → List EdgeValue → Self → Type 0 };

@@ -263,9 +263,9 @@ fn offer_grant<J: Judges, const N: usize>(
     offer_turned(state, Driver::Controller, Wire::Bg(level), may, offers);
 }
 
-/// Puts the offers of the controller, without the end of the trace, into an empty list: those of the
-/// edges considered for it that the rules allow, in the order of its wires. There are at most 7.
-/// Source: profile.
+/// Puts the offers of the controller, without the end of the trace, into an empty list: those of
+/// the edges considered for it that the rules allow, in the order of its wires. There are at most
+/// 7. Source: profile.
 pub fn put_controller<J: Judges, const N: usize>(state: &J, offers: &mut ArrayVec<Edge, N>)
     requires room { 7 ≤ N }
     requires empty { offers.old.items ≡ [] }

@@ -1,5 +1,5 @@
 //! The interrupter of one board.
-ghost use Rattle.std.specs.Prelude.{◌≡◌, ◌==◌, ◌&&◌, ◌||◌, not, if◌then◌else◌, ℕ, true, false, None, Ok, Err, Option as OptionValue, [], ◌∷◌, List};
+ghost use Rattle.std.specs.Prelude.{◌≡◌, ◌==◌, ◌&&◌, ◌||◌, not, if◌then◌else◌, ℕ, true, false, Err, Option as OptionValue, [], ◌∷◌, List};
 ghost use Rattle.std.specs.Option.{option_map_or};
 ghost use Rattle.vme_model.specs.History.{serves};
 ghost use Rattle.vme_model.specs.declared.boards.InterrupterRow.{InterrupterRow as RowValue};

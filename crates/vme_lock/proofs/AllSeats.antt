@@ -34,9 +34,6 @@ times P s n = count_by (λ t. s == t) (filter P (up_to n))
 other : (s t : ℕ) → t < s → (s == t) ≡ false
 other s t lt = grind (arith, nat_tests)
 
-self : (s : ℕ) → (s == s) ≡ true
-self s = grind (arith, nat_tests)
-
 times-more : (P : ℕ → Bool) (s n : ℕ) → times P s (suc n) ≡ times P s n + count_by (λ t. s == t) (filter P (suc n ∷ []))
 times-more P s n =
     ap (count_by (λ t. s == t)) (filter-append P (up_to n) (suc n ∷ []))

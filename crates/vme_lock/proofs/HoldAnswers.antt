@@ -1,5 +1,5 @@
 -- What the tests of a hold say about its answer.
-use Rattle.std.proofs.Common.{◌≡◌, ◌≢◌, ℕ, ◌≤◌, Bool, true, false, refl, sym, ap, ◌∙◌, subst, arith, length}
+use Rattle.std.proofs.Common.{◌≡◌, ◌≢◌, ℕ, ◌≤◌, Bool, true, false, refl, sym, ap, ◌∙◌, arith, length}
 use Rattle.std.specs.Prelude.{◌==◌, ◌%◌, not, if◌then◌else◌, slice_get, Ok, Err}
 use Rattle.std.proofs.lemmas.Bool.{eq-eqb}
 use Rattle.std.proofs.lemmas.Bool.Decides.{nat_tests}
@@ -68,12 +68,6 @@ not_lost {A} m n l v w is = go (m == n) refl is
     go : (x : Bool) → (m == n) ≡ x → Ok v ≡ (if not x then Err l else Ok w) → (m ≡ n) × (v ≡ w)
     go true same is = (grind (arith, nat_tests), cc)
     go false apart is = absurd (cc)
-
--- what is seen of the seat's own edges
-pub seen : (b : State) (s : Place) (v : View) → Ok v ≡ look_answer b s → (v.own ≡ s.made) × (v.own ≤ v.total)
-seen b s v is =
-    let known = not_lost (count b.history s.driver) s.made (loss_of b s) v (view_of b s.driver) is in
-    (ap (λ x. x.own) known.1 ∙ known.0, subst (λ x. x.own ≤ x.total) (sym known.1) (own_within b s.driver))
 
 own_edge : (b : State) (s : Place) (e : Edge) → is_same_driver e.driver s.driver ≡ true → edge_answer b s e ≡ (if is_lost b s then Err (refused.Lost (loss_of b s)) else by_step (answer b e))
 own_edge b s e same =

@@ -1,6 +1,6 @@
 -- What a hold changes in the locked value.
-use Rattle.std.proofs.Common.{◌≡◌, ℕ, ◌+◌, ◌∷◌, Bool, true, false, sym, ap, ◌∙◌, arith}
-use Rattle.std.specs.Prelude.{if◌then◌else◌, Option, Result, Ok, Err, is_ok, slice_index, slice_set}
+use Rattle.std.proofs.Common.{◌≡◌, ℕ, ◌+◌, ◌∷◌, Bool, true, sym, ap, ◌∙◌, arith}
+use Rattle.std.specs.Prelude.{if◌then◌else◌, Option, Result, Ok, is_ok, slice_index, slice_set}
 use Rattle.vme_model.specs.declared.signals.Driver.{Driver}
 use Rattle.vme_model.specs.declared.signals.Edge.{Edge}
 use Rattle.vme_model.specs.declared.deliveries.Delivery.{Delivery}
@@ -18,12 +18,6 @@ pub stepped : (b new : State) (e : Edge) (r : Result (Option Delivery) Refused) 
 stepped b new e r d is accepted state =
     let fine : is_ok (verdict b e) ≡ true = sym accepted ∙ ap is_ok is in
     state ∙ ap (λ (x : Bool). if x then made b e else b) fine
-
--- a refused edge is not made
-pub refused : (b new : State) (e : Edge) (r : Result (Option Delivery) Refused) (d : Refused) → r ≡ Err d → is_ok r ≡ is_ok (verdict b e) → new ≡ after b e → new ≡ b
-refused b new e r d is accepted state =
-    let none : is_ok (verdict b e) ≡ false = sym accepted ∙ ap is_ok is in
-    state ∙ ap (λ (x : Bool). if x then made b e else b) none
 
 held_more : (opened : State) (k : Keeping) (e : Edge) (d : Driver) → IsHeld opened k → can_sit d ≡ true → is_same_driver e.driver d ≡ true → IsHeld opened (kept_more k e d)
 held_more opened k e d held sits same =

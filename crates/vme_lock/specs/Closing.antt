@@ -34,7 +34,7 @@ FirstDiffers h (d ∷ drivers) (log ∷ logs) driver at =
 FirstDiffers h _ _ driver at = ⊥
 
 -- what is found when a history is compared with the logs: either they agree, or the first driver
--- and place where they do not
+-- and place at which they do not
 abbrev pub IsFirstDifference : List Edge → List Driver → List (List Edge) → Option (Driver × ℕ)
     → Type 0
 IsFirstDifference h drivers logs None = AreLogs h drivers logs

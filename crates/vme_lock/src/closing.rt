@@ -1,5 +1,5 @@
 //! Taking the backplane from the lock.
-ghost use Rattle.std.specs.Prelude.{◌≡◌, ◌+◌, ◌<◌, length, map, sum_by, vec_len, MatchResult, MatchOption};
+ghost use Rattle.std.specs.Prelude.{◌≡◌, ◌+◌, ◌<◌, length, sum_by, vec_len, MatchResult, MatchOption};
 ghost use Rattle.vme_model.specs.Plan.{drivers};
 ghost use Rattle.vme_model.specs.Counts.{only};
 ghost use Rattle.vme_lock.specs.Seats.{drivers_of};

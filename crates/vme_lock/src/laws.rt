@@ -5,7 +5,7 @@ ghost use Rattle.vme_model.specs.Deliveries.{answer};
 ghost use Rattle.vme_model.specs.Signals.{is_well_formed};
 ghost use Rattle.vme_model.specs.Verdict.{IsLegal};
 ghost use Rattle.vme_model.specs.Safe.{IsSafe, IsOrderly};
-ghost use Rattle.vme_lock.specs.Seats.{IsHeld, Follows, kept_more, one_more};
+ghost use Rattle.vme_lock.specs.Seats.{IsHeld, kept_more, one_more};
 ghost use Rattle.vme_lock.specs.Holds.{IsOwn, look_answer, turn_answer, edge_answer};
 
 use crate::held::Held;

@@ -1,7 +1,6 @@
 //! Locking a backplane.
-ghost use Rattle.std.specs.Prelude.{◌≡◌, ◌+◌, ◌<◌, ◌≤◌, [], ◌∷◌, ◌++◌, length, map, sum_by, vec_len, vec_capacity, MatchResult, IfOk, true};
+ghost use Rattle.std.specs.Prelude.{◌≡◌, ◌+◌, ◌<◌, ◌≤◌, [], ◌∷◌, ◌++◌, length, vec_len, vec_capacity, MatchResult, IfOk, true};
 ghost use Rattle.vme_model.specs.Plan.{drivers};
-ghost use Rattle.vme_model.specs.Counts.{count};
 ghost use Rattle.vme_lock.specs.Seats.{AreCounts, can_sit, seats_of, drivers_of};
 
 use crate::held::Held;

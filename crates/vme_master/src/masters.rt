@@ -1,5 +1,5 @@
 //! The master of one board.
-ghost use Rattle.std.specs.Prelude.{◌≡◌, ◌&&◌, ◌+◌, ◌||◌, not, ℕ, Bool, Ok, Err, Option as OptionValue, true, false, if◌then◌else◌, nat_lt, [], ◌∷◌, List};
+ghost use Rattle.std.specs.Prelude.{◌≡◌, ◌+◌, ◌||◌, ℕ, Bool, Err, Option as OptionValue, true, false, if◌then◌else◌, nat_lt, [], ◌∷◌, List};
 ghost use Rattle.vme_model.specs.declared.boards.RequesterRow.{RequesterRow as RowValue};
 ghost use Rattle.vme_model.specs.declared.sets.Levels.{Levels as LevelsValue};
 ghost use Rattle.vme_model.specs.declared.signals.Version.{Version};

@@ -20,9 +20,6 @@ same_bit true false e = absurd (omega (arith, e))
 same_bit false true e = absurd (omega (arith, e))
 same_bit false false e = refl
 
-peel : (a b x y : ℕ) → a ≤ 1 → b ≤ 1 → a + 2 * x ≡ b + 2 * y → (a ≡ b) × (x ≡ y)
-peel a b x y l m e = (omega arith, omega arith)
-
 four : (a b c d w x y z : ℕ) → a ≤ 1 → b ≤ 1 → c ≤ 1 → d ≤ 1 → w ≤ 1 → x ≤ 1 → y ≤ 1 → z ≤ 1 → a + 2 * b + 4 * c + 8 * d ≡ w + 2 * x + 4 * y + 8 * z → (a ≡ w) × (b ≡ x) × (c ≡ y) × (d ≡ z)
 four a b c d w x y z a1 b1 c1 d1 w1 x1 y1 z1 e = (omega arith, omega arith, omega arith, omega arith)
 

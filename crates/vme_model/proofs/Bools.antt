@@ -1,6 +1,6 @@
 -- What tests say that hold or fail.
-use Rattle.std.proofs.Common.{◌≡◌, ℕ, Bool, true, false, Option, Some, None, refl, arith}
-use Rattle.std.specs.Prelude.{◌&&◌, not, ◌==◌, if◌then◌else◌}
+use Rattle.std.proofs.Common.{◌≡◌, ℕ, Bool, true, false, refl, arith}
+use Rattle.std.specs.Prelude.{◌&&◌, not, ◌==◌}
 use Rattle.std.proofs.lemmas.Bool.Decides.{nat_tests}
 
 pub and_left : (a b : Bool) → (a && b) ≡ true → a ≡ true
@@ -14,15 +14,6 @@ and_right false b h = cc
 pub not_true : (a : Bool) → not a ≡ true → a ≡ false
 not_true true h = cc
 not_true false h = refl
-
--- what a test that results in None passed
-pub passed : {A : Type 0} (b : Bool) (e : A) (rest : Option A) → (if not b then Some e else rest) ≡ None → (b ≡ true) × (rest ≡ None)
-passed true e rest h = (refl, h)
-passed false e rest h = cc
-
-pub failed : {A : Type 0} (b : Bool) (e : A) (rest : Option A) → (if b then Some e else rest) ≡ None → (b ≡ false) × (rest ≡ None)
-failed true e rest h = cc
-failed false e rest h = (refl, h)
 
 pub same_number : (m n : ℕ) → (m == n) ≡ true → m ≡ n
 same_number m n h = grind (arith, nat_tests)

@@ -51,7 +51,7 @@ kept_later : {X : Type 0} (b : Bool) (y x : X) (xs : List X) → Contains xs x �
 kept_later true y x xs c = there y x xs c
 kept_later false y x xs c = c
 
-by_filter : {X : Type 0} (test : X → Bool) (xs : List X) (x : X) → test x ≡ true → Contains xs x → Contains (filter test xs) x
+pub by_filter : {X : Type 0} (test : X → Bool) (xs : List X) (x : X) → test x ≡ true → Contains xs x → Contains (filter test xs) x
 by_filter test [] x h c = let lt = c.1 in absurd (omega arith)
 by_filter test (y ∷ xs) x h (zero, lt, is) = subst (λ z. Contains (filter test (y ∷ xs)) z) is (kept_first (test y) y (filter test xs) (subst (λ z. test z ≡ true) (sym is) h))
 by_filter test (y ∷ xs) x h (suc k, lt, is) = kept_later (test y) y x (filter test xs) (by_filter test xs x h (k, omega arith, is))

@@ -33,9 +33,6 @@ all_high f h (row ∷ rows) = both (f row.slot) (list_all (λ r. not (f r.slot))
 again : (a b : Bool) (named settles : ℕ × Bool) → a ≡ true → b ≡ true → named.1 ≡ true → settles.1 ≡ true → check a NoSuchDriver (check b AlreadyThere (check named.1 (Rule named.0) (check settles.1 (NotSettled settles.0) (Ok tt)))) ≡ Ok tt
 again a b named settles e f g h = cc
 
-or_right : (x y : Bool) → y ≡ true → (x || y) ≡ true
-or_right x y e = grind arith
-
 or_left : (x y : Bool) → x ≡ true → (x || y) ≡ true
 or_left x y e = grind arith
 

@@ -8,7 +8,7 @@ use Rattle.vme_model.specs.declared.signals.Edge.{Edge}
 use Rattle.vme_model.specs.Plan.{Plan}
 use Rattle.vme_model.specs.Verdict.{State, after, kept}
 use Rattle.vme_model.specs.Deliveries.{answer}
-use Rattle.vme_model.specs.Text.{Reading, TextFault, read_of}
+use Rattle.vme_model.specs.Text.{TextFault}
 
 -- the text of a delivery
 abbrev pub delivery_text : Delivery → List ℕ
@@ -60,14 +60,3 @@ closing_line b es = closing_text (accepted_count b es) (length es - accepted_cou
 abbrev pub closing : Option TextFault → State → List Edge → List ℕ
 closing (Some fault) b es = []
 closing None b es = closing_line b es
-
--- the verdicts on what was read; none without a version
-abbrev pub report_of : Option Version → Plan → Reading → List ℕ
-report_of None p r = []
-report_of (Some version) p r =
-    let b = at_power_up version p trace_limit in
-    verdict_lines b 1 r.edges ++ closing r.fault b r.edges
-
--- the verdicts on the trace that the bytes spell, on a plan
-abbrev pub report : Plan → List ℕ → List ℕ
-report p bytes = report_of (read_of bytes).version p (read_of bytes)

@@ -144,7 +144,7 @@ is_first_versions G2 = true
 is_first_versions G10 = true
 is_first_versions _ = false
 
--- the same condition
+-- whether two conditions are the same
 abbrev pub is_same_condition : Condition → Condition → Bool
 is_same_condition = sameb the_type
 

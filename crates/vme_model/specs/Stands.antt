@@ -121,7 +121,7 @@ open_line b d =
 abbrev pub after_text : ℕ → ℕ → List ℕ
 after_text n accepted = ((codes "after " ++ decimal n) ++ codes " accepted ") ++ decimal accepted
 
--- where the bus stands after the first n edges of a trace, where k numbers those that were accepted
+-- where the bus stands after the first n edges of a trace; k numbers those that were accepted
 abbrev pub stands_text : ℕ → State → Numbered → List ℕ
 stands_text n b k =
     (after_text n (length b.history) ++ 10 ∷ [])

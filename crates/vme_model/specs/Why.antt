@@ -23,7 +23,7 @@ pub record Reason : Type 0 where
   pub tested : Tested
   pub witnesses : List Witness
 
--- why an edge has its verdict, where k numbers the edges of b
+-- why an edge has its verdict; k numbers the edges of b
 abbrev pub why : State → Numbered → Edge → List Reason
 why b k e =
     map (λ t. record { tested = t; witnesses = witnesses_of b k e t.condition })
@@ -78,6 +78,6 @@ edge_verdict n b e =
     ((((decimal n ++ codes " ") ++ spelling e) ++ codes " ") ++ verdict_text (answer b e))
     ++ 10 ∷ []
 
--- the block of the n-th edge of a trace, where k numbers the accepted edges before it
+-- the block of the n-th edge of a trace; k numbers the accepted edges before it
 abbrev pub why_text : ℕ → State → Numbered → Edge → List ℕ
 why_text n b k e = edge_verdict n b e ++ flat_map (reason_lines b e) (why b k e)

@@ -120,7 +120,7 @@ pub struct Tested {
 impl Condition {
     /// The condition's text, or none if the text depends on the edge, its board or what is shown.
     /// docs/COMMANDS.md lists the texts.
-    pub fn fixed_text(self) -> Option<&'static str>
+    pub(crate) fn fixed_text(self) -> Option<&'static str>
         ensures text { option_map (λ text. text.now) result ≡ fixed_text self }
         ensures short { IfSome result (λ text. length text.now ≤ 48) }
     {

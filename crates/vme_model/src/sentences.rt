@@ -1,7 +1,7 @@
 //! The rules in words: for each its name, its edge, and a sentence.
 ghost use Rattle.std.specs.Prelude.{◌≡◌, ◌≤◌, find, length};
 ghost use Rattle.std.specs.Str.{bytes_eq};
-ghost use Rattle.vme_model.specs.Sentences.{all_rules, board_sentence, interrupters_sentence, other_sentence, rule_edge, rule_name, rule_named, sentence};
+ghost use Rattle.vme_model.specs.Sentences.{board_sentence, interrupters_sentence, other_sentence, rule_edge, rule_name, rule_named, sentence};
 
 /// A rule by its name: what refuses an edge. docs/RULES.md has the rules. Source: profile (the
 /// names).
@@ -122,8 +122,8 @@ impl Rule {
         }
     }
 
-    /// The edge that the rule judges, such as `c bgN-`, with N for a grant's level and v for what is
-    /// shown; `any` if the rule judges every edge. At most 8 bytes.
+    /// The edge that the rule judges, such as `c bgN-`, with N for a grant's level and v for what
+    /// is shown; `any` if the rule judges every edge. At most 8 bytes.
     pub fn edge(self) -> &'static str
         ensures text { result.now ≡ rule_edge self }
         ensures short { length result.now ≤ 8 }

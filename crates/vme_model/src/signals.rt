@@ -205,8 +205,8 @@ impl Wire {
         }
     }
 
-    /// The wire's place among all wires, from 0: `bg0` to `bg3`, `bclr`, `iack`, `berr`, `br` and so
-    /// on to `dtack`, which has 15. A grant has the number of its level, which should be 0 to 3.
+    /// The wire's place among all wires, from 0: `bg0` to `bg3`, `bclr`, `iack`, `berr`, `br` and
+    /// so on to `dtack`, which has 15. A grant has the number of its level, which should be 0 to 3.
     /// Source: profile.
     #[inline(always)]
     pub fn number(self) -> u8

@@ -6,7 +6,7 @@ use Rattle.vme_model.specs.Text.{no_header, too_long, cut_off, split_lines, next
 use Rattle.vme_trace.specs.Reading.{IsOneLine, IsPart}
 use Rattle.vme_trace.proofs.Lines.{head_of, head_long, over, some_bytes, split_line, split_rest, within, IsOneLine-append}
 use Rattle.vme_moments.specs.declared.Seen.{Seen}
-use Rattle.vme_moments.specs.Moments.{Reading, Said, of_trace, earlier, too_many, before_others, behind_header, fault_within, line_says, read_from_header, read_seen, seen_limit, unread}
+use Rattle.vme_moments.specs.Moments.{Said, of_trace, too_many, before_others, behind_header, line_says, read_seen, seen_limit}
 use Rattle.vme_moments.specs.Moments as said
 use Rattle.vme_moments.specs.Taking.{after, rest_at}
 

@@ -9,7 +9,7 @@ use Rattle.vme_moments.specs.declared.Seen.{Seen}
 use Rattle.vme_moments.specs.declared.MomentsFault.{MomentsFault}
 use Rattle.vme_moments.specs.declared.MomentsFault.TheVariants.{Trace, Earlier, TooMany}
 use Rattle.vme_moments.specs.declared.reader.Reader.{Reader}
-use Rattle.vme_moments.specs.Moments.{Reading, Said, of_trace, before_others, behind_header, line_says, read_seen, seen_limit, too_many}
+use Rattle.vme_moments.specs.Moments.{Reading, Said, line_says, read_seen, seen_limit, too_many}
 use Rattle.vme_moments.specs.Moments as said
 use Rattle.vme_moments.specs.Reading.{fault_of}
 use Rattle.vme_moments.specs.Taking.{IsFault, IsSound, Says, Takes, rest_of}
@@ -26,12 +26,6 @@ pub taken_more : (old mid new : Reader) (a b : List ℕ) → Takes old a mid (Ok
     → Takes mid b new (Ok tt) → Takes old (a ++ b) new (Ok tt)
 taken_more old mid new a b first then =
     (then.0, λ more. ap (λ l. rest_of old l) (append_assoc a b more) ∙ first.1 (b ++ more) ∙ then.1 more)
-
-pub taken_fault : (old mid new : Reader) (a b : List ℕ) (f : MomentsFault) → Takes old a mid (Ok tt)
-    → Takes mid b new (Err f) → Takes old (a ++ b) new (Err f)
-taken_fault old mid new a b f first then more =
-    subst (λ (r : Reading). IsFault r f)
-    (sym (ap (λ l. rest_of old l) (append_assoc a b more) ∙ first.1 (b ++ more))) (then more)
 
 -- a reader whose part has one byte more says the same of what is left
 pub byte_taken : (old new : Reader) (b : ℕ) → new.version ≡ old.version → new.line ≡ old.line

@@ -1,5 +1,5 @@
--- Orders of edges that were seen. Edges are named by their places in the list of what was seen, from
--- 0 on, and a list of places has the newest first.
+-- Orders of edges that were seen. Edges are named by their places in the list of what was seen,
+-- from 0 on, and a list of places has the newest first.
 use Rattle.std.specs.Prelude.{◌≡◌, ◌==◌, ◌||◌, ◌⊎◌, ◌+◌, ◌<◌, ◌≤◌, ◌∷◌, ℕ, Bool, true, false, List, [], Some, length}
 use Rattle.std.specs.List.{slice_get}
 use Rattle.std.specs.Option.{option_map_or}
@@ -46,15 +46,15 @@ pub record IsLegalBeginning (version : Version) (p : Plan) (x : Slacks) (ms : Li
   pub begins : IsBeginning x ms places
   pub legal : IsLegal version p (edges_at ms places)
 
--- Of two lists of one length the first is the lesser: at the first place in which they differ it has
--- the lesser number.
+-- Of two lists of one length the first is the lesser: at the first place in which they differ it
+-- has the lesser number.
 abbrev pub IsLesser : List ℕ → List ℕ → Type 0
 IsLesser [] others = ⊥
 IsLesser (i ∷ places) [] = ⊥
 IsLesser (i ∷ places) (j ∷ others) = IsLesser places others ⊎ ((places ≡ others) × (i < j))
 
--- The longest legal beginning, and of those of its length the least. If it has all places, it is the
--- least legal order. Otherwise no order is legal.
+-- The longest legal beginning, and of those of its length the least. If it has all places, it is
+-- the least legal order. Otherwise no order is legal.
 pub record IsLongest (version : Version) (p : Plan) (x : Slacks) (ms : List Seen)
     (places : List ℕ) : Type 0 where
   pub legal : IsLegalBeginning version p x ms places
@@ -79,8 +79,8 @@ abbrev pub AreInOrder : List Seen → Type 0
 AreInOrder ms = (i j : ℕ) (a b : Seen) → i < j → slice_get ms i ≡ Some a → slice_get ms j ≡ Some b
     → a.moment ≤ b.moment
 
--- A legal beginning goes on legally with a place that is greater by 128 or more than the least that is
--- not in it.
+-- A legal beginning goes on legally with a place that is greater by 128 or more than the least that
+-- is not in it.
 pub record HasFarPlace (version : Version) (p : Plan) (x : Slacks) (ms : List Seen) : Type 0 where
   pub places : List ℕ
   pub least : ℕ

@@ -1,8 +1,8 @@
 //! Edges with the moments at which they were seen: what a text of them says, and which of two came
 //! before the other.
 //!
-//! `specs/Moments.antt` says what a text says, and `specs/Before.antt` which of two edges came before
-//! the other.
+//! `specs/Moments.antt` says what a text says, and `specs/Before.antt` which of two edges came
+//! before the other.
 #![tactic(auto)]
 
 mod before;

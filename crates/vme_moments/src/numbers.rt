@@ -27,8 +27,8 @@ fn number_in(text: &str) -> Option<u64>
     text.parse().ok()
 }
 
-/// The number that these bytes spell in decimal, without a sign or a leading zero, if they spell one
-/// of 64 bits at most.
+/// The number that these bytes spell in decimal, without a sign or a leading zero, if they spell
+/// one of 64 bits at most.
 pub fn number_of(digits: &[u8]) -> Option<u64>
     ensures { result ≡ number_of digits.now }
 {

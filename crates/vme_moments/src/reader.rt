@@ -207,12 +207,12 @@ fn read_all<R: Read>(alloc: Global, input: &mut R) -> Result<Moments, MomentsFau
     Err(MomentsFault::Trace(Fault::Read))
 }
 
-/// Reads moments to their end. Their edges stand in the order of their lines, so their moments do not
-/// fall. docs/TRACES.md describes the text.
+/// Reads moments to their end. Their edges stand in the order of their lines, so their moments do
+/// not fall. docs/TRACES.md describes the text.
 ///
 /// # Errors
-/// The first fault of the text, which is X1 to X4, X10 or F6. X5 if a read failed, or after 16,777,216
-/// reads. X6 if memory runs out.
+/// The first fault of the text, which is X1 to X4, X10 or F6. X5 if a read failed, or after
+/// 16,777,216 reads. X6 if memory runs out.
 pub fn read_moments<R: Read>(alloc: Global, input: &mut R) -> Result<Moments, MomentsFault>
     ensures reads { ReadsMoments (R.remaining input.old) (R.remaining input.new) result }
     ensures ordered { IfOk result (λ m. AreInOrder m.seen.items) }

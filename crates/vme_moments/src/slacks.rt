@@ -20,7 +20,7 @@ pub struct Slacks {
 }
 
 impl Slacks {
-    /// The same slack for all drivers. None of them is named.
+    /// One slack for all drivers. None of them is named.
     pub fn all(slack: u64) -> Slacks
         ensures all { (d : DriverValue) → IsKnown d → slack_of result d ≡ slack }
         ensures unnamed { (d : DriverValue) → names result d ≡ false }
@@ -35,7 +35,7 @@ impl Slacks {
 
     /// The slack of a driver. It is 0 for a slot from 22 on.
     #[inline(always)]
-    pub fn of(&self, driver: Driver) -> u64
+    pub(crate) fn of(&self, driver: Driver) -> u64
         ensures { result ≡ slack_of self.now driver }
     {
         match driver {

@@ -1,32 +1,27 @@
 -- What is answered to moments, once they were read and an order of them was sought.
-use Rattle.std.proofs.Common.{◌≡◌, ◌≤◌, [], ℕ, List, Option, Some, None, Result, Ok, Err, length, reverse, refl, sym, subst, unwrap_or}
+use Rattle.std.proofs.Common.{◌≡◌, ◌≤◌, [], ℕ, List, Option, Some, None, Ok, Err, length, reverse, refl, sym, subst, unwrap_or}
 use Rattle.std.specs.Io.KnownBytes.{IsAtEnd}
 use Rattle.vme_model.specs.declared.signals.Version.{Version}
 use Rattle.vme_model.specs.Plan.{Plan}
 use Rattle.vme_scenario.specs.Format.{scenario}
 use Rattle.vme_trace.specs.declared.Fault.{Fault}
 use Rattle.vme_trace.specs.declared.Fault.TheVariants as trace
-use Rattle.vme_trace.specs.Writing.{AppendsFront}
 use Rattle.vme_moments.specs.declared.Seen.{Seen}
-use Rattle.vme_moments.specs.declared.MomentsFault.{MomentsFault}
 use Rattle.vme_moments.specs.declared.reader.Moments.{Moments}
 use Rattle.vme_moments.specs.declared.slacks.Slacks.{Slacks}
-use Rattle.vme_moments.specs.Moments.{read_of}
 use Rattle.vme_moments.specs.Orders.{AreNext, IsLongest}
 use Rattle.vme_moments.specs.Reading as moments
 use Rattle.vme_order_search.specs.TooMany.{HasTooMany}
 use Rattle.vme_order_search.specs.declared.OrderFault.{OrderFault}
 use Rattle.vme_order_search.specs.declared.OrderFault.TheVariants.{TooManyOrders, NoMemory}
 use Rattle.vme_engines.specs.declared.Status.{Status}
-use Rattle.vme_engines.specs.declared.EngineFault.{EngineFault}
 use Rattle.vme_engines.specs.declared.EngineFault.TheVariants as engine
 use Rattle.vme_engines.specs.Outcomes.{scenario_limit}
-use Rattle.vme_engines.specs.Steps.{IsNoPlan}
 use Rattle.vme_engines.specs.Streams.{IsInput, ReadNothing, Streams, Wrote, WroteFront, WroteNothing}
 use Rattle.vme_order.specs.declared.Form.{Form}
 use Rattle.vme_order.specs.declared.OrderingFault.TheVariants as fault
 use Rattle.vme_order.specs.Faults.{search_fault}
-use Rattle.vme_order.specs.Ordering.{Answer, Finds, IsFirstEmpty, IsFound, LentText, NamesBoards, Orders, OrdersInput, found_text, status_of}
+use Rattle.vme_order.specs.Ordering.{Answer, Finds, IsFirstEmpty, IsFound, LentText, NamesBoards, OrdersInput, found_text, status_of}
 
 -- ---- the input
 
@@ -51,11 +46,6 @@ found_in v p x ms all order next is longest behind =
 
 module _ (form : Form) (x : Slacks) (p : Plan) (named : NamesBoards x p) (s : Streams)
     (bytes : List ℕ) (input : moments.IsInput s.from bytes) where
-  -- they have a fault
-  pub faulty : (f : MomentsFault) → moments.IsFaultOf bytes f → WroteNothing s
-      → OrdersInput form x s p (Err (fault.Moments f))
-  faulty f is nothing = (bytes, same_input s.from bytes input, (named, is, nothing))
-
   module _ (m : Moments) (said : moments.Say bytes m) where
     -- nothing was found
     pub unfound : (f : OrderFault)
@@ -128,16 +118,6 @@ module _ (form : Form) (x : Slacks) (p : Plan) (named : NamesBoards x p) (s : St
 -- ---- the scenario
 
 module _ (text : List ℕ) (nothing : Type 0) (form : Form) (x : Slacks) (s : Streams) where
-  -- it has no plan
-  pub unlent : (f : EngineFault) → IsNoPlan text f → nothing
-      → LentText text nothing (OrdersInput form x s) (Err (fault.Engine f))
-  unlent (engine.Scenario e) is none = (is.0, is.1, none)
-  unlent (engine.Trace f) is none = absurd is
-  unlent engine.CannotRead is none = absurd is
-  unlent engine.TooLong is none = (is, none)
-  unlent engine.NoMemory is none = absurd is
-  unlent (engine.Beyond n) is none = absurd is
-
   module _ (p : Plan) (short : length text ≤ scenario_limit) (is : scenario text ≡ Ok p) where
     -- a slot that is named has no board
     pub unnamed : (slot : ℕ) → IsFirstEmpty x p slot → ReadNothing s → WroteNothing s

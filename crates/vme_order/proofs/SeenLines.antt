@@ -1,14 +1,14 @@
 -- The lines of edges that were seen, written one after another.
-use Rattle.std.proofs.Common.{◌≡◌, ◌<◌, ◌+◌, ◌++◌, ◌∷◌, [], ℕ, List, Option, Some, None, Result, Ok, Err, OnOk, OnErr, length, refl, sym, ◌∙◌, ap, append_assoc, append-nil, drop, get_or, arith, subst, add-zero, suc, zero, All}
+use Rattle.std.proofs.Common.{◌≡◌, ◌<◌, ◌+◌, ◌++◌, ◌∷◌, [], ℕ, List, Option, Some, None, Result, Ok, Err, OnOk, length, refl, sym, ◌∙◌, ap, append_assoc, append-nil, drop, get_or, arith, subst, add-zero, suc, zero, All}
 use Rattle.std.specs.List.{slice_get}
 use Rattle.std.specs.Option.{option_map_or}
 use Rattle.std.specs.Io.KnownBytes.{Appends, Keeps}
-use Rattle.std.proofs.KnownBytes.{Appends-trans, Appends-nil, Appends-kept}
+use Rattle.std.proofs.KnownBytes.{Appends-trans, Appends-kept}
 use Rattle.std.proofs.lemmas.List.{drop_more}
 use Rattle.std.proofs.lemmas.List.Elements.{All-head, All-tail}
 use Rattle.std.proofs.lemmas.Option.{slice_get-get_or}
 use Rattle.vme_model.specs.declared.signals.Version.{Version}
-use Rattle.vme_model.specs.Text.{edge_lines, header, text}
+use Rattle.vme_model.specs.Text.{edge_lines, header}
 use Rattle.vme_trace.specs.Writing.{AppendsFront, edge_line}
 use Rattle.vme_trace.proofs.WrittenLines.{Wrote, first_front, second_front, wrote_all, wrote_front}
 use Rattle.vme_moments.specs.declared.Seen.{Seen}
@@ -135,10 +135,6 @@ module _ (a b c : Option (List ℕ)) (whole : List ℕ) (form : Form) (n : ℕ) 
 pub on_ok : {A E : Type 0} (r : Result A E) (P : Type 0) → P → OnOk r P
 on_ok (Ok a) P h = h
 on_ok (Err e) P h = tt
-
-pub on_err : {A E : Type 0} (r : Result A E) (P : Type 0) → P → OnErr r P
-on_err (Ok a) P h = tt
-on_err (Err e) P h = h
 
 whole_front : (a b : Option (List ℕ)) (x : List ℕ) → Appends a b x → AppendsFront a b x
 whole_front a b x w = (x, [], sym (append-nil x), w)

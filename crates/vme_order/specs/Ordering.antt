@@ -1,5 +1,5 @@
 -- What is written of an order, and what the engine `order` answers.
-use Rattle.std.specs.Prelude.{◌≡◌, ◌≢◌, ◌⊎◌, ◌==◌, ◌≤◌, ◌<◌, ◌+◌, ◌++◌, ◌∷◌, [], ℕ, List, length, reverse, codes, decimal, IsTrue, Option, Some, None, Result, Ok, Err, if◌then◌else◌}
+use Rattle.std.specs.Prelude.{◌≡◌, ◌≢◌, ◌==◌, ◌≤◌, ◌<◌, ◌+◌, ◌++◌, ◌∷◌, [], ℕ, List, length, reverse, codes, decimal, IsTrue, Some, None, Result, Ok, Err, if◌then◌else◌}
 use Rattle.std.specs.List.{slice_get}
 use Rattle.std.specs.Option.{option_map_or}
 use Rattle.vme_model.specs.declared.signals.Version.{Version}
@@ -30,8 +30,8 @@ use Rattle.vme_order.specs.declared.OrderingFault.TheVariants as fault
 abbrev pub Answer : Type 0
 Answer = Result Status OrderingFault
 
--- The places of the longest legal beginning, of those of its length the least, oldest first; and the
--- places that can come next after it.
+-- The places of the longest legal beginning, of those of its length the least, oldest first; and
+-- the places that can come next after it.
 pub record IsFound (version : Version) (p : Plan) (x : Slacks) (ms : List Seen)
     (order next : List ℕ) : Type 0 where
   pub longest : IsLongest version p x ms (reverse order)

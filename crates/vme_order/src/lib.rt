@@ -1,5 +1,5 @@
-//! The engine `order`: it reads a scenario and moments, and writes the first order of the edges that
-//! the rules allow.
+//! The engine `order`: it reads a scenario and moments, and writes the first order of the edges
+//! that the rules allow.
 //!
 //! `specs/Ordering.antt` says what it writes and answers.
 #![tactic(auto)]

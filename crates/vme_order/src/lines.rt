@@ -36,7 +36,8 @@ fn place_line(n: u64, seen: &Seen) -> ArrayVec<u8, LINE>
 
 /// Writes what stands before the lines of the edges.
 ///
-/// Errors: X8 if that failed; a prefix of it was written then.
+/// # Errors
+/// X8 if that failed; a prefix of it was written then.
 pub(crate) fn write_head<W: Write>(form: Form, version: Version, out: &mut W) -> Result<(), Fault>
     ensures ok { OnOk result
         (Appends (W.contents out.old) (W.contents out.new) (head_text form version)) }
@@ -67,7 +68,8 @@ fn write_edge<W: Write>(form: Form, n: u64, seen: &Seen, out: &mut W) -> Result<
 
 /// Writes the lines of the edges at these places, after so many edges.
 ///
-/// Errors: X8 if that failed; a prefix of the lines was written then.
+/// # Errors
+/// X8 if that failed; a prefix of the lines was written then.
 pub(crate) fn write_edges<W: Write>(
     form: Form,
     written: usize,

@@ -79,7 +79,8 @@ fn status_of(moments: &Moments, found: &Found) -> Status
 
 /// Writes what was found.
 ///
-/// Errors: X8 if that failed; a prefix of the text was written then.
+/// # Errors
+/// X8 if that failed; a prefix of the text was written then.
 fn write<W: Write>(form: Form, moments: &Moments, found: &Found, out: &mut W) -> Result<(), Fault>
     requires formed { All (λ s. IsTrue (is_well_formed s.edge)) moments.now.seen.items }
     requires order { All (λ p. p < length moments.now.seen.items) found.now.order.items }
@@ -126,9 +127,9 @@ fn order_on<R: Read, W: Write>(
 /// The status is `SomeRefused` then.
 ///
 /// # Errors
-/// F2 and the faults of the scenario; a slot that has a slack of its own and no board; the faults of
-/// the moments, which are read to their end; F5 and F3. In these cases nothing is written. X8 if the
-/// output cannot be written; a prefix of the text was written then.
+/// F2 and the faults of the scenario; a slot that has a slack of its own and no board; the faults
+/// of the moments, which are read to their end; F5 and F3. In these cases nothing is written. X8 if
+/// the output cannot be written; a prefix of the text was written then.
 pub fn order<R: Read, W: Write>(
     alloc: Global,
     scenario: &[u8],

@@ -1,17 +1,17 @@
 -- The longest legal beginning, and of those of its length the least.
-use Rattle.std.proofs.Common.{◌≡◌, ◌≢◌, ◌⊎◌, inl, inr, ◌<◌, ◌≤◌, ◌+◌, ℕ, zero, suc, Bool, true, false, List, [], ◌∷◌, All, Some, length, reverse, refl, sym, ◌∙◌, subst, ap, arith}
+use Rattle.std.proofs.Common.{◌≡◌, ◌⊎◌, inl, inr, ◌<◌, ◌≤◌, ◌+◌, ℕ, zero, suc, Bool, true, false, List, [], ◌∷◌, All, Some, length, reverse, sym, ◌∙◌, subst, arith}
 use Rattle.std.specs.List.{slice_get}
 use Rattle.std.proofs.lemmas.Bool.{cases_lt}
 use Rattle.std.proofs.lemmas.List.{reverse-append, reverse-reverse}
 use Rattle.std.proofs.lemmas.List.Elements.{All-append}
 use Rattle.std.proofs.lemmas.Option.{slice_get_within}
-use Rattle.vme_moments.specs.Orders.{IsBeginning, IsFree, IsLesser, IsLongest}
+use Rattle.vme_moments.specs.Orders.{IsBeginning, IsLesser, IsLongest}
 use Rattle.vme_moments.specs.declared.Seen.{Seen}
 use Rattle.vme_moments.specs.declared.slacks.Slacks.{Slacks}
 use Rattle.vme_order_search.specs.declared.layers.Beginning.{Beginning}
 use Rattle.vme_order_search.specs.declared.trails.Trail.{Trail}
-use Rattle.vme_order_search.specs.Searching.{Task, IsLegalIn, IsAtMost, IsKeptAs, AreKept, IsStoodFor, IsLeftOut, IsLayer}
-use Rattle.vme_order_search.proofs.Lesser.{lesser_trans, lesser_self, at_most_lesser, lesser_at_most}
+use Rattle.vme_order_search.specs.Searching.{Task, IsLegalIn, IsAtMost, IsKeptAs, IsStoodFor, IsLeftOut, IsLayer}
+use Rattle.vme_order_search.proofs.Lesser.{lesser_trans, lesser_self, at_most_lesser}
 use Rattle.vme_order_search.proofs.Legal.{beginning_fits, front_legal}
 
 -- ---- the least of a layer

@@ -1,9 +1,8 @@
 -- Legal beginnings, and one place more.
-use Rattle.std.proofs.Common.{◌≡◌, ◌≢◌, ◌⊎◌, inl, inr, ◌<◌, ◌≤◌, ◌+◌, ◌||◌, ℕ, suc, Bool, true, false, eqb, List}
-use Rattle.std.proofs.Common.{[], ◌∷◌, Option, Some, None, Result, Ok, Err, is_ok, length, refl, sym, ◌∙◌, subst}
+use Rattle.std.proofs.Common.{◌≡◌, ◌⊎◌, inl, inr, ◌<◌, ◌≤◌, ◌||◌, ℕ, Bool, true, false, eqb, List}
+use Rattle.std.proofs.Common.{[], ◌∷◌, Option, Some, None, Result, Ok, Err, length, refl, sym, ◌∙◌, subst}
 use Rattle.std.proofs.Common.{ap, arith}
 use Rattle.std.specs.Prelude.{◌==◌}
-use Rattle.std.proofs.lemmas.Bool.{cases_lt}
 use Rattle.std.proofs.lemmas.Bool.Decides.{nat_tests}
 use Rattle.std.specs.List.{AllByRecursion, IsDistinct, list_any, slice_get}
 use Rattle.std.specs.Option.{option_map_or}
@@ -17,7 +16,7 @@ use Rattle.vme_model.specs.Plan.{Plan}
 use Rattle.vme_model.specs.Verdict.{IsLegal, verdict_but_full}
 use Rattle.vme_moments.specs.declared.Seen.{Seen}
 use Rattle.vme_moments.specs.declared.slacks.Slacks.{Slacks}
-use Rattle.vme_moments.specs.Orders.{IsBeginning, IsFree, IsLegalBeginning, edges_at, has}
+use Rattle.vme_moments.specs.Orders.{IsBeginning, IsFree, edges_at, has}
 use Rattle.vme_bus.specs.declared.states.BusState.{BusState}
 use Rattle.vme_bus.specs.States.{IsStateOf, OfHistory}
 use Rattle.vme_bus.specs.Steps.{answer_but_full, kept_but_full}

@@ -1,5 +1,5 @@
 -- Which of two lists of places is the lesser.
-use Rattle.std.proofs.Common.{◌≡◌, ◌⊎◌, inl, inr, ◌<◌, ◌∷◌, ℕ, List, [], refl, sym, ◌∙◌, subst, ap, arith}
+use Rattle.std.proofs.Common.{inl, inr, ◌<◌, ◌∷◌, ℕ, List, [], sym, ◌∙◌, subst, ap, arith}
 use Rattle.vme_moments.specs.Orders.{IsLesser}
 use Rattle.vme_order_search.specs.Searching.{IsAtMost}
 

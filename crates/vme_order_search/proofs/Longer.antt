@@ -1,5 +1,5 @@
 -- The beginnings with one place more, as they are made.
-use Rattle.std.proofs.Common.{◌≡◌, ◌≢◌, ◌⊎◌, inl, inr, ◌<◌, ◌≤◌, ◌+◌, ◌++◌, ℕ, zero, suc, Bool, true, false, eqb, cond, List, [], ◌∷◌, Option, Some, None, length, refl, sym, ◌∙◌, subst, ap, arith}
+use Rattle.std.proofs.Common.{◌≡◌, ◌⊎◌, inl, inr, ◌<◌, ◌≤◌, ◌+◌, ◌++◌, ℕ, zero, suc, Bool, true, false, eqb, cond, List, [], ◌∷◌, Some, length, refl, sym, ◌∙◌, subst, ap, arith}
 use Rattle.std.specs.List.{slice_get}
 use Rattle.std.proofs.lemmas.Bool.{cases_lt}
 use Rattle.std.proofs.lemmas.Bool.Decides.{nat_tests}
@@ -12,7 +12,7 @@ use Rattle.vme_order_search.specs.declared.trails.Trail.{Trail}
 use Rattle.vme_order_search.specs.Places.{AreTaken, AreUnfree}
 use Rattle.vme_order_search.specs.Trails.{Ends}
 use Rattle.vme_order_search.specs.Searching.{Task, IsLegalIn, Leads, IsAtMost, IsKeptAs, StandsFor, AreKept, IsStoodFor, IsLeftOut, IsLayer, IsMade, IsDue, AreLonger}
-use Rattle.vme_order_search.proofs.Lesser.{lesser_trans, at_most_lesser, lesser_at_most, at_most_longer, lesser_place}
+use Rattle.vme_order_search.proofs.Lesser.{lesser_at_most, lesser_place}
 use Rattle.vme_order_search.proofs.Legal.{front_legal, last_free}
 use Rattle.vme_order_search.proofs.Lists.{get_before, get_last, get_there, length_more, none_there, one_there}
 

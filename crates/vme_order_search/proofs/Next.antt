@@ -1,6 +1,6 @@
 -- Which places can come next.
 use Rattle.std.proofs.Common.{◌≡◌, ◌⊎◌, inl, inr, ◌<◌, ◌≤◌, ◌+◌, ◌++◌, ◌||◌, ◌&&◌, ℕ, zero, suc, Bool, true, false}
-use Rattle.std.proofs.Common.{All, List, [], ◌∷◌, Option, Some, None, length, refl, sym, ◌∙◌, subst, ap, arith}
+use Rattle.std.proofs.Common.{All, List, [], ◌∷◌, Some, length, refl, sym, ◌∙◌, subst, ap, arith}
 use Rattle.std.proofs.Common.{nat_lt, get_or}
 use Rattle.std.specs.Prelude.{◌==◌, ◌-◌}
 use Rattle.std.specs.List.{slice_get}

@@ -1,6 +1,6 @@
 -- What a search begins with, and what is answered.
-use Rattle.std.proofs.Common.{◌≡◌, ◌⊎◌, inl, inr, ◌<◌, ◌≤◌, ◌+◌, ◌++◌, ℕ, zero, suc, Bool, true, false, List, [], ◌∷◌}
-use Rattle.std.proofs.Common.{All, Option, Some, None, Result, Ok, Err, IfOk, is_ok, length, reverse, refl, sym, ◌∙◌}
+use Rattle.std.proofs.Common.{◌≡◌, ◌⊎◌, inl, inr, ◌<◌, ◌≤◌, ◌+◌, ℕ, zero, suc, Bool, true, false, List, [], ◌∷◌}
+use Rattle.std.proofs.Common.{All, Option, Some, Result, Ok, Err, IfOk, length, reverse, refl, sym, ◌∙◌}
 use Rattle.std.proofs.Common.{subst, ap, arith}
 use Rattle.std.specs.List.{slice_get}
 use Rattle.std.specs.Result.{is_err}
@@ -12,7 +12,7 @@ use Rattle.vme_model.specs.declared.signals.Edge.{Edge}
 use Rattle.vme_model.specs.Plan.{Plan}
 use Rattle.vme_moments.specs.declared.Seen.{Seen}
 use Rattle.vme_moments.specs.declared.slacks.Slacks.{Slacks}
-use Rattle.vme_moments.specs.Orders.{AreNext, IsFree, IsLesser, IsLongest, edges_at, has}
+use Rattle.vme_moments.specs.Orders.{AreNext, IsFree, IsLongest, edges_at}
 use Rattle.vme_bus.specs.declared.states.BusState.{BusState}
 use Rattle.vme_bus.specs.declared.kinds.BusKind.{BusKind}
 use Rattle.vme_bus.specs.Kinds.{kind_of}
@@ -22,11 +22,10 @@ use Rattle.vme_order_search.specs.declared.layers.Beginning.{Beginning}
 use Rattle.vme_order_search.specs.declared.OrderFault.{OrderFault}
 use Rattle.vme_order_search.specs.declared.search.Found.{Found}
 use Rattle.vme_order_search.specs.declared.search.Search.{Search}
-use Rattle.vme_order_search.specs.declared.taken.Taken.{Taken}
 use Rattle.vme_order_search.specs.declared.trails.Trail.{Trail}
 use Rattle.vme_order_search.specs.Places.{AreTaken, AreUnfree, holds}
 use Rattle.vme_order_search.specs.Trails.{Ends}
-use Rattle.vme_order_search.specs.Searching.{Task, AreKept, GoesOn, HasEnded, HasLayer, HasLonger, IsAnswer, IsBusOf, IsKeptAs, IsLayer, IsLeftOut, IsLegalIn, IsNextOf, IsStoodFor, Leads, LeadsTo}
+use Rattle.vme_order_search.specs.Searching.{Task, GoesOn, HasEnded, HasLayer, HasLonger, IsAnswer, IsBusOf, IsKeptAs, IsLayer, IsLegalIn, IsNextOf, IsStoodFor, Leads, LeadsTo}
 use Rattle.vme_order_search.proofs.Ends.{all_fit, empty_layer, first_of, nothing_longer, reverse_within}
 use Rattle.vme_order_search.proofs.Legal.{accepted_leads, accepted_legal, refused_here}
 

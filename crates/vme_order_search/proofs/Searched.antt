@@ -1,10 +1,9 @@
 -- What a search keeps, step by step.
-use Rattle.std.proofs.Common.{◌≡◌, ◌≢◌, ◌⊎◌, inl, inr, ◌<◌, ◌≤◌, ◌+◌, ◌-◌, ◌++◌, ◌||◌, ℕ, zero, suc, Bool, true, false, List, [], ◌∷◌, All, Some, length, refl, sym, ◌∙◌, subst, ap, arith}
+use Rattle.std.proofs.Common.{◌≡◌, ◌≢◌, ◌⊎◌, inl, inr, ◌<◌, ◌≤◌, ◌+◌, ◌++◌, ◌||◌, ℕ, zero, suc, Bool, true, List, [], ◌∷◌, All, Some, length, refl, sym, ◌∙◌, subst, ap, arith}
 use Rattle.std.specs.Prelude.{◌==◌}
 use Rattle.std.specs.List.{slice_get}
-use Rattle.std.proofs.lemmas.Bool.{cases_lt}
 use Rattle.std.proofs.lemmas.Option.{slice_get_within}
-use Rattle.vme_moments.specs.Orders.{HasFarPlace, IsFree, IsLegalBeginning, has}
+use Rattle.vme_moments.specs.Orders.{HasFarPlace}
 use Rattle.vme_bus.specs.declared.kinds.BusKind.{BusKind}
 use Rattle.vme_bus.specs.declared.states.BusState.{BusState}
 use Rattle.vme_bus.specs.Kinds.{kind_of}
@@ -14,14 +13,13 @@ use Rattle.vme_order_search.specs.declared.search.Search.{Search}
 use Rattle.vme_order_search.specs.declared.taken.Taken.{Taken}
 use Rattle.vme_order_search.specs.declared.trails.Trail.{Trail}
 use Rattle.vme_order_search.specs.Places.{AreTaken, AreUnfree, holds}
-use Rattle.vme_order_search.specs.TooMany.{AreApart, AreSamePlaces, HasManySets, HasTooMany}
+use Rattle.vme_order_search.specs.TooMany.{AreSamePlaces, HasManySets, HasTooMany}
 use Rattle.vme_order_search.specs.Trails.{Ends}
-use Rattle.vme_order_search.specs.Searching.{Task, AreKept, AreLonger, AreSets, GoesOn, HasLayer, HasLonger, IsAtMost, IsBusOf}
-use Rattle.vme_order_search.specs.Searching.{IsGrown, IsKeptAs, IsLayer, IsLeftOut, IsLegalIn, IsNextOf, IsStoodFor, IsUnderWay}
-use Rattle.vme_order_search.specs.Searching.{Leads, LeadsTo, StandsFor}
-use Rattle.vme_order_search.proofs.Legal.{front_legal}
+use Rattle.vme_order_search.specs.Searching.{Task, AreKept, AreLonger, AreSets, GoesOn, HasLayer, HasLonger, IsBusOf}
+use Rattle.vme_order_search.specs.Searching.{IsGrown, IsKeptAs, IsLayer, IsLeftOut, IsLegalIn, IsStoodFor, IsUnderWay}
+use Rattle.vme_order_search.specs.Searching.{Leads, StandsFor}
 use Rattle.vme_order_search.proofs.Lesser.{at_most_longer}
-use Rattle.vme_order_search.proofs.Lists.{get_there, length_more, one_there}
+use Rattle.vme_order_search.proofs.Lists.{length_more, one_there}
 use Rattle.vme_order_search.proofs.Longer.{ArePassed, cut_here, keep_more, layer_later, made_whole, next_one, none_longer, pass, path_before, path_there, stood_by_like, unfree_passed, with_path}
 use Rattle.vme_order_search.proofs.Sets.{at_least, below_least, one_set}
 

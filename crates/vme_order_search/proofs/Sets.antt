@@ -1,16 +1,15 @@
 -- One more place in a set, and sets that are equal.
-use Rattle.std.proofs.Common.{◌≡◌, ◌≢◌, ◌⊎◌, inl, inr, ◌<◌, ◌≤◌, ◌+◌, ◌-◌, ◌*◌, ◌/◌, ◌%◌, ◌^◌, ℕ, zero, suc, Bool, true, false, List, refl, sym, ◌∙◌, subst, ap, arith, add-one}
+use Rattle.std.proofs.Common.{◌≡◌, ◌≢◌, ◌⊎◌, inl, inr, ◌<◌, ◌≤◌, ◌+◌, ◌-◌, ◌*◌, ◌/◌, ◌%◌, ◌^◌, ℕ, zero, suc, true, false, refl, sym, ◌∙◌, ap, arith}
 use Rattle.std.specs.Prelude.{nat_lt, ◌==◌, ◌&&◌, ◌||◌}
-use Rattle.std.specs.Int.{Width, w128, bit_at, trailing_ones}
+use Rattle.std.specs.Int.{w128, bit_at, trailing_ones}
 use Rattle.std.specs.Int.RustNames.{bit_or}
 use Rattle.std.proofs.lemmas.Bool.{cases_lt}
 use Rattle.std.proofs.lemmas.Bool.Decides.{nat_tests}
 use Rattle.std.proofs.Math.Nat.{div-div-eq-div-mul, pow-suc}
-use Rattle.std.proofs.lemmas.Nat.{or_lt, pow_pos, pow_below}
+use Rattle.std.proofs.lemmas.Nat.{or_lt, pow_below}
 use Rattle.std.proofs.lemmas.Nat.Bits.{bit_at-suc, bit_at-lt, bit_at-trailing_ones, bit_at_above, bit_at_set_same, bit_at_set_other, same_from_bits}
-use Rattle.vme_moments.specs.Orders.{has}
 use Rattle.vme_order_search.specs.declared.taken.Taken.{Taken}
-use Rattle.vme_order_search.specs.Places.{AreTaken, holds}
+use Rattle.vme_order_search.specs.Places.{holds}
 
 -- ---- what a set holds
 

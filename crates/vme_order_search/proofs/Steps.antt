@@ -1,12 +1,11 @@
 -- Steps of a trail.
 use Rattle.std.proofs.Common.{◌≡◌, ◌⊎◌, inl, inr, ◌<◌, ◌≤◌, ◌+◌, ◌++◌, ℕ, List, [], ◌∷◌, Some, length, refl, sym, ◌∙◌, subst, ap, arith}
 use Rattle.std.specs.List.{slice_get}
-use Rattle.std.proofs.lemmas.Bool.{cases_lt}
 use Rattle.std.proofs.lemmas.Option.{slice_get_within}
 use Rattle.vme_order_search.specs.declared.trails.Step.{Step}
 use Rattle.vme_order_search.specs.declared.trails.Trail.{Trail}
-use Rattle.vme_order_search.specs.Trails.{Ends, IsTrail}
-use Rattle.vme_order_search.proofs.Lists.{get_before, get_last, get_there, one_there}
+use Rattle.vme_order_search.specs.Trails.{Ends}
+use Rattle.vme_order_search.proofs.Lists.{get_before, get_there, one_there}
 
 -- a trail went on by a step
 pub ends_more : (t u : Trail) (s : Step) → u.steps.items ≡ t.steps.items ++ s ∷ [] → (at : ℕ)
@@ -31,27 +30,6 @@ ends_there t u s is some path h = (
   some,
   ends_more t u s is s.front path h,
 )
-
-back_more : (t : Trail) (s r : Step) (at : ℕ) → IsTrail t → s.front < length t.steps.items
-    → slice_get (t.steps.items ++ s ∷ []) at ≡ Some r → 0 < at
-    → (at < length t.steps.items) ⊎ (length t.steps.items ≤ at) → r.front < at
-back_more t s r at trail front is some (inl lt) =
-    trail.back at r (sym (get_before t.steps.items s at lt) ∙ is) some
-back_more t s r at trail front is some (inr le) =
-    let last = get_last t.steps.items s r at le is in
-    subst (λ (x : Step). x.front < at) last.1 (subst (λ n. s.front < n) (sym last.0) front)
-
-pub trail_more : (t u : Trail) (s : Step) → u.steps.items ≡ t.steps.items ++ s ∷ [] → IsTrail t
-    → s.front < length t.steps.items → IsTrail u
-trail_more t u s is trail front = record {
-  some = subst (λ l. 0 < length l) (sym is) (some t.steps.items s);
-  back = λ at r there some. back_more t s r at trail front (ap (λ l. slice_get l at) (sym is) ∙ there)
-      some (cases_lt at (length t.steps.items));
-}
-  where
-    some : (xs : List Step) (s : Step) → 0 < length (xs ++ s ∷ [])
-    some [] s = omega arith
-    some (x ∷ xs) s = omega arith
 
 -- ---- the way back
 

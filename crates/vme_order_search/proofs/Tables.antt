@@ -1,5 +1,5 @@
 -- The table of a layer.
-use Rattle.std.proofs.Common.{◌≡◌, ◌≢◌, ◌⊎◌, inl, inr, ◌<◌, ◌≤◌, ◌+◌, ◌-◌, ◌++◌, ℕ, zero, suc, List, [], ◌∷◌, Some}
+use Rattle.std.proofs.Common.{◌≡◌, ◌≢◌, ◌⊎◌, inl, inr, ◌<◌, ◌≤◌, ◌+◌, ◌-◌, ◌++◌, ℕ, zero, suc, List, [], ◌∷◌}
 use Rattle.std.proofs.Common.{length, refl, sym, ◌∙◌, subst, ap, arith, get_or, set, length-set, get_or-set_same}
 use Rattle.std.proofs.Common.{get_or-set_other}
 use Rattle.std.specs.List.{slice_get}
@@ -12,8 +12,6 @@ use Rattle.vme_order_search.specs.declared.layers.Layer.{Layer}
 use Rattle.vme_order_search.specs.Layers.{IsTable, StandsAt, StandsBelow}
 use Rattle.vme_order_search.specs.Places.{bucket_of}
 use Rattle.vme_order_search.proofs.Lists.{get_before, get_last, get_past, get_there, length_more}
-
--- ---- the last of a bucket
 
 -- ---- on the way through a bucket
 

@@ -1,5 +1,5 @@
 -- Beginnings of one length by the bucket of their places.
-use Rattle.std.specs.Prelude.{◌≡◌, ◌≢◌, ◌+◌, ◌-◌, ◌<◌, ◌≤◌, ℕ, List, Some, length, slice_index}
+use Rattle.std.specs.Prelude.{◌≡◌, ◌≢◌, ◌-◌, ◌<◌, ◌≤◌, ℕ, Some, length, slice_index}
 use Rattle.std.specs.List.{slice_get}
 use Rattle.vme_bus.specs.declared.kinds.BusKind.{BusKind}
 use Rattle.vme_order_search.specs.declared.layers.Beginning.{Beginning}

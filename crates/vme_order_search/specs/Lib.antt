@@ -1,5 +1,5 @@
--- The definitions of the search. What is sought is `vme_moments.specs.Orders`. `believe` marks what a
--- theorem rests on.
+-- The definitions of the search. What is sought is `vme_moments.specs.Orders`. `believe` marks what
+-- a theorem rests on.
 
 -- believe: when there are too many orders
 pub mod TooMany

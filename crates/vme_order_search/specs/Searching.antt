@@ -84,7 +84,7 @@ pub record IsLayer (t : Task) (trail : Trail) (is_cut : Bool) (n : ℕ) (bs : Li
   pub all : (q : List ℕ) → IsLegalIn t q → length q ≡ n
       → IsStoodFor t bs paths q ⊎ IsLeftOut is_cut bs paths q
 
--- ---- the beginnings with one place more, as far as they were made: of the beginnings below the m-th
+-- ---- the beginnings with one place more, as far as they were made, of those below the m-th
 -- with every place, and of the m-th with the places below `from`
 
 -- it was made
@@ -132,7 +132,7 @@ pub record IsFit (s : Search) : Type 0 where
 abbrev pub IsBusOf : Task → BusState → Type 0
 IsBusOf t b = (places : List ℕ) × LeadsTo t places b
 
--- greater beginnings were left out, by a search of full width, only where there are too many
+-- greater beginnings were left out, by a search of full width, only if there are too many
 abbrev pub IsCutRightly : Task → Search → Type 0
 IsCutRightly t s = s.is_cut ≡ true → s.width ≡ 65536
     → HasTooMany t.version t.plan t.slacks t.seen
@@ -159,8 +159,8 @@ pub record HasLonger (t : Task) (n : ℕ) (s : Search) : Type 0 where
   pub longer : ℕ → List ℕ
   pub layer : IsLayer t s.trail s.is_cut (n + 1) s.longer.kept.items longer
 
--- no legal beginning has more than the so many places of those that a search has, if nothing was left
--- out
+-- no legal beginning has more than the so many places of those that a search has, if nothing was
+-- left out
 pub record HasEnded (t : Task) (n : ℕ) (s : Search) : Type 0 where
   pub layer : HasLayer t n s
   pub few : n ≤ length t.seen
@@ -194,8 +194,8 @@ GoesOn t front place state =
     (q : List ℕ) → Leads t q front.bus → AreTaken q front.taken
     → LeadsTo t (place ∷ q) state × (IsLegalIn t q → IsLegalIn t (place ∷ q))
 
--- what is answered: the longest legal beginning, of those of its length the least, and what can come
--- next after it
+-- what is answered: the longest legal beginning, of those of its length the least, and what can
+-- come next after it
 pub record IsAnswer (t : Task) (f : Found) : Type 0 where
   pub longest : IsLongest t.version t.plan t.slacks t.seen (reverse f.order.items)
   pub next : AreNext t.slacks t.seen (reverse f.order.items) f.next.items

@@ -1,5 +1,5 @@
 //! The beginnings of one length that are kept, one of each kind.
-ghost use Rattle.std.specs.Prelude.{◌≡◌, ◌≢◌, ◌<◌, ◌≤◌, ◌+◌, ◌++◌, ◌∷◌, [], ℕ, IfErr, IfOk, OnOk, false, length, true};
+ghost use Rattle.std.specs.Prelude.{◌≡◌, ◌<◌, ◌≤◌, ◌+◌, ◌++◌, ◌∷◌, [], ℕ, IfErr, IfOk, OnOk, false, length, true};
 ghost use Rattle.std.specs.List.{slice_get};
 ghost use Rattle.vme_order_search.specs.Layers.{Finds, IsTable, StandsAt, StandsBelow};
 ghost use Rattle.vme_order_search.specs.Places.{bucket_of};
@@ -33,7 +33,8 @@ pub(crate) enum Match {
 #[derive(Drop)]
 pub(crate) struct Layer {
     kept: Vec<Beginning>,
-    /// For each bucket one more than where its last beginning stands. Of a bucket without any it says nothing.
+    /// For each bucket one more than where its last beginning stands. Of a bucket without any it
+    /// says nothing.
     last: Vec<u32>,
     /// For each beginning one more than where the one of its bucket before it stands, or 0.
     before: Vec<u32>,

@@ -1,5 +1,5 @@
-//! The search for the longest legal beginning: layer by layer, from the beginnings of one length those
-//! with one place more.
+//! The search for the longest legal beginning: layer by layer, from the beginnings of one length
+//! those with one place more.
 
 ghost use Rattle.std.specs.Prelude.{◌≡◌, ◌⊎◌, ◌<◌, ◌≤◌, ◌+◌, [], ℕ, All, Err, IfErr, IfOk, Ok, OnOk, false, length, reverse, true};
 ghost use Rattle.std.specs.List.{slice_get};
@@ -127,8 +127,8 @@ impl Search {
         Ok(false)
     }
 
-    /// Keeps a beginning with one place more, whose edge led to the state, if none of its kind is kept.
-    /// Says whether there is no room for it.
+    /// Keeps a beginning with one place more, whose edge led to the state, if none of its kind is
+    /// kept. Says whether there is no room for it.
     fn keep(&mut self, front: &Beginning, place: usize) -> Result<bool, OrderFault>
         requires fit { IsFit self.old }
         requires narrow { IsNarrow front.now.taken }
@@ -160,8 +160,8 @@ impl Search {
         }
     }
 
-    /// Tries a place that can come next after a beginning. Says whether there is no room for what comes
-    /// of it.
+    /// Tries a place that can come next after a beginning. Says whether there is no room for what
+    /// comes of it.
     fn try_place(
         &mut self,
         seen: &[Seen],
@@ -196,8 +196,8 @@ impl Search {
         self.keep(front, place)
     }
 
-    /// Goes on from a beginning with each place that can come next. Says whether there is no room for
-    /// all.
+    /// Goes on from a beginning with each place that can come next. Says whether there is no room
+    /// for all.
     fn go_on(
         &mut self,
         seen: &[Seen],
@@ -270,7 +270,8 @@ impl Search {
         mem::swap(&mut self.layer, &mut self.longer);
     }
 
-    /// Searches until no beginning can be made longer, and gives how many places the last ones have.
+    /// Searches until no beginning can be made longer, and gives how many places the last ones
+    /// have.
     fn run(&mut self, seen: &[Seen], slacks: &Slacks) -> Result<usize, OrderFault>
         requires fit { IsFit self.old }
         requires some { 0 < length self.old.layer.kept.items }
@@ -337,9 +338,10 @@ fn longest_within(
 }
 
 /// The longest legal beginning, and of those of its length the least; and what can come next after
-/// it. Where it has all places it is the least legal order, and otherwise there is none.
+/// it. If it has all places, it is the least legal order, and otherwise there is none.
 ///
-/// Errors: F5 if the legal beginnings of some length have more than 65,536 sets of places, or one goes on
+/// # Errors
+/// F5 if the legal beginnings of some length have more than 65,536 sets of places, or one goes on
 /// legally with a place that is greater by 128 or more than the least that is not in it; F3.
 pub fn longest(
     alloc: Global,

@@ -1,5 +1,5 @@
 //! How the beginnings that are kept came about.
-ghost use Rattle.std.specs.Prelude.{◌≡◌, ◌<◌, ◌∷◌, [], ℕ, List, IfErr, IfOk, IfSome, OnOk, reverse};
+ghost use Rattle.std.specs.Prelude.{◌≡◌, ◌<◌, ◌∷◌, [], ℕ, List, IfErr, IfOk, OnOk, reverse};
 ghost use Rattle.vme_order_search.specs.Trails.{Ends, IsTrail};
 
 use crate::OrderFault;

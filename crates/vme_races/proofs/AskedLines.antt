@@ -29,7 +29,7 @@ use Rattle.vme_engines.specs.Steps.{Begins}
 use Rattle.vme_engines.specs.Streams.{Streams, streams, WroteNothing}
 use Rattle.vme_engines.specs.Waiting.{StopsWaiting}
 use Rattle.vme_engines.proofs.FollowedEdges.{next_list}
-use Rattle.vme_engines.proofs.Printed.{explains_end}
+use Rattle.vme_engines.proofs.Printed.{explains_end, slice_at}
 use Rattle.vme_engines.proofs.ReadOn.{came_begins}
 use Rattle.vme_engines.proofs.Waits.{stops_unread, waits_now}
 use Rattle.vme_engines.proofs.WrittenLines.{appends_behind, front_after}
@@ -54,11 +54,6 @@ lent_known text nothing Runs (Err (fault.Trace f)) h = h
 lent_known text nothing Runs (Err fault.CannotRead) h = h
 lent_known text nothing Runs (Err fault.NoMemory) h = h
 lent_known text nothing Runs (Err (fault.Beyond n)) h = absurd h
-
-slice_at : (front rest : List Edge) (e : Edge)
-    → slice_get (front ++ (e ∷ rest)) (length front) ≡ Some e
-slice_at [] rest e = refl
-slice_at (d ∷ front) rest e = slice_at front rest e
 
 module _ (asked : ℕ) (p : Plan) (v : Version) (all : List ℕ) (s : Streams) (es : List Edge)
     (more : Result Bool Fault) (came : Came v all s.from s.to es more) where

@@ -14,7 +14,7 @@ use Rattle.vme_model.specs.Plan.{Plan}
 use Rattle.vme_model.specs.Text.{read_of, text}
 use Rattle.vme_model.specs.Verdict.{Judgement, State, kept, verdict}
 use Rattle.vme_trace.specs.declared.Fault.{Fault}
-use Rattle.vme_trace.specs.declared.Fault.TheVariants.{Memory, Write}
+use Rattle.vme_trace.specs.declared.Fault.TheVariants.{Write}
 use Rattle.vme_trace.specs.Writing.{AppendsFront}
 use Rattle.vme_engines.specs.Begun.{IsUnread}
 use Rattle.vme_engines.specs.Explaining.{IsUnasked}
@@ -25,7 +25,7 @@ use Rattle.vme_engines.specs.Steps.{Begins}
 use Rattle.vme_engines.specs.Streams.{Streams, streams, WroteNothing}
 use Rattle.vme_engines.specs.Waiting.{StopsWaiting}
 use Rattle.vme_engines.proofs.FollowedEdges.{edges_on}
-use Rattle.vme_engines.proofs.Printed.{explains_end}
+use Rattle.vme_engines.proofs.Printed.{explains_end, slice_at}
 use Rattle.vme_engines.proofs.ReadOn.{came_begins}
 use Rattle.vme_engines.proofs.Waits.{stops_unread, waits_now}
 use Rattle.vme_engines.proofs.WrittenLines.{appends_behind, front_after}
@@ -141,11 +141,6 @@ order_cut p v before e bytes old new f write order wrote =
 
 -- ---- the edge that has a number in a trace
 
-slice_at : (front rest : List Edge) (e : Edge)
-    → slice_get (front ++ (e ∷ rest)) (length front) ≡ Some e
-slice_at [] rest e = refl
-slice_at (d ∷ front) rest e = slice_at front rest e
-
 nth : (asked : ℕ) (v : Version) (all : List ℕ) (from to : Option (List ℕ)) (es : List Edge)
     (more : Result Bool Fault) → Came v all from to es more
     → (P : Version → List Edge → Edge → Type 0) (e : Edge) (front rest : List Edge)
@@ -210,11 +205,6 @@ module _ (asked : ℕ) (p : Plan) (v : Version) (before es : List Edge) (more : 
           front_after old mid new w.0 kept_so w.2,
         ))
     orders_by a wrote = absurd (wrote (before ++ met.front) (met.taken, listed))
-
-  pub orders_none : (f : Fault) → f ≡ Memory → Keeps mid new
-      → LeavesNow (Orders asked p) v (before ++ es) more old new (Err f)
-  orders_none f memory kept_too = λ trace from to came.
-      inr (inl (memory, Keeps-trans old mid new kept_so kept_too))
 
   pub orders_stop : (f : Fault) → more ≡ Err f → Keeps mid new
       → IsUnasked (Some asked) p (Some v) (before ++ es)

@@ -52,7 +52,7 @@ PrintsWalk edge p trace s (Err (fault.Beyond edges)) =
     Explains (Some edge) p trace s (Err (fault.Beyond edges))
 PrintsWalk edge p trace s (Err _) = ⊥
 
--- the same of the whole input
+-- what is left of the whole input, as a trace on a plan
 abbrev pub PrintsWalkInput : ℕ → Streams → Plan → Answer → Type 0
 PrintsWalkInput edge s p answer =
     (trace : List ℕ) × IsInput s.from trace × PrintsWalk edge p trace s answer

@@ -37,7 +37,7 @@ pub record AreLast (v : Version) (p : Plan) (k : Numbered) (now : Recent) : Type
   pub more : now.has_more ≡ true → most_passed < length k
   pub whole : now.has_more ≡ false → length k ≤ most_passed
 
--- the same, but for one more edge behind k
+-- all of them that can be passed are there, once one more edge stands behind k
 pub record IsReady (v : Version) (p : Plan) (k : Numbered) (now : Recent) : Type 0 where
   pub held : AreHeld v p k now.edges.items
   pub count : length now.edges.items + 1 ≡ min most_passed (length k + 1)

@@ -29,7 +29,7 @@ abbrev pub SeeksListed :
 SeeksListed asked p v before es now list found =
     Seeks asked p v before es now found × IsListed now list
 
--- those of the list before the one that an edge meets, if it passed so many behind that one
+-- the edges of the list before the one that an edge meets, if it passed so many behind that one
 abbrev pub before_met : List Edge → ℕ → List Edge
 before_met list passed = take (length list - (passed + 1)) list
 

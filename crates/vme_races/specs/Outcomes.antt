@@ -49,6 +49,6 @@ Reports p trace s (Err (fault.Trace f)) =
     ⊎ ((f ≡ Write) × StopsWriting p (read_of trace) s)
 Reports p trace s (Err _) = ⊥
 
--- the same of the whole input
+-- what `races` leaves of the whole input, as a trace on a plan
 abbrev pub ReportsInput : Streams → Plan → Answer → Type 0
 ReportsInput s p answer = (trace : List ℕ) × IsInput s.from trace × Reports p trace s answer

@@ -58,7 +58,7 @@ printed_answer (Ok (Line status)) = Ok status
 printed_answer (Ok (Beyond edges)) = Err (fault.Beyond edges)
 printed_answer (Err f) = Err (fault.Trace f)
 
--- the same, if it may have no plan
+-- the answer of a command that prints one line, if it may have no plan
 abbrev pub printed_status : Result Printed EngineFault → Answer
 printed_status (Ok (Line status)) = Ok status
 printed_status (Ok (Beyond edges)) = Err (fault.Beyond edges)

@@ -51,7 +51,8 @@ fn status_of(printed: Result<Printed, EngineFault>) -> Result<Status, EngineFaul
 impl Racing {
     /// Goes on with the edges up to the one that has this number, which it gives.
     ///
-    /// Errors: X6.
+    /// # Errors
+    /// X6.
     fn seek(&mut self, number: u64, edges: &[Edge]) -> Result<Option<Edge>, Fault>
         requires room { self.old.judged + length edges.now < 2 ^ 64 }
         requires formed { AreWellFormed edges.now }

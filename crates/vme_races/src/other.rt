@@ -1,5 +1,5 @@
 //! The trace of the other order of a race.
-ghost use Rattle.std.specs.Prelude.{◌≡◌, ◌+◌, ◌<◌, ◌^◌, ◌++◌, ◌∷◌, [], All, IfErr, IfNone, IfOk, IfSome, IsTrue, List, OnErr, OnOk, OnSome, Some, length};
+ghost use Rattle.std.specs.Prelude.{◌≡◌, ◌+◌, ◌<◌, ◌^◌, ◌++◌, ◌∷◌, [], All, IfErr, IfNone, IfOk, IfSome, IsTrue, List, OnErr, OnOk, Some, length};
 ghost use Rattle.std.specs.Io.KnownBytes.{Appends, Keeps};
 ghost use Rattle.vme_model.specs.declared.signals.Edge.{Edge as EdgeValue};
 ghost use Rattle.vme_model.specs.declared.signals.Version.{Version as VersionValue};
@@ -55,7 +55,8 @@ struct Reordering {
 impl Reordering {
     /// Takes in the next edge, and keeps it if it is accepted.
     ///
-    /// Errors: X6.
+    /// # Errors
+    /// X6.
     fn keep(&mut self, edge: &Edge) -> Result<(), Fault>
         requires room { self.old.racing.judged + 1 < 2 ^ 64 }
         requires formed { IsTrue (is_well_formed edge.now) }
@@ -79,7 +80,8 @@ impl Reordering {
 
     /// Goes on with the edges up to the one that is asked for, which it gives.
     ///
-    /// Errors: X6.
+    /// # Errors
+    /// X6.
     fn seek(&mut self, edges: &[Edge]) -> Result<Option<Edge>, Fault>
         requires room { self.old.racing.judged + length edges.now < 2 ^ 64 }
         requires formed { AreWellFormed edges.now }

@@ -93,7 +93,8 @@ impl Racing {
 
     /// Makes the next edge, which is accepted and has this number, and keeps it.
     ///
-    /// Errors: X6.
+    /// # Errors
+    /// X6.
     fn keep(&mut self, number: u64, edge: &Edge) -> Result<(), Fault>
         requires formed { IsTrue (is_well_formed edge.now) }
         requires accepted { verdict self.old.bus edge.now ≡ Ok tt }
@@ -117,7 +118,8 @@ impl Racing {
 
     /// Takes in the next edge. Gives what stops it, if it is accepted.
     ///
-    /// Errors: X6.
+    /// # Errors
+    /// X6.
     pub(crate) fn take_in(&mut self, edge: &Edge) -> Result<Option<Stop>, Fault>
         requires room { self.old.judged + 1 < 2 ^ 64 }
         requires well_formed { IsTrue (is_well_formed edge.now) }
@@ -165,8 +167,8 @@ impl Racing {
 
     /// Takes in the next edges, and writes their lines.
     ///
-    /// Errors: X6, and the lines of the edges before were written then; X8, and a prefix of the
-    /// lines was.
+    /// # Errors
+    /// X6, and the lines of the edges before were written then; X8, and a prefix of the lines was.
     pub(crate) fn take_edges<W: Write>(&mut self, edges: &[Edge], out: &mut W) -> Result<(), Fault>
         requires room { self.old.judged + length edges.now < 2 ^ 64 }
         requires well_formed { AreWellFormed edges.now }

@@ -88,7 +88,8 @@ impl Recent {
 
     /// Takes in the next accepted edge.
     ///
-    /// Errors: X6.
+    /// # Errors
+    /// X6.
     pub(crate) fn push(&mut self, earlier: Earlier) -> Result<(), Fault>
         ensures last { OnOk result (OfLast self.old (λ v p k.
             IsStateOf v p (edges_in k) earlier.before

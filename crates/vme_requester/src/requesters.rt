@@ -1,5 +1,5 @@
 //! The requester of one board.
-ghost use Rattle.std.specs.Prelude.{◌≡◌, ℕ, Bool, true, false, None, Ok, Err, [], ◌∷◌, List, Option as OptionValue};
+ghost use Rattle.std.specs.Prelude.{◌≡◌, ℕ, Bool, true, false, Err, [], ◌∷◌, List, Option as OptionValue};
 ghost use Rattle.std.specs.List.{list_any};
 ghost use Rattle.vme_model.specs.declared.boards.RequesterRow.{RequesterRow as RowValue};
 ghost use Rattle.vme_model.specs.declared.pins.Pins.{Pins as PinsValue};
@@ -7,7 +7,7 @@ ghost use Rattle.vme_model.specs.declared.signals.Cycle.{Cycle as CycleValue};
 ghost use Rattle.vme_model.specs.declared.signals.Version.{Version as VersionValue};
 ghost use Rattle.vme_model.specs.declared.signals.Edge.{Edge as EdgeValue};
 ghost use Rattle.vme_model.specs.declared.signals.Part.TheVariants as parts;
-ghost use Rattle.vme_model.specs.Signals.{is_two, is_of};
+ghost use Rattle.vme_model.specs.Signals.{is_of};
 ghost use Rattle.vme_model.specs.Sets.{has_bus_level};
 ghost use Rattle.vme_model.specs.Rules.{bus_numbers, rule};
 ghost use Rattle.vme_model.specs.Verdict.{ruling_on};

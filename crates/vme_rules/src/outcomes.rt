@@ -1,6 +1,6 @@
 //! What a guard answers.
 ghost use Rattle.std.specs.Prelude.{◌≡◌, ◌≤◌, ◌+◌, ◌++◌, [], true, length, if◌then◌else◌, Ok};
-ghost use Rattle.vme_model.specs.Guards.{Guard, free, asks, ◌⊓◌, unless, holds, conditions, failed};
+ghost use Rattle.vme_model.specs.Guards.{Guard, free, asks, ◌⊓◌, unless, holds, failed};
 ghost use Rattle.vme_model.specs.Verdict.{check};
 ghost use Rattle.vme_rules.specs.Room.{most};
 
@@ -10,8 +10,8 @@ use vme_model::{Condition, Refused};
 /// The answer of a guard: whether it holds, which of its conditions fail, or what a caller's own
 /// list says of each of them.
 ///
-/// Each rule is written once for all of these. It uses a function of this trait for each way to make a
-/// guard.
+/// Each rule is written once for all of these. It uses a function of this trait for each way to
+/// make a guard.
 pub trait Outcome {
     /// The value is the answer of that guard.
     ghost reports: { Self → Guard → Type 0 };

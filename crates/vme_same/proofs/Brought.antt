@@ -1,11 +1,11 @@
 -- An edge that comes to the front of what is left: the histories are one but for free swaps.
-use Rattle.std.proofs.Common.{◌≡◌, inl, inr, ◌++◌, ◌∷◌, [], ℕ, List, Option, Some, None, map, refl, sym, ◌∙◌, ap, append_assoc, subst}
+use Rattle.std.proofs.Common.{◌≡◌, inl, inr, ◌++◌, ◌∷◌, [], ℕ, List, None, map, refl, sym, ◌∙◌, ap, append_assoc, subst}
 use Rattle.vme_model.specs.declared.signals.Edge.{Edge}
 use Rattle.vme_model.specs.declared.signals.Version.{Version}
 use Rattle.vme_model.specs.Plan.{Plan}
 use Rattle.vme_model.specs.Numbered.{Numbered, edges_in}
 use Rattle.vme_model.specs.Verdict.{IsLegal}
-use Rattle.vme_swaps.specs.Swaps.{AreOneButForSwaps, IsFree, IsSwap, LeadThrough}
+use Rattle.vme_swaps.specs.Swaps.{AreOneButForSwaps, IsSwap, LeadThrough}
 use Rattle.vme_same.specs.Comparing.{GoesBack, IsPlace}
 
 pub edges_append : (k l : Numbered) → edges_in (k ++ l) ≡ edges_in k ++ edges_in l

@@ -1,9 +1,8 @@
 -- One of the two traces with the next edge.
-use Rattle.std.proofs.Common.{◌≡◌, ◌+◌, ◌<◌, ◌≤◌, ◌++◌, ◌∷◌, [], ℕ, Bool, true, false, List, Option, Some, None, Ok, Err, is_ok, length, refl, sym, ◌∙◌, ap, subst, arith}
+use Rattle.std.proofs.Common.{◌≡◌, ◌+◌, ◌<◌, ◌≤◌, ◌++◌, ◌∷◌, [], ℕ, Bool, true, false, List, Some, None, Ok, Err, is_ok, length, refl, sym, ◌∙◌, ap, subst, arith}
 use Rattle.std.specs.Prelude.{◌==◌, if◌then◌else◌, not}
 use Rattle.std.proofs.Math.ListN.{length-append}
 use Rattle.std.proofs.lemmas.Bool.Decides.{nat_tests}
-use Rattle.vme_model.specs.declared.conditions.Condition.TheVariants.{HasRoom}
 use Rattle.vme_model.specs.declared.refusals.Refused.{Refused}
 use Rattle.vme_model.specs.declared.refusals.Refused.TheVariants.{TraceFull}
 use Rattle.vme_model.specs.declared.signals.Edge.{Edge}
@@ -11,7 +10,7 @@ use Rattle.vme_model.specs.declared.signals.Version.{Version}
 use Rattle.vme_model.specs.Plan.{Plan}
 use Rattle.vme_model.specs.Numbered.{Numbered, edges_in, numbered, numbered_with}
 use Rattle.vme_model.specs.Report.{trace_limit}
-use Rattle.vme_model.specs.Verdict.{Judgement, State, after, check, judged, kept, made, verdict, verdict_but_full}
+use Rattle.vme_model.specs.Verdict.{State, after, check, judged, kept, made, verdict, verdict_but_full}
 use Rattle.vme_histories.proofs.Judged.{refused, passed}
 use Rattle.vme_bus.specs.declared.states.BusState.{BusState}
 use Rattle.vme_bus.specs.States.{IsStateOf, OfHistory}
@@ -19,22 +18,15 @@ use Rattle.vme_engines.specs.Checking.{first_refusal, or_refusal}
 use Rattle.vme_engines.specs.Outcomes.{bench}
 use Rattle.vme_engines.proofs.CheckPieces.{refusal_behind, refusal_stays}
 use Rattle.vme_engines.proofs.FollowedEdges.{edges_on, kept_plan, numbered_append}
+use Rattle.vme_races.proofs.TakenIn.{kept_version}
 use Rattle.vme_same.specs.declared.sides.Side.{Side}
-use Rattle.vme_same.specs.Kept.{IsSide, IsUnrefused}
+use Rattle.vme_same.specs.Kept.{IsSide}
 
 -- ---- a backplane behind some edges
-
-version_by : (t : Bool) (b : State) (e : Edge) → (if t then made b e else b).version ≡ b.version
-version_by true b e = refl
-version_by false b e = refl
 
 max_by : (t : Bool) (b : State) (e : Edge) → (if t then made b e else b).max ≡ b.max
 max_by true b e = refl
 max_by false b e = refl
-
-kept_version : (b : State) (es : List Edge) → (kept b es).version ≡ b.version
-kept_version b [] = refl
-kept_version b (e ∷ es) = kept_version (after b e) es ∙ version_by (is_ok (verdict b e)) b e
 
 kept_max : (b : State) (es : List Edge) → (kept b es).max ≡ b.max
 kept_max b [] = refl
@@ -46,7 +38,7 @@ same_count m n h = grind (arith, nat_tests)
 other_count : (m n : ℕ) → m < n → (m == n) ≡ false
 other_count m n h = grind (arith, nat_tests)
 
-edges_count : (k : Numbered) → length (edges_in k) ≡ length k
+pub edges_count : (k : Numbered) → length (edges_in k) ≡ length k
 edges_count [] = refl
 edges_count (m ∷ k) =
     let others = edges_count k in omega (arith, others)

@@ -1,5 +1,5 @@
 -- What is found of all, from what is found of the rest.
-use Rattle.std.proofs.Common.{◌≡◌, inl, inr, ◌+◌, ◌<◌, ◌≤◌, ◌^◌, ◌++◌, ◌∷◌, [], ℕ, Bool, true, false, List, Option, Some, None, Result, Ok, Err, length, map, refl, sym, ◌∙◌, ap, append_assoc, append-nil, subst, arith}
+use Rattle.std.proofs.Common.{◌≡◌, inl, inr, ◌+◌, ◌<◌, ◌≤◌, ◌^◌, ◌++◌, ◌∷◌, [], ℕ, Bool, true, false, List, Option, Some, None, Result, Ok, Err, length, refl, sym, ◌∙◌, ap, append_assoc, append-nil, subst, arith}
 use Rattle.std.specs.Prelude.{◌⊎◌, ◌≢◌, OnOk}
 use Rattle.std.proofs.Math.ListN.{length-append}
 use Rattle.vme_model.specs.declared.signals.Edge.{Edge}
@@ -8,7 +8,6 @@ use Rattle.vme_model.specs.declared.signals.Version.TheVariants.{One, Two}
 use Rattle.vme_model.specs.Plan.{Plan}
 use Rattle.vme_model.specs.Numbered.{Numbered, edges_in}
 use Rattle.vme_model.specs.Verdict.{IsLegal, verdict_but_full}
-use Rattle.vme_bus.specs.declared.states.BusState.{BusState}
 use Rattle.vme_bus.specs.States.{IsStateOf, OfHistory}
 use Rattle.vme_swaps.specs.Swaps.{AreOneButForSwaps}
 use Rattle.vme_swaps.proofs.Behind.{same_by_swaps}
@@ -24,11 +23,11 @@ use Rattle.vme_same.specs.declared.comparisons.Why.TheVariants as why
 use Rattle.vme_same.specs.declared.edges.Left.{Left}
 use Rattle.vme_same.specs.declared.edges.Next.{Next}
 use Rattle.vme_same.specs.declared.progress.Progress.{Progress}
-use Rattle.vme_same.specs.declared.progress.Progress.TheVariants.{Open, Seeks, Finds}
+use Rattle.vme_same.specs.declared.progress.Progress.TheVariants.{Open, Finds}
 use Rattle.vme_same.specs.declared.rest.Rest.{Rest}
 use Rattle.vme_same.specs.Comparing.{Compares, GoesBack, IsMissing, IsOutcome, IsOver, IsPlace, StaysBack}
 use Rattle.vme_same.specs.Kept.{GoesBy, IsAt, IsOpen, IsSought, IsSure, Leads, edges_of, numbers}
-use Rattle.vme_same.proofs.Lists.{before_count, numbers_append, numbers_count, place_of}
+use Rattle.vme_same.proofs.Lists.{before_count, numbers_append, place_of}
 use Rattle.vme_same.proofs.Brought.{brought_at, legal_taken, swaps_none, swaps_on, swaps_under}
 
 -- ---- an edge that does not come to the front
@@ -387,7 +386,3 @@ module _ (p : Plan) (v w : Version) (k : Numbered) (fs : List Edge) where
 pub on_ok : {P Q : Type 0} (r : Result (Unit {0}) Fault) → (P → Q) → OnOk r P → OnOk r Q
 on_ok (Ok u) to h = to h
 on_ok (Err f) to h = tt
-
-pub edges_more : (xs : List Next) (x : Next) → edges_of (xs ++ x ∷ []) ≡ edges_of xs ++ x.edge ∷ []
-edges_more [] x = refl
-edges_more (y ∷ xs) x = ap (λ l. y.edge ∷ l) (edges_more xs x)

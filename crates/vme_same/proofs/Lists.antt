@@ -1,9 +1,9 @@
 -- The edges that are left of the first trace, the newest first.
-use Rattle.std.proofs.Common.{◌≡◌, inl, inr, ◌+◌, ◌-◌, ◌<◌, ◌≤◌, ◌++◌, ◌∷◌, [], ℕ, suc, List, Option, Some, None, Ok, length, get_or, map, take, drop, refl, sym, ◌∙◌, ap, append_assoc, append-nil, take-append-drop, subst, arith}
+use Rattle.std.proofs.Common.{◌≡◌, inl, inr, ◌+◌, ◌-◌, ◌<◌, ◌++◌, ◌∷◌, [], ℕ, suc, List, Option, Some, None, Ok, length, take, drop, refl, sym, ◌∙◌, ap, append_assoc, take-append-drop, subst, arith}
 use Rattle.std.specs.Prelude.{◌⊎◌, ◌≢◌}
 use Rattle.std.specs.List.{remove}
 use Rattle.std.proofs.Math.ListN.{length-append}
-use Rattle.std.proofs.lemmas.List.{drop_all, drop_more, length-drop}
+use Rattle.std.proofs.lemmas.List.{drop_all, length-drop}
 use Rattle.vme_model.specs.declared.signals.Edge.{Edge}
 use Rattle.vme_model.specs.declared.signals.Version.{Version}
 use Rattle.vme_model.specs.Plan.{Plan}
@@ -26,15 +26,6 @@ pub numbers_count : (xs : List Left) → length (numbers xs) ≡ length xs
 numbers_count [] = refl
 numbers_count (x ∷ xs) =
     let others = numbers_count xs in omega (arith, others)
-
--- the edge before which so many are left
-pub at_place : (xs : List Left) (n i : ℕ) (x : Left) → i + 1 + n ≡ length xs → get_or xs i x ≡ x
-    → drop (length xs - (n + 1)) xs ≡ x ∷ drop (length xs - n) xs
-at_place xs n i x sum is =
-    let here : length xs - (n + 1) ≡ i = omega arith in
-    let next : length xs - n ≡ i + 1 = omega arith in
-    ap (λ m. drop m xs) here ∙ drop_more xs i x (omega arith) ∙ ap (λ y. y ∷ drop (i + 1) xs) is
-    ∙ ap (λ m. x ∷ drop m xs) (sym next)
 
 -- the first edge that is left
 pub front_of : (xs : List Left) (x : Left) → drop (length xs - (0 + 1)) xs ≡ x ∷ drop (length xs - 0) xs

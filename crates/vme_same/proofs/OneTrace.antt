@@ -21,11 +21,7 @@ use Rattle.vme_engines.proofs.FollowedEdges.{edges_on}
 use Rattle.vme_same.specs.declared.comparisons.Comparison.TheVariants.{Same}
 use Rattle.vme_same.specs.Comparing.{Compares, IsComparison, IsFound}
 use Rattle.vme_same.proofs.Brought.{brought_at, swaps_none, swaps_on}
-
-edges_count : (k : Numbered) → length (edges_in k) ≡ length k
-edges_count [] = refl
-edges_count (m ∷ k) =
-    let others = edges_count k in omega (arith, others)
+use Rattle.vme_same.proofs.Judging.{edges_count}
 
 turned : (e : Edge) (es rest : List Edge) → reverse (e ∷ es) ++ rest ≡ reverse es ++ e ∷ rest
 turned e es rest = ap (λ l. l ++ rest) (reverse-cons e es) ∙ append_assoc (reverse es) (e ∷ []) rest

@@ -3,9 +3,9 @@ use Rattle.std.specs.Prelude.{◌&&◌, Bool, true}
 use Rattle.vme_model.specs.Signals.{is_well_formed}
 use Rattle.vme_races.specs.Formed.{is_formed}
 use Rattle.vme_same.specs.declared.comparisons.Why.{Why}
-use Rattle.vme_same.specs.declared.comparisons.Why.TheVariants.{Missing, Left, Stops}
+use Rattle.vme_same.specs.declared.comparisons.Why.TheVariants.{Stops}
 use Rattle.vme_same.specs.declared.comparisons.Comparison.{Comparison}
-use Rattle.vme_same.specs.declared.comparisons.Comparison.TheVariants.{Same, Refuses, OtherVersion, Differs}
+use Rattle.vme_same.specs.declared.comparisons.Comparison.TheVariants.{Differs}
 use Rattle.vme_same.specs.declared.progress.Progress.{Progress}
 use Rattle.vme_same.specs.declared.progress.Progress.TheVariants.{Open, Seeks, Finds}
 

@@ -1,5 +1,4 @@
 //! What is found of two traces.
-ghost use Rattle.std.specs.Prelude.{◌≡◌};
 
 use vme_model::{Edge, Refused};
 use vme_races::Stop;

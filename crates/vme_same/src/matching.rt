@@ -55,7 +55,8 @@ impl Matching {
 
     /// Takes in the next edge of the first trace.
     ///
-    /// Errors: X6.
+    /// # Errors
+    /// X6.
     fn take_of_first(&mut self, edge: &Edge) -> Result<(), Fault>
         requires count { self.old.first.judged + 1 < 2 ^ 64 }
         requires formed { is_well_formed edge.now ≡ true }
@@ -75,7 +76,8 @@ impl Matching {
 
     /// Takes in the next edge of the second trace.
     ///
-    /// Errors: X6.
+    /// # Errors
+    /// X6.
     fn take_of_second(&mut self, edge: &Edge) -> Result<(), Fault>
         requires count { self.old.second.judged + 1 < 2 ^ 64 }
         requires formed { is_well_formed edge.now ≡ true }
@@ -95,7 +97,8 @@ impl Matching {
 
     /// Takes in the next edges of the first trace.
     ///
-    /// Errors: X6.
+    /// # Errors
+    /// X6.
     pub(crate) fn add_to_first(&mut self, edges: &[Edge]) -> Result<(), Fault>
         requires count { self.old.first.judged + length edges.now < 2 ^ 64 }
         requires formed { AreWellFormed edges.now }
@@ -116,7 +119,8 @@ impl Matching {
 
     /// Takes in the next edges of the second trace.
     ///
-    /// Errors: X6.
+    /// # Errors
+    /// X6.
     pub(crate) fn add_to_second(&mut self, edges: &[Edge]) -> Result<(), Fault>
         requires count { self.old.second.judged + length edges.now < 2 ^ 64 }
         requires formed { AreWellFormed edges.now }

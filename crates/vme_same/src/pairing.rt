@@ -9,7 +9,7 @@ ghost use Rattle.vme_model.specs.Verdict.{IsLegal};
 ghost use Rattle.vme_races.specs.Walks.{most_passed};
 ghost use Rattle.vme_same.specs.Comparing.{IsMissing, IsOutcome};
 ghost use Rattle.vme_same.specs.Formed.{is_formed_found, is_formed_progress};
-ghost use Rattle.vme_same.specs.Kept.{Goes, IsAmple, IsAt, IsGoing, IsIdle, IsOpen, Leads, OfGoing, edges_of, numbers};
+ghost use Rattle.vme_same.specs.Kept.{Goes, IsAmple, IsAt, IsGoing, IsIdle, IsOpen, Leads, OfGoing, edges_of};
 
 use crate::comparisons::{Comparison, Why};
 use crate::edges::Next;
@@ -242,7 +242,8 @@ impl Pairing {
 
     /// Takes in the next edge of the first trace.
     ///
-    /// Errors: X6.
+    /// # Errors
+    /// X6.
     pub(crate) fn take_first(&mut self, number: u64, edge: &Edge) -> Result<(), Fault>
         requires { is_well_formed edge.now ≡ true }
         ensures going { OnOk result (OfGoing self.old (λ p v w k fs. self.old.has_ended ≡ false
@@ -267,7 +268,8 @@ impl Pairing {
 
     /// Takes in the next edge of the second trace.
     ///
-    /// Errors: X6.
+    /// # Errors
+    /// X6.
     pub(crate) fn take_second(&mut self, edge: &Edge) -> Result<(), Fault>
         requires { is_well_formed edge.now ≡ true }
         ensures going { OnOk result (OfGoing self.old (λ p v w k fs. self.old.is_over ≡ false

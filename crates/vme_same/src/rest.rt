@@ -149,7 +149,8 @@ impl Rest {
 
     /// Takes in the next edge of the trace.
     ///
-    /// Errors: X6.
+    /// # Errors
+    /// X6.
     pub(crate) fn push(&mut self, number: u64, edge: &Edge) -> Result<(), Fault>
         requires { is_well_formed edge.now ≡ true }
         ensures edges { OnOk result

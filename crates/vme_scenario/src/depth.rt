@@ -1,6 +1,6 @@
 //! How deep the tables and arrays of a text are nested. It is tested before the text is parsed,
 //! because what the parser makes is dropped by recursion.
-ghost use Rattle.std.specs.Prelude.{◌≡◌, ◌<◌, ◌≤◌, Bool, true, false, if◌then◌else◌};
+ghost use Rattle.std.specs.Prelude.{◌≡◌, ◌<◌, ◌≤◌, true, false};
 ghost use Rattle.arrayvec.specs.ArrayVec.{array_vec_len};
 ghost use Rattle.vme_scenario.specs.Depth as spec;
 ghost use Rattle.vme_scenario.specs.Borrowed.{placed};

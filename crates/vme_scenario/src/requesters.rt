@@ -1,5 +1,5 @@
 //! Reads a board's requester.
-ghost use Rattle.std.specs.Prelude.{◌≡◌, map, codes};
+ghost use Rattle.std.specs.Prelude.{◌≡◌, codes};
 ghost use Rattle.toml.specs.View.{table_view};
 ghost use Rattle.vme_scenario.specs.Borrowed.{keyed};
 ghost use Rattle.vme_scenario.specs.Format as format;

@@ -1,5 +1,5 @@
 -- Nothing is left out, and what is chosen is open.
-use Rattle.std.proofs.Common.{◌≡◌, ◌∙◌, refl, sym, ap, subst, ℕ, zero, suc, ◌+◌, ◌*◌, ◌-◌, ◌/◌, ◌^◌, ◌<◌, ◌≤◌, ◌⊎◌, ⊎_elim, Bool, true, false, List, [], ◌∷◌, ◌++◌, filter, length, take, slice_index, get_or, arith, eq-eqb, ne_eqb}
+use Rattle.std.proofs.Common.{◌≡◌, ◌∙◌, refl, sym, ap, subst, ℕ, zero, suc, ◌+◌, ◌*◌, ◌-◌, ◌/◌, ◌^◌, ◌<◌, ◌≤◌, ◌⊎◌, ⊎_elim, Bool, true, false, List, [], ◌∷◌, ◌++◌, length, take, slice_index, get_or, arith, eq-eqb, ne_eqb}
 use Rattle.std.specs.Prelude.{Option, Some, None, Ok, Err, is_ok, is_some, if◌then◌else◌, ◌==◌, ◌&&◌, nat_lt, slice_get, sum, Result, IfSome}
 use Rattle.std.specs.List.{flat_map, All, Contains}
 use Rattle.std.specs.Option.{option_map_or}
@@ -25,7 +25,7 @@ use Rattle.vme_model.specs.declared.refusals.Refused.TheVariants.{NoSuchDriver}
 use Rattle.vme_model.proofs.AllowedEdges.{checked}
 use Rattle.vme_model.proofs.Bools.{and_right}
 use Rattle.vme_model.proofs.Members.{found_row}
-use Rattle.vme_model.proofs.OpenEdges.{here, there, by_map, by_flat_map, open_are_all}
+use Rattle.vme_model.proofs.OpenEdges.{here, there, by_map, by_flat_map, open_are_all, by_filter}
 use Rattle.vme_model.proofs.Ranges.{IsRowInRange, in_range}
 use Rattle.rand_pcg.specs.Lcg.{Lcg}
 use Rattle.vme_seeds.specs.declared.kinds.Kind.{Kind}
@@ -72,19 +72,6 @@ accepted_if w b x y None is = tt
 accepted_if w b x y (Some e) is = each_is_open w b x y e (sym is)
 
 -- ---- nothing is left out
-
-kept_first : {X : Type 0} (b : Bool) (x : X) (xs : List X) → b ≡ true → Contains (if b then x ∷ xs else xs) x
-kept_first true x xs h = here x xs
-kept_first false x xs h = absurd (cc)
-
-kept_later : {X : Type 0} (b : Bool) (y x : X) (xs : List X) → Contains xs x → Contains (if b then y ∷ xs else xs) x
-kept_later true y x xs c = there y x xs c
-kept_later false y x xs c = c
-
-by_filter : {X : Type 0} (test : X → Bool) (xs : List X) (x : X) → test x ≡ true → Contains xs x → Contains (filter test xs) x
-by_filter test [] x h c = let lt = c.1 in absurd (omega arith)
-by_filter test (y ∷ xs) x h (zero, lt, is) = subst (λ z. Contains (filter test (y ∷ xs)) z) is (kept_first (test y) y (filter test xs) (subst (λ z. test z ≡ true) (sym is) h))
-by_filter test (y ∷ xs) x h (suc k, lt, is) = kept_later (test y) y x (filter test xs) (by_filter test xs x h (k, omega arith, is))
 
 last_or_below : (n m : ℕ) → m ≤ suc n → (m ≤ n) ⊎ (m ≡ suc n)
 last_or_below n m to = grind arith
@@ -163,9 +150,6 @@ module _ (g : Lcg) (b : State) (e : Edge) (accepted : IsAccepted b.plan) (ok : v
   stands =
       by_filter (is_of (has_board b.plan) k) (all_open b) e (eq-eqb (number k) (number k) refl)
       (by_flat_map (open_edges b) (drivers b.plan) e.driver e (is_driver b.plan accepted e.driver e.wire exists) ((open_are_all b e.driver e).0 (refl, ok)))
-
-  place : ℕ
-  place = stands.0
 
   chance_is : 0 < slice_index (chances (weight g) b) (number k)
   chance_is =

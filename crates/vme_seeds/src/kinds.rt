@@ -96,7 +96,7 @@ fn addressing(boards: SlotSet, value: Option<Cycle>) -> Kind
 
 impl Kind {
     /// The kind of an edge, if these slots have a board. Source: profile.
-    pub fn of(boards: SlotSet, edge: &Edge) -> Kind
+    pub(crate) fn of(boards: SlotSet, edge: &Edge) -> Kind
         ensures { result ≡ kind_of (has boards) edge.now }
     {
         match (edge.wire, edge.fall) {

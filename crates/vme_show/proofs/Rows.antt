@@ -1,8 +1,6 @@
 -- The marks of a row, one after another, and what they are of the edges of a stretch.
-use Rattle.std.proofs.Common.{◌≡◌, ◌∙◌, ℕ, ◌+◌, ◌<◌, Bool, true, false, List, [], ◌∷◌, ◌++◌, length, drop, map, get_or, Option, Some, None, Result, Ok, Err, is_ok, refl, sym, ap}
+use Rattle.std.proofs.Common.{◌≡◌, ◌∙◌, ℕ, Bool, true, false, List, [], ◌∷◌, map, Option, Some, None, Result, Ok, Err, is_ok, refl, sym, ap}
 use Rattle.std.specs.Prelude.{◌&&◌, if◌then◌else◌}
-use Rattle.std.specs.List.{flat_map}
-use Rattle.std.proofs.lemmas.List.{drop_more}
 use Rattle.vme_model.specs.declared.deliveries.Delivery.{Delivery}
 use Rattle.vme_model.specs.declared.refusals.Refused.{Refused}
 use Rattle.vme_model.specs.declared.signals.Driver.{Driver}
@@ -15,16 +13,9 @@ use Rattle.vme_model.specs.Deliveries.{answer, delivery, with_delivery}
 use Rattle.vme_show.specs.declared.columns.Column.{Column}
 use Rattle.vme_show.specs.declared.columns.Topic.{Topic}
 use Rattle.vme_show.specs.declared.columns.Topic.TheVariants as topic
-use Rattle.vme_show.specs.Picture.{columns, mark, edge_mark, state_mark, grant_mark, holder_mark, shown_mark, verdict_mark, answer_mark, ink}
+use Rattle.vme_show.specs.Picture.{columns, mark, edge_mark, state_mark, grant_mark, holder_mark, shown_mark, verdict_mark, answer_mark}
 use Rattle.vme_show.specs.Picture as picture
 use Rattle.vme_show.specs.Columns.{cell, column_of, is_accepted, low_after, verdict_cell, verdict_of, wire_cell, wire_cells}
-
--- ---- what is still to be drawn of a wire
-
-pub cells_next : (color low : Bool) (d : Driver) (w : Wire) (cs : List Column) (i : ℕ) (c : Column) → i < length cs
-    → flat_map (ink color) (wire_cells low d w (drop i cs))
-    ≡ ink color (wire_cell low d w (get_or cs i c)) ++ flat_map (ink color) (wire_cells (low_after low d w (get_or cs i c)) d w (drop (i + 1) cs))
-cells_next color low d w cs i c h = ap (λ l. flat_map (ink color) (wire_cells low d w l)) (drop_more cs i c h)
 
 -- ---- what a column keeps
 

@@ -23,7 +23,7 @@ use Rattle.vme_explain.proofs.Written.{front_behind, front_of_more}
 use Rattle.vme_show.specs.declared.columns.Column.{Column}
 use Rattle.vme_show.specs.declared.columns.Topic.{Topic}
 use Rattle.vme_show.specs.declared.wires.PlanWire.{PlanWire}
-use Rattle.vme_show.specs.Picture.{columns, drawn, is_drawn, mark, picture, plan_wires, row, rows, wire_name, wire_row, title, tens_line, numbers_line, ones}
+use Rattle.vme_show.specs.Picture.{columns, drawn, is_drawn, picture, plan_wires, row, rows, wire_name, wire_row, title, tens_line, numbers_line, ones}
 use Rattle.vme_show.specs.Picture as picture
 use Rattle.vme_show.specs.Columns.{HasWords, IsWindowOf, Seen, column_of, head_text, is_moved, plan_wires_in, topic_line, topic_name, topics, topics_text, wire_line, wires_of, wires_text}
 use Rattle.vme_show.proofs.Rows.{marks_are, topic_cells, topic_mark}

@@ -5,8 +5,8 @@ use Rattle.vme_model.specs.Verdict.{after}
 use Rattle.vme_model.specs.GrantSafety.{Travels, Holds}
 use Rattle.vme_show.specs.Picture.{Column, slot_sign, grant_mark, holder_mark}
 
--- after the edge, every slot at which a grant travels has the character that is drawn, so that there
--- is one at most; `.` where none travels
+-- after the edge, every slot at which a grant travels has the character that is drawn, so that
+-- there is one at most; `.` if none travels
 pub record ShowsEveryGrant (c : Column) : Type 0 where
   pub each : (n s : ℕ) → Travels (after c.0 c.1).plan (after c.0 c.1).history n s
       → grant_mark c ≡ slot_sign s

@@ -32,13 +32,13 @@ columns b (e ∷ es) = (b, e) ∷ columns (after b e) es
 
 -- ---- the row of a wire
 
--- an edge of the wire: `x` where it is refused, `\` a fall, `/` a rise
+-- an edge of the wire: `x` if it is refused, `\` a fall, `/` a rise
 abbrev pub edge_mark : Bool → Bool → ℕ
 edge_mark false fall = 120
 edge_mark true true = 92
 edge_mark true false = 47
 
--- the wire is low, or for the address group on: `_`, and else `-`
+-- the wire is low, or for the address group on: `_`, and otherwise `-`
 abbrev pub state_mark : Bool → ℕ
 state_mark true = 95
 state_mark false = 45
@@ -49,7 +49,7 @@ mark d w (b, e) =
     if is_edge_of d w e then edge_mark (is_ok (verdict b e)) e.fall
     else state_mark (drive b.history d w)
 
--- ---- the rows of what is so after an edge, `.` where there is nothing to print
+-- ---- the rows of what is so after an edge, `.` if there is nothing to print
 
 -- a slot's character: `1` to `9`, and `A` for slot 10 to `L` for slot 21
 abbrev pub slot_sign : ℕ → ℕ
@@ -67,8 +67,8 @@ grant_mark (b, e) =
 abbrev pub holder_mark : Column → ℕ
 holder_mark (b, e) = let now = after b e in slot_mark (holder now.plan now.history)
 
--- an acknowledge by its level's letter, `a` for level 1 to `g` for level 7; an access by its target's
--- character (chapters 2 and 4)
+-- an acknowledge by its level's letter, `a` for level 1 to `g` for level 7; an access by its
+-- target's character (chapters 2 and 4)
 abbrev pub cycle_mark : Option Cycle → ℕ
 cycle_mark None = 46
 cycle_mark (Some (Acknowledge level)) = 96 + level
@@ -125,7 +125,7 @@ numbers_line digit first n = (label [] ++ map digit (range_with_len first n)) ++
 abbrev pub up_to_tens : ℕ → ℕ → ℕ
 up_to_tens first n = n - ((first + n) - 1) % 10
 
--- the second line ends with that one; where there is none, it is empty
+-- the second line ends with that one; if there is none, it is empty
 abbrev pub tens_line : ℕ → ℕ → List ℕ
 tens_line first n =
     if up_to_tens first n == 0 then 10 ∷ [] else numbers_line tens first (up_to_tens first n)

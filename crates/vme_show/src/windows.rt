@@ -1,5 +1,5 @@
 //! A stretch of a trace, and its picture.
-ghost use Rattle.std.specs.Prelude.{◌≡◌, ◌+◌, ◌<◌, ◌≤◌, ◌^◌, ◌++◌, ◌∷◌, ◌↔◌, [], List, length, IfErr, IsTrue, OnOk, OnErr};
+ghost use Rattle.std.specs.Prelude.{◌≡◌, ◌+◌, ◌<◌, ◌≤◌, ◌^◌, [], List, length, IfErr, OnOk, OnErr};
 ghost use Rattle.std.specs.Io.KnownBytes.{Appends};
 ghost use Rattle.vme_model.specs.declared.signals.Edge.{Edge as EdgeValue};
 ghost use Rattle.vme_model.specs.Verdict.{State, after};
@@ -25,7 +25,8 @@ const TOPICS: [Topic; 4] = [Topic::GrantAt, Topic::Holder, Topic::Shown, Topic::
 
 /// A stretch of at most 200 edges of a trace, as far as its picture needs it.
 ///
-/// It keeps the wires as they were before the first edge, and of each edge what became of it and what is so after it.
+/// It keeps the wires as they were before the first edge, and of each edge what became of it and
+/// what is so after it.
 #[derive(Drop)]
 pub struct Window {
     /// The number of the first edge.
@@ -64,13 +65,6 @@ impl Window {
         ensures few { result ≤ 200 }
     {
         self.columns.len()
-    }
-
-    /// Whether it has no edge.
-    pub fn is_empty(&self) -> bool
-        ensures { IsTrue result ↔ (self.now.columns ≡ []) }
-    {
-        self.columns.is_empty()
     }
 
     /// Steps a bus by the next edge, which is refused or accepted, and keeps what is drawn of it.
@@ -144,9 +138,11 @@ impl Window {
 
     /// Writes the picture of its edges, of which there is one at least.
     ///
-    /// With `color` each `x` of a refused edge is red and each `!` of a delivery green, by the sequences of ISO 6429.
+    /// With `color` each `x` of a refused edge is red and each `!` of a delivery green, by the
+    /// sequences of ISO 6429.
     ///
-    /// Errors: X8 if a write failed or took no byte; a prefix of the picture was then written.
+    /// # Errors
+    /// X8 if a write failed or took no byte; a prefix of the picture was then written.
     pub fn draw<W: Write>(&self, color: bool, out: &mut W) -> Result<(), Fault>
         requires some { 0 < length self.now.columns }
         requires fits { self.now.first + length self.now.columns ≤ 2 ^ 64 }

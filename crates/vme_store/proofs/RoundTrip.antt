@@ -1,5 +1,5 @@
 -- The edge that an edge's code stands for is that edge.
-use Rattle.std.proofs.Common.{◌≡◌, ◌+◌, ◌-◌, ◌*◌, ◌/◌, ◌%◌, ◌<◌, ◌≤◌, ◌^◌, ℕ, Bool, true, false, refl, arith, ap, sym, ◌∙◌}
+use Rattle.std.proofs.Common.{◌≡◌, ◌+◌, ◌-◌, ◌*◌, ◌/◌, ◌%◌, ◌<◌, ◌≤◌, ℕ, Bool, true, false, refl, arith, ap, sym, ◌∙◌}
 use Rattle.std.specs.Prelude.{Option, Some, None, ◌==◌, nat_lt, if◌then◌else◌}
 use Rattle.std.proofs.lemmas.Bool.{and_parts}
 use Rattle.std.proofs.lemmas.Bool.Decides.{nat_tests}
@@ -125,16 +125,6 @@ round_trip e h =
     let k = third (driver_number e.driver) (wire_number e.wire) (fall_code e.fall) (value_code e.value) f.1 p.value.1 in
     let l = fourth (driver_number e.driver) (wire_number e.wire) (fall_code e.fall) (value_code e.value) p.value.1 in
     rw (i, j, k, l, p.wires.0, p.wires.2, f.0, p.value.0) refl
-
-pub below : (e : Edge) → is_well_formed e ≡ true → code_of e < 2 ^ 15
-below e h =
-    let p = parts_of e h in
-    let f = fall_back e.fall in
-    let a : driver_number e.driver < 32 = p.wires.1 in
-    let b : wire_number e.wire < 16 = p.wires.3 in
-    let c : fall_code e.fall < 2 = f.1 in
-    let d : value_code e.value < 32 = p.value.1 in
-    omega arith
 
 pub apart : (e f : Edge) → is_well_formed e ≡ true → is_well_formed f ≡ true → code_of e ≡ code_of f → e ≡ f
 apart e f h i c = sym (round_trip e h) ∙ ap edge_of c ∙ round_trip f i

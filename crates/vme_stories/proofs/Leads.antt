@@ -1,5 +1,5 @@
 -- The edges that lead to a state, one by one.
-use Rattle.std.proofs.Common.{◌≡◌, ◌++◌, ◌∷◌, [], List, true, is_ok, if◌then◌else◌, sym, ◌∙◌, ap, subst}
+use Rattle.std.proofs.Common.{◌≡◌, ◌++◌, ◌∷◌, [], List, true, is_ok, sym, ◌∙◌, ap, subst}
 use Rattle.vme_model.specs.declared.signals.Edge.{Edge}
 use Rattle.vme_model.specs.Report.{at_power_up, trace_limit}
 use Rattle.vme_model.specs.Verdict.{State, after, kept, made, verdict}

@@ -177,11 +177,6 @@ more_by : (b : State) (e : Edge) (new : List Edge) (t : Bool)
 more_by b e new true more is = more ∙ sym (reverse-cons e b.history)
 more_by b e new false more is = absurd (cc)
 
-same_by : (b : State) (e : Edge) (new : List Edge) (t : Bool) → new ≡ reverse b.history
-    → t ≡ false → new ≡ reverse (if t then made b e else b).history
-same_by b e new true same is = absurd (cc)
-same_by b e new false same is = same
-
 pub made_more : (b : State) (e : Edge) (list new : List Edge) → list ≡ reverse b.history
     → new ≡ list ++ e ∷ [] → is_ok (verdict b e) ≡ true → new ≡ reverse (after b e).history
 made_more b e list new is more ok =

@@ -1,5 +1,5 @@
 //! What is said of an edge behind the edges that were made on a bus.
-ghost use Rattle.std.specs.Prelude.{◌≡◌, ◌++◌, [], if◌then◌else◌, OnOk, is_ok};
+ghost use Rattle.std.specs.Prelude.{◌≡◌, [], if◌then◌else◌, OnOk, is_ok};
 ghost use Rattle.vme_model.specs.declared.signals.Wire.TheVariants.{Dtack};
 ghost use Rattle.vme_model.specs.History.{in_order, shown};
 ghost use Rattle.vme_model.specs.Verdict.{after, kept};

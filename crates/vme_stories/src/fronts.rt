@@ -59,7 +59,8 @@ impl Front {
 
     /// Makes a well-formed edge if it is accepted, and returns whether it is.
     ///
-    /// Errors: no memory for one more edge. Nothing is made then.
+    /// # Errors
+    /// `AllocError` if there is no memory for one more edge; nothing is made then.
     pub fn step(&mut self, edge: Edge) -> Result<bool, AllocError>
         requires formed { is_well_formed edge ≡ true }
         ensures accepted { IfOk result (λ t. t ≡ is_ok (verdict self.old edge)) }

@@ -1,5 +1,5 @@
 //! The search for a story.
-ghost use Rattle.std.specs.Prelude.{◌≡◌, ◌≢◌, ◌↔◌, ◌+◌, ◌<◌, ◌≤◌, ◌/◌, ◌||◌, if◌then◌else◌, nat_lt, not, Ok, OnOk, IfOk, false, true, length};
+ghost use Rattle.std.specs.Prelude.{◌≡◌, ◌≢◌, ◌↔◌, ◌<◌, ◌≤◌, ◌/◌, ◌||◌, Ok, OnOk, IfOk, false, true, length};
 ghost use Rattle.vme_model.specs.History.{in_order};
 ghost use Rattle.vme_model.specs.Report.{at_power_up, trace_limit};
 ghost use Rattle.vme_stories.specs.Replies.{reply};
@@ -161,12 +161,13 @@ impl Search {
 
 /// A story of the next edge and of the edges that were made before it.
 ///
-/// The same is said of the edge behind the story as behind the list: of a refused edge the verdict
-/// and the conditions that it fails, by their texts; of an accepted one what it delivers and the
-/// situations that it brings about. Without any one edge of the story something else is said. At E5
+/// The edge has the same answer behind the story as behind the list: if it is refused, the verdict
+/// and the conditions that it fails, by their texts; if it is accepted, what it delivers and the
+/// situations that it brings about. Without any one edge of the story the answer is another. At E5
 /// the story is the whole list, since a shorter one has room.
 ///
-/// Errors: no memory for a second list as long as this one.
+/// # Errors
+/// `AllocError` if there is no memory for a second list as long as this one.
 pub fn story(alloc: Global, front: Front, edge: Edge) -> Result<Vec<Code>, AllocError>
     ensures { let b = at_power_up front.version front.plan trace_limit in
         IfOk result (λ list. IsFound b (in_order front.history) edge list.items) }

@@ -58,7 +58,7 @@ met_text v times (Some first) =
     (((((codes "met " ++ event_text v) ++ codes " ") ++ decimal times) ++ codes " first ")
     ++ decimal first) ++ 10 ∷ []
 
--- since when, where it is so
+-- since when, if it is so
 abbrev pub since_text : List ℕ → Option ℕ → List ℕ
 since_text word None = []
 since_text word (Some n) = word ++ decimal n
@@ -88,7 +88,7 @@ answers_text s b =
 abbrev pub requests : Plan → ℕ → Bool
 requests p s = is_some (option_and_then (λ r. r.requester) (board p s))
 
--- what is printed about a topic; nothing, where there is nothing to print
+-- what is printed about a topic; nothing, if there is nothing to print
 abbrev pub line_text : Plan → Answers → Topic → List ℕ
 line_text p t Edges = edges_text (length t) (accepted t) (refused t)
 line_text p t (Rule k) = rule_text k (passed_by k t) (refused_for (by_rule k) t)

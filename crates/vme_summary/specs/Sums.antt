@@ -24,7 +24,8 @@ total number ts = min (sum_by number ts) (2 ^ 64 - 1)
 abbrev pub most : (Answers → ℕ) → Traces → ℕ
 most number ts = greatest (map number ts)
 
--- What a board did in all of them. None is reported with its beginning: that is an edge of one trace.
+-- What a board did in all of them. None is reported with its beginning: that is an edge of one
+-- trace.
 abbrev pub board_sums : ℕ → Traces → BoardTally
 board_sums s ts = record {
   asked = total (λ t. (board_tally s t).asked) ts;
@@ -46,7 +47,7 @@ times_text v times =
     if times == 0 then []
     else (((codes "met " ++ event_text v) ++ codes " ") ++ decimal times) ++ 10 ∷ []
 
--- what is printed about a topic; nothing, where there is nothing to print
+-- what is printed about a topic; nothing, if there is nothing to print
 abbrev pub sums_line : Plan → Traces → Topic → List ℕ
 sums_line p ts Edges = edges_text (total length ts) (total accepted ts) (total refused ts)
 sums_line p ts (Rule k) = rule_text k (total (passed_by k) ts) (total (refused_for (by_rule k)) ts)

@@ -24,7 +24,7 @@ abbrev pub Answer : Type 0
 Answer = Result (Option Delivery) Refused
 
 -- an edge of a trace, the number of the rule that names its wire and direction, the answer to it,
--- and whether it brings a situation about where it is accepted
+-- and whether it brings a situation about if it is accepted
 pub record Answered : Type 0 where
   pub edge : Edge
   pub rule : ℕ

@@ -28,7 +28,7 @@ pub struct BoardTally {
     pub cycles: u64,
     /// Its `dtack-`.
     pub answered: u64,
-    /// Those of them that delivered its status byte.
+    /// How many of its `dtack-` delivered its status byte.
     pub delivered: u64,
     /// Its last `br-`, if its request stands and is not met.
     pub asks_since: Option<u64>,

@@ -20,8 +20,8 @@ pub fn rules_share_accepted_edges()
         sum_by (λ k. passed_by k (answered b es)) (up_to 26) ≡ accepted (answered b es) }
 {}
 
-/// Every refused edge is counted for one refusal: what the rules G1 to G26 refuse, what the settling
-/// rules S1 to S4 do, and E1, E2 and E5, are together all that are refused.
+/// Every refused edge is counted for one refusal: what the rules G1 to G26 refuse, what the
+/// settling rules S1 to S4 do, and E1, E2 and E5, are together all that are refused.
 pub fn refusals_share_refused_edges()
     ensures { (b : State) (es : List Edge) →
         sum_by (λ r. refused_for r (answered b es)) (map (λ k. Rule k) (up_to 26) ++ refusals)
@@ -43,8 +43,8 @@ pub fn every_tenure_had_a_wait()
         length (waits s (answered b es)) ≡ (board_tally s (answered b es)).tenures }
 {}
 
-/// A board is reported to ask exactly while its request is low and its `bbsy` high, and to hold the bus
-/// exactly while its `bbsy` is low.
+/// A board is reported to ask exactly while its request is low and its `bbsy` high, and to hold the
+/// bus exactly while its `bbsy` is low.
 pub fn boards_are_reported_as_they_stand()
     ensures asks { (b : State) (es : List Edge) (s : ℕ) → b.history ≡ [] →
         is_some (board_tally s (answered b es)).asks_since

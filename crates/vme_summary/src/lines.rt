@@ -1,9 +1,8 @@
 //! The lines of a summary, each put together in a buffer.
-ghost use Rattle.std.specs.Prelude.{◌≡◌, ◌+◌, ◌*◌, ◌<◌, ◌≤◌, ◌++◌, length, codes, slice_index_or};
+ghost use Rattle.std.specs.Prelude.{◌≡◌, ◌+◌, ◌*◌, ◌<◌, ◌≤◌, ◌++◌, length, slice_index_or};
 ghost use Rattle.arrayvec.specs.ArrayVec.{array_vec_len};
 ghost use Rattle.vme_goals.specs.Events.{event_index};
-ghost use Rattle.vme_summary.specs.Tally.{Answers};
-ghost use Rattle.vme_summary.specs.Tallied.{IsNamed, IsTopic, OfTally};
+ghost use Rattle.vme_summary.specs.Tallied.{IsTopic, OfTally};
 ghost use Rattle.vme_summary.specs.Summed.{OfSums};
 ghost use Rattle.vme_summary.specs.Sums.{sums_line, times_text};
 ghost use Rattle.vme_summary.specs.Summary.{edges_text, rule_text, refusal_name, refusal_text, never_text, rules_without, events_without, met_text, since_text, turns_text, board_text, answers_text, requests, line_text};

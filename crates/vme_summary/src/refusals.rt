@@ -25,7 +25,7 @@ impl Refusals {
     ghost use Rattle.vme_summary.specs.Tallied.{IsRefusalsOf};
     ghost use Rattle.vme_summary.specs.Summed.{AreRefusalsOf};
 
-    /// Those of a trace before its first edge.
+    /// The refused edges of a trace before its first edge: none.
     pub(crate) fn new() -> Refusals
         ensures { IsRefusalsOf [] result }
     {

@@ -42,7 +42,8 @@ fn write_topics<W: Write>(
 /// by rule; which rules let none pass; which situations came, and which never; what each board with
 /// a requester did at the bus, by slot, and what each board answered.
 ///
-/// Errors: X8 if a write failed or took no byte; a prefix of the summary was then written.
+/// # Errors
+/// X8 if a write failed or took no byte; a prefix of the summary was then written.
 pub fn write_summary<W: Write>(plan: &Plan, tally: &Tally, out: &mut W) -> Result<(), Fault>
     ensures ok { OnOk result (OfTally tally.now (λ t.
         Appends (W.contents out.old) (W.contents out.new) (summary_text plan.now t))) }
@@ -77,10 +78,11 @@ fn write_sums_of<W: Write>(
 }
 
 /// Writes what the edges of several traces on a plan came to together, in the lines of a summary.
-/// The rules and situations that never came are those that came in no trace; no edge is named by its
-/// number.
+/// The rules and situations that never came are those that came in no trace; no edge is named by
+/// its number.
 ///
-/// Errors: X8 if a write failed or took no byte; a prefix of the sums was then written.
+/// # Errors
+/// X8 if a write failed or took no byte; a prefix of the sums was then written.
 pub fn write_sums<W: Write>(plan: &Plan, sums: &Sums, out: &mut W) -> Result<(), Fault>
     ensures ok { OnOk result (OfSums sums.now (λ ts.
         Appends (W.contents out.old) (W.contents out.new) (sums_text plan.now ts))) }

@@ -1,6 +1,6 @@
 //! What several traces come to together.
 ghost use Rattle.std.specs.Prelude.{◌≡◌, ◌<◌, ◌∷◌, ℕ, [], length, slice_index_or};
-ghost use Rattle.vme_summary.specs.Tally.{accepted, board_tally, passed_by, refused, refused_for, times_met};
+ghost use Rattle.vme_summary.specs.Tally.{accepted, passed_by, refused, refused_for, times_met};
 ghost use Rattle.vme_summary.specs.Tallied.{IsNamed, OfTally, idle};
 ghost use Rattle.vme_summary.specs.Summed.{board_with};
 ghost use Rattle.vme_summary.specs.Sums.{board_sums, total};
@@ -41,7 +41,7 @@ fn add_boards(boards: &mut [BoardTally], others: &[BoardTally])
 impl Sums {
     ghost use Rattle.vme_summary.specs.Summed.{AreSumsOf, OfSums};
 
-    /// Those of no trace.
+    /// The sums of no trace.
     pub fn new() -> Sums
         ensures { AreSumsOf [] result }
     {

@@ -23,16 +23,12 @@ use Rattle.vme_model.specs.GrantSafety.{is_fall_on}
 use Rattle.vme_model.specs.CycleSafety.{KeepsItsAddress, OneAnswers, Answers}
 use Rattle.vme_model.specs.Safe.{OnEachPrefix}
 use Rattle.vme_model.specs.Verdict.{IsLegal, verdict_but_full}
-use Rattle.vme_model.proofs.Bools.{and_left, and_right, is_false, same_number}
+use Rattle.vme_model.proofs.Bools.{and_left, and_right, is_false}
 use Rattle.vme_model.proofs.AllowedEdges.{checked, all_passed}
 use Rattle.vme_model.proofs.Safety.{legal_is_orderly}
 use Rattle.vme_histories.proofs.Others.{same_wire}
+use Rattle.vme_histories.proofs.Drivers.{same_driver}
 use Rattle.vme_swaps.proofs.Alike.{shown_by}
-
-pub same_driver : (a b : Driver) → is_same_driver a b ≡ true → a ≡ b
-same_driver Controller Controller e = refl
-same_driver (Slot s) (Slot t) e = ap (λ x. Slot x) (same_number s t e)
-same_driver a b e = absurd (cc)
 
 pub same_self : (d : Driver) → is_same_driver d d ≡ true
 same_self Controller = refl

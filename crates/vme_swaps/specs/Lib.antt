@@ -1,5 +1,5 @@
--- The definitions of free swaps. `believe` marks what a theorem rests on, and `words` what only says
--- how one function serves another.
+-- The definitions of free swaps. `believe` marks what a theorem rests on, and `words` what only
+-- says how one function serves another.
 
 -- believe: when the bus stands alike after two histories
 pub mod Alike

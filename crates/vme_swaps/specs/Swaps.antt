@@ -10,8 +10,8 @@ use Rattle.vme_swaps.specs.declared.swaps.StepBack.{StepBack}
 use Rattle.vme_swaps.specs.declared.swaps.StepBack.TheVariants.{Passes, Waits, Races}
 use Rattle.vme_swaps.specs.Alike.{StandAlike}
 
--- After a history two edges may change places: both orders are legal, each of the two edges delivers
--- the same in both, and the bus stands alike behind them.
+-- After a history two edges may change places: both orders are legal, each of the two edges
+-- delivers the same in both, and the bus stands alike behind them.
 pub record IsFree (version : Version) (p : Plan) (h : List Edge) (a b : Edge) : Type 0 where
   pub legal : IsLegal version p (b ∷ a ∷ h)
   pub swapped : IsLegal version p (a ∷ b ∷ h)
@@ -20,8 +20,8 @@ pub record IsFree (version : Version) (p : Plan) (h : List Edge) (a b : Edge) : 
   pub alike : StandAlike p (b ∷ a ∷ h) (a ∷ b ∷ h)
 
 -- How the edge e goes back over the edge `first`, behind which it comes after a history: it passes
--- if the two may change places. Otherwise it waits if it is refused in front of `first`; or it races,
--- and the outcome is what `first` is answered behind it.
+-- if the two may change places. Otherwise it waits if it is refused in front of `first`; or it
+-- races, and the outcome is what `first` is answered behind it.
 abbrev pub StepsBack : Version → Plan → List Edge → Edge → Edge → StepBack → Type 0
 StepsBack version p h first e Passes = IsFree version p h first e
 StepsBack version p h first e (Waits refused) =

@@ -1,7 +1,7 @@
 //! What holds of histories that differ by free swaps.
 //!
-//! The functions do nothing: each is a theorem over the definitions, stated by its contract. A history has its newest edge
-//! first.
+//! The functions do nothing: each is a theorem over the definitions, stated by its contract. A
+//! history has its newest edge first.
 ghost use Rattle.std.specs.Prelude.{◌≡◌, ◌∷◌, ◌++◌, ◌↔◌, ◌||◌, false, IsPermutation, List};
 ghost use Rattle.vme_model.specs.declared.signals.Edge.{Edge};
 ghost use Rattle.vme_model.specs.declared.signals.Version.{Version};
@@ -15,8 +15,8 @@ ghost use Rattle.vme_swaps.specs.Served.{serves_request};
 ghost use Rattle.vme_swaps.specs.Swaps.{AreOneButForSwaps, IsFree};
 
 /// Whatever edges come behind a free swap, they are answered the same in both orders, and the bus
-/// stands alike behind them: verdicts, refusals and deliveries are the same. So what is legal behind
-/// one order is legal behind the other.
+/// stands alike behind them: verdicts, refusals and deliveries are the same. So what is legal
+/// behind one order is legal behind the other.
 pub fn a_free_swap_changes_no_later_answer()
     ensures answers { (b : State) (first second : Edge) (later : List Edge) →
         IsAccepted b.plan → IsFree b.version b.plan b.history first second
@@ -58,8 +58,8 @@ pub fn free_swaps_go_back()
 {}
 
 /// If two edges are legal in both orders, the orders deliver the same. The bus stands alike behind
-/// them unless one of the edges is an answer that serves the interrupt request of its own board, and
-/// the other one makes that request: it is served only if it comes first.
+/// them unless one of the edges is an answer that serves the interrupt request of its own board,
+/// and the other one makes that request: it is served only if it comes first.
 pub fn legal_orders_differ_by_a_served_request()
     ensures delivered { (version : Version) (p : Plan) (h : List Edge) (a b : Edge) →
         IsAccepted p → IsLegal version p (b ∷ a ∷ h) → IsLegal version p (a ∷ b ∷ h)

@@ -36,8 +36,8 @@ fn is_serving(state: &BusState, driver: Driver) -> bool
     }
 }
 
-/// Whether the first edge is an answer that serves the interrupt request of its own board, which the
-/// second edge makes.
+/// Whether the first edge is an answer that serves the interrupt request of its own board, which
+/// the second edge makes.
 fn serves_request(state: &BusState, answer: Edge, request: Edge) -> bool
     ensures { OfHistory state.now (λ _ p h. result ≡ serves_request p h answer request) }
 {

@@ -1,9 +1,9 @@
 -- Lines at the head of some bytes, one after another.
-use Rattle.std.proofs.Common.{◌≡◌, ◌<◌, ◌+◌, ℕ, List, [], ◌∷◌, ◌++◌, length, get_or, take, drop, IsTrue, arith, refl, sym, ◌∙◌, ap, append_assoc, append-nil, add-one, subst}
+use Rattle.std.proofs.Common.{◌≡◌, ◌<◌, ◌+◌, ℕ, List, [], ◌∷◌, ◌++◌, length, get_or, take, drop, IsTrue, arith, sym, ◌∙◌, ap, append_assoc, append-nil, add-one, subst}
 use Rattle.std.proofs.Math.Seq.{take-suc, take-append_seam, drop-append_seam}
 use Rattle.std.proofs.lemmas.Grind.{flat_map-append}
 use Rattle.std.proofs.lemmas.List.{take-append-drop, drop-drop, get_or-drop, length-append, length-drop}
-use Rattle.std.proofs.lemmas.List.Elements.{All-nil, All-push, All-append}
+use Rattle.std.proofs.lemmas.List.Elements.{All-push, All-append}
 use Rattle.vme_model.specs.declared.signals.Edge.{Edge}
 use Rattle.vme_model.specs.Signals.{is_well_formed}
 use Rattle.vme_model.specs.Text.{spelling, edge_lines}
@@ -14,9 +14,6 @@ use Rattle.vme_trace.proofs.KeyNumbers.{AreBytes, are_bytes, bytes_at, AreBytes-
 
 abbrev pub IsFormed : Edge → Type 0
 IsFormed e = IsTrue (is_well_formed e)
-
-pub no_lines : (bytes : List ℕ) (es : List Edge) → HasLines bytes bytes es es
-no_lines bytes es = record { es = []; formed = All-nil IsFormed; is = refl; appended = sym (append-nil es) }
 
 -- one more line
 pub more_lines : (bytes rest behind : List ℕ) (e : Edge) (old es new : List Edge) → HasLines bytes rest old es → IsFrontLine e rest behind → new ≡ es ++ e ∷ []

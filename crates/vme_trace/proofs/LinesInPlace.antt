@@ -1,5 +1,5 @@
 -- The lines of a piece that are read in place.
-use Rattle.std.proofs.Common.{◌≡◌, ◌<◌, ◌≤◌, ◌+◌, ◌-◌, ◌^◌, min, zero, suc, append_assoc, append-nil, All, sym, ◌∙◌, ℕ, Bool, true, cond, List, [], ◌∷◌, ◌++◌, length, Option, Some, None, is_some, subst, refl, ap, arith, length-append}
+use Rattle.std.proofs.Common.{◌≡◌, ◌<◌, ◌+◌, ◌-◌, ◌^◌, min, zero, suc, append_assoc, append-nil, All, sym, ◌∙◌, ℕ, Bool, true, cond, List, [], ◌∷◌, ◌++◌, length, Option, Some, None, is_some, subst, refl, ap, arith, length-append}
 use Rattle.vme_model.specs.declared.signals.Version.{Version}
 use Rattle.vme_model.specs.declared.signals.Edge.{Edge}
 use Rattle.vme_model.specs.Signals.{is_well_formed}
@@ -7,7 +7,6 @@ use Rattle.vme_model.specs.Text.{spelling, next_number, edge_lines}
 use Rattle.vme_trace.specs.declared.Fault.{Fault}
 use Rattle.vme_trace.specs.declared.Fault.TheVariants.{Memory}
 use Rattle.vme_trace.specs.Reading.{Place, rest_of, with_edges}
-use Rattle.vme_trace.specs.Fronts.{IsFrontLine}
 use Rattle.vme_trace.specs.Taking.{place, Leads, Fails, HasLines, number_after}
 use Rattle.vme_trace.proofs.KnownLines.{IsFormed}
 use Rattle.std.proofs.lemmas.List.Elements.{All-head, All-tail}
@@ -66,12 +65,6 @@ module _ (v : Version) (n : ℕ) (piece rest : List ℕ) (old new : List Edge) (
               fault_is = λ other. absurd (other refl);
             });
       }
-
-pub rest_shorter : (piece rest : List ℕ) (old new : List Edge) → HasLines piece rest old new → length rest ≤ length piece
-rest_shorter piece rest old new h = let all = ap length h.is ∙ length-append (edge_lines h.es) rest in omega (arith, all)
-
-pub front_shorter : (e : Edge) (text rest : List ℕ) → IsFrontLine e text rest → length rest < length text
-front_shorter e text rest front = let same = ap length front.is in omega (arith, simp length-append at same)
 
 leads_at : (w : Option Version) (v : Version) (n m : ℕ) (part taken : List ℕ) (old new : List Edge) → w ≡ Some v → part ≡ []
     → Leads (Some v) (place n []) taken old new (Some v) (place m []) → Leads w (place n part) taken old new w (place m part)

@@ -1,6 +1,6 @@
 //! Reading a trace from a reader of bytes.
-ghost use Rattle.std.specs.Prelude.{◌≡◌, ◌<◌, ◌≤◌, ℕ, List, None, Ok, Err, true, false, IfOk, IfErr, length, take};
-ghost use Rattle.std.specs.Io.KnownBytes.{Consumes, IsAtEnd, Keeps};
+ghost use Rattle.std.specs.Prelude.{◌≡◌, ◌<◌, ℕ, List, None, Ok, Err, true, false, IfOk, IfErr, length};
+ghost use Rattle.std.specs.Io.KnownBytes.{Keeps};
 ghost use Rattle.vme_model.specs.declared.signals.Edge.{Edge};
 ghost use Rattle.vme_trace.specs.Pieces.{PumpedUpTo, ReadsUpTo};
 ghost use Rattle.vme_trace.specs.Reading.{HasRead, Pumped, ReadsPiece};

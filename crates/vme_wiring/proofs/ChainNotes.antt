@@ -24,9 +24,6 @@ use Rattle.vme_histories.proofs.Others.{drive_same}
 use Rattle.vme_wiring.proofs.SegmentMoves.{IsOne, HasPlace, placed, map_others}
 use Rattle.vme_histories.proofs.AllowedBoards.{Stands, IsDriven, at, at_head, own_after}
 
-self : (n : ℕ) → (n == n) ≡ true
-self n = grind (arith, nat_tests)
-
 -- what the slots of a chain drive on it
 abbrev outputs : List Edge → Wire → ℕ → Bool
 outputs h w t = drive h (Slot t) w

@@ -1,6 +1,6 @@
 -- A quiet board that nothing has reached waits.
 use Rattle.std.proofs.Common.{◌≡◌, ◌∙◌, refl, ap, Bool, true, false, ℕ, List}
-use Rattle.std.specs.Prelude.{◌&&◌, not, Some, ◌∷◌}
+use Rattle.std.specs.Prelude.{◌&&◌, not, Some}
 use Rattle.std.specs.List.{list_all}
 use Rattle.std.proofs.Math.Path.{fun_ext}
 use Rattle.vme_model.specs.declared.signals.Version.{Version}

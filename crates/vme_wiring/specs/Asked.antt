@@ -1,5 +1,5 @@
 -- What a board reads, and is asked.
-use Rattle.std.specs.Prelude.{◌≡◌, ◌&&◌, true, Some, List}
+use Rattle.std.specs.Prelude.{◌≡◌, true, Some, List}
 use Rattle.vme_model.specs.declared.boards.Row.{Row}
 use Rattle.vme_model.specs.declared.pins.Pins.{Pins}
 use Rattle.vme_model.specs.declared.signals.Driver.TheVariants.{Slot}

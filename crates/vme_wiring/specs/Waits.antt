@@ -1,5 +1,5 @@
 -- Which drivers wait for an edge of another driver, by what their rules read.
-use Rattle.std.specs.Prelude.{◌&&◌, ◌==◌, not, ℕ, Bool, true, false, Option, List}
+use Rattle.std.specs.Prelude.{◌&&◌, not, ℕ, Bool, true, false, Option, List}
 use Rattle.std.specs.Option.{option_map_or}
 use Rattle.vme_model.specs.declared.boards.Row.{Row}
 use Rattle.vme_model.specs.declared.pins.Pins.{Pins}

@@ -53,7 +53,7 @@ impl Chains {
     }
 
     /// Whether the input of the board's own grant chain is low; false if the board has no
-    /// requester.
+    /// requester. Source: Std 1014, chapter 3.
     #[inline(always)]
     pub fn grant_in(&self, row: &Row) -> bool
         ensures { result ≡ grant_in self.now row.now }
@@ -65,7 +65,7 @@ impl Chains {
     }
 
     /// Whether the input of the acknowledge chain is low at the board; false if it has no
-    /// interrupter.
+    /// interrupter. Source: Std 1014, chapter 4.
     #[inline(always)]
     pub fn iack_in(&self, row: &Row) -> bool
         ensures { result ≡ iack_in self.now row.now }
@@ -86,7 +86,7 @@ impl Chains {
         }
     }
 
-    /// Whether the last segment of a chain is low. S2 and S3 ask for it.
+    /// Whether the last segment of a chain is low. S2 and S3 ask for it. Source: profile.
     pub fn is_past_end(&self, chain: ChainId) -> bool
         ensures { result ≡ is_past_end (chain_at chain self.now) }
     {
@@ -99,7 +99,7 @@ impl Chains {
         }
     }
 
-    /// Whether every segment of the acknowledge chain is high. S1 asks for it.
+    /// Whether every segment of the acknowledge chain is high. S1 asks for it. Source: profile.
     pub fn is_acknowledge_clear(&self) -> bool
         ensures { result ≡ is_clear self.now.iack }
     {

@@ -1,5 +1,5 @@
 //! The open-collector lines that boards pull, as counts of the boards that pull them.
-ghost use Rattle.std.specs.Prelude.{◌≡◌, ◌<◌, ◌∷◌, true, get_or, nat_lt};
+ghost use Rattle.std.specs.Prelude.{◌≡◌, ◌<◌, true, get_or, nat_lt};
 ghost use Rattle.vme_model.specs.Sets.{bus_levels, irq_levels};
 ghost use Rattle.vme_wiring.specs.Counts.{moved, is_movable, no_pulls, count_of, lines_after, shared_after, shared_after_controller};
 ghost use Rattle.vme_histories.specs.Levels.{request_level, interrupt_level};

@@ -1,7 +1,8 @@
 use Rattle.std.proofs.Common.{◌+◌, arith}
+use Rattle.vme_trace.proofs.WrittenLines.{on_err}
 use Rattle.vme_order.specs.Lines.{seen_lines}
 use Rattle.vme_order.specs.Ordering.{seen_at}
-use Rattle.vme_order.proofs.SeenLines.{line_front, line_more, on_err}
+use Rattle.vme_order.proofs.SeenLines.{line_front, line_more}
 use Rattle.vme_order.proofs.lines.write_edges.Goals as goal
 
 pub returns-in_err-write_edge-clause-front : goal.returns-in_err-write_edge-clause-front

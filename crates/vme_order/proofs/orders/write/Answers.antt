@@ -1,5 +1,6 @@
 use Rattle.std.proofs.Common.{◌≡◌, ◌∙◌, ap, length, sym}
-use Rattle.vme_order.proofs.SeenLines.{all_front, all_written, head_front, next_front, on_err, on_ok, order_front}
+use Rattle.vme_trace.proofs.WrittenLines.{on_err}
+use Rattle.vme_order.proofs.SeenLines.{all_front, all_written, head_front, next_front, on_ok, order_front}
 use Rattle.vme_order.proofs.orders.write.Goals as goal
 
 pub returns-in_err-write_head-clause-front : goal.returns-in_err-write_head-clause-front

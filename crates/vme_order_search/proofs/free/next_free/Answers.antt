@@ -1,5 +1,4 @@
-use Rattle.std.proofs.Common.{◌≡◌, ◌⊎◌, inl, inr, ◌<◌, ◌≤◌, ℕ, sym, ◌∙◌, arith}
-use Rattle.std.proofs.lemmas.Bool.{cases_lt}
+use Rattle.std.proofs.Common.{sym}
 use Rattle.vme_order_search.proofs.Next.{unfree_on}
 use Rattle.vme_order_search.proofs.free.next_free.Goals as goal
 

@@ -1,6 +1,5 @@
-use Rattle.std.proofs.Common.{◌≡◌, ◌<◌, ◌+◌, ◌++◌, ◌∷◌, [], ℕ, List, All, length, sym, subst}
+use Rattle.std.proofs.Common.{◌<◌, ◌+◌, ◌∷◌, [], All, length, sym, subst}
 use Rattle.std.proofs.lemmas.List.Elements.{All-append}
-use Rattle.vme_order_search.specs.Places.{AreTaken}
 use Rattle.vme_order_search.proofs.Next.{AreNextBelow, all_one, next_whole, one_next}
 use Rattle.vme_order_search.proofs.free.next_places.Goals as goal
 

@@ -1,4 +1,4 @@
-use Rattle.std.proofs.Common.{◌≡◌, ◌⊎◌, inl, inr, ◌<◌, ◌≤◌, ℕ, true, false, ap, arith, length}
+use Rattle.std.proofs.Common.{◌≡◌, ◌⊎◌, inl, inr, ◌≤◌, false, ap, arith, length}
 use Rattle.vme_order_search.proofs.search.longest_within.Goals as goal
 use Rattle.vme_order_search.proofs.search.longest_within.Goals.{else-search-via-then-search+else-length-seen, else-search-via-else-search}
 

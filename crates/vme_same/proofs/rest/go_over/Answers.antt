@@ -1,4 +1,4 @@
-use Rattle.std.proofs.Common.{inl, inr, refl}
+use Rattle.std.proofs.Common.{inr, refl}
 use Rattle.vme_same.proofs.rest.go_over.Goals as goal
 
 pub returns-in-Races-clause-back : goal.returns-in-Races-clause-back

@@ -2,7 +2,6 @@ use Rattle.vme_model.specs.Signals.{is_well_formed}
 use Rattle.vme_model.specs.Plan.{has_driver}
 use Rattle.vme_model.proofs.Bools.{and_left}
 use Rattle.vme_histories.proofs.JudgedParts.{exists_accepted}
-use Rattle.vme_model.specs.declared.signals.Part.TheVariants as parts
 use Rattle.vme_bus.proofs.Parts.{controller_alone}
 use Rattle.vme_bus.proofs.states.BusState.note_controller.Goals as goal
 

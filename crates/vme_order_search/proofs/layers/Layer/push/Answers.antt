@@ -1,7 +1,7 @@
-use Rattle.std.proofs.Common.{◌≡◌, ◌<◌, ◌≤◌, ◌+◌, ◌++◌, ◌∷◌, [], ℕ, length, refl, sym, ◌∙◌, subst, ap, arith, set}
+use Rattle.std.proofs.Common.{◌≡◌, ◌<◌, ◌+◌, length, sym, ◌∙◌, subst, ap, arith, set}
 use Rattle.vme_order_search.specs.Layers.{StandsBelow}
 use Rattle.vme_order_search.specs.Places.{bucket_of}
-use Rattle.vme_order_search.proofs.Tables.{GotOne, IsBefore, got_table}
+use Rattle.vme_order_search.proofs.Tables.{IsBefore, got_table}
 use Rattle.vme_order_search.proofs.layers.Layer.push.Goals as goal
 
 pub returns-clause-table : goal.returns-clause-table

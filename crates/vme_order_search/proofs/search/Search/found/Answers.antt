@@ -1,5 +1,3 @@
-use Rattle.std.proofs.Common.{◌≡◌, ◌∙◌, ◌⊎◌, inl, inr, ◌<◌, ℕ, List, All, false, ap, subst, sym, length}
-use Rattle.vme_moments.specs.Orders.{AreNext}
 use Rattle.vme_order_search.proofs.Outcomes.{answer, next_in, whole_in, within_in}
 use Rattle.vme_order_search.proofs.search.Search.found.Goals as goal
 

@@ -1,4 +1,4 @@
-use Rattle.std.proofs.Common.{◌≡◌, ◌∙◌, ◌<◌, ◌≤◌, ◌+◌, ℕ, Ok, Some, ap, refl, subst, sym, arith, length}
+use Rattle.std.proofs.Common.{◌≡◌, ◌∙◌, ◌≤◌, Ok, Some, ap, refl, subst, sym, arith, length}
 use Rattle.std.specs.List.{slice_get}
 use Rattle.vme_order_search.specs.declared.layers.Layer.{Layer}
 use Rattle.vme_order_search.specs.Places.{AreUnfree}

@@ -1,4 +1,4 @@
-use Rattle.std.proofs.Common.{◌≡◌, ◌<◌, ◌-◌, ℕ, Some, length}
+use Rattle.std.proofs.Common.{◌≡◌, ◌-◌, ℕ, Some, length}
 use Rattle.std.specs.List.{slice_get}
 use Rattle.vme_order_search.specs.Searching.{IsFit, IsSameSearch, IsUnderWay, Task}
 use Rattle.vme_order_search.proofs.search.Search.go_on.Given as goal

@@ -1,4 +1,4 @@
-use Rattle.std.proofs.Common.{◌≡◌, ◌∙◌, ◌+◌, inr, ℕ, ap, subst, sym}
+use Rattle.std.proofs.Common.{◌∙◌, ◌+◌, inr, ap, subst, sym}
 use Rattle.vme_order_search.specs.declared.search.Search.{Search}
 use Rattle.vme_order_search.specs.Searching.{IsUnderWay}
 use Rattle.vme_order_search.proofs.Searched.{grown_new, grown_same, like_kept, many_sets}

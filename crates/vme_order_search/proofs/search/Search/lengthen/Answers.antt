@@ -1,5 +1,4 @@
-use Rattle.std.proofs.Common.{rules, ◌≡◌, ◌∙◌, ◌<◌, ◌≤◌, ◌+◌, ℕ, Ok, Some, ap, refl, subst, sym, arith, length}
-use Rattle.std.specs.List.{slice_get}
+use Rattle.std.proofs.Common.{rules, ◌≡◌, ◌∙◌, Ok, ap, refl, arith, length}
 use Rattle.vme_order_search.specs.declared.layers.Layer.{Layer}
 use Rattle.vme_order_search.proofs.Searched.{all_longer, begins, cut_layer, cut_longer}
 use Rattle.vme_order_search.proofs.search.Search.lengthen.Goals as goal

@@ -1,4 +1,4 @@
-use Rattle.std.proofs.Common.{◌≡◌, ◌∙◌, ◌++◌, ◌∷◌, [], ℕ, true, false, ap, sym}
+use Rattle.std.proofs.Common.{◌≡◌, ◌∙◌, ◌++◌, ◌∷◌, [], true, false, ap, sym}
 use Rattle.vme_order_search.specs.declared.layers.Beginning.{Beginning}
 use Rattle.vme_order_search.proofs.Outcomes.{first_layer}
 use Rattle.vme_order_search.proofs.search.Search.new.Goals as goal

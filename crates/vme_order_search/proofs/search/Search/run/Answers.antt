@@ -1,4 +1,4 @@
-use Rattle.std.proofs.Common.{◌≡◌, ◌∙◌, ◌<◌, ◌≤◌, ◌+◌, ℕ, ap, subst, sym, arith, length}
+use Rattle.std.proofs.Common.{◌≡◌, ◌∙◌, ◌<◌, ap, subst, sym, arith, length}
 use Rattle.vme_order_search.specs.declared.layers.Layer.{Layer}
 use Rattle.vme_order_search.specs.Searching.{HasEnded}
 use Rattle.vme_order_search.proofs.Outcomes.{ended_here, ended_whole}

@@ -1,4 +1,4 @@
-use Rattle.std.proofs.Common.{◌≡◌, ◌<◌, ℕ, length}
+use Rattle.std.proofs.Common.{◌≡◌, ◌<◌, length}
 use Rattle.vme_order_search.specs.Searching.{HasLayer, IsFit, Task}
 use Rattle.vme_order_search.proofs.search.Search.run.Given as goal
 

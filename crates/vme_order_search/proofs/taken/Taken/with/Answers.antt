@@ -1,4 +1,4 @@
-use Rattle.std.proofs.Common.{◌≡◌, ◌<◌, ◌-◌, ◌+◌, ◌/◌, ◌*◌, ◌%◌, ◌^◌, refl, ap, arith, bit_or}
+use Rattle.std.proofs.Common.{◌-◌, ◌+◌, ◌/◌, ◌*◌, ◌%◌, ◌^◌, refl, ap, arith, bit_or}
 use Rattle.vme_order_search.specs.declared.taken.Taken.{Taken}
 use Rattle.vme_order_search.proofs.Sets.{holds_full, holds_more, narrow_more}
 use Rattle.vme_order_search.proofs.taken.Taken.with.Goals as goal

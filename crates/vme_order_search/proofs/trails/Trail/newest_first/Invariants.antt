@@ -1,4 +1,4 @@
-use Rattle.std.proofs.Common.{◌≡◌, ℕ, List}
+use Rattle.std.proofs.Common.{ℕ, List}
 use Rattle.vme_order_search.specs.Trails.{Ends}
 use Rattle.vme_order_search.proofs.Steps.{WentBack}
 use Rattle.vme_order_search.proofs.trails.Trail.newest_first.Given as goal

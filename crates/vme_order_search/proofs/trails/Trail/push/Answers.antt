@@ -1,7 +1,7 @@
-use Rattle.std.proofs.Common.{◌≡◌, ◌∙◌, ◌<◌, ◌++◌, ◌∷◌, [], ℕ, length, refl, sym, subst, arith}
+use Rattle.std.proofs.Common.{◌∙◌, ◌∷◌, sym, subst}
 use Rattle.vme_order_search.specs.declared.trails.Trail.{Trail}
 use Rattle.vme_order_search.specs.Trails.{Ends}
-use Rattle.vme_order_search.proofs.Steps.{ends_more, ends_there, trail_more}
+use Rattle.vme_order_search.proofs.Steps.{ends_more, ends_there}
 use Rattle.vme_order_search.proofs.trails.Trail.push.Goals as goal
 
 pub returns-in-Ok-clause-kept : goal.returns-in-Ok-clause-kept

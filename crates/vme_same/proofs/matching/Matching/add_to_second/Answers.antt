@@ -1,4 +1,4 @@
-use Rattle.std.proofs.Common.{◌≡◌, ◌∙◌, ◌++◌, arith, false, subst, take}
+use Rattle.std.proofs.Common.{◌∙◌, ◌++◌, arith, false, subst, take}
 use Rattle.std.proofs.lemmas.List.{take_all}
 use Rattle.vme_engines.proofs.FollowedEdges.{next_list}
 use Rattle.vme_same.specs.Kept.{Runs}

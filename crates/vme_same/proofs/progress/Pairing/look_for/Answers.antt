@@ -1,4 +1,4 @@
-use Rattle.std.proofs.Common.{◌≡◌, ◌+◌, ◌<◌, arith, length, subst, sym}
+use Rattle.std.proofs.Common.{◌≡◌, ◌+◌, ◌<◌, arith, subst, sym}
 use Rattle.vme_races.specs.Walks.{most_passed}
 use Rattle.vme_same.specs.Kept.{edges_of, numbers}
 use Rattle.vme_same.proofs.Leading.{far_sure}

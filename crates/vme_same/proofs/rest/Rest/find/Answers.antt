@@ -1,4 +1,4 @@
-use Rattle.std.proofs.Common.{arith, rules}
+use Rattle.std.proofs.Common.{arith}
 use Rattle.vme_same.proofs.Lists.{found_at, none_more, none_there, none_yet}
 use Rattle.vme_same.proofs.rest.Rest.find.Goals as goal
 

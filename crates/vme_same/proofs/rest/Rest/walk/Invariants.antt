@@ -1,4 +1,4 @@
-use Rattle.std.proofs.Common.{◌≡◌, ◌-◌, ◌++◌, drop, length}
+use Rattle.std.proofs.Common.{◌-◌, ◌++◌, drop, length}
 use Rattle.std.specs.Prelude.{IfSome, IsTrue}
 use Rattle.vme_model.specs.declared.signals.Version.{Version}
 use Rattle.vme_model.specs.Numbered.{Numbered, edges_in}

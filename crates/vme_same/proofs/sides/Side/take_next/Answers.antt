@@ -1,4 +1,4 @@
-use Rattle.std.proofs.Common.{◌≡◌, ◌∙◌, arith, rules, sym}
+use Rattle.std.proofs.Common.{◌∙◌, sym}
 use Rattle.vme_same.proofs.Judging.{next_number, side_ends, side_goes}
 use Rattle.vme_same.proofs.sides.Side.take_next.Goals as goal
 

@@ -1,5 +1,4 @@
-use Rattle.std.proofs.Common.{◌≡◌, ◌∙◌, ◌≤◌, ◌<◌, ℕ, arith, sym}
-use Rattle.vme_model.specs.Report.{trace_limit}
+use Rattle.std.proofs.Common.{◌∙◌, arith, sym}
 use Rattle.vme_same.proofs.Judging.{before, full_there, refused_there, room_there}
 use Rattle.vme_same.proofs.sides.Side.verdict.Goals as goal
 
