@@ -11,6 +11,8 @@ use Rattle.vme_model.specs.Numbered.{Numbered, edges_in, numbered, numbered_on, 
 use Rattle.vme_model.specs.Verdict.{IsLegal, Judgement, State, after, judged, kept, made, verdict, verdict_but_full}
 use Rattle.vme_histories.proofs.Judged as judging
 use Rattle.vme_bus.specs.declared.states.BusState.{BusState}
+use Rattle.vme_bus.specs.declared.kinds.BusKind.{BusKind}
+use Rattle.vme_bus.specs.Kinds.{kind_of}
 use Rattle.vme_bus.specs.States.{IsStateOf}
 use Rattle.vme_trace.specs.declared.Fault.{Fault}
 use Rattle.vme_trace.specs.declared.Fault.TheVariants.{Memory, Write}
@@ -24,7 +26,7 @@ use Rattle.vme_races.specs.declared.walks.Walk.{Walk}
 use Rattle.vme_races.specs.Walks.{AreWalks, IsWalk}
 use Rattle.vme_races.specs.Lines.{count_if, free_in, is_back, is_race, is_wait, race_line, race_lines, races_in, waits_in}
 use Rattle.vme_races.specs.Outcomes.{AreLines}
-use Rattle.vme_races.specs.Kept.{Advances, AreLast, Breaks, IsCounted, IsKept, Stands}
+use Rattle.vme_races.specs.Kept.{Advances, AreLast, Breaks, IsCounted, IsKept, IsKindOf, IsOnPlan, Stands}
 
 -- ---- how many walks there are
 
@@ -233,7 +235,7 @@ pub accepted_made : (b : State) (e : Edge) → is_ok (verdict b e) ≡ true → 
 accepted_made b e accepted = ap (λ (t : Bool). if t then made b e else b) accepted
 
 -- where the bus stands is kept of its edges
-pub state_there : (p : Plan) (v : Version) (es : List Edge) (b : State) (s : BusState)
+state_there : (p : Plan) (v : Version) (es : List Edge) (b : State) (s : BusState)
     → b ≡ kept (bench p v) es → IsStateOf b.version b.plan b.history s
     → IsStateOf v p (edges_in (numbered (bench p v) es)) s
 state_there p v es b s is state =
@@ -243,6 +245,16 @@ state_there p v es b s is state =
     (ap (λ (c : State). c.plan) is ∙ kept_plan (bench p v) es)
     (subst (λ (h : List Edge). IsStateOf b.version b.plan h s)
     (ap (λ (c : State). c.history) is ∙ sym (edges_on (bench p v) 0 [] es refl)) state))
+
+-- it is one of the plan, and its kind is kept of the edges too
+pub plan_there : (p : Plan) (v : Version) (es : List Edge) (b : State) (s : BusState)
+    → b ≡ kept (bench p v) es → IsStateOf b.version b.plan b.history s → IsOnPlan v p s
+plan_there p v es b s is state = (_, state_there p v es b s is state)
+
+pub kind_there : (p : Plan) (v : Version) (es : List Edge) (b : State) (s : BusState) (kind : BusKind)
+    → b ≡ kept (bench p v) es → IsStateOf b.version b.plan b.history s → kind ≡ kind_of s
+    → IsKindOf v p (edges_in (numbered (bench p v) es)) kind
+kind_there p v es b s kind is state of = (s, state_there p v es b s is state, sym of)
 
 -- ---- in the loop over edges
 

@@ -83,7 +83,7 @@ impl Racing {
         let number = self.judged + 1;
         match self.bus.verdict(*edge) {
             Ok(()) => (
-                walk_line(number, edge, &self.recent.walk(edge)),
+                walk_line(number, edge, &self.recent.walk(self.bus.state(), edge)),
                 Status::Done,
             ),
             Err(refused) => (refused_line(number, edge, refused), Status::SomeRefused),

@@ -109,7 +109,7 @@ impl Racing {
         self.recent.push(Earlier {
             number,
             edge: *edge,
-            before: *self.bus.state(),
+            before: self.bus.state().to_kind(),
         })?;
         self.bus.make(*edge);
         Ok(())
@@ -132,7 +132,7 @@ impl Racing {
         if self.bus.verdict(*edge).is_err() {
             return Ok(None);
         }
-        let walk = self.recent.walk(edge);
+        let walk = self.recent.walk(self.bus.state(), edge);
         let number = self.judged;
         self.keep(number, edge)?;
         self.counts.note(&walk);

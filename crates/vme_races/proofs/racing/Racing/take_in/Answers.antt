@@ -4,7 +4,7 @@ use Rattle.vme_model.specs.Verdict.{verdict}
 use Rattle.vme_engines.specs.Outcomes.{bench}
 use Rattle.vme_races.specs.Kept.{IsCounted}
 use Rattle.vme_races.specs.Lines.{race_line}
-use Rattle.vme_races.proofs.TakenIn.{accepted_made, advances_accepted, advances_refused, legal_there, refused_same, walks_within}
+use Rattle.vme_races.proofs.TakenIn.{accepted_made, advances_accepted, advances_refused, legal_there, plan_there, refused_same, walks_within}
 use Rattle.vme_races.proofs.racing.Racing.take_in.Goals as goal
 
 pub returns-then-is_err-clause-line : goal.returns-then-is_err-clause-line
@@ -28,5 +28,6 @@ returns-clause-line c = λ p v es walks is.
     (c.in_ok-keep.ensures.last p v es is.bus is.last)
     (c.note.ensures walks few (subst (IsCounted walks) (sym c.keep.ensures.counts) is.counts))
     (c.walk-walk.ensures.walk v p k is.last
+    (plan_there p v es c.args.self.now.bus c.state.result.now is.bus c.state.ensures)
     (legal_there p v es c.args.edge.now (ap (λ s. is_ok (verdict s c.args.edge.now)) (sym is.bus) ∙ accepted)))
     (ap (λ n. race_line n c.args.edge.now c.walk-walk.result.stop) c.keep.ensures.judged)

@@ -15,7 +15,8 @@ loop-before-preserved c = record {
       gone_more v p taken c.args.edge.now c.args.self.now.edges.items c.loop-before.before
       c.at-left.result.now c.loop-before.state c.note.new.self c.loop-before.stop c.go_over-stop.result
       c.at-left.ensures legal (c.loop-before.invariant.gone v p taken is legal)
-      c.go_over-stop.ensures.back c.note.ensures;
+      c.go_over-stop.ensures.back
+      (λ w q h is. c.note.ensures w q h (c.go_over-stop.ensures.state w q h is));
   formed = c.go_over-stop.ensures.formed c.loop-before.invariant.formed;
 }
 
