@@ -3,17 +3,17 @@ use Rattle.vme_model.specs.Verdict.{verdict_but_full}
 use Rattle.vme_swaps.proofs.Free.{accepted_so, passes, races, races_served, refused_so, taken_so, waits}
 use Rattle.vme_swaps.proofs.swaps.step_back.Goals as goal
 
-pub returns-in-Err-step-clause-steps : goal.returns-in-Err-step-clause-steps
-returns-in-Err-step-clause-steps c = λ version p h is legal.
-    waits version p h c.args.first c.args.edge c.in-Err-step.refused
-    (refused_so version p h c.args.edge c.in-Err-step.refused
-    (sym c.in-Err-step.is ∙ c.step.ensures.answer version p h is))
+pub returns-in-Err-clause-steps : goal.returns-in-Err-clause-steps
+returns-in-Err-clause-steps c = λ version p h is legal.
+    waits version p h c.args.first c.args.edge c.in-Err.refused
+    (refused_so version p h c.args.edge c.in-Err.refused
+    (sym c.in-Err.is ∙ c.step.ensures.answer version p h is))
 
 pub returns-in-Err-judge-clause-steps : goal.returns-in-Err-judge-clause-steps
 returns-in-Err-judge-clause-steps c = λ version p h is legal.
     let alone : verdict_but_full version p h c.args.edge ≡ Ok tt =
-    accepted_so version p h c.args.edge c.in_default-step.field-0
-    (sym c.in_default-step.is ∙ c.step.ensures.answer version p h is) in
+    accepted_so version p h c.args.edge c.in_default.field-0
+    (sym c.in_default.is ∙ c.step.ensures.answer version p h is) in
     let state = taken_so version p h c.args.edge c.step.new.self alone (c.step.ensures.state version p h is) in
     races version p h c.args.first c.args.edge is.accepted legal alone c.in-Err-judge.refused
     (sym c.in-Err-judge.is ∙ c.judge.ensures version p (c.args.edge ∷ h) state)
@@ -21,8 +21,8 @@ returns-in-Err-judge-clause-steps c = λ version p h is legal.
 pub returns-then-is_served-clause-steps : goal.returns-then-is_served-clause-steps
 returns-then-is_served-clause-steps c = λ version p h is legal.
     let alone : verdict_but_full version p h c.args.edge ≡ Ok tt =
-    accepted_so version p h c.args.edge c.in_default-step.field-0
-    (sym c.in_default-step.is ∙ c.step.ensures.answer version p h is) in
+    accepted_so version p h c.args.edge c.in_default.field-0
+    (sym c.in_default.is ∙ c.step.ensures.answer version p h is) in
     let state = taken_so version p h c.args.edge c.step.new.self alone (c.step.ensures.state version p h is) in
     races_served version p h c.args.first c.args.edge is.accepted legal alone
     (sym c.in_default-judge.is ∙ c.judge.ensures version p (c.args.edge ∷ h) state)
@@ -32,8 +32,8 @@ returns-then-is_served-clause-steps c = λ version p h is legal.
 pub returns-else-is_served-clause-steps : goal.returns-else-is_served-clause-steps
 returns-else-is_served-clause-steps c = λ version p h is legal.
     let alone : verdict_but_full version p h c.args.edge ≡ Ok tt =
-    accepted_so version p h c.args.edge c.in_default-step.field-0
-    (sym c.in_default-step.is ∙ c.step.ensures.answer version p h is) in
+    accepted_so version p h c.args.edge c.in_default.field-0
+    (sym c.in_default.is ∙ c.step.ensures.answer version p h is) in
     let state = taken_so version p h c.args.edge c.step.new.self alone (c.step.ensures.state version p h is) in
     passes version p h c.args.first c.args.edge is.accepted legal alone
     (sym c.in_default-judge.is ∙ c.judge.ensures version p (c.args.edge ∷ h) state)
