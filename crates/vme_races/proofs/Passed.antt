@@ -14,7 +14,8 @@ use Rattle.vme_races.specs.declared.recent.Recent.{Recent}
 use Rattle.vme_races.specs.declared.walks.Stop.{Stop}
 use Rattle.vme_races.specs.declared.walks.Stop.TheVariants.{Begins, Far, Waits, Races}
 use Rattle.vme_races.specs.Walks.{IsWalk, Meets, Passes, Stops, most_passed, oldest}
-use Rattle.vme_races.specs.Kept.{AreHeld, AreLast, IsKindOf, IsOnPlan, OfKind}
+use Rattle.vme_races.specs.Kinds.{IsKindOf, IsOnPlan, OfKind}
+use Rattle.vme_races.specs.Kept.{AreHeld, AreLast}
 
 -- the edge came back over so many of k, the oldest of which has this number; these are held behind
 pub record IsBack

@@ -6,7 +6,8 @@ use Rattle.vme_model.specs.Plan.{Plan}
 use Rattle.vme_model.specs.Numbered.{Numbered, edges_in}
 use Rattle.vme_races.specs.declared.earlier.Earlier.{Earlier}
 use Rattle.vme_races.specs.declared.recent.Recent.{Recent}
-use Rattle.vme_races.specs.Kept.{AreHeld, AreLast, IsKindOf, IsReady}
+use Rattle.vme_races.specs.Kinds.{IsKindOf}
+use Rattle.vme_races.specs.Kept.{AreHeld, AreLast, IsReady}
 
 module _ (v : Version) (p : Plan) where
   held_front : (k : Numbered) (xs ys : List Earlier) → AreHeld v p k (xs ++ ys) → AreHeld v p k xs

@@ -26,7 +26,8 @@ use Rattle.vme_races.specs.declared.walks.Walk.{Walk}
 use Rattle.vme_races.specs.Walks.{AreWalks, IsWalk}
 use Rattle.vme_races.specs.Lines.{count_if, free_in, is_back, is_race, is_wait, race_line, race_lines, races_in, waits_in}
 use Rattle.vme_races.specs.Outcomes.{AreLines}
-use Rattle.vme_races.specs.Kept.{Advances, AreLast, Breaks, IsCounted, IsKept, IsKindOf, IsOnPlan, Stands}
+use Rattle.vme_races.specs.Kinds.{IsKindOf, IsOnPlan}
+use Rattle.vme_races.specs.Kept.{Advances, AreLast, Breaks, IsCounted, IsKept, Stands}
 
 -- ---- how many walks there are
 
@@ -191,9 +192,10 @@ module _ (p : Plan) (v : Version) (es : List Edge) (e : Edge) where
     -- the next edge is accepted
     pub advances_accepted : (walk : Walk) (line : List ℕ) → is_ok (verdict old.bus e) ≡ true
         → AreLast v p ((old.judged + 1, e) ∷ numbered (bench p v) es) now.recent
+        → IsOnPlan v p now.passing
         → IsCounted (walk ∷ walks) now.counts → IsWalk v p e (numbered (bench p v) es) walk
         → line ≡ race_line (old.judged + 1) e walk.stop → Advances p v es walks e line now
-    advances_accepted walk line ok last counts goes text =
+    advances_accepted walk line ok last passing counts goes text =
         let k = numbered (bench p v) es in
         let there = judged_there true ok in
         let all : (old.judged + 1, e) ∷ k ≡ numbered (bench p v) (es ++ e ∷ []) = numbered_by true (old.judged + 1) there number_is in (
@@ -202,6 +204,7 @@ module _ (p : Plan) (v : Version) (es : List Edge) (e : Edge) where
             bus = bus_next;
             judged = judged_next;
             last = subst (λ (m : Numbered). AreLast v p m now.recent) all last;
+            passing = passing;
             counts = counts;
             walked = subst (λ (m : Numbered). AreWalks v p m (walk ∷ walks)) all (goes, is.walked);
           },
@@ -210,9 +213,9 @@ module _ (p : Plan) (v : Version) (es : List Edge) (e : Edge) where
 
     -- it is refused
     pub advances_refused : (line : List ℕ) → line ≡ [] → is_ok (verdict old.bus e) ≡ false
-        → now.recent ≡ old.recent → now.counts ≡ old.counts
+        → now.recent ≡ old.recent → now.passing ≡ old.passing → now.counts ≡ old.counts
         → Advances p v es walks e line now
-    advances_refused line empty refused recent counts =
+    advances_refused line empty refused recent passing counts =
         let k = numbered (bench p v) es in
         let all : k ≡ numbered (bench p v) (es ++ e ∷ []) = numbered_by false (old.judged + 1) (judged_there false refused) number_is in (
           walks,
@@ -220,6 +223,7 @@ module _ (p : Plan) (v : Version) (es : List Edge) (e : Edge) where
             bus = bus_next;
             judged = judged_next;
             last = subst (λ (m : Numbered). AreLast v p m now.recent) all (subst (AreLast v p k) (sym recent) is.last);
+            passing = subst (IsOnPlan v p) (sym passing) is.passing;
             counts = subst (IsCounted walks) (sym counts) is.counts;
             walked = subst (λ (m : Numbered). AreWalks v p m walks) all is.walked;
           },

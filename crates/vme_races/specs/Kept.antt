@@ -6,10 +6,6 @@ use Rattle.vme_model.specs.declared.signals.Edge.{Edge}
 use Rattle.vme_model.specs.Plan.{Plan}
 use Rattle.vme_model.specs.Numbered.{Numbered, edges_in, numbered}
 use Rattle.vme_model.specs.Verdict.{kept}
-use Rattle.vme_bus.specs.declared.kinds.BusKind.{BusKind}
-use Rattle.vme_bus.specs.declared.states.BusState.{BusState}
-use Rattle.vme_bus.specs.Kinds.{kind_of}
-use Rattle.vme_bus.specs.States.{IsStateOf}
 use Rattle.vme_trace.specs.declared.Fault.{Fault}
 use Rattle.vme_trace.specs.declared.Fault.TheVariants.{Memory, Write}
 use Rattle.vme_trace.specs.Writing.{AppendsFront}
@@ -21,23 +17,9 @@ use Rattle.vme_races.specs.declared.racing.Racing.{Racing}
 use Rattle.vme_races.specs.declared.walks.Stop.{Stop}
 use Rattle.vme_races.specs.declared.walks.Walk.{Walk}
 use Rattle.vme_races.specs.Walks.{AreWalks, most_passed}
+use Rattle.vme_races.specs.Kinds.{IsKindOf, IsOnPlan}
 use Rattle.vme_races.specs.Lines.{free_in, race_line, race_lines, races_in, waits_in}
 use Rattle.vme_races.specs.Outcomes.{AreLines, IsText}
-
--- ---- the bus before an edge
-
--- a state of the plan and the version, whatever its edges are
-abbrev pub IsOnPlan : Version → Plan → BusState → Type 0
-IsOnPlan v p b = (h : List Edge) × IsStateOf v p h b
-
--- the edges lead to a state of this kind
-abbrev pub IsKindOf : Version → Plan → List Edge → BusKind → Type 0
-IsKindOf v p h kind = (b : BusState) × IsStateOf v p h b × (kind_of b ≡ kind)
-
--- what holds of all edges that lead to this kind, on the plan of a state
-abbrev pub OfKind : BusState → BusKind → (Version → Plan → List Edge → Type 0) → Type 0
-OfKind b kind P =
-    (v : Version) (p : Plan) (h : List Edge) → IsOnPlan v p b → IsKindOf v p h kind → P v p h
 
 -- ---- the last accepted edges
 
@@ -79,6 +61,7 @@ pub record IsKept (p : Plan) (v : Version) (es : List Edge) (walks : List Walk) 
   pub bus : now.bus ≡ kept (bench p v) es
   pub judged : now.judged ≡ length es
   pub last : AreLast v p (numbered (bench p v) es) now.recent
+  pub passing : IsOnPlan v p now.passing
   pub counts : IsCounted walks now.counts
   pub walked : AreWalks v p (numbered (bench p v) es) walks
 

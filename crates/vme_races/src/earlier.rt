@@ -5,7 +5,7 @@ ghost use Rattle.vme_model.specs.Verdict.{IsLegal};
 ghost use Rattle.vme_swaps.specs.Swaps.{IsFree};
 ghost use Rattle.vme_races.specs.Walks.{Meets};
 ghost use Rattle.vme_races.specs.Formed.{is_formed};
-ghost use Rattle.vme_races.specs.Kept.{IsOnPlan, OfKind};
+ghost use Rattle.vme_races.specs.Kinds.{IsOnPlan, OfKind};
 
 use crate::walks::Stop;
 use vme_bus::{BusKind, BusState};

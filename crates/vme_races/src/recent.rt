@@ -6,7 +6,8 @@ ghost use Rattle.vme_model.specs.Numbered.{edges_in};
 ghost use Rattle.vme_model.specs.Verdict.{IsLegal};
 ghost use Rattle.vme_races.specs.Walks.{IsWalk};
 ghost use Rattle.vme_races.specs.Formed.{is_formed};
-ghost use Rattle.vme_races.specs.Kept.{AreLast, IsKindOf, IsOnPlan, IsReady, OfLast};
+ghost use Rattle.vme_races.specs.Kept.{AreLast, IsReady, OfLast};
+ghost use Rattle.vme_races.specs.Kinds.{IsKindOf, IsOnPlan};
 
 use crate::earlier::Earlier;
 use crate::walks::{Stop, Walk};
@@ -49,17 +50,19 @@ impl Recent {
         }
     }
 
-    /// How far back the next edge goes, if it is accepted. The bus is one of the plan.
-    pub(crate) fn walk(&self, bus: &BusState, edge: &Edge) -> Walk
-        ensures walk { OfLast self.now (λ v p k. IsOnPlan v p bus.now
+    /// How far back the next edge goes, if it is accepted. The state is one of the plan, which is set
+    /// to that before each edge on the way.
+    pub(crate) fn walk(&self, state: &mut BusState, edge: &Edge) -> Walk
+        ensures walk { OfLast self.now (λ v p k. IsOnPlan v p state.old
             → IsLegal v p (edge.now ∷ edges_in k) → IsWalk v p edge.now k result) }
+        ensures plan { OfLast self.now (λ v p k. IsOnPlan v p state.old
+            → IsLegal v p (edge.now ∷ edges_in k) → IsOnPlan v p state.new) }
         ensures formed { IsTrue (is_formed result.stop) }
     {
-        let mut state = *bus;
         let mut since = None;
         for place in 0..self.edges.len() {
             let earlier = &self.edges[place];
-            if let Some(stop) = earlier.stop(&mut state, edge) {
+            if let Some(stop) = earlier.stop(state, edge) {
                 return Walk {
                     passed: place,
                     since,

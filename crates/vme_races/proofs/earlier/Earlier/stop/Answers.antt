@@ -6,7 +6,7 @@ use Rattle.vme_bus.specs.declared.kinds.BusKind.{BusKind}
 use Rattle.vme_bus.specs.declared.states.BusState.{BusState}
 use Rattle.vme_bus.specs.Kinds.{kind_of}
 use Rattle.vme_bus.specs.States.{IsStateOf}
-use Rattle.vme_races.specs.Kept.{IsKindOf, IsOnPlan}
+use Rattle.vme_races.specs.Kinds.{IsKindOf, IsOnPlan}
 use Rattle.vme_races.proofs.earlier.Earlier.stop.Goals as goal
 
 -- a state of the plan that was set to the kind

@@ -8,7 +8,7 @@ use Rattle.vme_engines.specs.Outcomes.{bench}
 use Rattle.vme_races.specs.Listed.{before_met}
 use Rattle.vme_races.specs.Lines.{is_race}
 use Rattle.vme_races.proofs.OtherOrders.{order_cut, ordered, raceless_none, refused_none}
-use Rattle.vme_races.proofs.TakenIn.{legal_there, plan_there}
+use Rattle.vme_races.proofs.TakenIn.{legal_there}
 use Rattle.vme_races.proofs.other.Reordering.write_race.Goals as goal
 
 pub returns-then-is_err : goal.returns-then-is_err
@@ -19,8 +19,7 @@ returns-then-is_err g c = λ p v es are.
 pub returns-in_default : goal.returns-in_default
 returns-in_default g c = λ p v es are.
     let accepted : is_ok (verdict c.args.self.now.racing.bus c.args.edge.now) ≡ true = search rules in
-    let goes = c.walk-walk.ensures.walk v p (numbered (bench p v) es) are.0.1.last
-    (plan_there p v es c.args.self.now.racing.bus c.state-bus.result.now are.0.1.bus c.state-bus.ensures)
+    let goes = c.walk-walk.ensures.walk v p (numbered (bench p v) es) are.0.1.last are.0.1.passing
     (legal_there p v es c.args.edge.now
     (ap (λ s. is_ok (verdict s c.args.edge.now)) (sym are.0.1.bus) ∙ accepted)) in
     let none : is_race c.walk-walk.result.stop ≡ false = search rules in (
@@ -33,8 +32,7 @@ pub returns-in_err-write_order : goal.returns-in_err-write_order
 returns-in_err-write_order g c = λ p v es are.
     let e = err_from_is_err_and c.from_residual.result c.from_residual.ensures.1 in
     let accepted : is_ok (verdict c.args.self.now.racing.bus c.args.edge.now) ≡ true = search rules in
-    let goes = c.walk-walk.ensures.walk v p (numbered (bench p v) es) are.0.1.last
-    (plan_there p v es c.args.self.now.racing.bus c.state-bus.result.now are.0.1.bus c.state-bus.ensures)
+    let goes = c.walk-walk.ensures.walk v p (numbered (bench p v) es) are.0.1.last are.0.1.passing
     (legal_there p v es c.args.edge.now
     (ap (λ s. is_ok (verdict s c.args.edge.now)) (sym are.0.1.bus) ∙ accepted)) in
     rw (e.1, e.2) (order_cut p v es c.args.edge.now _ (g.W.Write.contents c.args.out.now)
@@ -45,8 +43,7 @@ returns-in_err-write_order g c = λ p v es are.
 pub returns : goal.returns
 returns g c = λ p v es are.
     let accepted : is_ok (verdict c.args.self.now.racing.bus c.args.edge.now) ≡ true = search rules in
-    let goes = c.walk-walk.ensures.walk v p (numbered (bench p v) es) are.0.1.last
-    (plan_there p v es c.args.self.now.racing.bus c.state-bus.result.now are.0.1.bus c.state-bus.ensures)
+    let goes = c.walk-walk.ensures.walk v p (numbered (bench p v) es) are.0.1.last are.0.1.passing
     (legal_there p v es c.args.edge.now
     (ap (λ s. is_ok (verdict s c.args.edge.now)) (sym are.0.1.bus) ∙ accepted)) in (
       text c.args.self.now.racing.bus.version

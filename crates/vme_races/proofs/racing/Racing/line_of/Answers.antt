@@ -3,15 +3,14 @@ use Rattle.vme_model.specs.Numbered.{numbered}
 use Rattle.vme_model.specs.Verdict.{verdict}
 use Rattle.vme_engines.specs.Outcomes.{bench}
 use Rattle.vme_races.proofs.AskedLines.{line_refused, line_walked}
-use Rattle.vme_races.proofs.TakenIn.{legal_there, plan_there}
+use Rattle.vme_races.proofs.TakenIn.{legal_there}
 use Rattle.vme_races.proofs.racing.Racing.line_of.Goals as goal
 
 pub returns-in-Ok : goal.returns-in-Ok
 returns-in-Ok c = λ p v es taken.
     line_walked p v es c.args.edge.now c.args.self.now taken c.walk_line.result.items c.walk.result
     (sym c.verdict.ensures ∙ c.in-Ok.is)
-    (c.walk.ensures.walk v p (numbered (bench p v) es) taken.1.last
-    (plan_there p v es c.args.self.now.bus c.state.result.now taken.1.bus c.state.ensures)
+    (c.walk.ensures.walk v p (numbered (bench p v) es) taken.1.last taken.1.passing
     (legal_there p v es c.args.edge.now
     (ap (λ s. is_ok (verdict s c.args.edge.now)) (sym taken.1.bus) ∙ ap is_ok (sym c.verdict.ensures ∙ c.in-Ok.is))))
     c.walk_line.ensures

@@ -43,3 +43,19 @@ returns-clause-walk c = λ v p k last on legal.
     let here = c.loop-place.invariant v p k last on legal in
     back_ends v p c.args.edge.now k c.args.self.now last c.loop-place.place c.loop-place.since
     c.end-stop.result _ here.0 (search rules) c.end-stop.ensures
+
+pub returns-in-Some-clause-plan : goal.returns-in-Some-clause-plan
+returns-in-Some-clause-plan c = λ v p k last on legal.
+    let items = c.args.self.now.edges.items in
+    let place = c.loop-place.place in
+    let a = c.index-earlier.result.now in
+    let within : place < length items = search rules in
+    let here = c.loop-place.invariant v p k last on legal in
+    let held = held_here v p c.args.edge.now k place a (drop (place + 1) items) c.loop-place.since
+    (subst (IsBack v p c.args.edge.now k place c.loop-place.since)
+    (drop_more items place a within ∙ ap (λ x. x ∷ drop (place + 1) items) (sym c.index-earlier.ensures))
+    here.0) in
+    c.in-Some.ensures.plan v p held.0 here.1 held.1
+
+pub returns-clause-plan : goal.returns-clause-plan
+returns-clause-plan c = λ v p k last on legal. (c.loop-place.invariant v p k last on legal).1
