@@ -7,7 +7,7 @@ returns-clause-kept c = λ p v is. record {
   bus = is;
   judged = refl;
   last = c.new.ensures v p;
-  passing = plan_there p v [] c.args.bus c.state.result.now is c.state.ensures;
+  passing = plan_there p v [] c.args.bus c.state-passing.result.now is c.state-passing.ensures;
   counts = c.new-2.ensures;
   walked = tt;
 }

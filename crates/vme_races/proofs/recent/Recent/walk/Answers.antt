@@ -1,4 +1,4 @@
-use Rattle.std.proofs.Common.{◌∙◌, ◌+◌, ◌<◌, ◌∷◌, ap, arith, drop, length, rules, subst, sym}
+use Rattle.std.proofs.Common.{◌≡◌, ◌∙◌, ◌+◌, ◌<◌, ◌∷◌, ap, arith, drop, length, rules, subst, sym}
 use Rattle.std.proofs.lemmas.List.{drop_more}
 use Rattle.vme_races.proofs.Passed.{IsBack, back_ends, back_first, back_more, back_stops, held_here}
 use Rattle.vme_races.proofs.recent.Recent.walk.Goals as goal
@@ -41,8 +41,12 @@ returns-in-Some-clause-walk c = λ v p k last on legal.
 pub returns-clause-walk : goal.returns-clause-walk
 returns-clause-walk c = λ v p k last on legal.
     let here = c.loop-place.invariant v p k last on legal in
-    back_ends v p c.args.edge.now k c.args.self.now last c.loop-place.place c.loop-place.since
-    c.end-stop.result _ here.0 (search rules) c.end-stop.ensures
+    let whole : c.loop-place.place ≡ c.len.result = omega arith in
+    back_ends v p c.args.edge.now k c.args.self.now last c.len.result c.loop-place.since
+    c.end-stop.result (drop c.loop-place.place c.args.self.now.edges.items)
+    (subst (λ n. IsBack v p c.args.edge.now k n c.loop-place.since
+    (drop c.loop-place.place c.args.self.now.edges.items)) whole here.0)
+    (search rules) c.end-stop.ensures
 
 pub returns-in-Some-clause-plan : goal.returns-in-Some-clause-plan
 returns-in-Some-clause-plan c = λ v p k last on legal.
