@@ -4,8 +4,11 @@ use Rattle.vme_same.proofs.rest.go_over.Goals as goal
 
 pub returns-in-Passes-clause-back : goal.returns-in-Passes-clause-back
 returns-in-Passes-clause-back c = λ v p h is legal.
-    inl (subst (StepsBack v p h c.args.left.now.edge c.args.edge.now) c.in-Passes.is
-    (c.step_back-step.ensures.steps v p h is legal), refl)
+    inl (
+      subst (StepsBack v p h c.args.left.now.edge c.args.edge.now) c.in-Passes.is
+          (c.step_back-step.ensures.steps v p h is legal),
+      refl,
+    )
 
 pub returns-in-Waits-clause-back : goal.returns-in-Waits-clause-back
 returns-in-Waits-clause-back c = λ v p h is legal.

@@ -20,7 +20,7 @@ loop-place-preserved c = λ v p k last on legal.
       back_more v p c.args.edge.now k place a (drop (place + 1) items) c.loop-place.state here.1
           c.loop-place.since back c.in_default.ensures.passes,
       (let held = held_here v p c.args.edge.now k place a (drop (place + 1) items) c.loop-place.since back in
-      c.in_default.ensures.plan v p held.0 here.1 held.1),
+          c.in_default.ensures.plan v p held.0 here.1 held.1),
     )
 
 pub returns-in-Some-clause-walk : goal.returns-in-Some-clause-walk
