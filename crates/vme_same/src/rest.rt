@@ -130,6 +130,10 @@ impl Rest {
             → GoesBack v p edge.now taken (numbers at.before) result }
         ensures formed { IfSome result (λ met. IsTrue (is_formed met)) }
     {
+        // The most edges are at the front, and for them the state need not be copied.
+        if place == 0 {
+            return None;
+        }
         let mut state = self.behind;
         let mut stop = None;
         for before in 0..place {

@@ -1,6 +1,15 @@
-use Rattle.std.proofs.Common.{◌≡◌, ◌-◌, arith, drop, length, rules, subst}
+use Rattle.std.proofs.Common.{◌≡◌, ◌-◌, None, arith, drop, length, rules, subst, sym}
 use Rattle.vme_same.proofs.Lists.{HasGone, gone_all, gone_more, gone_none}
 use Rattle.vme_same.proofs.rest.Rest.walk.Goals as goal
+
+pub returns-then-place-eq0-clause-back : goal.returns-then-place-eq0-clause-back
+returns-then-place-eq0-clause-back c = λ v p taken at is legal.
+    let items = c.args.self.now.edges.items in
+    let front : c.args.place ≡ 0 = search rules in
+    gone_all v p taken c.args.edge.now items c.args.place at c.args.self.now.behind None legal
+    (subst (λ n. HasGone v p taken c.args.edge.now (drop (length items - n) items)
+    c.args.self.now.behind None) (sym front)
+    (gone_none v p taken c.args.edge.now items c.args.self.now.behind is))
 
 pub loop-before-init : goal.loop-before-init
 loop-before-init c = record {
