@@ -7,13 +7,14 @@ use Rattle.vme_model.specs.declared.signals.Version.{Version}
 use Rattle.vme_model.specs.Plan.{Plan}
 use Rattle.vme_model.specs.Numbered.{Numbered, edges_in}
 use Rattle.vme_model.specs.Verdict.{IsLegal}
-use Rattle.vme_bus.specs.States.{OfHistory}
+use Rattle.vme_bus.specs.declared.states.BusState.{BusState}
 use Rattle.vme_swaps.specs.Swaps.{IsFree}
 use Rattle.vme_races.specs.declared.earlier.Earlier.{Earlier}
 use Rattle.vme_races.specs.declared.recent.Recent.{Recent}
 use Rattle.vme_races.specs.declared.walks.Stop.{Stop}
 use Rattle.vme_races.specs.declared.walks.Stop.TheVariants.{Begins, Far, Waits, Races}
 use Rattle.vme_races.specs.Walks.{IsWalk, Meets, Passes, Stops, most_passed, oldest}
+use Rattle.vme_races.specs.Kinds.{IsKindOf, IsOnPlan, OfKind}
 use Rattle.vme_races.specs.Kept.{AreHeld, AreLast}
 
 -- the edge came back over so many of k, the oldest of which has this number; these are held behind
@@ -65,31 +66,41 @@ module _ (v : Version) (p : Plan) (e : Edge) where
       held = held;
     }
 
-    module _ (count : ℕ) (a : Earlier) (others : List Earlier) where
+    -- the bus before the next one that is held
+    held_by : (a : Earlier) (others : List Earlier) (rest : Numbered) → AreHeld v p rest (a ∷ others)
+        → (h : List Edge) × IsKindOf v p h a.before
+    held_by a others [] held = absurd held
+    held_by a others ((n, d) ∷ rest) held = (edges_in rest, held.2)
+
+    pub held_here : (count : ℕ) (a : Earlier) (others : List Earlier) (from : Option ℕ)
+        → IsBack v p e k count from (a ∷ others) → (h : List Edge) × IsKindOf v p h a.before
+    held_here count a others from is = held_by a others is.rest is.held
+
+    module _ (count : ℕ) (a : Earlier) (others : List Earlier) (b : BusState) (on : IsOnPlan v p b) where
       more_by : (passed rest : Numbered) → k ≡ passed ++ rest → length passed ≡ count
           → Passes v p e passed rest → IsLegal v p (e ∷ edges_in rest) → AreHeld v p rest (a ∷ others)
-          → OfHistory a.before (λ w q h. IsLegal w q (e ∷ a.edge ∷ h) → IsFree w q h a.edge e)
+          → OfKind b a.before (λ w q h. IsLegal w q (e ∷ a.edge ∷ h) → IsFree w q h a.edge e)
           → IsBack v p e k (count + 1) (Some a.number) others
       more_by passed [] split many passes legal held free = absurd held
-      more_by passed ((n, b) ∷ rest) split many passes legal held free =
-          let goes : IsFree v p (edges_in rest) b e =
+      more_by passed ((n, d) ∷ rest) split many passes legal held free =
+          let goes : IsFree v p (edges_in rest) d e =
           subst (λ (x : Edge). IsFree v p (edges_in rest) x e) held.1
-          (free v p (edges_in rest) held.2
+          (free v p (edges_in rest) on held.2
           (subst (λ (x : Edge). IsLegal v p (e ∷ x ∷ edges_in rest)) (sym held.1) legal)) in
           record {
-            passed = passed ++ (n, b) ∷ [];
+            passed = passed ++ (n, d) ∷ [];
             rest = rest;
-            split = split ∙ sym (append_assoc passed ((n, b) ∷ []) rest);
-            many = length-append passed ((n, b) ∷ []) ∙ ap (λ m. m + 1) many;
-            passes = passes_more passed rest n b passes goes;
-            since = ap (λ m. Some m) held.0 ∙ sym (oldest_more passed n b);
+            split = split ∙ sym (append_assoc passed ((n, d) ∷ []) rest);
+            many = length-append passed ((n, d) ∷ []) ∙ ap (λ m. m + 1) many;
+            passes = passes_more passed rest n d passes goes;
+            since = ap (λ m. Some m) held.0 ∙ sym (oldest_more passed n d);
             legal = goes.swapped.1;
             held = held.3;
           }
 
       -- over one more
       pub back_more : (from : Option ℕ) → IsBack v p e k count from (a ∷ others)
-          → OfHistory a.before (λ w q h. IsLegal w q (e ∷ a.edge ∷ h) → IsFree w q h a.edge e)
+          → OfKind b a.before (λ w q h. IsLegal w q (e ∷ a.edge ∷ h) → IsFree w q h a.edge e)
           → IsBack v p e k (count + 1) (Some a.number) others
       back_more from is free =
           more_by is.passed is.rest is.split is.many is.passes is.legal is.held free
@@ -97,22 +108,22 @@ module _ (v : Version) (p : Plan) (e : Edge) where
       stop_by : (from : Option ℕ) (stop : Stop) (passed rest : Numbered) → k ≡ passed ++ rest
           → length passed ≡ count → Passes v p e passed rest → IsLegal v p (e ∷ edges_in rest)
           → AreHeld v p rest (a ∷ others) → from ≡ oldest passed → count < most_passed
-          → OfHistory a.before (λ w q h. IsLegal w q (e ∷ a.edge ∷ h) → ¬ IsFree w q h a.edge e
+          → OfKind b a.before (λ w q h. IsLegal w q (e ∷ a.edge ∷ h) → ¬ IsFree w q h a.edge e
           × Meets w q e a.number a.edge h stop)
           → IsWalk v p e k (record { passed = count; since = from; stop = stop })
       stop_by from stop passed [] split many passes legal held since less stops = absurd held
-      stop_by from stop passed ((n, b) ∷ rest) split many passes legal held since less stops =
-          let meets = stops v p (edges_in rest) held.2
+      stop_by from stop passed ((n, d) ∷ rest) split many passes legal held since less stops =
+          let meets = stops v p (edges_in rest) on held.2
           (subst (λ (x : Edge). IsLegal v p (e ∷ x ∷ edges_in rest)) (sym held.1) legal) in
           record {
             passed = passed;
-            rest = (n, b) ∷ rest;
+            rest = (n, d) ∷ rest;
             split = split;
             passes = passes;
             most = omega (arith, many, less);
             count = sym many;
             since = since;
-            stops = stops_by (length passed) n b rest stop (omega (arith, many, less))
+            stops = stops_by (length passed) n d rest stop (omega (arith, many, less))
                 (λ free. meets.0 (subst (λ (x : Edge). IsFree v p (edges_in rest) x e) (sym held.1) free))
                 (subst (λ (x : Edge). Meets v p e n x (edges_in rest) stop) held.1
                 (subst (λ (m : ℕ). Meets v p e m a.edge (edges_in rest) stop) held.0 meets.1));
@@ -121,7 +132,7 @@ module _ (v : Version) (p : Plan) (e : Edge) where
       -- the next one stops it
       pub back_stops : (from : Option ℕ) (stop : Stop) → IsBack v p e k count from (a ∷ others)
           → count < most_passed
-          → OfHistory a.before (λ w q h. IsLegal w q (e ∷ a.edge ∷ h) → ¬ IsFree w q h a.edge e
+          → OfKind b a.before (λ w q h. IsLegal w q (e ∷ a.edge ∷ h) → ¬ IsFree w q h a.edge e
           × Meets w q e a.number a.edge h stop)
           → IsWalk v p e k (record { passed = count; since = from; stop = stop })
       back_stops from stop is less stops =

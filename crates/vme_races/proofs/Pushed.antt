@@ -4,9 +4,9 @@ use Rattle.std.proofs.lemmas.List.{length-take}
 use Rattle.vme_model.specs.declared.signals.Version.{Version}
 use Rattle.vme_model.specs.Plan.{Plan}
 use Rattle.vme_model.specs.Numbered.{Numbered, edges_in}
-use Rattle.vme_bus.specs.States.{IsStateOf}
 use Rattle.vme_races.specs.declared.earlier.Earlier.{Earlier}
 use Rattle.vme_races.specs.declared.recent.Recent.{Recent}
+use Rattle.vme_races.specs.Kinds.{IsKindOf}
 use Rattle.vme_races.specs.Kept.{AreHeld, AreLast, IsReady}
 
 module _ (v : Version) (p : Plan) where
@@ -43,7 +43,7 @@ module _ (v : Version) (p : Plan) where
         }
 
   pub pushed : (k : Numbered) (mid now : Recent) (a : Earlier) → IsReady v p k mid
-      → IsStateOf v p (edges_in k) a.before → now.edges.items ≡ a ∷ mid.edges.items
+      → IsKindOf v p (edges_in k) a.before → now.edges.items ≡ a ∷ mid.edges.items
       → now.has_more ≡ mid.has_more → AreLast v p ((a.number, a.edge) ∷ k) now
   pushed k mid now a ready state is same =
       let new = ap length is in

@@ -11,6 +11,8 @@ use Rattle.vme_model.specs.Numbered.{Numbered, edges_in, numbered, numbered_on, 
 use Rattle.vme_model.specs.Verdict.{IsLegal, Judgement, State, after, judged, kept, made, verdict, verdict_but_full}
 use Rattle.vme_histories.proofs.Judged as judging
 use Rattle.vme_bus.specs.declared.states.BusState.{BusState}
+use Rattle.vme_bus.specs.declared.kinds.BusKind.{BusKind}
+use Rattle.vme_bus.specs.Kinds.{kind_of}
 use Rattle.vme_bus.specs.States.{IsStateOf}
 use Rattle.vme_trace.specs.declared.Fault.{Fault}
 use Rattle.vme_trace.specs.declared.Fault.TheVariants.{Memory, Write}
@@ -24,6 +26,7 @@ use Rattle.vme_races.specs.declared.walks.Walk.{Walk}
 use Rattle.vme_races.specs.Walks.{AreWalks, IsWalk}
 use Rattle.vme_races.specs.Lines.{count_if, free_in, is_back, is_race, is_wait, race_line, race_lines, races_in, waits_in}
 use Rattle.vme_races.specs.Outcomes.{AreLines}
+use Rattle.vme_races.specs.Kinds.{IsKindOf, IsOnPlan}
 use Rattle.vme_races.specs.Kept.{Advances, AreLast, Breaks, IsCounted, IsKept, Stands}
 
 -- ---- how many walks there are
@@ -189,9 +192,10 @@ module _ (p : Plan) (v : Version) (es : List Edge) (e : Edge) where
     -- the next edge is accepted
     pub advances_accepted : (walk : Walk) (line : List ℕ) → is_ok (verdict old.bus e) ≡ true
         → AreLast v p ((old.judged + 1, e) ∷ numbered (bench p v) es) now.recent
+        → IsOnPlan v p now.passing
         → IsCounted (walk ∷ walks) now.counts → IsWalk v p e (numbered (bench p v) es) walk
         → line ≡ race_line (old.judged + 1) e walk.stop → Advances p v es walks e line now
-    advances_accepted walk line ok last counts goes text =
+    advances_accepted walk line ok last passing counts goes text =
         let k = numbered (bench p v) es in
         let there = judged_there true ok in
         let all : (old.judged + 1, e) ∷ k ≡ numbered (bench p v) (es ++ e ∷ []) = numbered_by true (old.judged + 1) there number_is in (
@@ -200,6 +204,7 @@ module _ (p : Plan) (v : Version) (es : List Edge) (e : Edge) where
             bus = bus_next;
             judged = judged_next;
             last = subst (λ (m : Numbered). AreLast v p m now.recent) all last;
+            passing = passing;
             counts = counts;
             walked = subst (λ (m : Numbered). AreWalks v p m (walk ∷ walks)) all (goes, is.walked);
           },
@@ -208,9 +213,9 @@ module _ (p : Plan) (v : Version) (es : List Edge) (e : Edge) where
 
     -- it is refused
     pub advances_refused : (line : List ℕ) → line ≡ [] → is_ok (verdict old.bus e) ≡ false
-        → now.recent ≡ old.recent → now.counts ≡ old.counts
+        → now.recent ≡ old.recent → now.passing ≡ old.passing → now.counts ≡ old.counts
         → Advances p v es walks e line now
-    advances_refused line empty refused recent counts =
+    advances_refused line empty refused recent passing counts =
         let k = numbered (bench p v) es in
         let all : k ≡ numbered (bench p v) (es ++ e ∷ []) = numbered_by false (old.judged + 1) (judged_there false refused) number_is in (
           walks,
@@ -218,6 +223,7 @@ module _ (p : Plan) (v : Version) (es : List Edge) (e : Edge) where
             bus = bus_next;
             judged = judged_next;
             last = subst (λ (m : Numbered). AreLast v p m now.recent) all (subst (AreLast v p k) (sym recent) is.last);
+            passing = subst (IsOnPlan v p) (sym passing) is.passing;
             counts = subst (IsCounted walks) (sym counts) is.counts;
             walked = subst (λ (m : Numbered). AreWalks v p m walks) all is.walked;
           },
@@ -233,7 +239,7 @@ pub accepted_made : (b : State) (e : Edge) → is_ok (verdict b e) ≡ true → 
 accepted_made b e accepted = ap (λ (t : Bool). if t then made b e else b) accepted
 
 -- where the bus stands is kept of its edges
-pub state_there : (p : Plan) (v : Version) (es : List Edge) (b : State) (s : BusState)
+state_there : (p : Plan) (v : Version) (es : List Edge) (b : State) (s : BusState)
     → b ≡ kept (bench p v) es → IsStateOf b.version b.plan b.history s
     → IsStateOf v p (edges_in (numbered (bench p v) es)) s
 state_there p v es b s is state =
@@ -243,6 +249,16 @@ state_there p v es b s is state =
     (ap (λ (c : State). c.plan) is ∙ kept_plan (bench p v) es)
     (subst (λ (h : List Edge). IsStateOf b.version b.plan h s)
     (ap (λ (c : State). c.history) is ∙ sym (edges_on (bench p v) 0 [] es refl)) state))
+
+-- it is one of the plan, and its kind is kept of the edges too
+pub plan_there : (p : Plan) (v : Version) (es : List Edge) (b : State) (s : BusState)
+    → b ≡ kept (bench p v) es → IsStateOf b.version b.plan b.history s → IsOnPlan v p s
+plan_there p v es b s is state = (_, state_there p v es b s is state)
+
+pub kind_there : (p : Plan) (v : Version) (es : List Edge) (b : State) (s : BusState) (kind : BusKind)
+    → b ≡ kept (bench p v) es → IsStateOf b.version b.plan b.history s → kind ≡ kind_of s
+    → IsKindOf v p (edges_in (numbered (bench p v) es)) kind
+kind_there p v es b s kind is state of = (s, state_there p v es b s is state, sym of)
 
 -- ---- in the loop over edges
 

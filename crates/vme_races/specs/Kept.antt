@@ -6,7 +6,6 @@ use Rattle.vme_model.specs.declared.signals.Edge.{Edge}
 use Rattle.vme_model.specs.Plan.{Plan}
 use Rattle.vme_model.specs.Numbered.{Numbered, edges_in, numbered}
 use Rattle.vme_model.specs.Verdict.{kept}
-use Rattle.vme_bus.specs.States.{IsStateOf}
 use Rattle.vme_trace.specs.declared.Fault.{Fault}
 use Rattle.vme_trace.specs.declared.Fault.TheVariants.{Memory, Write}
 use Rattle.vme_trace.specs.Writing.{AppendsFront}
@@ -18,6 +17,7 @@ use Rattle.vme_races.specs.declared.racing.Racing.{Racing}
 use Rattle.vme_races.specs.declared.walks.Stop.{Stop}
 use Rattle.vme_races.specs.declared.walks.Walk.{Walk}
 use Rattle.vme_races.specs.Walks.{AreWalks, most_passed}
+use Rattle.vme_races.specs.Kinds.{IsKindOf, IsOnPlan}
 use Rattle.vme_races.specs.Lines.{free_in, race_line, race_lines, races_in, waits_in}
 use Rattle.vme_races.specs.Outcomes.{AreLines, IsText}
 
@@ -28,7 +28,7 @@ abbrev pub AreHeld : Version → Plan → Numbered → List Earlier → Type 0
 AreHeld v p k [] = Unit {0}
 AreHeld v p [] (a ∷ others) = ⊥
 AreHeld v p ((n, e) ∷ k) (a ∷ others) =
-    (a.number ≡ n) × (a.edge ≡ e) × IsStateOf v p (edges_in k) a.before × AreHeld v p k others
+    (a.number ≡ n) × (a.edge ≡ e) × IsKindOf v p (edges_in k) a.before × AreHeld v p k others
 
 -- all of them that can be passed are there
 pub record AreLast (v : Version) (p : Plan) (k : Numbered) (now : Recent) : Type 0 where
@@ -61,6 +61,7 @@ pub record IsKept (p : Plan) (v : Version) (es : List Edge) (walks : List Walk) 
   pub bus : now.bus ≡ kept (bench p v) es
   pub judged : now.judged ≡ length es
   pub last : AreLast v p (numbered (bench p v) es) now.recent
+  pub passing : IsOnPlan v p now.passing
   pub counts : IsCounted walks now.counts
   pub walked : AreWalks v p (numbered (bench p v) es) walks
 

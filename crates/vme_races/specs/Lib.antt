@@ -13,6 +13,8 @@ pub mod Asked
 pub mod Other
 -- words: an edge that is met is well formed
 pub mod Formed
+-- words: the bus before an edge, by what of it is kept
+pub mod Kinds
 -- words: what is kept of the edges so far
 pub mod Kept
 -- words: a trace that is read up to the edge that is asked for

@@ -82,9 +82,10 @@ impl Racing {
             → AreTaken p v es self.now → IsLineOf p v es edge.now result.1 result.0.items }
     {
         let number = self.judged + 1;
+        let mut passing = self.passing;
         match self.bus.verdict(*edge) {
             Ok(()) => (
-                walk_line(number, edge, &self.recent.walk(edge)),
+                walk_line(number, edge, &self.recent.walk(&mut passing, edge)),
                 Status::Done,
             ),
             Err(refused) => (refused_line(number, edge, refused), Status::SomeRefused),

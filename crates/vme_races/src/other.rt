@@ -138,7 +138,8 @@ impl Reordering {
         if self.racing.bus.verdict(*edge).is_err() {
             return Ok(OtherOrder::NoRace);
         }
-        let walk = self.racing.recent.walk(edge);
+        let mut passing = self.racing.passing;
+        let walk = self.racing.recent.walk(&mut passing, edge);
         let Stop::Races { edge: met, .. } = walk.stop else {
             return Ok(OtherOrder::NoRace);
         };

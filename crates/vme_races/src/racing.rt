@@ -21,8 +21,9 @@ use crate::recent::Recent;
 use crate::walks::{Stop, Walk};
 use std::alloc::Global;
 use std::io::Write;
-use vme_bus::Bus;
-use vme_model::Edge;
+use vme_bus::{Bus, BusState};
+use vme_histories::by_wire;
+use vme_model::{Edge, Refused, Wire};
 use vme_trace::{Fault, put};
 
 /// How many edges went back, and how.
@@ -43,6 +44,8 @@ pub(crate) struct Racing {
     /// How many edges were judged.
     pub(crate) judged: u64,
     pub(crate) recent: Recent,
+    /// A bus of the plan, which is set to that before each edge that another may pass.
+    pub(crate) passing: BusState,
     pub(crate) counts: Counts,
 }
 
@@ -76,6 +79,21 @@ impl Counts {
     }
 }
 
+/// The answer to an edge, in an arm for each wire.
+fn verdict(bus: &Bus, edge: Edge) -> Result<(), Refused>
+    ensures { result ≡ verdict bus.now edge }
+{
+    by_wire!(edge => bus.verdict(edge))
+}
+
+/// Makes an edge that would be accepted, in an arm for each wire.
+fn make(bus: &mut Bus, edge: Edge)
+    requires { verdict bus.old edge ≡ Ok tt }
+    ensures { bus.new ≡ made bus.old edge }
+{
+    by_wire!(edge => bus.make(edge))
+}
+
 impl Racing {
     /// Before the first edge.
     pub(crate) fn new(alloc: Global, bus: Bus) -> Racing
@@ -83,10 +101,12 @@ impl Racing {
         ensures kept { (p : PlanValue) (v : VersionValue) → bus ≡ bench p v
             → IsKept p v [] [] result }
     {
+        let passing = *bus.state();
         Racing {
             bus,
             judged: 0,
             recent: Recent::new(alloc),
+            passing,
             counts: Counts::new(),
         }
     }
@@ -105,14 +125,15 @@ impl Racing {
             → AreLast v p ((number, edge.now) ∷ numbered (bench p v) es) self.new.recent) }
         ensures judged { self.new.judged ≡ self.old.judged }
         ensures counts { self.new.counts ≡ self.old.counts }
+        ensures passing { self.new.passing ≡ self.old.passing }
         ensures fault { IfErr result (λ fault. fault ≡ Fault.Memory) }
     {
         self.recent.push(Earlier {
             number,
             edge: *edge,
-            before: *self.bus.state(),
+            before: self.bus.state().to_kind(),
         })?;
-        self.bus.make(*edge);
+        make(&mut self.bus, *edge);
         Ok(())
     }
 
@@ -131,10 +152,10 @@ impl Racing {
         ensures fault { IfErr result (λ fault. fault ≡ Fault.Memory) }
     {
         self.judged += 1;
-        if self.bus.verdict(*edge).is_err() {
+        if verdict(&self.bus, *edge).is_err() {
             return Ok(None);
         }
-        let walk = self.recent.walk(edge);
+        let walk = self.recent.walk(&mut self.passing, edge);
         let number = self.judged;
         self.keep(number, edge)?;
         self.counts.note(&walk);

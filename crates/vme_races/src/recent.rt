@@ -4,15 +4,16 @@ ghost use Rattle.vme_model.specs.declared.signals.Version.{Version};
 ghost use Rattle.vme_model.specs.Plan.{Plan};
 ghost use Rattle.vme_model.specs.Numbered.{edges_in};
 ghost use Rattle.vme_model.specs.Verdict.{IsLegal};
-ghost use Rattle.vme_bus.specs.States.{IsStateOf};
 ghost use Rattle.vme_races.specs.Walks.{IsWalk};
 ghost use Rattle.vme_races.specs.Formed.{is_formed};
 ghost use Rattle.vme_races.specs.Kept.{AreLast, IsReady, OfLast};
+ghost use Rattle.vme_races.specs.Kinds.{IsKindOf, IsOnPlan};
 
 use crate::earlier::Earlier;
 use crate::walks::{Stop, Walk};
 use std::alloc::Global;
 use std::collections::VecDeque;
+use vme_bus::BusState;
 use vme_model::Edge;
 use vme_trace::Fault;
 
@@ -49,16 +50,19 @@ impl Recent {
         }
     }
 
-    /// How far back the next edge goes, if it is accepted.
-    pub(crate) fn walk(&self, edge: &Edge) -> Walk
-        ensures walk { OfLast self.now (λ v p k. IsLegal v p (edge.now ∷ edges_in k)
-            → IsWalk v p edge.now k result) }
+    /// How far back the next edge goes, if it is accepted. The state is one of the plan, which is set
+    /// to that before each edge on the way.
+    pub(crate) fn walk(&self, state: &mut BusState, edge: &Edge) -> Walk
+        ensures walk { OfLast self.now (λ v p k. IsOnPlan v p state.old
+            → IsLegal v p (edge.now ∷ edges_in k) → IsWalk v p edge.now k result) }
+        ensures plan { OfLast self.now (λ v p k. IsOnPlan v p state.old
+            → IsLegal v p (edge.now ∷ edges_in k) → IsOnPlan v p state.new) }
         ensures formed { IsTrue (is_formed result.stop) }
     {
         let mut since = None;
         for place in 0..self.edges.len() {
             let earlier = &self.edges[place];
-            if let Some(stop) = earlier.stop(edge) {
+            if let Some(stop) = earlier.stop(state, edge) {
                 return Walk {
                     passed: place,
                     since,
@@ -92,7 +96,7 @@ impl Recent {
     /// X6.
     pub(crate) fn push(&mut self, earlier: Earlier) -> Result<(), Fault>
         ensures last { OnOk result (OfLast self.old (λ v p k.
-            IsStateOf v p (edges_in k) earlier.before
+            IsKindOf v p (edges_in k) earlier.before
             → AreLast v p ((earlier.number, earlier.edge) ∷ k) self.new)) }
         ensures fault { IfErr result (λ fault. fault ≡ Fault.Memory) }
     {

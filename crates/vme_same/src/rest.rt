@@ -44,16 +44,21 @@ pub(crate) fn is_same(edge: &Edge, other: &Edge) -> bool
         && edge.value == other.value
 }
 
-/// What stops an edge on its way back over these and one more, the newest of them.
-fn go_over(state: &BusState, left: &Left, edge: &Edge, stop: Option<Stop>) -> Option<Stop>
-    ensures back { OfHistory state.now (λ v p h. IsLegal v p (edge.now ∷ left.now.edge ∷ h)
+/// What stops an edge on its way back over these and one more, the newest of them. The state before
+/// that one is left as it was.
+fn go_over(state: &mut BusState, left: &Left, edge: &Edge, stop: Option<Stop>) -> Option<Stop>
+    ensures back { OfHistory state.old (λ v p h. IsLegal v p (edge.now ∷ left.now.edge ∷ h)
         → (IsFree v p h left.now.edge edge.now × (result ≡ stop))
         ⊎ (¬ IsFree v p h left.now.edge edge.now × (met : StopValue) × (result ≡ Some met)
         × Meets v p edge.now left.now.number left.now.edge h met)) }
     ensures formed { IfSome stop (λ met. IsTrue (is_formed met))
         → IfSome result (λ met. IsTrue (is_formed met)) }
+    ensures state { OfHistory state.old (λ v p h. IsStateOf v p h state.new) }
 {
-    match step_back(state, left.edge, *edge) {
+    let before = state.to_kind();
+    let step = step_back(state, left.edge, *edge);
+    state.set_kind(&before);
+    match step {
         StepBack::Passes => stop,
         StepBack::Waits(refused) => Some(Stop::Waits {
             number: left.number,
@@ -125,11 +130,15 @@ impl Rest {
             → GoesBack v p edge.now taken (numbers at.before) result }
         ensures formed { IfSome result (λ met. IsTrue (is_formed met)) }
     {
+        // The most edges are at the front, and for them the state need not be copied.
+        if place == 0 {
+            return None;
+        }
         let mut state = self.behind;
         let mut stop = None;
         for before in 0..place {
             let left = self.at(before);
-            stop = go_over(&state, left, edge, stop);
+            stop = go_over(&mut state, left, edge, stop);
             state.note(left.edge);
         }
         stop

@@ -1,6 +1,6 @@
 -- Two edges that are allowed in both orders are free, unless one of them is an answer that serves the
 -- request that the other makes.
-use Rattle.std.proofs.Common.{◌≡◌, ◌∙◌, refl, sym, ap, Bool, true, false, List, ◌∷◌}
+use Rattle.std.proofs.Common.{◌≡◌, ◌∙◌, refl, sym, ap, subst, is_ok, Bool, true, false, List, ◌∷◌}
 use Rattle.std.specs.Prelude.{◌&&◌, ◌||◌, ◌↔◌, not, if◌then◌else◌, Option, Some, None, Ok, Err, IsTrue}
 use Rattle.std.specs.Option.{option_map_or}
 use Rattle.vme_model.specs.declared.boards.Row.{Row}
@@ -22,9 +22,11 @@ use Rattle.vme_model.specs.GrantSafety.{is_fall_on}
 use Rattle.vme_model.specs.Verdict.{IsLegal, Judgement, verdict_but_full}
 use Rattle.vme_model.proofs.Bools.{and_left, and_right, not_true}
 use Rattle.vme_histories.proofs.Others.{same_wire}
-use Rattle.vme_bus.specs.Steps.{answer_but_full}
+use Rattle.vme_bus.specs.declared.states.BusState.{BusState}
+use Rattle.vme_bus.specs.States.{IsStateOf}
+use Rattle.vme_bus.specs.Steps.{answer_but_full, kept_but_full}
 use Rattle.vme_swaps.specs.Alike.{StandAlike}
-use Rattle.vme_swaps.specs.declared.swaps.StepBack.TheVariants.{Passes, Races}
+use Rattle.vme_swaps.specs.declared.swaps.StepBack.TheVariants.{Passes, Waits, Races}
 use Rattle.vme_swaps.specs.Swaps.{IsFree, StepsBack}
 use Rattle.vme_swaps.specs.Served.{is_serving, serves_request}
 use Rattle.vme_swaps.proofs.Alike.{served_on, served_by, shown_kept, addressing_kept, alike_sym}
@@ -208,6 +210,10 @@ differs version p h a b accepted legal swapped =
 -- how the second goes back over the first
 
 module _ (version : Version) (p : Plan) (h : List Edge) (a b : Edge) where
+  -- the second is refused in front of the first
+  pub waits : (r : Refused) → verdict_but_full version p h b ≡ Err r → StepsBack version p h a b (Waits r)
+  waits r is = (λ free. (let alone = free.swapped.1.0 in absurd (cc (alone, is))), is)
+
   module _ (accepted : IsAccepted p) (legal : IsLegal version p (b ∷ a ∷ h)) (alone : verdict_but_full version p h b ≡ Ok tt) where
     -- the first is refused behind it
     pub races : (r : Refused) → Err r ≡ verdict_but_full version p (b ∷ h) a → StepsBack version p h a b (Races (Err r))
@@ -242,3 +248,10 @@ accepted_by (Err s) d x is = absurd (cc)
 pub accepted_so : (version : Version) (p : Plan) (h : List Edge) (e : Edge) (x : Option Delivery)
     → Ok x ≡ answer_but_full version p h e → verdict_but_full version p h e ≡ Ok tt
 accepted_so version p h e x is = accepted_by (verdict_but_full version p h e) (delivery p h e) x is
+
+-- the state behind an edge that is accepted
+pub taken_so : (version : Version) (p : Plan) (h : List Edge) (e : Edge) (s : BusState)
+    → verdict_but_full version p h e ≡ Ok tt → IsStateOf version p (kept_but_full version p h e) s
+    → IsStateOf version p (e ∷ h) s
+taken_so version p h e s is state =
+    subst (λ (j : Judgement). IsStateOf version p (if is_ok j then e ∷ h else h) s) is state

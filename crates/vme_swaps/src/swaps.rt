@@ -2,12 +2,14 @@
 ghost use Rattle.std.specs.Prelude.{◌≡◌, ◌∷◌, ◌||◌};
 ghost use Rattle.vme_model.specs.History.{shown};
 ghost use Rattle.vme_model.specs.Plan.{board_of};
-ghost use Rattle.vme_model.specs.Verdict.{IsLegal};
-ghost use Rattle.vme_bus.specs.States.{OfHistory};
+ghost use Rattle.vme_model.specs.Verdict.{IsLegal, verdict_but_full};
+ghost use Rattle.vme_bus.specs.States.{IsStateOf, OfHistory};
+ghost use Rattle.vme_bus.specs.Steps.{kept_but_full};
 ghost use Rattle.vme_swaps.specs.Served.{is_serving, serves_request};
 ghost use Rattle.vme_swaps.specs.Swaps.{StepsBack};
 
 use vme_bus::BusState;
+use vme_histories::by_wire;
 use vme_interrupter::serves;
 use vme_model::{Driver, Edge, Refused, Wire};
 
@@ -57,26 +59,35 @@ fn is_request_served(state: &BusState, first: Edge, second: Edge) -> bool
     serves_request(state, first, second) || serves_request(state, second, first)
 }
 
-/// How an edge goes back over `first`, the edge before it, after the edges that lead to the state
-/// `before`. The two are legal as they came.
+/// The first of E1 to E4 that applies to an edge, in an arm for each wire.
+#[inline(always)]
+fn judge_by_wire(state: &BusState, edge: Edge) -> Result<(), Refused>
+    ensures { OfHistory state.now (λ version p h. result ≡ verdict_but_full version p h edge) }
+{
+    by_wire!(edge => state.judge(edge))
+}
+
+/// How an edge goes back over `first`, the edge before it, after the edges that lead to the state.
+/// The two are legal as they came. The state takes the edge, unless it is refused.
 ///
 /// So only their other order is judged. The two orders need not be compared by all that they lead
 /// to. If both are legal, one thing alone can differ: an answer serves an interrupt request of its
 /// own board that was there before it, and not one that comes after it. At most two edges are
-/// judged, and the state is copied at most once.
-pub fn step_back(before: &BusState, first: Edge, edge: Edge) -> StepBack
-    ensures { OfHistory before.now (λ version p h. IsLegal version p (edge ∷ first ∷ h)
+/// judged, and nothing is copied.
+pub fn step_back(state: &mut BusState, first: Edge, edge: Edge) -> StepBack
+    ensures steps { OfHistory state.old (λ version p h. IsLegal version p (edge ∷ first ∷ h)
         → StepsBack version p h first edge result) }
+    ensures state { OfHistory state.old (λ version p h.
+        IsStateOf version p (kept_but_full version p h edge) state.new) }
 {
-    if let Err(refused) = before.judge(edge) {
+    let is_served = is_request_served(state, first, edge);
+    if let Err(refused) = state.step(edge) {
         return StepBack::Waits(refused);
     }
-    let mut behind = *before;
-    behind.note(edge);
-    if let Err(refused) = behind.step(first) {
+    if let Err(refused) = judge_by_wire(state, first) {
         return StepBack::Races(Err(refused));
     }
-    if is_request_served(before, first, edge) {
+    if is_served {
         StepBack::Races(Ok(()))
     } else {
         StepBack::Passes

@@ -1,30 +1,41 @@
-use Rattle.std.proofs.Common.{◌≡◌, ◌∙◌, ◌∷◌, Ok, rules, sym}
+use Rattle.std.proofs.Common.{◌≡◌, ◌∙◌, ◌∷◌, Ok, sym}
 use Rattle.vme_model.specs.Verdict.{verdict_but_full}
-use Rattle.vme_swaps.proofs.Free.{accepted_so, passes, races, races_served, refused_so}
+use Rattle.vme_swaps.proofs.Free.{accepted_so, passes, races, races_served, refused_so, taken_so, waits}
 use Rattle.vme_swaps.proofs.swaps.step_back.Goals as goal
 
-pub returns-in-Err-step : goal.returns-in-Err-step
-returns-in-Err-step c = λ version p h is legal.
-    let alone : verdict_but_full version p h c.args.edge ≡ Ok tt = search rules in
-    let state = c.note.ensures version p h is alone in
-    races version p h c.args.first c.args.edge is.accepted legal alone c.in-Err-step.refused
-    (sym (refused_so version p (c.args.edge ∷ h) c.args.first c.in-Err-step.refused
-    (sym c.in-Err-step.is ∙ c.step.ensures.answer version p (c.args.edge ∷ h) state)))
+pub returns-in-Err-clause-steps : goal.returns-in-Err-clause-steps
+returns-in-Err-clause-steps c = λ version p h is legal.
+    waits version p h c.args.first c.args.edge c.in-Err.refused
+    (refused_so version p h c.args.edge c.in-Err.refused
+    (sym c.in-Err.is ∙ c.step.ensures.answer version p h is))
 
-pub returns-then-is_request_served : goal.returns-then-is_request_served
-returns-then-is_request_served c = λ version p h is legal.
-    let alone : verdict_but_full version p h c.args.edge ≡ Ok tt = search rules in
-    let state = c.note.ensures version p h is alone in
+pub returns-in-Err-judge_by_wire-clause-steps : goal.returns-in-Err-judge_by_wire-clause-steps
+returns-in-Err-judge_by_wire-clause-steps c = λ version p h is legal.
+    let alone : verdict_but_full version p h c.args.edge ≡ Ok tt =
+    accepted_so version p h c.args.edge c.in_default.field-0
+    (sym c.in_default.is ∙ c.step.ensures.answer version p h is) in
+    let state = taken_so version p h c.args.edge c.step.new.self alone (c.step.ensures.state version p h is) in
+    races version p h c.args.first c.args.edge is.accepted legal alone c.in-Err-judge_by_wire.refused
+    (sym c.in-Err-judge_by_wire.is ∙ c.judge_by_wire.ensures version p (c.args.edge ∷ h) state)
+
+pub returns-then-is_served-clause-steps : goal.returns-then-is_served-clause-steps
+returns-then-is_served-clause-steps c = λ version p h is legal.
+    let alone : verdict_but_full version p h c.args.edge ≡ Ok tt =
+    accepted_so version p h c.args.edge c.in_default.field-0
+    (sym c.in_default.is ∙ c.step.ensures.answer version p h is) in
+    let state = taken_so version p h c.args.edge c.step.new.self alone (c.step.ensures.state version p h is) in
     races_served version p h c.args.first c.args.edge is.accepted legal alone
-    (sym (accepted_so version p (c.args.edge ∷ h) c.args.first c.in_default-step.field-0
-    (sym c.in_default-step.is ∙ c.step.ensures.answer version p (c.args.edge ∷ h) state)))
-    c.is_request_served.result (c.is_request_served.ensures version p h is) c.if-is_request_served.true
+    (sym c.in_default-judge_by_wire.is ∙ c.judge_by_wire.ensures version p (c.args.edge ∷ h) state)
+    c.is_request_served-is_served.result (c.is_request_served-is_served.ensures version p h is)
+    c.if-is_served.true
 
-pub returns-else-is_request_served : goal.returns-else-is_request_served
-returns-else-is_request_served c = λ version p h is legal.
-    let alone : verdict_but_full version p h c.args.edge ≡ Ok tt = search rules in
-    let state = c.note.ensures version p h is alone in
+pub returns-else-is_served-clause-steps : goal.returns-else-is_served-clause-steps
+returns-else-is_served-clause-steps c = λ version p h is legal.
+    let alone : verdict_but_full version p h c.args.edge ≡ Ok tt =
+    accepted_so version p h c.args.edge c.in_default.field-0
+    (sym c.in_default.is ∙ c.step.ensures.answer version p h is) in
+    let state = taken_so version p h c.args.edge c.step.new.self alone (c.step.ensures.state version p h is) in
     passes version p h c.args.first c.args.edge is.accepted legal alone
-    (sym (accepted_so version p (c.args.edge ∷ h) c.args.first c.in_default-step.field-0
-    (sym c.in_default-step.is ∙ c.step.ensures.answer version p (c.args.edge ∷ h) state)))
-    c.is_request_served.result (c.is_request_served.ensures version p h is) c.if-is_request_served.false
+    (sym c.in_default-judge_by_wire.is ∙ c.judge_by_wire.ensures version p (c.args.edge ∷ h) state)
+    c.is_request_served-is_served.result (c.is_request_served-is_served.ensures version p h is)
+    c.if-is_served.false

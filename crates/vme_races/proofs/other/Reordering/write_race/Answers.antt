@@ -19,7 +19,7 @@ returns-then-is_err g c = λ p v es are.
 pub returns-in_default : goal.returns-in_default
 returns-in_default g c = λ p v es are.
     let accepted : is_ok (verdict c.args.self.now.racing.bus c.args.edge.now) ≡ true = search rules in
-    let goes = c.walk-walk.ensures.walk v p (numbered (bench p v) es) are.0.1.last
+    let goes = c.walk-walk.ensures.walk v p (numbered (bench p v) es) are.0.1.last are.0.1.passing
     (legal_there p v es c.args.edge.now
     (ap (λ s. is_ok (verdict s c.args.edge.now)) (sym are.0.1.bus) ∙ accepted)) in
     let none : is_race c.walk-walk.result.stop ≡ false = search rules in (
@@ -32,7 +32,7 @@ pub returns-in_err-write_order : goal.returns-in_err-write_order
 returns-in_err-write_order g c = λ p v es are.
     let e = err_from_is_err_and c.from_residual.result c.from_residual.ensures.1 in
     let accepted : is_ok (verdict c.args.self.now.racing.bus c.args.edge.now) ≡ true = search rules in
-    let goes = c.walk-walk.ensures.walk v p (numbered (bench p v) es) are.0.1.last
+    let goes = c.walk-walk.ensures.walk v p (numbered (bench p v) es) are.0.1.last are.0.1.passing
     (legal_there p v es c.args.edge.now
     (ap (λ s. is_ok (verdict s c.args.edge.now)) (sym are.0.1.bus) ∙ accepted)) in
     rw (e.1, e.2) (order_cut p v es c.args.edge.now _ (g.W.Write.contents c.args.out.now)
@@ -43,7 +43,7 @@ returns-in_err-write_order g c = λ p v es are.
 pub returns : goal.returns
 returns g c = λ p v es are.
     let accepted : is_ok (verdict c.args.self.now.racing.bus c.args.edge.now) ≡ true = search rules in
-    let goes = c.walk-walk.ensures.walk v p (numbered (bench p v) es) are.0.1.last
+    let goes = c.walk-walk.ensures.walk v p (numbered (bench p v) es) are.0.1.last are.0.1.passing
     (legal_there p v es c.args.edge.now
     (ap (λ s. is_ok (verdict s c.args.edge.now)) (sym are.0.1.bus) ∙ accepted)) in (
       text c.args.self.now.racing.bus.version

@@ -10,7 +10,7 @@ pub returns-in-Ok : goal.returns-in-Ok
 returns-in-Ok c = λ p v es taken.
     line_walked p v es c.args.edge.now c.args.self.now taken c.walk_line.result.items c.walk.result
     (sym c.verdict.ensures ∙ c.in-Ok.is)
-    (c.walk.ensures.walk v p (numbered (bench p v) es) taken.1.last
+    (c.walk.ensures.walk v p (numbered (bench p v) es) taken.1.last taken.1.passing
     (legal_there p v es c.args.edge.now
     (ap (λ s. is_ok (verdict s c.args.edge.now)) (sym taken.1.bus) ∙ ap is_ok (sym c.verdict.ensures ∙ c.in-Ok.is))))
     c.walk_line.ensures

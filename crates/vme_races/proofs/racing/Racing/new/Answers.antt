@@ -1,4 +1,5 @@
-use Rattle.std.proofs.Common.{refl}
+use Rattle.std.proofs.Common.{[], refl}
+use Rattle.vme_races.proofs.TakenIn.{plan_there}
 use Rattle.vme_races.proofs.racing.Racing.new.Goals as goal
 
 pub returns-clause-kept : goal.returns-clause-kept
@@ -6,6 +7,7 @@ returns-clause-kept c = λ p v is. record {
   bus = is;
   judged = refl;
   last = c.new.ensures v p;
+  passing = plan_there p v [] c.args.bus c.state-passing.result.now is c.state-passing.ensures;
   counts = c.new-2.ensures;
   walked = tt;
 }
