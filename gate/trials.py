@@ -1,11 +1,13 @@
 """Tries of edits in batches: one edit of each function in one copy of a crate, in which those functions are checked.
 
-The batches of a crate are tried side by side once the first has ended, if lanes are free."""
+The other functions of the copy have no bodies (gate/stubs.py). What is not refused there is tried in the whole crate. The batches of
+a crate are tried side by side once the first has ended, if lanes are free."""
 
 import shutil
 import threading
 
 import edit_files
+import stubs
 import trees
 import verdicts
 from choices import Misuse
@@ -50,6 +52,11 @@ class Edits:
             texts = edit_files.replaced(texts, it)
         return texts
 
+    def stubbed(self, batch):
+        """The same, without the bodies of the functions that no edit of the batch touches."""
+        keep = {path for it in batch for path in self.reach[it].touched}
+        return stubs.stubbed(self.name, self.edited(batch), keep)
+
     def functions(self, batch):
         """The functions at which the edits of a batch have to be refused."""
         return {path for it in batch for path in self.reach[it].own}
@@ -66,26 +73,28 @@ class Batch:
         self.trial.share(self.copy)
         yield from self.try_batch(prover, self.batch, self.label)
 
-    def try_batch(self, prover, batch, label):
-        """Tries a batch, and once more what was not refused in it: a proof by hand is not tried where a callee was refused."""
-        verdict = self.check(prover, batch, label)
+    def try_batch(self, prover, batch, label, is_whole=False):
+        """Tries a batch, and once more what was not refused in it: a proof by hand is not tried where a callee was refused.
+
+        What is not refused among functions without bodies is tried in the whole crate, so that this has the last word."""
+        verdict = self.check(prover, batch, label, is_whole)
         found = {it: self.outcome(it, verdict) for it in batch}
         left = [it for it in batch if found[it].why]
-        yield from ((it, found[it]) for it in batch if it not in left or len(batch) == 1)
-        if len(left) < len(batch):
-            again = [left] if left else []
-        else:
+        is_last = is_whole and len(batch) == 1
+        yield from ((it, found[it]) for it in batch if it not in left or is_last)
+        again = [] if is_last or not left else [left]
+        if len(left) == len(batch) and is_whole:
             # Two edits may make a cycle of calls, which no check begins with: by halves few checks are lost.
             half = len(left) // 2
             again = [left[:half], left[half:]] if half else []
         for at, them in enumerate(again):
-            yield from self.try_batch(prover, them, f"{label}-{at}")
+            yield from self.try_batch(prover, them, f"{label}-{at}", is_whole or len(left) == len(batch))
 
-    def check(self, prover, batch, label):
+    def check(self, prover, batch, label, is_whole):
         """Checks the functions of a batch, with its edits."""
-        trees.write_texts(self.copy, self.edits.edited(batch))
+        trees.write_texts(self.copy, self.edits.edited(batch) if is_whole else self.edits.stubbed(batch))
         functions = self.edits.functions(batch)
-        ended = prover.check(self.trial.name, self.edits.uses, self.copy, functions)
+        ended = prover.check(self.trial.name, self.edits.uses, self.copy, functions, is_whole)
         self.trial.spent.add(ended, functions)
         if self.trial.logs:
             with open(f"{self.trial.logs}/{label}.log", "w", encoding="utf-8") as log:

@@ -8,7 +8,7 @@ FUNCTION = re.compile(r"^fn (\S+): (.*)")
 # what is said of a function because another, which it calls, was refused
 FOR_A_CALLEE = re.compile(r"(?:; )?(?:in \S+, of this cycle of calls: )?it calls .*?, which (?:is|are) not proved")
 PLACE = re.compile(r"^(?:note: )?(?:\./)?((?:src|specs|proofs)/\S+?:\d+):\d+: (.*)")
-LAST = re.compile(r"^only=(\d+) proved=(\d+)$")
+LAST = re.compile(r"^only=(\d+) (?:proved|holes)=(\d+)$")
 COUNTEREXAMPLE = "allow values at which this goal is false"
 
 
