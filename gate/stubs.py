@@ -16,13 +16,18 @@ KEPT_HEAD = re.compile(r'\bconst fn\b|\bextern "C" fn\b|\bfn main\b')
 
 
 def stubbed(crate, texts, keep):
-    """The texts of a crate in which the functions are without their bodies that can be, but for those whose paths are to be kept."""
+    """The texts of a crate in which the functions are without their bodies that can be, but for those whose paths end in one that is to be kept."""
     made, cyclic = dict(texts), in_cycles(texts)
     for file, text in texts.items():
         if file.startswith("src/"):
-            found = [it for it in sources.functions(crate, file, text) if it.path not in keep and name_of(it) not in cyclic]
+            found = [it for it in sources.functions(crate, file, text) if name_of(it) not in cyclic and not is_one(it, keep)]
             strip(crate, file, found, made)
     return made
+
+
+def is_one(function, paths):
+    """Whether a function is one of these: gate/singly names the end of a path."""
+    return any(f"::{function.path}".endswith(f"::{it}") for it in paths)
 
 
 def name_of(function):

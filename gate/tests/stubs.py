@@ -83,6 +83,8 @@ def test_texts(count):
     holes = sorted(it for it in made if it.startswith("proofs/"))
     wanted = ["proofs/Number/value/Proof.antt", "proofs/after_next/Answers.antt", "proofs/fourth/Proof.antt", "proofs/next/Proof.antt"]
     count.tell("holes are in place of proofs", holes == wanted and made["proofs/Number/value/Proof.antt"] == HOLE, str(holes))
+    by_end = stubs.stubbed("numbers", texts, {"after_next"})
+    count.tell("a function is named by the end of its path", by_end == made, str(sorted(by_end)))
     cyclic = stubs.stubbed("numbers", {**texts, "proofs/+next/Proof.antt": ANSWERS}, set())["src/lib.rt"]
     count.tell("what is in a cycle stays", "    number + 1\n" in cyclic, cyclic)
 
