@@ -23,10 +23,10 @@ class Edits:
         self.name, self.edits, self.uses, self.texts = name, edits, repository.uses[name], repository.texts(name)
         self.reach = {it: edit_files.reach(it, self.texts) for it in edits}
 
-    def batches(self):
-        """Puts the edits into few batches, in which no two touch one another: those of definitions last, since each changes the proofs of many."""
+    def batches(self, edits):
+        """Puts edits into few batches, in which no two touch one another: those of definitions last, since each changes the proofs of many."""
         found = []
-        for it in sorted(self.edits, key=lambda it: self.reach[it].is_of_all):
+        for it in sorted(edits, key=lambda it: self.reach[it].is_of_all):
             fits = [batch for batch in found if self.goes_with(it, batch)]
             if fits:
                 fits[0].append(it)
@@ -82,6 +82,8 @@ class Batch:
         left = [it for it in batch if found[it].why]
         is_last = is_whole and len(batch) == 1
         yield from ((it, found[it]) for it in batch if it not in left or is_last)
+        if len(left) < len(batch) and not is_whole:
+            left = self.trial.put_off(left)
         again = [] if is_last or not left else [left]
         if len(left) == len(batch) and is_whole:
             # Two edits may make a cycle of calls, which no check begins with: by halves few checks are lost.
@@ -125,6 +127,7 @@ class Trial:
     def __init__(self, edits, room, logs, spent):
         self.edits, self.name, self.logs, self.folder, self.spent = edits, edits.name, logs, f"{room}/{edits.name}", spent
         self.left, self.copies, self.free, self.has_kept = None, [], [], False
+        self.later, self.taken, self.turn = [], 0, threading.Lock()
 
     def may_begin(self):
         """Whether its next batch may begin, if the libraries below the crate are there."""
@@ -132,17 +135,40 @@ class Trial:
 
     def size(self):
         """How many edits are left to begin with."""
-        return len(self.edits.edits) if self.left is None else sum(len(batch) for _, batch in self.left)
+        return len(self.edits.edits) if self.left is None else sum(map(len, self.left))
 
     def take(self):
         """Takes the next batch, and a copy of the crate in which no other is tried."""
         if self.left is None:
-            self.left = list(enumerate(self.edits.batches()))
+            self.left = self.edits.batches(self.edits.edits)
         if not self.free:
             self.free.append(f"{self.folder}/{len(self.copies)}")
             self.copies += self.free
-        number, batch = self.left.pop(0)
+        with self.turn:
+            batch, number = self.next(), self.taken
+            self.taken += 1
         return Batch(self, batch, f"{self.name}-{number}", self.free.pop())
+
+    def next(self):
+        """Takes the next batch, with those edits that were put off and go with it. The last one leaves the others of them as batches."""
+        batch, later = self.left.pop(0), self.later
+        self.later = []
+        for it in later:
+            if self.edits.goes_with(it, batch):
+                batch = [*batch, it]
+            else:
+                self.later.append(it)
+        if not self.left:
+            self.left, self.later = self.edits.batches(self.later), []
+        return batch
+
+    def put_off(self, edits):
+        """Puts edits off until the next batches, if there are any, and returns those that have to be tried now."""
+        with self.turn:
+            if not self.left:
+                return edits
+            self.later += edits
+        return []
 
     def give_back(self, copy):
         """Takes back the copy of a batch that has ended."""
