@@ -71,7 +71,9 @@ class Batch:
     def outcomes(self, prover):
         """Tries the batch, and yields each of its edits with what came of it."""
         self.trial.share(self.copy)
-        yield from self.try_batch(prover, self.batch, self.label)
+        # A definition's edit mostly breaks lemmas of a law, which calls nothing. Past them a check that takes holes would go on.
+        is_whole = any(self.edits.reach[it].is_of_all for it in self.batch)
+        yield from self.try_batch(prover, self.batch, self.label, is_whole)
 
     def try_batch(self, prover, batch, label, is_whole=False):
         """Tries a batch, and once more what was not refused in it: a proof by hand is not tried where a callee was refused.
