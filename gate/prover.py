@@ -20,8 +20,9 @@ ROOM = 4_000_000
 NO_FOLDER = "/dev/null"
 # The folder beside a crate in which the prover keeps its work, and how the names of the files end that hold a checked module each.
 KEPT, MODULE = "kept", ".oantt"
-# How the name ends of the folder, beside the kept work, in which it keeps what it offered.
+# How the names end of the folders, beside the kept work, in which it keeps what it offered.
 OFFERS = "-offers"
+EACH = (OFFERS, f"-with-holes{OFFERS}")
 
 
 def kit():
@@ -40,10 +41,13 @@ class Prover:
         self.uses = trees.read_crates(built)[1]
         self.turn, self.at_work = threading.Lock(), 0
 
-    def check(self, crate, uses, folder, functions):
-        """Checks these functions of the crate that lies in a folder, over the work that is kept beside it, and returns how that ended."""
+    def check(self, crate, uses, folder, functions, is_whole=True):
+        """Checks these functions of the crate that lies in a folder, over the work that is kept beside it, and returns how that ended.
+
+        In a crate that is not whole, proofs rest on holes."""
         kept = f"{folder}/{KEPT}"
         words = [*self.words("check", crate, uses, folder, 1), "--progress", "--incremental", kept]
+        words += [] if is_whole else ["--allow-holes"]
         for it in sorted(functions) or [""]:
             words += ["--only", it]
         self.begin()
@@ -118,10 +122,10 @@ def remove_offers(kept):
 def close_offers(kept):
     """Puts an empty file in place of each folder in which the prover would keep what it offers: it has one beside each of kept work."""
     for it in os.listdir(kept) if os.path.isdir(kept) else []:
-        file = f"{kept}/{it}{OFFERS}"
-        if not it.endswith(OFFERS) and not os.path.lexists(file):
-            with open(file, "w", encoding="utf-8"):
-                pass
+        for file in (f"{kept}/{it}{end}" for end in EACH if not it.endswith(OFFERS)):
+            if not os.path.lexists(file):
+                with open(file, "w", encoding="utf-8"):
+                    pass
 
 
 def free_memory():

@@ -1,11 +1,13 @@
 """Tries of edits in batches: one edit of each function in one copy of a crate, in which those functions are checked.
 
-The batches of a crate are tried side by side once the first has ended, if lanes are free."""
+The other functions of the copy have no bodies (gate/stubs.py). What is not refused there is tried in the whole crate. The batches of
+a crate are tried side by side once the first has ended, if lanes are free."""
 
 import shutil
 import threading
 
 import edit_files
+import stubs
 import trees
 import verdicts
 from choices import Misuse
@@ -21,10 +23,10 @@ class Edits:
         self.name, self.edits, self.uses, self.texts = name, edits, repository.uses[name], repository.texts(name)
         self.reach = {it: edit_files.reach(it, self.texts) for it in edits}
 
-    def batches(self):
-        """Puts the edits into few batches, in which no two touch one another: those of definitions last, since each changes the proofs of many."""
+    def batches(self, edits):
+        """Puts edits into few batches, in which no two touch one another: those of definitions last, since each changes the proofs of many."""
         found = []
-        for it in sorted(self.edits, key=lambda it: self.reach[it].is_of_all):
+        for it in sorted(edits, key=lambda it: self.reach[it].is_of_all):
             fits = [batch for batch in found if self.goes_with(it, batch)]
             if fits:
                 fits[0].append(it)
@@ -50,6 +52,11 @@ class Edits:
             texts = edit_files.replaced(texts, it)
         return texts
 
+    def stubbed(self, batch):
+        """The same, without the bodies of the functions that no edit of the batch touches."""
+        keep = {path for it in batch for path in self.reach[it].touched}
+        return stubs.stubbed(self.name, self.edited(batch), keep)
+
     def functions(self, batch):
         """The functions at which the edits of a batch have to be refused."""
         return {path for it in batch for path in self.reach[it].own}
@@ -64,28 +71,34 @@ class Batch:
     def outcomes(self, prover):
         """Tries the batch, and yields each of its edits with what came of it."""
         self.trial.share(self.copy)
-        yield from self.try_batch(prover, self.batch, self.label)
+        # A definition's edit mostly breaks lemmas of a law, which calls nothing. Past them a check that takes holes would go on.
+        is_whole = any(self.edits.reach[it].is_of_all for it in self.batch)
+        yield from self.try_batch(prover, self.batch, self.label, is_whole)
 
-    def try_batch(self, prover, batch, label):
-        """Tries a batch, and once more what was not refused in it: a proof by hand is not tried where a callee was refused."""
-        verdict = self.check(prover, batch, label)
+    def try_batch(self, prover, batch, label, is_whole=False):
+        """Tries a batch, and once more what was not refused in it: a proof by hand is not tried where a callee was refused.
+
+        What is not refused among functions without bodies is tried in the whole crate, so that this has the last word."""
+        verdict = self.check(prover, batch, label, is_whole)
         found = {it: self.outcome(it, verdict) for it in batch}
         left = [it for it in batch if found[it].why]
-        yield from ((it, found[it]) for it in batch if it not in left or len(batch) == 1)
-        if len(left) < len(batch):
-            again = [left] if left else []
-        else:
+        is_last = is_whole and len(batch) == 1
+        yield from ((it, found[it]) for it in batch if it not in left or is_last)
+        if len(left) < len(batch) and not is_whole:
+            left = self.trial.put_off(left)
+        again = [] if is_last or not left else [left]
+        if len(left) == len(batch) and is_whole:
             # Two edits may make a cycle of calls, which no check begins with: by halves few checks are lost.
             half = len(left) // 2
             again = [left[:half], left[half:]] if half else []
         for at, them in enumerate(again):
-            yield from self.try_batch(prover, them, f"{label}-{at}")
+            yield from self.try_batch(prover, them, f"{label}-{at}", is_whole or len(left) == len(batch))
 
-    def check(self, prover, batch, label):
+    def check(self, prover, batch, label, is_whole):
         """Checks the functions of a batch, with its edits."""
-        trees.write_texts(self.copy, self.edits.edited(batch))
+        trees.write_texts(self.copy, self.edits.edited(batch) if is_whole else self.edits.stubbed(batch))
         functions = self.edits.functions(batch)
-        ended = prover.check(self.trial.name, self.edits.uses, self.copy, functions)
+        ended = prover.check(self.trial.name, self.edits.uses, self.copy, functions, is_whole)
         self.trial.spent.add(ended, functions)
         if self.trial.logs:
             with open(f"{self.trial.logs}/{label}.log", "w", encoding="utf-8") as log:
@@ -116,6 +129,7 @@ class Trial:
     def __init__(self, edits, room, logs, spent):
         self.edits, self.name, self.logs, self.folder, self.spent = edits, edits.name, logs, f"{room}/{edits.name}", spent
         self.left, self.copies, self.free, self.has_kept = None, [], [], False
+        self.later, self.taken, self.turn = [], 0, threading.Lock()
 
     def may_begin(self):
         """Whether its next batch may begin, if the libraries below the crate are there."""
@@ -123,17 +137,40 @@ class Trial:
 
     def size(self):
         """How many edits are left to begin with."""
-        return len(self.edits.edits) if self.left is None else sum(len(batch) for _, batch in self.left)
+        return len(self.edits.edits) if self.left is None else sum(map(len, self.left))
 
     def take(self):
         """Takes the next batch, and a copy of the crate in which no other is tried."""
         if self.left is None:
-            self.left = list(enumerate(self.edits.batches()))
+            self.left = self.edits.batches(self.edits.edits)
         if not self.free:
             self.free.append(f"{self.folder}/{len(self.copies)}")
             self.copies += self.free
-        number, batch = self.left.pop(0)
+        with self.turn:
+            batch, number = self.next(), self.taken
+            self.taken += 1
         return Batch(self, batch, f"{self.name}-{number}", self.free.pop())
+
+    def next(self):
+        """Takes the next batch, with those edits that were put off and go with it. The last one leaves the others of them as batches."""
+        batch, later = self.left.pop(0), self.later
+        self.later = []
+        for it in later:
+            if self.edits.goes_with(it, batch):
+                batch = [*batch, it]
+            else:
+                self.later.append(it)
+        if not self.left:
+            self.left, self.later = self.edits.batches(self.later), []
+        return batch
+
+    def put_off(self, edits):
+        """Puts edits off until the next batches, if there are any, and returns those that have to be tried now."""
+        with self.turn:
+            if not self.left:
+                return edits
+            self.later += edits
+        return []
 
     def give_back(self, copy):
         """Takes back the copy of a batch that has ended."""

@@ -7,8 +7,12 @@ from enum import Enum
 FUNCTION = re.compile(r"^fn (\S+): (.*)")
 # what is said of a function because another, which it calls, was refused
 FOR_A_CALLEE = re.compile(r"(?:; )?(?:in \S+, of this cycle of calls: )?it calls .*?, which (?:is|are) not proved")
+# the functions that are named there
+NAMED = re.compile(r"`([^`]+)`")
+# what is said of a function that is proved but for holes
+HOLED = ("depends on a hole in ", "no holes")
 PLACE = re.compile(r"^(?:note: )?(?:\./)?((?:src|specs|proofs)/\S+?:\d+):\d+: (.*)")
-LAST = re.compile(r"^only=(\d+) proved=(\d+)$")
+LAST = re.compile(r"^only=(\d+) (?:proved|holes)=(\d+)$")
 COUNTEREXAMPLE = "allow values at which this goal is false"
 
 
@@ -50,12 +54,13 @@ def read(said):
     """Reads what a check printed."""
     lines = said.rstrip("\n").split("\n")
     refused, notes = {}, []
+    holed = {match[1] for match in map(FUNCTION.match, lines) if match and match[2].startswith(HOLED)}
     for line in lines:
         match = FUNCTION.match(line)
         if not match:
             notes.append(line)
             continue
-        if is_refused_itself(match[2]):
+        if is_refused_itself(match[2], holed):
             path = outer(match[1])
             refused.setdefault(path, refusal(path, notes, match[2]))
         notes = []
@@ -63,10 +68,15 @@ def read(said):
     return Verdict(bool(LAST.match(lines[-1])), refused, (errors or lines[-1:])[0])
 
 
-def is_refused_itself(status):
-    """Whether a function's own proof was refused, and not only that of one that it calls."""
+def is_refused_itself(status, holed=frozenset()):
+    """Whether a function's own proof was refused, and not only that of one that it calls.
+
+    A proof over one that rests on a hole is checked to its end, so that such a callee is no reason."""
     match = re.match(r"(?:no proof|not proved)\b[:;]?(.*)", status)
-    return bool(match) and (not match[1] or bool(FOR_A_CALLEE.sub("", match[1]).strip(" ;")))
+    if not match:
+        return False
+    callees = {name for it in FOR_A_CALLEE.findall(match[1]) for name in NAMED.findall(it)}
+    return not match[1] or bool(FOR_A_CALLEE.sub("", match[1]).strip(" ;")) or bool(callees) and callees <= holed
 
 
 def outer(path):

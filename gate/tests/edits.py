@@ -63,7 +63,14 @@ NAMED = {
     "": "it edits a definition, and gate/singly does not name the function that has to refuse it ('CRATE/EDIT at: FUNCTION')",
 }
 
-# What the prover says of a function in a cycle of calls whose own body is right.
+# What the prover says of functions over one whose proof is a hole, and over one that is refused.
+HOLES = """fn numbers::next: depends on a hole in `Rattle.numbers.proofs.next.Proof.next_spec`
+fn numbers::odd: no proof: expected answers in ./proofs/odd/Answers.antt; `search` did not prove `returns`
+fn numbers::even: not proved; it calls `numbers::next`, which is not proved
+fn numbers::both: not proved; it calls `numbers::next` and `numbers::odd`, which are not proved
+only=4 holes=1
+"""
+# What it says of a function in a cycle of calls whose own body is right.
 CYCLE = "fn numbers::odd: no proof: in numbers::even, of this cycle of calls: it calls numbers::next, which is not proved\nonly=1 proved=0\n"
 
 
@@ -133,6 +140,8 @@ def test_definitions(count, room):
 def test_callees(count):
     """A function that is refused for one that it calls alone is not refused itself, in a cycle of calls either."""
     count.tell("a cycle of calls", verdicts.read(CYCLE).refused == {}, str(verdicts.read(CYCLE)))
+    refused = verdicts.read(HOLES).refused
+    count.tell("a hole below is no reason", sorted(refused) == ["numbers::even", "numbers::odd"], str(refused))
 
 
 def test_offers(count, room):

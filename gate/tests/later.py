@@ -1,0 +1,79 @@
+"""Tests of edits that are put off: what a batch does not refuse, since a callee was refused in it, goes into the next batches."""
+
+from choices import choose
+from commands import Ended
+from spent import Spent
+from tests.small import lay_out
+from trees import Repository
+from trials import Edits, Queue, Trial
+
+SOURCE = """//! Numbers, for the tests of what is put off.
+
+/// One.
+pub fn one() -> u8 {
+    1
+}
+
+/// Two.
+pub fn two() -> u8 {
+    one() + 1
+}
+"""
+ONE = {f"one_is_wrong_{at}": ("    1", f"    {at} + wrong_one()") for at in range(2)}
+
+
+class ByHand:
+    """A prover that refuses two, whose proof is by hand, only if one is not refused beside it, and notes what it is asked."""
+
+    def __init__(self, refuses_two=True):
+        self.asked, self.refuses_two = [], refuses_two
+
+    def check(self, _, uses, folder, functions, is_whole):
+        self.asked.append((sorted(functions), is_whole))
+        is_one = "numbers::one" in functions
+        said = "fn numbers::one: no proof: `search` did not prove `returns`\n" if is_one else ""
+        if "numbers::two" in functions:
+            is_refused = self.refuses_two and not is_one
+            said += f"fn numbers::two: {'not proved' if is_refused else 'not proved; it calls `numbers::one`, which is not proved' if is_one else 'proved'}\n"
+        return Ended(1, f"{said}only={len(functions)} proved=0\n", 1.0, ())
+
+
+class AllBuilt:
+    """Libraries that are all built."""
+
+    def are_below(self, _):
+        return True
+
+
+def tried(root, prover):
+    """Tries all edits of a repository in one lane, and returns what came of each, by name."""
+    repository = Repository(root)
+    edits = choose(repository, [])[0]["numbers"]
+    queue, made = Queue([Trial(Edits(repository, "numbers", edits), f"{root}.room", None, Spent())], AllBuilt()), []
+    while queue.trials:
+        batch = queue.find()
+        made += batch.outcomes(prover)
+        queue.end(batch)
+    return {edit.name: outcome for edit, outcome in made}, len(made)
+
+
+def test_all(count, room):
+    """Runs all tests of this file."""
+    root = f"{room}/later"
+    two = {"two_is_wrong": ("    one() + 1", "    one()"), "two_is_one": ("    one() + 1", "    1 + 0")}
+    lay_out(root, {**ONE, "two_is_wrong": two["two_is_wrong"]}, SOURCE)
+    prover = ByHand()
+    found, times = tried(root, prover)
+    count.tell("each edit comes to one outcome", times == 3 and len(found) == 3 and not any(it.why for it in found.values()), str(found))
+    wanted = [(["numbers::one", "numbers::two"], False), (["numbers::one", "numbers::two"], False), (["numbers::two"], False)]
+    count.tell("what is put off goes into the next batch", prover.asked == wanted, str(prover.asked))
+    prover = ByHand(refuses_two=False)
+    found, times = tried(root, prover)
+    is_told = "NOT REFUSED" in found["two_is_wrong"].why and times == 3
+    count.tell("the whole crate has the last word", is_told and prover.asked[-1] == (["numbers::two"], True), f"{found} {prover.asked}")
+    other = f"{room}/both"
+    lay_out(other, {"one_is_wrong_0": ONE["one_is_wrong_0"], **two}, SOURCE)
+    prover = ByHand()
+    found, times = tried(other, prover)
+    count.tell("edits of one function stay apart", times == 3 and not any(it.why for it in found.values()), f"{found} {prover.asked}")
+
