@@ -1,12 +1,11 @@
 -- What is written of a trace.
-use Rattle.std.proofs.Common.{◌≡◌, inl, inr, ◌+◌, ◌++◌, ◌∷◌, [], ℕ, Bool, false, List, All, IsTrue, Option, Some, None, Result, Ok, Err, is_ok, length, take, reverse, refl, sym, ◌∙◌, ap, subst, arith, append_assoc}
+use Rattle.std.proofs.Common.{◌≡◌, inl, inr, ◌+◌, ◌++◌, ◌∷◌, [], ℕ, Bool, false, List, All, IsTrue, Option, Some, None, Result, Ok, Err, length, take, reverse, refl, sym, ◌∙◌, ap, subst, arith, append_assoc}
 use Rattle.std.specs.Prelude.{slice_get}
 use Rattle.std.proofs.Math.ListN.{length-append}
 use Rattle.std.proofs.Math.Seq.{take-append_seam}
 use Rattle.std.specs.Io.KnownBytes.{Appends, Keeps}
 use Rattle.std.proofs.KnownBytes.{Keeps-trans}
 use mathlib.Core.List.{reverse-reverse}
-use Rattle.vme_model.specs.declared.refusals.Refused.{Refused}
 use Rattle.vme_model.specs.declared.signals.Edge.{Edge}
 use Rattle.vme_model.specs.declared.signals.Version.{Version}
 use Rattle.vme_model.specs.History.{in_order}
@@ -14,7 +13,7 @@ use Rattle.vme_model.specs.Plan.{Plan}
 use Rattle.vme_model.specs.Report.{at_power_up, trace_limit}
 use Rattle.vme_model.specs.Signals.{is_well_formed}
 use Rattle.vme_model.specs.Text.{read_of, text}
-use Rattle.vme_model.specs.Verdict.{State, Judgement, after, kept, verdict}
+use Rattle.vme_model.specs.Verdict.{State, kept, verdict}
 use Rattle.vme_trace.specs.declared.Fault.{Fault}
 use Rattle.vme_trace.specs.declared.Fault.TheVariants.{Memory, Write}
 use Rattle.vme_trace.specs.Writing.{AppendsFront}
@@ -24,7 +23,7 @@ use Rattle.vme_engines.specs.declared.EngineFault.TheVariants as fault
 use Rattle.vme_engines.specs.declared.Status.{Status}
 use Rattle.vme_engines.specs.declared.Status.TheVariants.{Done}
 use Rattle.vme_engines.specs.Begun.{IsUnread}
-use Rattle.vme_engines.specs.Checking.{finding_line, first_refusal, or_refusal, refusal_of}
+use Rattle.vme_engines.specs.Checking.{finding_line, first_refusal, refusal_of}
 use Rattle.vme_engines.specs.Explaining.{IsAsked, IsUnasked, edge_status}
 use Rattle.vme_engines.specs.Followed.{IsNext}
 use Rattle.vme_engines.specs.Outcomes.{Answer, LentAsking, bench}
@@ -33,9 +32,8 @@ use Rattle.vme_engines.specs.Readings.{LeavesNow, ReadsLent}
 use Rattle.vme_engines.specs.Steps.{Begins}
 use Rattle.vme_engines.specs.Streams.{Streams, streams, WroteNothing}
 use Rattle.vme_engines.specs.Waiting.{StopsWaiting}
-use Rattle.vme_engines.proofs.CheckPieces.{refusal_behind}
 use Rattle.vme_engines.proofs.LegalTrace.{all_well_formed}
-use Rattle.vme_engines.proofs.Printed.{explains_end}
+use Rattle.vme_engines.proofs.Printed.{explains_end, slice_at, refused_by, first_behind}
 use Rattle.vme_engines.proofs.ReadOn.{came_begins}
 use Rattle.vme_engines.proofs.Waits.{stops_unread, waits_now}
 use Rattle.vme_engines.proofs.WrittenLines.{appends_behind, front_after}
@@ -88,24 +86,6 @@ story_formed b h e g found =
     (all_well_formed b.version b.plan (reverse g) found.story.legal)
 
 -- ---- the edges before a place
-
-slice_at : (front rest : List Edge) (e : Edge)
-    → slice_get (front ++ (e ∷ rest)) (length front) ≡ Some e
-slice_at [] rest e = refl
-slice_at (d ∷ front) rest e = slice_at front rest e
-
-refused_by : (j : Judgement) → is_ok j ≡ false → (r : Refused) × (j ≡ Err r)
-refused_by (Ok u) h = absurd cc
-refused_by (Err r) h = (r, refl)
-
-first_behind : (b : State) (front rest : List Edge) (e : Edge) (r : Refused)
-    → first_refusal 1 b front ≡ None → verdict (kept b front) e ≡ Err r
-    → first_refusal 1 b (front ++ (e ∷ rest)) ≡ Some (length front + 1, r)
-first_behind b front rest e r none is =
-    refusal_behind 1 b front (e ∷ rest) none
-    ∙ ap (λ j. or_refusal (1 + length front) j
-    (first_refusal ((1 + length front) + 1) (after (kept b front) e) rest)) is
-    ∙ ap (λ n. Some (n, r)) (omega arith)
 
 asked_at : (asked : Option ℕ) (p : Plan) (v : Version) (all front rest : List Edge) (e : Edge)
     → all ≡ front ++ (e ∷ rest) → IsNext asked p v front e

@@ -53,7 +53,7 @@ Shrinks edge p trace s (Err (fault.Beyond edges)) =
     Explains edge p trace s (Err (fault.Beyond edges))
 Shrinks edge p trace s (Err _) = ⊥
 
--- the same of the whole input
+-- what is left of the whole input, as a trace on a plan
 abbrev pub ShrinksInput : Option ℕ → Streams → Plan → Answer → Type 0
 ShrinksInput edge s p answer =
     (trace : List ℕ) × IsInput s.from trace × Shrinks edge p trace s answer

@@ -47,7 +47,7 @@ written_answer (Ok (Text status)) = Ok status
 written_answer (Ok (Beyond edges)) = Err (fault.Beyond edges)
 written_answer (Err f) = Err (fault.Trace f)
 
--- the same, if it may have no plan
+-- the answer of a command that writes a trace, if it may have no plan
 abbrev pub written_status : Result Written EngineFault → Answer
 written_status (Ok (Text status)) = Ok status
 written_status (Ok (Beyond edges)) = Err (fault.Beyond edges)

@@ -1,5 +1,5 @@
 //! The edges of a trace before the one that is asked for.
-ghost use Rattle.std.specs.Prelude.{◌≡◌, ◌+◌, ◌<◌, ◌^◌, ℕ, List, IfOk, IfErr, IfSome, OnOk, IsTrue, if◌then◌else◌, is_ok, length, true};
+ghost use Rattle.std.specs.Prelude.{◌≡◌, ◌+◌, ◌<◌, ◌^◌, List, IfOk, IfErr, IfSome, OnOk, IsTrue, if◌then◌else◌, is_ok, length, true};
 ghost use Rattle.vme_model.specs.declared.signals.Edge.{Edge as EdgeValue};
 ghost use Rattle.vme_model.specs.declared.signals.Version.{Version as VersionValue};
 ghost use Rattle.vme_model.specs.Plan.{Plan as PlanValue};
@@ -30,7 +30,8 @@ fn status_if(is_accepted: bool) -> Status
 
 /// Makes an edge if it is accepted, and returns whether it is.
 ///
-/// Errors: X6.
+/// # Errors
+/// X6.
 fn make(front: &mut Front, edge: &Edge) -> Result<bool, Fault>
     requires formed { is_well_formed edge.now ≡ true }
     ensures accepted { IfOk result (λ t. t ≡ is_ok (verdict front.old edge.now)) }
@@ -46,7 +47,8 @@ fn make(front: &mut Front, edge: &Edge) -> Result<bool, Fault>
 /// Whether the next edge, which has this number, is the one that is asked for. Any other is made if
 /// it is accepted.
 ///
-/// Errors: X6.
+/// # Errors
+/// X6.
 fn meets(front: &mut Front, asked: Option<u64>, number: u64, edge: &Edge) -> Result<bool, Fault>
     requires formed { is_well_formed edge.now ≡ true }
     ensures met { IfOk result (λ t. t ≡ is_asked asked number front.old edge.now) }
@@ -73,7 +75,8 @@ fn meets(front: &mut Front, asked: Option<u64>, number: u64, edge: &Edge) -> Res
 /// Goes on with the edges up to the one that is asked for, which it gives. So many were judged
 /// before.
 ///
-/// Errors: X6.
+/// # Errors
+/// X6.
 pub(crate) fn seek(
     front: &mut Front,
     asked: Option<u64>,
@@ -101,7 +104,8 @@ pub(crate) fn seek(
 
 /// Writes the trace of a story of the next edge, and returns whether that edge is refused.
 ///
-/// Errors: X6, and nothing is written then; X8.
+/// # Errors
+/// X6, and nothing is written then; X8.
 pub(crate) fn write_story<W: Write>(
     front: Front,
     alloc: Global,

@@ -121,10 +121,11 @@ impl Judge for Shrinking {
 /// refused, and otherwise `Done`. Without a number, if no edge is refused, it writes `legal N`. No
 /// edge behind that one is judged. It makes at most 16,777,216 reads.
 ///
-/// Errors: F2, the faults of the scenario and F3, before anything is read or written. Those of the
-/// trace before the edge; X9 if a trace without fault has fewer edges, or the number is 0; X6 if
-/// there is no memory for two lists of the edges: then nothing is written. X8 if the output cannot
-/// be written.
+/// # Errors
+/// F2, the faults of the scenario and F3, before anything is read or written. Those of the trace
+/// before the edge; X9 if a trace without fault has fewer edges, or the number is 0; X6 if there is
+/// no memory for two lists of the edges: then nothing is written. X8 if the output cannot be
+/// written.
 pub fn shrink<R: Read, W: Write>(
     alloc: Global,
     scenario: &[u8],
