@@ -35,6 +35,7 @@ class Commands:
             how = {"cwd": folder, "env": environment, "stdin": subprocess.DEVNULL, "stdout": subprocess.PIPE, "stderr": subprocess.STDOUT}
             made = subprocess.Popen(words, start_new_session=True, text=True, errors="replace", **how)
             self.running.add(made)
+        be_as_nice(made.pid)
         lines, times = [], []
         try:
             for line in made.stdout:
@@ -58,6 +59,15 @@ class Commands:
             self.is_stopped = True
             for it in self.running:
                 end(it)
+
+
+def be_as_nice(process):
+    """Makes a session as nice as this process is: where the kernel shares the processors by sessions, it asks no process of one."""
+    try:
+        with open(f"/proc/{process}/autogroup", "w", encoding="utf-8") as group:
+            group.write(str(os.nice(0)))
+    except OSError:
+        pass
 
 
 def reaped(command):

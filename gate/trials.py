@@ -1,11 +1,14 @@
-"""Tries of edits in batches: one edit of each function in one copy of a crate, in which those functions are checked.
+"""Tries of edits in batches, each in one copy of a crate, in which the functions of the edits are checked.
 
-The other functions of the copy have no bodies (gate/stubs.py). What is not refused there is tried in the whole crate. The batches of
-a crate are tried side by side once the first has ended, if lanes are free."""
+A batch has a copy of a function for each edit that can be made in one (gate/copies.py), and one edit of each other function. All other
+functions have no bodies (gate/stubs.py). What is not refused there is tried in the whole crate, in its place. The batches of a crate
+are tried side by side once the first has ended, if lanes are free."""
 
 import shutil
 import threading
+from dataclasses import replace
 
+import copies
 import edit_files
 import stubs
 import trees
@@ -15,51 +18,59 @@ from outcomes import Outcome
 from prover import KEPT, MODULE
 from spent import timed
 
+# At most so many edits are tried in one check, so that the lanes end at about the same time.
+MOST = 40
+
 
 class Edits:
-    """The edits of one crate that are to be tried, with what each reaches."""
+    """The edits of one crate that are to be tried, with what each reaches, and the copies of functions in which most of them are made."""
 
     def __init__(self, repository, name, edits):
         self.name, self.edits, self.uses, self.texts = name, edits, repository.uses[name], repository.texts(name)
         self.reach = {it: edit_files.reach(it, self.texts) for it in edits}
+        found = ((it, copies.made_for(it, self.reach[it], self.texts)) for it in edits)
+        self.copies = {it: copy for it, copy in found if copy}
 
-    def batches(self, edits):
+    def batches(self, edits, in_place=False):
         """Puts edits into few batches, in which no two touch one another: those of definitions last, since each changes the proofs of many."""
         found = []
-        for it in sorted(edits, key=lambda it: self.reach[it].is_of_all):
-            fits = [batch for batch in found if self.goes_with(it, batch)]
+        for it in sorted(edits, key=lambda it: (self.reach[it].is_of_all, it in self.copies)):
+            fits = [batch for batch in found if self.goes_with(it, batch, in_place)]
             if fits:
                 fits[0].append(it)
             else:
                 found.append([it])
         return found
 
-    def goes_with(self, edit, batch):
-        """Whether an edit touches none of a batch, and its text still stands once beside theirs."""
-        own = self.reach[edit]
-        if not all(own.is_apart_from(self.reach[it]) for it in batch):
+    def goes_with(self, edit, batch, in_place=False):
+        """Whether an edit touches none of a batch, and its text still stands once beside theirs. Copies do not touch one another."""
+        own, is_copied = self.reach[edit], edit in self.copies and not in_place
+        others = [it for it in batch if not (is_copied and it in self.copies)]
+        if len(batch) >= MOST or not all(own.is_apart_from(self.reach[it]) for it in others):
             return False
         try:
-            self.edited([*batch, edit])
+            self.edited([*batch, edit], in_place)
         except edit_files.BadEdit:
             return False
         return True
 
-    def edited(self, batch):
-        """The crate's texts with the edits of a batch."""
+    def edited(self, batch, in_place=False):
+        """The crate's texts with those edits of a batch that are made in their place, or with all of them."""
         texts = self.texts
         for it in batch:
-            texts = edit_files.replaced(texts, it)
+            if in_place or it not in self.copies:
+                texts = edit_files.replaced(texts, it)
         return texts
 
-    def stubbed(self, batch):
-        """The same, without the bodies of the functions that no edit of the batch touches."""
-        keep = {path for it in batch for path in self.reach[it].touched}
-        return stubs.stubbed(self.name, self.edited(batch), keep)
+    def prepared(self, batch):
+        """The texts with the edits of a batch, in copies if they can be made there, and without the bodies of all other functions."""
+        found = [self.copies[it] for it in batch if it in self.copies]
+        keep = {path for it in batch if it not in self.copies for path in self.reach[it].touched} | {it.own_path for it in found}
+        return stubs.stubbed(self.name, copies.beside(self.name, self.edited(batch), found), keep)
 
-    def functions(self, batch):
-        """The functions at which the edits of a batch have to be refused."""
-        return {path for it in batch for path in self.reach[it].own}
+    def functions_of(self, edit, in_place=False):
+        """The functions at one of which an edit has to be refused."""
+        return {self.copies[edit].own_path} if edit in self.copies and not in_place else self.reach[edit].own
 
 
 class Batch:
@@ -80,24 +91,24 @@ class Batch:
 
         What is not refused among functions without bodies is tried in the whole crate, so that this has the last word."""
         verdict = self.check(prover, batch, label, is_whole)
-        found = {it: self.outcome(it, verdict) for it in batch}
+        found = {it: self.outcome(it, verdict, is_whole) for it in batch}
         left = [it for it in batch if found[it].why]
         is_last = is_whole and len(batch) == 1
         yield from ((it, found[it]) for it in batch if it not in left or is_last)
-        if len(left) < len(batch) and not is_whole:
+        is_whole_next = is_whole or len(left) == len(batch)
+        if not is_whole_next:
             left = self.trial.put_off(left)
-        again = [] if is_last or not left else [left]
-        if len(left) == len(batch) and is_whole:
+        again = [] if is_last else self.edits.batches(left, in_place=is_whole_next)
+        if is_whole and len(left) == len(batch) > 1:
             # Two edits may make a cycle of calls, which no check begins with: by halves few checks are lost.
-            half = len(left) // 2
-            again = [left[:half], left[half:]] if half else []
+            again = [left[: len(left) // 2], left[len(left) // 2 :]]
         for at, them in enumerate(again):
-            yield from self.try_batch(prover, them, f"{label}-{at}", is_whole or len(left) == len(batch))
+            yield from self.try_batch(prover, them, f"{label}-{at}", is_whole_next)
 
     def check(self, prover, batch, label, is_whole):
         """Checks the functions of a batch, with its edits."""
-        trees.write_texts(self.copy, self.edits.edited(batch) if is_whole else self.edits.stubbed(batch))
-        functions = self.edits.functions(batch)
+        trees.write_texts(self.copy, self.edits.edited(batch, in_place=True) if is_whole else self.edits.prepared(batch))
+        functions = {path for it in batch for path in self.edits.functions_of(it, is_whole)}
         ended = prover.check(self.trial.name, self.edits.uses, self.copy, functions, is_whole)
         self.trial.spent.add(ended, functions)
         if self.trial.logs:
@@ -105,12 +116,12 @@ class Batch:
                 log.write(f"{len(batch)} edits, {ended.seconds:.1f} s: {' '.join(it.name for it in batch)}\n{timed(ended)}")
         return verdicts.read(ended.said)
 
-    def outcome(self, edit, verdict):
+    def outcome(self, edit, verdict, is_whole):
         """What a batch's verdict says of one of its edits."""
-        own = self.edits.reach[edit].own
-        here = [it for it in map(verdict.at, sorted(own)) if it]
+        own, asked_at = self.edits.reach[edit].own, self.edits.functions_of(edit, is_whole)
+        here = [it for it in map(verdict.at, sorted(asked_at)) if it]
         if here:
-            return Outcome(edit.label, here[0])
+            return Outcome(edit.label, replace(here[0], function=copies.own_name(here[0].function, edit.name)))
         if not verdict.is_judged:
             return Outcome(edit.label, why=f"BAD EDIT: it did not come to the prover: {verdict.error[:200]}")
         edited, others = ", ".join(sorted(own)), ", ".join(sorted(verdict.refused))

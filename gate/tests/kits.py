@@ -55,16 +55,16 @@ name = os.path.basename(os.getcwd())
 os.makedirs(f"out/rlib/{name}.rlib")
 """
 
-# The source of a crate whose edits this kit's prover can refuse.
+# The source of a crate whose edits this kit's prover can refuse: in their place, since no copy is made of a constant function.
 SOURCE = """//! Numbers, for the tests of what is kept.
 
 /// One.
-pub fn one() -> u8 {
+pub const fn one() -> u8 {
     1
 }
 
 /// Two.
-pub fn two() -> u8 {
+pub const fn two() -> u8 {
     2
 }
 """

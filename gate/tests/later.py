@@ -7,15 +7,16 @@ from tests.small import lay_out
 from trees import Repository
 from trials import Edits, Queue, Trial
 
+# No copy is made of a constant function.
 SOURCE = """//! Numbers, for the tests of what is put off.
 
 /// One.
-pub fn one() -> u8 {
+pub const fn one() -> u8 {
     1
 }
 
 /// Two.
-pub fn two() -> u8 {
+pub const fn two() -> u8 {
     one() + 1
 }
 """

@@ -11,8 +11,7 @@ ghost use Rattle.vme_engines.specs.Outcomes.{bench};
 ghost use Rattle.vme_same.specs.Kept.{IsSide};
 
 use vme_bus::BusState;
-use vme_histories::by_wire;
-use vme_model::{Edge, Refused, TRACE_LIMIT, Version, Wire};
+use vme_model::{Edge, Refused, TRACE_LIMIT, Version};
 use vme_slots::Plan;
 
 /// A trace under way, as far as no edge is refused.
@@ -24,13 +23,6 @@ pub(crate) struct Side {
     pub(crate) judged: u64,
     /// The number of the first refused edge, and its verdict.
     pub(crate) refusal: Option<(u64, Refused)>,
-}
-
-/// The first of E1 to E4 that applies to an edge, in an arm for each wire.
-fn judge(state: &BusState, edge: Edge) -> Result<(), Refused>
-    ensures { OfHistory state.now (λ v p h. result ≡ verdict_but_full v p h edge) }
-{
-    by_wire!(edge => state.judge(edge))
 }
 
 impl Side {
@@ -54,7 +46,7 @@ impl Side {
             (OfHistory self.now.state (λ v p h. verdict_but_full v p h edge ≡ Ok tt)) }
         ensures room { OnOk result (self.now.judged < trace_limit) }
     {
-        match judge(&self.state, edge) {
+        match self.state.judge_by_wire(edge) {
             Ok(()) => {
                 if self.judged < u64::from(TRACE_LIMIT) {
                     Ok(())

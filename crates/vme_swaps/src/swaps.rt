@@ -9,7 +9,6 @@ ghost use Rattle.vme_swaps.specs.Served.{is_serving, serves_request};
 ghost use Rattle.vme_swaps.specs.Swaps.{StepsBack};
 
 use vme_bus::BusState;
-use vme_histories::by_wire;
 use vme_interrupter::serves;
 use vme_model::{Driver, Edge, Refused, Wire};
 
@@ -59,14 +58,6 @@ fn is_request_served(state: &BusState, first: Edge, second: Edge) -> bool
     serves_request(state, first, second) || serves_request(state, second, first)
 }
 
-/// The first of E1 to E4 that applies to an edge, in an arm for each wire.
-#[inline(always)]
-fn judge_by_wire(state: &BusState, edge: Edge) -> Result<(), Refused>
-    ensures { OfHistory state.now (λ version p h. result ≡ verdict_but_full version p h edge) }
-{
-    by_wire!(edge => state.judge(edge))
-}
-
 /// How an edge goes back over `first`, the edge before it, after the edges that lead to the state.
 /// The two are legal as they came. The state takes the edge, unless it is refused.
 ///
@@ -84,7 +75,7 @@ pub fn step_back(state: &mut BusState, first: Edge, edge: Edge) -> StepBack
     if let Err(refused) = state.step(edge) {
         return StepBack::Waits(refused);
     }
-    if let Err(refused) = judge_by_wire(state, first) {
+    if let Err(refused) = state.judge_by_wire(first) {
         return StepBack::Races(Err(refused));
     }
     if is_served {

@@ -1,0 +1,115 @@
+"""Copies of functions, each with one edit, in which the edits of a crate are tried side by side.
+
+A copy stands behind its function, under that one's name and the edit's, with its clauses and what is written of its proof. Nothing calls
+it, and the function itself has its contract alone (gate/stubs.py). So any number of edits of one function can be tried in one check, and
+none of them touches another. An edit is made in its place instead if more than the text of its function may matter, or if that one's
+proof is written from its code: that is so for what keeps its body in gate/stubs.py, and for what has a proof by hand of all of it.
+"""
+
+import re
+
+import edit_files
+import sources
+import stubs
+
+WRITTEN = ("Answers.antt", "Invariants.antt")
+WITH = "_with_"
+
+
+class Copy:
+    """The copy of a function that carries an edit: the function's file and path, the copy's name and lines, and its proof's texts by file."""
+
+    def __init__(self, crate, file, text, function, edit_name, texts):
+        self.file, self.path = file, function.path
+        name, place = stubs.name_of(function), stubs.folder_of(crate, file, function)
+        self.name = f"{name}{WITH}{edit_name}"
+        lines = text.split("\n")
+        above = lines[front_of(lines, function.first) : function.first]
+        head = lines[function.first].replace(f"fn {name}", f"fn {self.name}", 1)
+        self.lines = [*above, head, *lines[function.first + 1 : function.end]]
+        written = [it for it in WRITTEN if f"{place}/{it}" in texts]
+        self.proofs = {f"{place}{WITH}{edit_name}/{it}": moved(texts[f"{place}/{it}"], crate, place, self.name) for it in written}
+
+    @property
+    def own_path(self):
+        """The path of the copy."""
+        return f"{self.path.rpartition('::')[0]}::{self.name}"
+
+
+def moved(text, crate, place, name):
+    """The text of a function's proof as that of its copy of this name."""
+    module = place.partition("/")[2].replace("/", ".")
+    own = re.compile(rf"\bRattle\.{crate}\.(proofs|specs\.contracts)\.{re.escape(module)}\b")
+    return own.sub(lambda it: f"Rattle.{crate}.{it[1]}.{module.rpartition('.')[0]}.{name}".replace("..", "."), text)
+
+
+def own_name(path, edit_name):
+    """The path of the function of which a path names the copy with an edit, or the path itself."""
+    return path.removesuffix(f"{WITH}{edit_name}")
+
+
+def made_for(edit, reach, texts):
+    """The copy of its function that carries an edit, or nothing if the edit is to be made in its place."""
+    files = {file for file, _, _ in edit.pairs}
+    if edit.at or len(files) != 1 or len(reach.own) != 1:
+        return None
+    (file,), (path,) = files, reach.own
+    function = only_one(edit.crate, file, texts[file], path)
+    if not function or not can_be_copied(edit.crate, file, texts, function):
+        return None
+    first = front_of(texts[file].split("\n"), function.first)
+    if not all(is_inside(texts[file], old, first, function.end) for _, old, _ in edit.pairs):
+        return None
+    text = edit_files.replaced(texts, edit)[file]
+    edited = only_one(edit.crate, file, text, path)
+    return edited and Copy(edit.crate, file, text, edited, edit.name, texts)
+
+
+def unedited(crate, path, texts):
+    """A copy of a function without an edit, if it can have one."""
+    for file in (it for it in texts if it.startswith("src/")):
+        function = only_one(crate, file, texts[file], path)
+        if function and can_be_copied(crate, file, texts, function):
+            return Copy(crate, file, texts[file], function, "nothing_edited", texts)
+    return None
+
+
+def only_one(crate, file, text, path):
+    """The function of a file that has a path, if one alone has it."""
+    found = [it for it in sources.functions(crate, file, text) if it.path == path]
+    return found[0] if len(found) == 1 else None
+
+
+def can_be_copied(crate, file, texts, function):
+    """Whether nothing but a function's own text, its answers and its invariants can matter to its proof."""
+    place = stubs.folder_of(crate, file, function)
+    is_free = stubs.name_of(function) not in stubs.in_cycles(texts) and f"{place}/Proof.antt" not in texts
+    return is_free and stubs.can_be_stripped(texts[file].split("\n"), function)
+
+
+def front_of(lines, at):
+    """The line on which the attributes and comments above an item begin."""
+    while at > 0 and lines[at - 1].strip().startswith(("#[", "//")):
+        at -= 1
+    return at
+
+
+def is_inside(text, old, first, end):
+    """Whether a piece of a text stands on lines from one on and before another."""
+    at = text.find(old)
+    return first <= text.count("\n", 0, at) and text.count("\n", 0, at + len(old)) < end
+
+
+def beside(crate, texts, copies):
+    """The texts with copies behind their functions."""
+    made = dict(texts)
+    for file in {it.file for it in copies}:
+        here = [it for it in copies if it.file == file]
+        lines = made[file].split("\n")
+        for function in reversed(sources.functions(crate, file, made[file])):
+            them = [line for it in here if it.path == function.path for line in ["", *it.lines]]
+            lines[function.end : function.end] = them
+        made[file] = "\n".join(lines)
+    for it in copies:
+        made.update(it.proofs)
+    return made
