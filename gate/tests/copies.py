@@ -2,10 +2,11 @@
 
 import glob
 import os
+import subprocess
 
 import copies
 from choices import choose
-from tests.small import lay_out, run, write, write_edit
+from tests.small import GATE, lay_out, run, write, write_edit
 from tests.stubs import SOURCE
 from trees import Repository
 from trials import Edits
@@ -41,6 +42,7 @@ def test_all(count, room):
     """Runs all tests of this file."""
     test_texts(count, f"{room}/texts")
     test_verdicts(count, f"{room}/verdicts")
+    test_unedited(count, f"{room}/unedited")
 
 
 def test_texts(count, root):
@@ -98,3 +100,14 @@ def test_verdicts(count, root):
     logs = sorted(map(os.path.basename, glob.glob(f"{root}.logs/*")))
     # The second is over functions without bodies, the third in the whole crate.
     count.tell("one check has all", logs == ["numbers-0-0-0.log", "numbers-0-0.log", "numbers-0.log"], str(logs))
+
+
+def test_unedited(count, root):
+    """The control of the copies passes what is proved without an edit, and fails what is refused without one."""
+    source = SOURCE.partition("/// A number that")[0]
+    for name, text, wanted in (("right", source, "\n3 passed, 0 failed\n"), ("wrong", source.replace("    next(next(number))", "    next(number)"), "\n2 passed, 1 failed\n")):
+        lay_out(f"{root}/{name}", {it: ("result ≡ number + " + it[-1], "result ≡ number + 7") for it in ("edited_1", "edited_2", "edited_4")}, text)
+        words = [os.path.join(GATE, "unedited"), "--root", f"{root}/{name}", "--built", f"{root}/{name}"]
+        ran = subprocess.run(words, text=True, stdout=subprocess.PIPE, stderr=subprocess.STDOUT)
+        is_told = ran.stdout.endswith(wanted) and (name == "right" or "refused at numbers::after_next_with_nothing_edited, src/lib.rt:" in ran.stdout)
+        count.tell(f"a control of what is {name}", is_told and ran.returncode == (name != "right"), ran.stdout[-900:])
