@@ -17,6 +17,7 @@ mod commands;
 mod errors;
 mod helps;
 mod mistakes;
+mod names;
 mod races;
 mod same;
 mod slacks;
@@ -26,8 +27,7 @@ use clap::error::ErrorKind;
 use clap::{ArgMatches, Error};
 use commands::commands;
 use errors::error_of;
-use races::races_of;
-use same::same_of;
+use names::job_of;
 use slacks::slacks_in;
 use std::alloc::Global;
 use vme_goals::Goal;
@@ -659,50 +659,6 @@ fn run_of<'a>(scenario: &'a str, operands: &ArgMatches<'a>) -> Result<Job<'a>, U
         turns: number_of(operands, "turns", MOST_TURNS)?,
         version: version_of(operands)?,
     })
-}
-
-/// The job for the name of a command that takes a scenario, with its operands.
-fn job_on_scenario<'a>(
-    alloc: Global,
-    name: &str,
-    operands: &ArgMatches<'a>,
-) -> Result<Job<'a>, Unfit<'a>>
-    ensures within { IfOk result IsWithin }
-    ensures asked { IfOk result (AsksFor name.now (rows_of (found_of operands.now))) }
-    ensures unfit { IfErr result (IsUnfit name.now (rows_of (found_of operands.now))) }
-{
-    let scenario = file_of(operands, "SCENARIO")?;
-    match name {
-        "replay" => replay_of(scenario, operands),
-        "check" => check_of(alloc, scenario, operands),
-        "explain" => explain_of(scenario, operands),
-        "shrink" => shrink_of(scenario, operands),
-        "state" => state_of(scenario, operands),
-        "show" => show_of(scenario, operands),
-        "cycles" => Ok(Job::Cycles {
-            scenario,
-            trace: file_of(operands, "TRACE")?,
-        }),
-        "summary" => summary_of(alloc, scenario, operands),
-        "races" => races_of(scenario, operands),
-        "same" => same_of(scenario, operands),
-        "order" => order_of(scenario, operands),
-        "drive" => drive_of(scenario, operands),
-        "run" => run_of(scenario, operands),
-        _ => Err(Unfit::Missing),
-    }
-}
-
-/// The job for a command's name, with its operands.
-fn job_of<'a>(alloc: Global, name: &str, operands: &ArgMatches<'a>) -> Result<Job<'a>, Unfit<'a>>
-    ensures within { IfOk result IsWithin }
-    ensures asked { IfOk result (AsksFor name.now (rows_of (found_of operands.now))) }
-    ensures unfit { IfErr result (IsUnfit name.now (rows_of (found_of operands.now))) }
-{
-    match name {
-        "rule" => rules_of(operands),
-        _ => job_on_scenario(alloc, name, operands),
-    }
 }
 
 /// The job for which the command of a parse asks.
