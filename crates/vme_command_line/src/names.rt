@@ -100,7 +100,11 @@ fn job_on_scenario<'a>(
 }
 
 /// The job for a command's name, with its operands.
-pub(crate) fn job_of<'a>(alloc: Global, name: &str, operands: &ArgMatches<'a>) -> Result<Job<'a>, Unfit<'a>>
+pub(crate) fn job_of<'a>(
+    alloc: Global,
+    name: &str,
+    operands: &ArgMatches<'a>,
+) -> Result<Job<'a>, Unfit<'a>>
     ensures within { IfOk result IsWithin }
     ensures asked { IfOk result (AsksFor name.now (rows_of (found_of operands.now))) }
     ensures unfit { IfErr result (IsUnfit name.now (rows_of (found_of operands.now))) }
