@@ -24,8 +24,10 @@ CASES = {
     "no_text_of_the_crate": (("number + 7", "number"), "BAD EDIT: its 'old:' stands in src/lib.rt 0 times, where once is wanted"),
     "a_text_that_stands_twice": (("requires", "ensures"), "BAD EDIT: its 'old:' stands in src/lib.rt 2 times, where once is wanted"),
     "nothing": (("if one < other {", "if one < other {"), "BAD EDIT: it changes nothing"),
-    "no_rattle": (("next(next(number))", "next(next(number)"), "BAD EDIT: it did not come to the prover"),
 }
+
+# An edit that the compiler refuses, beside one for the prover.
+BROKEN = {"no_rattle": ("next(next(number))", "next(next(number)"), "next_is_the_same": CASES["next_is_the_same"][0]}
 
 DEFINITION = """-- What is small, for the tests of gate/edits.
 use Rattle.std.specs.Prelude.{ℕ, ◌<◌}
@@ -90,6 +92,7 @@ def test_all(count, room):
     lay_out(root, {name: edit for name, (edit, _) in CASES.items()})
     before = sum_of(root)
     test_cases(count, root)
+    test_broken(count, room)
     test_export(count, room)
     test_definitions(count, room)
     test_callees(count)
@@ -108,6 +111,15 @@ def test_cases(count, root):
         count.tell(name, len(lines) == 1 and end in lines[0], "; ".join(lines) or said[-500:])
     good = sum("a goal is false" in end for _, end in CASES.values())
     count.tell("total", status == 1 and said.endswith(f"\n{good} passed, {len(CASES) - good} failed\n"), said[-300:])
+
+
+def test_broken(count, room):
+    """An edit that is no Rattle stops its whole batch, and then its own try alone."""
+    root = f"{room}/broken"
+    lay_out(root, BROKEN)
+    status, said = run(root)
+    is_told = "numbers/no_rattle: FAILED: BAD EDIT: it did not come to the prover" in said
+    count.tell("an edit that is no Rattle", status == 1 and is_told and "numbers/next_is_the_same: refused at numbers::next" in said, said[-500:])
 
 
 def test_export(count, room):
