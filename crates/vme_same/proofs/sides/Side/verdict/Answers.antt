@@ -6,17 +6,17 @@ pub returns-then-self-from-clause-verdict : goal.returns-then-self-from-clause-v
 returns-then-self-from-clause-verdict c = λ p v es side none.
     let now = c.args.self.now in
     sym (room_there p v es c.args.edge now side none
-    (sym (c.judge.ensures v p (before p v es c.args.edge) (side.unrefused none).state) ∙ c.in-Ok.is)
+    (sym (c.judge_by_wire.ensures v p (before p v es c.args.edge) (side.unrefused none).state) ∙ c.in-Ok.is)
     (omega arith))
 
 pub returns-else-self-from-clause-verdict : goal.returns-else-self-from-clause-verdict
 returns-else-self-from-clause-verdict c = λ p v es side none.
     let now = c.args.self.now in
     sym (full_there p v es c.args.edge now side none
-    (sym (c.judge.ensures v p (before p v es c.args.edge) (side.unrefused none).state) ∙ c.in-Ok.is)
+    (sym (c.judge_by_wire.ensures v p (before p v es c.args.edge) (side.unrefused none).state) ∙ c.in-Ok.is)
     (omega arith))
 
 pub returns-in-Err-clause-verdict : goal.returns-in-Err-clause-verdict
 returns-in-Err-clause-verdict c = λ p v es side none.
     sym (refused_there p v es c.args.edge c.in-Err.refused
-    (sym (c.judge.ensures v p (before p v es c.args.edge) (side.unrefused none).state) ∙ c.in-Err.is))
+    (sym (c.judge_by_wire.ensures v p (before p v es c.args.edge) (side.unrefused none).state) ∙ c.in-Err.is))
