@@ -21,7 +21,7 @@ class Copy:
 
     def __init__(self, crate, file, text, function, edit_name, texts):
         self.file, self.path = file, function.path
-        name, place = stubs.name_of(function), stubs.folder_of(crate, file, function)
+        name, place = stubs.name_of(function), stubs.folder_of(crate, file, function, texts)
         self.name = f"{name}{WITH}{edit_name}"
         lines = text.split("\n")
         above = lines[front_of(lines, function.first) : function.first]
@@ -82,7 +82,7 @@ def only_one(crate, file, text, path):
 
 def can_be_copied(crate, file, texts, function):
     """Whether nothing but a function's own text, its answers and its invariants can matter to its proof."""
-    place = stubs.folder_of(crate, file, function)
+    place = stubs.folder_of(crate, file, function, texts)
     is_free = stubs.name_of(function) not in stubs.in_cycles(texts) and f"{place}/Proof.antt" not in texts
     return is_free and stubs.can_be_stripped(texts[file].split("\n"), function)
 

@@ -48,7 +48,7 @@ def strip(crate, file, functions, made):
             continue
         first = lines[it.first]
         lines[it.body + 1 : it.end - 1] = [f"{first[: len(first) - len(first.lstrip())]}    {BODY}"]
-        place = folder_of(crate, file, it)
+        place = folder_of(crate, file, it, made)
         for name in FILES:
             made.pop(f"{place}/{name}", None)
         made[f"{place}/Proof.antt"] = hole(crate, place, name_of(it))
@@ -83,12 +83,21 @@ def is_in_own_impl(lines, at):
     return bool(re.match(r"(?:unsafe )?impl\b", lines[at])) and not re.search(r"\bfor\b", sources.header(lines, at))
 
 
-def folder_of(crate, file, function):
-    """The folder of a function's proof."""
+def folder_of(crate, file, function, texts):
+    """The folder of a function's proof: that of a method lies where its type is declared."""
     module = sources.module_of(crate, file)
     owner, _, name = function.path.rpartition("::")
-    parts = [*module.split("::")[1:], *([] if owner == module else [owner]), name]
-    return "/".join(["proofs", *parts])
+    if owner == module:
+        return "/".join(["proofs", *module.split("::")[1:], name])
+    home = home_of(crate, owner, texts) or module
+    return "/".join(["proofs", *home.split("::")[1:], owner, name])
+
+
+def home_of(crate, owner, texts):
+    """The module in which a type is declared, or nothing if a macro writes it."""
+    declared = re.compile(rf"^(?:pub(?:\([a-z: ]+\))? )?(?:struct|enum|union) {owner}\b", re.M)
+    files = [file for file, text in texts.items() if file.startswith("src/") and declared.search(text)]
+    return sources.module_of(crate, files[0]) if files else ""
 
 
 def hole(crate, place, name):

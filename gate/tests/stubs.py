@@ -1,7 +1,11 @@
 """Tests of gate/stubs.py: which functions of a crate are tried without their bodies, and what stands in their place."""
 
+import os
+
+import sources
 import stubs
-from tests.small import lay_out, run, write
+from trees import Repository
+from tests.small import GATE, lay_out, run, write
 
 SOURCE = """//! Numbers, for the tests of gate/stubs.py.
 #![tactic(auto)]
@@ -59,6 +63,7 @@ impl Default for Number {
     }
 }
 """
+REPOSITORY = Repository(os.path.dirname(GATE))
 ANSWERS = "-- The answers of next.\n"
 # The functions whose bodies are left out if that of after_next is kept.
 STRIPPED = {"next": "    unreachable!()", "fourth": "    unreachable!()", "value": "        unreachable!()"}
@@ -69,6 +74,7 @@ HOLE = "use Rattle.numbers.proofs.Number.value.Statement.{statement}\n\npub valu
 def test_all(count, room):
     """Runs all tests of this file."""
     test_texts(count)
+    test_folders(count)
     test_verdicts(count, room)
 
 
@@ -87,6 +93,26 @@ def test_texts(count):
     count.tell("a function is named by the end of its path", by_end == made, str(sorted(by_end)))
     cyclic = stubs.stubbed("numbers", {**texts, "proofs/+next/Proof.antt": ANSWERS}, set())["src/lib.rt"]
     count.tell("what is in a cycle stays", "    number + 1\n" in cyclic, cyclic)
+
+
+def test_folders(count):
+    """A method's proof lies where its type is declared, and each folder of a proof in this repository is that of a function."""
+    texts = {"src/lib.rt": "mod kinds;\n", "src/kinds.rt": "pub(crate) struct Kind {\n    pub value: u8,\n}\n"}
+    source = "impl Kind {\n    fn value(&self) -> u8 {\n        self.value\n    }\n}\n"
+    texts["src/values.rt"] = source
+    (value,) = sources.functions("numbers", "src/values.rt", source)
+    place = stubs.folder_of("numbers", "src/values.rt", value, texts)
+    count.tell("a method's proof", place == "proofs/kinds/Kind/value", place)
+    lost = [it for crate in REPOSITORY.lines for it in folders_of_none(crate, REPOSITORY.texts(crate))]
+    count.tell("each proof is of a function", not lost, str(lost))
+
+
+def folders_of_none(crate, texts):
+    """The folders of proofs of a crate that are of no function, but for those of cycles of calls and of what a type promises."""
+    found = ((file, it) for file, text in texts.items() if file.startswith("src/") for it in sources.functions(crate, file, text))
+    known = {stubs.folder_of(crate, file, it, texts) for file, it in found}
+    folders = {os.path.dirname(it) for it in texts if it.startswith("proofs/") and os.path.basename(it) in stubs.FILES}
+    return [f"{crate}/{it}" for it in sorted(folders - known) if not os.path.basename(it).startswith(("+", "The"))]
 
 
 def test_verdicts(count, room):
