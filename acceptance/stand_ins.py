@@ -1,4 +1,4 @@
-"""What stands in for programs, and for pages and headers, when `acceptance/test` tries the acceptance scripts."""
+"""What stands in for programs, pages and headers while `acceptance/test` tries these scripts."""
 
 # What stands in for the program, the bench in C, rt and any_words: it says that a trace of one edge is legal. With STUB_SLEEPS
 # it notes in that file that it runs, and sleeps; if STUB_NAME is there, too, it does so under that name alone.
