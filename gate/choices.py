@@ -4,6 +4,8 @@ import os
 import re
 from dataclasses import dataclass, replace
 
+import clauses
+import copies
 import edit_files
 import trees
 from outcomes import Outcome
@@ -46,6 +48,8 @@ def unfit(edit, texts):
         return "it edits a definition, and gate/singly does not name the function that has to refuse it ('CRATE/EDIT at: FUNCTION')"
     if not edit_files.reach(edit, texts).own:
         return "it stands in no function, and in nothing that one names: gate/singly is to name the function that has to refuse it"
+    if edit.clause not in ("", clauses.NONE, *copies.clauses_of(edit, texts)):
+        return f"what it edits has no clause {edit.clause} that says what it ensures"
     return ""
 
 

@@ -8,27 +8,34 @@ proof is written from its code: that is so for what keeps its body in gate/stubs
 
 import re
 
+import clauses
 import edit_files
 import sources
 import stubs
 
-WRITTEN = ("Answers.antt", "Invariants.antt")
+ANSWERS = "Answers.antt"
+WRITTEN = (ANSWERS, "Invariants.antt")
 WITH = "_with_"
 
 
 class Copy:
-    """The copy of a function that carries an edit: the function's file and path, the copy's name and lines, and its proof's texts by file."""
+    """The copy of a function that carries an edit: the function's file and path, the copy's name and lines, and its proof's texts by file.
 
-    def __init__(self, crate, file, text, function, edit_name, texts):
+    If the edit names the clause that has to refuse it, the others say nothing (gate/clauses.py)."""
+
+    def __init__(self, crate, file, text, function, edit_name, texts, clause=""):
         self.file, self.path = file, function.path
         name, place = stubs.name_of(function), stubs.folder_of(crate, file, function, texts)
         self.name = f"{name}{WITH}{edit_name}"
-        lines = text.split("\n")
+        lines, behind = text.split("\n"), max(function.first + 1, function.body)
         above = lines[front_of(lines, function.first) : function.first]
-        head = lines[function.first].replace(f"fn {name}", f"fn {self.name}", 1)
-        self.lines = [*above, head, *lines[function.first + 1 : function.end]]
-        written = [it for it in WRITTEN if f"{place}/{it}" in texts]
-        self.proofs = {f"{place}{WITH}{edit_name}/{it}": moved(texts[f"{place}/{it}"], crate, place, self.name) for it in written}
+        head = [lines[function.first].replace(f"fn {name}", f"fn {self.name}", 1), *lines[function.first + 1 : behind]]
+        written = {it: texts[f"{place}/{it}"] for it in WRITTEN if f"{place}/{it}" in texts}
+        if clause and clauses.can_stand_alone(text, written.get(ANSWERS, "")):
+            head = clauses.alone(head, clause)
+            written[ANSWERS] = clauses.answers_alone(written.get(ANSWERS, ""), clause)
+        self.lines = [*above, *head, *lines[behind : function.end]]
+        self.proofs = {f"{place}{WITH}{edit_name}/{it}": moved(text, crate, place, self.name) for it, text in written.items() if text}
 
     @property
     def own_path(self):
@@ -62,15 +69,22 @@ def made_for(edit, reach, texts):
         return None
     text = edit_files.replaced(texts, edit)[file]
     edited = only_one(edit.crate, file, text, path)
-    return edited and Copy(edit.crate, file, text, edited, edit.name, texts)
+    return edited and Copy(edit.crate, file, text, edited, edit.name, texts, edit.clause)
 
 
-def unedited(crate, path, texts):
-    """A copy of a function without an edit, if it can have one."""
+def clauses_of(edit, texts):
+    """The names of the clauses that say what the functions ensure which an edit edits."""
+    own, files = edit_files.reach(edit, texts).own, {file for file, _, _ in edit.pairs}
+    found = [(texts[file].split("\n"), it) for file in files for it in sources.functions(edit.crate, file, texts[file]) if it.path in own]
+    return {name for lines, it in found for name in clauses.names(lines[it.first : it.body])}
+
+
+def unedited(crate, path, texts, clause=""):
+    """A copy of a function without an edit, if it can have one, of all its clauses or of one alone."""
     for file in (it for it in texts if it.startswith("src/")):
         function = only_one(crate, file, texts[file], path)
         if function and can_be_copied(crate, file, texts, function):
-            return Copy(crate, file, texts[file], function, "nothing_edited", texts)
+            return Copy(crate, file, texts[file], function, "_at_".join(["nothing_edited", *clauses.words(clause)]), texts, clause)
     return None
 
 

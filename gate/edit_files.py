@@ -1,7 +1,8 @@
 """Must-fail edits, and the functions that they edit, read from their text.
 
 An edit is a file of crates/NAME/must-fail in the kit's form: lines 'file: src/lib.rt', 'old: TEXT' and 'new: TEXT', each
-TEXT standing in that file exactly once.
+TEXT standing in that file exactly once. A line '# clause: NAME', which the kit does not read, names the clause of its function
+that has to refuse it.
 """
 
 import os
@@ -17,12 +18,13 @@ class BadEdit(Exception):
 
 @dataclass(frozen=True)
 class Edit:
-    """An edit: its crate, its name, its replacements as (file, old, new), and the function that has to refuse it, if it is named."""
+    """An edit: its crate, its name, its replacements as (file, old, new), and the function and the clause that have to refuse it, if they are named."""
 
     crate: str
     name: str
     pairs: tuple
     at: str = ""
+    clause: str = ""
 
     @property
     def label(self):
@@ -48,7 +50,7 @@ class Reach:
 
 def read(crate, name, text):
     """Reads an edit's text, or says by BadEdit what is wrong with it."""
-    file, old, pairs = None, None, []
+    file, old, pairs, clause = None, None, [], ""
     for line in text.split("\n"):
         key, _, rest = line.partition(":")
         rest = rest[1:] if rest.startswith(" ") else rest
@@ -58,6 +60,8 @@ def read(crate, name, text):
                 raise BadEdit("its 'file:' names no file below src/, specs/ or proofs/")
         elif key == "old":
             old = rest
+        elif key == "# clause":
+            clause = rest
         elif key == "new":
             if not file or not old:
                 raise BadEdit("a 'new:' stands before any 'file:' or 'old:'")
@@ -65,7 +69,7 @@ def read(crate, name, text):
             old = None
     if not pairs:
         raise BadEdit("it has no 'old:' and 'new:'")
-    return Edit(crate, name, tuple(pairs))
+    return Edit(crate, name, tuple(pairs), clause=clause)
 
 
 def replaced(texts, edit):

@@ -1,13 +1,17 @@
 """What the prover said of each function of an edited crate."""
 
 import re
-from dataclasses import dataclass
+from dataclasses import dataclass, field
 from enum import Enum
+
+import clauses
 
 FUNCTION = re.compile(r"^fn (\S+): (.*)")
 # what is said of a function because another, which it calls, was refused
 FOR_A_CALLEE = re.compile(r"(?:; )?(?:in \S+, of this cycle of calls: )?it calls .*?, which (?:is|are) not proved")
-# the functions that are named there
+# what stands before the names of the goals that were left open
+OPEN = "`search` did not prove "
+# the functions or goals that are named there
 NAMED = re.compile(r"`([^`]+)`")
 # what is said of a function that is proved but for holes
 HOLED = ("depends on a hole in ", "no holes")
@@ -38,22 +42,29 @@ class Refusal:
 
 @dataclass(frozen=True)
 class Verdict:
-    """What a check came to: whether the prover judged the functions, those that it refused, and the first error."""
+    """What a check came to: whether the prover judged the functions, those that it refused, the first error, and the goals that its
+    search left open, by function."""
 
     is_judged: bool
     refused: dict
     error: str
+    goals: dict = field(default_factory=dict)
 
     def at(self, function):
         """The refusal of the function whose name ends so, if it was refused."""
         found = [it for path, it in self.refused.items() if f"::{path}".endswith(f"::{function}")]
         return found[0] if found else None
 
+    def misses(self, function, clause):
+        """Whether a function that was refused has open goals, and none of a clause of its contract."""
+        goals = self.goals.get(function, ())
+        return bool(clause and goals) and clause != clauses.NONE and not any(it.endswith(f"{clauses.OF_CLAUSE}{clause}") for it in goals)
+
 
 def read(said):
     """Reads what a check printed."""
     lines = said.rstrip("\n").split("\n")
-    refused, notes = {}, []
+    refused, goals, notes = {}, {}, []
     holed = {match[1] for match in map(FUNCTION.match, lines) if match and match[2].startswith(HOLED)}
     for line in lines:
         match = FUNCTION.match(line)
@@ -63,9 +74,10 @@ def read(said):
         if is_refused_itself(match[2], holed):
             path = outer(match[1])
             refused.setdefault(path, refusal(path, notes, match[2]))
+            goals.setdefault(path, NAMED.findall(match[2].rpartition(OPEN)[2]) if OPEN in match[2] else [])
         notes = []
     errors = [it for it in lines if it.startswith("error") or ": error" in it]
-    return Verdict(bool(LAST.match(lines[-1])), refused, (errors or lines[-1:])[0])
+    return Verdict(bool(LAST.match(lines[-1])), refused, (errors or lines[-1:])[0], goals)
 
 
 def is_refused_itself(status, holed=frozenset()):
@@ -92,6 +104,6 @@ def refusal(path, notes, status):
         return Refusal(path, next(place for place, text in places if COUNTEREXAMPLE in text), Kind.COUNTEREXAMPLE)
     if of_source:
         return Refusal(path, of_source[0], Kind.SEARCH)
-    if "`search` did not prove" in status:
-        return Refusal(path, status.rpartition("`search` did not prove ")[2][:80], Kind.SEARCH)
+    if OPEN in status:
+        return Refusal(path, status.rpartition(OPEN)[2][:80], Kind.SEARCH)
     return Refusal(path, places[0][0] if places else status[:80], Kind.PROOF)
