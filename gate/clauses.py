@@ -61,6 +61,12 @@ def is_of_another(answer, clause):
     return OF_CLAUSE in answer and not answer.endswith(f"{OF_CLAUSE}{clause}")
 
 
+def is_at(goal, clause):
+    """Whether a goal is one of a clause, or of none of them."""
+    is_of_return = goal.startswith("returns")
+    return not is_of_return if clause == NONE else is_of_return and goal.endswith(f"{OF_CLAUSE}{clause}")
+
+
 def can_stand_alone(text, answers):
     """Whether a file has the word for what says nothing, and no answer for a return is for all clauses together."""
     return "◌≡◌" in text and all(OF_CLAUSE in it for it in ANSWER.findall(answers))

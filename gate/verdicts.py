@@ -56,9 +56,9 @@ class Verdict:
         return found[0] if found else None
 
     def misses(self, function, clause):
-        """Whether a function that was refused has open goals, and none of a clause of its contract."""
+        """Whether a function that was refused has open goals, and none where its edit says that it has to be refused."""
         goals = self.goals.get(function, ())
-        return bool(clause and goals) and clause != clauses.NONE and not any(it.endswith(f"{clauses.OF_CLAUSE}{clause}") for it in goals)
+        return bool(clause and goals) and not any(clauses.is_at(it, clause) for it in goals)
 
 
 def read(said):

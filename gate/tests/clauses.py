@@ -44,6 +44,7 @@ REFUSED = "numbers/{}: refused at numbers::lesser, src/lib.rt:"
 EDITS = {
     "the_other": ("        one\n", "        other\n", "at_most_one", "REFUSED"),
     "one_of_none": ("one < other", "other < one", "at_most_none", "FAILED: what it edits has no clause at_most_none that says what it ensures"),
+    "no_clause": ("        other\n", "        one\n", "(none)", "FAILED: NOT REFUSED at the clause (none) of numbers::lesser, but at "),
     "the_wrong_one": ("        other\n", "        one\n", "at_most_one", "FAILED: NOT REFUSED at the clause at_most_one of numbers::lesser, but at "),
 }
 
@@ -63,6 +64,9 @@ def test_texts(count):
     lines = [it for it in ANSWERS.split("\n") if it not in answers.split("\n")]
     wanted = ["pub returns-clause-at_most_one : goal.returns-clause-at_most_one", "returns-clause-at_most_one c = it", "  where", "    it = omega arith"]
     count.tell("the answers of the other are gone", lines == wanted, answers)
+    goals = ("returns-clause-at_most_one", "returns-in_default", "add-requires-clause-at_most_one")
+    at = [[clauses.is_at(goal, clause) for goal in goals] for clause in ("at_most_one", clauses.NONE)]
+    count.tell("the goals of a clause, and of none", at == [[True, False, False], [False, False, True]], str(at))
     fits = [clauses.can_stand_alone(text, answers) for text, answers in ((SOURCE, ANSWERS), (SOURCE, WHOLE), ("fn none() {}", ""))]
     count.tell("a clause can stand alone, or not", fits == [True, False, False], str(fits))
 
@@ -77,4 +81,4 @@ def test_verdicts(count, root):
     for name, (_, _, _, wanted) in EDITS.items():
         line = REFUSED.format(name) if wanted == "REFUSED" else f"numbers/{name}: {wanted}"
         count.tell(f"what comes of {name}", line in said, said[-1200:])
-    count.tell("the two failed", status == 1 and said.endswith("\n1 passed, 2 failed\n"), said[-300:])
+    count.tell("the others failed", status == 1 and said.endswith("\n1 passed, 3 failed\n"), said[-300:])
