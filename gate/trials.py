@@ -120,7 +120,7 @@ class Batch:
         """What a batch's verdict says of one of its edits."""
         own, asked_at = self.edits.reach[edit].own, self.edits.functions_of(edit, is_whole)
         here = [it for it in map(verdict.at, sorted(asked_at)) if it]
-        if here and is_whole and verdict.misses(here[0].function, edit.clause):
+        if here and verdict.misses(here[0].function, edit.clause):
             return Outcome(edit.label, why=f"NOT REFUSED at the clause {edit.clause} of {here[0].function}, but at {', '.join(verdict.goals[here[0].function])}")
         if here:
             return Outcome(edit.label, replace(here[0], function=copies.own_name(here[0].function, edit.name)))
