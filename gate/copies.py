@@ -50,11 +50,6 @@ def moved(text, crate, place, name):
     return own.sub(lambda it: f"Rattle.{crate}.{it[1]}.{module.rpartition('.')[0]}.{name}".replace("..", "."), text)
 
 
-def own_name(path, edit_name):
-    """The path of the function of which a path names the copy with an edit, or the path itself."""
-    return path.removesuffix(f"{WITH}{edit_name}")
-
-
 def made_for(edit, reach, texts):
     """The copy of its function that carries an edit, or nothing if the edit is to be made in its place."""
     files = {file for file, _, _ in edit.pairs}

@@ -37,11 +37,14 @@ class Edit:
 
 @dataclass(frozen=True)
 class Reach:
-    """The functions at one of which an edit has to be refused, and all whose proofs it may change: of any function, if it edits a definition."""
+    """The functions at one of which an edit has to be refused, and all whose proofs it may change: of any function, if it edits a definition.
+
+    An edit of an item may stand in no function, but in a constant or a macro."""
 
     own: frozenset
     touched: frozenset
     is_of_all: bool = False
+    is_of_item: bool = False
 
     def is_apart_from(self, other):
         is_free = not self.is_of_all and not other.is_of_all
@@ -97,19 +100,19 @@ def reach(edit, texts):
     if edit.at:
         return Reach(frozenset([edit.at]), frozenset([edit.at]), True)
     found = {file: sources.functions(edit.crate, file, text) for file, text in texts.items() if file.startswith("src/")}
-    own, touched = set(), set()
+    own, touched, is_of_item = set(), set(), False
     for file, old, _ in edit.pairs:
         line = texts[file].count("\n", 0, texts[file].find(old))
         inside = [it for it in found.get(file, []) if it.first <= line < it.end]
         if not inside:
             users = naming(sources.item_name(texts[file], line), found, texts)
-            own, touched = own | users, touched | users
+            own, touched, is_of_item = own | users, touched | users, True
             continue
         function = inside[-1]
         own.add(function.path)
         if line < function.body:
             touched |= naming(function.path.rpartition("::")[2], found, texts)
-    return Reach(frozenset(own), frozenset(own | touched))
+    return Reach(frozenset(own), frozenset(own | touched), is_of_item=is_of_item)
 
 
 def naming(name, found, texts):

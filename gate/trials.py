@@ -1,14 +1,15 @@
 """Tries of edits in batches, each in one copy of a crate, in which the functions of the edits are checked.
 
-A batch has a copy of a function for each edit that can be made in one (gate/copies.py), and one edit of each other function. All other
-functions have no bodies (gate/stubs.py). What is not refused there is tried in the whole crate, in its place. The batches of a crate
-are tried side by side once the first has ended, if lanes are free."""
+A batch has a copy of a function for each edit that can be made in one (gate/copies.py), a copy of a law for each edit of a definition
+that can be made below one (gate/definitions.py), and one edit of each other function. All other functions have no bodies
+(gate/stubs.py). What is not refused there is tried in the whole crate, in its place. The batches of a crate are tried side by side once
+the first has ended, if lanes are free."""
 
 import shutil
 import threading
-from dataclasses import replace
 
 import copies
+import definitions
 import edit_files
 import stubs
 import trees
@@ -23,18 +24,20 @@ MOST = 40
 
 
 class Edits:
-    """The edits of one crate that are to be tried, with what each reaches, and the copies of functions in which most of them are made."""
+    """The edits of one crate that are to be tried, with what each reaches, and the copies of functions and of laws in which most are made."""
 
     def __init__(self, repository, name, edits):
         self.name, self.edits, self.uses, self.texts = name, edits, repository.uses[name], repository.texts(name)
         self.reach = {it: edit_files.reach(it, self.texts) for it in edits}
         found = ((it, copies.made_for(it, self.reach[it], self.texts)) for it in edits)
         self.copies = {it: copy for it, copy in found if copy}
+        below = ((it, definitions.made_for(it, self.texts)) for it in edits if it.at)
+        self.laws = {it: copy for it, copy in below if copy}
 
     def batches(self, edits, in_place=False):
         """Puts edits into few batches, in which no two touch one another: those of definitions last, since each changes the proofs of many."""
         found = []
-        for it in sorted(edits, key=lambda it: (self.reach[it].is_of_all, it in self.copies)):
+        for it in sorted(edits, key=lambda it: (self.reach[it].is_of_all, self.is_copied(it))):
             fits = [batch for batch in found if self.goes_with(it, batch, in_place)]
             if fits:
                 fits[0].append(it)
@@ -44,9 +47,7 @@ class Edits:
 
     def goes_with(self, edit, batch, in_place=False):
         """Whether an edit touches none of a batch, and its text still stands once beside theirs. Copies do not touch one another."""
-        own, is_copied = self.reach[edit], edit in self.copies and not in_place
-        others = [it for it in batch if not (is_copied and it in self.copies)]
-        if len(batch) >= MOST or not all(own.is_apart_from(self.reach[it]) for it in others):
+        if len(batch) >= MOST or not all(self.are_apart(edit, it, in_place) for it in batch):
             return False
         try:
             self.edited([*batch, edit], in_place)
@@ -54,23 +55,37 @@ class Edits:
             return False
         return True
 
+    def is_copied(self, edit, in_place=False):
+        """Whether an edit is made in a copy."""
+        return not in_place and (edit in self.copies or edit in self.laws)
+
+    def are_apart(self, edit, other, in_place=False):
+        """Whether neither of two edits touches the other. No law rests on a function, but one may rest on what stands in none."""
+        if self.is_copied(edit, in_place) and self.is_copied(other, in_place):
+            return True
+        if not in_place and (edit in self.laws or other in self.laws):
+            return not any(self.reach[it].is_of_all or self.reach[it].is_of_item for it in (edit, other) if it not in self.laws)
+        return self.reach[edit].is_apart_from(self.reach[other])
+
     def edited(self, batch, in_place=False):
         """The crate's texts with those edits of a batch that are made in their place, or with all of them."""
         texts = self.texts
         for it in batch:
-            if in_place or it not in self.copies:
+            if not self.is_copied(it, in_place):
                 texts = edit_files.replaced(texts, it)
         return texts
 
     def prepared(self, batch):
         """The texts with the edits of a batch, in copies if they can be made there, and without the bodies of all other functions."""
         found = [self.copies[it] for it in batch if it in self.copies]
-        keep = {path for it in batch if it not in self.copies for path in self.reach[it].touched} | {it.own_path for it in found}
-        return stubs.stubbed(self.name, copies.beside(self.name, self.edited(batch), found), keep)
+        keep = {path for it in batch if not self.is_copied(it) for path in self.reach[it].touched} | {it.own_path for it in found}
+        texts = stubs.stubbed(self.name, copies.beside(self.name, self.edited(batch), found), keep)
+        return definitions.beside(texts, [self.laws[it] for it in batch if it in self.laws])
 
     def functions_of(self, edit, in_place=False):
         """The functions at one of which an edit has to be refused."""
-        return {self.copies[edit].own_path} if edit in self.copies and not in_place else self.reach[edit].own
+        copy = None if in_place else self.copies.get(edit) or self.laws.get(edit)
+        return {copy.own_path} if copy else self.reach[edit].own
 
 
 class Batch:
@@ -83,7 +98,7 @@ class Batch:
         """Tries the batch, and yields each of its edits with what came of it."""
         self.trial.share(self.copy)
         # A definition's edit mostly breaks lemmas of a law, which calls nothing. Past them a check that takes holes would go on.
-        is_whole = any(self.edits.reach[it].is_of_all for it in self.batch)
+        is_whole = any(self.edits.reach[it].is_of_all and not self.edits.is_copied(it) for it in self.batch)
         yield from self.try_batch(prover, self.batch, self.label, is_whole)
 
     def try_batch(self, prover, batch, label, is_whole=False):
@@ -123,7 +138,7 @@ class Batch:
         if here and verdict.misses(here[0].function, edit.clause):
             return Outcome(edit.label, why=f"NOT REFUSED at the clause {edit.clause} of {here[0].function}, but at {', '.join(verdict.goals[here[0].function])}")
         if here:
-            return Outcome(edit.label, replace(here[0], function=copies.own_name(here[0].function, edit.name)))
+            return Outcome(edit.label, verdict.in_copy(here[0], f"{copies.WITH}{edit.name}"))
         if not verdict.is_judged:
             return Outcome(edit.label, why=f"BAD EDIT: it did not come to the prover: {verdict.error[:200]}")
         edited, others = ", ".join(sorted(own)), ", ".join(sorted(verdict.refused))

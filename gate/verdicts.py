@@ -1,7 +1,7 @@
 """What the prover said of each function of an edited crate."""
 
 import re
-from dataclasses import dataclass, field
+from dataclasses import dataclass, field, replace
 from enum import Enum
 
 import clauses
@@ -16,6 +16,7 @@ NAMED = re.compile(r"`([^`]+)`")
 # what is said of a function that is proved but for holes
 HOLED = ("depends on a hole in ", "no holes")
 PLACE = re.compile(r"^(?:note: )?(?:\./)?((?:src|specs|proofs)/\S+?:\d+):\d+: (.*)")
+PLACED = re.compile(r"\S+:\d+")
 LAST = re.compile(r"^only=(\d+) (?:proved|holes)=(\d+)$")
 COUNTEREXAMPLE = "allow values at which this goal is false"
 
@@ -42,18 +43,25 @@ class Refusal:
 
 @dataclass(frozen=True)
 class Verdict:
-    """What a check came to: whether the prover judged the functions, those that it refused, the first error, and the goals that its
-    search left open, by function."""
+    """What a check came to: whether the prover judged the functions, those that it refused, the first error, the goals that its search
+    left open, by function, and all places in files of which it printed something."""
 
     is_judged: bool
     refused: dict
     error: str
     goals: dict = field(default_factory=dict)
+    places: tuple = ()
 
     def at(self, function):
         """The refusal of the function whose name ends so, if it was refused."""
         found = [it for path, it in self.refused.items() if f"::{path}".endswith(f"::{function}")]
         return found[0] if found else None
+
+    def in_copy(self, refusal, end):
+        """A refusal in a copy, whose names end so, in the names of what was copied, and at the first place in the copy."""
+        own = [it for it in self.places if f"{end}." in it or f"{end}/" in it]
+        place = own[0] if own and not PLACED.fullmatch(refusal.place) else refusal.place
+        return replace(refusal, function=refusal.function.replace(end, ""), place=place.replace(end, ""))
 
     def misses(self, function, clause):
         """Whether a function that was refused has open goals, and none where its edit says that it has to be refused."""
@@ -77,7 +85,8 @@ def read(said):
             goals.setdefault(path, NAMED.findall(match[2].rpartition(OPEN)[2]) if OPEN in match[2] else [])
         notes = []
     errors = [it for it in lines if it.startswith("error") or ": error" in it]
-    return Verdict(bool(LAST.match(lines[-1])), refused, (errors or lines[-1:])[0], goals)
+    places = tuple(match[1] for match in map(PLACE.match, lines) if match)
+    return Verdict(bool(LAST.match(lines[-1])), refused, (errors or lines[-1:])[0], goals, places)
 
 
 def is_refused_itself(status, holed=frozenset()):
