@@ -12,6 +12,9 @@ from dataclasses import dataclass
 import sources
 
 
+WORD = re.compile(r"\w+")
+
+
 class BadEdit(Exception):
     """An edit that cannot be tried, and why."""
 
@@ -39,16 +42,18 @@ class Edit:
 class Reach:
     """The functions at one of which an edit has to be refused, and all whose proofs it may change: of any function, if it edits a definition.
 
-    An edit of an item may stand in no function, but in a constant or a macro."""
+    It may also call functions that the text before it did not: with an edit of one of these it might make a cycle of calls. An edit of
+    an item stands in no function, but in a constant or a macro."""
 
     own: frozenset
     touched: frozenset
+    called: frozenset = frozenset()
     is_of_all: bool = False
     is_of_item: bool = False
 
     def is_apart_from(self, other):
         is_free = not self.is_of_all and not other.is_of_all
-        return is_free and not self.touched & other.own and not self.own & other.touched
+        return is_free and not (self.touched | self.called) & other.own and not self.own & (other.touched | other.called)
 
 
 def read(crate, name, text):
@@ -98,7 +103,7 @@ def reach(edit, texts):
     edit that names the function that has to refuse it may change any.
     """
     if edit.at:
-        return Reach(frozenset([edit.at]), frozenset([edit.at]), True)
+        return Reach(frozenset([edit.at]), frozenset([edit.at]), is_of_all=True)
     found = {file: sources.functions(edit.crate, file, text) for file, text in texts.items() if file.startswith("src/")}
     own, touched, is_of_item = set(), set(), False
     for file, old, _ in edit.pairs:
@@ -112,7 +117,13 @@ def reach(edit, texts):
         own.add(function.path)
         if line < function.body:
             touched |= naming(function.path.rpartition("::")[2], found, texts)
-    return Reach(frozenset(own), frozenset(own | touched), is_of_item=is_of_item)
+    return Reach(frozenset(own), frozenset(own | touched), frozenset(newly_named(edit, found)), is_of_item=is_of_item)
+
+
+def newly_named(edit, found):
+    """The functions with a name that stands in what an edit writes, and not in what it replaces."""
+    words = {it for _, old, new in edit.pairs for it in {*WORD.findall(new)} - {*WORD.findall(old)}}
+    return {it.path for functions in found.values() for it in functions if it.path.rpartition("::")[2] in words}
 
 
 def naming(name, found, texts):

@@ -1,4 +1,4 @@
-"""Tests of edits that are put off: what a batch does not refuse, since a callee was refused in it, goes into the next batches."""
+"""Tests of batches: what one does not refuse, since a callee was refused in it, goes into the next, and none has edits that make a cycle of calls."""
 
 from choices import choose
 from commands import Ended
@@ -78,3 +78,14 @@ def test_all(count, room):
     found, times = tried(other, prover)
     count.tell("edits of one function stay apart", times == 3 and not any(it.why for it in found.values()), f"{found} {prover.asked}")
 
+    test_cycles(count, f"{room}/cycle")
+
+
+def test_cycles(count, root):
+    """An edit that calls another edited function shares no batch with its edit. Edits that call nothing more do."""
+    lay_out(root, {"one_of_two": ("    1", "    two() - 1"), "two_is_wrong": ("    one() + 1", "    one() + 2")}, SOURCE)
+    edits = Edits(Repository(root), "numbers", choose(Repository(root), [])[0]["numbers"])
+    count.tell("a cycle of calls is in no batch", len(edits.batches(edits.edits)) == 2, str(edits.reach))
+    lay_out(f"{root}/none", {"one_is_two": ("    1", "    2"), "two_is_wrong": ("    one() + 1", "    one() + 2")}, SOURCE)
+    edits = Edits(Repository(f"{root}/none"), "numbers", choose(Repository(f"{root}/none"), [])[0]["numbers"])
+    count.tell("edits that make none share one", len(edits.batches(edits.edits)) == 1, str(edits.reach))
