@@ -53,7 +53,10 @@ class Reach:
 
     def is_apart_from(self, other):
         is_free = not self.is_of_all and not other.is_of_all
-        return is_free and not (self.touched | self.called) & other.own and not self.own & (other.touched | other.called)
+        return is_free and not self.touched & other.own and not self.own & other.touched
+
+    def makes_no_cycle_with(self, other):
+        return not self.called & other.own and not self.own & other.called
 
 
 def read(crate, name, text):

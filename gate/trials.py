@@ -20,7 +20,7 @@ from prover import KEPT, MODULE
 from spent import timed
 
 # At most so many edits are tried in one check, so that the lanes end at about the same time.
-MOST = 40
+MOST = 48
 
 
 class Edits:
@@ -60,12 +60,13 @@ class Edits:
         return not in_place and (edit in self.copies or edit in self.laws)
 
     def are_apart(self, edit, other, in_place=False):
-        """Whether neither of two edits touches the other. No law rests on a function, but one may rest on what stands in none."""
-        if self.is_copied(edit, in_place) and self.is_copied(other, in_place):
-            return True
-        if not in_place and (edit in self.laws or other in self.laws):
-            return not any(self.reach[it].is_of_all or self.reach[it].is_of_item for it in (edit, other) if it not in self.laws)
-        return self.reach[edit].is_apart_from(self.reach[other])
+        """Whether neither of two edits touches the other. Nothing calls a copy, and no law rests on a function, but on constants."""
+        one, two, copied = self.reach[edit], self.reach[other], [it for it in (edit, other) if self.is_copied(it, in_place)]
+        if not copied:
+            return one.is_apart_from(two) and one.makes_no_cycle_with(two)
+        if any(it in self.laws for it in copied):
+            return all(it in copied or not self.reach[it].is_of_all and not self.reach[it].is_of_item for it in (edit, other))
+        return len(copied) == 2 or one.is_apart_from(two)
 
     def edited(self, batch, in_place=False):
         """The crate's texts with those edits of a batch that are made in their place, or with all of them."""
