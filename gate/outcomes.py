@@ -92,23 +92,28 @@ def read_text(file):
         return it.read()
 
 
-def place():
-    """The folder of the records: below `XDG_CACHE_HOME` if that is an absolute path, otherwise below ~/.cache."""
+def place(kind):
+    """The folder of what is kept of a kind: below `XDG_CACHE_HOME` if that is an absolute path, otherwise below ~/.cache."""
     cache = os.environ.get("XDG_CACHE_HOME", "")
-    return f"{cache if os.path.isabs(cache) else os.path.expanduser('~/.cache')}/vmebus/edits"
+    return f"{cache if os.path.isabs(cache) else os.path.expanduser('~/.cache')}/vmebus/{kind}"
+
+
+def is_ours(folder):
+    """Whether a folder, which is made if it is not there, is the user's own, and nobody else can write there."""
+    try:
+        os.makedirs(folder, 0o700, exist_ok=True)
+        found = os.stat(folder)
+        return found.st_uid == os.geteuid() and not found.st_mode & 0o022
+    except OSError:
+        return False
 
 
 class Store:
     """The records of earlier runs. Whatever goes wrong with one costs time and nothing else."""
 
     def __init__(self, sums, anew):
-        self.sums, self.anew, self.at = sums, anew, place()
-        try:
-            os.makedirs(self.at, 0o700, exist_ok=True)
-            found = os.stat(self.at)
-            self.is_ours = found.st_uid == os.geteuid() and not found.st_mode & 0o022
-        except OSError:
-            self.is_ours = False
+        self.sums, self.anew, self.at = sums, anew, place("edits")
+        self.is_ours = is_ours(self.at)
         if not self.is_ours:
             print(f"edits: {self.at} cannot be used, so that the next run tries every edit again", flush=True)
 

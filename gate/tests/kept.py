@@ -204,7 +204,7 @@ def test_places(count, room):
         is_well = all(status == 0 and tried(said) == 1 and "cannot be used, so that the next run tries" in said for status, said in runs)
         count.tell(f"a cache that is {name}", is_well, runs[1][1][-500:])
     os.environ["XDG_CACHE_HOME"] = "relative"
-    count.tell("a relative cache", outcomes.place() == os.path.expanduser("~/.cache/vmebus/edits"), outcomes.place())
+    count.tell("a relative cache", outcomes.place("edits") == os.path.expanduser("~/.cache/vmebus/edits"), outcomes.place("edits"))
     test_full(count, root, f"{room}/full")
 
 
