@@ -113,24 +113,21 @@ def test_texts(count, root):
 
 def test_verdicts(count, root):
     """Edits of definitions are tried in one check, and each has its own answer. One that is not refused there has to be refused in its place."""
-    lay(root, ["one_more", "once", "two_more", "another_name", "at_a_function"])
+    lay(root, ["one_more", "once", "two_more", "another_name"])
     status, said = run(root, "--logs", f"{root}.logs")
     for name, place in (("one_more", "proofs/Sums.antt:5"), ("once", "proofs/Sums.antt:5"), ("two_more", "src/laws.rt:")):
         count.tell(f"{name} is refused", f"numbers/{name}: refused at numbers::{EDITS[name][3]}, {place}" in said, said[-1500:])
-    count.tell("at_a_function is refused", "numbers/at_a_function: refused at numbers::twice, src/lib.rt:" in said, said[-1500:])
     count.tell("another_name is not", f"numbers/another_name: FAILED: NOT REFUSED: {FOUR}, which has to refuse it, is proved with it" in said, said[-1500:])
-    count.tell("that alone failed", status == 1 and said.endswith("\n4 passed, 1 failed\n"), said[-300:])
+    count.tell("that alone failed", status == 1 and said.endswith("\n3 passed, 1 failed\n"), said[-300:])
     logs = sorted(map(os.path.basename, glob.glob(f"{root}.logs/*")))
-    # The first is for what has to be refused at a function. The third is over functions without bodies, the fourth in the whole crate.
-    count.tell("one check has all laws", logs == ["numbers-0.log", "numbers-1-0-0.log", "numbers-1-0.log", "numbers-1.log"], str(logs))
+    # The second is over functions without bodies, the third in the whole crate.
+    count.tell("one check has all laws", logs == ["numbers-0-0-0.log", "numbers-0-0.log", "numbers-0.log"], str(logs))
 
 
 def test_unedited(count, root):
     """The control of the copies passes a law that is proved, and fails one that is refused without an edit."""
-    wrong = {**FILES, "specs/Fours.antt": FILES["specs/Fours.antt"].replace("double (double n)", "double n")}
-    for name, texts, wanted in (("right", FILES, "\n2 passed, 0 failed\n"), ("wrong", wrong, "\n1 passed, 1 failed\n")):
-        lay(f"{root}/{name}", ["one_more", "two_more"], texts)
-        words = [os.path.join(GATE, "unedited"), "--root", f"{root}/{name}", "--built", f"{root}/{name}"]
-        ran = subprocess.run(words, text=True, stdout=subprocess.PIPE, stderr=subprocess.STDOUT)
-        is_told = ran.stdout.endswith(wanted) and (name == "right" or "refused at numbers::laws_with_nothing_edited_at_one_more::fourfold_is_a_sum" in ran.stdout)
-        count.tell(f"a control of laws of what is {name}", is_told and ran.returncode == (name != "right"), ran.stdout[-900:])
+    lay(root, ["one_more", "two_more"], {**FILES, "specs/Fours.antt": FILES["specs/Fours.antt"].replace("double (double n)", "double n")})
+    words = [os.path.join(GATE, "unedited"), "--root", root, "--built", root]
+    ran = subprocess.run(words, text=True, stdout=subprocess.PIPE, stderr=subprocess.STDOUT)
+    is_told = "refused at numbers::laws_with_nothing_edited_at_one_more::fourfold_is_a_sum" in ran.stdout
+    count.tell("a control of laws", is_told and ran.returncode == 1 and ran.stdout.endswith("\n1 passed, 1 failed\n"), ran.stdout[-900:])
