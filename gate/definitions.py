@@ -4,7 +4,8 @@ A definition affects the proofs of many functions, so an edit of one has to be r
 take a check of its own, most of which is the same for every edit. So the file with the edit is copied, and with it each file of specs/
 and proofs/ through which the law rests on it, and the law, in a file of src/ of its own. Copies name copies, and nothing else names
 them: so none of these edits affects another, and nothing else in the crate is changed. An edit is made in its place, alone, if what
-has to refuse it is no law of src/laws.rt, if more than such files may rest on it, or if it is not refused at the copy.
+has to refuse it is no law of src/laws.rt, or if it is not refused at the copy. If something else of the crate lay between, such as a
+function or what a type promises, the copy would be refused without an edit too: gate/unedited would find it.
 """
 
 import re
@@ -17,6 +18,8 @@ LAWS = "laws"
 PROOFS = f"proofs/{LAWS}"
 PARTS = ("specs", "proofs")
 FILE = re.compile(r"(specs|proofs)/(?!Lib\b)(\w+)\.antt")
+ROOT = "src/lib.rt"
+DECLARED = re.compile(rf"^((?:pub(?:\([a-z]+\))? )?mod ){LAWS};\n", re.M)
 IMPORT = re.compile(r"ghost use ([\w.]+)\.\{(.*)\};")
 
 
@@ -79,17 +82,17 @@ def file_of(module):
 
 def made_for(edit, texts):
     """The copy of its law that carries an edit of a definition, or nothing if the edit is to be made in its place."""
-    found = reach(edit, texts)
+    found = to_copy(edit, texts)
     return found and Copy(edit.crate, edit.name, edit_files.replaced(texts, edit), *found)
 
 
 def unedited(edit, texts):
     """The copy of its law that an edit of a definition would have, without it."""
-    found = reach(edit, texts)
+    found = to_copy(edit, texts)
     return found and Copy(edit.crate, f"nothing_edited_at_{edit.name}", texts, *found)
 
 
-def reach(edit, texts):
+def to_copy(edit, texts):
     """The law that has to refuse an edit, and the files to copy for it, if it can be made in a copy."""
     law, edited = law_of(edit, texts), modules_of(edit)
     if not law or not edited or not all(file_of(it) in texts for it in edited):
@@ -111,7 +114,7 @@ def law_of(edit, texts):
     """The law that has to refuse an edit, if it is one."""
     module, _, name = edit.at.rpartition("::")
     file = f"src/{LAWS}.rt"
-    if module != LAWS or file not in texts:
+    if module != LAWS or file not in texts or not DECLARED.search(texts.get(ROOT, "")):
         return None
     found = sources.functions(edit.crate, file, texts[file])
     lines = texts[file].split("\n")
@@ -126,7 +129,7 @@ def named(crate, text, texts):
 
 
 def between_of(crate, texts, roots, edited):
-    """The files by which something that names these rests on what is edited, and the edited ones, if nothing else of the crate lies between."""
+    """The files by which something that names these rests on what is edited, and the edited ones: none if it does not rest on all of them."""
     uses, left = {}, [*roots]
     while left:
         it = left.pop()
@@ -148,10 +151,9 @@ def beside(texts, copies):
     made = dict(texts)
     for part in PARTS:
         made[f"{part}/Lib.antt"] = "".join([made.get(f"{part}/Lib.antt", ""), "\n", *(it.lines(part) for it in copies)])
-    root = "src/lib.rt"
-    declared = re.search(rf"^((?:pub(?:\([a-z]+\))? )?mod ){LAWS};\n", made[root], re.M)
+    declared = DECLARED.search(made[ROOT])
     lines = "".join(f"{declared[1]}{LAWS}{it.end};\n" for it in copies)
-    made[root] = made[root][: declared.end()] + lines + made[root][declared.end() :]
+    made[ROOT] = made[ROOT][: declared.end()] + lines + made[ROOT][declared.end() :]
     for it in copies:
         made |= it.texts
     return made

@@ -11,7 +11,6 @@ from dataclasses import dataclass
 
 import sources
 
-
 WORD = re.compile(r"\w+")
 
 

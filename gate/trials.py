@@ -98,7 +98,7 @@ class Batch:
     def outcomes(self, prover):
         """Tries the batch, and yields each of its edits with what came of it."""
         self.trial.share(self.copy)
-        # A definition's edit mostly breaks lemmas of a law, which calls nothing. Past them a check that takes holes would go on.
+        # In its place an edit of a definition may change any proof of the crate, so that nothing is left out there.
         is_whole = any(self.edits.reach[it].is_of_all and not self.edits.is_copied(it) for it in self.batch)
         yield from self.try_batch(prover, self.batch, self.label, is_whole)
 
@@ -136,6 +136,8 @@ class Batch:
         """What a batch's verdict says of one of its edits."""
         own, asked_at = self.edits.reach[edit].own, self.edits.functions_of(edit, is_whole)
         here = [it for it in map(verdict.at, sorted(asked_at)) if it]
+        if here and edit in self.edits.laws and not is_whole and here[0].function in verdict.unstated:
+            return Outcome(edit.label, why=f"NOT REFUSED: what {here[0].function} ensures cannot be read in the copy")
         if here and verdict.misses(here[0].function, edit.clause):
             return Outcome(edit.label, why=f"NOT REFUSED at the clause {edit.clause} of {here[0].function}, but at {', '.join(verdict.goals[here[0].function])}")
         if here:

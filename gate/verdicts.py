@@ -17,6 +17,7 @@ NAMED = re.compile(r"`([^`]+)`")
 HOLED = ("depends on a hole in ", "no holes")
 PLACE = re.compile(r"^(?:note: )?(?:\./)?((?:src|specs|proofs)/\S+?:\d+):\d+: (.*)")
 PLACED = re.compile(r"\S+:\d+")
+UNSTATED = "did not admit its contract"
 LAST = re.compile(r"^only=(\d+) (?:proved|holes)=(\d+)$")
 COUNTEREXAMPLE = "allow values at which this goal is false"
 
@@ -44,13 +45,14 @@ class Refusal:
 @dataclass(frozen=True)
 class Verdict:
     """What a check came to: whether the prover judged the functions, those that it refused, the first error, the goals that its search
-    left open, by function, and all places in files of which it printed something."""
+    left open, by function, all places in files of which it printed something, and the functions whose contract it did not take."""
 
     is_judged: bool
     refused: dict
     error: str
     goals: dict = field(default_factory=dict)
     places: tuple = ()
+    unstated: frozenset = frozenset()
 
     def at(self, function):
         """The refusal of the function whose name ends so, if it was refused."""
@@ -86,7 +88,8 @@ def read(said):
         notes = []
     errors = [it for it in lines if it.startswith("error") or ": error" in it]
     places = tuple(match[1] for match in map(PLACE.match, lines) if match)
-    return Verdict(bool(LAST.match(lines[-1])), refused, (errors or lines[-1:])[0], goals, places)
+    unstated = frozenset(outer(match[1]) for match in map(FUNCTION.match, lines) if match and UNSTATED in match[2])
+    return Verdict(bool(LAST.match(lines[-1])), refused, (errors or lines[-1:])[0], goals, places, unstated)
 
 
 def is_refused_itself(status, holed=frozenset()):

@@ -4,7 +4,7 @@ import glob
 import os
 import subprocess
 
-import definitions
+import verdicts
 from choices import choose
 from tests.small import GATE, lay_out, run, write
 from trees import Repository
@@ -71,6 +71,7 @@ def test_all(count, room):
     test_texts(count, f"{room}/texts")
     test_verdicts(count, f"{room}/verdicts")
     test_unedited(count, f"{room}/unedited")
+    test_unstated(count)
 
 
 def lay(root, names, texts=FILES):
@@ -131,3 +132,11 @@ def test_unedited(count, root):
     ran = subprocess.run(words, text=True, stdout=subprocess.PIPE, stderr=subprocess.STDOUT)
     is_told = "refused at numbers::laws_with_nothing_edited_at_one_more::fourfold_is_a_sum" in ran.stdout
     count.tell("a control of laws", is_told and ran.returncode == 1 and ran.stdout.endswith("\n1 passed, 1 failed\n"), ran.stdout[-900:])
+
+
+def test_unstated(count):
+    """A function whose contract the prover did not take is told from one whose proof it refused."""
+    said = "fn numbers::laws_with_it::one: no proof: antt did not admit its contract or its `statement`: help: fix that first\nfn numbers::two: not proved\nonly=2 proved=0\n"
+    verdict = verdicts.read(said)
+    is_told = verdict.unstated == {"numbers::laws_with_it::one"} and {*verdict.refused} == {"numbers::laws_with_it::one", "numbers::two"}
+    count.tell("a contract that is not taken", is_told, str(verdict))
