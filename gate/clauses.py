@@ -9,8 +9,9 @@ import re
 
 # The name in the file of an edit that is refused at no clause, but at what its function owes to what it calls, say.
 NONE = "(none)"
-# What is said by a clause that says nothing.
-NOTHING = "result ≡ result"
+# What is said by a clause that says nothing, and the line that imports the sign in it.
+NOTHING, SIGN = "result ≡ result", "◌≡◌"
+IMPORT, IMPORTS = f"ghost use Rattle.std.specs.Prelude.{{{SIGN}}};", "ghost use "
 ENSURES = re.compile(r"( *ensures (\w+) )\{")
 ANSWER = re.compile(r"^pub (returns\S*) : goal\.", re.M)
 OF_CLAUSE = "-clause-"
@@ -67,6 +68,12 @@ def is_at(goal, clause):
     return not is_of_return if clause == NONE else is_of_return and goal.endswith(f"{OF_CLAUSE}{clause}")
 
 
-def can_stand_alone(text, answers):
-    """Whether a file has the word for what says nothing, and no answer for a return is for all clauses together."""
-    return "◌≡◌" in text and all(OF_CLAUSE in it for it in ANSWER.findall(answers))
+def can_stand_alone(answers):
+    """Whether no answer for a return is for all clauses together."""
+    return all(OF_CLAUSE in it for it in ANSWER.findall(answers))
+
+
+def importing(lines):
+    """The lines of a file, so that it imports the sign in what says nothing."""
+    at = next((it for it, line in enumerate(lines) if line.startswith(IMPORTS)), None)
+    return lines if at is None or any(SIGN in it for it in lines) else [*lines[:at], IMPORT, *lines[at:]]

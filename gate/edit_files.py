@@ -42,13 +42,14 @@ class Reach:
     """The functions at one of which an edit has to be refused, and all whose proofs it may change: of any function, if it edits a definition.
 
     It may also call functions that the text before it did not: with an edit of one of these it might make a cycle of calls. An edit of
-    an item stands in no function, but in a constant or a macro."""
+    an item stands in no function, but in a constant or a macro: the shortest function that names it is the first to be tried."""
 
     own: frozenset
     touched: frozenset
     called: frozenset = frozenset()
     is_of_all: bool = False
     is_of_item: bool = False
+    first: str = ""
 
     def is_apart_from(self, other):
         is_free = not self.is_of_all and not other.is_of_all
@@ -107,7 +108,7 @@ def reach(edit, texts):
     if edit.at:
         return Reach(frozenset([edit.at]), frozenset([edit.at]), is_of_all=True)
     found = {file: sources.functions(edit.crate, file, text) for file, text in texts.items() if file.startswith("src/")}
-    own, touched, is_of_item = set(), set(), False
+    own, touched, is_of_item, stands_in = set(), set(), False, set()
     for file, old, _ in edit.pairs:
         line = texts[file].count("\n", 0, texts[file].find(old))
         inside = [it for it in found.get(file, []) if it.first <= line < it.end]
@@ -117,9 +118,17 @@ def reach(edit, texts):
             continue
         function = inside[-1]
         own.add(function.path)
+        stands_in.add(function.path)
         if line < function.body:
             touched |= naming(function.path.rpartition("::")[2], found, texts)
-    return Reach(frozenset(own), frozenset(own | touched), frozenset(newly_named(edit, found)), is_of_item=is_of_item)
+    first = "" if stands_in else shortest(own, found)
+    return Reach(frozenset(own), frozenset(own | touched), frozenset(newly_named(edit, found)), is_of_item=is_of_item, first=first)
+
+
+def shortest(paths, found):
+    """The function of fewest lines among these, or nothing if there are none."""
+    lines = {it.path: it.end - it.first for functions in found.values() for it in functions}
+    return min(sorted(paths), key=lines.get, default="")
 
 
 def newly_named(edit, found):

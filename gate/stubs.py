@@ -1,7 +1,8 @@
 """The functions that no edit of a batch changes, without their bodies.
 
 A caller's proof rests on the contract of what it calls, not on its body. So such a function keeps its head and its clauses, and its
-body is left out: in its place stands what returns nothing, and in place of its proof a hole, which `--allow-holes` takes for one.
+body is left out: in its place stands what returns nothing. In place of its proof stands a lemma that says anything and has a hole for
+a proof, which `--allow-holes` takes for one. With a hole of its own for each function, the prover would keep the whole statement of each.
 A function keeps its body if more than its contract may matter: in an impl of a trait or a macro, if it is a constant one or
 `main`, or if it calls itself, since functions in a cycle of calls are proved together.
 """
@@ -11,7 +12,13 @@ import re
 import sources
 
 BODY = "unreachable!()"
+# The file of the lemma that takes the place of proofs, and the one that declares it.
+LEMMA, LIBRARY = "proofs/Unproved.antt", "proofs/Lib.antt"
+ANYTHING = "-- What is not proved here.\n\npub unproved : (A : Type 2) → A\nunproved A = ?\n"
+DECLARED = "pub mod Unproved\n"
 FILES = ("Answers.antt", "Invariants.antt", "Proof.antt")
+# What stands before a call on a field of `self`.
+OF_FIELD = re.compile(r"(?<![\w.])self(?:\s*\.\w+)+\s*\Z")
 KEPT_HEAD = re.compile(r'\bconst fn\b|\bextern "C" fn\b|\bfn main\b')
 
 
@@ -22,6 +29,8 @@ def stubbed(crate, texts, keep):
         if file.startswith("src/"):
             found = [it for it in sources.functions(crate, file, text) if name_of(it) not in cyclic and not is_one(it, keep)]
             strip(crate, file, found, made)
+    if LEMMA in made:
+        made[LIBRARY] = made.get(LIBRARY, "") + DECLARED
     return made
 
 
@@ -41,7 +50,7 @@ def in_cycles(texts):
 
 
 def strip(crate, file, functions, made):
-    """Leaves out the bodies of these functions of a file, and puts a hole in place of the proof of each."""
+    """Leaves out the bodies of these functions of a file, and puts the lemma in place of the proof of each."""
     lines = made[file].split("\n")
     for it in reversed(functions):
         if not can_be_stripped(lines, it):
@@ -51,7 +60,8 @@ def strip(crate, file, functions, made):
         place = folder_of(crate, file, it, made)
         for name in FILES:
             made.pop(f"{place}/{name}", None)
-        made[f"{place}/Proof.antt"] = hole(crate, place, name_of(it))
+        made[f"{place}/Proof.antt"] = unproved(crate, place, name_of(it))
+        made[LEMMA] = ANYTHING
     made[file] = "\n".join(lines)
 
 
@@ -70,10 +80,11 @@ def can_be_stripped(lines, function):
 
 
 def calls_itself(function, body):
-    """Whether a function may call itself, by the calls that stand in its body."""
+    """Whether a function may call itself, by the calls that stand in its body. What is called on a field of `self` is of another type."""
     owner, _, name = function.path.rpartition("::")
     before = rf"(?:\.|\bSelf::|\b{owner}::)" if owner[:1].isupper() else r"(?<![\w.:])"
-    return bool(re.search(rf"{before}{name}(?:::<[^>]*>)?\(", body))
+    found = re.finditer(rf"{before}{name}(?:::<[^>]*>)?\(", body)
+    return not all(it[0].startswith(".") and OF_FIELD.search(body, 0, it.start()) for it in found)
 
 
 def is_in_own_impl(lines, at):
@@ -100,7 +111,8 @@ def home_of(crate, owner, texts):
     return sources.module_of(crate, files[0]) if files else ""
 
 
-def hole(crate, place, name):
-    """The text of a proof that is a hole."""
+def unproved(crate, place, name):
+    """The text of a proof by the lemma."""
     module = place.partition("/")[2].replace("/", ".")
-    return f"use Rattle.{crate}.proofs.{module}.Statement.{{statement}}\n\npub {name}_spec : {{M : Type 1}} → statement M\n{name}_spec = ?\n"
+    imports = f"use Rattle.{crate}.proofs.Unproved.{{unproved}}\nuse Rattle.{crate}.proofs.{module}.Statement.{{statement}}\n"
+    return f"{imports}\npub {name}_spec : {{M : Type 1}} → statement M\n{name}_spec {{M}} = unproved (statement M)\n"

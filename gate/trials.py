@@ -20,7 +20,7 @@ from prover import KEPT, MODULE
 from spent import timed
 
 # At most so many edits are tried in one check, so that the lanes end at about the same time.
-MOST = 48
+MOST = 64
 
 
 class Edits:
@@ -79,14 +79,21 @@ class Edits:
     def prepared(self, batch):
         """The texts with the edits of a batch, in copies if they can be made there, and without the bodies of all other functions."""
         found = [self.copies[it] for it in batch if it in self.copies]
-        keep = {path for it in batch if not self.is_copied(it) for path in self.reach[it].touched} | {it.own_path for it in found}
+        keep = {path for it in batch if not self.is_copied(it) for path in self.kept_for(it)} | {it.own_path for it in found}
         texts = stubs.stubbed(self.name, copies.beside(self.name, self.edited(batch), found), keep)
         return definitions.beside(texts, [self.laws[it] for it in batch if it in self.laws])
 
+    def kept_for(self, edit):
+        """The functions that keep their bodies for an edit in its place: of those that name an item, the shortest."""
+        reach = self.reach[edit]
+        return {reach.first} if reach.first else reach.touched
+
     def functions_of(self, edit, in_place=False):
-        """The functions at one of which an edit has to be refused."""
-        copy = None if in_place else self.copies.get(edit) or self.laws.get(edit)
-        return {copy.own_path} if copy else self.reach[edit].own
+        """The functions at one of which an edit has to be refused: of those that name an item, the shortest, until it is tried in place."""
+        copy, first = self.copies.get(edit) or self.laws.get(edit), self.reach[edit].first
+        if in_place or not (copy or first):
+            return self.reach[edit].own
+        return {copy.own_path if copy else first}
 
 
 class Batch:

@@ -67,8 +67,11 @@ def test_texts(count):
     goals = ("returns-clause-at_most_one", "returns-in_default", "add-requires-clause-at_most_one")
     at = [[clauses.is_at(goal, clause) for goal in goals] for clause in ("at_most_one", clauses.NONE)]
     count.tell("the goals of a clause, and of none", at == [[True, False, False], [False, False, True]], str(at))
-    fits = [clauses.can_stand_alone(text, answers) for text, answers in ((SOURCE, ANSWERS), (SOURCE, WHOLE), ("fn none() {}", ""))]
-    count.tell("a clause can stand alone, or not", fits == [True, False, False], str(fits))
+    fits = [clauses.can_stand_alone(answers) for answers in (ANSWERS, WHOLE, "")]
+    count.tell("a clause can stand alone, or not", fits == [True, False, True], str(fits))
+    files = SOURCE, SOURCE.replace("◌≡◌, ", ""), "fn none() {}"
+    found = [clauses.importing(it.split("\n")).count(clauses.IMPORT) for it in files]
+    count.tell("the sign is imported where it is not yet", found == [0, 1, 0], str(found))
 
 
 def test_verdicts(count, root):

@@ -20,6 +20,22 @@ pub const fn two() -> u8 {
     one() + 1
 }
 """
+# A constant that two functions name.
+NAMED = """//! Numbers, for the tests of what is tried first.
+
+const ONE: u8 = 1;
+
+/// Two.
+pub const fn two() -> u8 {
+    let one = ONE;
+    one + 1
+}
+
+/// One.
+pub const fn one() -> u8 {
+    ONE
+}
+"""
 ONE = {f"one_is_wrong_{at}": ("    1", f"    {at} + wrong_one()") for at in range(2)}
 
 
@@ -36,6 +52,18 @@ class ByHand:
         if "numbers::two" in functions:
             is_refused = self.refuses_two and not is_one
             said += f"fn numbers::two: {'not proved' if is_refused else 'not proved; it calls `numbers::one`, which is not proved' if is_one else 'proved'}\n"
+        return Ended(1, f"{said}only={len(functions)} proved=0\n", 1.0, ())
+
+
+class OfOne:
+    """A prover that refuses one function, and notes what it is asked."""
+
+    def __init__(self, refused):
+        self.asked, self.refused = [], refused
+
+    def check(self, _, uses, folder, functions, is_whole):
+        self.asked.append((sorted(functions), is_whole))
+        said = "".join(f"fn {it}: {'no proof' if it == self.refused else 'proved'}\n" for it in sorted(functions))
         return Ended(1, f"{said}only={len(functions)} proved=0\n", 1.0, ())
 
 
@@ -79,6 +107,17 @@ def test_all(count, room):
     count.tell("edits of one function stay apart", times == 3 and not any(it.why for it in found.values()), f"{found} {prover.asked}")
 
     test_cycles(count, f"{room}/cycle")
+    test_items(count, f"{room}/item")
+
+
+def test_items(count, root):
+    """An edit of a constant is tried at the shortest function that names it, and at the others if that does not refuse it."""
+    lay_out(root, {"one_is_two": ("const ONE: u8 = 1;", "const ONE: u8 = 2;")}, NAMED)
+    first, both = (["numbers::one"], False), (["numbers::one", "numbers::two"], True)
+    for refused, wanted in (("one", [first]), ("two", [first, both])):
+        prover = OfOne(f"numbers::{refused}")
+        found, times = tried(root, prover)
+        count.tell(f"a constant that {refused} refuses", prover.asked == wanted and times == 1 and not found["one_is_two"].why, f"{found} {prover.asked}")
 
 
 def test_cycles(count, root):

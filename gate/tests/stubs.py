@@ -68,12 +68,18 @@ ANSWERS = "-- The answers of next.\n"
 # The functions whose bodies are left out if that of after_next is kept.
 STRIPPED = {"next": "    unreachable!()", "fourth": "    unreachable!()", "value": "        unreachable!()"}
 KEPT = ("next(next(number))", "Number { value }", "self.end()", "Number { value: 0 }")
-HOLE = "use Rattle.numbers.proofs.Number.value.Statement.{statement}\n\npub value_spec : {M : Type 1} → statement M\nvalue_spec = ?\n"
+UNPROVED = """use Rattle.numbers.proofs.Unproved.{unproved}
+use Rattle.numbers.proofs.Number.value.Statement.{statement}
+
+pub value_spec : {M : Type 1} → statement M
+value_spec {M} = unproved (statement M)
+"""
 
 
 def test_all(count, room):
     """Runs all tests of this file."""
     test_texts(count)
+    test_calls(count)
     test_folders(count)
     test_verdicts(count, room)
 
@@ -86,13 +92,25 @@ def test_texts(count):
     count.tell("bodies are left out", source.count("unreachable!()") == len(STRIPPED) and all(it in source for it in STRIPPED.values()), source)
     count.tell("bodies that matter stay", all(it in source for it in KEPT), source)
     count.tell("heads stay", all(line in source for line in SOURCE.split("\n") if "fn " in line or " ensures " in line or " requires " in line), source)
-    holes = sorted(it for it in made if it.startswith("proofs/"))
-    wanted = ["proofs/Number/value/Proof.antt", "proofs/after_next/Answers.antt", "proofs/fourth/Proof.antt", "proofs/next/Proof.antt"]
-    count.tell("holes are in place of proofs", holes == wanted and made["proofs/Number/value/Proof.antt"] == HOLE, str(holes))
+    found = sorted(it.removeprefix("proofs/") for it in made if it.startswith("proofs/"))
+    wanted = ["Lib.antt", "Number/value/Proof.antt", "Unproved.antt", "after_next/Answers.antt", "fourth/Proof.antt", "next/Proof.antt"]
+    is_well = found == wanted and made["proofs/Number/value/Proof.antt"] == UNPROVED and made["proofs/Lib.antt"] == "pub mod Unproved\n"
+    count.tell("a lemma is in place of proofs", is_well, str(found))
     by_end = stubs.stubbed("numbers", texts, {"after_next"})
     count.tell("a function is named by the end of its path", by_end == made, str(sorted(by_end)))
     cyclic = stubs.stubbed("numbers", {**texts, "proofs/+next/Proof.antt": ANSWERS}, set())["src/lib.rt"]
     count.tell("what is in a cycle stays", "    number + 1\n" in cyclic, cyclic)
+
+
+def test_calls(count):
+    """A method may call itself, but not by a field."""
+    method = sources.Function("Number::value", 0, 0, 0)
+    calls = ("self.value()", "Self::value(it)", "Number::value::<u8>(it)", "other.value()", "self.other().value()", "self.one.value() + self.value()")
+    found = [it for it in calls if not stubs.calls_itself(method, it)]
+    count.tell("calls of itself", not found, str(found))
+    calls = ("self.one.value()", "self.one.two.value()", "self\n    .one\n    .value()", "Other::value(it)", "value(it)", "self.values()")
+    found = [it for it in calls if stubs.calls_itself(method, it)]
+    count.tell("calls of others", not found, str(found))
 
 
 def test_folders(count):
