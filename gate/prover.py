@@ -16,6 +16,8 @@ import trees
 
 # What a check may want of memory, in KiB.
 ROOM = 4_000_000
+# So many seconds after a check began, its process is counted among those at work.
+PAUSE = 3
 # Where the prover makes temporary folders: it makes none but for the texts that it offers, and none here.
 NO_FOLDER = "/dev/null"
 # The folder beside a crate in which the prover keeps its work, and how the names of the files end that hold a checked module each.
@@ -39,7 +41,7 @@ class Prover:
     def __init__(self, commands, built):
         self.commands, self.built, self.kit = commands, built, kit()
         self.uses = trees.read_crates(built)[1]
-        self.turn, self.at_work = threading.Lock(), 0
+        self.turn, self.at_work, self.begun = threading.Lock(), 0, 0
 
     def check(self, crate, uses, folder, functions, is_whole=True):
         """Checks these functions of the crate that lies in a folder, over the work that is kept beside it, and returns how that ended.
@@ -60,11 +62,15 @@ class Prover:
                 self.at_work -= 1
 
     def begin(self):
-        """Waits until there is memory for a check, or no other check runs."""
+        """Waits until there is memory for a check and a processor that has no work, or no other check of this runner runs.
+
+        More processes than processors take turns, and each spends a fifth more processor time, since it finds the caches full of what
+        the others read."""
         while True:
             with self.turn:
-                if not self.at_work or free_memory() > ROOM:
-                    self.at_work += 1
+                is_settled = time.monotonic() - self.begun > PAUSE
+                if not self.at_work or is_settled and free_memory() > ROOM and at_work() < len(os.sched_getaffinity(0)):
+                    self.at_work, self.begun = self.at_work + 1, time.monotonic()
                     return
             time.sleep(1)
 
@@ -126,6 +132,12 @@ def close_offers(kept):
             if not os.path.lexists(file):
                 with open(file, "w", encoding="utf-8"):
                     pass
+
+
+def at_work():
+    """How many processes of the machine run or wait for a processor, but for the one that asks."""
+    with open("/proc/loadavg", encoding="utf-8") as text:
+        return int(text.read().split()[3].partition("/")[0]) - 1
 
 
 def free_memory():

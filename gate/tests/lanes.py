@@ -2,7 +2,11 @@
 
 import json
 import os
+import subprocess
+import threading
+import time
 
+import prover
 from choices import choose
 from commands import Ended
 from spent import Spent
@@ -28,6 +32,7 @@ def test_all(count, room):
     test_batches(count, calls)
     test_copies(count, calls)
     test_queue(count, Repository(root))
+    test_begin(count)
     test_spent(count)
     count.tell("what was spent is printed", "\nedits took " in in_turn and "\nthe dearest edited functions, in seconds: " in in_turn, in_turn)
 
@@ -82,6 +87,29 @@ def test_queue(count, repository):
     queue.end(others[1])
     last = queue.find()
     count.tell("a copy is used again", last.copy == others[1].copy and not queue.trials and not queue.find(), str(vars(last)))
+
+
+def test_begin(count):
+    """One check always begins. Another waits until a processor has no work."""
+    made, before = object.__new__(prover.Prover), (prover.at_work, prover.PAUSE)
+    made.turn, made.at_work, made.begun = threading.Lock(), 0, 0
+    prover.at_work, prover.PAUSE = lambda: 1_000, 0
+    made.begin()
+    count.tell("one check begins on a busy machine", made.at_work == 1, str(vars(made)))
+    other = threading.Thread(target=made.begin)
+    other.start()
+    time.sleep(1.5)
+    count.tell("another waits", made.at_work == 1 and other.is_alive(), str(vars(made)))
+    prover.at_work = lambda: 0
+    other.join(5)
+    count.tell("it begins once a processor is free", made.at_work == 2 and not other.is_alive(), str(vars(made)))
+    prover.at_work, prover.PAUSE = before
+    busy = subprocess.Popen(["sh", "-c", "while :; do :; done"])
+    time.sleep(0.3)
+    found = prover.at_work()
+    busy.kill()
+    busy.wait()
+    count.tell("a process at work is counted", found >= 1, str(found))
 
 
 def test_spent(count):
