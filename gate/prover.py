@@ -16,7 +16,7 @@ import trees
 
 # What a check may want of memory, in KiB.
 ROOM = 4_000_000
-# So many seconds after a check began, its process is counted among those at work.
+# Checks begin at least so many seconds apart, since a process that has just begun is not counted yet.
 PAUSE = 3
 # Where the prover makes temporary folders: it makes none but for the texts that it offers, and none here.
 NO_FOLDER = "/dev/null"
@@ -64,12 +64,11 @@ class Prover:
     def begin(self):
         """Waits until there is memory for a check and a processor that has no work, or no other check of this runner runs.
 
-        More processes than processors take turns, and each spends a fifth more processor time, since it finds the caches full of what
-        the others read."""
+        With more processes than processors each spends more processor time: a fifth more, where that was measured (docs/TESTING.md)."""
         while True:
             with self.turn:
                 is_settled = time.monotonic() - self.begun > PAUSE
-                if not self.at_work or is_settled and free_memory() > ROOM and at_work() < len(os.sched_getaffinity(0)):
+                if not self.at_work or is_settled and free_memory() > ROOM and busy_processes() < len(os.sched_getaffinity(0)):
                     self.at_work, self.begun = self.at_work + 1, time.monotonic()
                     return
             time.sleep(1)
@@ -134,7 +133,7 @@ def close_offers(kept):
                     pass
 
 
-def at_work():
+def busy_processes():
     """How many processes of the machine run or wait for a processor, but for the one that asks."""
     with open("/proc/loadavg", encoding="utf-8") as text:
         return int(text.read().split()[3].partition("/")[0]) - 1

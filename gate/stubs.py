@@ -15,7 +15,7 @@ BODY = "unreachable!()"
 # The file of the lemma that takes the place of proofs, and the one that declares it.
 LEMMA, LIBRARY = "proofs/Unproved.antt", "proofs/Lib.antt"
 ANYTHING = "-- What is not proved here.\n\npub unproved : (A : Type 2) → A\nunproved A = ?\n"
-DECLARED = "pub mod Unproved\n"
+DECLARED = "\npub mod Unproved\n"
 FILES = ("Answers.antt", "Invariants.antt", "Proof.antt")
 # What stands before a call on a field of `self`.
 OF_FIELD = re.compile(r"(?<![\w.])self(?:\s*\.\w+)+\s*\Z")

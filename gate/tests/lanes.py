@@ -91,22 +91,22 @@ def test_queue(count, repository):
 
 def test_begin(count):
     """One check always begins. Another waits until a processor has no work."""
-    made, before = object.__new__(prover.Prover), (prover.at_work, prover.PAUSE)
+    made, before = object.__new__(prover.Prover), (prover.busy_processes, prover.PAUSE)
     made.turn, made.at_work, made.begun = threading.Lock(), 0, 0
-    prover.at_work, prover.PAUSE = lambda: 1_000, 0
+    prover.busy_processes, prover.PAUSE = lambda: 1_000, 0
     made.begin()
     count.tell("one check begins on a busy machine", made.at_work == 1, str(vars(made)))
     other = threading.Thread(target=made.begin)
     other.start()
     time.sleep(1.5)
     count.tell("another waits", made.at_work == 1 and other.is_alive(), str(vars(made)))
-    prover.at_work = lambda: 0
+    prover.busy_processes = lambda: 0
     other.join(5)
     count.tell("it begins once a processor is free", made.at_work == 2 and not other.is_alive(), str(vars(made)))
-    prover.at_work, prover.PAUSE = before
+    prover.busy_processes, prover.PAUSE = before
     busy = subprocess.Popen(["sh", "-c", "while :; do :; done"])
     time.sleep(0.3)
-    found = prover.at_work()
+    found = prover.busy_processes()
     busy.kill()
     busy.wait()
     count.tell("a process at work is counted", found >= 1, str(found))
