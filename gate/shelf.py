@@ -1,7 +1,6 @@
-"""Static libraries that earlier runs on this machine proved and built.
+"""Files that earlier runs on this machine made: static libraries, and totals of the tests of the gate.
 
-A library lies in the user's cache under the sum of all that it was built of: the kit, the files of this folder that were loaded, and
-the texts and lines of crates.txt of its crate and of all crates below. Its own sum stands in its name too, so that one that was cut
+A file lies in the user's cache under the sum of all that it was made of. Its own sum stands in its name too, so that one that was cut
 short or changed counts for nothing. Whatever goes wrong costs time and nothing else.
 """
 
@@ -12,29 +11,20 @@ import shutil
 import tempfile
 
 import outcomes
-import trees
 
-# At most so many libraries are kept: the newest.
-MOST = 4
-
-
-def sum_of(tree, crate):
-    """The sum of all that a static library is built of."""
-    repository = trees.Repository(tree)
-    crates = [*trees.below(repository.uses, crate), crate]
-    texts = [(it, repository.lines[it], repr(sorted(repository.texts(it).items()))) for it in crates]
-    return outcomes.digest(outcomes.kit_sum(), outcomes.runner_sum(), *(part for it in texts for part in it))
+# At most so many files of each kind are kept: the newest.
+MOST = {"libraries": 4, "gate-tests": 100}
 
 
 class Shelf:
-    """The place of the library with a sum."""
+    """The place of the file of a kind with a sum."""
 
-    def __init__(self, key):
-        self.key, self.at = key, outcomes.place("libraries")
+    def __init__(self, kind, key):
+        self.kind, self.key, self.at = kind, key, outcomes.place(kind)
         self.is_ours = outcomes.is_ours(self.at)
 
     def give(self, to):
-        """Puts the library there if an earlier run built it, and returns whether it did."""
+        """Puts the file there if an earlier run made it, and returns whether it did."""
         for file in glob.glob(f"{self.at}/{self.key}-*") if self.is_ours else ():
             try:
                 os.makedirs(os.path.dirname(to), exist_ok=True)
@@ -48,7 +38,7 @@ class Shelf:
         return False
 
     def keep(self, file):
-        """Keeps a library that was proved and built."""
+        """Keeps a file that was made."""
         made = None
         try:
             if self.is_ours:
@@ -66,7 +56,7 @@ class Shelf:
             return f"{self.at}/{self.key}-{hashlib.sha256(it.read()).hexdigest()}"
 
     def shrink(self):
-        """Removes the libraries that were not used for the longest time, beyond the most that are kept."""
+        """Removes the files that were not used for the longest time, beyond the most that are kept."""
         found = sorted(os.scandir(self.at), key=lambda it: it.stat().st_mtime, reverse=True)
-        for it in found[MOST:]:
+        for it in found[MOST[self.kind] :]:
             outcomes.remove(it.path)

@@ -99,16 +99,16 @@ def test_broken(count, maker):
 
 def kept(maker):
     """The files that are kept of the tree as it is."""
-    return glob.glob(f"{shelf.outcomes.place('libraries')}/{shelf.sum_of(maker.tree, 'high')}-*")
+    return glob.glob(f"{shelf.outcomes.place('libraries')}/{LIBRARY.sum_of(maker.tree, 'high')}-*")
 
 
 def test_bounds(count, maker):
     """The newest libraries are kept, and no more than there is to be."""
-    for at in range(shelf.MOST + 2):
+    for at in range(shelf.MOST['libraries'] + 2):
         write(f"{maker.tree}/crates/low/src/lib.rt", f"// {at}\n")
         built(maker)
     files = os.listdir(shelf.outcomes.place("libraries"))
-    count.tell("no more are kept", len(files) == shelf.MOST, str(files))
+    count.tell("no more are kept", len(files) == shelf.MOST['libraries'], str(files))
     count.tell("the newest is", built(maker)[1] is False, str(files))
 
 

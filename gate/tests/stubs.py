@@ -1,11 +1,8 @@
 """Tests of gate/stubs.py: which functions of a crate are tried without their bodies, and what stands in their place."""
 
-import os
-
 import sources
 import stubs
-from trees import Repository
-from tests.small import GATE, lay_out, run, write
+from tests.small import lay_out, run, write
 
 SOURCE = """//! Numbers, for the tests of gate/stubs.py.
 #![tactic(auto)]
@@ -63,7 +60,6 @@ impl Default for Number {
     }
 }
 """
-REPOSITORY = Repository(os.path.dirname(GATE))
 ANSWERS = "-- The answers of next.\n"
 # The functions whose bodies are left out if that of after_next is kept.
 STRIPPED = {"next": "    unreachable!()", "fourth": "    unreachable!()", "value": "        unreachable!()"}
@@ -80,7 +76,6 @@ def test_all(count, room):
     """Runs all tests of this file."""
     test_texts(count)
     test_calls(count)
-    test_folders(count)
     test_verdicts(count, room)
 
 
@@ -111,26 +106,6 @@ def test_calls(count):
     calls = ("self.one.value()", "self.one.two.value()", "self\n    .one\n    .value()", "Other::value(it)", "value(it)", "self.values()")
     found = [it for it in calls if stubs.calls_itself(method, it)]
     count.tell("calls of others", not found, str(found))
-
-
-def test_folders(count):
-    """A method's proof lies where its type is declared, and each folder of a proof in this repository is that of a function."""
-    texts = {"src/lib.rt": "mod kinds;\n", "src/kinds.rt": "pub(crate) struct Kind {\n    pub value: u8,\n}\n"}
-    source = "impl Kind {\n    fn value(&self) -> u8 {\n        self.value\n    }\n}\n"
-    texts["src/values.rt"] = source
-    (value,) = sources.functions("numbers", "src/values.rt", source)
-    place = stubs.folder_of("numbers", "src/values.rt", value, texts)
-    count.tell("a method's proof", place == "proofs/kinds/Kind/value", place)
-    lost = [it for crate in REPOSITORY.lines for it in folders_of_none(crate, REPOSITORY.texts(crate))]
-    count.tell("each proof is of a function", not lost, str(lost))
-
-
-def folders_of_none(crate, texts):
-    """The folders of proofs of a crate that are of no function, but for those of cycles of calls and of what a type promises."""
-    found = ((file, it) for file, text in texts.items() if file.startswith("src/") for it in sources.functions(crate, file, text))
-    known = {stubs.folder_of(crate, file, it, texts) for file, it in found}
-    folders = {os.path.dirname(it) for it in texts if it.startswith("proofs/") and os.path.basename(it) in stubs.FILES}
-    return [f"{crate}/{it}" for it in sorted(folders - known) if not os.path.basename(it).startswith(("+", "The"))]
 
 
 def test_verdicts(count, room):
