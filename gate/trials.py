@@ -112,13 +112,14 @@ class Batch:
     def try_batch(self, prover, batch, label, is_whole=False):
         """Tries a batch, and once more what was not refused in it: a proof by hand is not tried where a callee was refused.
 
-        What is not refused among functions without bodies is tried in the whole crate, so that this has the last word."""
+        What is not refused among functions without bodies is tried in the whole crate, so that this has the last word. So is at once what
+        stood beside copies alone, since nothing calls a copy."""
         verdict = self.check(prover, batch, label, is_whole)
         found = {it: self.outcome(it, verdict, is_whole) for it in batch}
         left = [it for it in batch if found[it].why]
         is_last = is_whole and len(batch) == 1
         yield from ((it, found[it]) for it in batch if it not in left or is_last)
-        is_whole_next = is_whole or len(left) == len(batch)
+        is_whole_next = is_whole or len(left) == len(batch) or all(map(self.edits.is_copied, batch))
         if not is_whole_next:
             left = self.trial.put_off(left)
         again = [] if is_last else self.edits.batches(left, in_place=is_whole_next)

@@ -99,8 +99,8 @@ def test_verdicts(count, root):
     count.tell("the_same_by_a_sum is not", "numbers/the_same_by_a_sum: FAILED: NOT REFUSED: numbers::after_next, which it edits, is proved with it" in said, said[-1200:])
     count.tell("that alone failed", status == 1 and said.endswith("\n5 passed, 1 failed\n"), said[-300:])
     logs = sorted(map(os.path.basename, glob.glob(f"{root}.logs/*")))
-    # The second is over functions without bodies, the third in the whole crate.
-    count.tell("one check has all", logs == ["numbers-0-0-0.log", "numbers-0-0.log", "numbers-0.log"], str(logs))
+    # The second is in the whole crate.
+    count.tell("one check has all", logs == ["numbers-0-0.log", "numbers-0.log"], str(logs))
 
 
 def test_unedited(count, root):

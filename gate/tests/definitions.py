@@ -121,8 +121,8 @@ def test_verdicts(count, root):
     count.tell("another_name is not", f"numbers/another_name: FAILED: NOT REFUSED: {FOUR}, which has to refuse it, is proved with it" in said, said[-1500:])
     count.tell("that alone failed", status == 1 and said.endswith("\n3 passed, 1 failed\n"), said[-300:])
     logs = sorted(map(os.path.basename, glob.glob(f"{root}.logs/*")))
-    # The second is over functions without bodies, the third in the whole crate.
-    count.tell("one check has all laws", logs == ["numbers-0-0-0.log", "numbers-0-0.log", "numbers-0.log"], str(logs))
+    # The second is in the whole crate.
+    count.tell("one check has all laws", logs == ["numbers-0-0.log", "numbers-0.log"], str(logs))
 
 
 def test_unedited(count, root):
