@@ -2,6 +2,7 @@
 
 from collections import Counter
 from dataclasses import dataclass
+from functools import lru_cache
 from typing import FrozenSet, List, Optional
 
 from . import toml
@@ -226,8 +227,9 @@ class Backplane:
         self.last_segments[chain] = segment
 
 
+@lru_cache(maxsize=1)
 def read(text):
-    """The backplane of a scenario's bytes."""
+    """The backplane of a scenario's bytes; the last one is kept, since runs in a row mostly have the same scenario."""
     rows = rows_of(Keys(toml.read(text)))
     for fault in faults_of(rows):
         raise Fault(fault)
