@@ -18,15 +18,15 @@ class Way(NamedTuple):
 
 
 def played(bus, edges):
-    """The verdicts of edges one after another, up to the first refusal, and how the bus stands after them; the bus stays as it
-    was."""
+    """The verdicts of edges one after another, up to the first refusal, and how the bus stands after them, None if one is
+    refused; the bus stays as it was."""
     verdicts, last = [], bus.past[-1].number if bus.past else 0
     for edge in edges:
         verdicts.append(verdict_of(bus, edge))
         if not is_ok(verdicts[-1]):
             break
         bus.accept(edge, last + len(verdicts))
-    stands = bus.stand()
+    stands = bus.stand() if is_ok(verdicts[-1]) else None
     for it in verdicts:
         if is_ok(it):
             bus.take_back()
@@ -36,20 +36,18 @@ def played(bus, edges):
 def is_free(bus, first, second):
     """Whether two edges that are legal in this order are legal in the other one, with the same verdicts and the bus in the same
     state after them."""
-    verdicts, stands = played(bus, [first, second])
-    others, stands_then = played(bus, [second, first])
-    return verdicts == others[::-1] and stands == stands_then
+    return what_stops(bus, first, second) is None
 
 
 def what_stops(bus, first, second):
     """Why two edges that are legal in this order cannot change places: what stops the second, and the outcome; None if the swap
     is free."""
-    if is_free(bus, first, second):
-        return None
-    verdicts, _ = played(bus, [second, first])
+    verdicts, stands = played(bus, [second, first])
     if not is_ok(verdicts[0]):
         return "waits for", verdicts[0]
-    return "races", "other" if is_ok(verdicts[1]) else verdicts[1]
+    if not is_ok(verdicts[1]):
+        return "races", verdicts[1]
+    return None if played(bus, [first, second]) == (verdicts[::-1], stands) else ("races", "other")
 
 
 def way_back(bus, edge, kept=0):
