@@ -17,7 +17,7 @@ from .drawn_moments import legal_edges, plan_drawn
 from .program import main
 from .traces import ACCESSES, text_of
 
-FILES = ["scenario.toml", "trace.vme"]
+SCENARIO = "scenario.toml"
 OF_A_CYCLE = ("addr", "as", "ds", "dtack")
 SINCE = re.compile(rb"(?<= since )[0-9]+$", re.M)
 
@@ -39,17 +39,18 @@ def by_model(folder):
 
 
 class Replayed:
-    """A trace, the verdict on each of its edges, and where the bus stands in it; `written` is a function of words."""
+    """A trace, the verdict on each of its edges, and where the bus stands in it; `written` is a function of words.  The file is
+    new, since to write over one costs far more."""
 
-    def __init__(self, written, folder, text):
-        self.written, self.path, self.text = written, Path(folder, FILES[1]), text
+    def __init__(self, written, path, text):
+        self.written, self.path = written, path
+        path.write_text(text)
         *verdicts, self.counts = self.asked("replay").splitlines() or [b""]
         self.verdicts = [it.partition(b" ")[2] for it in verdicts]
         self.end = self.asked("state")
 
     def asked(self, command, *options):
-        self.path.write_text(self.text)
-        return self.written([command, *FILES, *options])
+        return self.written([command, SCENARIO, self.path.name, *options])
 
     def state(self, count):
         return self.asked("state", "--after", str(count))
@@ -100,11 +101,11 @@ def faults_of_swaps(seed, program, folder):
     scenario, plan = plan_drawn(draw)
     version = draw.choice([1, 2])
     edges = draw.choice([legal_edges, edges_with_answers])(draw, plan, version, draw.choice([10, 20, 40, 80]))
-    Path(folder, FILES[0]).write_text(scenario)
+    Path(folder, SCENARIO).write_text(scenario)
     written = by_program(program, folder) if program else by_model(folder)
-    before = Replayed(written, folder, text_of(version, edges))
-    for place, swapped in free_swaps(draw, plan, version, edges, 0.7):
-        after = Replayed(written, folder, text_of(version, swapped))
+    before = Replayed(written, Path(folder, "0.vme"), text_of(version, edges))
+    for number, (place, swapped) in enumerate(free_swaps(draw, plan, version, edges, 0.7), 1):
+        after = Replayed(written, Path(folder, f"{number}.vme"), text_of(version, swapped))
         yield fault_in_swap(before, after, place)
         before = after
 
