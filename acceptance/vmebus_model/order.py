@@ -104,21 +104,26 @@ def next_by_window(question, beginning):
     return [j for j in left if not any(question.before(i, j) for i in left)]
 
 
-def with_place(question, beginning, place):
-    """A legal beginning with one more place, None if its edge is refused there."""
-    edge = question.seen[place].edge
-    if refusal(beginning.bus, edge):
+def kind_with(question, beginning, place):
+    """What decides how a beginning with one more place goes on: its set of places, and how the bus
+    stands then; None if the edge of the place is refused."""
+    edge, bus = question.seen[place].edge, beginning.bus
+    if refusal(bus, edge):
         return None
-    places = beginning.places + (place,)
     least, above = beginning.least, beginning.above | {place}
     while least in above:
         least, above = least + 1, above - {least}
-    return Beginning(places, least, above, beginning.bus.with_edge(edge, len(places)))
+    bus.accept(edge, len(beginning.places) + 1)
+    stand = bus.stand()
+    bus.take_back()
+    return least, above, stand
 
 
-def kind_of(beginning):
-    """What decides how a beginning goes on: its set of places, and how the bus stands then."""
-    return beginning.least, beginning.above, beginning.bus.stand()
+def with_place(question, beginning, place, kind):
+    """A legal beginning with one more place, which makes it one of this kind."""
+    places, (least, above, _) = beginning.places + (place,), kind
+    bus = beginning.bus.with_edge(question.seen[place].edge, len(places))
+    return Beginning(places, least, above, bus)
 
 
 def longer(question, kinds):
@@ -128,9 +133,9 @@ def longer(question, kinds):
     for beginning in kinds:
         for place in next_by_window(question, beginning):
             furthest = max(furthest, place - beginning.least)
-            extended = with_place(question, beginning, place)
-            if extended:
-                first.setdefault(kind_of(extended), extended)
+            kind = kind_with(question, beginning, place)
+            if kind and kind not in first:
+                first[kind] = with_place(question, beginning, place, kind)
     return list(first.values()), furthest
 
 
