@@ -187,10 +187,15 @@ class Bus:
         place = bisect_right(answers, self.last_fall(slot, "irq"))
         return answers[place] if place < len(answers) else None
 
+    def is_served(self, slot):
+        """Whether an answer since the board's last `irq-` served it: the last answer did if any did."""
+        answers = self.answers.get((slot, self.plan.interrupters[slot].is_roak))
+        return bool(answers) and answers[-1] > self.last_fall(slot, "irq")
+
     def is_pending(self, slot, level):
         """Whether a board holds an interrupt request of a level low and has not been served since."""
         interrupter = self.plan.interrupters.get(slot)
-        return interrupter is not None and interrupter.level == level and slot in self.low["irq"] and self.served(slot) is None
+        return interrupter is not None and interrupter.level == level and slot in self.low["irq"] and not self.is_served(slot)
 
     # How it stands
 
@@ -199,7 +204,7 @@ class Bus:
         plan = self.plan
         return (
             tuple(self.low.values()), self.shown(), self.level_last_granted(),
-            tuple(self.served(slot) is None for slot in plan.interrupters),
-            tuple(self.strobe(slot) is None for slot in plan.requesters),
-            tuple(None if it.is_ror else self.cycles(slot) for slot, it in plan.requesters.items()),
+            tuple([self.is_served(slot) for slot in plan.interrupters]),
+            tuple([self.strobe(slot) is None for slot in plan.requesters]),
+            tuple([None if it.is_ror else self.cycles(slot) for slot, it in plan.requesters.items()]),
         )
