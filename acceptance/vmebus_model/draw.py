@@ -1,6 +1,7 @@
 """`drive` with a seed: traces that are drawn among all legal edges, until an event or a miss comes."""
 
 import re
+from functools import lru_cache
 from typing import NamedTuple, Optional
 
 from .bus import Bus
@@ -132,16 +133,19 @@ class Walk:
         return self.weights[kind] * (1 + 256 // (1 + self.made[kind]))
 
 
+@lru_cache(maxsize=None)
+def ways_of(rule):
+    """The wires and directions that a rule guards or settles."""
+    return {way for way, it in [*GUARDS.items(), *SETTLING.items()] if name_of_rule(it) == rule}
+
+
 def is_miss(bus, edge, named):
     """Whether just one condition, or the settling rule, refuses an edge to its wire's other state, and it is one that is named:
-    by itself, by the settling rule, or by the rule that guards the edge."""
+    by itself, by the settling rule, or by the rule that guards the edge. The name is of a rule that the edge has."""
     rule, _, name = named.partition(" ")
-    guards, settles = name_of_rule(GUARDS[edge.wire, edge.falls]), SETTLING.get((edge.wire, edge.falls))
-    if rule != guards and not (settles and rule == name_of_rule(settles)):
-        return False
     failing = [it for it, holds, _ in guard(bus, edge) if not holds]
     is_unsettled = not failing and not hold(settling(bus, edge))
-    if rule == guards and not name:
+    if rule in GUARDED and not name:
         return len(failing) == 1 or is_unsettled
     return failing == [name] if name else is_unsettled
 
@@ -150,8 +154,8 @@ def miss(bus, goal, number):
     """The first edge by driver, wire and value that is the miss of this goal, None if there is none, or if none counts now."""
     if goal is None or goal.name in EVENTS:
         return None
-    drivers = [it for it in bus.plan.drivers if goal.takes(it, number)]
-    return next((edge for driver in drivers for edge in next_edges(bus, driver) if is_miss(bus, edge, goal.name)), None)
+    drivers, ways = [it for it in bus.plan.drivers if goal.takes(it, number)], ways_of(goal.name.partition(" ")[0])
+    return next((edge for driver in drivers for edge in next_edges(bus, driver, ways) if is_miss(bus, edge, goal.name)), None)
 
 
 def walked(plan, version, seed, most, goal=None):

@@ -68,10 +68,12 @@ def is_ok(verdict):
     return verdict.startswith("ok")
 
 
-def next_edges(bus, driver):
-    """All edges of a driver that bring a wire to its other state, in the order of its wires."""
+def next_edges(bus, driver, ways):
+    """The edges of a driver that bring a wire to its other state, of these wires and directions, in the order of its wires."""
     for wire in bus.plan.wires[driver]:
-        yield from EDGES[driver, wire, driver not in bus.low[wire]]
+        falls = driver not in bus.low[wire]
+        if (wire, falls) in ways:
+            yield from EDGES[driver, wire, falls]
 
 
 def is_open(bus, edge):
