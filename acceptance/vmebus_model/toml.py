@@ -13,7 +13,7 @@ from .faults import Fault
 DEEPEST = 80
 MOST_PARTS = 80
 BLANKS = re.compile(r"[ \t]*")
-COMMENT = re.compile(r"(?:#[^\x00-\x08\x0a-\x1f\x7f]*)?")
+COMMENT = re.compile(r"[ \t]*(?:#[^\x00-\x08\x0a-\x1f\x7f]*)?")
 LINE_END = re.compile(r"\r?\n")
 BARE_KEY = re.compile(r"[A-Za-z0-9_-]+")
 BASIC = re.compile(r'"((?:[^"\\\x00-\x08\x0a-\x1f\x7f]|\\[^\r\n])*)"')
@@ -99,13 +99,11 @@ class Reader:
         """Reads blanks, comments and ends of lines."""
         more = True
         while more:
-            self.take(BLANKS)
-            self.take(COMMENT)
+            self.at = COMMENT.match(self.text, self.at).end()
             more = LINE_END.match(self.text, self.at)
             self.at = more.end() if more else self.at
 
     def end_line(self):
-        self.take(BLANKS)
         self.take(COMMENT)
         if self.at < len(self.text):
             self.take(LINE_END)
@@ -172,15 +170,14 @@ class Reader:
 
     def value(self):
         """A value, by its first character."""
-        if self.begins('"""'):
-            return unescaped(self.take(LONG_BASIC)[1])
-        if self.begins('"'):
-            return unescaped(self.take(BASIC)[1])
-        if self.begins("'"):
+        first = self.text[self.at : self.at + 1]
+        if first == '"':
+            return unescaped(self.take(LONG_BASIC if self.begins('"""') else BASIC)[1])
+        if first == "'":
             return self.take(LONG_LITERAL if self.begins("'''") else LITERAL)[1]
-        if self.begins("["):
+        if first == "[":
             return self.items("[", "]", [], lambda array: array.append(self.value()))
-        if self.begins("{"):
+        if first == "{":
             return self.items("{", "}", Table("braces"), self.key_and_value)
         return self.plain_value()
 
@@ -194,7 +191,8 @@ class Reader:
             read_one(into)
             self.skip_lines()
             more = self.took(",")
-            self.skip_lines()
+            if more:
+                self.skip_lines()
         demand(self.took(closing))
         self.depth -= 1
         return into
