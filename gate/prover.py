@@ -48,7 +48,7 @@ class Prover:
 
         In a crate that is not whole, proofs rest on holes."""
         kept = f"{folder}/{KEPT}"
-        words = [*self.words("check", crate, uses, folder, 1), "--progress", "--incremental", kept]
+        words = [*self.words("check", crate, uses, folder), "--progress", "--incremental", kept]
         words += [] if is_whole else ["--allow-holes"]
         for it in sorted(functions) or [""]:
             words += ["--only", it]
@@ -75,7 +75,7 @@ class Prover:
 
     def prove(self, crate, uses, folder):
         """Proves a library that lies in a folder, and returns how that ended."""
-        return self.commands.call(self.words("check", crate, uses, folder, 2), folder)
+        return self.commands.call(self.words("check", crate, uses, folder), folder)
 
     def build_program(self, crate, uses, folder):
         """Proves a program that lies in a folder, and builds it there as out/CRATE, and returns how that ended."""
@@ -91,17 +91,17 @@ class Prover:
         return self.build(crate, self.uses[crate], f"{self.built}/crates/{crate}", f"out/lib{crate}.a", "--crate-type", "staticlib")
 
     def build(self, crate, uses, folder, to, *more):
-        """Proves a crate and compiles it by LLVM, and returns how that ended. In two jobs it would take a fifth more processor time."""
+        """Proves a crate and compiles it by LLVM, and returns how that ended."""
         os.makedirs(f"{folder}/out", exist_ok=True)
-        words = [*self.words("build", crate, uses, folder, 1), *more, "--toolchain", f"{self.kit}/toolchain", "--backend", "llvm", "-o", to]
+        words = [*self.words("build", crate, uses, folder), *more, "--toolchain", f"{self.kit}/toolchain", "--backend", "llvm", "-o", to]
         return self.commands.call(words, folder)
 
-    def words(self, verb, crate, uses, folder, jobs):
-        """The words that call the prover on a crate that lies in a folder."""
+    def words(self, verb, crate, uses, folder):
+        """The words that call the prover on a crate that lies in a folder, in one job: two would take a fifth more processor time."""
         root = "src/main.rt" if os.path.isfile(f"{folder}/src/main.rt") else "src/lib.rt"
         words = [f"{self.kit}/bin/rattle", verb, "--crate-name", crate, root, *self.libraries(uses)]
         words += ["--antt-project", f"{self.kit}/rattle/logic/antt-project.json", "--logic-built", f"{self.kit}/logic_built"]
-        return [*words, "--jobs", str(jobs), "--links", f"{crate}="]
+        return [*words, "--jobs", "1", "--links", f"{crate}="]
 
     def libraries(self, uses):
         """The words that name the libraries that a crate uses, and where those below them lie."""
