@@ -112,8 +112,8 @@ class Batch:
     def try_batch(self, prover, batch, label, is_whole=False):
         """Tries a batch, and once more what was not refused in it: a proof by hand is not tried where a callee was refused.
 
-        What is not refused among functions without bodies is tried in the whole crate, so that this has the last word. So is at once what
-        stood beside copies alone, since nothing calls a copy."""
+        What is not refused among functions without bodies is tried in the whole crate, so that this has the last word. What stood beside
+        copies alone is tried there at once: nothing calls a copy, so no callee was refused."""
         verdict = self.check(prover, batch, label, is_whole)
         found = {it: self.outcome(it, verdict, is_whole) for it in batch}
         left = [it for it in batch if found[it].why]

@@ -39,8 +39,9 @@ def by_model(folder):
 
 
 class Replayed:
-    """A trace, the verdict on each of its edges, and where the bus stands in it; `written` is a function of words.  The file is
-    new, since to write over one costs far more."""
+    """A trace, the verdict on each of its edges, and where the bus stands in it; `written` is a function of words.
+
+    The trace has a file of its own, since it costs more to write over one."""
 
     def __init__(self, written, path, text):
         self.written, self.path = written, path

@@ -104,11 +104,11 @@ def kept(maker):
 
 def test_bounds(count, maker):
     """The newest libraries are kept, and no more than there is to be."""
-    for at in range(shelf.MOST['libraries'] + 2):
+    for at in range(shelf.MOST["libraries"] + 2):
         write(f"{maker.tree}/crates/low/src/lib.rt", f"// {at}\n")
         built(maker)
     files = os.listdir(shelf.outcomes.place("libraries"))
-    count.tell("no more are kept", len(files) == shelf.MOST['libraries'], str(files))
+    count.tell("no more are kept", len(files) == shelf.MOST["libraries"], str(files))
     count.tell("the newest is", built(maker)[1] is False, str(files))
 
 

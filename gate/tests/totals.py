@@ -1,6 +1,7 @@
 """Tests of gate/test: a part that passed is not run again as long as nothing has changed that it rests on."""
 
 import os
+import re
 import shutil
 import subprocess
 
@@ -48,7 +49,8 @@ def test_same(count, root):
     runs = [run(root, "steps") for _ in range(2)]
     tell(count, "a part is run once", runs, [(0, 1), (0, 0)])
     totals = [said.rpartition("machine\n")[2] for _, _, said in runs]
-    count.tell("its total stays", totals == ["9 passed, 0 failed\n"] * 2, str(totals))
+    is_well = totals[0] == totals[1] and re.fullmatch(r"[1-9]\d* passed, 0 failed\n", totals[0])
+    count.tell("its total stays", is_well, str(totals))
     tell(count, "--anew runs it again", [run(root, "--anew", "steps")], [(0, 1)])
 
 
