@@ -16,6 +16,8 @@ VERSION = Path(__file__).resolve().parents[2] / "crates" / "vme_command_line" / 
 
 # The slots of a backplane, and one that none has, which reads what the controller does.
 SLOTS = range(1, backplane.MOST_SLOTS + 2)
+DRIVERS = (CONTROLLER, *SLOTS)
+NAMES = {it: name_of(it) for it in DRIVERS}
 
 # The lines but for the requests, each with the wire by which it is pulled.
 LINES = {"BBSY*": "bbsy", "BCLR*": "bclr", "AS*": "as", "DS0*": "ds", "DTACK*": "dtack",
@@ -76,9 +78,10 @@ def step_lines(bus, edges):
 
 def failing_lines(bus, edge):
     """The conditions that an edge fails, by their names and as `explain` writes them."""
-    fails = "fails "
-    texts = [it[len(fails) :] for it in conditions(bus, edge) if it.startswith(fails)]
-    yield from (f"{fails}{name}: {text}" for name, text in zip(failing(bus, edge), texts))
+    names, fails = failing(bus, edge), "fails "
+    if names:
+        texts = [it[len(fails) :] for it in conditions(bus, edge) if it.startswith(fails)]
+        yield from (f"{fails}{name}: {text}" for name, text in zip(names, texts))
 
 
 def failing(bus, edge):
@@ -101,23 +104,31 @@ def driver_lines(bus, driver):
 
 def drivers_lines(bus):
     """The same of all drivers, and of one that there is not."""
-    for driver in (CONTROLLER, *SLOTS):
+    for driver in DRIVERS:
         yield from driver_lines(bus, driver)
 
 
 def bus_lines(bus):
     """Who holds the bus and where a grant travels, 0 for none; then what each driver reads."""
     yield f"holder {bus.holder() or 0} grant {bus.board_at_grant() or 0}"
-    common, shown = pins_of_all(bus), bus.shown()
-    for driver in (CONTROLLER, *SLOTS):
-        inputs = [("BGIN*", bus.grant_in(driver)), ("IACKIN*", bus.iackin(driver))]
-        low = [name for name, is_low in [*common[0], *inputs, *common[1]] if is_low]
-        yield " ".join([name_of(driver), *low, *([str(shown)] if shown else [])])
+    before, behind = low_for_all(bus)
+    without_inputs = "".join([*before, *behind])
+    for driver in DRIVERS:
+        inputs = inputs_of(bus, driver)
+        yield NAMES[driver] + ("".join([*before, *inputs, *behind]) if inputs else without_inputs)
 
 
-def pins_of_all(bus):
-    """The lines that all drivers see alike, before and behind the inputs of the daisy chains."""
-    requests = bus.requests()
-    before = [(f"BR{level}*", level in requests) for level in range(4)]
-    before += [(name, bus.low[wire]) for name, wire in LINES.items()]
-    return before, [(f"IRQ{level}*", bus.irq(level)) for level in range(1, 8)]
+def inputs_of(bus, driver):
+    """The inputs of the daisy chains that a driver reads low, each behind a blank."""
+    grant = [" BGIN*"] if bus.grant_in(driver) else []
+    return [*grant, " IACKIN*"] if bus.iackin(driver) else grant
+
+
+def low_for_all(bus):
+    """The lines that all drivers read low, each behind a blank, before and behind the inputs of the
+    daisy chains; and behind the latter, what is shown on the data lines."""
+    before = [f" BR{level}*" for level in sorted(bus.requests())]
+    before += [f" {name}" for name, wire in LINES.items() if bus.low[wire]]
+    behind = [f" IRQ{level}*" for level in range(1, 8) if bus.irq(level)]
+    shown = bus.shown()
+    return before, [*behind, f" {shown}"] if shown else behind

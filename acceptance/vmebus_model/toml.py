@@ -15,6 +15,8 @@ MOST_PARTS = 80
 BLANKS = re.compile(r"[ \t]*")
 COMMENT = re.compile(r"[ \t]*(?:#[^\x00-\x08\x0a-\x1f\x7f]*)?")
 LINE_END = re.compile(r"\r?\n")
+LINES = re.compile(rf"(?:{COMMENT.pattern}{LINE_END.pattern})*{COMMENT.pattern}")
+COMMA = re.compile(rf",{LINES.pattern}")
 BARE_KEY = re.compile(r"[A-Za-z0-9_-]+")
 BASIC = re.compile(r'"((?:[^"\\\x00-\x08\x0a-\x1f\x7f]|\\[^\r\n])*)"')
 LITERAL = re.compile(r"'([^'\x00-\x08\x0a-\x1f\x7f]*)'")
@@ -97,11 +99,7 @@ class Reader:
 
     def skip_lines(self):
         """Reads blanks, comments and ends of lines."""
-        more = True
-        while more:
-            self.at = COMMENT.match(self.text, self.at).end()
-            more = LINE_END.match(self.text, self.at)
-            self.at = more.end() if more else self.at
+        self.at = LINES.match(self.text, self.at).end()
 
     def end_line(self):
         self.take(COMMENT)
@@ -190,9 +188,8 @@ class Reader:
         while more and not self.begins(closing):
             read_one(into)
             self.skip_lines()
-            more = self.took(",")
-            if more:
-                self.skip_lines()
+            more = COMMA.match(self.text, self.at)
+            self.at = more.end() if more else self.at
         demand(self.took(closing))
         self.depth -= 1
         return into
