@@ -16,6 +16,8 @@ VERSION = Path(__file__).resolve().parents[2] / "crates" / "vme_command_line" / 
 
 # The slots of a backplane, and one that none has, which reads what the controller does.
 SLOTS = range(1, backplane.MOST_SLOTS + 2)
+
+# All drivers, and how a line names each.
 DRIVERS = (CONTROLLER, *SLOTS)
 NAMES = {it: name_of(it) for it in DRIVERS}
 
@@ -119,14 +121,14 @@ def bus_lines(bus):
 
 
 def inputs_of(bus, driver):
-    """The inputs of the daisy chains that a driver reads low, each behind a blank."""
+    """The inputs of the daisy chains that a driver reads low, each after a space."""
     grant = [" BGIN*"] if bus.grant_in(driver) else []
     return [*grant, " IACKIN*"] if bus.iackin(driver) else grant
 
 
 def low_for_all(bus):
-    """The lines that all drivers read low, each behind a blank, before and behind the inputs of the
-    daisy chains; and behind the latter, what is shown on the data lines."""
+    """The lines that all drivers read low, each after a space: those before the inputs of the daisy
+    chains, and those behind them, with what the address group says."""
     before = [f" BR{level}*" for level in sorted(bus.requests())]
     before += [f" {name}" for name, wire in LINES.items() if bus.low[wire]]
     behind = [f" IRQ{level}*" for level in range(1, 8) if bus.irq(level)]
