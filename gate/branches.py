@@ -2,9 +2,9 @@
 
 What a function owes on a path that does not reach the edit, it owes without the edit too. Such a path refuses nothing, and takes as
 long to prove. So in a copy the call of a function that never returns stands in place of each other branch of an `if` or `match` in
-one branch of which the edit lies, and in place of each branch that returns before the edit. In a loop, if the branch of the edit
-returns, those that do not stay: without them it would be no loop. What is not refused in its copy is tried in its place, with all
-branches. gate/unedited tries each copy of this form without its edit.
+one branch of which the edit lies, and in place of each branch that returns before the edit. A `?` that ends a statement before the
+edit is such a branch too. In a loop, if the branch of the edit returns, those that do not stay: without them it would be no loop. What
+is not refused in its copy is tried in its place, with all branches. gate/unedited tries each copy of this form without its edit.
 """
 
 import re
@@ -29,6 +29,11 @@ LOOP = re.compile(r" *(?:'\w+: )?(?:for|while|loop)\b")
 GUARD, VARIANT = re.compile(r" if .*"), re.compile(r"\b[A-Z]\w*\b(?!::)")
 # How a line begins that goes on with what stands above it at the same depth.
 CLOSES = ("}", ")", "]", ".", "?")
+# What a function's head says that it returns, the variant of it that a `?` goes on with, and how its clauses begin.
+RETURNED, GOES_ON = re.compile(r"-> (?:\w+::)*(Result|Option)<"), {"Result": "Ok", "Option": "Some"}
+CLAUSES = ("requires", "ensures", "ghost", "where")
+# How a statement ends that returns if it fails, and how one begins that binds what it finds, or only calls.
+ASKS, STATEMENT = "?;", re.compile(r"( *)(?:let ([^:=]+) = |(?!let |return |[^(]*= ))(.*)")
 
 
 @dataclass(frozen=True)
@@ -41,8 +46,10 @@ class Branch:
     is_arm: bool
 
 
-def left_out(old, new):
-    """The lines of a body as it is and as an edit makes it, both without the branches that the edit is not in."""
+def left_out(old, new, goes_on=""):
+    """The lines of a body as it is and as an edit makes it, both without the branches that the edit is not in.
+
+    The variant with which a `?` goes on says which of them stands there; without it no `?` is left out."""
     old, new = [*old], [*new]
     first = next((at for at, pair in enumerate(zip(old, new)) if pair[0] != pair[1]), min(len(old), len(new)))
     for at in reversed(range(first)):
@@ -55,7 +62,35 @@ def left_out(old, new):
             if is_beside and not is_loop_lost or (is_beside or is_before) and returns(new, ours[it]):
                 leave_out(new, ours[it])
                 leave_out(old, theirs[it])
+        for lines in (new, old) if goes_on else ():
+            go_on(lines, at, goes_on)
     return old, new
+
+
+def variant(head):
+    """The variant with which a `?` goes on in a function of this head, or nothing if it returns neither a result nor an option."""
+    behind = next((at for at, line in enumerate(head) if line.lstrip().startswith(CLAUSES)), len(head))
+    found = RETURNED.findall(head[behind - 1])
+    return GOES_ON[found[-1]] if found else ""
+
+
+def go_on(lines, at, goes_on):
+    """Puts the call in place of the return of a statement that ends on a line with a `?`."""
+    first = beginning(lines, at)
+    found = STATEMENT.fullmatch(lines[first]) if first is not None else None
+    if not found or not lines[at].endswith(ASKS) or lines[at].endswith(f"}}{ASKS}"):
+        return
+    depth, bound, value = found.groups("_")
+    made = [f"{depth}let {goes_on}({bound}) = {value}", *lines[first + 1 : at + 1]]
+    made[-1] = made[-1].removesuffix(ASKS) + " else {"
+    lines[first : at + 1] = [*made, f"{depth}    {CALL}", f"{depth}}};"]
+
+
+def beginning(lines, at):
+    """The line on which the statement begins that ends on a line, if there is one."""
+    depth = indent(lines[at])
+    above = range(at, -1, -1) if lines[at].lstrip().startswith(CLOSES) else [at]
+    return next((it for it in above if indent(lines[it]) <= depth and not lines[it].lstrip().startswith(CLOSES)), None)
 
 
 def is_in_loop(lines, at):

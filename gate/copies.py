@@ -3,8 +3,8 @@
 A copy stands behind its function, under that one's name and the edit's, with its clauses and what is written of its proof. Nothing calls
 it, and the function itself has its contract alone (gate/stubs.py). So any number of edits of one function can be tried in one check, and
 none of them touches another. An edit is made in its place instead if more than the text of its function may matter, or if that one's
-proof is written from its code: that is so for what keeps its body in gate/stubs.py, but for laws, whose bodies are empty, and for what
-has a proof by hand of all of it.
+proof is written from its code. That is so for what has a proof by hand of all of it, and for what keeps its body in gate/stubs.py, but
+for laws, whose bodies are empty, for constant functions, and for those that C calls.
 """
 
 import re
@@ -50,7 +50,7 @@ class Copy:
     def shorten(self, written):
         """Leaves out the branches that the edit is not in, unless something is written of the proof of the others. Returns what is left of
         what is written: invariants, if no loop is left out."""
-        plain, body = branches.left_out(self.plain, self.body)
+        plain, body = branches.left_out(self.plain, self.body, branches.variant(self.head))
         invariants = {it: text for it, text in written.items() if it != ANSWERS}
         if WRITES.search(branches.answers_left(written.get(ANSWERS, ""), body)) or invariants and branches.loops(body) < branches.loops(self.body):
             return written
@@ -144,7 +144,7 @@ def can_be_copied(crate, file, texts, function):
     """Whether nothing but a function's own text, its answers and its invariants can matter to its proof."""
     place = stubs.folder_of(crate, file, function, texts)
     lines, is_free = texts[file].split("\n"), stubs.name_of(function) not in stubs.in_cycles(texts) and f"{place}/Proof.antt" not in texts
-    return is_free and (lines[function.body] == EMPTY or stubs.can_be_stripped(lines, function))
+    return is_free and (lines[function.body] == EMPTY or stubs.stands_alone(lines, function))
 
 
 def front_of(lines, at):

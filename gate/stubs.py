@@ -67,7 +67,12 @@ def strip(crate, file, functions, made):
 
 def can_be_stripped(lines, function):
     """Whether nothing but the contract of a function can matter to those that call it."""
-    if not lines[function.body].endswith("{") or function.end - function.body < 3 or KEPT_HEAD.search(lines[function.first]):
+    return not KEPT_HEAD.search(lines[function.first]) and stands_alone(lines, function)
+
+
+def stands_alone(lines, function):
+    """Whether nothing but its own text can matter to the proof of a function, and its body has lines of its own."""
+    if not lines[function.body].endswith("{") or function.end - function.body < 3:
         return False
     above = function.first - 1
     while above >= 0 and lines[above].strip().startswith(("#[", "//")):

@@ -73,6 +73,55 @@ LOOP = """{
     sum
 }"""
 
+ASKS = """{
+    let first = number_of(text)?;
+    let mut rest = text
+        .after(first)?
+        .by(
+            |it| first.max(it),
+        )?;
+    note(first)?;
+    let made: u8 = made(rest)?;
+    made = made(rest)?;
+    let kind = match first {
+        0 => None,
+        _ => Some(made),
+    }?;
+    take(kind)?;
+    Some(rest)
+}"""
+ASKS_NO_MORE = """{
+    let Ok(first) = number_of(text) else {
+        nothing_comes_here()
+    };
+    let Ok(mut rest) = text
+        .after(first)?
+        .by(
+            |it| first.max(it),
+        ) else {
+        nothing_comes_here()
+    };
+    let Ok(_) = note(first) else {
+        nothing_comes_here()
+    };
+    let made: u8 = made(rest)?;
+    made = made(rest)?;
+    let kind = match first {
+        0 => None,
+        _ => Some(made),
+    }?;
+    take(made)?;
+    Some(rest)
+}"""
+# The last lines of functions' heads before their clauses, and the variant with which a `?` goes on there.
+HEADS = {
+    ") -> Result<Option<u8>, Fault>": "Ok",
+    "fn it(text: &str) -> Option<u8>": "Some",
+    "fn it<F: Fn(u8) -> Option<u8>>(of: F) -> std::io::Result<u8>": "Ok",
+    "fn it(text: &str) -> Vec<Option<u8>>": "",
+    "fn it(text: &str)": "",
+}
+
 # Edits of a body, and how many branches are left out with each: those beside it, and those that return before it.
 EDITS = {
     "an arm of several lines": (BODY, "            number,\n", "            0,\n", 2 + 3),
@@ -149,6 +198,7 @@ TRIED = {
 def test_all(count, room):
     """Runs all tests of this file."""
     test_texts(count)
+    test_questions(count)
     test_written(count)
     test_verdicts(count, f"{room}/branches")
 
@@ -162,6 +212,18 @@ def test_texts(count):
     plain, edited = branches.left_out(BODY.split("\n"), BODY.replace("one + 2", "one + 3").split("\n"))
     count.tell("a body without its other branches", "\n".join(plain) == SHORT, "\n".join(plain))
     count.tell("the same with its edit", "\n".join(edited) == SHORT.replace("one + 2", "one + 3"), "\n".join(edited))
+
+
+def test_questions(count):
+    """What returns by a `?` before an edit is left out, if it ends a statement that binds what it finds, or calls."""
+    body, edited = ASKS.split("\n"), ASKS.replace("take(kind)", "take(made)").split("\n")
+    found = "\n".join(branches.left_out(body, edited, "Ok")[1])
+    count.tell("what a body asks before an edit", found == ASKS_NO_MORE, found)
+    count.tell("what asks without a result", branches.left_out(body, edited) == (body, edited), found)
+    clause = "    ensures { result ≡ (λ x -> Result<x>) }"
+    for head, wanted in HEADS.items():
+        found = branches.variant(["/// Of a text -> Option<u8>.", head, clause])
+        count.tell(f"how `?` goes on in {head}", found == wanted, found)
 
 
 def test_written(count):

@@ -1,6 +1,6 @@
 """Tests of ./build: what it prints, with a small command `rt` in place of the kit's, which proves nothing.
 
-They take half a minute, most of it waiting."""
+They take a minute, most of it waiting."""
 
 import json
 import os
@@ -43,6 +43,20 @@ vmebus_c staticlib: vme_slow
 vmebus may_wait=2: vme_known
 """
 
+# Two crates that can be proved side by side, and one that stands on both.
+BESIDE = """vme_kept:
+vme_known: vme_kept
+vme_slow: vme_kept
+vmebus: vme_known vme_slow
+"""
+# Starts ./build as it is on a machine of so many processors.
+ON = """import os, runpy, sys
+processors = set(range(int(sys.argv[1])))
+os.sched_getaffinity = lambda _: processors
+sys.argv[:2] = []
+runpy.run_path(sys.argv[0], run_name="__main__")
+"""
+
 EXAMPLE = "1 ok\naccepted 1 refused 0\n"
 LINE = re.compile(r" +\d+:\d\d  (.*)")
 
@@ -52,6 +66,7 @@ def test_all(count, room):
     test_faults(count, room)
     test_interrupts(count, room)
     test_lines(count, room)
+    test_beside(count, room)
 
 
 def lay_out(root, crates=CRATES, seconds=None):
@@ -70,12 +85,12 @@ def lay_out(root, crates=CRATES, seconds=None):
         shutil.copy(f"{os.path.dirname(GATE)}/{file}", f"{root}/{file}")
 
 
-def start(root, *words, path=None):
-    """Starts ./build there."""
+def start(root, *words, path=None, processors=2):
+    """Starts ./build there, as on a machine of so many processors."""
     how = {"text": True, "stdout": subprocess.PIPE, "stderr": subprocess.STDOUT}
     os.makedirs(f"{root}/scratch", exist_ok=True)
     how["env"] = {**os.environ, "PATH": path or f"{root}/bin:{os.environ['PATH']}", "TMPDIR": f"{root}/scratch"}
-    return subprocess.Popen([sys.executable, f"{root}/build", *words], **how)
+    return subprocess.Popen([sys.executable, "-c", ON, str(processors), f"{root}/build", *words], **how)
 
 
 def read_timed(made):
@@ -133,6 +148,26 @@ def test_kept(count, root):
     count.tell("the times", are_new and times == {"vme_kept": 30}, str(times))
 
 
+def test_beside(count, room):
+    """On four processors two crates are proved side by side, and each line says how far both are. On three they are not.
+
+    They are expected to take 40 seconds and 18.5, and the program 98.5: side by side that is 138.5 in all, and else 157."""
+    for processors, minutes, at_once in ((4, 2, 2), (3, 3, 1)):
+        root = f"{room}/{processors} processors"
+        lay_out(root, BESIDE, {"vme_known": 11, "vme_slow": 12})
+        write(f"{root}/crates/vmebus/out/build-times.json", json.dumps({"vme_kept": 0, "vme_known": 40}))
+        lines, _ = read_timed(start(root, processors=processors))
+        said = "\n".join(lines)
+        wanted = f"build: proves the program's 4 crates, in about {minutes} min from nothing; "
+        count.tell(f"how long it takes on {processors}", lines[0].startswith(wanted), said)
+        both = r".* 1 of 4 crates; vme_known: \d+ functions, \d+ s.*; vme_slow: \d+ of 12 functions, \d+ s.*; then at most about 2 min"
+        count.tell(f"how far crates are on {processors}", any(re.fullmatch(both, it) for it in lines) == (at_once == 2), said)
+        count.tell(f"what is proved on {processors}", "  4 of 4 crates; vmebus: " in said and "12 functions proved in 1" in said, said)
+        with open(f"{root}/crates/vmebus/out/build.log", encoding="utf-8") as text:
+            log = text.read()
+        count.tell(f"the log on {processors}", log.count("proved\n") == 23 and log.count("so far") == 1, log)
+
+
 def test_faults(count, room):
     """What cannot be built ends with a clear line and status 1."""
     root = f"{room}/broken"
@@ -142,6 +177,7 @@ def test_faults(count, room):
     for name, wanted, path in (("a crate that is not proved", fault, None), ("no kit", no_kit, f"{room}/nothing")):
         said, made = ended(start(root, path=path))
         count.tell(name, made == 1 and said.splitlines()[-1] == wanted, said)
+    test_fault_beside(count, f"{room}/broken beside")
     root = f"{room}/wrong"
     lay_out(root, "vmebus:\n")
     write(f"{root}/report", "1 E1\n")
@@ -152,6 +188,18 @@ def test_faults(count, room):
         said, made = ended(start(root, word))
         is_well = said.startswith("usage: ./build ") and said.count("\n") == 2 and "neither the tests nor vmebus_c" in said
         count.tell(f"./build {word}", made == status and is_well, said)
+
+
+def test_fault_beside(count, root):
+    """A crate that is not proved ends the work on the one beside it, and the log has what was said of both."""
+    lay_out(root, "vme_slow:\nvme_low:\nvme_broken: vme_low\nvmebus: vme_broken vme_slow\n", {"vme_slow": 50, "vme_broken": 1})
+    said, status = ended(start(root, processors=4))
+    count.tell("a crate that is not proved beside another", status == 1 and "build: vme_broken is not proved" in said, said)
+    with open(f"{root}/crates/vmebus/out/build.log", encoding="utf-8") as text:
+        log = text.read()
+    count.tell("the log of both", "error[E7]" in log and "so far: 0 of 50" in log, log)
+    rest = running(root), os.listdir(f"{root}/scratch")
+    count.tell("nothing is left of the other", not any(rest), str(rest))
 
 
 def ended(made):
@@ -165,10 +213,12 @@ def test_interrupts(count, room):
     signals = ("an interrupt", signal.SIGINT), ("a request to end", signal.SIGTERM), ("a hangup", signal.SIGHUP)
     for name, number in signals:
         root = f"{room}/{name}"
-        lay_out(root, "vme_slow:\nvmebus: vme_slow\n", {"vme_slow": 50})
-        write(f"{root}/crates/vme_slow/leaves", "")
-        made = start(root)
-        while not os.path.exists(f"{root}/crates/vme_slow/out/incremental/kit"):
+        crates = ("vme_slow", "vme_known")
+        lay_out(root, "vme_slow:\nvme_known:\nvmebus: vme_slow vme_known\n", dict.fromkeys(crates, 50))
+        for it in crates:
+            write(f"{root}/crates/{it}/leaves", "")
+        made = start(root, processors=4)
+        while made.poll() is None and not all(os.path.exists(f"{root}/crates/{it}/out/incremental/kit") for it in crates):
             time.sleep(0.05)
         made.send_signal(number)
         said, status = ended(made)

@@ -25,14 +25,13 @@ files name = record (file name) {
   range = Some (record { start_inclusive = 1; end_inclusive = usize_max });
 }
 
--- `--NAME` with a value
+-- `--NAME` with a text
+abbrev pub texted : Text → Rule
+texted name = record (new_rule name) { long = Some name; action = Some Set; value_names = 1 }
+
+-- `--NAME` with a value that this parser reads
 abbrev pub valued : Text → ValueParser → Rule
-valued name parser = record (new_rule name) {
-  long = Some name;
-  action = Some Set;
-  value_names = 1;
-  parser = Some parser;
-}
+valued name parser = record (texted name) { parser = Some parser }
 
 -- `--NAME` with a number from 1 to `most`
 abbrev pub option : Text → ℕ → Rule
@@ -73,10 +72,6 @@ to = whole (codes "to") 1
 
 abbrev pub seed : Rule
 seed = whole (codes "seed") 0
-
--- `--NAME` with a text
-abbrev pub texted : Text → Rule
-texted name = record (new_rule name) { long = Some name; action = Some Set; value_names = 1 }
 
 abbrev pub seeds : Rule
 seeds = texted (codes "seeds")

@@ -68,16 +68,22 @@ fn number<'a>(most: u32) -> ValueParser<'a>
     value_parser!(u32).range(1..=i64::from(most))
 }
 
-/// An option whose value is a number from 1 to `most`.
-fn option<'a>(alloc: Global, name: &'a str, value: &'a str, most: u32, help: &'a str) -> Arg<'a>
-    ensures { rule_of result ≡ said.option name.entry.now most }
+/// An option whose value is a text.
+fn text_option<'a>(alloc: Global, name: &'a str, value: &'a str, help: &'a str) -> Arg<'a>
+    ensures { rule_of result ≡ said.texted name.entry.now }
 {
     Arg::new(alloc, name)
         .long(name)
         .value_name(value)
         .action(ArgAction::Set)
-        .value_parser(number(most))
         .help(help)
+}
+
+/// An option whose value is a number from 1 to `most`.
+fn option<'a>(alloc: Global, name: &'a str, value: &'a str, most: u32, help: &'a str) -> Arg<'a>
+    ensures { rule_of result ≡ said.option name.entry.now most }
+{
+    text_option(alloc, name, value, help).value_parser(number(most))
 }
 
 fn edges_option<'a>(alloc: Global) -> Arg<'a>
@@ -118,12 +124,7 @@ fn whole_option<'a>(
 ) -> Arg<'a>
     ensures { rule_of result ≡ said.whole name.entry.now least }
 {
-    Arg::new(alloc, name)
-        .long(name)
-        .value_name(value)
-        .action(ArgAction::Set)
-        .value_parser(whole_number(least))
-        .help(help)
+    text_option(alloc, name, value, help).value_parser(whole_number(least))
 }
 
 /// The option for the edge that a command is about.
@@ -171,21 +172,15 @@ fn seed_option<'a>(alloc: Global) -> Arg<'a>
 fn until_option<'a>(alloc: Global) -> Arg<'a>
     ensures { rule_of result ≡ said.until }
 {
-    Arg::new(alloc, "until")
-        .long("until")
-        .value_name("EVENT")
-        .action(ArgAction::Set)
-        .help("Ends with the first edge that brings this about; needs --seed or --seeds")
+    let help = "Ends with the first edge that brings this about; needs --seed or --seeds";
+    text_option(alloc, "until", "EVENT", help)
 }
 
 fn of_option<'a>(alloc: Global) -> Arg<'a>
     ensures { rule_of result ≡ said.only }
 {
-    Arg::new(alloc, "of")
-        .long("of")
-        .value_name("D")
-        .action(ArgAction::Set)
-        .help("Counts only edges of this driver, c or a slot; needs --until")
+    let help = "Counts only edges of this driver, c or a slot; needs --until";
+    text_option(alloc, "of", "D", help)
 }
 
 fn behind_option<'a>(alloc: Global) -> Arg<'a>
@@ -198,21 +193,15 @@ fn behind_option<'a>(alloc: Global) -> Arg<'a>
 fn seeds_option<'a>(alloc: Global) -> Arg<'a>
     ensures { rule_of result ≡ said.seeds }
 {
-    Arg::new(alloc, "seeds")
-        .long("seeds")
-        .value_name("S..T")
-        .action(ArgAction::Set)
-        .help("Tries these seeds in order until one reaches EVENT; needs --until")
+    let help = "Tries these seeds in order until one reaches EVENT; needs --until";
+    text_option(alloc, "seeds", "S..T", help)
 }
 
 fn slack_option<'a>(alloc: Global) -> Arg<'a>
     ensures { rule_of result ≡ said.slack }
 {
-    Arg::new(alloc, "slack")
-        .long("slack")
-        .value_name("S")
-        .action(ArgAction::Set)
-        .help("By how many moments edges may be seen late, such as 2 or c=2,5=1 [default: 0]")
+    let help = "By how many moments edges may be seen late, such as 2 or c=2,5=1 [default: 0]";
+    text_option(alloc, "slack", "S", help)
 }
 
 /// An option without a value.
