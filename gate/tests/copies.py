@@ -5,6 +5,8 @@ import os
 import subprocess
 
 import copies
+import edit_files
+import stubs
 from choices import choose
 from tests.small import GATE, lay_out, run, write, write_edit
 from tests.stubs import SOURCE
@@ -31,17 +33,28 @@ EDITS = {
     "one_step": ("next(next(number))", "next(number)", "numbers::after_next"),
     "two_more": ("result ≡ number + 2", "result ≡ number + 3", "numbers::after_next"),
     "one_more_value": ("        self.value\n", "        self.value + 1\n", "Number::value"),
-    "a_constant_one": ("        Number { value }\n", "        Number { value: 0 }\n", None),
+    "a_constant_one": ("        Number { value }\n", "        Number { value: 0 }\n", "Number::new"),
     "one_that_calls_itself": ("self.end()", "1", None),
     "one_that_would_call_itself": ("        self.value\n", "        self.value()\n", None),
     "one_of_a_trait": ("Number { value: 0 }", "Number { value: 1 }", None),
     "a_field": ("    pub value: u8,", "    pub value: u16,", None),
 }
 
+# A function that C calls.
+FOR_C = """/// The same number.
+#[unsafe(no_mangle)]
+pub extern "C" fn same(number: u8) -> u8
+    ensures { result ≡ number }
+{
+    number
+}
+"""
+
 
 def test_all(count, room):
     """Runs all tests of this file."""
     test_texts(count, f"{room}/texts")
+    test_for_c(count)
     test_verdicts(count, f"{room}/verdicts")
     test_unedited(count, f"{room}/unedited")
 
@@ -70,6 +83,16 @@ def test_texts(count, root):
     asked = edits.functions_of(batch[0])
     count.tell("the copy has to refuse it", len(asked) == 1 and f"_with_{batch[0].name}" in [*asked][0], str(asked))
     test_by_hand(count, root)
+
+
+def test_for_c(count):
+    """An edit of a function that C calls is made in a copy, that C can call by its name, and the function keeps its body."""
+    texts = {"src/lib.rt": FOR_C}
+    edit = edit_files.read("numbers", "one_less", "file: src/lib.rt\nold:     number\nnew:     number - 1\n")
+    copy = copies.made_for(edit, edit_files.reach(edit, texts), texts)
+    wanted = FOR_C.replace("fn same(", "fn same_with_one_less(").replace("    number\n", "    number - 1\n").rstrip().split("\n")
+    count.tell("a copy for C", copy is not None and copy.lines == wanted, str(copy and copy.lines))
+    count.tell("the body of what C calls", stubs.stubbed("numbers", texts, set()) == texts, str(texts))
 
 
 def test_by_hand(count, root):
