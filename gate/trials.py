@@ -20,7 +20,7 @@ from prover import KEPT, MODULE
 from spent import timed
 
 # At most so many edits are tried in one check, so that the lanes end at about the same time.
-MOST = 64
+MOST = 128
 
 
 class Edits:
