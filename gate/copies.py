@@ -4,7 +4,7 @@ A copy stands behind its function, under that one's name and the edit's, with it
 it, and the function itself has its contract alone (gate/stubs.py). So any number of edits of one function can be tried in one check, and
 none of them touches another. An edit is made in its place instead if more than the text of its function may matter, or if that one's
 proof is written from its code. That is so for what has a proof by hand of all of it, and for what keeps its body in gate/stubs.py, but
-for laws, whose bodies are empty, for constant functions, and for those that C calls.
+for laws, whose bodies are empty, and for what C calls.
 """
 
 import re

@@ -19,7 +19,7 @@ DECLARED = "\npub mod Unproved\n"
 FILES = ("Answers.antt", "Invariants.antt", "Proof.antt")
 # What stands before a call on a field of `self`.
 OF_FIELD = re.compile(r"(?<![\w.])self(?:\s*\.\w+)+\s*\Z")
-KEPT_HEAD = re.compile(r'\bconst fn\b|\bextern "C" fn\b|\bfn main\b')
+KEPT_HEAD, FOR_C = re.compile(r"\bconst fn\b|\bfn main\b"), re.compile(r'\bextern "C" fn\b')
 
 
 def stubbed(crate, texts, keep):
@@ -67,12 +67,12 @@ def strip(crate, file, functions, made):
 
 def can_be_stripped(lines, function):
     """Whether nothing but the contract of a function can matter to those that call it."""
-    return not KEPT_HEAD.search(lines[function.first]) and stands_alone(lines, function)
+    return not FOR_C.search(lines[function.first]) and stands_alone(lines, function)
 
 
 def stands_alone(lines, function):
     """Whether nothing but its own text can matter to the proof of a function, and its body has lines of its own."""
-    if not lines[function.body].endswith("{") or function.end - function.body < 3:
+    if not lines[function.body].endswith("{") or function.end - function.body < 3 or KEPT_HEAD.search(lines[function.first]):
         return False
     above = function.first - 1
     while above >= 0 and lines[above].strip().startswith(("#[", "//")):

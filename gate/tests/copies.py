@@ -33,7 +33,7 @@ EDITS = {
     "one_step": ("next(next(number))", "next(number)", "numbers::after_next"),
     "two_more": ("result ≡ number + 2", "result ≡ number + 3", "numbers::after_next"),
     "one_more_value": ("        self.value\n", "        self.value + 1\n", "Number::value"),
-    "a_constant_one": ("        Number { value }\n", "        Number { value: 0 }\n", "Number::new"),
+    "a_constant_one": ("        Number { value }\n", "        Number { value: 0 }\n", None),
     "one_that_calls_itself": ("self.end()", "1", None),
     "one_that_would_call_itself": ("        self.value\n", "        self.value()\n", None),
     "one_of_a_trait": ("Number { value: 0 }", "Number { value: 1 }", None),
