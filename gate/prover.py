@@ -6,6 +6,7 @@ for the proof texts that it offers for what it refused, which costs a batch 4 s 
 says so in a note, and offers none. What it says of each function stays the same.
 """
 
+import contextlib
 import glob
 import os
 import shutil
@@ -128,9 +129,8 @@ def close_offers(kept):
     """Puts an empty file in place of each folder in which the prover would keep what it offers: it has one beside each of kept work."""
     for it in os.listdir(kept) if os.path.isdir(kept) else []:
         for file in (f"{kept}/{it}{end}" for end in EACH if not it.endswith(OFFERS)):
-            if not os.path.lexists(file):
-                with open(file, "w", encoding="utf-8"):
-                    pass
+            with contextlib.suppress(FileExistsError), open(file, "x", encoding="utf-8"):
+                pass
 
 
 def busy_processes():
