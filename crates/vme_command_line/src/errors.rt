@@ -5,10 +5,18 @@ ghost use Rattle.clap.specs.Words.{kind_of};
 use crate::commands::{commands, drive, order, races, rule, show};
 use crate::mistakes::{Mistake, mistake_in};
 use crate::{MOST_SHOWN, Unfit};
-use clap::Error;
 use clap::error::ErrorKind;
+use clap::{Command, Error};
 use std::alloc::{AllocError, Global};
 use vme_model::Version;
+
+/// The usage error of a command for words that it accepts and that ask for no job, or the error of
+/// the command.
+fn invalid(command: Result<Command<'_>, AllocError>, text: &str) -> Result<Error, AllocError>
+    ensures { IfOk result (λ error. kind_of error ≡ ErrorKind.ValueValidation) }
+{
+    command?.error(ErrorKind::ValueValidation, text)
+}
 
 /// The usage error if no command is given.
 fn missing(alloc: Global) -> Result<Error, AllocError>
@@ -25,7 +33,7 @@ fn no_window(alloc: Global, from: u64, to: u64) -> Result<Error, AllocError>
     let text = format!(in alloc;
         "invalid value '{to}' for '--to <B>': {to} is not in {from}..={most}"
     )?;
-    show(alloc)?.error(ErrorKind::ValueValidation, &text)
+    invalid(show(alloc), &text)
 }
 
 /// What is wrong with a name that is no goal in that version of the rules.
@@ -53,7 +61,7 @@ fn no_event(alloc: Global, named: &str, version: Version) -> Result<Error, Alloc
         "invalid value '{named}' for '--until <EVENT>': {mistake}\n\n  \
          'vmebus drive --help' has all that EVENT can be"
     )?;
-    drive(alloc)?.error(ErrorKind::ValueValidation, &text)
+    invalid(drive(alloc), &text)
 }
 
 /// The usage error if the condition of that name never fails alone.
@@ -64,7 +72,7 @@ fn no_miss(alloc: Global, named: &str) -> Result<Error, AllocError>
         "invalid value '{named}' for '--until <EVENT>': wherever this condition fails, another \
          one of the rule fails too, so that it never refuses an edge alone"
     )?;
-    drive(alloc)?.error(ErrorKind::ValueValidation, &text)
+    invalid(drive(alloc), &text)
 }
 
 /// The usage error if there is no seed.
@@ -72,7 +80,7 @@ fn no_seed(alloc: Global) -> Result<Error, AllocError>
     ensures { IfOk result (λ error. kind_of error ≡ ErrorKind.ValueValidation) }
 {
     let text = "the option '--until <EVENT>' needs '--seed <S>' or '--seeds <S..T>'";
-    drive(alloc)?.error(ErrorKind::ValueValidation, text)
+    invalid(drive(alloc), text)
 }
 
 /// The usage error if that option needs a goal and there is none.
@@ -80,7 +88,7 @@ fn no_aim(alloc: Global, option: &str) -> Result<Error, AllocError>
     ensures { IfOk result (λ error. kind_of error ≡ ErrorKind.ValueValidation) }
 {
     let text = format!(in alloc; "the option '{option}' needs '--until <EVENT>'")?;
-    drive(alloc)?.error(ErrorKind::ValueValidation, &text)
+    invalid(drive(alloc), &text)
 }
 
 /// The usage error if a text names no driver.
@@ -90,7 +98,7 @@ fn no_driver(alloc: Global, named: &str) -> Result<Error, AllocError>
     let text = format!(in alloc;
         "invalid value '{named}' for '--of <D>': D is c or a slot, 1 to 21"
     )?;
-    drive(alloc)?.error(ErrorKind::ValueValidation, &text)
+    invalid(drive(alloc), &text)
 }
 
 /// The usage error if there are both a seed and seeds to try.
@@ -98,7 +106,7 @@ fn seeded(alloc: Global) -> Result<Error, AllocError>
     ensures { IfOk result (λ error. kind_of error ≡ ErrorKind.ValueValidation) }
 {
     let text = "the options '--seed <S>' and '--seeds <S..T>' exclude each other";
-    drive(alloc)?.error(ErrorKind::ValueValidation, text)
+    invalid(drive(alloc), text)
 }
 
 /// The usage error if a text does not name seeds to try.
@@ -109,7 +117,7 @@ fn no_seeds(alloc: Global, named: &str) -> Result<Error, AllocError>
         "invalid value '{named}' for '--seeds <S..T>': S and T are 0 to {}, and T is not below S",
         u64::MAX
     )?;
-    drive(alloc)?.error(ErrorKind::ValueValidation, &text)
+    invalid(drive(alloc), &text)
 }
 
 /// The usage error if progress is to be reported and there are no seeds to try.
@@ -117,7 +125,7 @@ fn no_progress(alloc: Global) -> Result<Error, AllocError>
     ensures { IfOk result (λ error. kind_of error ≡ ErrorKind.ValueValidation) }
 {
     let text = "the option '--progress' needs '--seeds <S..T>'";
-    drive(alloc)?.error(ErrorKind::ValueValidation, text)
+    invalid(drive(alloc), text)
 }
 
 /// The usage error if both an edge and another one's other order are asked for.
@@ -125,7 +133,7 @@ fn two_edges(alloc: Global) -> Result<Error, AllocError>
     ensures { IfOk result (λ error. kind_of error ≡ ErrorKind.ValueValidation) }
 {
     let text = "the options '--edge <N>' and '--other <N>' exclude each other";
-    races(alloc)?.error(ErrorKind::ValueValidation, text)
+    invalid(races(alloc), text)
 }
 
 /// The usage error if no rule has that name.
@@ -135,7 +143,7 @@ fn no_rule(alloc: Global, named: &str) -> Result<Error, AllocError>
     let text = format!(in alloc;
         "invalid value '{named}' for '[NAME]': no rule is called {named}"
     )?;
-    rule(alloc)?.error(ErrorKind::ValueValidation, &text)
+    invalid(rule(alloc), &text)
 }
 
 /// The usage error if a text does not name slacks.
@@ -147,7 +155,7 @@ fn no_slack(alloc: Global, named: &str) -> Result<Error, AllocError>
          with such a number each, such as c=2,5=1",
         u64::MAX
     )?;
-    order(alloc)?.error(ErrorKind::ValueValidation, &text)
+    invalid(order(alloc), &text)
 }
 
 /// The usage error that says why words ask for no job.
