@@ -49,7 +49,7 @@ class Branch:
 def left_out(old, new, goes_on=""):
     """The lines of a body as it is and as an edit makes it, both without the branches that the edit is not in.
 
-    The variant with which a `?` goes on says which of them stands there; without it no `?` is left out."""
+    With the variant with which a `?` goes on, the returns of those before the edit are left out too."""
     old, new = [*old], [*new]
     first = next((at for at, pair in enumerate(zip(old, new)) if pair[0] != pair[1]), min(len(old), len(new)))
     for at in reversed(range(first)):

@@ -86,7 +86,7 @@ def test_texts(count, root):
 
 
 def test_for_c(count):
-    """An edit of a function that C calls is made in a copy, that C can call by its name, and the function keeps its body."""
+    """An edit of a function that C calls is made in a copy, which is for C too, and the function itself keeps its body."""
     texts = {"src/lib.rt": FOR_C}
     edit = edit_files.read("numbers", "one_less", "file: src/lib.rt\nold:     number\nnew:     number - 1\n")
     copy = copies.made_for(edit, edit_files.reach(edit, texts), texts)
