@@ -43,8 +43,9 @@ class Spent:
         total = self.start + self.called + edited + self.rest
         parts = f"{self.start:.0f} until the first function of each batch, {self.called:.0f} for functions that were called and not edited"
         yield f"edits took {total:.0f} s of processor time: {parts}, {edited:.0f} for edited ones, {self.rest:.0f} after them"
-        dearest = (f"{path} {seconds:.1f}" for path, seconds in self.edited.most_common(NAMED))
-        yield f"the dearest edited functions, in seconds: {', '.join(dearest)}"
+        if self.edited:
+            dearest = (f"{path} {seconds:.1f}" for path, seconds in self.edited.most_common(NAMED))
+            yield f"the dearest edited functions, in seconds: {', '.join(dearest)}"
 
 
 def timed(ended):

@@ -7,13 +7,13 @@ between() {
         END { printf "%d s of processor time\n", spent[last] - spent[first] }' "$1" "$2"
 }
 
-# Runs a step: its name, and the command.
+# Runs a step: its name, and the command. Steps run side by side, so each line that is printed begins with the step's name.
 step() {
     local name=$1 log=$room/$1.log total=$room/$1.total status
     shift
     echo "== $*"
     times >"$log.before"
-    "$@" </dev/null 2>&1 | tee "$log"
+    "$@" </dev/null 2>&1 | tee "$log" | sed -u "/^$name: /!s/^/$name: /"
     status=${PIPESTATUS[0]}
     if ! tail -n 1 "$log" | grep -Ex '[0-9]+ passed, [0-9]+ failed' >"$total"; then
         echo "0 passed, 1 failed" >"$total"

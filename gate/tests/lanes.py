@@ -34,7 +34,9 @@ def test_all(count, room):
     test_queue(count, Repository(root))
     test_begin(count)
     test_spent(count)
-    count.tell("what was spent is printed", "\nedits took " in in_turn and "\nthe dearest edited functions, in seconds: " in in_turn, in_turn)
+    count.tell("what was spent is printed", "\nedits took " in in_turn and "dearest" not in in_turn, in_turn)
+    is_begun = "numbers: a check of 2 edits begins\n" in in_turn and in_turn.count(": a check of 1 edit begins\n") == 4
+    count.tell("each check is printed as it begins", is_begun, in_turn)
 
 
 def run_noted(root, jobs):

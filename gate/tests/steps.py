@@ -26,6 +26,9 @@ def test_all(count, room):
     ran = steps(f"{room}/both", ["echo '3 passed, 0 failed'", "echo one: as it should be; echo 'FAILED two'; echo '4 passed, 1 failed'"])
     wanted = "\ncheck: it1: 4 passed, 1 failed; its log ends with\n    FAILED two\n    4 passed, 1 failed\n7 passed, 1 failed\n"
     count.tell("two steps", ran.returncode == 1 and ran.stdout.endswith(wanted), ran.stdout[-500:])
+    count.tell("each line has its step", "\nit: 3 passed, 0 failed\n" in ran.stdout and "\nit1: FAILED two\n" in ran.stdout, ran.stdout[-500:])
+    ran = steps(f"{room}/named", ["echo it: said; echo '1 passed, 0 failed'"])
+    count.tell("a line that has it already", "\nit: said\nit: 1 passed, 0 failed\n" in ran.stdout, ran.stdout[-500:])
 
 
 def steps(room, commands):
