@@ -109,7 +109,7 @@ def test_lines(count, room):
     """While crates are proved, lines come in time, and each has news apart from its clock.
 
     Two crates are known to take 30 and 60 seconds; 18.5 are expected for the third, and 98.5 for the program: 207 in all. When
-    the third has taken 22, 102 are expected for the program."""
+    the third has taken 22, 98.6 are expected for the program."""
     root = f"{room}/lines of a build"
     lay_out(root, seconds={"vme_slow": 22, "vme_known": 12})
     write(f"{root}/crates/vme_known/reading", "11")
